@@ -1,0 +1,11 @@
+pub mod Writing
+pub mod Copying
+pub mod Texts
+pub mod Pieces
+pub mod NumberTexts
+pub mod PidTexts
+pub mod StepTexts
+pub mod ScheduleTexts
+pub mod ItemsOrder
+pub mod Equality
+pub mod HashSteps

@@ -1,0 +1,20 @@
+use Rattle.std.proofs.Common.{[], ◌∷◌}
+use Rattle.std.proofs.lemmas.Result.{err_from_is_err_and}
+use Rattle.term_core.proofs.Writing.{owes_all, owes_less, owes_break_in, writes_last, breaks_at}
+use Rattle.term_core.proofs.text.write_reference.Goals as goal
+
+pub returns-in_err-write_all : goal.returns-in_err-write_all
+returns-in_err-write_all g c =
+    let p = err_from_is_err_and c.from_residual.result c.from_residual.ensures.1 in
+    breaks_at _ _ _ _ _ _ p.1 (owes_break_in _ _ _ _ (35 ∷ []) _ _ (owes_all _ _) c.in_err-write_all.ensures)
+
+pub returns-in_err-write_pid : goal.returns-in_err-write_pid
+returns-in_err-write_pid g c =
+    let p = err_from_is_err_and c.from_residual-in_err-write_pid.result c.from_residual-in_err-write_pid.ensures.1 in
+    let o = owes_less _ _ _ (35 ∷ []) _ _ (owes_all _ _) c.in_ok-write_all.ensures.appends in
+    breaks_at _ _ _ _ _ _ p.1 (owes_break_in _ _ _ _ _ _ _ o c.in_err-write_pid.ensures)
+
+pub returns : goal.returns
+returns g c =
+    let o = owes_less _ _ _ (35 ∷ []) _ _ (owes_all _ _) c.in_ok-write_all.ensures.appends in
+    writes_last _ _ _ _ _ _ _ (owes_less _ _ _ _ _ _ o c.in_ok-write_pid.ensures.appends) c.write_dotted.ensures

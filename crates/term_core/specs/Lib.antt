@@ -1,0 +1,10 @@
+pub mod Meaning
+pub mod Term
+pub mod Depth
+pub mod Order
+pub mod StepOrder
+pub mod HashInput
+pub mod Stream
+pub mod Text
+pub mod TermText
+pub mod Schedule
