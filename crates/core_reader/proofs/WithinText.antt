@@ -1,0 +1,83 @@
+-- What the passes say together of a text, and the places of their faults within it.
+use Rattle.std.proofs.Common.{◌≡◌, ℕ, ◌<◌, ◌≤◌, Bool, List, [], ◌∷◌, length, sym, subst, inl, inr, arith}
+use Rattle.std.specs.Prelude.{Result, Ok, Err, IfOk, IfErr}
+use Rattle.std.specs.Str.{IsUtf8}
+use Rattle.core_reader.specs.declared.fault.ReadFault.{ReadFault}
+use Rattle.core_reader.specs.declared.fault.ReadFault.TheVariants as fault
+use Rattle.core_reader.specs.Piece.{Piece}
+use Rattle.core_reader.specs.Syntax.{ModuleTree}
+use Rattle.core_reader.specs.Grammar.{Spells}
+use Rattle.core_reader.specs.Scopes.{IsLawful}
+use Rattle.core_reader.specs.Whole.{IsReadAs}
+use Rattle.core_reader.specs.Tokens.{Spelt, none, blank, comment, token, AreTokens, IsTokenFault}
+use Rattle.core_reader.specs.Places.{IsAt, IsPlace, IsFaultOf}
+use Rattle.core_reader.specs.Within.{IsPlacedWithin, StandWithin}
+use Rattle.core_reader.specs.Reader.{SpellsModule, text_limit}
+
+-- the tokens of a text stand in it
+pub tokens_within : {stop : ℕ} {behind last : Bool} {bytes rest : List ℕ} {ps : List Piece} → Spelt stop behind bytes ps last rest → StandWithin stop ps
+tokens_within none = tt
+tokens_within (blank e s) = tokens_within s
+tokens_within (comment r s) = tokens_within s
+tokens_within (token t e s) = (omega arith, tokens_within s)
+
+-- what the tokens spell, the text says
+pub says : (text : List ℕ) (ps : List Piece) (r : Result ModuleTree ReadFault) → length text ≤ text_limit → IsUtf8 text → AreTokens text ps → IfOk r (λ m. Spells ps m) → IfOk r (λ m. IsLawful m) → IfOk r (λ m. SpellsModule text m)
+says text ps (Ok m) fits utf8 tokens spelt lawful = record { fits = fits; utf8 = utf8; pieces = ps; tokens = tokens; spelt = spelt; lawful = lawful }
+says text ps (Err e) fits utf8 tokens spelt lawful = tt
+
+-- what the text says, its tokens spell
+pub said : (text : List ℕ) (ps : List Piece) (r : Result ModuleTree ReadFault) → ((qs : List Piece) → AreTokens text qs → ps ≡ qs) → ((m : ModuleTree) → Spells ps m → IsLawful m → IsReadAs m r) → (m : ModuleTree) → SpellsModule text m → IsReadAs m r
+said text ps r same read m s = read m (subst (λ (qs : List Piece). Spells qs m) (sym (same s.pieces s.tokens)) s.spelt) s.lawful
+
+-- a fault of the tokens stands in the text
+pub token_fault_within : (text : List ℕ) (e : ReadFault) → IsTokenFault text e → IsPlacedWithin (length text) e
+token_fault_within text (fault.BadToken place) f = let small : place < length text = f.5 in omega arith
+token_fault_within text (fault.BadInteger place) f = let small : place < length text = f.5 in omega arith
+token_fault_within text fault.Memory f = tt
+token_fault_within text (fault.Expected place) f = absurd f
+token_fault_within text (fault.Unbound place) f = absurd f
+token_fault_within text (fault.DuplicateVariable place) f = absurd f
+token_fault_within text (fault.DuplicateFunction place) f = absurd f
+token_fault_within text (fault.NoFunction place) f = absurd f
+token_fault_within text (fault.HigherOrder place) f = absurd f
+token_fault_within text (fault.UnsupportedCall place) f = absurd f
+token_fault_within text (fault.EffectInGuard place) f = absurd f
+token_fault_within text (fault.TooDeep place) f = absurd f
+token_fault_within text (fault.NotUtf8 place) f = absurd f
+token_fault_within text (fault.NoMain place) f = absurd f
+token_fault_within text (fault.UnsupportedForm place) f = absurd f
+token_fault_within text (fault.TooLong place) f = absurd f
+
+-- where a token begins, it begins in the text
+token_at_within : (stop : ℕ) (ps : List Piece) (at : ℕ) → StandWithin stop ps → IsAt ps at → at ≤ stop
+token_at_within stop [] at w h = absurd h
+token_at_within stop (p ∷ ps) at w (inl e) = let small : p.at ≤ stop = w.0 in omega arith
+token_at_within stop (p ∷ ps) at w (inr h) = token_at_within stop ps at w.1 h
+
+place_within : (stop : ℕ) (ps : List Piece) (at : ℕ) → StandWithin stop ps → IsPlace ps stop at → at ≤ stop
+place_within stop ps at w (inl h) = token_at_within stop ps at w h
+place_within stop ps at w (inr e) = omega arith
+
+-- a fault of the grammar or of the scopes stands in the text
+pub fault_within : (stop : ℕ) (ps : List Piece) (e : ReadFault) → StandWithin stop ps → IsFaultOf ps stop e → IsPlacedWithin stop e
+fault_within stop ps (fault.Expected at) w f = place_within stop ps at w f
+fault_within stop ps (fault.Unbound at) w f = place_within stop ps at w f
+fault_within stop ps (fault.DuplicateVariable at) w f = place_within stop ps at w f
+fault_within stop ps (fault.DuplicateFunction at) w f = place_within stop ps at w f
+fault_within stop ps (fault.NoFunction at) w f = place_within stop ps at w f
+fault_within stop ps (fault.HigherOrder at) w f = place_within stop ps at w f
+fault_within stop ps (fault.UnsupportedCall at) w f = place_within stop ps at w f
+fault_within stop ps (fault.TooDeep at) w f = place_within stop ps at w f
+fault_within stop ps (fault.NoMain at) w f = place_within stop ps at w f
+fault_within stop ps (fault.UnsupportedForm at) w f = place_within stop ps at w f
+fault_within stop ps fault.Memory w f = tt
+fault_within stop ps (fault.BadToken at) w f = absurd f
+fault_within stop ps (fault.BadInteger at) w f = absurd f
+fault_within stop ps (fault.EffectInGuard at) w f = absurd f
+fault_within stop ps (fault.NotUtf8 at) w f = absurd f
+fault_within stop ps (fault.TooLong at) w f = absurd f
+
+pub faults_within : (stop : ℕ) (ps : List Piece) (r : Result ModuleTree ReadFault) → StandWithin stop ps → IfErr r (λ e. IsFaultOf ps stop e) → IfErr r (IsPlacedWithin stop)
+faults_within stop ps (Ok m) w f = tt
+faults_within stop ps (Err e) w f = fault_within stop ps e w f

@@ -1,0 +1,19 @@
+-- Reading all of the tokens.
+use Rattle.std.specs.Prelude.{◌≡◌, ℕ, List, None, Result, Ok, Err}
+use Rattle.core_reader.specs.declared.fault.ReadFault.{ReadFault}
+use Rattle.core_reader.specs.declared.fault.ReadFault.TheVariants.{Memory}
+use Rattle.core_reader.specs.Piece.{Piece}
+use Rattle.core_reader.specs.Syntax.{ModuleTree}
+use Rattle.core_reader.specs.Reading.{State, ◌>>=◌, module_at}
+use Rattle.core_reader.specs.ScopeChecks.{check_module}
+
+abbrev pub start : ℕ → List Piece → State
+start length ps = record { pieces = ps; refused = None; stop = length }
+
+unfoldable pub whole_at : State → Result ModuleTree ReadFault
+whole_at s = module_at s >>= check_module
+
+-- the module is read, unless memory runs out
+abbrev pub IsReadAs : ModuleTree → Result ModuleTree ReadFault → Type 0
+IsReadAs m (Ok x) = x ≡ m
+IsReadAs m (Err e) = e ≡ Memory

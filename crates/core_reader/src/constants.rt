@@ -1,0 +1,195 @@
+// The constants of attributes (Core Erlang 1.0.3, "Constant literals").
+ghost use Rattle.std.specs.Prelude.{◌≡◌, map};
+ghost use Rattle.core_reader.specs.Piece.{shape_of, pieces};
+ghost use Rattle.core_reader.specs.Syntax.{JoinOf, constants_of};
+ghost use Rattle.core_reader.specs.Reading.{Builds, Moves, begins_constant, deep_constant_of, deep_constant, items_at, closed_at, brackets_at, constant_tuple_at, constant_list_at, constant_form_at, constant_at};
+ghost use Rattle.core_reader.specs.Parsing.{state_of};
+ghost use Rattle.core_reader.specs.Tree.{constant_of};
+
+use crate::fault::ReadFault;
+use crate::parser::{Parser, atom_copy, is_foreign};
+use crate::token::{Lexeme, Mark, Token};
+use crate::tree::{Const, Consts, OntoConst};
+use std::alloc::Global;
+
+fn begins_constant(lexeme: &Lexeme) -> bool
+    ensures { result ≡ begins_constant (shape_of lexeme.now) }
+{
+    matches!(
+        lexeme,
+        Lexeme::Integer(_)
+            | Lexeme::Character(_)
+            | Lexeme::Text(_)
+            | Lexeme::Atom(_)
+            | Lexeme::Mark(Mark::LeftBrace)
+            | Lexeme::Mark(Mark::LeftBracket)
+            | Lexeme::Mark(Mark::LeftParenthesis)
+    )
+}
+
+fn deep_constant_of(length: usize, tokens: &[Token]) -> ReadFault
+    ensures { result ≡ deep_constant_of length (pieces tokens.now) }
+{
+    match tokens {
+        [] => ReadFault::Expected(length),
+        [token, ..] => {
+            if begins_constant(&token.lexeme) {
+                ReadFault::TooDeep(token.at)
+            } else if is_foreign(&token.lexeme) {
+                ReadFault::UnsupportedForm(token.at)
+            } else {
+                ReadFault::Expected(token.at)
+            }
+        }
+    }
+}
+
+fn onto(alloc: Global, items: Vec<Const>, tail: Const) -> Result<Const, ReadFault>
+    ensures { Builds constant_of result (JoinOf (constants_of (map constant_of items.items)) (constant_of tail)) }
+{
+    let items = Consts(items);
+    Ok(Const::Onto(Box::new(alloc, OntoConst { items, tail })?))
+}
+
+impl<'a> Parser<'a> {
+    /// The fault at a token past the last level.
+    #[tactic(auto, unfolding(crate::specs::Reading::deep_constant))]
+    fn deep_constant(&self) -> ReadFault
+        ensures { result ≡ deep_constant (state_of self.now) }
+    {
+        self.refusal(deep_constant_of(self.length, self.tokens))
+    }
+
+    /// A constant of at most so many levels.
+    #[cycle(constants)]
+    pub fn constant(&mut self, levels: u16) -> Result<Const, ReadFault>
+        ensures { Moves constant_of result (state_of self.new) (constant_at levels (state_of self.old)) }
+    {
+        if levels == 0 {
+            Err(self.deep_constant())
+        } else {
+            Ok(self.constant_form(levels - 1)?)
+        }
+    }
+
+    /// A constant whose parts have at most so many levels.
+    #[cycle(constants)]
+    #[tactic(auto, unfolding(crate::specs::Reading::constant_form_at))]
+    fn constant_form(&mut self, levels: u16) -> Result<Const, ReadFault>
+        ensures { Moves constant_of result (state_of self.new) (constant_form_at (constant_at levels) (state_of self.old)) }
+    {
+        let tokens = self.tokens;
+        match tokens {
+            [
+                Token {
+                    lexeme: Lexeme::Integer(number),
+                    ..
+                },
+                rest @ ..,
+            ] => {
+                self.tokens = rest;
+                Ok(Const::Integer(*number))
+            }
+            [
+                Token {
+                    lexeme: Lexeme::Character(character),
+                    ..
+                },
+                rest @ ..,
+            ] => {
+                self.tokens = rest;
+                Ok(Const::Character(*character))
+            }
+            [
+                Token {
+                    lexeme: Lexeme::Text(text),
+                    ..
+                },
+                rest @ ..,
+            ] => {
+                self.tokens = rest;
+                Ok(Const::Text(Vec::from_slice(self.alloc, text)?))
+            }
+            [
+                Token {
+                    lexeme: Lexeme::Atom(atom),
+                    ..
+                },
+                rest @ ..,
+            ] => {
+                self.tokens = rest;
+                Ok(Const::Atom(atom_copy(self.alloc, atom)?))
+            }
+            [
+                Token {
+                    lexeme: Lexeme::Mark(Mark::LeftBrace),
+                    ..
+                },
+                rest @ ..,
+            ] => {
+                self.tokens = rest;
+                Ok(self.constant_tuple(levels)?)
+            }
+            [
+                Token {
+                    lexeme: Lexeme::Mark(Mark::LeftBracket),
+                    ..
+                },
+                rest @ ..,
+            ] => {
+                self.tokens = rest;
+                Ok(self.constant_list(levels)?)
+            }
+            _ => Err(self.construct_fault()),
+        }
+    }
+
+    /// What stands behind the brace of a tuple.
+    #[cycle(constants)]
+    #[tactic(auto, unfolding(crate::specs::Reading::constant_tuple_at, crate::specs::Reading::closed_at))]
+    fn constant_tuple(&mut self, levels: u16) -> Result<Const, ReadFault>
+        ensures { Moves constant_of result (state_of self.new) (constant_tuple_at (constant_at levels) (state_of self.old)) }
+    {
+        if self.skip_mark(Mark::RightBrace) {
+            return Ok(Const::Tuple(Consts(Vec::new(self.alloc))));
+        }
+        let items = self.constant_items(levels)?;
+        self.mark(Mark::RightBrace)?;
+        Ok(Const::Tuple(Consts(items)))
+    }
+
+    /// What stands behind the bracket of a list.
+    #[cycle(constants)]
+    #[tactic(auto, unfolding(crate::specs::Reading::constant_list_at, crate::specs::Reading::brackets_at))]
+    fn constant_list(&mut self, levels: u16) -> Result<Const, ReadFault>
+        ensures { Moves constant_of result (state_of self.new) (constant_list_at (constant_at levels) (state_of self.old)) }
+    {
+        if self.skip_mark(Mark::RightBracket) {
+            return Ok(Const::List(Consts(Vec::new(self.alloc))));
+        }
+        let items = self.constant_items(levels)?;
+        if self.skip_mark(Mark::Bar) {
+            let tail = self.constant(levels)?;
+            self.mark(Mark::RightBracket)?;
+            return Ok(onto(self.alloc, items, tail)?);
+        }
+        self.mark(Mark::RightBracket)?;
+        Ok(Const::List(Consts(items)))
+    }
+
+    /// Constants with commas between them.
+    #[cycle(constants)]
+    fn constant_items(&mut self, levels: u16) -> Result<Vec<Const>, ReadFault>
+        ensures { Moves (λ v. map constant_of v.items) result (state_of self.new) (items_at (constant_at levels) (state_of self.old)) }
+    {
+        let mut items = Vec::new(self.alloc);
+        let count = self.tokens.len();
+        'items: for _taken in 0..count {
+            items.push(self.constant(levels)?)?;
+            if !self.skip_mark(Mark::Comma) {
+                return Ok(items);
+            }
+        }
+        Err(self.fault())
+    }
+}

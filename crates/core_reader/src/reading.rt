@@ -1,0 +1,53 @@
+// From the tokens of a module to its tree.
+ghost use Rattle.std.specs.Prelude.{◌≡◌, None, IfOk, IfErr};
+ghost use Rattle.core_reader.specs.Places.{IsFaultOf};
+ghost use Rattle.core_reader.specs.Piece.{pieces};
+ghost use Rattle.core_reader.specs.Syntax.{ModuleTree};
+ghost use Rattle.core_reader.specs.Grammar.{Spells};
+ghost use Rattle.core_reader.specs.Scopes.{IsLawful};
+ghost use Rattle.core_reader.specs.Reading.{Gives};
+ghost use Rattle.core_reader.specs.Whole.{whole_at, start, IsReadAs};
+
+use crate::fault::ReadFault;
+use crate::functions::closed_module;
+use crate::module::Module;
+use crate::parser::Parser;
+use crate::token::Token;
+use std::alloc::Global;
+
+#[tactic(auto, unfolding(crate::specs::Whole::whole_at))]
+fn whole(alloc: Global, tokens: &[Token], length: usize) -> Result<Module, ReadFault>
+    ensures { Gives (λ m. m) result (whole_at (start length (pieces tokens.now))) }
+{
+    let mut parser = Parser {
+        alloc,
+        tokens,
+        refused: None,
+        length,
+    };
+    let draft = parser.module()?;
+    Ok(closed_module(alloc, draft)?)
+}
+
+/// The module that the tokens, all of them, spell; `length` is the length of their text in bytes. The
+/// tokens are only read, and stay the caller's.
+///
+/// Of the faults of the grammar the one with the least place comes: `Expected` at a token with which the
+/// grammar cannot go on (or at the text's end), `HigherOrder` at a function as a value, `UnsupportedCall`
+/// at the word `call` of a call that is not served, `TooDeep` at the token that opens level 1,001 of
+/// construct within construct, `UnsupportedForm` at a form that is not read. Where there is none, of the
+/// faults of scopes the first in the text: `NoFunction` at an exported name without a definition,
+/// `DuplicateFunction` at the name of a second definition, `DuplicateVariable` at a parameter that has
+/// the name of one before it, `Unbound` at a variable with no binding. Then `NoMain` at the last `end`,
+/// where `main/0` has no definition. `Memory` may come at any moment.
+pub fn read_tokens(alloc: Global, tokens: &[Token], length: usize) -> Result<Module, ReadFault>
+    // What is read is spelt by the tokens, closed, and has `main/0`.
+    ensures spelt { IfOk result (λ m. Spells (pieces tokens.now) m) }
+    ensures lawful { IfOk result (λ m. IsLawful m) }
+    // What is spelt so is read, unless memory runs out.
+    ensures only { (m : ModuleTree) → Spells (pieces tokens.now) m → IsLawful m → IsReadAs m result }
+    // A fault stands at one of the tokens or at the text's end, and is one that tokens can have.
+    ensures fault { IfErr result (λ f. IsFaultOf (pieces tokens.now) length f) }
+{
+    whole(alloc, tokens, length)
+}
