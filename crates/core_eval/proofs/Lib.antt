@@ -1,0 +1,5 @@
+pub mod Errors
+pub mod Stops
+pub mod Lookups
+pub mod Entering
+pub mod WorkedRows

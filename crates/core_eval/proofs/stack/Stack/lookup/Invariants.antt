@@ -1,0 +1,13 @@
+use Rattle.std.proofs.Common.{◌≡◌, ◌≤◌, take, length}
+use Rattle.core_eval.specs.Frames.{holes_of}
+use Rattle.core_eval.specs.Holes.{scope}
+use Rattle.core_eval.specs.Evaluation.{lookup}
+use Rattle.core_eval.proofs.stack.Stack.lookup.Given as goal
+
+-- the variable is not kept above what is left
+abbrev pub invariant-loop-left : goal.invariant-loop-left
+invariant-loop-left l =
+    (l.left ≤ length l.self-inside.0.items) × (lookup l.name (scope (holes_of (take l.left l.self-inside.0.items))) ≡ lookup l.name (scope l.self))
+
+abbrev pub decreases-loop-left : goal.decreases-loop-left
+decreases-loop-left l = l.left

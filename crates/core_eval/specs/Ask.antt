@@ -1,0 +1,70 @@
+-- What a process of a module asks of the world, after the answers that it got so far.
+use Rattle.std.specs.Prelude.{ℕ, Bool, true, false, ◌==◌, ◌&&◌, ◌||◌, List, [], ◌∷◌, Option, Some, None, if◌then◌else◌, nat_le, length, codes}
+use Rattle.std.specs.List.{list_any}
+use Rattle.std.specs.Cmp.Lexicographic.{pointwise}
+use Rattle.core_reader.specs.Syntax.{Mention, Tree, Function, NamedAt, DefinitionTree, ModuleTree}
+use Rattle.core_reader.specs.Functions.{same_function}
+use Rattle.term_core.specs.Meaning.{Meaning, Group, Empty, group_of}
+use Rattle.term_core.specs.Meaning as terms
+use Rattle.core_eval.specs.Asked.{Asked, Ends, Answered}
+use Rattle.core_eval.specs.Evaluation.{State, before, Class, Error, Exit, Throw, Got, Yields, Raises, Stops, error, bound, within, evaluate}
+
+-- where a process begins: a function by module and name, and its arguments
+pub record Entry : Type 0 where
+  pub module_name : List ℕ
+  pub function_name : List ℕ
+  pub arguments : List Meaning
+
+abbrev pub entry : List ℕ → List ℕ → List Meaning → Entry
+entry m f arguments = record { module_name = m; function_name = f; arguments = arguments }
+
+-- the name and the number of arguments that it begins with
+abbrev pub function_of : Entry → Function
+function_of e = record { name = e.function_name; arity = length e.arguments }
+
+-- whether a module exports a function
+abbrev pub is_exported : Function → List NamedAt → Bool
+is_exported f exports = list_any (λ e. same_function f e.function) exports
+
+-- whether a pid is that of the first process
+abbrev pub is_first : List ℕ → Bool
+is_first [] = true
+is_first (n ∷ ns) = false
+
+-- the parameters and the body of a function
+abbrev pub definition : Function → List DefinitionTree → Option (List Mention × Tree)
+definition f [] = None
+definition f (d ∷ ds) = if same_function f d.named.function then Some (d.parameters, d.body) else definition f ds
+
+-- the most arguments of a function
+abbrev pub arity_limit : ℕ
+arity_limit = 255
+
+-- whether a process may begin there: in this module, and but for the first process at an export
+abbrev pub is_open : ModuleTree → List ℕ → Entry → Bool
+is_open m pid e = nat_le (length e.arguments) arity_limit && pointwise ◌==◌ m.name e.module_name && (is_first pid || is_exported (function_of e) m.exports)
+
+-- the function that a process begins with, if it may
+abbrev pub first_function : ModuleTree → List ℕ → Entry → Option (List Mention × Tree)
+first_function m pid e = if is_open m pid e then definition (function_of e) m.definitions else None
+
+-- the body of a function with the arguments as its parameters; without a function it is undefined
+abbrev pub applied : Option (List Mention × Tree) → List Meaning → State → Got
+applied None arguments s = error (codes "undef") s
+applied (Some f) arguments s = within (bound f.0 arguments []) (λ env s'. evaluate f.1 env s') s
+
+-- the reason of the end of a process by an exception (Erlang reference manual, "Errors and Error Handling")
+abbrev pub reason_of : Class → Meaning → Meaning
+reason_of Error reason = Group (group_of (reason ∷ Empty ∷ []))
+reason_of Exit reason = reason
+reason_of Throw value = Group (group_of (Group (group_of (terms.Name (codes "nocatch") ∷ value ∷ [])) ∷ Empty ∷ []))
+
+-- what a process asks: values end it normally
+abbrev pub request_of : Got → Asked
+request_of (Yields values s) = Ends (terms.Name (codes "normal"))
+request_of (Raises class reason s) = Ends (reason_of class reason)
+request_of (Stops request) = request
+
+-- what the process of a module that began at an entry asks after these answers
+abbrev pub ask : ModuleTree → List ℕ → Entry → List Answered → Asked
+ask m pid e answers = request_of (applied (first_function m pid e) e.arguments (before answers))

@@ -1,0 +1,28 @@
+-- The frames of the code's stack, as contracts see them.
+use Rattle.std.specs.Prelude.{List, map, reverse}
+use Rattle.core_reader.specs.Tree.{tree_of}
+use Rattle.core_eval.specs.declared.frame.Purpose.{Purpose as Use}
+use Rattle.core_eval.specs.declared.frame.Purpose.TheVariants as uses
+use Rattle.core_eval.specs.declared.frame.Frame.{Frame}
+use Rattle.core_eval.specs.declared.frame.Frame.TheVariants as frames
+use Rattle.term_core.specs.Term.{meaning_of}
+use Rattle.core_eval.specs.Holes.{Purpose, ToGroup, ToList, ToFront, ToCall, Hole, Gathers, EndsList, Binds, Discards, Keeps}
+
+-- what a frame's parts are for
+abbrev pub purpose_of : Use → Purpose
+purpose_of uses.Tuple = ToGroup
+purpose_of uses.List = ToList
+purpose_of (uses.Onto tail) = ToFront (tree_of tail.now)
+purpose_of (uses.Call kind) = ToCall kind
+
+-- what a frame leaves out
+abbrev pub hole_of : Frame → Hole
+hole_of (frames.Parts purpose done later) = Gathers (purpose_of purpose) done (map tree_of later.now)
+hole_of (frames.Tail items) = EndsList items
+hole_of (frames.Body variables body) = Binds variables.now (tree_of body.now)
+hole_of (frames.Second second) = Discards (tree_of second.now)
+hole_of (frames.Kept name value) = Keeps name.now (meaning_of value)
+
+-- a stack's frames from the top down; the last item of the list is the top
+abbrev pub holes_of : List Frame → List Hole
+holes_of frames = reverse (map hole_of frames)

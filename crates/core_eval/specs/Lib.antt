@@ -1,0 +1,10 @@
+pub mod Asked
+pub mod Requests
+pub mod Evaluation
+pub mod Ask
+pub mod Holes
+pub mod HoleCodes
+pub mod Frames
+pub mod Steps
+pub mod Standing
+pub mod Functions

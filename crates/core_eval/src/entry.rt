@@ -1,0 +1,86 @@
+// Where a process begins.
+ghost use Rattle.std.specs.Prelude.{◌≡◌, IfOk, option_map, option_copied};
+ghost use Rattle.core_reader.specs.Tree.{tree_of};
+ghost use Rattle.core_eval.specs.Ask.{entry, first_function, definition, is_exported};
+ghost use Rattle.core_eval.specs.Functions.{function_in};
+ghost use Rattle.core_eval.specs.Steps.{EntersWith};
+
+use crate::build::error;
+use crate::control::Control;
+use crate::frame::Frame;
+use crate::stack::Stack;
+use core_reader::{Definition, Export, Expr, FunctionName, Module, Variable};
+use std::alloc::{AllocError, Global};
+use term_core::{Atom, Pid, Terms};
+
+/// The definition of the function that a process begins with: in this module, and but for the first
+/// process one that it exports.
+pub(crate) fn first_definition<'m>(
+    alloc: Global,
+    program: &'m Module,
+    pid: &Pid,
+    module_name: &Atom,
+    function_name: &Atom,
+    arguments: &Terms,
+) -> Result<Option<&'m Definition>, AllocError>
+    ensures { IfOk result (λ found.
+        option_map function_in (option_copied found)
+        ≡ first_function program.now pid.now (entry module_name.now function_name.now arguments.now)) }
+{
+    let Ok(arity) = u8::try_from(arguments.0.len()) else {
+        return Ok(None);
+    };
+    let function = FunctionName {
+        name: function_name.copy(alloc)?,
+        arity,
+    };
+    if program.name.0 == module_name.0
+        && (pid.0.is_empty() || is_exported(program.exports.as_slice(), &function))
+    {
+        Ok(definition_of(program, &function))
+    } else {
+        Ok(None)
+    }
+}
+
+/// Whether a function stands among the exports.
+fn is_exported(exports: &[Export], function: &FunctionName) -> bool
+    ensures { result ≡ is_exported function.now exports.now }
+{
+    exports.iter().any(|export| *function == export.function)
+}
+
+/// The definition of a function.
+fn definition_of<'m>(program: &'m Module, function: &FunctionName) -> Option<&'m Definition>
+    ensures { option_map function_in (option_copied result) ≡ definition function.now program.now.definitions }
+{
+    program.definitions.get(function)
+}
+
+/// Into the body of a function with its arguments; another number of arguments than parameters is an error.
+pub(crate) fn enter_function<'m>(
+    alloc: Global,
+    stack: &mut Stack<'m>,
+    parameters: &'m [Variable],
+    body: &'m Expr,
+    arguments: Terms,
+) -> Result<Control<'m>, AllocError>
+    ensures { IfOk result (λ next.
+        EntersWith stack.old stack.new next parameters.now arguments (tree_of body.now)) }
+{
+    let mut left = parameters;
+    let mut values = arguments.0;
+    values.reverse();
+    while let Some(value) = values.pop() {
+        let Some((parameter, others)) = left.split_first() else {
+            return error(alloc, "value_count");
+        };
+        stack.push(Frame::Kept(parameter.name.as_slice(), value))?;
+        left = others;
+    }
+    if left.is_empty() {
+        Ok(Control::Evaluate(body))
+    } else {
+        error(alloc, "value_count")
+    }
+}

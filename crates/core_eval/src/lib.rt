@@ -1,0 +1,18 @@
+// The machine that runs one process of a module, from one request of the world to the next.
+#![tactic(auto)]
+
+mod build;
+mod control;
+mod entry;
+mod frame;
+pub mod machine;
+pub mod request;
+mod run;
+mod stack;
+mod step;
+
+pub use machine::{Machine, start};
+pub use request::{Answer, Request};
+
+#[cfg(test)]
+mod tests;

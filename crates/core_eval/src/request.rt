@@ -1,0 +1,47 @@
+// What a process asks of the world that it runs in, and what it is answered.
+ghost use Rattle.std.specs.Prelude.{◌≡◌, IfOk};
+ghost use Rattle.core_eval.specs.Requests.{asked_of};
+
+use core_reader::CallKind;
+use std::alloc::{AllocError, Global};
+use term_core::{Term, Terms};
+
+/// What a process that runs asks of the world.
+#[derive(Drop)]
+pub enum Request {
+    /// A call of a process or of a table, with its arguments, as many as the call has.
+    Call(CallKind, Terms),
+    /// A receive; it waits for ever where its timeout is `'infinity'`. No form that is read today asks it.
+    Receive { waits: bool },
+    /// The process has ended, with this reason.
+    End(Term),
+    /// The process made too many applications without a request. No form that is read today does so.
+    Runaway,
+}
+
+/// What the world answers to a request.
+#[derive(Drop)]
+pub enum Answer {
+    /// To a call: its value.
+    Value(Term),
+    /// To a call: it is refused, which raises this reason as an error.
+    Raise(Term),
+    /// To a receive: a message that one of its clauses selects.
+    Message(Term),
+    /// To a receive that does not wait for ever: no such message came in time.
+    TimedOut,
+}
+
+impl Request {
+    /// The same request, or `AllocError` where memory is wanting.
+    pub fn copy(&self, alloc: Global) -> Result<Request, AllocError>
+        ensures { IfOk result (λ copied. asked_of copied ≡ asked_of self.now) }
+    {
+        Ok(match self {
+            Request::Call(kind, arguments) => Request::Call(*kind, arguments.copy(alloc)?),
+            Request::Receive { waits } => Request::Receive { waits: *waits },
+            Request::End(reason) => Request::End(reason.copy(alloc)?),
+            Request::Runaway => Request::Runaway,
+        })
+    }
+}

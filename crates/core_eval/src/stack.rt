@@ -1,0 +1,80 @@
+// The stack of a machine.
+ghost use Rattle.std.specs.Prelude.{◌≡◌, ◌∷◌, [], OnOk, IfOk, MatchOption, option_map};
+ghost use Rattle.core_eval.specs.Frames.{hole_of};
+ghost use Rattle.core_eval.specs.Holes.{scope};
+ghost use Rattle.core_eval.specs.Evaluation.{lookup};
+ghost use Rattle.term_core.specs.Term.{meaning_of};
+
+use crate::frame::Frame;
+use std::alloc::{AllocError, Global};
+use std::marker::Model;
+use term_core::Term;
+
+/// The frames, the innermost last. Contracts see them as the list of what they leave out, the innermost first.
+#[derive(Drop)]
+pub(crate) struct Stack<'m>(Vec<Frame<'m>>);
+
+impl<'m> Model for Stack<'m> {
+    ghost use Rattle.std.specs.Prelude.{List};
+    ghost use Rattle.std.specs.Coded.{coded_list};
+    ghost use Rattle.core_eval.specs.Holes.{Hole};
+    ghost use Rattle.core_eval.specs.HoleCodes.{coded_hole};
+
+    ghost Value = { List Hole };
+
+    ghost coded = { coded_list coded_hole };
+
+    ghost use Rattle.core_eval.specs.Frames.{holes_of};
+
+    ghost view = { λ s. holes_of s.0.items };
+}
+
+impl<'m> Stack<'m> {
+    /// A stack with no frame.
+    pub(crate) fn new(alloc: Global) -> Stack<'m>
+        ensures { result ≡ [] }
+    {
+        Stack(Vec::new(alloc))
+    }
+
+    /// Puts a frame on top, or drops it with `AllocError` where memory is wanting.
+    pub(crate) fn push(&mut self, frame: Frame<'m>) -> Result<(), AllocError>
+        ensures { OnOk result (self.new ≡ hole_of frame.entry ∷ self.old) }
+    {
+        self.0.push(frame)?;
+        Ok(())
+    }
+
+    /// Takes the top frame.
+    pub(crate) fn pop(&mut self) -> Option<Frame<'m>>
+        ensures { MatchOption result ((self.old ≡ []) × (self.new ≡ [])) (λ frame.
+            self.old ≡ hole_of frame ∷ self.new) }
+    {
+        self.0.pop()
+    }
+
+    /// The value of the innermost variable in scope of this name.
+    pub(crate) fn lookup(&self, name: &[u8]) -> Option<&Term>
+        ensures { option_map (λ found. meaning_of found.now) result ≡ lookup name.now (scope self.now) }
+    {
+        let mut left = self.0.len();
+        while left > 0 {
+            left -= 1;
+            if let Some(value) = self.0[left].value_of(name) {
+                return Some(value);
+            }
+        }
+        None
+    }
+
+    /// The same stack, or `AllocError` where memory is wanting.
+    pub(crate) fn copy(&self, alloc: Global) -> Result<Stack<'m>, AllocError>
+        ensures { IfOk result (λ copied. copied ≡ self.now) }
+    {
+        let mut frames = Vec::with_capacity(alloc, self.0.len())?;
+        for frame in &self.0 {
+            frames.push(frame.copy(alloc)?)?;
+        }
+        Ok(Stack(frames))
+    }
+}
