@@ -1,0 +1,16 @@
+pub mod Choices
+pub mod SameNames
+pub mod Turns
+pub mod Freshness
+pub mod FindLaws
+pub mod FindChanged
+pub mod RunLaws
+pub mod Refusals
+pub mod Judgements
+pub mod Puts
+pub mod Turning
+pub mod WorldLaws
+pub mod StoredRows
+pub mod ObjectLoops
+pub mod StoredTables
+pub mod GatheredOptions

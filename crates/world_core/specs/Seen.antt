@@ -1,0 +1,15 @@
+-- A world as callers see it: its module, what happened in it, and whether memory was wanting once.
+use Rattle.std.specs.Prelude.{Bool, refl}
+use Rattle.std.specs.Coded.{Coded, code_by, coded×, coded_bool}
+use Rattle.core_reader.specs.Syntax.{ModuleTree}
+use Rattle.core_reader.specs.SyntaxCodes.{coded_module}
+use Rattle.world_core.specs.Events.{History}
+use Rattle.world_core.specs.DeedCodes.{coded_history}
+
+pub record Seen : Type 0 where
+  pub program : ModuleTree
+  pub history : History
+  pub spent : Bool
+
+abbrev pub coded_seen : Coded Seen
+coded_seen = code_by (ModuleTree × (History × Bool)) (coded× coded_module (coded× coded_history coded_bool)) (λ w. (w.program, (w.history, w.spent))) (λ p. record { program = p.0; history = p.1.0; spent = p.1.1 }) (λ _. refl)

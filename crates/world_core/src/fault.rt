@@ -1,0 +1,33 @@
+// What can be wrong with a step.
+ghost use Rattle.std.specs.Prelude.{◌≡◌};
+ghost use Rattle.world_core.specs.declared.fault.WorldFault.TheVariants.{Memory as MemoryFault};
+
+use std::alloc::{AllocError, AllocFailed};
+use thiserror::Error;
+
+/// Why a world takes no step.
+#[derive(Clone, Copy, Debug, PartialEq, Eq, Error)]
+pub enum WorldFault {
+    /// The step is not enabled; the world is unchanged.
+    #[error("1 NotEnabled")]
+    NotEnabled,
+    /// There was no memory, in this call or an earlier one: the world is spent.
+    #[error("2 Memory")]
+    Memory,
+}
+
+impl From<AllocError> for WorldFault {
+    ghost from_gives = { λ _ f. f ≡ MemoryFault };
+
+    fn from(_error: AllocError) -> WorldFault {
+        WorldFault::Memory
+    }
+}
+
+impl<T: Drop> From<AllocFailed<T>> for WorldFault {
+    ghost from_gives = { λ _ f. f ≡ MemoryFault };
+
+    fn from(_error: AllocFailed<T>) -> WorldFault {
+        WorldFault::Memory
+    }
+}

@@ -1,0 +1,145 @@
+// The turn of a process: the request that it stands at is served, and it runs to the next one.
+ghost use Rattle.std.specs.Prelude.{◌≡◌, ◌++◌, ◌∷◌, ◌+◌, ◌<◌, ◌^◌, true, false, List, IfOk, OnOk, Some, is_some, ◌&&◌, [], codes};
+ghost use Rattle.core_reader.specs.Syntax.{ModuleTree};
+ghost use Rattle.term_core.specs.Meaning.{Name};
+ghost use Rattle.term_core.specs.Term.{meaning_of};
+ghost use Rattle.core_eval.specs.Asked.{Answered, Asks};
+ghost use Rattle.core_eval.specs.Requests.{asked_of};
+ghost use Rattle.core_eval.specs.Standing.{after, is_spent};
+ghost use Rattle.world_core.specs.Agreement.{IsProcess, AreTables, IsServed, IsTurn};
+ghost use Rattle.world_core.specs.Deeds.{deed_seen};
+ghost use Rattle.world_core.specs.Calls.{table_call};
+ghost use Rattle.world_core.specs.Events.{History};
+ghost use Rattle.world_core.specs.History.{turns, answer_in};
+ghost use Rattle.world_core.specs.Records.{find_in};
+ghost use Rattle.world_core.specs.Rules.{owner_for};
+ghost use Rattle.world_core.specs.Run.{is_answered, told_owner};
+ghost use Rattle.world_core.specs.TableCalls.{call_of};
+
+use crate::event::Deed;
+use crate::process::Process;
+use crate::tables::call::{TableCall, table_call};
+use crate::tables::rule::Rule;
+use crate::tables::store::Tables;
+use core_eval::{Answer, Machine, Request};
+use core_reader::CallKind;
+use std::alloc::{AllocError, Global};
+use term_core::{Atom, Pid, Term, Terms};
+
+/// Whether there is something to this request: a wait for a message that does not come is not over.
+fn is_answered(request: &Request) -> bool
+    ensures { result ≡ is_answered (asked_of request.now) }
+{
+    match request {
+        Request::Call(kind, arguments) => table_call(*kind, arguments).is_some(),
+        Request::Receive { waits } => !*waits,
+        Request::End(_) | Request::Runaway => true,
+    }
+}
+
+/// Whether a turn of the process is enabled. It takes no memory.
+pub(crate) fn is_enabled(process: &Process<'_>) -> bool
+    ensures { result ≡ (process.now.is_alive && is_answered (after process.now.machine [])) }
+{
+    process.is_alive && is_answered(process.machine.request())
+}
+
+/// The reason of the error that a refused call raises.
+fn badarg(alloc: Global) -> Result<Term, AllocError>
+    ensures { IfOk result (λ reason. meaning_of reason ≡ Name (codes "badarg")) }
+{
+    Ok(Term::Atom(Atom(String::from_str(alloc, "badarg")?)))
+}
+
+/// The owner of the table that a refused call names, where the refusal tells it.
+fn told_owner(
+    alloc: Global,
+    tables: &Tables,
+    call: &TableCall<'_>,
+    rule: Rule,
+) -> Result<Option<Pid>, AllocError>
+    ensures { IfOk result (λ owner. owner ≡ told_owner rule (owner_for (find_in tables.now) (call_of call.now))) }
+{
+    match tables.owner(call) {
+        Some(owner) if rule.tells_owner() => Ok(Some(owner.copy(alloc)?)),
+        _ => Ok(None),
+    }
+}
+
+/// Judges a call of a table, and serves it or refuses it.
+fn serve<'m>(
+    alloc: Global,
+    machine: &mut Machine<'m>,
+    tables: &mut Tables,
+    caller: &Pid,
+    number: u64,
+    kind: CallKind,
+    arguments: Terms,
+) -> Result<Deed, AllocError>
+    requires { is_some (table_call kind arguments) ≡ true }
+    ensures served { IfOk result (λ deed. (h : History) → AreTables h tables.old → number ≡ turns h caller.now + 1
+        → IsServed h caller.now (Asks kind arguments) (deed_seen deed) tables.new) }
+    ensures machine { IfOk result (λ deed. (later : List Answered)
+        → after machine.new later ≡ after machine.old (answer_in (deed_seen deed) ++ later)) }
+    ensures lives { OnOk result (is_spent machine.new ≡ false) }
+{
+    let Some(call) = table_call(kind, &arguments) else {
+        unreachable!()
+    };
+    if let Some(rule) = tables.judge(caller, &call) {
+        let owner = told_owner(alloc, tables, &call, rule)?;
+        machine.resume(alloc, Answer::Raise(badarg(alloc)?))?;
+        return Ok(Deed::Refused {
+            kind,
+            arguments,
+            rule,
+            owner,
+        });
+    }
+    let answer = tables.apply(alloc, caller, number, &call)?;
+    machine.resume(alloc, Answer::Value(answer.copy(alloc)?))?;
+    Ok(Deed::Served {
+        kind,
+        arguments,
+        answer,
+    })
+}
+
+/// Serves the request of a process in its next turn, and runs it to the next one.
+pub(crate) fn turn<'m>(
+    alloc: Global,
+    process: &mut Process<'m>,
+    tables: &mut Tables,
+) -> Result<Deed, AllocError>
+    requires enabled { is_answered (after process.old.machine []) ≡ true }
+    requires counted { process.old.turns + 1 < 2 ^ 64 }
+    ensures { IfOk result (λ deed. (m : ModuleTree) → (h : History) → IsProcess m h process.old → AreTables h tables.old
+        → IsTurn m h process.old process.new (deed_seen deed) tables.new) }
+{
+    let request = process.machine.request().copy(alloc)?;
+    process.turns += 1;
+    match request {
+        Request::Call(kind, arguments) => {
+            let Process {
+                pid,
+                machine,
+                turns,
+                is_alive: _,
+            } = process;
+            let deed = serve(alloc, machine, tables, pid, *turns, kind, arguments)?;
+            Ok(deed)
+        }
+        Request::Receive { waits: _ } => {
+            process.machine.resume(alloc, Answer::TimedOut)?;
+            Ok(Deed::TimedOut)
+        }
+        Request::End(reason) => {
+            process.is_alive = false;
+            Ok(Deed::Ended(reason))
+        }
+        Request::Runaway => {
+            process.is_alive = false;
+            Ok(Deed::RanAway)
+        }
+    }
+}
