@@ -1,0 +1,18 @@
+-- What is read of a source.
+use Rattle.std.specs.Prelude.{◌≡◌, ℕ, ◌<◌, ◌≤◌, List, ◌++◌, length, Option}
+use Rattle.std.specs.Io.{StartsWith}
+use Rattle.std.specs.Io.KnownBytes.{Consumes, IsAtEnd}
+
+-- all the bytes where they are no more than the limit, else a beginning of more than the limit
+pub record IsInputOf (limit : ℕ) (all read : List ℕ) : Type 0 where
+  pub whole : length all ≤ limit → read ≡ all
+  pub beginning : StartsWith all read
+  pub beyond : limit < length all → limit < length read
+
+-- this many bytes were added, which the source had before it; none only at its end
+pub record ReadsMore (source rest : Option (List ℕ)) (old new : List ℕ) (count : ℕ) : Type 0 where
+  pub piece : List ℕ
+  pub added : new ≡ old ++ piece
+  pub read : Consumes source rest piece
+  pub counted : length piece ≡ count
+  pub end : count ≡ 0 → IsAtEnd rest

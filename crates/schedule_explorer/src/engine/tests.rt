@@ -1,0 +1,126 @@
+// Whole runs: the bytes of a module and a schedule, and what comes of them byte for byte.
+use super::run_replay;
+use crate::fault_text::write_fault;
+use crate::verdict::{RunFault, Verdict, status};
+use std::alloc::{AllocError, Global};
+use std::test::Fail;
+use term_core::devices::{MemorySink, MemorySource};
+
+// A process that makes a table, and writes and reads an object of it.
+const TABLE: &str =
+    "module 'm' ['main'/0] attributes [] 'main'/0 = fun () -> do call 'ets':'new'('t',['named_table']) do call 'ets':'insert'('t',{'a',1}) call 'ets':'lookup'('t','a') end";
+
+// Its whole schedule, and the lines of that.
+const TURNS: &str = "P P P P";
+
+const LINES: &str =
+    "1 P ets:new('t',['named_table']) -> 't'\n2 P ets:insert('t',{'a',1}) -> 'true'\n3 P ets:lookup('t','a') -> [{'a',1}]\n4 P ends 'normal'\n";
+
+// A module and a schedule, the lines that are written, the line of the refusal, and the status.
+const ROWS: [(&str, &str, &str, &str, u8); 11] = [
+    (TABLE, TURNS, LINES, "", 0),
+    (TABLE, "", "", "", 0),
+    (
+        TABLE,
+        "P P.9",
+        "1 P ets:new('t',['named_table']) -> 't'\n",
+        "replay: 1 NotEnabled at step 2\n",
+        2,
+    ),
+    (TABLE, "P  P", "", "schedule: 1 BadStep at 2\n", 2),
+    (
+        "module 'm' ['main'/0] attributes [] 'main'/0 = fun () -> call 'ets':'lookup'('t','a') end",
+        "P P",
+        "1 P ets:lookup('t','a') -> badarg (2 NoTable)\n2 P ends {'badarg',[]}\n",
+        "",
+        0,
+    ),
+    ("", "P", "", "input: 2 Expected at 0\n", 2),
+    ("module 'm", "P", "", "input: 1 BadToken at 7\n", 2),
+    (
+        "module 'm' ['main'/0] attributes [] 'main'/0 = fun () -> 'ok'",
+        "P",
+        "",
+        "input: 2 Expected at 61\n",
+        2,
+    ),
+    (
+        "module 'm' ['main'/0] attributes [] 'main'/0 = fun () -> fun (X) -> X end",
+        "P",
+        "",
+        "input: 7 HigherOrder at 57\n",
+        2,
+    ),
+    (
+        "module 'm' [] attributes [] end",
+        "P",
+        "",
+        "input: 13 NoMain at 28\n",
+        2,
+    ),
+    // both are refused
+    ("module 'm", "P  P", "", "input: 1 BadToken at 7\n", 2),
+];
+
+// The line that tells the outcome on standard error, or nothing.
+fn line_of(alloc: Global, outcome: &Result<Verdict, RunFault>) -> Result<Vec<u8>, AllocError> {
+    let mut sink = MemorySink::with_room(alloc, 100)?;
+    if let Err(fault) = outcome {
+        let _ = write_fault(&mut sink, fault);
+    }
+    Ok(sink.bytes)
+}
+
+// In one read and one write for each, and byte by byte.
+#[test]
+fn answers_byte_for_byte(rt: HostRuntime) -> Result<(), Fail> {
+    let alloc = rt.alloc();
+    for (text, schedule, lines, line, number) in ROWS {
+        for (read, write) in [(1000, 1000), (1, 1000), (1000, 1)] {
+            let mut source = MemorySource::in_pieces(text.as_bytes(), read, u64::MAX);
+            let mut sink = MemorySink::in_pieces(alloc, 1000, write)?;
+            let outcome = run_replay(alloc, &mut source, schedule, &mut sink);
+            assert_eq!(rt;
+                status(&outcome),
+                number,
+                "{schedule} of {text}: {outcome:?}"
+            );
+            assert_eq!(rt; line_of(alloc, &outcome)?.as_slice(), line.as_bytes());
+            assert_eq!(rt; sink.bytes.as_slice(), lines.as_bytes());
+        }
+    }
+    Ok(())
+}
+
+// At each of the first reads, and at the one that would tell the end.
+#[test]
+fn a_read_that_fails_writes_nothing(rt: HostRuntime) -> Result<(), Fail> {
+    let alloc = rt.alloc();
+    for reads in [0, 1, 2, 3, 4, TABLE.len() as u64] {
+        let mut source = MemorySource::in_pieces(TABLE.as_bytes(), 1, reads);
+        let mut sink = MemorySink::with_room(alloc, 1000)?;
+        let outcome = run_replay(alloc, &mut source, TURNS, &mut sink);
+        assert_eq!(rt; outcome, Err(RunFault::ReadFailed), "at {reads}");
+        assert!(rt; sink.bytes.is_empty());
+    }
+    Ok(())
+}
+
+// Within each line, and between any two.
+#[test]
+fn a_write_that_fails_leaves_what_was_written(rt: HostRuntime) -> Result<(), Fail> {
+    let alloc = rt.alloc();
+    for room in 0..LINES.len() + 1 {
+        let mut source = MemorySource::new(TABLE.as_bytes());
+        let mut sink = MemorySink::with_room(alloc, room)?;
+        let outcome = run_replay(alloc, &mut source, TURNS, &mut sink);
+        if room < LINES.len() {
+            assert_eq!(rt; outcome, Err(RunFault::Output), "at {room}");
+        } else {
+            assert_eq!(rt; outcome, Ok(Verdict::Done));
+        }
+        assert_eq!(rt; sink.bytes.len(), room);
+        assert!(rt; LINES.as_bytes().starts_with(&sink.bytes), "at {room}");
+    }
+    Ok(())
+}
