@@ -2,14 +2,13 @@
 use Rattle.std.proofs.Common.{◌≡◌, ◌≢◌, ℕ, suc, ◌-◌, ◌+◌, ◌≤◌, ◌<◌, Bool, true, false, List, [], ◌∷◌, ◌++◌, length, Option, Some, None, Ok, Err, refl, sym, ap, ◌∙◌, append_assoc, arith, ◌==◌, is_some}
 use Rattle.std.proofs.lemmas.List.{append-nil}
 use Rattle.std.proofs.lemmas.Bool.Decides.{nat_tests}
-use Rattle.core_reader.specs.declared.fault.ReadFault.{ReadFault}
-use Rattle.core_reader.specs.declared.fault.ReadFault.TheVariants.{Memory}
-use Rattle.core_reader.specs.declared.token.Mark.TheVariants as m
-use Rattle.core_reader.specs.declared.token.Keyword.TheVariants as k
-use Rattle.core_reader.specs.declared.token.Token.{Token}
-use Rattle.core_reader.specs.Piece.{pieces}
-use Rattle.core_reader.specs.Syntax.{Mention, DefinitionTree}
-use Rattle.core_reader.specs.Reading.{State, Read, ◌>>=◌, with_pieces, after_mark, after_word, fault, variable_at, commas_at, items_at, comma_at, parameters_at, definition_at, definitions_at}
+use Rattle.core_tokens.specs.declared.fault.ReadFault.{ReadFault}
+use Rattle.core_tokens.specs.declared.fault.ReadFault.TheVariants.{Memory}
+use Rattle.core_tokens.specs.declared.token.Mark.TheVariants as m
+use Rattle.core_tokens.specs.declared.token.Keyword.TheVariants as k
+use Rattle.core_tokens.specs.declared.token.Token.{Token}
+use Rattle.core_tokens.specs.Piece.{pieces}
+use Rattle.core_reader.specs.Reading.{State, Read, ◌>>=◌, with_pieces, after_mark, after_word, fault, commas_at, items_at, comma_at, exactly_at, row_at, rows_at}
 use Rattle.core_reader.specs.Parsing.{Skips}
 
 -- what was read before, and what is still read
@@ -68,46 +67,52 @@ pub pieces_length : (ts : List Token) → length (pieces ts) ≡ length ts
 pieces_length [] = refl
 pieces_length (t ∷ ts) = ap suc (pieces_length ts)
 
--- ---- so many variables
+-- ---- exactly so many items
 
 first_is : (n : ℕ) → (n + 1 == 0) ≡ false
 first_is n = grind (arith, nat_tests)
 
-pub parameters_on : (front : List Mention) (count i : ℕ) (s s1 s2 : State) (v : Mention) (total : Read (List Mention)) → i < count → comma_at (i == 0) s ≡ Ok s1 → variable_at s1 ≡ Ok (v, s2)
-    → with_front front (parameters_at (i == 0) (count - i) s) ≡ total → with_front (front ++ v ∷ []) (parameters_at (i + 1 == 0) (count - (i + 1)) s2) ≡ total
-unfolding parameters_at
-parameters_on front count i s s1 s2 v total lt comma read so_far =
-    let n : count - i ≡ suc (count - (i + 1)) = omega arith in
-    let one : with_front front (parameters_at (i == 0) (count - i) s) ≡ with_front (front ++ v ∷ []) (parameters_at false (count - (i + 1)) s2) =
-    rw (n, comma, read) (regroup front v (parameters_at false (count - (i + 1)) s2)) in
-    rw first_is (sym one ∙ so_far)
+module _ {X : Type 0} (item : State → Read X) where
+  pub exactly_begin : (count : ℕ) (s : State) → with_front [] (exactly_at item true (count - 0) s) ≡ exactly_at item true count s
+  exactly_begin count s =
+      let n : count - 0 ≡ count = omega arith in
+      rw n (front_none (exactly_at item true count s))
 
-pub parameters_lack_comma : (e : ReadFault) (front : List Mention) (count i : ℕ) (s : State) (total : Read (List Mention)) → i < count → (e ≢ Memory → comma_at (i == 0) s ≡ Err e)
-    → with_front front (parameters_at (i == 0) (count - i) s) ≡ total → e ≢ Memory → total ≡ Err e
-unfolding parameters_at
-parameters_lack_comma e front count i s total lt failed so_far real =
-    let n : count - i ≡ suc (count - (i + 1)) = omega arith in
-    let comma : comma_at (i == 0) s ≡ Err e = failed real in
-    let one : with_front front (parameters_at (i == 0) (count - i) s) ≡ Err e = rw (n, comma) refl in
-    sym so_far ∙ one
+  pub exactly_on : (front : List X) (count i : ℕ) (s s1 s2 : State) (x : X) (total : Read (List X)) → i < count → comma_at (i == 0) s ≡ Ok s1 → item s1 ≡ Ok (x, s2)
+      → with_front front (exactly_at item (i == 0) (count - i) s) ≡ total → with_front (front ++ x ∷ []) (exactly_at item (i + 1 == 0) (count - (i + 1)) s2) ≡ total
+  unfolding exactly_at
+  exactly_on front count i s s1 s2 x total lt comma read so_far =
+      let n : count - i ≡ suc (count - (i + 1)) = omega arith in
+      let one : with_front front (exactly_at item (i == 0) (count - i) s) ≡ with_front (front ++ x ∷ []) (exactly_at item false (count - (i + 1)) s2) =
+      rw (n, comma, read) (regroup front x (exactly_at item false (count - (i + 1)) s2)) in
+      rw first_is (sym one ∙ so_far)
 
-pub parameters_lack : (e : ReadFault) (front : List Mention) (count i : ℕ) (s s1 : State) (total : Read (List Mention)) → i < count → comma_at (i == 0) s ≡ Ok s1 → (e ≢ Memory → variable_at s1 ≡ Err e)
-    → with_front front (parameters_at (i == 0) (count - i) s) ≡ total → e ≢ Memory → total ≡ Err e
-unfolding parameters_at
-parameters_lack e front count i s s1 total lt comma failed so_far real =
-    let n : count - i ≡ suc (count - (i + 1)) = omega arith in
-    let read : variable_at s1 ≡ Err e = failed real in
-    let one : with_front front (parameters_at (i == 0) (count - i) s) ≡ Err e = rw (n, comma, read) refl in
-    sym so_far ∙ one
+  pub exactly_lack_comma : (e : ReadFault) (front : List X) (count i : ℕ) (s : State) (total : Read (List X)) → i < count → (e ≢ Memory → comma_at (i == 0) s ≡ Err e)
+      → with_front front (exactly_at item (i == 0) (count - i) s) ≡ total → e ≢ Memory → total ≡ Err e
+  unfolding exactly_at
+  exactly_lack_comma e front count i s total lt failed so_far real =
+      let n : count - i ≡ suc (count - (i + 1)) = omega arith in
+      let comma : comma_at (i == 0) s ≡ Err e = failed real in
+      let one : with_front front (exactly_at item (i == 0) (count - i) s) ≡ Err e = rw (n, comma) refl in
+      sym so_far ∙ one
 
-pub parameters_done : (front : List Mention) (count i : ℕ) (s : State) (first : Bool) (total : Read (List Mention)) → count ≤ i → with_front front (parameters_at first (count - i) s) ≡ total → total ≡ Ok (front, s)
-unfolding parameters_at
-parameters_done front count i s first total le so_far =
-    let n : count - i ≡ 0 = omega arith in
-    let one : with_front front (parameters_at first (count - i) s) ≡ Ok (front, s) = rw n (ap (λ (vs : List Mention). Ok (vs, s)) (append-nil front)) in
-    sym so_far ∙ one
+  pub exactly_lack : (e : ReadFault) (front : List X) (count i : ℕ) (s s1 : State) (total : Read (List X)) → i < count → comma_at (i == 0) s ≡ Ok s1 → (e ≢ Memory → item s1 ≡ Err e)
+      → with_front front (exactly_at item (i == 0) (count - i) s) ≡ total → e ≢ Memory → total ≡ Err e
+  unfolding exactly_at
+  exactly_lack e front count i s s1 total lt comma failed so_far real =
+      let n : count - i ≡ suc (count - (i + 1)) = omega arith in
+      let read : item s1 ≡ Err e = failed real in
+      let one : with_front front (exactly_at item (i == 0) (count - i) s) ≡ Err e = rw (n, comma, read) refl in
+      sym so_far ∙ one
 
--- ---- definitions as far as the last `end`
+  pub exactly_done : (front : List X) (count i : ℕ) (s : State) (first : Bool) (total : Read (List X)) → count ≤ i → with_front front (exactly_at item first (count - i) s) ≡ total → total ≡ Ok (front, s)
+  unfolding exactly_at
+  exactly_done front count i s first total le so_far =
+      let n : count - i ≡ 0 = omega arith in
+      let one : with_front front (exactly_at item first (count - i) s) ≡ Ok (front, s) = rw n (ap (λ (xs : List X). Ok (xs, s)) (append-nil front)) in
+      sym so_far ∙ one
+
+-- ---- items as far as an `end`
 
 ends_by : {X : Type 0} (o : Option X) → is_some o ≡ true → (x : X) × (o ≡ Some x)
 ends_by None e = absurd cc
@@ -117,48 +122,45 @@ ends_not : {X : Type 0} (o : Option X) → is_some o ≡ false → o ≡ None
 ends_not None e = refl
 ends_not (Some x) e = absurd cc
 
-pub definitions_on : (front : List DefinitionTree) (count i : ℕ) (s s1 : State) (d : DefinitionTree) (total : Read (List DefinitionTree)) → i < count → is_some (after_word k.End s.pieces) ≡ false → definition_at s ≡ Ok (d, s1)
-    → with_front front (definitions_at (count - i) s) ≡ total → with_front (front ++ d ∷ []) (definitions_at (count - (i + 1)) s1) ≡ total
-unfolding definitions_at
-definitions_on front count i s s1 d total lt more read so_far =
-    let n : count - i ≡ suc (count - (i + 1)) = omega arith in
-    let no_end : after_word k.End s.pieces ≡ None = ends_not _ more in
-    let one : with_front front (definitions_at (count - i) s) ≡ with_front (front ++ d ∷ []) (definitions_at (count - (i + 1)) s1) =
-    rw (n, no_end, read) (regroup front d (definitions_at (count - (i + 1)) s1)) in
-    sym one ∙ so_far
+module _ {X : Type 0} (item : State → Read X) where
+  pub rows_begin : (count : ℕ) (s : State) → count ≡ length s.pieces → with_front [] (row_at item (count - 0) s) ≡ rows_at item s
+  unfolding rows_at
+  rows_begin count s e =
+      let n : count - 0 ≡ length s.pieces = omega arith in
+      rw n (front_none (row_at item (length s.pieces) s))
 
-pub definitions_end : (front : List DefinitionTree) (count i : ℕ) (s : State) (total : Read (List DefinitionTree)) → i < count → is_some (after_word k.End s.pieces) ≡ true
-    → with_front front (definitions_at (count - i) s) ≡ total → total ≡ Ok (front, s)
-unfolding definitions_at
-definitions_end front count i s total lt at_end so_far =
-    let n : count - i ≡ suc (count - (i + 1)) = omega arith in
-    let found = ends_by (after_word k.End s.pieces) at_end in
-    let one : with_front front (definitions_at (count - i) s) ≡ Ok (front, s) = rw (n, found.1) (ap (λ (ds : List DefinitionTree). Ok (ds, s)) (append-nil front)) in
-    sym so_far ∙ one
+  pub rows_on : (front : List X) (count i : ℕ) (s s1 : State) (x : X) (total : Read (List X)) → i < count → is_some (after_word k.End s.pieces) ≡ false → item s ≡ Ok (x, s1)
+      → with_front front (row_at item (count - i) s) ≡ total → with_front (front ++ x ∷ []) (row_at item (count - (i + 1)) s1) ≡ total
+  unfolding row_at
+  rows_on front count i s s1 x total lt more read so_far =
+      let n : count - i ≡ suc (count - (i + 1)) = omega arith in
+      let no_end : after_word k.End s.pieces ≡ None = ends_not _ more in
+      let one : with_front front (row_at item (count - i) s) ≡ with_front (front ++ x ∷ []) (row_at item (count - (i + 1)) s1) =
+      rw (n, no_end, read) (regroup front x (row_at item (count - (i + 1)) s1)) in
+      sym one ∙ so_far
 
-pub definitions_fail : (e : ReadFault) (front : List DefinitionTree) (count i : ℕ) (s : State) (total : Read (List DefinitionTree)) → i < count → is_some (after_word k.End s.pieces) ≡ false → (e ≢ Memory → definition_at s ≡ Err e)
-    → with_front front (definitions_at (count - i) s) ≡ total → e ≢ Memory → total ≡ Err e
-unfolding definitions_at
-definitions_fail e front count i s total lt more failed so_far real =
-    let n : count - i ≡ suc (count - (i + 1)) = omega arith in
-    let no_end : after_word k.End s.pieces ≡ None = ends_not _ more in
-    let read : definition_at s ≡ Err e = failed real in
-    let one : with_front front (definitions_at (count - i) s) ≡ Err e = rw (n, no_end, read) refl in
-    sym so_far ∙ one
+  pub rows_end : (front : List X) (count i : ℕ) (s : State) (total : Read (List X)) → i < count → is_some (after_word k.End s.pieces) ≡ true
+      → with_front front (row_at item (count - i) s) ≡ total → total ≡ Ok (front, s)
+  unfolding row_at
+  rows_end front count i s total lt at_end so_far =
+      let n : count - i ≡ suc (count - (i + 1)) = omega arith in
+      let found = ends_by (after_word k.End s.pieces) at_end in
+      let one : with_front front (row_at item (count - i) s) ≡ Ok (front, s) = rw (n, found.1) (ap (λ (xs : List X). Ok (xs, s)) (append-nil front)) in
+      sym so_far ∙ one
 
-pub definitions_out : (front : List DefinitionTree) (count i : ℕ) (s : State) (total : Read (List DefinitionTree)) → count ≤ i → with_front front (definitions_at (count - i) s) ≡ total → total ≡ Err (fault s)
-unfolding definitions_at
-definitions_out front count i s total le so_far =
-    let n : count - i ≡ 0 = omega arith in
-    let one : with_front front (definitions_at (count - i) s) ≡ Err (fault s) = rw n refl in
-    sym so_far ∙ one
+  pub rows_fail : (e : ReadFault) (front : List X) (count i : ℕ) (s : State) (total : Read (List X)) → i < count → is_some (after_word k.End s.pieces) ≡ false → (e ≢ Memory → item s ≡ Err e)
+      → with_front front (row_at item (count - i) s) ≡ total → e ≢ Memory → total ≡ Err e
+  unfolding row_at
+  rows_fail e front count i s total lt more failed so_far real =
+      let n : count - i ≡ suc (count - (i + 1)) = omega arith in
+      let no_end : after_word k.End s.pieces ≡ None = ends_not _ more in
+      let read : item s ≡ Err e = failed real in
+      let one : with_front front (row_at item (count - i) s) ≡ Err e = rw (n, no_end, read) refl in
+      sym so_far ∙ one
 
-pub definitions_begin : (count : ℕ) (s : State) → count ≡ length s.pieces → with_front [] (definitions_at (count - 0) s) ≡ definitions_at (length s.pieces) s
-definitions_begin count s e =
-    let n : count - 0 ≡ length s.pieces = omega arith in
-    rw n (front_none (definitions_at (length s.pieces) s))
-
-pub parameters_begin : (count : ℕ) (s : State) → with_front [] (parameters_at true (count - 0) s) ≡ parameters_at true count s
-parameters_begin count s =
-    let n : count - 0 ≡ count = omega arith in
-    rw n (front_none (parameters_at true count s))
+  pub rows_out : (front : List X) (count i : ℕ) (s : State) (total : Read (List X)) → count ≤ i → with_front front (row_at item (count - i) s) ≡ total → total ≡ Err (fault s)
+  unfolding row_at
+  rows_out front count i s total le so_far =
+      let n : count - i ≡ 0 = omega arith in
+      let one : with_front front (row_at item (count - i) s) ≡ Err (fault s) = rw n refl in
+      sym so_far ∙ one

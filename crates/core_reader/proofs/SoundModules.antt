@@ -1,20 +1,24 @@
 -- What is read as a module is spelt.
-use Rattle.std.proofs.Common.{◌≡◌, ℕ, zero, suc, true, false, List, [], ◌∷◌, length, Option, Some, None, Ok, refl, sym, ap, ◌∙◌, subst}
-use Rattle.core_reader.specs.declared.token.Mark.TheVariants as m
-use Rattle.core_reader.specs.declared.token.Keyword.TheVariants as k
-use Rattle.core_reader.specs.Piece.{Piece}
-use Rattle.core_reader.specs.Syntax.{Mention, Tree, Constant, NamedAt, AttributeTree, DefinitionTree, ModuleTree}
-use Rattle.core_reader.specs.Grammar.{mark, word, atom, variable, Commas, spells_one, spells_next, Enclosed, spells_none, spells_some, Row, ends_here, goes_on, FunctionName, Variable, names_variable, ConstantIn, Expression, level_limit, Attribute, an_attribute, Definition, a_definition, Spells, a_module}
-use Rattle.core_reader.specs.Reading.{State, after_word, function_name_at, attribute_at, parameters_at, head_at, definition_at, definitions_by, definitions_at, front_at, place_of, ended, module_at}
-use Rattle.core_reader.proofs.Steps.{ok_is, bind_ok, Steps, mark_steps, word_steps, construct_word_steps, atom_steps, variable_steps, Sound, function_name_sound}
-use Rattle.core_reader.proofs.Sound.{closed_sound, constant_sound, expression_sound}
+use Rattle.std.proofs.Common.{◌≡◌, ℕ, zero, suc, List, [], ◌∷◌, length, Option, Some, None, Ok, refl, ap, ◌∙◌, subst}
+use Rattle.core_tokens.specs.declared.token.Mark.TheVariants as m
+use Rattle.core_tokens.specs.declared.token.Keyword.TheVariants as k
+use Rattle.core_tokens.specs.Piece.{Piece}
+use Rattle.core_tree.specs.Syntax.{Mention, Tree, Constant, NamedAt, AttributeTree, DefinitionTree, ModuleTree}
+use Rattle.core_reader.specs.declared.parser.Unserved.{Unserved}
+use Rattle.core_reader.specs.Grammar.{mark, word, atom, InNote, in_note, stands_bare, stands_noted, Annotated, Noted, Enclosed, Row, FunctionName, Variable, ConstantIn, Expression, level_limit, Attribute, an_attribute, BareFun, is_fun, Fun, BareDefinition, a_definition, Definition, BareModule, a_module, Spells}
+use Rattle.core_reader.specs.Reading.{State, Read, after_mark, function_name_at, variable_at, constant_at, place_of}
+use Rattle.core_reader.specs.ReadingModules.{attribute_at, bare_fun_at, fun_at, behind_name_at, Opening, TheName, WholeDefinition, opening_by, opened, inside_opening_at, bare_opening_at, opening_last, opening_next, opening_at, definition_of_opening, definition_at, front_at, bare_module_at, ended, module_at}
+use Rattle.core_reader.proofs.Steps.{ok_is, bind_ok, after_mark_found, mark_steps, word_steps, atom_steps, bare_name_sound, Sound}
+use Rattle.core_reader.proofs.SoundLists.{closed_sound, exactly_sound, rows_sound}
+use Rattle.core_reader.proofs.SoundNames.{in_note_sound, constant_sound, at_front, noted_sound, function_name_sound, variable_sound}
+use Rattle.core_reader.proofs.SoundForms.{goes_to, expression_sound}
 
-attribute_form : (at bt : ℕ) (ps p1 p2 rest : List Piece) (a : List ℕ) (c : Constant) → ps ≡ atom at a ∷ p1 → p1 ≡ mark bt m.Equals ∷ p2 → ConstantIn level_limit p2 c rest → Attribute ps (record { name = a; value = c }) rest
-attribute_form at bt ps p1 p2 rest a c e0 e1 h = rw (e0, e1) (an_attribute h)
+attribute_form : (n at bt : ℕ) (ps p1 p2 rest : List Piece) (a : List ℕ) (c : Constant) → ps ≡ atom at a ∷ p1 → p1 ≡ mark bt m.Equals ∷ p2 → ConstantIn n p2 c rest → Attribute (ConstantIn n) ps (record { name = a; value = c }) rest
+attribute_form n at bt ps p1 p2 rest a c e0 e1 h = rw (e0, e1) (an_attribute h)
 
-pub attribute_sound : Sound attribute_at Attribute
+attribute_sound : (n : ℕ) → Sound (attribute_at n) (Attribute (ConstantIn n))
 unfolding attribute_at
-attribute_sound s x t e done =
+attribute_sound n s x t e done =
     let a = bind_ok _ _ _ e in
     let b = bind_ok _ _ _ a.2 in
     let c = bind_ok _ _ _ b.2 in
@@ -22,157 +26,153 @@ attribute_sound s x t e done =
     let same : (made, c.0.1) ≡ (x, t) = ok_is _ _ c.2 in
     let s0 = atom_steps s a.0.0 a.0.1 a.1 in
     let s1 = mark_steps m.Equals a.0.1 b.0 b.1 in
-    subst (λ (y : AttributeTree × State). y.1.refused ≡ None → (s.refused ≡ None) × Attribute s.pieces y.0 y.1.pieces) same
+    subst (λ (y : AttributeTree × State). y.1.refused ≡ None → (s.refused ≡ None) × Attribute (ConstantIn n) s.pieces y.0 y.1.pieces) same
     (λ d.
-    let h = constant_sound level_limit b.0 c.0.0 c.0.1 c.1 d in
-    (s0.back (s1.back h.0), attribute_form s0.at s1.at s.pieces a.0.1.pieces b.0.pieces c.0.1.pieces a.0.0 c.0.0 s0.pieces s1.pieces h.1)) done
+    let h = constant_sound n b.0 c.0.0 c.0.1 c.1 d in
+    (s0.back (s1.back h.0), attribute_form n s0.at s1.at s.pieces a.0.1.pieces b.0.pieces c.0.1.pieces a.0.0 c.0.0 s0.pieces s1.pieces h.1)) done
 
--- ---- so many variables
+-- ---- functions
 
--- variables with a comma before each
-data Behind : List Piece → List Mention → List Piece → Type 0 where
-  none_behind : {ps : List Piece} → Behind ps [] ps
-  one_behind : {ps rest : List Piece} {at bt : ℕ} {v : List ℕ} {vs : List Mention} → Behind ps vs rest → Behind (mark at m.Comma ∷ variable bt v ∷ ps) (record { at = bt; name = v } ∷ vs) rest
+-- a function with so many variables
+abbrev FunOf : List ℕ → ℕ → ℕ → List Piece → List Mention × Tree → List Piece → Type 0
+FunOf own arity n ps f rest = BareFun (Variable n) (Expression own n) ps f rest × (length f.0 ≡ arity)
 
-behind_form : (at : ℕ) (ps p1 p2 rest : List Piece) (v : Mention) (vs : List Mention) → ps ≡ mark at m.Comma ∷ p1 → p1 ≡ variable v.at v.name ∷ p2 → Behind p2 vs rest → Behind ps (v ∷ vs) rest
-behind_form at ps p1 p2 rest v vs e0 e1 h = rw (e0, e1) (one_behind h)
+fun_form : (own : List ℕ) (n at bt ct : ℕ) (ps p1 p2 p3 p4 rest : List Piece) (vs : List Mention) (body : Tree) → ps ≡ word at k.Fun ∷ p1 → p1 ≡ mark bt m.LeftParenthesis ∷ p2 → Enclosed (Variable n) m.RightParenthesis p2 vs p3 → p3 ≡ mark ct m.Arrow ∷ p4 → Expression own n p4 body rest
+    → BareFun (Variable n) (Expression own n) ps (vs, body) rest
+fun_form own n at bt ct ps p1 p2 p3 p4 rest vs body e0 e1 h e3 b = rw (e0, e1) (is_fun (goes_to (Enclosed (Variable n) m.RightParenthesis) p2 p3 (mark ct m.Arrow ∷ p4) vs e3 h) b)
 
-more_parameters_sound : (n : ℕ) (s : State) (vs : List Mention) (t : State) → parameters_at false n s ≡ Ok (vs, t) → (t.refused ≡ None → s.refused ≡ None) × Behind s.pieces vs t.pieces × (length vs ≡ n)
-unfolding parameters_at
-more_parameters_sound zero s vs t e =
-    let same : ([], s) ≡ (vs, t) = ok_is _ _ e in
-    subst (λ (y : List Mention × State). (y.1.refused ≡ None → s.refused ≡ None) × Behind s.pieces y.0 y.1.pieces × (length y.0 ≡ 0)) same (λ d. d, none_behind, refl)
-more_parameters_sound (suc n) s vs t e =
+bare_fun_sound : (own : List ℕ) (arity n : ℕ) → Sound (bare_fun_at own arity n) (FunOf own arity n)
+unfolding bare_fun_at
+bare_fun_sound own arity n s x t e done =
     let a = bind_ok _ _ _ e in
     let b = bind_ok _ _ _ a.2 in
-    let c = bind_ok _ _ _ b.2 in
-    let same : (b.0.0 ∷ c.0.0, c.0.1) ≡ (vs, t) = ok_is _ _ c.2 in
-    let s0 = mark_steps m.Comma s a.0 a.1 in
-    let s1 = variable_steps a.0 b.0.0 b.0.1 b.1 in
-    let h = more_parameters_sound n b.0.1 c.0.0 c.0.1 c.1 in
-    subst (λ (y : List Mention × State). (y.1.refused ≡ None → s.refused ≡ None) × Behind s.pieces y.0 y.1.pieces × (length y.0 ≡ suc n)) same
-    (λ d. s0.back (s1.1 (h.0 d)), behind_form s0.at s.pieces a.0.pieces b.0.1.pieces c.0.1.pieces b.0.0 c.0.0 s0.pieces s1.0 h.1, ap suc h.2)
+    let v = bind_ok _ _ _ b.2 in
+    let c = bind_ok _ _ _ v.2 in
+    let d = bind_ok _ _ _ c.2 in
+    let y = bind_ok _ _ _ d.2 in
+    let same : ((v.0.0, y.0.0), y.0.1) ≡ (x, t) = ok_is _ _ y.2 in
+    let s0 = word_steps k.Fun s a.0 a.1 in
+    let s1 = mark_steps m.LeftParenthesis a.0 b.0 b.1 in
+    let s3 = mark_steps m.RightParenthesis v.0.1 c.0 c.1 in
+    let s4 = mark_steps m.Arrow c.0 d.0 d.1 in
+    subst (λ (r : (List Mention × Tree) × State). r.1.refused ≡ None → (s.refused ≡ None) × FunOf own arity n s.pieces r.0 r.1.pieces) same
+    (λ f.
+    let body = expression_sound own n d.0 y.0.0 y.0.1 y.1 f in
+    let vars = exactly_sound (variable_at n) (Variable n) (variable_sound n) m.RightParenthesis arity b.0 v.0.0 v.0.1 c.0 v.1 s3 (s4.back body.0) in
+    (s0.back (s1.back vars.0), (fun_form own n s0.at s1.at s4.at s.pieces a.0.pieces b.0.pieces c.0.pieces d.0.pieces y.0.1.pieces v.0.0 y.0.0 s0.pieces s1.pieces vars.1 s4.pieces body.1, vars.2))) done
 
-commas_of : (ps rest : List Piece) (v : Mention) (vs : List Mention) → Behind ps vs rest → Commas Variable (variable v.at v.name ∷ ps) (v ∷ vs) rest
-commas_of ps rest v [] none_behind = spells_one names_variable
-commas_of ps rest v (w ∷ vs) (one_behind h) = spells_next names_variable (commas_of _ rest w vs h)
+-- the number of variables is told apart from how they are spelt
+either_fun : (own : List ℕ) (arity n : ℕ) (ps : List Piece) (f : List Mention × Tree) (rest : List Piece) → Noted (FunOf own arity) n ps f rest → Fun own n ps f rest × (length f.0 ≡ arity)
+either_fun own arity n ps f rest (stands_bare h) = (stands_bare h.0, h.1)
+either_fun own arity zero ps f rest (stands_noted h) = absurd h
+either_fun own arity (suc n) ps f rest (stands_noted (in_note {ps = qs} {more = more} h g)) = let i = either_fun own arity n qs f more h in (stands_noted (in_note i.0 g), i.1)
 
-parameters_form : (at : ℕ) (ps p1 p2 rest : List Piece) (v : Mention) (vs : List Mention) → ps ≡ variable v.at v.name ∷ p1 → Behind p1 vs p2 → p2 ≡ mark at m.RightParenthesis ∷ rest → Enclosed Variable m.RightParenthesis ps (v ∷ vs) rest
-parameters_form at ps p1 p2 rest v vs e0 h e2 =
-    let all : Commas Variable (variable v.at v.name ∷ p1) (v ∷ vs) p2 = commas_of p1 p2 v vs h in
-    let whole : Commas Variable (variable v.at v.name ∷ p1) (v ∷ vs) (mark at m.RightParenthesis ∷ rest) = subst (λ (qs : List Piece). Commas Variable (variable v.at v.name ∷ p1) (v ∷ vs) qs) e2 all in
-    rw e0 (spells_some whole)
-
-no_parameters_form : (at : ℕ) (ps rest : List Piece) → ps ≡ mark at m.RightParenthesis ∷ rest → Enclosed Variable m.RightParenthesis ps [] rest
-no_parameters_form at ps rest e = rw e spells_none
-
--- the parameters and the closing mark
-parameters_sound : (n : ℕ) (s : State) (vs : List Mention) (t u : State) → parameters_at true n s ≡ Ok (vs, t) → Steps (λ at. mark at m.RightParenthesis) t u → (u.refused ≡ None → s.refused ≡ None) × Enclosed Variable m.RightParenthesis s.pieces vs u.pieces × (length vs ≡ n)
-unfolding parameters_at
-parameters_sound zero s vs t u e close =
-    let same : ([], s) ≡ (vs, t) = ok_is _ _ e in
-    let first : s ≡ t = ap (λ (y : List Mention × State). y.1) same in
-    let empty : [] ≡ vs = ap (λ (y : List Mention × State). y.0) same in
-    let here : Steps (λ at. mark at m.RightParenthesis) s u = subst (λ (x : State). Steps (λ at. mark at m.RightParenthesis) x u) (sym first) close in
-    (here.back, subst (λ (ws : List Mention). Enclosed Variable m.RightParenthesis s.pieces ws u.pieces) empty (no_parameters_form here.at s.pieces u.pieces here.pieces), ap length (sym empty))
-parameters_sound (suc n) s vs t u e close =
-    let b = bind_ok _ _ _ e in
-    let c = bind_ok _ _ _ b.2 in
-    let same : (b.0.0 ∷ c.0.0, c.0.1) ≡ (vs, t) = ok_is _ _ c.2 in
-    let s1 = variable_steps s b.0.0 b.0.1 b.1 in
-    let h = more_parameters_sound n b.0.1 c.0.0 c.0.1 c.1 in
-    let made : Steps (λ at. mark at m.RightParenthesis) c.0.1 u → (u.refused ≡ None → s.refused ≡ None) × Enclosed Variable m.RightParenthesis s.pieces (b.0.0 ∷ c.0.0) u.pieces × (length (b.0.0 ∷ c.0.0) ≡ suc n) =
-    λ x. (λ d. s1.1 (h.0 (x.back d)), parameters_form x.at s.pieces b.0.1.pieces c.0.1.pieces u.pieces b.0.0 c.0.0 s1.0 h.1 x.pieces, ap suc h.2) in
-    subst (λ (y : List Mention × State). Steps (λ at. mark at m.RightParenthesis) y.1 u → (u.refused ≡ None → s.refused ≡ None) × Enclosed Variable m.RightParenthesis s.pieces y.0 u.pieces × (length y.0 ≡ suc n)) same made close
+fun_sound : (own : List ℕ) (arity n : ℕ) (s : State) (x : List Mention × Tree) (t : State) → fun_at own arity n s ≡ Ok (x, t) → t.refused ≡ None → (s.refused ≡ None) × (Fun own n s.pieces x t.pieces × (length x.0 ≡ arity))
+unfolding fun_at
+fun_sound own arity n s x t e done =
+    let h = noted_sound (bare_fun_at own arity) (FunOf own arity) (bare_fun_sound own arity) n s x t e done in
+    (h.0, either_fun own arity n s.pieces x t.pieces h.1)
 
 -- ---- definitions
 
--- what stands behind a definition's `=` and before its body
-record IsHead (n : ℕ) (ps : List Piece) (vs : List Mention) (rest : List Piece) : Type 0 where
-  pub ct : ℕ
-  pub dt : ℕ
-  pub et : ℕ
-  pub inside : List Piece
-  pub opens : ps ≡ word ct k.Fun ∷ mark dt m.LeftParenthesis ∷ inside
-  pub variables : Enclosed Variable m.RightParenthesis inside vs (mark et m.Arrow ∷ rest)
-  pub count : length vs ≡ n
-
-head_sound : (n : ℕ) (s : State) (vs : List Mention) (t : State) → head_at n s ≡ Ok (vs, t) → t.refused ≡ None → (s.refused ≡ None) × IsHead n s.pieces vs t.pieces
-unfolding head_at
-head_sound n s vs t e done =
+behind_name_sound : (own : List ℕ) (n : ℕ) (named : NamedAt) (ps : List Piece) (s : State) (d : DefinitionTree) (t : State) → behind_name_at own n named s ≡ Ok (d, t) → t.refused ≡ None → (s.refused ≡ None) × (FunctionName n ps named s.pieces → BareDefinition own n ps d t.pieces)
+unfolding behind_name_at
+behind_name_sound own n named ps s d t e done =
     let a = bind_ok _ _ _ e in
-    let b = bind_ok _ _ _ a.2 in
-    let c = bind_ok _ _ _ b.2 in
-    let f = bind_ok _ _ _ c.2 in
-    let g = bind_ok _ _ _ f.2 in
-    let same : (c.0.0, g.0) ≡ (vs, t) = ok_is _ _ g.2 in
-    let s0 = construct_word_steps k.Fun s a.0 a.1 in
-    let s1 = mark_steps m.LeftParenthesis a.0 b.0 b.1 in
-    let h = parameters_sound n b.0 c.0.0 c.0.1 f.0 c.1 (mark_steps m.RightParenthesis c.0.1 f.0 f.1) in
-    let s4 = mark_steps m.Arrow f.0 g.0 g.1 in
-    subst (λ (y : List Mention × State). y.1.refused ≡ None → (s.refused ≡ None) × IsHead n s.pieces y.0 y.1.pieces) same
-    (λ d. (
-      s0.back (s1.back (h.0 (s4.back d))),
-      record {
-        ct = s0.at;
-        dt = s1.at;
-        et = s4.at;
-        inside = b.0.pieces;
-        opens = s0.pieces ∙ ap (λ (qs : List Piece). word s0.at k.Fun ∷ qs) s1.pieces;
-        variables = subst (λ (qs : List Piece). Enclosed Variable m.RightParenthesis b.0.pieces c.0.0 qs) s4.pieces h.1;
-        count = h.2;
-      },
-    )) done
+    let f = bind_ok _ _ _ a.2 in
+    let made : DefinitionTree = record { named = named; parameters = f.0.0.0; body = f.0.0.1 } in
+    let same : (made, f.0.1) ≡ (d, t) = ok_is _ _ f.2 in
+    let s0 = mark_steps m.Equals s a.0 a.1 in
+    subst (λ (r : DefinitionTree × State). r.1.refused ≡ None → (s.refused ≡ None) × (FunctionName n ps named s.pieces → BareDefinition own n ps r.0 r.1.pieces)) same
+    (λ g.
+    let h = fun_sound own named.function.arity n a.0 f.0.0 f.0.1 f.1 g in
+    (s0.back h.0, λ name. a_definition (goes_to (FunctionName n) _ _ _ _ s0.pieces name) h.1.0 h.1.1)) done
 
-definition_form : (bt : ℕ) (ps p1 p2 p3 rest : List Piece) (named : NamedAt) (vs : List Mention) (body : Tree) → FunctionName ps named p1 → p1 ≡ mark bt m.Equals ∷ p2 → IsHead named.function.arity p2 vs p3 → Expression level_limit p3 body rest
-    → Definition ps (record { named = named; parameters = vs; body = body }) rest
-definition_form bt ps p1 p2 p3 rest named vs body h e1 head b =
-    let front : FunctionName ps named (mark bt m.Equals ∷ word head.ct k.Fun ∷ mark head.dt m.LeftParenthesis ∷ head.inside) =
-    subst (λ (qs : List Piece). FunctionName ps named qs) (e1 ∙ ap (λ (qs : List Piece). mark bt m.Equals ∷ qs) head.opens) h in
-    a_definition front head.variables head.count b
+-- what the opening of a definition says
+abbrev Opens : List ℕ → ℕ → List Piece → Opening → List Piece → Type 0
+Opens own n ps (TheName named) rest = FunctionName n ps named rest
+Opens own n ps (WholeDefinition d) rest = Annotated (BareDefinition own) n ps d rest
 
-pub definition_sound : Sound definition_at Definition
+-- what it says inside the parentheses of an annotation
+abbrev OpensInside : List ℕ → ℕ → List Piece → Opening → List Piece → Type 0
+OpensInside own n ps (TheName named) rest = FunctionName n ps named rest
+OpensInside own n ps (WholeDefinition d) rest = Definition own n ps d rest
+
+opening_by_sound : (own : List ℕ) (n : ℕ) (named : NamedAt) (o : Option (List Piece)) (ps : List Piece) (s : State) (y : Opening) (t : State) → opening_by own n named o s ≡ Ok (y, t) → t.refused ≡ None → (s.refused ≡ None) × (FunctionName n ps named s.pieces → OpensInside own n ps y t.pieces)
+opening_by_sound own n named None ps s y t e done =
+    let same : (TheName named, s) ≡ (y, t) = ok_is _ _ e in
+    subst (λ (r : Opening × State). r.1.refused ≡ None → (s.refused ≡ None) × (FunctionName n ps named s.pieces → OpensInside own n ps r.0 r.1.pieces)) same (λ f. (f, λ g. g)) done
+opening_by_sound own n named (Some us) ps s y t e done =
+    let d = bind_ok _ _ _ e in
+    let same : (WholeDefinition d.0.0, d.0.1) ≡ (y, t) = ok_is _ _ d.2 in
+    subst (λ (r : Opening × State). r.1.refused ≡ None → (s.refused ≡ None) × (FunctionName n ps named s.pieces → OpensInside own n ps r.0 r.1.pieces)) same
+    (λ f. let h = behind_name_sound own n named ps s d.0.0 d.0.1 d.1 f in (h.0, λ g. stands_bare (h.1 g))) done
+
+opened_sound : (own : List ℕ) (n : ℕ) (x : Opening) (ps : List Piece) (s : State) (y : Opening) (t : State) → opened own n x s ≡ Ok (y, t) → t.refused ≡ None → (s.refused ≡ None) × (Opens own n ps x s.pieces → OpensInside own n ps y t.pieces)
+opened_sound own n (TheName named) ps s y t e done = opening_by_sound own n named (after_mark m.Equals s.pieces) ps s y t e done
+opened_sound own n (WholeDefinition d) ps s y t e done =
+    let same : (WholeDefinition d, s) ≡ (y, t) = ok_is _ _ e in
+    subst (λ (r : Opening × State). r.1.refused ≡ None → (s.refused ≡ None) × (Opens own n ps (WholeDefinition d) s.pieces → OpensInside own n ps r.0 r.1.pieces)) same (λ f. (f, λ g. stands_noted g)) done
+
+inside_opening_sound : (own : List ℕ) (n : ℕ) (opening : State → Read Opening) → Sound opening (Opens own n) → Sound (inside_opening_at own n opening) (OpensInside own n)
+unfolding inside_opening_at
+inside_opening_sound own n opening opens s y t e done =
+    let x = bind_ok _ _ _ e in
+    let h = opened_sound own n x.0.0 s.pieces x.0.1 y t x.2 done in
+    let g = opens s x.0.0 x.0.1 x.1 h.0 in
+    (g.0, h.1 g.1)
+
+bare_opening_sound : (own : List ℕ) (n : ℕ) → Sound (bare_opening_at own) (Opens own n)
+unfolding bare_opening_at
+bare_opening_sound own n s y t e done =
+    let a = bind_ok _ _ _ e in
+    let same : (TheName a.0.0, a.0.1) ≡ (y, t) = ok_is _ _ a.2 in
+    subst (λ (r : Opening × State). r.1.refused ≡ None → (s.refused ≡ None) × Opens own n s.pieces r.0 r.1.pieces) same (λ d. let h = bare_name_sound s a.0.0 a.0.1 a.1 d in (h.0, stands_bare h.1)) done
+
+opening_last_sound : (own : List ℕ) (o : Option (List Piece)) (s : State) (y : Opening) (t : State) → opening_last own o s ≡ Ok (y, t) → t.refused ≡ None → (s.refused ≡ None) × Opens own 0 s.pieces y t.pieces
+opening_last_sound own (Some ps) s y t e done = absurd cc
+opening_last_sound own None s y t e done = bare_opening_sound own 0 s y t e done
+
+name_noted : (own : List ℕ) (n : ℕ) (ps : List Piece) (named : NamedAt) (rest : List Piece) → InNote (OpensInside own n) (ConstantIn n) ps (TheName named) rest → FunctionName (suc n) ps named rest
+name_noted own n ps named rest (in_note h g) = stands_noted (in_note h g)
+
+whole_noted : (own : List ℕ) (n : ℕ) (ps : List Piece) (d : DefinitionTree) (rest : List Piece) → InNote (OpensInside own n) (ConstantIn n) ps (WholeDefinition d) rest → Annotated (BareDefinition own) (suc n) ps d rest
+whole_noted own n ps d rest (in_note h g) = in_note h g
+
+opening_next_sound : (own : List ℕ) (n : ℕ) → Sound (opening_at own n) (Opens own n) → (o : Option (List Piece)) (s : State) (y : Opening) (t : State) → after_mark m.LeftParenthesis s.pieces ≡ o → opening_next own n (opening_at own n) o s ≡ Ok (y, t) → t.refused ≡ None → (s.refused ≡ None) × Opens own (suc n) s.pieces y t.pieces
+opening_next_sound own n opens (Some ps) s (TheName named) t is e done =
+    let f = after_mark_found m.LeftParenthesis s.pieces ps is in
+    let h = in_note_sound (constant_at n) (ConstantIn n) (constant_sound n) (inside_opening_at own n (opening_at own n)) (OpensInside own n) (inside_opening_sound own n (opening_at own n) opens) f.0 ps s (TheName named) t e done in
+    (h.0, at_front (FunctionName (suc n)) s.pieces (mark f.0 m.LeftParenthesis ∷ ps) named t.pieces f.1 (name_noted own n _ named t.pieces h.1))
+opening_next_sound own n opens (Some ps) s (WholeDefinition d) t is e done =
+    let f = after_mark_found m.LeftParenthesis s.pieces ps is in
+    let h = in_note_sound (constant_at n) (ConstantIn n) (constant_sound n) (inside_opening_at own n (opening_at own n)) (OpensInside own n) (inside_opening_sound own n (opening_at own n) opens) f.0 ps s (WholeDefinition d) t e done in
+    (h.0, at_front (Annotated (BareDefinition own) (suc n)) s.pieces (mark f.0 m.LeftParenthesis ∷ ps) d t.pieces f.1 (whole_noted own n _ d t.pieces h.1))
+opening_next_sound own n opens None s y t is e done = bare_opening_sound own (suc n) s y t e done
+
+opening_sound : (own : List ℕ) (n : ℕ) → Sound (opening_at own n) (Opens own n)
+unfolding opening_at
+opening_sound own zero s y t e done = opening_last_sound own (after_mark m.LeftParenthesis s.pieces) s y t e done
+opening_sound own (suc n) s y t e done = opening_next_sound own n (opening_sound own n) (after_mark m.LeftParenthesis s.pieces) s y t refl e done
+
+definition_of_sound : (own : List ℕ) (n : ℕ) (x : Opening) (ps : List Piece) (s : State) (d : DefinitionTree) (t : State) → definition_of_opening own n x s ≡ Ok (d, t) → t.refused ≡ None → (s.refused ≡ None) × (Opens own n ps x s.pieces → Definition own n ps d t.pieces)
+definition_of_sound own n (TheName named) ps s d t e done = let h = behind_name_sound own n named ps s d t e done in (h.0, λ g. stands_bare (h.1 g))
+definition_of_sound own n (WholeDefinition w) ps s d t e done =
+    let same : (w, s) ≡ (d, t) = ok_is _ _ e in
+    subst (λ (r : DefinitionTree × State). r.1.refused ≡ None → (s.refused ≡ None) × (Opens own n ps (WholeDefinition w) s.pieces → Definition own n ps r.0 r.1.pieces)) same (λ f. (f, λ g. stands_noted g)) done
+
+definition_sound : (own : List ℕ) (n : ℕ) → Sound (definition_at own n) (Definition own n)
 unfolding definition_at
-definition_sound s x t e done =
-    let a = bind_ok _ _ _ e in
-    let b = bind_ok _ _ _ a.2 in
-    let c = bind_ok _ _ _ b.2 in
-    let f = bind_ok _ _ _ c.2 in
-    let made : DefinitionTree = record { named = a.0.0; parameters = c.0.0; body = f.0.0 } in
-    let same : (made, f.0.1) ≡ (x, t) = ok_is _ _ f.2 in
-    let s1 = mark_steps m.Equals a.0.1 b.0 b.1 in
-    subst (λ (y : DefinitionTree × State). y.1.refused ≡ None → (s.refused ≡ None) × Definition s.pieces y.0 y.1.pieces) same
-    (λ d.
-    let body = expression_sound level_limit c.0.1 f.0.0 f.0.1 f.1 d in
-    let head = head_sound a.0.0.function.arity b.0 c.0.0 c.0.1 c.1 body.0 in
-    let name = function_name_sound s a.0.0 a.0.1 a.1 (s1.back head.0) in
-    (name.0, definition_form s1.at s.pieces a.0.1.pieces b.0.pieces c.0.1.pieces f.0.1.pieces a.0.0 c.0.0 f.0.0 name.1 s1.pieces head.1 body.1)) done
-
-definitions_by_sound : (n : ℕ) (o : Option (List Piece)) (s : State) (ds : List DefinitionTree) (t : State)
-    → ((s1 : State) (es : List DefinitionTree) (u : State) → definitions_at n s1 ≡ Ok (es, u) → u.refused ≡ None → (s1.refused ≡ None) × Row Definition s1.pieces es u.pieces)
-    → definitions_by (definitions_at n) o s ≡ Ok (ds, t) → t.refused ≡ None → (s.refused ≡ None) × Row Definition s.pieces ds t.pieces
-definitions_by_sound n (Some ps) s ds t again e done =
-    let same : ([], s) ≡ (ds, t) = ok_is _ _ e in
-    subst (λ (y : List DefinitionTree × State). y.1.refused ≡ None → (s.refused ≡ None) × Row Definition s.pieces y.0 y.1.pieces) same (λ d. (d, ends_here)) done
-definitions_by_sound n None s ds t again e done =
-    let a = bind_ok _ _ _ e in
-    let b = bind_ok _ _ _ a.2 in
-    let same : (a.0.0 ∷ b.0.0, b.0.1) ≡ (ds, t) = ok_is _ _ b.2 in
-    subst (λ (y : List DefinitionTree × State). y.1.refused ≡ None → (s.refused ≡ None) × Row Definition s.pieces y.0 y.1.pieces) same
-    (λ d.
-    let h = again a.0.1 b.0.0 b.0.1 b.1 d in
-    let g = definition_sound s a.0.0 a.0.1 a.1 h.0 in
-    (g.0, goes_on g.1 h.1)) done
-
-definitions_sound : (n : ℕ) (s : State) (ds : List DefinitionTree) (t : State) → definitions_at n s ≡ Ok (ds, t) → t.refused ≡ None → (s.refused ≡ None) × Row Definition s.pieces ds t.pieces
-unfolding definitions_at
-definitions_sound zero s ds t e done = absurd cc
-definitions_sound (suc n) s ds t e done = definitions_by_sound n (after_word k.End s.pieces) s ds t (definitions_sound n) e done
+definition_sound own n s d t e done =
+    let x = bind_ok _ _ _ e in
+    let h = definition_of_sound own n x.0.0 s.pieces x.0.1 d t x.2 done in
+    let g = opening_sound own n s x.0.0 x.0.1 x.1 h.0 in
+    (g.0, h.1 g.1)
 
 -- ---- modules
 
 -- the name, the exports and the attributes
-record IsFront (ps : List Piece) (name : List ℕ) (exports : List NamedAt) (attributes : List AttributeTree) (rest : List Piece) : Type 0 where
+record IsFront (n : ℕ) (ps : List Piece) (name : List ℕ) (exports : List NamedAt) (attributes : List AttributeTree) (rest : List Piece) : Type 0 where
   pub at : ℕ
   pub bt : ℕ
   pub ct : ℕ
@@ -181,15 +181,15 @@ record IsFront (ps : List Piece) (name : List ℕ) (exports : List NamedAt) (att
   pub p1 : List Piece
   pub p2 : List Piece
   pub opens : ps ≡ word at k.Module ∷ atom bt name ∷ mark ct m.LeftBracket ∷ p1
-  pub exported : Enclosed FunctionName m.RightBracket p1 exports (word dt k.Attributes ∷ mark et m.LeftBracket ∷ p2)
-  pub attributed : Enclosed Attribute m.RightBracket p2 attributes rest
+  pub exported : Enclosed (FunctionName n) m.RightBracket p1 exports (word dt k.Attributes ∷ mark et m.LeftBracket ∷ p2)
+  pub attributed : Enclosed (Attribute (ConstantIn n)) m.RightBracket p2 attributes rest
 
 abbrev Front : Type 0
 Front = List ℕ × List NamedAt × List AttributeTree
 
-front_sound : (s : State) (f : Front) (t : State) → front_at s ≡ Ok (f, t) → t.refused ≡ None → IsFront s.pieces f.0 f.1 f.2 t.pieces
+front_sound : (n : ℕ) (s : State) (f : Front) (t : State) → front_at n s ≡ Ok (f, t) → t.refused ≡ None → (s.refused ≡ None) × IsFront n s.pieces f.0 f.1 f.2 t.pieces
 unfolding front_at
-front_sound s x t e done =
+front_sound n s x t e done =
     let a = bind_ok _ _ _ e in
     let b = bind_ok _ _ _ a.2 in
     let c = bind_ok _ _ _ b.2 in
@@ -199,48 +199,70 @@ front_sound s x t e done =
     let i = bind_ok _ _ _ h.2 in
     let made : Front = (b.0.0, f.0.0, i.0.0) in
     let same : (made, i.0.1) ≡ (x, t) = ok_is _ _ i.2 in
-    let s0 = construct_word_steps k.Module s a.0 a.1 in
+    let s0 = word_steps k.Module s a.0 a.1 in
     let s1 = atom_steps a.0 b.0.0 b.0.1 b.1 in
     let s2 = mark_steps m.LeftBracket b.0.1 c.0 c.1 in
     let s4 = word_steps k.Attributes f.0.1 g.0 g.1 in
     let s5 = mark_steps m.LeftBracket g.0 h.0 h.1 in
-    subst (λ (y : Front × State). y.1.refused ≡ None → IsFront s.pieces y.0.0 y.0.1 y.0.2 y.1.pieces) same
+    subst (λ (y : Front × State). y.1.refused ≡ None → (s.refused ≡ None) × IsFront n s.pieces y.0.0 y.0.1 y.0.2 y.1.pieces) same
     (λ d.
-    let attributes = closed_sound attribute_at Attribute attribute_sound m.RightBracket h.0 i.0.0 i.0.1 i.1 d in
-    let exports = closed_sound function_name_at FunctionName function_name_sound m.RightBracket c.0 f.0.0 f.0.1 f.1 (s4.back (s5.back attributes.0)) in
-    record {
-      at = s0.at;
-      bt = s1.at;
-      ct = s2.at;
-      dt = s4.at;
-      et = s5.at;
-      p1 = c.0.pieces;
-      p2 = h.0.pieces;
-      opens = s0.pieces ∙ ap (λ (qs : List Piece). word s0.at k.Module ∷ qs) (s1.pieces ∙ ap (λ (qs : List Piece). atom s1.at b.0.0 ∷ qs) s2.pieces);
-      exported = subst (λ (qs : List Piece). Enclosed FunctionName m.RightBracket c.0.pieces f.0.0 qs) (s4.pieces ∙ ap (λ (qs : List Piece). word s4.at k.Attributes ∷ qs) s5.pieces) exports.1;
-      attributed = attributes.1;
-    }) done
+    let attributes = closed_sound (attribute_at n) (Attribute (ConstantIn n)) (attribute_sound n) m.RightBracket h.0 i.0.0 i.0.1 i.1 d in
+    let exports = closed_sound (function_name_at n) (FunctionName n) (function_name_sound n) m.RightBracket c.0 f.0.0 f.0.1 f.1 (s4.back (s5.back attributes.0)) in (
+      s0.back (s1.back (s2.back exports.0)),
+      record {
+        at = s0.at;
+        bt = s1.at;
+        ct = s2.at;
+        dt = s4.at;
+        et = s5.at;
+        p1 = c.0.pieces;
+        p2 = h.0.pieces;
+        opens = s0.pieces ∙ ap (λ (qs : List Piece). word s0.at k.Module ∷ qs) (s1.pieces ∙ ap (λ (qs : List Piece). atom s1.at b.0.0 ∷ qs) s2.pieces);
+        exported = subst (λ (qs : List Piece). Enclosed (FunctionName n) m.RightBracket c.0.pieces f.0.0 qs) (s4.pieces ∙ ap (λ (qs : List Piece). word s4.at k.Attributes ∷ qs) s5.pieces) exports.1;
+        attributed = attributes.1;
+      },
+    )) done
 
-ended_ok : {X : Type 0} (ps : List Piece) (refused : Option ℕ) (x : X) (s : State) (y : X) → ended ps refused x s ≡ Ok y → (ps ≡ []) × (refused ≡ None) × (x ≡ y)
+-- a module and a place
+abbrev IsModule : ℕ → List Piece → ModuleTree × ℕ → List Piece → Type 0
+IsModule n ps x rest = BareModule n ps x.0 rest
+
+module_form : (n ft : ℕ) (ps p3 p4 rest : List Piece) (f : Front) (ds : List DefinitionTree) → IsFront n ps f.0 f.1 f.2 p3 → Row (Definition f.0 n) p3 ds p4 → p4 ≡ word ft k.End ∷ rest
+    → BareModule n ps (record { name = f.0; exports = f.1; attributes = f.2; definitions = ds }) rest
+module_form n ft ps p3 p4 rest f ds front row e4 =
+    let last : Row (Definition f.0 n) p3 ds (word ft k.End ∷ rest) = goes_to (Row (Definition f.0 n)) p3 p4 (word ft k.End ∷ rest) ds e4 row in
+    rw front.opens (a_module front.exported front.attributed last)
+
+bare_module_sound : (n : ℕ) → Sound (bare_module_at n) (IsModule n)
+unfolding bare_module_at
+bare_module_sound n s x t e done =
+    let f = bind_ok _ _ _ e in
+    let d = bind_ok _ _ _ f.2 in
+    let w = bind_ok _ _ _ d.2 in
+    let made : ModuleTree = record { name = f.0.0.0; exports = f.0.0.1; attributes = f.0.0.2; definitions = d.0.0 } in
+    let same : ((made, place_of d.0.1.stop d.0.1.pieces), w.0) ≡ (x, t) = ok_is _ _ w.2 in
+    let s1 = word_steps k.End d.0.1 w.0 w.1 in
+    subst (λ (r : (ModuleTree × ℕ) × State). r.1.refused ≡ None → (s.refused ≡ None) × IsModule n s.pieces r.0 r.1.pieces) same
+    (λ g.
+    let row = rows_sound (definition_at f.0.0.0 n) (Definition f.0.0.0 n) (definition_sound f.0.0.0 n) f.0.1 d.0.0 d.0.1 d.1 (s1.back g) in
+    let front = front_sound n s f.0.0 f.0.1 f.1 row.0 in
+    (front.0, module_form n s1.at s.pieces f.0.1.pieces d.0.1.pieces w.0.pieces f.0.0 d.0.0 front.1 row.1 s1.pieces)) done
+
+either_module : (n : ℕ) (ps : List Piece) (x : ModuleTree × ℕ) (rest : List Piece) → Noted IsModule n ps x rest → Noted BareModule n ps x.0 rest
+either_module n ps x rest (stands_bare h) = stands_bare h
+either_module zero ps x rest (stands_noted h) = absurd h
+either_module (suc n) ps x rest (stands_noted (in_note {ps = qs} {more = more} h g)) = stands_noted (in_note (either_module n qs x more h) g)
+
+ended_ok : {X : Type 0} (ps : List Piece) (refused : Option Unserved) (x : X) (s : State) (y : X) → ended ps refused x s ≡ Ok y → (ps ≡ []) × (refused ≡ None) × (x ≡ y)
 ended_ok [] None x s y e = (refl, refl, ok_is _ _ e)
 ended_ok [] (Some at) x s y e = absurd cc
 ended_ok (p ∷ ps) refused x s y e = absurd cc
 
-module_form : (ft : ℕ) (ps p3 p4 p5 : List Piece) (f : Front) (ds : List DefinitionTree) → IsFront ps f.0 f.1 f.2 p3 → Row Definition p3 ds p4 → p4 ≡ word ft k.End ∷ p5 → p5 ≡ []
-    → Spells ps (record { name = f.0; exports = f.1; attributes = f.2; definitions = ds })
-module_form ft ps p3 p4 p5 f ds front row e4 e5 =
-    let last : Row Definition p3 ds (word ft k.End ∷ []) = subst (λ (qs : List Piece). Row Definition p3 ds qs) (e4 ∙ ap (λ (qs : List Piece). word ft k.End ∷ qs) e5) row in
-    rw front.opens (a_module front.exported front.attributed last)
-
 pub module_sound : (s : State) (x : ModuleTree × ℕ) → module_at s ≡ Ok x → Spells s.pieces x.0
 unfolding module_at
 module_sound s x e =
-    let a = bind_ok _ _ _ e in
-    let b = bind_ok _ _ _ a.2 in
-    let c = bind_ok _ _ _ b.2 in
-    let made : ModuleTree = record { name = a.0.0.0; exports = a.0.0.1; attributes = a.0.0.2; definitions = b.0.0 } in
-    let last = ended_ok c.0.pieces c.0.refused (made, place_of b.0.1.stop b.0.1.pieces) c.0 x c.2 in
-    let s2 = word_steps k.End b.0.1 c.0 c.1 in
-    let row = definitions_sound (length a.0.1.pieces) a.0.1 b.0.0 b.0.1 b.1 (s2.back last.1) in
-    let front = front_sound s a.0.0 a.0.1 a.1 row.0 in
-    subst (λ (y : ModuleTree × ℕ). Spells s.pieces y.0) last.2 (module_form s2.at s.pieces a.0.1.pieces b.0.1.pieces c.0.pieces a.0.0 b.0.0 front row.1 s2.pieces last.0)
+    let d = bind_ok _ _ _ e in
+    let h = ended_ok d.0.1.pieces d.0.1.refused d.0.0 d.0.1 x d.2 in
+    let g = noted_sound bare_module_at IsModule bare_module_sound level_limit s d.0.0 d.0.1 d.1 h.1 in
+    let i = either_module level_limit s.pieces d.0.0 d.0.1.pieces g.1 in
+    subst (λ (y : ModuleTree × ℕ). Spells s.pieces y.0) h.2 (subst (λ (qs : List Piece). Noted BareModule level_limit s.pieces d.0.0.0 qs) h.0 i)

@@ -3,15 +3,15 @@ use Rattle.std.proofs.Common.{◌≡◌, ℕ, ◌<◌, ℤ, pos, negsuc, Bool, t
 use Rattle.std.specs.Prelude.{nat_lt}
 use Rattle.std.proofs.lemmas.Bool.{eqb-true}
 use borrow.Author.Tests.{ltb-true}
-use Rattle.core_reader.specs.declared.fault.ReadFault.{ReadFault}
-use Rattle.core_reader.specs.declared.token.Mark.{Mark}
-use Rattle.core_reader.specs.declared.token.Mark.TheVariants as m
-use Rattle.core_reader.specs.declared.token.Keyword.{Keyword}
-use Rattle.core_reader.specs.declared.token.Keyword.TheVariants as k
-use Rattle.core_reader.specs.Piece.{Piece, Shape, A_word, A_mark, An_atom, A_variable, An_integer}
-use Rattle.core_reader.specs.Syntax.{Mention, NamedAt}
-use Rattle.core_reader.specs.Grammar.{mark, word, atom, variable, integer, FunctionName, names_function, Variable, names_variable}
-use Rattle.core_reader.specs.Reading.{State, Read, ◌>>=◌, with_pieces, mark_number, word_number, is_mark, is_word, after_mark, after_word, fault, construct_fault, passed, mark_at, word_at, construct_word_at, taken_by, taken, atom_in, atom_at, named_by, placed_atom_at, arity_by, arity_in, arity_at, mention_by, variable_at, function_name_at}
+use Rattle.core_tokens.specs.declared.fault.ReadFault.{ReadFault}
+use Rattle.core_tokens.specs.declared.token.Mark.{Mark}
+use Rattle.core_tokens.specs.declared.token.Mark.TheVariants as m
+use Rattle.core_tokens.specs.declared.token.Keyword.{Keyword}
+use Rattle.core_tokens.specs.declared.token.Keyword.TheVariants as k
+use Rattle.core_tokens.specs.Piece.{Piece, Shape, A_word, A_mark, An_atom, A_variable, An_integer}
+use Rattle.core_tree.specs.Syntax.{Mention, NamedAt}
+use Rattle.core_reader.specs.Grammar.{mark, word, atom, variable, integer, BareName, names_function, BareVariable, names_variable}
+use Rattle.core_reader.specs.Reading.{State, Read, ◌>>=◌, with_pieces, mark_number, word_number, is_mark, is_word, after_mark, after_word, fault, passed, mark_at, word_at, taken_by, taken, atom_in, atom_at, named_by, placed_atom_at, arity_by, arity_in, arity_at, mention_by, bare_variable_at, behind_atom_at, bare_name_at}
 
 abbrev done : {A : Type 0} → A → Result A ReadFault
 done x = Ok x
@@ -135,13 +135,6 @@ word_steps x s t e =
     let f = after_word_found x s.pieces t.pieces p.0 in
     record { at = f.0; pieces = f.1; back = λ h. sym p.1 ∙ h }
 
-pub construct_word_steps : (x : Keyword) (s t : State) → construct_word_at x s ≡ Ok t → Steps (λ at. word at x) s t
-unfolding construct_word_at
-construct_word_steps x s t e =
-    let p = passed_ok (after_word x s.pieces) s (construct_fault s) t e in
-    let f = after_word_found x s.pieces t.pieces p.0 in
-    record { at = f.0; pieces = f.1; back = λ h. sym p.1 ∙ h }
-
 -- what was taken from the front
 pub record Takes {X : Type 0} (of : Piece → Option X) (s : State) (x : X) (t : State) : Type 0 where
   pub front : Piece
@@ -178,16 +171,16 @@ pub atom_steps : (s : State) (a : List ℕ) (t : State) → atom_at s ≡ Ok (a,
 unfolding atom_at
 atom_steps s a t e = atom_of_front s a t (taken_ok (λ p. atom_in p.shape) s (fault s) a t e)
 
-named_by_some : (at : ℕ) (shape : Shape) (a : ℕ × List ℕ) → named_by at shape ≡ Some a → (shape ≡ An_atom a.1) × (at ≡ a.0)
+pub named_by_some : (at : ℕ) (shape : Shape) (a : ℕ × List ℕ) → named_by at shape ≡ Some a → (shape ≡ An_atom a.1) × (at ≡ a.0)
 named_by_some at (An_atom u) a e =
     let same : (at, u) ≡ a = cc in
     (ap (λ (b : ℕ × List ℕ). An_atom b.1) same, ap (λ (b : ℕ × List ℕ). b.0) same)
 named_by_some at shape a e = absurd cc
 
-placed_atom_steps : (s : State) (a : ℕ × List ℕ) (t : State) → placed_atom_at s ≡ Ok (a, t) → (s.pieces ≡ atom a.0 a.1 ∷ t.pieces) × (t.refused ≡ None → s.refused ≡ None)
+pub placed_atom_steps : (s : State) (a : ℕ × List ℕ) (t : State) → placed_atom_at s ≡ Ok (a, t) → (s.pieces ≡ atom a.0 a.1 ∷ t.pieces) × (t.refused ≡ None → s.refused ≡ None)
 unfolding placed_atom_at
 placed_atom_steps s a t e =
-    let h = taken_ok (λ p. named_by p.at p.shape) s (construct_fault s) a t e in
+    let h = taken_ok (λ p. named_by p.at p.shape) s (fault s) a t e in
     let n = named_by_some h.front.at h.front.shape a h.is in
     let piece : h.front ≡ atom a.0 a.1 = ap (λ (x : Shape). record { at = h.front.at; shape = x }) n.0 ∙ ap (λ (at : ℕ). atom at a.1) n.1 in
     (h.pieces ∙ ap (λ (q : Piece). q ∷ t.pieces) piece, h.back)
@@ -218,10 +211,10 @@ mention_by_some at (A_variable u) v e =
     (ap (λ (w : Mention). A_variable w.name) same, ap (λ (w : Mention). w.at) same)
 mention_by_some at shape v e = absurd cc
 
-pub variable_steps : (s : State) (v : Mention) (t : State) → variable_at s ≡ Ok (v, t) → (s.pieces ≡ variable v.at v.name ∷ t.pieces) × (t.refused ≡ None → s.refused ≡ None)
-unfolding variable_at
+pub variable_steps : (s : State) (v : Mention) (t : State) → bare_variable_at s ≡ Ok (v, t) → (s.pieces ≡ variable v.at v.name ∷ t.pieces) × (t.refused ≡ None → s.refused ≡ None)
+unfolding bare_variable_at
 variable_steps s v t e =
-    let h = taken_ok (λ p. mention_by p.at p.shape) s (construct_fault s) v t e in
+    let h = taken_ok (λ p. mention_by p.at p.shape) s (fault s) v t e in
     let n = mention_by_some h.front.at h.front.shape v h.is in
     let piece : h.front ≡ variable v.at v.name = ap (λ (x : Shape). record { at = h.front.at; shape = x }) n.0 ∙ ap (λ (at : ℕ). variable at v.name) n.1 in
     (h.pieces ∙ ap (λ (q : Piece). q ∷ t.pieces) piece, h.back)
@@ -231,25 +224,32 @@ variable_steps s v t e =
 abbrev pub Sound : {X : Type 0} → (State → Read X) → (List Piece → X → List Piece → Type 0) → Type 0
 Sound {X = X} item Item = (s : State) (x : X) (t : State) → item s ≡ Ok (x, t) → t.refused ≡ None → (s.refused ≡ None) × Item s.pieces x t.pieces
 
-pub variable_sound : Sound variable_at Variable
-variable_sound s v t e done =
+pub bare_variable_sound : Sound bare_variable_at BareVariable
+bare_variable_sound s v t e done =
     let h = variable_steps s v t e in
     (h.1 done, rw h.0 names_variable)
 
 function_form : (ps p1 p2 rest : List Piece) (at bt ct n : ℕ) (t : List ℕ) → n < 256 → ps ≡ atom at t ∷ p1 → p1 ≡ mark bt m.Slash ∷ p2 → p2 ≡ integer ct (pos n) ∷ rest
-    → FunctionName ps (record { at = at; function = record { name = t; arity = n } }) rest
+    → BareName ps (record { at = at; function = record { name = t; arity = n } }) rest
 function_form ps p1 p2 rest at bt ct n t small e0 e1 e2 = rw (e0, e1, e2) (names_function small)
 
-pub function_name_sound : Sound function_name_at FunctionName
-unfolding function_name_at
-function_name_sound s x t e done =
-    let a = bind_ok _ _ _ e in
-    let b = bind_ok _ _ _ a.2 in
+-- a name behind whose atom this was read
+pub behind_atom_sound : (at : ℕ) (a : List ℕ) (ps : List Piece) (s : State) (x : NamedAt) (t : State) → ps ≡ atom at a ∷ s.pieces → behind_atom_at at a s ≡ Ok (x, t) → t.refused ≡ None → (s.refused ≡ None) × BareName ps x t.pieces
+unfolding behind_atom_at
+behind_atom_sound at a ps s x t is e done =
+    let b = bind_ok _ _ _ e in
     let c = bind_ok _ _ _ b.2 in
-    let h0 = placed_atom_steps s a.0.0 a.0.1 a.1 in
-    let h1 = mark_steps m.Slash a.0.1 b.0 b.1 in
+    let h1 = mark_steps m.Slash s b.0 b.1 in
     let h2 = arity_steps b.0 c.0.0 c.0.1 c.1 in
-    let made : NamedAt = record { at = a.0.0.0; function = record { name = a.0.0.1; arity = c.0.0 } } in
+    let made : NamedAt = record { at = at; function = record { name = a; arity = c.0.0 } } in
     let same : (made, c.0.1) ≡ (x, t) = ok_is _ _ c.2 in
-    subst (λ (y : NamedAt × State). y.1.refused ≡ None → (s.refused ≡ None) × FunctionName s.pieces y.0 y.1.pieces) same
-    (λ d. (h0.1 (h1.back (h2.0.back d)), function_form _ _ _ _ _ _ _ _ _ h2.1 h0.0 h1.pieces h2.0.pieces)) done
+    subst (λ (y : NamedAt × State). y.1.refused ≡ None → (s.refused ≡ None) × BareName ps y.0 y.1.pieces) same
+    (λ d. (h1.back (h2.0.back d), function_form _ _ _ _ _ _ _ _ _ h2.1 is h1.pieces h2.0.pieces)) done
+
+pub bare_name_sound : Sound bare_name_at BareName
+unfolding bare_name_at
+bare_name_sound s x t e done =
+    let a = bind_ok _ _ _ e in
+    let h0 = placed_atom_steps s a.0.0 a.0.1 a.1 in
+    let h = behind_atom_sound a.0.0.0 a.0.0.1 s.pieces a.0.1 x t h0.0 a.2 done in
+    (h0.1 h.0, h.1)

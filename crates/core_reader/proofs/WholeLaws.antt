@@ -1,13 +1,14 @@
 -- What is read is spelt and lawful.
 use Rattle.std.proofs.Common.{◌≡◌, ◌≢◌, ℕ, List, Result, Ok, Err, refl, sym, subst, ◌∙◌}
 use Rattle.std.specs.Prelude.{IfOk}
-use Rattle.core_reader.specs.declared.fault.ReadFault.{ReadFault}
-use Rattle.core_reader.specs.declared.fault.ReadFault.TheVariants.{Memory}
-use Rattle.core_reader.specs.Piece.{Piece}
-use Rattle.core_reader.specs.Syntax.{ModuleTree}
+use Rattle.core_tokens.specs.declared.fault.ReadFault.{ReadFault}
+use Rattle.core_tokens.specs.declared.fault.ReadFault.TheVariants.{Memory}
+use Rattle.core_tokens.specs.Piece.{Piece}
+use Rattle.core_tree.specs.Syntax.{ModuleTree}
 use Rattle.core_reader.specs.Grammar.{Spells}
 use Rattle.core_reader.specs.Scopes.{IsLawful}
-use Rattle.core_reader.specs.Reading.{State, Gives, module_at}
+use Rattle.core_reader.specs.Reading.{State, Gives}
+use Rattle.core_reader.specs.ReadingModules.{module_at}
 use Rattle.core_reader.specs.ScopeChecks.{check_module}
 use Rattle.core_reader.specs.Whole.{start, whole_at, IsReadAs}
 use Rattle.core_reader.proofs.Steps.{bind_ok}

@@ -2,16 +2,17 @@
 use Rattle.std.proofs.Common.{◌≡◌, ℕ, ◌<◌, ◌≤◌, Bool, List, [], ◌∷◌, length, sym, subst, inl, inr, arith}
 use Rattle.std.specs.Prelude.{Result, Ok, Err, IfOk, IfErr}
 use Rattle.std.specs.Str.{IsUtf8}
-use Rattle.core_reader.specs.declared.fault.ReadFault.{ReadFault}
-use Rattle.core_reader.specs.declared.fault.ReadFault.TheVariants as fault
-use Rattle.core_reader.specs.Piece.{Piece}
-use Rattle.core_reader.specs.Syntax.{ModuleTree}
-use Rattle.core_reader.specs.Grammar.{Spells}
+use Rattle.core_tokens.specs.declared.fault.ReadFault.{ReadFault}
+use Rattle.core_tokens.specs.declared.fault.ReadFault.TheVariants as fault
+use Rattle.core_tokens.specs.Piece.{Piece}
+use Rattle.core_tree.specs.Syntax.{ModuleTree}
 use Rattle.core_reader.specs.Scopes.{IsLawful}
 use Rattle.core_reader.specs.Whole.{IsReadAs}
-use Rattle.core_reader.specs.Tokens.{Spelt, none, blank, comment, token, AreTokens, IsTokenFault}
-use Rattle.core_reader.specs.Places.{IsAt, IsPlace, IsFaultOf}
-use Rattle.core_reader.specs.Within.{IsPlacedWithin, StandWithin}
+use Rattle.core_tokens.specs.Tokens.{Spelt, none, blank, comment, token, AreTokens, IsTokenFault}
+use Rattle.core_tokens.specs.declared.token.Keyword.TheVariants as k
+use Rattle.core_reader.specs.Grammar.{word, Spells}
+use Rattle.core_reader.specs.Places.{IsOne, IsAt, IsPlace, IsFaultOf}
+use Rattle.core_tokens.specs.Within.{IsPlacedWithin, StandWithin}
 use Rattle.core_reader.specs.Reader.{SpellsModule, text_limit}
 
 -- the tokens of a text stand in it
@@ -59,22 +60,28 @@ place_within : (stop : ℕ) (ps : List Piece) (at : ℕ) → StandWithin stop ps
 place_within stop ps at w (inl h) = token_at_within stop ps at w h
 place_within stop ps at w (inr e) = omega arith
 
+-- each of the tokens stands in the text
+one_within : (stop : ℕ) (ps : List Piece) (p : Piece) → StandWithin stop ps → IsOne ps p → p.at ≤ stop
+one_within stop [] p w h = absurd h
+one_within stop (q ∷ qs) p w (inl e) = subst (λ (x : Piece). x.at ≤ stop) e w.0
+one_within stop (q ∷ qs) p w (inr h) = one_within stop qs p w.1 h
+
 -- a fault of the grammar or of the scopes stands in the text
 pub fault_within : (stop : ℕ) (ps : List Piece) (e : ReadFault) → StandWithin stop ps → IsFaultOf ps stop e → IsPlacedWithin stop e
 fault_within stop ps (fault.Expected at) w f = place_within stop ps at w f
-fault_within stop ps (fault.Unbound at) w f = place_within stop ps at w f
-fault_within stop ps (fault.DuplicateVariable at) w f = place_within stop ps at w f
-fault_within stop ps (fault.DuplicateFunction at) w f = place_within stop ps at w f
-fault_within stop ps (fault.NoFunction at) w f = place_within stop ps at w f
+fault_within stop ps (fault.Unbound at) w f = place_within stop ps at w f.0
+fault_within stop ps (fault.DuplicateVariable at) w f = place_within stop ps at w f.0
+fault_within stop ps (fault.DuplicateFunction at) w f = place_within stop ps at w f.0
+fault_within stop ps (fault.NoFunction at) w f = place_within stop ps at w f.0
+fault_within stop ps (fault.EffectInGuard at) w f = place_within stop ps at w f.0
 fault_within stop ps (fault.HigherOrder at) w f = place_within stop ps at w f
-fault_within stop ps (fault.UnsupportedCall at) w f = place_within stop ps at w f
-fault_within stop ps (fault.TooDeep at) w f = place_within stop ps at w f
-fault_within stop ps (fault.NoMain at) w f = place_within stop ps at w f
 fault_within stop ps (fault.UnsupportedForm at) w f = place_within stop ps at w f
+fault_within stop ps (fault.UnsupportedCall at) w f = one_within stop ps (word at k.Call) w f
+fault_within stop ps (fault.NoMain at) w f = one_within stop ps (word at k.End) w f.0
+fault_within stop ps (fault.TooDeep at) w f = subst (λ (x : ℕ). x ≤ stop) f.2 (one_within stop ps f.0 w f.1)
 fault_within stop ps fault.Memory w f = tt
 fault_within stop ps (fault.BadToken at) w f = absurd f
 fault_within stop ps (fault.BadInteger at) w f = absurd f
-fault_within stop ps (fault.EffectInGuard at) w f = absurd f
 fault_within stop ps (fault.NotUtf8 at) w f = absurd f
 fault_within stop ps (fault.TooLong at) w f = absurd f
 

@@ -1,9 +1,9 @@
 -- What a text says as a module.
 use Rattle.std.specs.Prelude.{◌≤◌, ℕ, List, length}
 use Rattle.std.specs.Str.{IsUtf8}
-use Rattle.core_reader.specs.Piece.{Piece}
-use Rattle.core_reader.specs.Tokens.{AreTokens}
-use Rattle.core_reader.specs.Syntax.{ModuleTree}
+use Rattle.core_tokens.specs.Piece.{Piece}
+use Rattle.core_tokens.specs.Tokens.{AreTokens}
+use Rattle.core_tree.specs.Syntax.{ModuleTree}
 use Rattle.core_reader.specs.Grammar.{Spells}
 use Rattle.core_reader.specs.Scopes.{IsLawful}
 

@@ -1,10 +1,11 @@
 -- Reading all of the tokens.
 use Rattle.std.specs.Prelude.{◌≡◌, ℕ, List, None, Result, Ok, Err}
-use Rattle.core_reader.specs.declared.fault.ReadFault.{ReadFault}
-use Rattle.core_reader.specs.declared.fault.ReadFault.TheVariants.{Memory}
-use Rattle.core_reader.specs.Piece.{Piece}
-use Rattle.core_reader.specs.Syntax.{ModuleTree}
-use Rattle.core_reader.specs.Reading.{State, ◌>>=◌, module_at}
+use Rattle.core_tokens.specs.declared.fault.ReadFault.{ReadFault}
+use Rattle.core_tokens.specs.declared.fault.ReadFault.TheVariants.{Memory}
+use Rattle.core_tokens.specs.Piece.{Piece}
+use Rattle.core_tree.specs.Syntax.{ModuleTree}
+use Rattle.core_reader.specs.Reading.{State, ◌>>=◌}
+use Rattle.core_reader.specs.ReadingModules.{module_at}
 use Rattle.core_reader.specs.ScopeChecks.{check_module}
 
 abbrev pub start : ℕ → List Piece → State

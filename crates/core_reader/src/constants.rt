@@ -1,18 +1,18 @@
-// The constants of attributes (Core Erlang 1.0.3, "Constant literals").
+// The constants of attributes and annotations (Core Erlang 1.0.3, "Constant literals").
 ghost use Rattle.std.specs.Prelude.{◌≡◌, map};
-ghost use Rattle.core_reader.specs.Piece.{shape_of, pieces};
-ghost use Rattle.core_reader.specs.Syntax.{JoinOf, constants_of};
-ghost use Rattle.core_reader.specs.Reading.{Builds, Moves, begins_constant, deep_constant_of, deep_constant, items_at, closed_at, brackets_at, constant_tuple_at, constant_list_at, constant_form_at, constant_at};
+ghost use Rattle.core_tokens.specs.Piece.{shape_of, pieces};
+ghost use Rattle.core_tree.specs.Syntax.{JoinOf, constants_of};
+ghost use Rattle.core_reader.specs.Reading.{Builds, Moves, Passes, begins_constant, deep_constant_of, deep_constant, items_at, closed_at, brackets_at, note_at, in_note_at, constant_tuple_at, constant_list_at, constant_form_at, constant_at};
 ghost use Rattle.core_reader.specs.Parsing.{state_of};
-ghost use Rattle.core_reader.specs.Tree.{constant_of};
+ghost use Rattle.core_tree.specs.Tree.{constant_of};
 
-use crate::fault::ReadFault;
 use crate::parser::{Parser, atom_copy, is_foreign};
-use crate::token::{Lexeme, Mark, Token};
-use crate::tree::{Const, Consts, OntoConst};
+use core_tokens::{Lexeme, Mark, ReadFault, Token};
+use core_tree::{Const, Consts, OntoConst};
 use std::alloc::Global;
 
-fn begins_constant(lexeme: &Lexeme) -> bool
+/// Whether a constant begins with the token.
+pub(crate) fn begins_constant(lexeme: &Lexeme) -> bool
     ensures { result ≡ begins_constant (shape_of lexeme.now) }
 {
     matches!(
@@ -78,84 +78,72 @@ impl<'a> Parser<'a> {
     fn constant_form(&mut self, levels: u16) -> Result<Const, ReadFault>
         ensures { Moves constant_of result (state_of self.new) (constant_form_at (constant_at levels) (state_of self.old)) }
     {
+        let fault = self.fault();
         let tokens = self.tokens;
         match tokens {
-            [
-                Token {
-                    lexeme: Lexeme::Integer(number),
-                    ..
-                },
-                rest @ ..,
-            ] => {
+            [] => Err(fault),
+            [token, rest @ ..] => {
                 self.tokens = rest;
-                Ok(Const::Integer(*number))
+                match &token.lexeme {
+                    Lexeme::Integer(number) => Ok(Const::Integer(*number)),
+                    Lexeme::Character(character) => Ok(Const::Character(*character)),
+                    Lexeme::Text(text) => Ok(Const::Text(Vec::from_slice(self.alloc, text)?)),
+                    Lexeme::Atom(atom) => Ok(Const::Atom(atom_copy(self.alloc, atom)?)),
+                    Lexeme::Mark(Mark::LeftBrace) => Ok(self.constant_tuple(levels)?),
+                    Lexeme::Mark(Mark::LeftBracket) => Ok(self.constant_list(levels)?),
+                    Lexeme::Mark(Mark::LeftParenthesis) => Ok(self.constant_in_note(levels)?),
+                    _ => Err(fault),
+                }
             }
-            [
-                Token {
-                    lexeme: Lexeme::Character(character),
-                    ..
-                },
-                rest @ ..,
-            ] => {
-                self.tokens = rest;
-                Ok(Const::Character(*character))
-            }
-            [
-                Token {
-                    lexeme: Lexeme::Text(text),
-                    ..
-                },
-                rest @ ..,
-            ] => {
-                self.tokens = rest;
-                Ok(Const::Text(Vec::from_slice(self.alloc, text)?))
-            }
-            [
-                Token {
-                    lexeme: Lexeme::Atom(atom),
-                    ..
-                },
-                rest @ ..,
-            ] => {
-                self.tokens = rest;
-                Ok(Const::Atom(atom_copy(self.alloc, atom)?))
-            }
-            [
-                Token {
-                    lexeme: Lexeme::Mark(Mark::LeftBrace),
-                    ..
-                },
-                rest @ ..,
-            ] => {
-                self.tokens = rest;
-                Ok(self.constant_tuple(levels)?)
-            }
-            [
-                Token {
-                    lexeme: Lexeme::Mark(Mark::LeftBracket),
-                    ..
-                },
-                rest @ ..,
-            ] => {
-                self.tokens = rest;
-                Ok(self.constant_list(levels)?)
-            }
-            _ => Err(self.construct_fault()),
         }
+    }
+
+    /// What stands in the parentheses of an annotated constant, and the end of the annotation.
+    #[cycle(constants)]
+    #[tactic(auto, unfolding(crate::specs::Reading::in_note_at))]
+    fn constant_in_note(&mut self, levels: u16) -> Result<Const, ReadFault>
+        ensures { Moves constant_of result (state_of self.new) (in_note_at (constant_at levels) (constant_at levels) (state_of self.old)) }
+    {
+        let constant = self.constant(levels)?;
+        self.note(levels)?;
+        Ok(constant)
+    }
+
+    /// The end of an annotation: `-| [const, ..] )`.
+    #[cycle(constants)]
+    #[tactic(auto, unfolding(crate::specs::Reading::note_at))]
+    pub fn note(&mut self, levels: u16) -> Result<(), ReadFault>
+        ensures { Passes result (state_of self.new) (note_at (constant_at levels) (state_of self.old)) }
+    {
+        self.mark(Mark::Note)?;
+        self.mark(Mark::LeftBracket)?;
+        let _notes = self.constants(levels, Mark::RightBracket)?;
+        self.mark(Mark::RightParenthesis)?;
+        Ok(())
     }
 
     /// What stands behind the brace of a tuple.
     #[cycle(constants)]
-    #[tactic(auto, unfolding(crate::specs::Reading::constant_tuple_at, crate::specs::Reading::closed_at))]
+    #[tactic(auto, unfolding(crate::specs::Reading::constant_tuple_at))]
     fn constant_tuple(&mut self, levels: u16) -> Result<Const, ReadFault>
         ensures { Moves constant_of result (state_of self.new) (constant_tuple_at (constant_at levels) (state_of self.old)) }
     {
-        if self.skip_mark(Mark::RightBrace) {
-            return Ok(Const::Tuple(Consts(Vec::new(self.alloc))));
+        let items = self.constants(levels, Mark::RightBrace)?;
+        Ok(Const::Tuple(Consts(items)))
+    }
+
+    /// Any number of constants, and the closing mark.
+    #[cycle(constants)]
+    #[tactic(auto, unfolding(crate::specs::Reading::closed_at))]
+    fn constants(&mut self, levels: u16, close: Mark) -> Result<Vec<Const>, ReadFault>
+        ensures { Moves (λ v. map constant_of v.items) result (state_of self.new) (closed_at (constant_at levels) close (state_of self.old)) }
+    {
+        if self.skip_mark(close) {
+            return Ok(Vec::new(self.alloc));
         }
         let items = self.constant_items(levels)?;
-        self.mark(Mark::RightBrace)?;
-        Ok(Const::Tuple(Consts(items)))
+        self.mark(close)?;
+        Ok(items)
     }
 
     /// What stands behind the bracket of a list.

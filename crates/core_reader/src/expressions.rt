@@ -1,21 +1,23 @@
-// Expressions (Core Erlang 1.0.3, "Expressions"): those that are read so far.
-ghost use Rattle.std.specs.Prelude.{◌≡◌, map, length, [], ◌∷◌};
-ghost use Rattle.core_reader.specs.Piece.{shape_of, pieces};
-ghost use Rattle.core_reader.specs.Syntax.{Joined, Bound, Followed, Called, trees_of};
-ghost use Rattle.core_reader.specs.Reading.{Builds, Moves, begins_expression, is_function, deep_expression_of, unread_expression_of, deep_expression, unread_expression, callee_fault_of, callee_fault, callee_at, call_named, refuse, judged, in_angles_at, let_variable_at, items_at, closed_at, brackets_at, tuple_at, list_at, let_at, do_at, call_at, form_at, expression_at, name_by, after_mark};
-ghost use Rattle.core_reader.specs.declared.token.Mark.TheVariants.{Slash};
+// Expressions (Core Erlang 1.0.3, "Expressions"), but for calls and clauses.
+ghost use Rattle.std.specs.Prelude.{◌≡◌, map};
+ghost use Rattle.core_tokens.specs.Piece.{shape_of, pieces, A_mark, A_word};
+ghost use Rattle.core_tokens.specs.declared.token.Mark.TheVariants.{Slash};
+ghost use Rattle.core_tree.specs.Syntax.{Joined, Bound, Followed, Tried, Caught, trees_of};
+ghost use Rattle.core_tree.specs.Tree.{tree_of};
+ghost use Rattle.core_reader.specs.Reading.{Builds, Moves, items_at, closed_at, in_note_at, constant_at, after_mark, place_of};
+ghost use Rattle.core_reader.specs.ReadingForms.{is_function, begins_expression, deep_expression_of, expression_fault_of, deep_expression, expression_fault, name_by, tuple_at, list_at, values_at, let_at, do_at, try_at, catch_at, form_by, form_at, expression_at, start_at};
+ghost use Rattle.core_reader.specs.Handled.{handled_at};
 ghost use Rattle.core_reader.specs.Parsing.{state_of};
-ghost use Rattle.core_reader.specs.Tree.{tree_of};
 
-use crate::call::CallKind;
-use crate::fault::ReadFault;
-use crate::parser::{Parser, atom_copy, is_foreign, is_unread};
-use crate::token::{Keyword, Lexeme, Mark, Token};
-use crate::tree::{Call, Do, Expr, Exprs, Let, Onto, Variable};
+use crate::names::variable_of;
+use crate::parser::{Parser, atom_copy, is_foreign};
+use core_tokens::{Keyword, Lexeme, Mark, ReadFault, Token};
+use core_tree::{Catch, Do, Expr, Exprs, Let, Onto, Try, Variable};
 use std::alloc::Global;
 use term_core::Atom;
 
-fn begins_expression(lexeme: &Lexeme) -> bool
+/// Whether an expression begins with the token.
+pub(crate) fn begins_expression(lexeme: &Lexeme) -> bool
     ensures { result ≡ begins_expression (shape_of lexeme.now) }
 {
     match lexeme {
@@ -42,7 +44,7 @@ fn begins_expression(lexeme: &Lexeme) -> bool
 }
 
 /// Whether a function as a value begins with these tokens: `fun`, `letrec`, or a function's name.
-fn is_function(lexeme: &Lexeme, rest: &[Token]) -> bool
+pub(crate) fn is_function(lexeme: &Lexeme, rest: &[Token]) -> bool
     ensures { result ≡ is_function (shape_of lexeme.now) (pieces rest.now) }
 {
     match lexeme {
@@ -80,58 +82,22 @@ fn deep_expression_of(length: usize, tokens: &[Token]) -> ReadFault
     }
 }
 
-fn unread_expression_of(length: usize, tokens: &[Token]) -> ReadFault
-    ensures { result ≡ unread_expression_of length (pieces tokens.now) }
+fn expression_fault_of(length: usize, tokens: &[Token]) -> ReadFault
+    ensures { result ≡ expression_fault_of length (pieces tokens.now) }
 {
     match tokens {
         [] => ReadFault::Expected(length),
         [token, rest @ ..] => {
             if is_function(&token.lexeme, rest) {
                 ReadFault::HigherOrder(token.at)
-            } else if begins_expression(&token.lexeme) || is_foreign(&token.lexeme) {
+            } else if matches!(token.lexeme, Lexeme::Word(Keyword::Receive))
+                || is_foreign(&token.lexeme)
+            {
                 ReadFault::UnsupportedForm(token.at)
             } else {
                 ReadFault::Expected(token.at)
             }
         }
-    }
-}
-
-fn callee_fault_of(at: usize, length: usize, tokens: &[Token]) -> ReadFault
-    ensures { result ≡ callee_fault_of at length (pieces tokens.now) }
-{
-    match tokens {
-        [] => ReadFault::Expected(length),
-        [token, ..] => {
-            if is_unread(&token.lexeme) {
-                ReadFault::UnsupportedForm(token.at)
-            } else if is_function(&token.lexeme, &[]) || begins_expression(&token.lexeme) {
-                ReadFault::UnsupportedCall(at)
-            } else {
-                ReadFault::Expected(token.at)
-            }
-        }
-    }
-}
-
-/// The call with these names and so many arguments, among those that are read so far.
-#[tactic(auto, unfolding(crate::specs::Reading::call_named))]
-fn call_named(module_name: &Atom, function_name: &Atom, arity: usize) -> Option<CallKind>
-    ensures { result ≡ call_named module_name.now function_name.now arity }
-{
-    let function = function_name.0.as_str();
-    if module_name.0.as_str() == "ets" && arity == 2 {
-        if function == "new" {
-            Some(CallKind::New)
-        } else if function == "insert" {
-            Some(CallKind::Insert)
-        } else if function == "lookup" {
-            Some(CallKind::Lookup)
-        } else {
-            None
-        }
-    } else {
-        None
     }
 }
 
@@ -142,11 +108,14 @@ fn onto(alloc: Global, items: Vec<Expr>, tail: Expr) -> Result<Expr, ReadFault>
     Ok(Expr::Onto(Box::new(alloc, Onto { items, tail })?))
 }
 
-fn let_one(alloc: Global, variable: Variable, value: Expr, body: Expr) -> Result<Expr, ReadFault>
-    ensures { Builds tree_of result (Bound (variable ∷ []) (tree_of value) (tree_of body)) }
+fn let_of(
+    alloc: Global,
+    variables: Vec<Variable>,
+    value: Expr,
+    body: Expr,
+) -> Result<Expr, ReadFault>
+    ensures { Builds tree_of result (Bound variables.items (tree_of value) (tree_of body)) }
 {
-    let mut variables = Vec::new(alloc);
-    variables.push(variable)?;
     Ok(Expr::Let(Box::new(
         alloc,
         Let {
@@ -163,214 +132,158 @@ fn do_both(alloc: Global, first: Expr, second: Expr) -> Result<Expr, ReadFault>
     Ok(Expr::Do(Box::new(alloc, Do { first, second })?))
 }
 
+/// What stands before the `catch` of the `try` at `at`.
+#[derive(Drop)]
+struct Guarded {
+    at: usize,
+    value: Expr,
+    variables: Vec<Variable>,
+    body: Expr,
+}
+
+fn try_of(
+    alloc: Global,
+    guarded: Guarded,
+    caught: Vec<Variable>,
+    handler: Expr,
+) -> Result<Expr, ReadFault>
+    ensures { Builds tree_of result (Tried guarded.at (tree_of guarded.value) guarded.variables.items (tree_of guarded.body) caught.items (tree_of handler)) }
+{
+    let Guarded {
+        at,
+        value,
+        variables,
+        body,
+    } = guarded;
+    Ok(Expr::Try(Box::new(
+        alloc,
+        Try {
+            at,
+            value,
+            variables,
+            body,
+            caught,
+            handler,
+        },
+    )?))
+}
+
+fn catch_of(alloc: Global, at: usize, value: Expr) -> Result<Expr, ReadFault>
+    ensures { Builds tree_of result (Caught at (tree_of value)) }
+{
+    Ok(Expr::Catch(Box::new(alloc, Catch { at, value })?))
+}
+
 impl<'a> Parser<'a> {
     /// The fault at a token past the last level.
-    #[tactic(auto, unfolding(crate::specs::Reading::deep_expression))]
+    #[tactic(auto, unfolding(crate::specs::ReadingForms::deep_expression))]
     fn deep_expression(&self) -> ReadFault
         ensures { result ≡ deep_expression (state_of self.now) }
     {
         self.refusal(deep_expression_of(self.length, self.tokens))
     }
 
-    /// The fault at a token that begins no expression that is read so far.
-    #[tactic(auto, unfolding(crate::specs::Reading::unread_expression))]
-    fn unread_expression(&self) -> ReadFault
-        ensures { result ≡ unread_expression (state_of self.now) }
+    /// The fault at a token that begins no expression that is read.
+    #[tactic(auto, unfolding(crate::specs::ReadingForms::expression_fault))]
+    fn expression_fault(&self) -> ReadFault
+        ensures { result ≡ expression_fault (state_of self.now) }
     {
-        self.refusal(unread_expression_of(self.length, self.tokens))
+        self.refusal(expression_fault_of(self.length, self.tokens))
     }
 
-    /// The fault where an atom of the call at `at` should stand.
-    #[tactic(auto, unfolding(crate::specs::Reading::callee_fault))]
-    fn callee_fault(&self, at: usize) -> ReadFault
-        ensures { result ≡ callee_fault at (state_of self.now) }
-    {
-        self.refusal(callee_fault_of(at, self.length, self.tokens))
-    }
-
-    /// The module's or the function's name of the call at `at`.
-    #[tactic(auto, unfolding(crate::specs::Reading::callee_at))]
-    fn callee(&mut self, at: usize) -> Result<Atom, ReadFault>
-        ensures { Moves (λ a. a) result (state_of self.new) (callee_at at (state_of self.old)) }
-    {
-        let tokens = self.tokens;
-        match tokens {
-            [
-                Token {
-                    lexeme: Lexeme::Atom(atom),
-                    ..
-                },
-                rest @ ..,
-            ] => {
-                self.tokens = rest;
-                Ok(atom_copy(self.alloc, atom)?)
-            }
-            _ => Err(self.callee_fault(at)),
-        }
-    }
-
-    /// Keeps in mind that the call at `at`, which was read whole, is not served.
-    fn refuse(&mut self, at: usize)
-        ensures { state_of self.new ≡ refuse at (state_of self.old) }
-    {
-        self.refused = match self.refused {
-            Some(before) => Some(before.min(at)),
-            None => Some(at),
-        };
-    }
-
-    /// The call at `at` of these names with these arguments, if it is served; else something in its
-    /// place, as reading goes on.
-    fn judged(
-        &mut self,
-        at: usize,
-        module_name: &Atom,
-        function_name: &Atom,
-        arguments: Vec<Expr>,
-    ) -> Expr
-        ensures { judged at (call_named module_name.now function_name.now (length arguments.items)) (map tree_of arguments.items) (state_of self.old)
-            ≡ Ok (tree_of result, state_of self.new) }
-    {
-        match call_named(module_name, function_name, arguments.len()) {
-            Some(kind) => Expr::Call(Call {
-                at,
-                kind,
-                arguments: Exprs(arguments),
-            }),
-            None => {
-                self.refuse(at);
-                Expr::List(Exprs(Vec::new(self.alloc)))
-            }
-        }
-    }
-
-    /// The variable behind the `<` of the `let` at `at`.
-    #[tactic(auto, unfolding(crate::specs::Reading::in_angles_at))]
-    fn variable_in_angles(&mut self, at: usize) -> Result<Variable, ReadFault>
-        ensures { Moves (λ v. v) result (state_of self.new) (in_angles_at at (state_of self.old)) }
-    {
-        if self.skip_mark(Mark::Greater) {
-            return Err(self.refusal(ReadFault::UnsupportedForm(at)));
-        }
-        let variable = self.variable()?;
-        if self.skip_mark(Mark::Comma) {
-            return Err(self.refusal(ReadFault::UnsupportedForm(at)));
-        }
-        self.mark(Mark::Greater)?;
-        Ok(variable)
-    }
-
-    /// The one variable of the `let` at `at`.
-    #[tactic(auto, unfolding(crate::specs::Reading::let_variable_at))]
-    fn let_variable(&mut self, at: usize) -> Result<Variable, ReadFault>
-        ensures { Moves (λ v. v) result (state_of self.new) (let_variable_at at (state_of self.old)) }
-    {
-        if self.skip_mark(Mark::Less) {
-            Ok(self.variable_in_angles(at)?)
-        } else {
-            Ok(self.variable()?)
-        }
-    }
-
-    /// An expression of at most so many levels.
+    /// An expression of the module `own`, of at most so many levels.
     #[cycle(expressions)]
-    pub fn expression(&mut self, levels: u16) -> Result<Expr, ReadFault>
-        ensures { Moves tree_of result (state_of self.new) (expression_at levels (state_of self.old)) }
+    pub fn expression(&mut self, own: &Atom, levels: u16) -> Result<Expr, ReadFault>
+        ensures { Moves tree_of result (state_of self.new) (expression_at own.now levels (state_of self.old)) }
     {
         if levels == 0 {
             Err(self.deep_expression())
         } else {
-            Ok(self.form(levels - 1)?)
+            Ok(self.form(own, levels - 1)?)
         }
     }
 
     /// An expression whose parts have at most so many levels.
     #[cycle(expressions)]
-    #[tactic(auto, unfolding(crate::specs::Reading::form_at))]
-    fn form(&mut self, levels: u16) -> Result<Expr, ReadFault>
-        ensures { Moves tree_of result (state_of self.new) (form_at (expression_at levels) (state_of self.old)) }
+    #[tactic(auto, unfolding(crate::specs::ReadingForms::form_at))]
+    fn form(&mut self, own: &Atom, levels: u16) -> Result<Expr, ReadFault>
+        ensures { Moves tree_of result (state_of self.new) (form_at own.now levels (expression_at own.now levels) (start_at own.now levels) (state_of self.old)) }
     {
+        let fault = self.expression_fault();
         let tokens = self.tokens;
         match tokens {
-            [
-                Token {
-                    lexeme: Lexeme::Integer(number),
-                    ..
-                },
-                rest @ ..,
-            ] => {
-                self.tokens = rest;
-                Ok(Expr::Integer(*number))
-            }
-            [
-                Token {
-                    lexeme: Lexeme::Atom(atom),
-                    ..
-                },
-                rest @ ..,
-            ] => { Ok(self.name(atom, rest)?) }
-            [
-                Token {
-                    at,
-                    lexeme: Lexeme::Variable(name),
-                },
-                rest @ ..,
-            ] => {
-                self.tokens = rest;
-                let name = Vec::from_slice(self.alloc, name)?;
-                Ok(Expr::Variable(Variable { at: *at, name }))
-            }
-            [
-                Token {
-                    lexeme: Lexeme::Mark(Mark::LeftBrace),
-                    ..
-                },
-                rest @ ..,
-            ] => {
-                self.tokens = rest;
-                Ok(self.tuple(levels)?)
-            }
-            [
-                Token {
-                    lexeme: Lexeme::Mark(Mark::LeftBracket),
-                    ..
-                },
-                rest @ ..,
-            ] => {
-                self.tokens = rest;
-                Ok(self.list(levels)?)
-            }
-            [
-                Token {
-                    at,
-                    lexeme: Lexeme::Word(Keyword::Let),
-                },
-                rest @ ..,
-            ] => {
-                self.tokens = rest;
-                Ok(self.let_in(levels, *at)?)
-            }
-            [
-                Token {
-                    lexeme: Lexeme::Word(Keyword::Do),
-                    ..
-                },
-                rest @ ..,
-            ] => {
-                self.tokens = rest;
-                Ok(self.do_then(levels)?)
-            }
-            [
-                Token {
-                    at,
-                    lexeme: Lexeme::Word(Keyword::Call),
-                },
-                rest @ ..,
-            ] => {
-                self.tokens = rest;
-                Ok(self.call(levels, *at)?)
-            }
-            _ => Err(self.unread_expression()),
+            [] => Err(fault),
+            [token, rest @ ..] => match &token.lexeme {
+                Lexeme::Mark(mark) => Ok(self.mark_form(own, levels, *mark, rest)?),
+                Lexeme::Word(word) => Ok(self.word_form(own, levels, token.at, *word, rest)?),
+                Lexeme::Atom(atom) => Ok(self.name(atom, rest)?),
+                Lexeme::Integer(number) => {
+                    self.tokens = rest;
+                    Ok(Expr::Integer(*number))
+                }
+                Lexeme::Character(character) => {
+                    self.tokens = rest;
+                    Ok(Expr::Character(*character))
+                }
+                Lexeme::Text(text) => {
+                    self.tokens = rest;
+                    Ok(Expr::Text(Vec::from_slice(self.alloc, text)?))
+                }
+                Lexeme::Variable(name) => {
+                    self.tokens = rest;
+                    Ok(Expr::Variable(variable_of(self.alloc, token.at, name)?))
+                }
+                Lexeme::Float => Err(fault),
+            },
+        }
+    }
+
+    /// An expression that begins with a mark, with these tokens behind it.
+    #[cycle(expressions)]
+    fn mark_form(
+        &mut self,
+        own: &Atom,
+        levels: u16,
+        mark: Mark,
+        rest: &'a [Token],
+    ) -> Result<Expr, ReadFault>
+        ensures { Moves tree_of result (state_of self.new) (form_by own.now levels (expression_at own.now levels) (start_at own.now levels) (place_of (state_of self.old).stop (state_of self.old).pieces) (A_mark mark) (pieces rest.now) (state_of self.old)) }
+    {
+        let fault = self.expression_fault();
+        self.tokens = rest;
+        match mark {
+            Mark::LeftBrace => Ok(self.tuple(own, levels)?),
+            Mark::LeftBracket => Ok(self.list(own, levels)?),
+            Mark::Less => Ok(self.values(own, levels)?),
+            Mark::LeftParenthesis => Ok(self.expression_in_note(own, levels)?),
+            _ => Err(fault),
+        }
+    }
+
+    /// An expression that begins with the keyword at `at`, with these tokens behind it.
+    #[cycle(expressions)]
+    fn word_form(
+        &mut self,
+        own: &Atom,
+        levels: u16,
+        at: usize,
+        word: Keyword,
+        rest: &'a [Token],
+    ) -> Result<Expr, ReadFault>
+        ensures { Moves tree_of result (state_of self.new) (form_by own.now levels (expression_at own.now levels) (start_at own.now levels) at (A_word word) (pieces rest.now) (state_of self.old)) }
+    {
+        let fault = self.expression_fault();
+        self.tokens = rest;
+        match word {
+            Keyword::Let => Ok(self.let_in(own, levels)?),
+            Keyword::Case => Ok(self.case(own, levels, at)?),
+            Keyword::Do => Ok(self.do_then(own, levels)?),
+            Keyword::Apply => Ok(self.apply(own, levels, at)?),
+            Keyword::Call => Ok(self.call(own, levels, at)?),
+            Keyword::Primop => Ok(self.primop(own, levels, at)?),
+            Keyword::Try => Ok(self.try_in(own, levels, at)?),
+            Keyword::Catch => Ok(self.catch(own, levels, at)?),
+            _ => Err(fault),
         }
     }
 
@@ -388,34 +301,45 @@ impl<'a> Parser<'a> {
                 ..
             ]
         ) {
-            return Err(self.unread_expression());
+            return Err(self.expression_fault());
         }
         self.tokens = rest;
         Ok(Expr::Atom(atom_copy(self.alloc, atom)?))
     }
 
+    /// What stands in the parentheses of an annotated expression, and the end of the annotation.
+    #[cycle(expressions)]
+    #[tactic(auto, unfolding(crate::specs::Reading::in_note_at))]
+    fn expression_in_note(&mut self, own: &Atom, levels: u16) -> Result<Expr, ReadFault>
+        ensures { Moves tree_of result (state_of self.new) (in_note_at (constant_at levels) (expression_at own.now levels) (state_of self.old)) }
+    {
+        let expression = self.expression(own, levels)?;
+        self.note(levels)?;
+        Ok(expression)
+    }
+
     /// What stands behind the brace of a tuple.
     #[cycle(expressions)]
-    #[tactic(auto, unfolding(crate::specs::Reading::tuple_at))]
-    fn tuple(&mut self, levels: u16) -> Result<Expr, ReadFault>
-        ensures { Moves tree_of result (state_of self.new) (tuple_at (expression_at levels) (state_of self.old)) }
+    #[tactic(auto, unfolding(crate::specs::ReadingForms::tuple_at))]
+    fn tuple(&mut self, own: &Atom, levels: u16) -> Result<Expr, ReadFault>
+        ensures { Moves tree_of result (state_of self.new) (tuple_at own.now levels (expression_at own.now levels) (state_of self.old)) }
     {
-        let items = self.expressions(levels, Mark::RightBrace)?;
+        let items = self.expressions(own, levels, Mark::RightBrace)?;
         Ok(Expr::Tuple(Exprs(items)))
     }
 
     /// What stands behind the bracket of a list.
     #[cycle(expressions)]
-    #[tactic(auto, unfolding(crate::specs::Reading::list_at, crate::specs::Reading::brackets_at))]
-    fn list(&mut self, levels: u16) -> Result<Expr, ReadFault>
-        ensures { Moves tree_of result (state_of self.new) (list_at (expression_at levels) (state_of self.old)) }
+    #[tactic(auto, unfolding(crate::specs::ReadingForms::list_at, crate::specs::Reading::brackets_at))]
+    fn list(&mut self, own: &Atom, levels: u16) -> Result<Expr, ReadFault>
+        ensures { Moves tree_of result (state_of self.new) (list_at own.now levels (expression_at own.now levels) (state_of self.old)) }
     {
         if self.skip_mark(Mark::RightBracket) {
             return Ok(Expr::List(Exprs(Vec::new(self.alloc))));
         }
-        let items = self.expression_items(levels)?;
+        let items = self.expression_items(own, levels)?;
         if self.skip_mark(Mark::Bar) {
-            let tail = self.expression(levels)?;
+            let tail = self.expression(own, levels)?;
             self.mark(Mark::RightBracket)?;
             return Ok(onto(self.alloc, items, tail)?);
         }
@@ -423,68 +347,111 @@ impl<'a> Parser<'a> {
         Ok(Expr::List(Exprs(items)))
     }
 
-    /// What stands behind the `let` at `at`.
+    /// What stands behind the angle of a list of values.
     #[cycle(expressions)]
-    #[tactic(auto, unfolding(crate::specs::Reading::let_at))]
-    fn let_in(&mut self, levels: u16, at: usize) -> Result<Expr, ReadFault>
-        ensures { Moves tree_of result (state_of self.new) (let_at (expression_at levels) at (state_of self.old)) }
+    #[tactic(auto, unfolding(crate::specs::ReadingForms::values_at))]
+    fn values(&mut self, own: &Atom, levels: u16) -> Result<Expr, ReadFault>
+        ensures { Moves tree_of result (state_of self.new) (values_at own.now levels (expression_at own.now levels) (state_of self.old)) }
     {
-        let variable = self.let_variable(at)?;
+        let values = self.expressions(own, levels, Mark::Greater)?;
+        Ok(Expr::Values(Exprs(values)))
+    }
+
+    /// What stands behind a `let`.
+    #[cycle(expressions)]
+    #[tactic(auto, unfolding(crate::specs::ReadingForms::let_at))]
+    fn let_in(&mut self, own: &Atom, levels: u16) -> Result<Expr, ReadFault>
+        ensures { Moves tree_of result (state_of self.new) (let_at own.now levels (expression_at own.now levels) (state_of self.old)) }
+    {
+        let variables = self.variables(levels)?;
         self.mark(Mark::Equals)?;
-        let value = self.expression(levels)?;
+        let value = self.expression(own, levels)?;
         self.word(Keyword::In)?;
-        let body = self.expression(levels)?;
-        Ok(let_one(self.alloc, variable, value, body)?)
+        let body = self.expression(own, levels)?;
+        Ok(let_of(self.alloc, variables, value, body)?)
     }
 
     /// What stands behind a `do`.
     #[cycle(expressions)]
-    #[tactic(auto, unfolding(crate::specs::Reading::do_at))]
-    fn do_then(&mut self, levels: u16) -> Result<Expr, ReadFault>
-        ensures { Moves tree_of result (state_of self.new) (do_at (expression_at levels) (state_of self.old)) }
+    #[tactic(auto, unfolding(crate::specs::ReadingForms::do_at))]
+    fn do_then(&mut self, own: &Atom, levels: u16) -> Result<Expr, ReadFault>
+        ensures { Moves tree_of result (state_of self.new) (do_at own.now levels (expression_at own.now levels) (state_of self.old)) }
     {
-        let first = self.expression(levels)?;
-        let second = self.expression(levels)?;
+        let first = self.expression(own, levels)?;
+        let second = self.expression(own, levels)?;
         Ok(do_both(self.alloc, first, second)?)
     }
 
-    /// What stands behind the `call` at `at`.
+    /// What stands behind the `try` at `at`.
     #[cycle(expressions)]
-    #[tactic(auto, unfolding(crate::specs::Reading::call_at))]
-    fn call(&mut self, levels: u16, at: usize) -> Result<Expr, ReadFault>
-        ensures { Moves tree_of result (state_of self.new) (call_at (expression_at levels) at (state_of self.old)) }
+    #[tactic(auto, unfolding(crate::specs::ReadingForms::try_at))]
+    fn try_in(&mut self, own: &Atom, levels: u16, at: usize) -> Result<Expr, ReadFault>
+        ensures { Moves tree_of result (state_of self.new) (try_at own.now levels (expression_at own.now levels) at (state_of self.old)) }
     {
-        let module_name = self.callee(at)?;
-        self.mark(Mark::Colon)?;
-        let function_name = self.callee(at)?;
-        self.mark(Mark::LeftParenthesis)?;
-        let arguments = self.expressions(levels, Mark::RightParenthesis)?;
-        Ok(self.judged(at, &module_name, &function_name, arguments))
+        let value = self.expression(own, levels)?;
+        self.word(Keyword::Of)?;
+        let variables = self.variables(levels)?;
+        self.mark(Mark::Arrow)?;
+        let body = self.expression(own, levels)?;
+        let guarded = Guarded {
+            at,
+            value,
+            variables,
+            body,
+        };
+        Ok(self.handled(own, levels, guarded)?)
+    }
+
+    /// What stands behind the body of a `try`.
+    #[cycle(expressions)]
+    fn handled(&mut self, own: &Atom, levels: u16, guarded: Guarded) -> Result<Expr, ReadFault>
+        ensures { Moves tree_of result (state_of self.new) (handled_at levels (expression_at own.now levels) guarded.at (tree_of guarded.value) guarded.variables.items (tree_of guarded.body) (state_of self.old)) }
+    {
+        self.word(Keyword::Catch)?;
+        let caught = self.caught(levels)?;
+        self.mark(Mark::Arrow)?;
+        let handler = self.expression(own, levels)?;
+        Ok(try_of(self.alloc, guarded, caught, handler)?)
+    }
+
+    /// What stands behind the `catch` at `at`.
+    #[cycle(expressions)]
+    #[tactic(auto, unfolding(crate::specs::ReadingForms::catch_at))]
+    fn catch(&mut self, own: &Atom, levels: u16, at: usize) -> Result<Expr, ReadFault>
+        ensures { Moves tree_of result (state_of self.new) (catch_at own.now levels (expression_at own.now levels) at (state_of self.old)) }
+    {
+        let value = self.expression(own, levels)?;
+        Ok(catch_of(self.alloc, at, value)?)
     }
 
     /// Any number of expressions, and the closing mark.
     #[cycle(expressions)]
     #[tactic(auto, unfolding(crate::specs::Reading::closed_at))]
-    fn expressions(&mut self, levels: u16, close: Mark) -> Result<Vec<Expr>, ReadFault>
-        ensures { Moves (λ v. map tree_of v.items) result (state_of self.new) (closed_at (expression_at levels) close (state_of self.old)) }
+    pub(crate) fn expressions(
+        &mut self,
+        own: &Atom,
+        levels: u16,
+        close: Mark,
+    ) -> Result<Vec<Expr>, ReadFault>
+        ensures { Moves (λ v. map tree_of v.items) result (state_of self.new) (closed_at (expression_at own.now levels) close (state_of self.old)) }
     {
         if self.skip_mark(close) {
             return Ok(Vec::new(self.alloc));
         }
-        let items = self.expression_items(levels)?;
+        let items = self.expression_items(own, levels)?;
         self.mark(close)?;
         Ok(items)
     }
 
     /// Expressions with commas between them.
     #[cycle(expressions)]
-    fn expression_items(&mut self, levels: u16) -> Result<Vec<Expr>, ReadFault>
-        ensures { Moves (λ v. map tree_of v.items) result (state_of self.new) (items_at (expression_at levels) (state_of self.old)) }
+    fn expression_items(&mut self, own: &Atom, levels: u16) -> Result<Vec<Expr>, ReadFault>
+        ensures { Moves (λ v. map tree_of v.items) result (state_of self.new) (items_at (expression_at own.now levels) (state_of self.old)) }
     {
         let mut items = Vec::new(self.alloc);
         let count = self.tokens.len();
         'items: for _taken in 0..count {
-            items.push(self.expression(levels)?)?;
+            items.push(self.expression(own, levels)?)?;
             if !self.skip_mark(Mark::Comma) {
                 return Ok(items);
             }

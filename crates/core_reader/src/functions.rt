@@ -1,65 +1,55 @@
 // Functions: each is defined once, each exported name has a definition, and so has `main/0`.
-ghost use Rattle.std.specs.Prelude.{◌≡◌, ◌++◌, [], ◌∷◌, map, true, false, None, IfOk, IfErr, OnOk, codes, Bool};
-ghost use Rattle.core_reader.specs.declared.fault.ReadFault.TheVariants.{Memory};
-ghost use Rattle.core_reader.specs.Syntax.{Function};
-ghost use Rattle.core_reader.specs.Definitions.{definition_of, keys_in};
-ghost use Rattle.core_reader.specs.Scopes.{functions, main_function};
-ghost use Rattle.core_reader.specs.ScopeChecks.{is_defined, check_definition, check_definitions, check_exports, check_module, verdict, next_fault};
+ghost use Rattle.std.specs.Prelude.{◌≡◌, ◌++◌, [], ◌∷◌, map, take, true, false, None, IfOk, IfErr, OnOk};
+ghost use Rattle.core_tokens.specs.declared.fault.ReadFault.TheVariants.{Memory};
+ghost use Rattle.core_tree.specs.Syntax.{Function};
+ghost use Rattle.core_tree.specs.Definitions.{definition_of, keys_in};
+ghost use Rattle.core_reader.specs.Scopes.{Setting as Place, functions, exported_by, main_function};
+ghost use Rattle.core_reader.specs.ScopeChecks.{is_defined, check_definition, check_definitions, check_exports, check_module};
+ghost use Rattle.core_reader.specs.Environment.{shown, setting_in, check_bodies, check_kept, before_second, next_second, check_functions};
 ghost use Rattle.core_reader.specs.Parsing.{defined_of, draft_of};
 ghost use Rattle.core_reader.specs.Reading.{Gives};
 
-use crate::fault::ReadFault;
 use crate::grammar::{Defined, Draft, Front};
-use crate::module::{Definition, Export, FunctionName, Module};
-use crate::scopes::{Scope, check_distinct, check_expr};
-use indexmap::IndexMap;
+use crate::scopes::{Scope, Setting, check_expr, distinct, is_defined};
+use core_tokens::ReadFault;
+use core_tree::{Definition, FunctionName, Module, NamedFunction};
+use indexmap::{IndexMap, IndexSet};
 use std::alloc::Global;
 use term_core::Atom;
 
-/// The definitions by name, and the first fault in them.
+/// The first definition of a name that has one: the number of the definitions that were kept before it, and the
+/// place of its name.
+#[derive(Clone, Copy)]
+pub(crate) struct Second {
+    pub before: usize,
+    pub at: usize,
+}
+
+/// The definitions by name, of each name the first.
 #[derive(Drop)]
 struct Gathered {
     definitions: IndexMap<FunctionName, Definition>,
-    fault: Option<ReadFault>,
+    second: Option<Second>,
 }
 
-fn is_defined(definitions: &IndexMap<FunctionName, Definition>, name: &FunctionName) -> bool
-    ensures { result ≡ is_defined (keys_in definitions.now.entries) name.now }
-{
-    definitions.get(name).is_some()
-}
-
-/// The parameters differ from each other, and the body sees them.
-#[tactic(auto, unfolding(crate::specs::ScopeChecks::check_definition))]
-fn check_definition(defined: &Defined) -> Result<(), ReadFault>
-    ensures { result ≡ check_definition (defined_of defined.now) }
-{
-    let definition = &defined.definition;
-    check_distinct(&definition.parameters)?;
-    check_expr(
-        &definition.body,
-        &Scope::Within(definition.parameters.as_slice(), &Scope::Top),
-    )
-}
-
-/// The first fault, where `fault` is that of the definitions before.
-fn next_fault(
+/// The first definition of a name that has one, where `second` is that of the definitions before.
+fn next_second(
     definitions: &IndexMap<FunctionName, Definition>,
-    fault: Option<ReadFault>,
+    second: Option<Second>,
     defined: &Defined,
-) -> Option<ReadFault>
-    ensures { result ≡ next_fault (keys_in definitions.now.entries) fault (defined_of defined.now) }
+) -> Option<Second>
+    ensures { result ≡ next_second definitions.now.entries second (defined_of defined.now) }
 {
-    if fault.is_some() {
-        return fault;
+    if second.is_some() {
+        return second;
     }
     if is_defined(definitions, &defined.function) {
-        return Some(ReadFault::DuplicateFunction(defined.definition.at));
+        return Some(Second {
+            before: definitions.len(),
+            at: defined.definition.at,
+        });
     }
-    match check_definition(defined) {
-        Ok(()) => None,
-        Err(fault) => Some(fault),
-    }
+    None
 }
 
 /// Puts a definition last, unless its name has one.
@@ -82,24 +72,44 @@ fn keep(
     Ok(())
 }
 
+/// The definitions by name. All of them are known before a body is looked at, since it may apply any.
+#[tactic(auto, unfolding(crate::specs::Environment::check_bodies))]
 fn gather(alloc: Global, all: Vec<Defined>) -> Result<Gathered, ReadFault>
-    ensures checked { IfOk result (λ g. verdict g.fault ≡ check_definitions [] (map defined_of all.items)) }
+    ensures checked { IfOk result (λ g. (x : Place) → check_kept x g.second g.definitions.entries ≡ check_definitions x [] (map defined_of all.items)) }
     ensures names { IfOk result (λ g. (f : Function) → is_defined (keys_in g.definitions.entries) f ≡ is_defined (functions (map defined_of all.items)) f) }
-    ensures kept { IfOk result (λ g. g.fault ≡ None → map definition_of g.definitions.entries ≡ map defined_of all.items) }
+    ensures kept { IfOk result (λ g. g.second ≡ None → map definition_of g.definitions.entries ≡ map defined_of all.items) }
     ensures err { IfErr result (λ e. e ≡ Memory) }
 {
     let mut definitions = IndexMap::new(alloc);
-    let mut fault = None;
+    let mut second = None;
     'definitions: for defined in all {
-        fault = next_fault(&definitions, fault, &defined);
+        second = next_second(&definitions, second, &defined);
         keep(&mut definitions, defined)?;
     }
-    Ok(Gathered { definitions, fault })
+    Ok(Gathered {
+        definitions,
+        second,
+    })
+}
+
+/// The names of the exported functions.
+fn exported_names<'a>(
+    alloc: Global,
+    exports: &'a [NamedFunction],
+) -> Result<IndexSet<&'a FunctionName>, ReadFault>
+    ensures names { IfOk result (λ s. (f : Function) → is_defined (shown s.keys) f ≡ is_defined (exported_by exports.now) f) }
+    ensures err { IfErr result (λ e. e ≡ Memory) }
+{
+    let mut names = IndexSet::new(alloc);
+    'exports: for export in exports {
+        names.insert(&export.function)?;
+    }
+    Ok(names)
 }
 
 /// Each name has a definition. The fault is `NoFunction` at the first that has none.
 fn check_exports(
-    exports: &[Export],
+    exports: &[NamedFunction],
     definitions: &IndexMap<FunctionName, Definition>,
 ) -> Result<(), ReadFault>
     ensures { result ≡ check_exports (keys_in definitions.now.entries) exports.now }
@@ -110,6 +120,69 @@ fn check_exports(
         }
     }
     Ok(())
+}
+
+/// The parameters differ from each other, and the body sees them.
+#[tactic(auto, unfolding(crate::specs::ScopeChecks::check_definition))]
+fn check_definition(
+    setting: &Setting,
+    function: &FunctionName,
+    definition: &Definition,
+) -> Result<(), ReadFault>
+    ensures { Gives (λ u. u) result (check_definition (setting_in setting.now) (definition_of (function.now, definition.now))) }
+{
+    let names = distinct(setting.alloc, &definition.parameters)?;
+    check_expr(
+        setting,
+        &Scope::Within(&names, &Scope::Top),
+        &definition.body,
+    )
+}
+
+/// So many of the definitions, one after the other.
+fn check_bodies(setting: &Setting, count: usize) -> Result<(), ReadFault>
+    ensures { Gives (λ u. u) result (check_bodies (setting_in setting.now) (take count (map definition_of setting.now.definitions.now.entries))) }
+{
+    'bodies: for i in 0..count {
+        let Some((function, definition)) = setting.definitions.get_index(i) else {
+            return Ok(());
+        };
+        check_definition(setting, function, definition)?;
+    }
+    Ok(())
+}
+
+/// The definitions from the first to the last, or to the first whose name has one. Faults are those of the
+/// bodies, and `DuplicateFunction` at that name.
+fn check_kept(setting: &Setting, second: Option<Second>) -> Result<(), ReadFault>
+    ensures { Gives (λ u. u) result (check_kept (setting_in setting.now) second setting.now.definitions.now.entries) }
+{
+    match second {
+        None => check_bodies(setting, setting.definitions.len()),
+        Some(second) => {
+            check_bodies(setting, second.before)?;
+            Err(ReadFault::DuplicateFunction(second.at))
+        }
+    }
+}
+
+/// The exported names, and then the definitions.
+fn check_functions(
+    alloc: Global,
+    exports: &[NamedFunction],
+    gathered: &Gathered,
+) -> Result<(), ReadFault>
+    ensures { Gives (λ u. u) result (check_functions exports.now gathered.now.second gathered.now.definitions.entries) }
+{
+    check_exports(exports, &gathered.definitions)?;
+    let exported = exported_names(alloc, exports)?;
+    let setting = Setting {
+        alloc,
+        definitions: &gathered.definitions,
+        exported: &exported,
+        in_guard: false,
+    };
+    check_kept(&setting, gathered.second)
 }
 
 /// Whether `main/0` has a definition.
@@ -127,9 +200,10 @@ fn has_main(
     Ok(is_defined(definitions, &main))
 }
 
-/// The module, if it is closed. Faults: `NoFunction` at an exported name without a definition, `DuplicateFunction`
-/// at the name of a second definition, `DuplicateVariable` and `Unbound` at a variable, of these the first in
-/// the text; then `NoMain` at the last `end`; `Memory`.
+/// The module, if it is closed. Faults: `NoFunction` at an exported name without a definition; then, of these
+/// the first in the text, `DuplicateFunction` at the name of a second definition, `DuplicateVariable` and
+/// `Unbound` at a variable, `NoFunction`, `UnsupportedCall` and `EffectInGuard` at a call; then `NoMain` at the
+/// last `end`; `Memory`.
 pub(crate) fn closed_module(alloc: Global, draft: Draft) -> Result<Module, ReadFault>
     ensures { Gives (λ m. m) result (check_module (draft_of draft)) }
 {
@@ -143,18 +217,15 @@ pub(crate) fn closed_module(alloc: Global, draft: Draft) -> Result<Module, ReadF
         exports,
         attributes,
     } = front;
-    let Gathered { definitions, fault } = gather(alloc, definitions)?;
-    check_exports(&exports, &definitions)?;
-    if let Some(fault) = fault {
-        return Err(fault);
-    }
-    if !has_main(alloc, &definitions)? {
+    let gathered = gather(alloc, definitions)?;
+    check_functions(alloc, &exports, &gathered)?;
+    if !has_main(alloc, &gathered.definitions)? {
         return Err(ReadFault::NoMain(end));
     }
     Ok(Module {
         name,
         exports,
         attributes,
-        definitions,
+        definitions: gathered.definitions,
     })
 }

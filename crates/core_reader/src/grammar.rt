@@ -1,20 +1,24 @@
 // Definitions and modules (Core Erlang 1.0.3, "Module definitions").
-ghost use Rattle.std.specs.Prelude.{◌≡◌, map, length, is_some, true};
-ghost use Rattle.core_reader.specs.Piece.{pieces};
-ghost use Rattle.core_reader.specs.Reading.{Moves, Passes, Gives, comma_at, closed_at, items_at, attribute_at, parameters_at, head_at, definition_at, definitions_at, front_at, module_at, function_name_at, ended, after_word};
-ghost use Rattle.core_reader.specs.Parsing.{state_of, defined_of, front_of, draft_of};
-ghost use Rattle.core_reader.specs.declared.token.Mark.TheVariants.{RightBracket};
-ghost use Rattle.core_reader.specs.declared.token.Keyword.TheVariants.{End};
+ghost use Rattle.std.specs.Prelude.{map};
+ghost use Rattle.core_tokens.specs.declared.token.Mark.TheVariants.{RightBracket};
+ghost use Rattle.core_reader.specs.Reading.{Moves, Gives, items_at, closed_at, rows_at, noted_at, function_name_at};
+ghost use Rattle.core_reader.specs.ReadingModules.{attribute_at, bare_fun_at, fun_at, behind_name_at, opened, opening_at, definition_at, front_at, bare_module_at, ended, module_at};
+ghost use Rattle.core_reader.specs.Parsing.{state_of, fun_of, defined_of, opening_of, front_of, draft_of};
 
-use crate::fault::ReadFault;
-use crate::module::{Attribute, Definition, Export, FunctionName};
 use crate::parser::Parser;
-use crate::token::{Keyword, Lexeme, Mark, Token};
-use crate::tree::Variable;
+use core_tokens::{Keyword, Mark, ReadFault};
+use core_tree::{Attribute, Definition, Expr, FunctionName, NamedFunction, Variable};
 use term_core::Atom;
 
 /// The levels of construct within construct that a text may have.
 pub(crate) const LEVEL_LIMIT: u16 = 1_000;
+
+/// The parameters of a function, and its body.
+#[derive(Drop)]
+pub(crate) struct Fun {
+    pub parameters: Vec<Variable>,
+    pub body: Expr,
+}
 
 /// A definition with its name.
 #[derive(Drop)]
@@ -23,11 +27,20 @@ pub(crate) struct Defined {
     pub definition: Definition,
 }
 
+/// What a definition begins with.
+#[derive(Drop)]
+pub(crate) enum Opening {
+    /// Its name.
+    Name(NamedFunction),
+    /// The whole of it, in the parentheses of an annotation.
+    Whole(Defined),
+}
+
 /// What stands before the definitions of a module.
 #[derive(Drop)]
 pub(crate) struct Front {
     pub name: Atom,
-    pub exports: Vec<Export>,
+    pub exports: Vec<NamedFunction>,
     pub attributes: Vec<Attribute>,
 }
 
@@ -41,25 +54,25 @@ pub(crate) struct Draft {
 }
 
 impl<'a> Parser<'a> {
-    /// `Atom = const`
-    #[tactic(auto, unfolding(crate::specs::Reading::attribute_at))]
-    fn attribute(&mut self) -> Result<Attribute, ReadFault>
-        ensures { Moves (λ a. a) result (state_of self.new) (attribute_at (state_of self.old)) }
+    /// `Atom = const`, of at most so many levels.
+    #[tactic(auto, unfolding(crate::specs::ReadingModules::attribute_at))]
+    fn attribute(&mut self, levels: u16) -> Result<Attribute, ReadFault>
+        ensures { Moves (λ a. a) result (state_of self.new) (attribute_at levels (state_of self.old)) }
     {
         let name = self.atom()?;
         self.mark(Mark::Equals)?;
-        let value = self.constant(LEVEL_LIMIT)?;
+        let value = self.constant(levels)?;
         Ok(Attribute { name, value })
     }
 
     /// Attributes with commas between them.
-    fn attribute_items(&mut self) -> Result<Vec<Attribute>, ReadFault>
-        ensures { Moves (λ v. v.items) result (state_of self.new) (items_at attribute_at (state_of self.old)) }
+    fn attribute_items(&mut self, levels: u16) -> Result<Vec<Attribute>, ReadFault>
+        ensures { Moves (λ v. v.items) result (state_of self.new) (items_at (attribute_at levels) (state_of self.old)) }
     {
         let mut items = Vec::new(self.alloc);
         let count = self.tokens.len();
         'items: for _taken in 0..count {
-            items.push(self.attribute()?)?;
+            items.push(self.attribute(levels)?)?;
             if !self.skip_mark(Mark::Comma) {
                 return Ok(items);
             }
@@ -69,25 +82,25 @@ impl<'a> Parser<'a> {
 
     /// Any number of attributes, and the closing bracket.
     #[tactic(auto, unfolding(crate::specs::Reading::closed_at))]
-    fn attributes(&mut self) -> Result<Vec<Attribute>, ReadFault>
-        ensures { Moves (λ v. v.items) result (state_of self.new) (closed_at attribute_at RightBracket (state_of self.old)) }
+    fn attributes(&mut self, levels: u16) -> Result<Vec<Attribute>, ReadFault>
+        ensures { Moves (λ v. v.items) result (state_of self.new) (closed_at (attribute_at levels) RightBracket (state_of self.old)) }
     {
         if self.skip_mark(Mark::RightBracket) {
             return Ok(Vec::new(self.alloc));
         }
-        let items = self.attribute_items()?;
+        let items = self.attribute_items(levels)?;
         self.mark(Mark::RightBracket)?;
         Ok(items)
     }
 
     /// Names of functions with commas between them.
-    fn export_items(&mut self) -> Result<Vec<Export>, ReadFault>
-        ensures { Moves (λ v. v.items) result (state_of self.new) (items_at function_name_at (state_of self.old)) }
+    fn export_items(&mut self, levels: u16) -> Result<Vec<NamedFunction>, ReadFault>
+        ensures { Moves (λ v. v.items) result (state_of self.new) (items_at (function_name_at levels) (state_of self.old)) }
     {
         let mut items = Vec::new(self.alloc);
         let count = self.tokens.len();
         'items: for _taken in 0..count {
-            items.push(self.function_name()?)?;
+            items.push(self.function_name(levels)?)?;
             if !self.skip_mark(Mark::Comma) {
                 return Ok(items);
             }
@@ -97,62 +110,57 @@ impl<'a> Parser<'a> {
 
     /// Any number of names of functions, and the closing bracket.
     #[tactic(auto, unfolding(crate::specs::Reading::closed_at))]
-    fn exports(&mut self) -> Result<Vec<Export>, ReadFault>
-        ensures { Moves (λ v. v.items) result (state_of self.new) (closed_at function_name_at RightBracket (state_of self.old)) }
+    fn exports(&mut self, levels: u16) -> Result<Vec<NamedFunction>, ReadFault>
+        ensures { Moves (λ v. v.items) result (state_of self.new) (closed_at (function_name_at levels) RightBracket (state_of self.old)) }
     {
         if self.skip_mark(Mark::RightBracket) {
             return Ok(Vec::new(self.alloc));
         }
-        let items = self.export_items()?;
+        let items = self.export_items(levels)?;
         self.mark(Mark::RightBracket)?;
         Ok(items)
     }
 
-    /// A comma, but before the first of several.
-    fn comma(&mut self, is_first: bool) -> Result<(), ReadFault>
-        ensures { Passes result (state_of self.new) (comma_at is_first (state_of self.old)) }
+    /// `fun (Var, ..) -> expr` in the module `own`, with so many variables, without annotations.
+    #[tactic(auto, unfolding(crate::specs::ReadingModules::bare_fun_at))]
+    fn bare_fun(&mut self, own: &Atom, arity: u8, levels: u16) -> Result<Fun, ReadFault>
+        ensures { Moves fun_of result (state_of self.new) (bare_fun_at own.now arity levels (state_of self.old)) }
     {
-        if is_first {
-            Ok(())
-        } else {
-            Ok(self.mark(Mark::Comma)?)
-        }
-    }
-
-    /// So many variables, with commas between them.
-    fn parameters(&mut self, arity: u8) -> Result<Vec<Variable>, ReadFault>
-        ensures { Moves (λ v. v.items) result (state_of self.new) (parameters_at true arity (state_of self.old)) }
-    {
-        let mut parameters = Vec::new(self.alloc);
-        'parameters: for taken in 0..arity {
-            self.comma(taken == 0)?;
-            parameters.push(self.variable()?)?;
-        }
-        Ok(parameters)
-    }
-
-    /// `fun (Var, ..) ->` with so many variables.
-    #[tactic(auto, unfolding(crate::specs::Reading::head_at))]
-    fn head(&mut self, arity: u8) -> Result<Vec<Variable>, ReadFault>
-        ensures { Moves (λ v. v.items) result (state_of self.new) (head_at arity (state_of self.old)) }
-    {
-        self.construct_word(Keyword::Fun)?;
+        self.word(Keyword::Fun)?;
         self.mark(Mark::LeftParenthesis)?;
-        let parameters = self.parameters(arity)?;
+        let parameters = self.parameters(arity, levels)?;
         self.mark(Mark::RightParenthesis)?;
         self.mark(Mark::Arrow)?;
-        Ok(parameters)
+        let body = self.expression(own, levels)?;
+        Ok(Fun { parameters, body })
     }
 
-    /// `fname = fun (Var, ..) -> expr`
-    #[tactic(auto, unfolding(crate::specs::Reading::definition_at))]
-    fn definition(&mut self) -> Result<Defined, ReadFault>
-        ensures { Moves defined_of result (state_of self.new) (definition_at (state_of self.old)) }
+    /// `fun (Var, ..) -> expr` in the module `own`, with so many variables, annotated in at most so many
+    /// levels.
+    fn fun(&mut self, own: &Atom, arity: u8, levels: u16) -> Result<Fun, ReadFault>
+        ensures { Moves fun_of result (state_of self.new) (fun_at own.now arity levels (state_of self.old)) }
     {
-        let Export { at, function } = self.function_name()?;
+        if !self.opens_note(levels)? {
+            return Ok(self.bare_fun(own, arity, levels)?);
+        }
+        let function = self.fun(own, arity, levels - 1)?;
+        self.note(levels - 1)?;
+        Ok(function)
+    }
+
+    /// What stands behind the name of a definition.
+    #[tactic(auto, unfolding(crate::specs::ReadingModules::behind_name_at))]
+    fn behind_name(
+        &mut self,
+        own: &Atom,
+        levels: u16,
+        named: NamedFunction,
+    ) -> Result<Defined, ReadFault>
+        ensures { Moves defined_of result (state_of self.new) (behind_name_at own.now levels named (state_of self.old)) }
+    {
+        let NamedFunction { at, function } = named;
         self.mark(Mark::Equals)?;
-        let parameters = self.head(function.arity)?;
-        let body = self.expression(LEVEL_LIMIT)?;
+        let Fun { parameters, body } = self.fun(own, function.arity, levels)?;
         let definition = Definition {
             at,
             parameters,
@@ -164,49 +172,72 @@ impl<'a> Parser<'a> {
         })
     }
 
-    /// The definitions, as far as the last `end`.
-    fn definitions(&mut self) -> Result<Vec<Defined>, ReadFault>
-        ensures { Moves (λ v. map defined_of v.items) result (state_of self.new) (definitions_at (length (state_of self.old).pieces) (state_of self.old)) }
+    /// The opening in the parentheses of an annotation: with `=` behind a name it is the whole definition.
+    fn opened(&mut self, own: &Atom, levels: u16, opening: Opening) -> Result<Opening, ReadFault>
+        ensures { Moves opening_of result (state_of self.new) (opened own.now levels (opening_of opening) (state_of self.old)) }
+    {
+        match opening {
+            Opening::Whole(defined) => Ok(Opening::Whole(defined)),
+            Opening::Name(named) => {
+                if !self.is_at_mark(Mark::Equals) {
+                    return Ok(Opening::Name(named));
+                }
+                Ok(Opening::Whole(self.behind_name(own, levels, named)?))
+            }
+        }
+    }
+
+    /// What a definition of the module `own` begins with, annotated in at most so many levels.
+    fn opening(&mut self, own: &Atom, levels: u16) -> Result<Opening, ReadFault>
+        ensures { Moves opening_of result (state_of self.new) (opening_at own.now levels (state_of self.old)) }
+    {
+        if !self.opens_note(levels)? {
+            return Ok(Opening::Name(self.bare_name()?));
+        }
+        let opening = self.opening(own, levels - 1)?;
+        let opened = self.opened(own, levels - 1, opening)?;
+        self.note(levels - 1)?;
+        Ok(opened)
+    }
+
+    /// A definition of the module `own`, whose parts have at most so many levels.
+    #[tactic(auto, unfolding(crate::specs::ReadingModules::definition_at))]
+    fn definition(&mut self, own: &Atom, levels: u16) -> Result<Defined, ReadFault>
+        ensures { Moves defined_of result (state_of self.new) (definition_at own.now levels (state_of self.old)) }
+    {
+        match self.opening(own, levels)? {
+            Opening::Whole(defined) => Ok(defined),
+            Opening::Name(named) => Ok(self.behind_name(own, levels, named)?),
+        }
+    }
+
+    /// The definitions of the module `own`, as far as the last `end`.
+    fn definitions(&mut self, own: &Atom, levels: u16) -> Result<Vec<Defined>, ReadFault>
+        ensures { Moves (λ v. map defined_of v.items) result (state_of self.new) (rows_at (definition_at own.now levels) (state_of self.old)) }
     {
         let mut definitions = Vec::new(self.alloc);
         let count = self.tokens.len();
         'definitions: for _taken in 0..count {
-            if self.is_at_end() {
+            if self.is_at_word(Keyword::End) {
                 return Ok(definitions);
             }
-            definitions.push(self.definition()?)?;
+            definitions.push(self.definition(own, levels)?)?;
         }
         Err(self.fault())
     }
 
-    /// Whether the next token is `end`.
-    fn is_at_end(&self) -> bool
-        ensures { result ≡ is_some (after_word End (state_of self.now).pieces) }
-    {
-        matches!(
-            self.tokens,
-            [
-                Token {
-                    lexeme: Lexeme::Word(Keyword::End),
-                    ..
-                },
-                ..
-            ]
-        )
-    }
-
     /// The name, the exports and the attributes.
-    #[tactic(auto, unfolding(crate::specs::Reading::front_at))]
-    fn front(&mut self) -> Result<Front, ReadFault>
-        ensures { Moves front_of result (state_of self.new) (front_at (state_of self.old)) }
+    #[tactic(auto, unfolding(crate::specs::ReadingModules::front_at))]
+    fn front(&mut self, levels: u16) -> Result<Front, ReadFault>
+        ensures { Moves front_of result (state_of self.new) (front_at levels (state_of self.old)) }
     {
-        self.construct_word(Keyword::Module)?;
+        self.word(Keyword::Module)?;
         let name = self.atom()?;
         self.mark(Mark::LeftBracket)?;
-        let exports = self.exports()?;
+        let exports = self.exports(levels)?;
         self.word(Keyword::Attributes)?;
         self.mark(Mark::LeftBracket)?;
-        let attributes = self.attributes()?;
+        let attributes = self.attributes(levels)?;
         Ok(Front {
             name,
             exports,
@@ -214,30 +245,51 @@ impl<'a> Parser<'a> {
         })
     }
 
-    /// The draft, where nothing is left to read and each call is served.
+    /// A module without annotations round it.
+    #[tactic(auto, unfolding(crate::specs::ReadingModules::bare_module_at))]
+    fn bare_module(&mut self, levels: u16) -> Result<Draft, ReadFault>
+        ensures { Moves draft_of result (state_of self.new) (bare_module_at levels (state_of self.old)) }
+    {
+        let front = self.front(levels)?;
+        let definitions = self.definitions(&front.name, levels)?;
+        let end = self.place();
+        self.word(Keyword::End)?;
+        Ok(Draft {
+            front,
+            definitions,
+            end,
+        })
+    }
+
+    /// A module, annotated in at most so many levels.
+    fn noted_module(&mut self, levels: u16) -> Result<Draft, ReadFault>
+        ensures { Moves draft_of result (state_of self.new) (noted_at bare_module_at levels (state_of self.old)) }
+    {
+        if !self.opens_note(levels)? {
+            return Ok(self.bare_module(levels)?);
+        }
+        let draft = self.noted_module(levels - 1)?;
+        self.note(levels - 1)?;
+        Ok(draft)
+    }
+
+    /// The draft, where nothing is left to read and all of it is served.
     fn ended(&self, draft: Draft) -> Result<Draft, ReadFault>
         ensures { Gives draft_of result (ended (state_of self.now).pieces (state_of self.now).refused (draft_of draft) (state_of self.now)) }
     {
         match (self.tokens, self.refused) {
             ([], None) => Ok(draft),
-            ([], Some(at)) => Err(ReadFault::UnsupportedCall(at)),
+            ([], Some(unserved)) => Err(unserved.fault()),
             ([_, ..], _) => Err(self.fault()),
         }
     }
 
     /// A module, all of the tokens.
-    #[tactic(auto, unfolding(crate::specs::Reading::module_at))]
+    #[tactic(auto, unfolding(crate::specs::ReadingModules::module_at))]
     pub fn module(&mut self) -> Result<Draft, ReadFault>
         ensures { Gives draft_of result (module_at (state_of self.old)) }
     {
-        let front = self.front()?;
-        let definitions = self.definitions()?;
-        let end = self.place();
-        self.word(Keyword::End)?;
-        Ok(self.ended(Draft {
-            front,
-            definitions,
-            end,
-        })?)
+        let draft = self.noted_module(LEVEL_LIMIT)?;
+        Ok(self.ended(draft)?)
     }
 }

@@ -1,30 +1,26 @@
-// From the bytes of a module of Core Erlang 1.0.3 to its tree.
+// From the tokens of Core Erlang 1.0.3 to a module, and from the bytes of a text to its module.
 #![tactic(auto)]
 
-pub mod call;
+mod calls;
+mod clauses;
 mod constants;
 mod expressions;
-pub mod fault;
 mod functions;
 mod grammar;
-pub mod lexer;
-pub mod module;
+mod names;
 mod parser;
+mod patterns;
 pub mod reader;
 pub mod reading;
-mod sameness;
 mod scopes;
 #[cfg(test)]
 mod tests;
-pub mod text;
-pub mod token;
-pub mod tree;
 
-pub use call::CallKind;
-pub use fault::ReadFault;
-pub use lexer::tokens;
-pub use module::{Attribute, Definition, Export, FunctionName, Module};
+pub use core_tokens::{ReadFault, check_text, tokens};
+pub use core_tree::{
+    Alias, Attribute, Call, CallKind, Callee, Case, Catch, Clause, Clauses, Const, Consts,
+    Definition, Do, Expr, Exprs, FunctionName, Let, Module, NamedFunction, Onto, OntoConst,
+    OntoPattern, Pattern, Patterns, PureCall, Try, Variable,
+};
 pub use reader::read_module;
 pub use reading::read_tokens;
-pub use text::check_text;
-pub use tree::{Call, Const, Consts, Do, Expr, Exprs, Let, Onto, OntoConst, Variable};

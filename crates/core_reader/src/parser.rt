@@ -1,23 +1,50 @@
 // What the grammar reads tokens with: one token at a time, with the fault where it cannot stand.
-ghost use Rattle.std.specs.Prelude.{◌≡◌, ◌≢◌, IfOk};
-ghost use Rattle.core_reader.specs.Piece.{shape_of, pieces};
-ghost use Rattle.core_reader.specs.Reading.{Moves, Passes, mark_number, word_number, is_foreign, is_unread, after_mark, after_word, fault_of, construct_fault_of, refusal, place_of, fault, construct_fault, mark_at, word_at, construct_word_at, atom_at, placed_atom_at, arity_at, variable_at, function_name_at};
+ghost use Rattle.std.specs.Prelude.{◌≡◌, ◌≢◌, IfOk, is_some};
+ghost use Rattle.core_tokens.specs.Piece.{shape_of, pieces};
+ghost use Rattle.core_reader.specs.Reading.{Moves, Passes, mark_number, word_number, is_foreign, after_mark, after_word, fault_of, fault_of_unserved, place_of_unserved, refusal, place_of, fault, too_deep, mark_at, word_at, comma_at, atom_at, placed_atom_at, arity_at};
 ghost use Rattle.core_reader.specs.Parsing.{state_of, Skips};
 
-use crate::fault::ReadFault;
-use crate::module::{Export, FunctionName};
-use crate::token::{Keyword, Lexeme, Mark, Token};
-use crate::tree::Variable;
+use core_tokens::{Keyword, Lexeme, Mark, ReadFault, Token};
 use std::alloc::{AllocError, Global};
 use term_core::Atom;
+
+/// Something that was read whole and is not served, at its place.
+#[derive(Clone, Copy)]
+pub enum Unserved {
+    /// A call of a function that nothing serves.
+    Call(usize),
+    /// A `primop` of a name that is not known.
+    Primop(usize),
+}
+
+impl Unserved {
+    /// Its place.
+    pub fn place(self) -> usize
+        ensures { result ≡ place_of_unserved self }
+    {
+        match self {
+            Unserved::Call(at) | Unserved::Primop(at) => at,
+        }
+    }
+
+    /// The fault that says so.
+    pub fn fault(self) -> ReadFault
+        ensures { result ≡ fault_of_unserved self }
+    {
+        match self {
+            Unserved::Call(at) => ReadFault::UnsupportedCall(at),
+            Unserved::Primop(at) => ReadFault::UnsupportedForm(at),
+        }
+    }
+}
 
 /// The tokens that are left to read.
 #[derive(Drop)]
 pub(crate) struct Parser<'a> {
     pub alloc: Global,
     pub tokens: &'a [Token],
-    /// The least place of a call that was read whole and is not served.
-    pub refused: Option<usize>,
+    /// What was read whole and is not served, with the least place.
+    pub refused: Option<Unserved>,
     /// The length of the text in bytes.
     pub length: usize,
 }
@@ -44,13 +71,6 @@ pub(crate) fn is_foreign(lexeme: &Lexeme) -> bool
     )
 }
 
-/// Whether no form takes the token, or it begins an annotation.
-pub(crate) fn is_unread(lexeme: &Lexeme) -> bool
-    ensures { result ≡ is_unread (shape_of lexeme.now) }
-{
-    matches!(lexeme, Lexeme::Mark(Mark::LeftParenthesis)) || is_foreign(lexeme)
-}
-
 fn fault_of(length: usize, tokens: &[Token]) -> ReadFault
     ensures { result ≡ fault_of length (pieces tokens.now) }
 {
@@ -58,21 +78,6 @@ fn fault_of(length: usize, tokens: &[Token]) -> ReadFault
         [] => ReadFault::Expected(length),
         [token, ..] => {
             if is_foreign(&token.lexeme) {
-                ReadFault::UnsupportedForm(token.at)
-            } else {
-                ReadFault::Expected(token.at)
-            }
-        }
-    }
-}
-
-fn construct_fault_of(length: usize, tokens: &[Token]) -> ReadFault
-    ensures { result ≡ construct_fault_of length (pieces tokens.now) }
-{
-    match tokens {
-        [] => ReadFault::Expected(length),
-        [token, ..] => {
-            if is_unread(&token.lexeme) {
                 ReadFault::UnsupportedForm(token.at)
             } else {
                 ReadFault::Expected(token.at)
@@ -89,12 +94,12 @@ pub(crate) fn atom_copy(alloc: Global, atom: &Atom) -> Result<Atom, AllocError>
 }
 
 impl<'a> Parser<'a> {
-    /// The fault, unless a call that was read whole is not served.
+    /// The fault, unless something that was read whole is not served.
     pub fn refusal(&self, fault: ReadFault) -> ReadFault
         ensures { result ≡ refusal self.now.refused fault }
     {
         match self.refused {
-            Some(at) => ReadFault::UnsupportedCall(at),
+            Some(unserved) => unserved.fault(),
             None => fault,
         }
     }
@@ -117,12 +122,44 @@ impl<'a> Parser<'a> {
         self.refusal(fault_of(self.length, self.tokens))
     }
 
-    /// The fault at a token where a construct could stand.
-    #[tactic(auto, unfolding(crate::specs::Reading::construct_fault))]
-    pub fn construct_fault(&self) -> ReadFault
-        ensures { result ≡ construct_fault (state_of self.now) }
+    /// The fault at a token that opens a level past the last.
+    #[tactic(auto, unfolding(crate::specs::Reading::too_deep))]
+    pub fn too_deep(&self) -> ReadFault
+        ensures { result ≡ too_deep (state_of self.now) }
     {
-        self.refusal(construct_fault_of(self.length, self.tokens))
+        self.refusal(ReadFault::TooDeep(self.place()))
+    }
+
+    /// Whether the mark stands in front.
+    pub fn is_at_mark(&self, mark: Mark) -> bool
+        ensures { result ≡ is_some (after_mark mark (state_of self.now).pieces) }
+    {
+        match self.tokens {
+            [
+                Token {
+                    lexeme: Lexeme::Mark(found),
+                    ..
+                },
+                ..
+            ] => mark_number(*found) == mark_number(mark),
+            _ => false,
+        }
+    }
+
+    /// Whether the keyword stands in front.
+    pub fn is_at_word(&self, word: Keyword) -> bool
+        ensures { result ≡ is_some (after_word word (state_of self.now).pieces) }
+    {
+        match self.tokens {
+            [
+                Token {
+                    lexeme: Lexeme::Word(found),
+                    ..
+                },
+                ..
+            ] => word_number(*found) == word_number(word),
+            _ => false,
+        }
     }
 
     /// Steps over the mark, if it stands in front.
@@ -191,15 +228,14 @@ impl<'a> Parser<'a> {
         }
     }
 
-    /// Steps over the keyword of a construct that may be annotated.
-    #[tactic(auto, unfolding(crate::specs::Reading::construct_word_at))]
-    pub fn construct_word(&mut self, word: Keyword) -> Result<(), ReadFault>
-        ensures { Passes result (state_of self.new) (construct_word_at word (state_of self.old)) }
+    /// Steps over a comma, but before the first of several.
+    pub fn comma(&mut self, is_first: bool) -> Result<(), ReadFault>
+        ensures { Passes result (state_of self.new) (comma_at is_first (state_of self.old)) }
     {
-        if self.skip_word(word) {
+        if is_first {
             Ok(())
         } else {
-            Err(self.construct_fault())
+            Ok(self.mark(Mark::Comma)?)
         }
     }
 
@@ -226,7 +262,7 @@ impl<'a> Parser<'a> {
 
     /// The atom of a function's name, with its place.
     #[tactic(auto, unfolding(crate::specs::Reading::placed_atom_at))]
-    fn placed_atom(&mut self) -> Result<(usize, Atom), ReadFault>
+    pub fn placed_atom(&mut self) -> Result<(usize, Atom), ReadFault>
         ensures { Moves (λ a. a) result (state_of self.new) (placed_atom_at (state_of self.old)) }
     {
         let tokens = self.tokens;
@@ -241,13 +277,13 @@ impl<'a> Parser<'a> {
                 self.tokens = rest;
                 Ok((*at, atom_copy(self.alloc, atom)?))
             }
-            _ => Err(self.construct_fault()),
+            _ => Err(self.fault()),
         }
     }
 
     /// The number of a function's arguments, 0 to 255.
     #[tactic(auto, unfolding(crate::specs::Reading::arity_at))]
-    fn arity(&mut self) -> Result<u8, ReadFault>
+    pub fn arity(&mut self) -> Result<u8, ReadFault>
         ensures { Moves (λ n. n) result (state_of self.new) (arity_at (state_of self.old)) }
     {
         let tokens = self.tokens;
@@ -264,41 +300,5 @@ impl<'a> Parser<'a> {
             }
             _ => Err(self.fault()),
         }
-    }
-
-    /// A variable.
-    #[tactic(auto, unfolding(crate::specs::Reading::variable_at))]
-    pub fn variable(&mut self) -> Result<Variable, ReadFault>
-        ensures { Moves (λ v. v) result (state_of self.new) (variable_at (state_of self.old)) }
-    {
-        let tokens = self.tokens;
-        match tokens {
-            [
-                Token {
-                    at,
-                    lexeme: Lexeme::Variable(name),
-                },
-                rest @ ..,
-            ] => {
-                self.tokens = rest;
-                let name = Vec::from_slice(self.alloc, name)?;
-                Ok(Variable { at: *at, name })
-            }
-            _ => Err(self.construct_fault()),
-        }
-    }
-
-    /// A function's name: `Atom / Integer`.
-    #[tactic(auto, unfolding(crate::specs::Reading::function_name_at))]
-    pub fn function_name(&mut self) -> Result<Export, ReadFault>
-        ensures { Moves (λ e. e) result (state_of self.new) (function_name_at (state_of self.old)) }
-    {
-        let (at, name) = self.placed_atom()?;
-        self.mark(Mark::Slash)?;
-        let arity = self.arity()?;
-        Ok(Export {
-            at,
-            function: FunctionName { name, arity },
-        })
     }
 }

@@ -1,18 +1,16 @@
 // From the bytes of a text to its module.
-ghost use Rattle.std.specs.Prelude.{ℕ, ◌<◌, ◌≤◌, length, IfOk, IfErr, IsErrOf};
+ghost use Rattle.std.specs.Prelude.{◌<◌, ◌≤◌, length, IfOk, IfErr, IsErrOf};
 ghost use Rattle.std.specs.Str.{IsUtf8};
 ghost use Rattle.std.specs.Str.Lossy.{utf8_valid_len};
-ghost use Rattle.core_reader.specs.Syntax.{ModuleTree};
-ghost use Rattle.core_reader.specs.Within.{IsPlacedWithin};
+ghost use Rattle.core_tree.specs.Syntax.{ModuleTree};
+ghost use Rattle.core_tokens.specs.Within.{IsPlacedWithin};
 ghost use Rattle.core_reader.specs.Reader.{SpellsModule};
-ghost use Rattle.core_reader.specs.Tokens.{IsTokenFault};
+ghost use Rattle.core_reader.specs.Refusal.{IsRefusalOf};
 ghost use Rattle.core_reader.specs.Whole.{IsReadAs};
 
-use crate::fault::ReadFault;
-use crate::lexer::tokens;
-use crate::module::Module;
 use crate::reading::read_tokens;
-use crate::text::{TEXT_LIMIT, check_text};
+use core_tokens::{ReadFault, TEXT_LIMIT, check_text, tokens};
+use core_tree::Module;
 use std::alloc::Global;
 
 /// Reads a module of Core Erlang 1.0.3 in the profile of docs/LANGUAGE.md: at most 1,048,576 bytes of
@@ -29,11 +27,11 @@ pub fn read_module(alloc: Global, text: &[u8]) -> Result<Module, ReadFault>
     ensures spelt { IfOk result (λ m. SpellsModule text.now m) }
     // What a text says is read, and nothing else, unless memory runs out.
     ensures only { (m : ModuleTree) → SpellsModule text.now m → IsReadAs m result }
-    // Length and encoding are judged first, and a fault of the tokens is one that its line says.
+    // Length and encoding are judged first.
     ensures long { TEXT_LIMIT < length text.now → IsErrOf result (ReadFault.TooLong TEXT_LIMIT) }
     ensures ill { length text.now ≤ TEXT_LIMIT → ¬ (IsUtf8 text.now) → IsErrOf result (ReadFault.NotUtf8 (utf8_valid_len text.now)) }
-    ensures bad_token { (at : ℕ) → IsErrOf result (ReadFault.BadToken at) → IsTokenFault text.now (ReadFault.BadToken at) }
-    ensures bad_integer { (at : ℕ) → IsErrOf result (ReadFault.BadInteger at) → IsTokenFault text.now (ReadFault.BadInteger at) }
+    // A refusal says what is so of the text.
+    ensures refusal { IfErr result (IsRefusalOf text.now) }
     // Each refusal but that for memory names a place in the text, or its end.
     ensures place { IfErr result (IsPlacedWithin (length text.now)) }
 {
@@ -42,5 +40,7 @@ pub fn read_module(alloc: Global, text: &[u8]) -> Result<Module, ReadFault>
     read_tokens(alloc, &tokens, text.len())
 }
 
+#[cfg(test)]
+mod language;
 #[cfg(test)]
 mod tests;

@@ -1,18 +1,17 @@
 // From the tokens of a module to its tree.
 ghost use Rattle.std.specs.Prelude.{◌≡◌, None, IfOk, IfErr};
 ghost use Rattle.core_reader.specs.Places.{IsFaultOf};
-ghost use Rattle.core_reader.specs.Piece.{pieces};
-ghost use Rattle.core_reader.specs.Syntax.{ModuleTree};
+ghost use Rattle.core_tokens.specs.Piece.{pieces};
+ghost use Rattle.core_tree.specs.Syntax.{ModuleTree};
 ghost use Rattle.core_reader.specs.Grammar.{Spells};
 ghost use Rattle.core_reader.specs.Scopes.{IsLawful};
 ghost use Rattle.core_reader.specs.Reading.{Gives};
 ghost use Rattle.core_reader.specs.Whole.{whole_at, start, IsReadAs};
 
-use crate::fault::ReadFault;
 use crate::functions::closed_module;
-use crate::module::Module;
 use crate::parser::Parser;
-use crate::token::Token;
+use core_tokens::{ReadFault, Token};
+use core_tree::Module;
 use std::alloc::Global;
 
 #[tactic(auto, unfolding(crate::specs::Whole::whole_at))]
@@ -36,10 +35,11 @@ fn whole(alloc: Global, tokens: &[Token], length: usize) -> Result<Module, ReadF
 /// grammar cannot go on (or at the text's end), `HigherOrder` at a function as a value, `UnsupportedCall`
 /// at the word `call` of a call that is not served, `TooDeep` at the token that opens level 1,001 of
 /// construct within construct, `UnsupportedForm` at a form that is not read. Where there is none, of the
-/// faults of scopes the first in the text: `NoFunction` at an exported name without a definition,
-/// `DuplicateFunction` at the name of a second definition, `DuplicateVariable` at a parameter that has
-/// the name of one before it, `Unbound` at a variable with no binding. Then `NoMain` at the last `end`,
-/// where `main/0` has no definition. `Memory` may come at any moment.
+/// faults of scopes the first in the text: `NoFunction` at an exported or an applied name without a
+/// definition, `DuplicateFunction` at the name of a second definition, `DuplicateVariable` at a variable that
+/// has the name of one bound with it and before it, `Unbound` at a variable with no binding, `UnsupportedCall`
+/// at a call of a function of this module that is not exported, `EffectInGuard` at what a guard may not do.
+/// Then `NoMain` at the last `end`, where `main/0` has no definition. `Memory` may come at any moment.
 pub fn read_tokens(alloc: Global, tokens: &[Token], length: usize) -> Result<Module, ReadFault>
     // What is read is spelt by the tokens, closed, and has `main/0`.
     ensures spelt { IfOk result (λ m. Spells (pieces tokens.now) m) }

@@ -1,5 +1,6 @@
-use crate::token::{Keyword, Lexeme, Mark, Token};
-use crate::{CallKind, Expr, ReadFault, read_tokens};
+use crate::{ReadFault, read_tokens};
+use core_tokens::{Keyword, Lexeme, Mark, Token};
+use core_tree::Expr;
 use std::alloc::Global;
 use std::test::Fail;
 use term_core::Atom;
@@ -134,7 +135,7 @@ fn finds_the_first_fault(rt: HostRuntime) -> Result<(), Fail> {
         ),
         (
             "module 'm' [ ] attributes [ ] 'f' / 0 = fun ( ) -> case end",
-            ReadFault::UnsupportedForm(51),
+            ReadFault::Expected(56),
         ),
         (
             "module 'm' [ ] attributes [ ] 'f' / 0 = fun ( ) -> { 1 , # } end",
@@ -233,22 +234,4 @@ fn reads_a_long_list(rt: HostRuntime) -> Result<(), Fail> {
     }
     assert!(rt; read_tokens(rt.alloc(), &all, 5).is_ok());
     Ok(())
-}
-
-#[test]
-fn names_calls(rt: HostRuntime) {
-    let cases = [
-        (CallKind::Spawn, "erlang", "spawn", 3),
-        (CallKind::Bang, "erlang", "!", 2),
-        (CallKind::MakeRef, "erlang", "make_ref", 0),
-        (CallKind::TableToList, "ets", "tab2list", 1),
-        (CallKind::UpdateCounter, "ets", "update_counter", 3),
-        (CallKind::DeleteTable, "ets", "delete", 1),
-        (CallKind::DeleteKey, "ets", "delete", 2),
-    ];
-    for (kind, module_name, function_name, arity) in cases {
-        assert_eq!(rt; kind.module_name(), module_name);
-        assert_eq!(rt; kind.function_name(), function_name);
-        assert_eq!(rt; kind.arity(), arity);
-    }
 }

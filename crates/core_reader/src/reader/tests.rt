@@ -5,7 +5,7 @@ use std::process::Abort;
 use std::test::Fail;
 
 // Asserts what the reader answers to each text.
-fn answers(rt: &impl Abort, alloc: Global, table: &[(&[u8], ReadFault)]) {
+pub(super) fn answers(rt: &impl Abort, alloc: Global, table: &[(&[u8], ReadFault)]) {
     for (text, fault) in table {
         let answer = read_module(alloc, text).err();
         assert_eq!(rt; answer, Some(*fault));

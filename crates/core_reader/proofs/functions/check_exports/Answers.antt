@@ -1,7 +1,7 @@
 use Rattle.std.proofs.Common.{◌≡◌, true, false, sym, ap, ◌∙◌, arith, Err}
-use Rattle.core_reader.specs.Syntax.{NamedAt}
-use Rattle.core_reader.specs.declared.fault.ReadFault.TheVariants.{NoFunction}
-use Rattle.core_reader.specs.Definitions.{keys_in}
+use Rattle.core_tree.specs.Syntax.{NamedAt}
+use Rattle.core_tokens.specs.declared.fault.ReadFault.TheVariants.{NoFunction}
+use Rattle.core_tree.specs.Definitions.{keys_in}
 use Rattle.core_reader.specs.ScopeChecks.{is_defined}
 use Rattle.core_reader.proofs.Gathering.{exports_here, exports_next, exports_done}
 use Rattle.core_reader.proofs.functions.check_exports.Goals as goal

@@ -1,5 +1,5 @@
 use Rattle.std.proofs.Common.{◌≡◌, drop}
-use Rattle.core_reader.specs.Definitions.{keys_in}
+use Rattle.core_tree.specs.Definitions.{keys_in}
 use Rattle.core_reader.specs.ScopeChecks.{check_exports}
 use Rattle.core_reader.proofs.functions.check_exports.Given as goal
 

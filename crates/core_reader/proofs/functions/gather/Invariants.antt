@@ -6,5 +6,5 @@ use Rattle.core_reader.proofs.functions.gather.Given as goal
 
 abbrev pub invariant-definitions : goal.invariant-definitions
 invariant-definitions l =
-    Gathering (map defined_of l.fn.all.items) l.fault l.definitions.entries (map defined_of (into_iter_items l.defined-iterator))
+    Gathering (map defined_of l.fn.all.items) l.second l.definitions.entries (map defined_of (into_iter_items l.defined-iterator))
     × (into_iter_len l.defined-iterator ≡ length (into_iter_items l.defined-iterator))

@@ -1,6 +1,6 @@
 use Rattle.std.proofs.Common.{◌∙◌}
 use Rattle.indexmap.proofs.CallerLemmas.{insert_entry-new}
-use Rattle.core_reader.specs.Functions.{same_function}
+use Rattle.core_tree.specs.Functions.{same_function}
 use Rattle.core_reader.proofs.Gathering.{not_found}
 use Rattle.core_reader.proofs.functions.keep.Goals as goal
 

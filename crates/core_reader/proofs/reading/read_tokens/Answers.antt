@@ -1,4 +1,4 @@
-use Rattle.core_reader.specs.Piece.{pieces}
+use Rattle.core_tokens.specs.Piece.{pieces}
 use Rattle.core_reader.proofs.WholeLaws.{is_spelt, is_lawful, is_only}
 use Rattle.core_reader.proofs.FaultLaws.{stands}
 use Rattle.core_reader.proofs.reading.read_tokens.Goals as goal

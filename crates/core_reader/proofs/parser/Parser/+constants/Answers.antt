@@ -3,7 +3,7 @@ use Rattle.std.proofs.lemmas.Result.{err_from_is_err_and}
 use Rattle.std.proofs.lemmas.List.{map-append}
 use Rattle.core_reader.specs.Reading.{constant_at}
 use Rattle.core_reader.specs.Parsing.{state_of}
-use Rattle.core_reader.specs.Tree.{constant_of}
+use Rattle.core_tree.specs.Tree.{constant_of}
 use Rattle.core_reader.proofs.Loops.{begins, goes_on, ends, fails, is_out, pieces_length}
 use Rattle.core_reader.proofs.Levels.{constant_zero, constant_more}
 use Rattle.core_reader.proofs.parser.Parser.+constants.Goals as goal

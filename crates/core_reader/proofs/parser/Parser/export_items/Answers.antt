@@ -6,20 +6,20 @@ use Rattle.core_reader.proofs.Loops.{begins, goes_on, ends, fails, is_out, piece
 use Rattle.core_reader.proofs.parser.Parser.export_items.Goals as goal
 
 pub items-init : goal.items-init
-items-init c = rw c.new-items.ensures.items (begins function_name_at _ (state_of c.args.self.now) (sym (pieces_length c.args.self.now.tokens.now)))
+items-init c = rw c.new-items.ensures.items (begins (function_name_at c.args.levels) _ (state_of c.args.self.now) (sym (pieces_length c.args.self.now.tokens.now)))
 
 pub returns-in_err-function_name : goal.returns-in_err-function_name
 returns-in_err-function_name c =
     let p = err_from_is_err_and c.from_residual.result c.from_residual.ensures.1 in
-    rw (p.1, p.2) (fails function_name_at _ c.items.items.items _ c.items._taken (state_of c.items.self) _ (omega arith) c.in_err-function_name.ensures c.items.invariant)
+    rw (p.1, p.2) (fails (function_name_at c.args.levels) _ c.items.items.items _ c.items._taken (state_of c.items.self) _ (omega arith) c.in_err-function_name.ensures c.items.invariant)
 
 pub returns-then-not-skip_mark : goal.returns-then-not-skip_mark
 returns-then-not-skip_mark c =
-    rw c.in_ok-push.ensures.items (ends function_name_at c.items.items.items _ c.items._taken (state_of c.items.self) (state_of c.function_name.new.self) _ _ _ (omega arith) c.in_ok-function_name.ensures c.if-not-skip_mark.ensures c.items.invariant)
+    rw c.in_ok-push.ensures.items (ends (function_name_at c.args.levels) c.items.items.items _ c.items._taken (state_of c.items.self) (state_of c.function_name.new.self) _ _ _ (omega arith) c.in_ok-function_name.ensures c.if-not-skip_mark.ensures c.items.invariant)
 
 pub items-preserved : goal.items-preserved
 items-preserved c =
-    rw c.in_ok-push.ensures.items (goes_on function_name_at c.items.items.items _ c.items._taken (state_of c.items.self) (state_of c.function_name.new.self) _ _ _ (omega arith) c.in_ok-function_name.ensures c.if-not-skip_mark.ensures c.items.invariant)
+    rw c.in_ok-push.ensures.items (goes_on (function_name_at c.args.levels) c.items.items.items _ c.items._taken (state_of c.items.self) (state_of c.function_name.new.self) _ _ _ (omega arith) c.in_ok-function_name.ensures c.if-not-skip_mark.ensures c.items.invariant)
 
 pub returns : goal.returns
-returns c = λ _. is_out function_name_at c.items.items.items _ c.items._taken (state_of c.items.self) _ (omega arith) c.items.invariant ∙ ap Err (sym c.fault.ensures)
+returns c = λ _. is_out (function_name_at c.args.levels) c.items.items.items _ c.items._taken (state_of c.items.self) _ (omega arith) c.items.invariant ∙ ap Err (sym c.fault.ensures)

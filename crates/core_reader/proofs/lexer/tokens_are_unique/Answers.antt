@@ -1,5 +1,0 @@
-use Rattle.core_reader.proofs.SoFar.{only_tokens}
-use Rattle.core_reader.proofs.lexer.tokens_are_unique.Goals as goal
-
-pub returns : goal.returns
-returns c = only_tokens

@@ -1,0 +1,12 @@
+pub mod Basics
+pub mod Characters
+pub mod QuotedLoop
+pub mod Runs
+pub mod Blanks
+pub mod Words
+pub mod Numbers
+pub mod Quotes
+pub mod TokenLaws
+pub mod Shorter
+pub mod Streams
+pub mod SoFar

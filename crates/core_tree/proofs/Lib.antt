@@ -1,0 +1,3 @@
+pub mod SameItems
+pub mod PureNumbers
+mod CallsFound

@@ -1,0 +1,10 @@
+pub mod Calls
+pub mod PureCalls
+pub mod Syntax
+pub mod SyntaxCodes
+pub mod Tree
+pub mod Depth
+pub mod Functions
+pub mod Definitions
+pub mod Sameness
+pub mod Alike

@@ -1,0 +1,22 @@
+// Variables (Core Erlang 1.0.3, "Variable names").
+use std::marker::Model;
+
+/// A variable where it stands (Core Erlang 1.0.3, "Variable names").
+#[derive(Drop)]
+pub struct Variable {
+    /// The place of its first byte in the text.
+    pub at: usize,
+    /// Its name, which is ASCII.
+    pub name: Vec<u8>,
+}
+
+impl Model for Variable {
+    ghost use Rattle.core_tree.specs.Syntax.{Mention};
+    ghost use Rattle.core_tree.specs.SyntaxCodes.{coded_mention};
+
+    ghost Value = { Mention };
+
+    ghost coded = { coded_mention };
+
+    ghost view = { λ v. record { at = v.at; name = v.name.items } };
+}
