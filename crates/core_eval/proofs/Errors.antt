@@ -1,12 +1,12 @@
 -- Where evaluation answers an error in place of a value.
-use Rattle.std.proofs.Common.{◌≡◌, ℕ, ◌<◌, List, [], ◌∷◌, refl, ap, ◌∙◌, sym, length, arith, IfOk, Result, Ok, Err}
+use Rattle.std.proofs.Common.{◌≡◌, ℕ, ◌<◌, ◌≤◌, List, [], ◌∷◌, refl, ap, ◌∙◌, sym, subst, length, arith, IfOk, Result, Ok, Err}
 use Rattle.std.specs.Prelude.{codes, None}
 use Rattle.std.specs.declared.alloc.AllocError.{AllocError}
-use Rattle.core_reader.specs.Syntax.{Mention}
+use Rattle.core_tree.specs.Syntax.{Mention}
 use Rattle.term_core.specs.Meaning.{Meaning, node_count}
 use Rattle.core_eval.specs.declared.control.Control.{Control}
-use Rattle.core_eval.specs.Evaluation.{State, Got, Environment, error, limited, node_limit, bound}
-use Rattle.core_eval.specs.Holes.{Hole, through}
+use Rattle.core_eval.specs.Evaluation.{State, Got, Yields, Environment, error, limited, node_limit, one, bound}
+use Rattle.core_eval.specs.Holes.{Hole, Gathers, EndsList, Binds, Discards, Keeps, filled, through}
 use Rattle.core_eval.specs.Steps.{going, load, GoesOn}
 
 -- a term with too many nodes is an error
@@ -28,3 +28,33 @@ same_error (Err e) text got h f = tt
 pub goes_on : (r : Result Control AllocError) (text : List ℕ) (got : State → Got) (old : List Hole) (left : ℕ) → IfOk r (λ next. (holes : List Hole) (s : State) → going holes next s ≡ through holes (error text s)) → IfOk r (λ next. load next ≡ 0) → ((s : State) → got s ≡ error text s) → 0 < left → IfOk r (λ next. GoesOn old old next got left)
 goes_on (Ok next) text got old left h l e p = record { same = λ s. h old s ∙ ap (through old) (sym (e s)); less = omega (arith, l) }
 goes_on (Err e) text got old left h l f p = tt
+
+-- where one value is wanted, any other number is an error
+miscounted : (go : Meaning → State → Got) (vs : List Meaning) (s : State) → (length vs ≡ 1 → ⊥) → one go vs s ≡ error (codes "value_count") s
+miscounted go [] s h = refl
+miscounted go (v ∷ []) s h = absurd (h refl)
+miscounted go (v ∷ w ∷ vs) s h = refl
+
+-- holes that want one value
+abbrev pub WantsOne : Hole → Type 0
+WantsOne (Gathers purpose done later) = Unit {0}
+WantsOne (EndsList items) = Unit {0}
+WantsOne (Binds variables body) = ⊥
+WantsOne (Discards second) = Unit {0}
+WantsOne (Keeps name value) = ⊥
+
+pub filled-miscounted : (hole : Hole) (env : Environment) (vs : List Meaning) (s : State) → WantsOne hole → (length vs ≡ 1 → ⊥) → filled hole env (Yields vs s) ≡ error (codes "value_count") s
+filled-miscounted (Gathers purpose done later) env vs s w h = rw (miscounted _ vs s h) refl
+filled-miscounted (EndsList items) env vs s w h = miscounted _ vs s h
+filled-miscounted (Binds variables body) env vs s w h = absurd w
+filled-miscounted (Discards second) env vs s w h = miscounted _ vs s h
+filled-miscounted (Keeps name value) env vs s w h = absurd w
+
+-- a term in place of one that it is equal to
+pub same_limited : (r : Result Control AllocError) (m n : Meaning) → m ≡ n → IfOk r (λ next. (holes : List Hole) (s : State) → going holes next s ≡ through holes (limited m s)) → IfOk r (λ next. (holes : List Hole) (s : State) → going holes next s ≡ through holes (limited n s))
+same_limited r m n e h = subst (λ (x : Meaning). IfOk r (λ next. (holes : List Hole) (s : State) → going holes next s ≡ through holes (limited x s))) e h
+
+-- what means this on top of every stack goes on with it
+pub enters : (r : Result Control AllocError) (old : List Hole) (got : State → Got) (left : ℕ) → IfOk r (λ next. (holes : List Hole) (s : State) → going holes next s ≡ through holes (got s)) → IfOk r (λ next. load next ≤ 2) → 2 < left → IfOk r (λ next. GoesOn old old next got left)
+enters (Ok next) old got left h l p = record { same = λ s. h old s; less = omega (arith, l) }
+enters (Err e) old got left h l p = tt

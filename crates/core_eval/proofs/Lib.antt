@@ -3,3 +3,4 @@ pub mod Stops
 pub mod Lookups
 pub mod Entering
 pub mod WorkedRows
+pub mod NotYetLoops

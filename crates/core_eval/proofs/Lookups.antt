@@ -2,10 +2,10 @@
 use Rattle.std.proofs.Common.{◌≡◌, Bool, true, false, List, [], ◌∷◌, refl, map, Option, Some, if◌then◌else◌}
 use Rattle.std.specs.Prelude.{option_map}
 use Rattle.std.specs.Map.{lookup}
-use Rattle.core_reader.specs.Syntax.{Mention, Tree, Function}
-use Rattle.core_reader.specs.Functions.{same_function}
-use Rattle.core_reader.specs.Definitions.{definition_of}
-use Rattle.core_reader.specs.declared.module.Definition.{Definition}
+use Rattle.core_tree.specs.Syntax.{Mention, Tree, Function}
+use Rattle.core_tree.specs.Functions.{same_function}
+use Rattle.core_tree.specs.Definitions.{definition_of}
+use Rattle.core_tree.specs.declared.module.Definition.{Definition}
 use Rattle.core_eval.specs.Ask.{definition}
 use Rattle.core_eval.specs.Functions.{function_in}
 

@@ -1,16 +1,16 @@
 -- Rows that `ask` computes.
 use Rattle.std.proofs.Common.{◌≡◌, ℕ, List, [], ◌∷◌, refl}
 use Rattle.std.specs.Prelude.{codes, pos}
-use Rattle.core_reader.specs.declared.call.CallKind.TheVariants.{New, Insert, Lookup}
-use Rattle.core_reader.specs.declared.call.CallKind.{CallKind}
-use Rattle.core_reader.specs.Syntax.{Tree, Number, Name, Mentioned, Grouped, Listed, Joined, Bound, Followed, Called, trees_of, ModuleTree, NamedAt}
+use Rattle.core_tree.specs.declared.call.CallKind.TheVariants.{New, Insert, Lookup}
+use Rattle.core_tree.specs.declared.call.CallKind.{CallKind}
+use Rattle.core_tree.specs.Syntax.{OfWorld, Tree, Number, Name, Mentioned, Grouped, Listed, Joined, Bound, Followed, Called, trees_of, ModuleTree, NamedAt}
 use Rattle.term_core.specs.Meaning as terms
 use Rattle.term_core.specs.Meaning.{Meaning, Integer, Group, Empty, Cell, Process, group_of}
 use Rattle.core_eval.specs.Asked.{Asked, Asks, Ends, Answered, Gives, Refuses, Brings}
 use Rattle.core_eval.specs.Ask.{ask, entry}
 
 abbrev a_call : CallKind → List Tree → Tree
-a_call kind ts = Called 0 kind (trees_of ts)
+a_call kind ts = Called 0 (OfWorld kind) (trees_of ts)
 
 abbrev an_atom : List ℕ → Tree
 an_atom text = Name text

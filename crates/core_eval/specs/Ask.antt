@@ -2,8 +2,8 @@
 use Rattle.std.specs.Prelude.{ℕ, Bool, true, false, ◌==◌, ◌&&◌, ◌||◌, List, [], ◌∷◌, Option, Some, None, if◌then◌else◌, nat_le, length, codes}
 use Rattle.std.specs.List.{list_any}
 use Rattle.std.specs.Cmp.Lexicographic.{pointwise}
-use Rattle.core_reader.specs.Syntax.{Mention, Tree, Function, NamedAt, DefinitionTree, ModuleTree}
-use Rattle.core_reader.specs.Functions.{same_function}
+use Rattle.core_tree.specs.Syntax.{Mention, Tree, Function, NamedAt, DefinitionTree, ModuleTree}
+use Rattle.core_tree.specs.Functions.{same_function}
 use Rattle.term_core.specs.Meaning.{Meaning, Group, Empty, group_of}
 use Rattle.term_core.specs.Meaning as terms
 use Rattle.core_eval.specs.Asked.{Asked, Ends, Answered}

@@ -1,9 +1,9 @@
 -- Evaluation (Core Erlang 1.0.3, "Expressions"): what an expression gives, from left to right, out of the answers to the calls that it makes.
-use Rattle.std.specs.Prelude.{ℕ, ◌==◌, List, [], ◌∷◌, ◌++◌, Option, Some, None, if◌then◌else◌, nat_le, codes}
+use Rattle.std.specs.Prelude.{ℕ, pos, map, ◌==◌, List, [], ◌∷◌, ◌++◌, Option, Some, None, if◌then◌else◌, nat_le, codes}
 use Rattle.std.specs.Cmp.Lexicographic.{pointwise}
-use Rattle.core_reader.specs.declared.call.CallKind.{CallKind}
-use Rattle.core_reader.specs.Syntax.{Mention, Tree, Trees, Number, Mentioned, Grouped, Listed, Joined, Bound, Followed, Called}
-use Rattle.core_reader.specs.Syntax as syntax
+use Rattle.core_tree.specs.declared.call.CallKind.{CallKind}
+use Rattle.core_tree.specs.Syntax.{Mention, OfWorld, Tree, Trees, Number, Character, Text, Mentioned, Grouped, Listed, Joined, Several, Bound, Chosen, Followed, Called, Tried, Caught}
+use Rattle.core_tree.specs.Syntax as syntax
 use Rattle.term_core.specs.Meaning.{Meaning, Integer, Group, Empty, group_of, node_count}
 use Rattle.term_core.specs.Meaning as terms
 use Rattle.term_core.specs.Term.{list_onto}
@@ -54,6 +54,10 @@ node_limit = 10000
 abbrev pub limited : Meaning → State → Got
 limited m s = if nat_le (node_count m) node_limit then Yields (m ∷ []) s else error (codes "system_limit") s
 
+-- what stands in the place of a form that is not evaluated yet; no module with one is run
+abbrev pub not_evaluated : State → Got
+not_evaluated s = error (codes "undef") s
+
 -- a call with the answers that are left: the first that is one to a call is its value or its error; with none left the call is the request
 abbrev pub served : CallKind → List Meaning → List Answered → Got
 served kind arguments [] = Stops (Asks kind arguments)
@@ -64,6 +68,10 @@ served kind arguments (TimesOut ∷ later) = served kind arguments later
 
 abbrev pub called : CallKind → List Meaning → State → Got
 called kind arguments s = served kind arguments s.answers
+
+-- the list of the numbers of characters
+abbrev pub text_of : List ℕ → Meaning
+text_of cs = list_onto (map (λ c. Integer (pos c)) cs) Empty
 
 -- the values of the variables in scope, innermost first
 abbrev pub Environment : Type 0
@@ -95,14 +103,21 @@ abbrev mutual
   -- what an expression gives; its parts go from left to right
   pub evaluate : Tree → Environment → State → Got
   evaluate (Number n) env s = Yields (Integer n ∷ []) s
+  evaluate (Character c) env s = Yields (Integer (pos c) ∷ []) s
+  evaluate (Text cs) env s = limited (text_of cs) s
   evaluate (syntax.Name text) env s = Yields (terms.Name text ∷ []) s
   evaluate (Mentioned v) env s = value_or_error (lookup v.name env) s
   evaluate (Grouped ts) env s = then_do (evaluate_all ts env [] s) (λ vs s'. limited (Group (group_of vs)) s')
   evaluate (Listed ts) env s = then_do (evaluate_all ts env [] s) (λ vs s'. limited (list_onto vs Empty) s')
   evaluate (Joined ts t) env s = then_do (evaluate_all ts env [] s) (λ vs s'. then_do (evaluate t env s') (one (λ v s''. limited (list_onto vs v) s'')))
+  evaluate (Several ts) env s = evaluate_all ts env [] s
   evaluate (Bound variables t body) env s = then_do (evaluate t env s) (λ vs s'. within (bound variables vs env) (λ inner s''. evaluate body inner s'') s')
   evaluate (Followed t u) env s = then_do (evaluate t env s) (one (λ v s'. evaluate u env s'))
-  evaluate (Called at kind ts) env s = then_do (evaluate_all ts env [] s) (λ vs s'. called kind vs s')
+  evaluate (Called at (OfWorld kind) ts) env s = then_do (evaluate_all ts env [] s) (λ vs s'. called kind vs s')
+  evaluate (Called at callee ts) env s = not_evaluated s
+  evaluate (Chosen at t cs) env s = not_evaluated s
+  evaluate (Tried at t vs u ws h) env s = not_evaluated s
+  evaluate (Caught at t) env s = not_evaluated s
 
   -- the values of several expressions, each of which wants to be one, behind those that are there
   pub evaluate_all : Trees → Environment → List Meaning → State → Got

@@ -1,12 +1,12 @@
 -- The frames of the code's stack, as contracts see them.
 use Rattle.std.specs.Prelude.{List, map, reverse}
-use Rattle.core_reader.specs.Tree.{tree_of}
+use Rattle.core_tree.specs.Tree.{tree_of}
 use Rattle.core_eval.specs.declared.frame.Purpose.{Purpose as Use}
 use Rattle.core_eval.specs.declared.frame.Purpose.TheVariants as uses
 use Rattle.core_eval.specs.declared.frame.Frame.{Frame}
 use Rattle.core_eval.specs.declared.frame.Frame.TheVariants as frames
 use Rattle.term_core.specs.Term.{meaning_of}
-use Rattle.core_eval.specs.Holes.{Purpose, ToGroup, ToList, ToFront, ToCall, Hole, Gathers, EndsList, Binds, Discards, Keeps}
+use Rattle.core_eval.specs.Holes.{Purpose, ToGroup, ToList, ToFront, ToCall, ToValues, Hole, Gathers, EndsList, Binds, Discards, Keeps}
 
 -- what a frame's parts are for
 abbrev pub purpose_of : Use → Purpose
@@ -14,6 +14,7 @@ purpose_of uses.Tuple = ToGroup
 purpose_of uses.List = ToList
 purpose_of (uses.Onto tail) = ToFront (tree_of tail.now)
 purpose_of (uses.Call kind) = ToCall kind
+purpose_of uses.Values = ToValues
 
 -- what a frame leaves out
 abbrev pub hole_of : Frame → Hole

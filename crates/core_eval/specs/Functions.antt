@@ -1,8 +1,8 @@
 -- The functions of the code's modules, as contracts see them.
 use Rattle.std.specs.Prelude.{List}
-use Rattle.core_reader.specs.Syntax.{Mention, Tree}
-use Rattle.core_reader.specs.Tree.{tree_of}
-use Rattle.core_reader.specs.declared.module.Definition.{Definition}
+use Rattle.core_tree.specs.Syntax.{Mention, Tree}
+use Rattle.core_tree.specs.Tree.{tree_of}
+use Rattle.core_tree.specs.declared.module.Definition.{Definition}
 
 -- the parameters and the body of a definition
 abbrev pub function_in : Definition → List Mention × Tree

@@ -3,37 +3,40 @@ use Rattle.std.specs.Prelude.{◌≡◌, ◌⊎◌, ℕ, Bool, List, refl}
 use Rattle.std.specs.Coded.{Coded, code_by, coded×, coded⊎, coded_list, coded_ℕ, coded_bool}
 use Rattle.std.proofs.Common.{inl, inr}
 use base.Stored.{coded_unit}
-use Rattle.core_reader.specs.declared.call.CallKind.{CallKind}
-use Rattle.core_reader.specs.Calls.{coded_call}
-use Rattle.core_reader.specs.Syntax.{Mention, Tree}
-use Rattle.core_reader.specs.SyntaxCodes.{coded_mention, coded_tree}
+use Rattle.core_tree.specs.declared.call.CallKind.{CallKind}
+use Rattle.core_tree.specs.Calls.{coded_call}
+use Rattle.core_tree.specs.Syntax.{Mention, Tree}
+use Rattle.core_tree.specs.SyntaxCodes.{coded_mention, coded_tree}
 use Rattle.term_core.specs.Meaning.{Meaning, coded_meaning}
 use Rattle.core_eval.specs.Asked.{Asked, Asks, Receives, Ends, RunsAway}
-use Rattle.core_eval.specs.Holes.{Purpose, ToGroup, ToList, ToFront, ToCall, Hole, Gathers, EndsList, Binds, Discards, Keeps}
+use Rattle.core_eval.specs.Holes.{Purpose, ToGroup, ToList, ToFront, ToCall, ToValues, Hole, Gathers, EndsList, Binds, Discards, Keeps}
 
 abbrev PurposeShape : Type 0
-PurposeShape = (Unit {0} ⊎ Unit {0}) ⊎ (Tree ⊎ CallKind)
+PurposeShape = (Unit {0} ⊎ Unit {0}) ⊎ (Tree ⊎ (CallKind ⊎ Unit {0}))
 
 abbrev purpose_shape : Purpose → PurposeShape
 purpose_shape ToGroup = inl (inl tt)
 purpose_shape ToList = inl (inr tt)
 purpose_shape (ToFront t) = inr (inl t)
-purpose_shape (ToCall kind) = inr (inr kind)
+purpose_shape (ToCall kind) = inr (inr (inl kind))
+purpose_shape ToValues = inr (inr (inr tt))
 
 abbrev purpose_in : PurposeShape → Purpose
 purpose_in (inl (inl u)) = ToGroup
 purpose_in (inl (inr u)) = ToList
 purpose_in (inr (inl t)) = ToFront t
-purpose_in (inr (inr kind)) = ToCall kind
+purpose_in (inr (inr (inl kind))) = ToCall kind
+purpose_in (inr (inr (inr u))) = ToValues
 
 pub purpose_in-purpose_shape : (p : Purpose) → purpose_in (purpose_shape p) ≡ p
 purpose_in-purpose_shape ToGroup = refl
 purpose_in-purpose_shape ToList = refl
 purpose_in-purpose_shape (ToFront t) = refl
 purpose_in-purpose_shape (ToCall kind) = refl
+purpose_in-purpose_shape ToValues = refl
 
 abbrev pub coded_purpose : Coded Purpose
-coded_purpose = code_by PurposeShape (coded⊎ (coded⊎ coded_unit coded_unit) (coded⊎ coded_tree coded_call)) purpose_shape purpose_in purpose_in-purpose_shape
+coded_purpose = code_by PurposeShape (coded⊎ (coded⊎ coded_unit coded_unit) (coded⊎ coded_tree (coded⊎ coded_call coded_unit))) purpose_shape purpose_in purpose_in-purpose_shape
 
 abbrev HoleShape : Type 0
 HoleShape = ((Purpose × (List Meaning × List Tree)) ⊎ List Meaning) ⊎ ((List Mention × Tree) ⊎ (Tree ⊎ (List ℕ × Meaning)))

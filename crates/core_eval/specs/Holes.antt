@@ -1,12 +1,12 @@
 -- A stack of what is still to do, as contracts see it: each item is an expression with one part left out, and says what the whole gives once the part is there.
 use Rattle.std.specs.Prelude.{ℕ, ◌==◌, List, [], ◌∷◌, ◌++◌, Option, Some, None, if◌then◌else◌}
 use Rattle.std.specs.Cmp.Lexicographic.{pointwise}
-use Rattle.core_reader.specs.declared.call.CallKind.{CallKind}
-use Rattle.core_reader.specs.Syntax.{Mention, Tree, trees_of}
+use Rattle.core_tree.specs.declared.call.CallKind.{CallKind}
+use Rattle.core_tree.specs.Syntax.{Mention, Tree, trees_of}
 use Rattle.term_core.specs.Meaning.{Meaning, Group, Empty, group_of}
 use Rattle.term_core.specs.Term.{list_onto}
 use Rattle.core_eval.specs.Asked.{Asked, Asks, Receives, Ends, RunsAway, Answered}
-use Rattle.core_eval.specs.Evaluation.{State, before, Got, then_do, one, limited, called, Environment, bound, within, evaluate, evaluate_all}
+use Rattle.core_eval.specs.Evaluation.{State, before, Got, Yields, then_do, one, limited, called, Environment, bound, within, evaluate, evaluate_all}
 use Rattle.core_eval.specs.Ask.{request_of}
 
 -- what several values are evaluated for
@@ -15,6 +15,7 @@ pub data Purpose : Type 0 where
   ToList : Purpose
   ToFront : (tail : Tree) → Purpose
   ToCall : (kind : CallKind) → Purpose
+  ToValues : Purpose
 
 -- what is left out: one of several parts, the tail of a list, the value of a `let`, the first part of a `do`; a variable's value is kept for what is above it
 pub data Hole : Type 0 where
@@ -47,6 +48,7 @@ become ToGroup env vs s = limited (Group (group_of vs)) s
 become ToList env vs s = limited (list_onto vs Empty) s
 become (ToFront t) env vs s = then_do (evaluate t env s) (one (λ v s'. limited (list_onto vs v) s'))
 become (ToCall kind) env vs s = called kind vs s
+become ToValues env vs s = Yields vs s
 
 -- what an expression gives where the part that was left out gives this
 abbrev pub filled : Hole → Environment → Got → Got

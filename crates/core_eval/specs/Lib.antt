@@ -1,3 +1,4 @@
+pub mod NotYet
 pub mod Asked
 pub mod Requests
 pub mod Evaluation

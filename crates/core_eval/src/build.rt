@@ -31,7 +31,7 @@ pub(crate) fn error<'m>(alloc: Global, text: &str) -> Result<Control<'m>, AllocE
 /// The term, or the error `'system_limit'` in its place where it has too many nodes.
 pub(crate) fn limited<'m>(alloc: Global, term: Term) -> Result<Control<'m>, AllocError>
     ensures same { IfOk result (λ next. Means next (limited (meaning_of term))) }
-    ensures less { IfOk result (λ next. load next ≤ 1) }
+    ensures less { IfOk result (λ next. load next ≤ 2) }
 {
     if term.nodes() <= NODE_LIMIT {
         Ok(Control::Return(term))

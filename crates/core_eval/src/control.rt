@@ -1,5 +1,5 @@
 // What is on top of the stack of a machine that runs.
-use core_reader::{CallKind, Expr};
+use core_tree::{CallKind, Expr};
 use term_core::{Term, Terms};
 
 /// What is to be done next.
@@ -9,6 +9,8 @@ pub(crate) enum Control<'m> {
     Evaluate(&'m Expr),
     /// To go on with this value of the innermost expression.
     Return(Term),
+    /// To go on with these values of the innermost expression, any number of them.
+    Values(Terms),
     /// To raise an error with this reason.
     Raise(Term),
     /// To ask the world for this call.

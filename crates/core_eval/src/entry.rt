@@ -1,6 +1,6 @@
 // Where a process begins.
 ghost use Rattle.std.specs.Prelude.{◌≡◌, IfOk, option_map, option_copied};
-ghost use Rattle.core_reader.specs.Tree.{tree_of};
+ghost use Rattle.core_tree.specs.Tree.{tree_of};
 ghost use Rattle.core_eval.specs.Ask.{entry, first_function, definition, is_exported};
 ghost use Rattle.core_eval.specs.Functions.{function_in};
 ghost use Rattle.core_eval.specs.Steps.{EntersWith};
@@ -9,7 +9,7 @@ use crate::build::error;
 use crate::control::Control;
 use crate::frame::Frame;
 use crate::stack::Stack;
-use core_reader::{Definition, Export, Expr, FunctionName, Module, Variable};
+use core_tree::{Definition, Expr, FunctionName, Module, NamedFunction, Variable};
 use std::alloc::{AllocError, Global};
 use term_core::{Atom, Pid, Terms};
 
@@ -44,7 +44,7 @@ pub(crate) fn first_definition<'m>(
 }
 
 /// Whether a function stands among the exports.
-fn is_exported(exports: &[Export], function: &FunctionName) -> bool
+fn is_exported(exports: &[NamedFunction], function: &FunctionName) -> bool
     ensures { result ≡ is_exported function.now exports.now }
 {
     exports.iter().any(|export| *function == export.function)

@@ -4,7 +4,7 @@ ghost use Rattle.core_eval.specs.Frames.{hole_of};
 ghost use Rattle.core_eval.specs.Holes.{value_in};
 ghost use Rattle.term_core.specs.Term.{meaning_of};
 
-use core_reader::{CallKind, Expr, Variable};
+use core_tree::{CallKind, Expr, Variable};
 use std::alloc::{AllocError, Global};
 use term_core::{Term, Terms};
 
@@ -17,6 +17,8 @@ pub(crate) enum Purpose<'m> {
     Onto(&'m Expr),
     /// The arguments of a call.
     Call(CallKind),
+    /// Values that stand side by side.
+    Values,
 }
 
 /// An expression of which one part is being evaluated.

@@ -6,12 +6,14 @@ mod control;
 mod entry;
 mod frame;
 pub mod machine;
+mod not_yet;
 pub mod request;
 mod run;
 mod stack;
 mod step;
 
 pub use machine::{Machine, start};
+pub use not_yet::first_not_evaluated;
 pub use request::{Answer, Request};
 
 #[cfg(test)]

@@ -11,7 +11,7 @@ use crate::entry::{enter_function, first_definition};
 use crate::request::{Answer, Request};
 use crate::run::run;
 use crate::stack::Stack;
-use core_reader::Module;
+use core_tree::Module;
 use std::alloc::{AllocError, Global};
 use std::marker::Model;
 use term_core::{Atom, Pid, Terms};

@@ -2,7 +2,7 @@
 ghost use Rattle.std.specs.Prelude.{◌≡◌, IfOk};
 ghost use Rattle.core_eval.specs.Requests.{asked_of};
 
-use core_reader::CallKind;
+use core_tree::CallKind;
 use std::alloc::{AllocError, Global};
 use term_core::{Term, Terms};
 

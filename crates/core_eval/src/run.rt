@@ -11,7 +11,7 @@ use crate::build::{atom, end_by_error};
 use crate::control::Control;
 use crate::request::Request;
 use crate::stack::Stack;
-use crate::step::{enter, leave};
+use crate::step::{enter, leave, leave_with};
 use std::alloc::{AllocError, Global};
 
 /// Runs to the next request or the end, from what is on top of the stack.
@@ -32,6 +32,12 @@ pub(crate) fn run<'m>(
                 Some(frame) => leave(alloc, stack, frame, value)?,
                 None => return Ok(Request::End(atom(alloc, "normal")?)),
             },
+            Control::Values(values) => {
+                let Some(frame) = stack.pop() else {
+                    return Ok(Request::End(atom(alloc, "normal")?));
+                };
+                leave_with(alloc, stack, frame, values)?
+            }
             // No frame catches it.
             Control::Raise(reason) => match stack.pop() {
                 Some(_) => Control::Raise(reason),

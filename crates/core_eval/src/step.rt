@@ -1,18 +1,19 @@
 // The steps of the machine: into an expression, and out of it with its value.
-ghost use Rattle.std.specs.Prelude.{◌+◌, ◌∷◌, [], IfOk, map};
-ghost use Rattle.core_reader.specs.Syntax.{trees_of, Joined, Bound, Followed, Called};
-ghost use Rattle.core_reader.specs.Tree.{tree_of};
+ghost use Rattle.std.specs.Prelude.{◌≡◌, ◌+◌, ◌≤◌, ◌∷◌, [], IfOk, length, map};
+ghost use Rattle.core_tree.specs.Syntax.{trees_of, Joined, Bound, Followed, Called};
+ghost use Rattle.core_tree.specs.Tree.{callee_of, tree_of};
 ghost use Rattle.term_core.specs.Term.{meaning_of};
-ghost use Rattle.core_eval.specs.Evaluation.{Yields, lookup, value_or_error};
+ghost use Rattle.core_eval.specs.Evaluation.{Yields, limited, lookup, text_of, value_or_error};
 ghost use Rattle.core_eval.specs.Frames.{hole_of, purpose_of};
 ghost use Rattle.core_eval.specs.Holes.{scope, filled};
-ghost use Rattle.core_eval.specs.Steps.{GoesOn, Enters, GathersOn, EntersWith, work_in};
+ghost use Rattle.core_eval.specs.Steps.{GoesOn, Means, Enters, GathersOn, EntersWith, load, work_in};
 
 use crate::build::{error, limited, with_last};
 use crate::control::Control;
+use crate::entry::enter_function;
 use crate::frame::{Frame, Purpose};
 use crate::stack::Stack;
-use core_reader::{Call, Do, Expr, Let, Onto, Variable};
+use core_tree::{Call, Callee, Do, Expr, Let, Onto, Variable};
 use std::alloc::{AllocError, Global};
 use term_core::{Term, Terms, list_onto};
 
@@ -26,6 +27,8 @@ pub(crate) fn enter<'m>(
 {
     match expression {
         Expr::Integer(number) => Ok(Control::Return(Term::Int(*number))),
+        Expr::Character(character) => Ok(Control::Return(Term::Int(*character as i64))),
+        Expr::Text(characters) => text(alloc, characters),
         Expr::Atom(atom) => Ok(Control::Return(Term::Atom(atom.copy(alloc)?))),
         Expr::Variable(variable) => value_of(alloc, stack, variable),
         Expr::Tuple(parts) => gather(
@@ -43,9 +46,18 @@ pub(crate) fn enter<'m>(
             items.0.as_slice(),
         ),
         Expr::Onto(onto) => enter_onto(alloc, stack, onto),
+        Expr::Values(values) => gather(
+            alloc,
+            stack,
+            Purpose::Values,
+            Terms(Vec::new(alloc)),
+            values.0.as_slice(),
+        ),
         Expr::Let(inner) => enter_let(stack, inner),
         Expr::Do(both) => enter_do(stack, both),
         Expr::Call(call) => enter_call(alloc, stack, call),
+        // No module with one of these is run yet.
+        Expr::Case(_) | Expr::Try(_) | Expr::Catch(_) => error(alloc, "undef"),
     }
 }
 
@@ -56,7 +68,7 @@ fn value_of<'m>(
     variable: &'m Variable,
 ) -> Result<Control<'m>, AllocError>
     ensures { IfOk result (λ next.
-        GoesOn stack.old stack.new next (value_or_error (lookup variable.now.name (scope stack.old))) 2) }
+        GoesOn stack.old stack.new next (value_or_error (lookup variable.now.name (scope stack.old))) 3) }
 {
     match stack.lookup(variable.name.as_slice()) {
         Some(value) => Ok(Control::Return(value.copy(alloc)?)),
@@ -97,6 +109,18 @@ fn enter_do<'m>(stack: &mut Stack<'m>, both: &'m Do) -> Result<Control<'m>, Allo
     Ok(Control::Evaluate(&both.first))
 }
 
+/// The list of the numbers of a string's characters.
+fn text<'m>(alloc: Global, characters: &[char]) -> Result<Control<'m>, AllocError>
+    ensures same { IfOk result (λ next. Means next (limited (text_of characters.now))) }
+    ensures less { IfOk result (λ next. load next ≤ 2) }
+{
+    let mut numbers = Vec::new(alloc);
+    'characters: for character in characters {
+        numbers.push(Term::Int(*character as i64))?;
+    }
+    limited(alloc, list_onto(alloc, numbers, Term::Nil)?)
+}
+
 /// Into the arguments of a call.
 fn enter_call<'m>(
     alloc: Global,
@@ -106,10 +130,14 @@ fn enter_call<'m>(
     ensures { IfOk result (λ next.
         Enters stack.old stack.new next (Called call.now.0 call.now.1 (trees_of call.now.2))) }
 {
+    // No module with a call of another kind is run yet.
+    let Callee::World(kind) = &call.callee else {
+        return error(alloc, "undef");
+    };
     gather(
         alloc,
         stack,
-        Purpose::Call(call.kind),
+        Purpose::Call(*kind),
         Terms(Vec::new(alloc)),
         call.arguments.0.as_slice(),
     )
@@ -153,6 +181,7 @@ fn complete<'m>(
             Ok(Control::Evaluate(tail))
         }
         Purpose::Call(kind) => Ok(Control::Ask(kind, done)),
+        Purpose::Values => Ok(Control::Values(done)),
     }
 }
 
@@ -166,7 +195,7 @@ pub(crate) fn leave<'m>(
     ensures { IfOk result (λ next.
         GoesOn stack.old stack.new next
         (λ s. filled (hole_of frame.entry) (scope stack.old) (Yields (meaning_of value ∷ []) s))
-        (1 + work_in (hole_of frame.entry))) }
+        (2 + work_in (hole_of frame.entry))) }
 {
     match frame {
         Frame::Parts(purpose, done, later) => gather(
@@ -180,6 +209,50 @@ pub(crate) fn leave<'m>(
         Frame::Body(variables, body) => bind(alloc, stack, variables, body, value),
         Frame::Second(second) => Ok(Control::Evaluate(second)),
         Frame::Kept(_, _) => Ok(Control::Return(value)),
+    }
+}
+
+/// Out of an expression with its values, of which there may be any number, to what the frame above it
+/// leaves to do.
+pub(crate) fn leave_with<'m>(
+    alloc: Global,
+    stack: &mut Stack<'m>,
+    frame: Frame<'m>,
+    values: Terms,
+) -> Result<Control<'m>, AllocError>
+    ensures { IfOk result (λ next.
+        GoesOn stack.old stack.new next
+        (λ s. filled (hole_of frame.entry) (scope stack.old) (Yields values s))
+        (2 + (length values + work_in (hole_of frame.entry)))) }
+{
+    let mut items = values.0;
+    if items.len() == 1 {
+        if let Some(value) = items.pop() {
+            return leave(alloc, stack, frame, value);
+        }
+    }
+    leave_several(alloc, stack, frame, Terms(items))
+}
+
+/// Out of an expression with no value or with more than one.
+fn leave_several<'m>(
+    alloc: Global,
+    stack: &mut Stack<'m>,
+    frame: Frame<'m>,
+    values: Terms,
+) -> Result<Control<'m>, AllocError>
+    requires { length values ≡ 1 → ⊥ }
+    ensures { IfOk result (λ next.
+        GoesOn stack.old stack.new next
+        (λ s. filled (hole_of frame.entry) (scope stack.old) (Yields values s))
+        (2 + (length values + work_in (hole_of frame.entry)))) }
+{
+    match frame {
+        Frame::Body(variables, body) => enter_function(alloc, stack, variables, body, values),
+        Frame::Kept(_, _) => Ok(Control::Values(values)),
+        Frame::Parts(_, _, _) => error(alloc, "value_count"),
+        Frame::Tail(_) => error(alloc, "value_count"),
+        Frame::Second(_) => error(alloc, "value_count"),
     }
 }
 

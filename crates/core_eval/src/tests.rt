@@ -2,10 +2,11 @@
 ghost use Rattle.std.specs.Prelude.{◌≡◌, false};
 
 use crate::machine::{Machine, start};
+use crate::not_yet::first_not_evaluated;
 use crate::request::{Answer, Request};
-use core_reader::{
-    Call, CallKind, Definition, Do, Expr, Exprs, FunctionName, Let, Module, Onto, ReadFault,
-    Variable, read_module,
+use core_tree::{
+    Call, CallKind, Callee, Catch, Definition, Do, Expr, Exprs, FunctionName, Let, Module, Onto,
+    Variable,
 };
 use indexmap::IndexMap;
 use std::alloc::{AllocError, Global};
@@ -19,19 +20,35 @@ enum Word {
     // this many integers, from 1 on
     Ints(i64),
     Read,
+    // the second variable of a `let` of two
+    ReadSecond,
+    // a string of this many letters `a`
+    Letters(usize),
+    // `<e, ..>` of this many
+    Values(usize),
     Tuple(usize),
     List(usize),
     // this many items, and the tail
     Onto(usize),
     // the value and the body of a `let` of the one variable
     Let,
+    // the value and the body of a `let` of two variables
+    LetTwo,
     Do,
     Call(CallKind, usize),
 }
 
-fn variable(alloc: Global) -> Result<Variable, AllocError> {
-    let name = Vec::from_slice(alloc, b"X")?;
+fn variable(alloc: Global, name: &[u8]) -> Result<Variable, AllocError> {
+    let name = Vec::from_slice(alloc, name)?;
     Ok(Variable { at: 0, name })
+}
+
+fn letters(alloc: Global, count: usize) -> Result<Expr, AllocError> {
+    let mut letters = Vec::new(alloc);
+    for _ in 0..count {
+        letters.push('a')?;
+    }
+    Ok(Expr::Text(letters))
 }
 
 fn last(parts: &mut Vec<Expr>) -> Expr {
@@ -54,9 +71,11 @@ fn onto_of(alloc: Global, parts: &mut Vec<Expr>, count: usize) -> Result<Expr, A
     Ok(Expr::Onto(Box::new(alloc, Onto { items, tail })?))
 }
 
-fn let_of(alloc: Global, parts: &mut Vec<Expr>) -> Result<Expr, AllocError> {
+fn let_of(alloc: Global, parts: &mut Vec<Expr>, names: &[&[u8]]) -> Result<Expr, AllocError> {
     let mut variables = Vec::new(alloc);
-    variables.push(variable(alloc)?)?;
+    for name in names {
+        variables.push(variable(alloc, name)?)?;
+    }
     let body = last(parts);
     let value = last(parts);
     let inner = Let {
@@ -82,7 +101,7 @@ fn call_of(
     let arguments = take(alloc, parts, count)?;
     Ok(Expr::Call(Call {
         at: 0,
-        kind,
+        callee: Callee::World(kind),
         arguments,
     }))
 }
@@ -101,11 +120,15 @@ fn put(alloc: Global, parts: &mut Vec<Expr>, word: Word) -> Result<(), AllocErro
             put_integers(parts, count)?;
             Expr::Integer(count)
         }
-        Word::Read => Expr::Variable(variable(alloc)?),
+        Word::Read => Expr::Variable(variable(alloc, b"X")?),
+        Word::ReadSecond => Expr::Variable(variable(alloc, b"Y")?),
+        Word::Letters(count) => letters(alloc, count)?,
+        Word::Values(count) => Expr::Values(take(alloc, parts, count)?),
         Word::Tuple(count) => Expr::Tuple(take(alloc, parts, count)?),
         Word::List(count) => Expr::List(take(alloc, parts, count)?),
         Word::Onto(count) => onto_of(alloc, parts, count)?,
-        Word::Let => let_of(alloc, parts)?,
+        Word::Let => let_of(alloc, parts, &[b"X"])?,
+        Word::LetTwo => let_of(alloc, parts, &[b"X", b"Y"])?,
         Word::Do => do_of(alloc, parts)?,
         Word::Call(kind, count) => call_of(alloc, parts, kind, count)?,
     };
@@ -322,29 +345,78 @@ fn a_thousand_levels_run(rt: HostRuntime) -> Result<(), Fail> {
     Ok(())
 }
 
-// The text of a module whose body is a chain of so many `do`, each the second part of the one before it.
-fn chain(alloc: Global, count: usize) -> Result<Vec<u8>, AllocError> {
-    let head = b"module 'm' ['main'/0] attributes [] 'main'/0 = fun () -> ";
-    let mut text = Vec::from_slice(alloc, head)?;
-    for _ in 0..count {
-        text.extend_from_slice(b"do 'a' ")?;
+// `let <X, Y> = <1, 2> in call(Y, X)`
+const TWO_VALUES: [Word; 7] = [
+    Word::Int(1),
+    Word::Int(2),
+    Word::Values(2),
+    Word::ReadSecond,
+    Word::Read,
+    Word::Call(CallKind::Insert, 2),
+    Word::LetTwo,
+];
+
+const LETTERS: [Word; 2] = [Word::Letters(2), TAKE];
+// 9,999 nodes, and 10,001
+const WHOLE_TEXT: [Word; 1] = [Word::Letters(4_999)];
+
+const LARGE_TEXT: [Word; 1] = [Word::Letters(5_000)];
+
+const TWO: [Word; 3] = [Word::Int(1), Word::Int(2), Word::Values(2)];
+
+const NONE: [Word; 1] = [Word::Values(0)];
+
+const ONE: [Word; 3] = [Word::Int(1), Word::Values(1), TAKE];
+
+const TWO_ARGUMENTS: [Word; 4] = [Word::Int(1), Word::Int(2), Word::Values(2), TAKE];
+
+const TWO_FOR_ONE: [Word; 5] = [
+    Word::Int(1),
+    Word::Int(2),
+    Word::Values(2),
+    Word::Read,
+    Word::Let,
+];
+
+const ONE_FOR_TWO: [Word; 3] = [Word::Int(1), Word::Read, Word::LetTwo];
+
+const DO_NONE: [Word; 3] = [Word::Values(0), Word::Int(7), Word::Do];
+
+#[test]
+fn evaluates_strings_and_values(rt: HostRuntime) -> Result<(), Fail> {
+    let wrong = "{'value_count',[]}";
+    let rows = [
+        (LETTERS.as_slice(), "take [97,97]\n'normal'"),
+        (WHOLE_TEXT.as_slice(), "'normal'"),
+        (LARGE_TEXT.as_slice(), "{'system_limit',[]}"),
+        (TWO_VALUES.as_slice(), "insert 2 1\n'normal'"),
+        (TWO.as_slice(), "'normal'"),
+        (NONE.as_slice(), "'normal'"),
+        (ONE.as_slice(), "take 1\n'normal'"),
+        (TWO_ARGUMENTS.as_slice(), wrong),
+        (TWO_FOR_ONE.as_slice(), wrong),
+        (ONE_FOR_TWO.as_slice(), wrong),
+        (DO_NONE.as_slice(), wrong),
+    ];
+    for (words, want) in rows {
+        let text = asked(rt.alloc(), words)?;
+        assert_eq!(rt; text.as_slice(), want.as_bytes());
     }
-    text.extend_from_slice(b"'a' end")?;
-    Ok(text)
+    Ok(())
 }
 
 #[test]
-fn a_chain_of_do_is_bounded_by_the_reader(rt: HostRuntime) -> Result<(), Fail> {
-    let text = chain(rt.alloc(), 999)?;
-    let program = read_module(rt.alloc(), &text)?;
-    let ran = run_of(rt.alloc(), &program)?;
-    assert_eq!(rt; ran.as_slice(), b"'normal'".as_slice());
-    // The atom in the `do` of level 1,000 opens level 1,001: 57 + 999 * 7 + 3.
-    for count in [1_000, 100_000] {
-        let text = chain(rt.alloc(), count)?;
-        let fault = read_module(rt.alloc(), &text).err();
-        assert_eq!(rt; fault, Some(ReadFault::TooDeep(7_053)), "{count}");
-    }
+fn a_form_that_is_not_evaluated_is_found(rt: HostRuntime) -> Result<(), Fail> {
+    let program = module_of(rt.alloc(), build(rt.alloc(), EACH_PLACE.as_slice())?)?;
+    assert_eq!(rt; first_not_evaluated(&program), None);
+    let value = build(rt.alloc(), EACH_PLACE.as_slice())?;
+    let caught = Expr::Catch(Box::new(rt.alloc(), Catch { at: 70, value })?);
+    let mut parts = Vec::new(rt.alloc());
+    put(rt.alloc(), &mut parts, Word::Int(1))?;
+    parts.push(caught)?;
+    put(rt.alloc(), &mut parts, Word::Do)?;
+    let program = module_of(rt.alloc(), last(&mut parts))?;
+    assert_eq!(rt; first_not_evaluated(&program), Some(70));
     Ok(())
 }
 
