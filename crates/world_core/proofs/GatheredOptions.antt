@@ -1,8 +1,9 @@
 -- The options of a new table, gathered one after another.
 use Rattle.std.proofs.Common.{◌≡◌, Bool, true, false, List, ◌∷◌, Option, Some, None, refl, sym, ap, ◌∙◌}
 use Rattle.std.specs.Prelude.{◌||◌, option_map, unwrap_or}
+use Rattle.std.specs.Option.{option_or}
 use Rattle.term_core.specs.Meaning.{Meaning, Cell}
-use Rattle.world_core.specs.Options.{or_else, option_of, options_of, before_options, protection_in, last_protection, is_named_option, is_named}
+use Rattle.world_core.specs.Options.{option_of, options_of, before_options, protection_in, last_protection, is_named_option, is_named}
 use Rattle.world_core.specs.declared.tables.options.TableOption.{TableOption}
 use Rattle.world_core.specs.declared.tables.options.Protection.{Protection}
 use Rattle.world_core.specs.declared.tables.options.Settings.{Settings}
@@ -11,7 +12,7 @@ use Rattle.world_core.specs.declared.tables.options.Settings.{Settings}
 abbrev pub joined : Settings → List TableOption → Settings
 joined s os = record { protection = unwrap_or (last_protection os) s.protection; is_named = s.is_named || is_named os }
 
-last_of : (o p : Option Protection) (q : Protection) → unwrap_or (or_else o p) q ≡ unwrap_or o (unwrap_or p q)
+last_of : (o p : Option Protection) (q : Protection) → unwrap_or (option_or o p) q ≡ unwrap_or o (unwrap_or p q)
 last_of None p q = refl
 last_of (Some x) p q = refl
 

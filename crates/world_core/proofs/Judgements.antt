@@ -1,7 +1,7 @@
 -- What the next event of a process is that asks a call of a table.
 use Rattle.std.proofs.Common.{◌≡◌, ℕ, List, Option, Some, None, refl, sym, ap, ◌∙◌, option_map, if◌then◌else◌}
-use Rattle.core_reader.specs.declared.call.CallKind.{CallKind}
-use Rattle.core_reader.specs.Syntax.{ModuleTree}
+use Rattle.core_tree.specs.declared.call.CallKind.{CallKind}
+use Rattle.core_tree.specs.Syntax.{ModuleTree}
 use Rattle.term_core.specs.Meaning.{Meaning}
 use Rattle.term_core.specs.declared.step.Step.TheVariants.{Turn}
 use Rattle.world_core.specs.Calls.{TableCall}

@@ -1,13 +1,13 @@
 -- Objects, put in one after another.
 use Rattle.std.proofs.Common.{◌≡◌, ℕ, false, List, [], ◌∷◌, suc, length, map, arith, Option, None, Some, refl, sym, ap, ◌∙◌}
 use Rattle.std.specs.Prelude.{◌==◌, option_map}
+use Rattle.std.specs.Option.{option_or}
 use Rattle.std.proofs.lemmas.Bool.Decides.{nat_tests}
 use Rattle.term_core.specs.Meaning.{Meaning, Group, Cell, group_of}
 use Rattle.term_core.specs.Term.{meaning_of}
 use Rattle.term_core.specs.declared.term.Term.{Term}
 use Rattle.term_core.specs.declared.term.Term.TheVariants.{Int, Atom, Ref, Pid, Tuple, Nil, Cons}
 use Rattle.term_core.specs.declared.term.Terms.{Terms}
-use Rattle.world_core.specs.Options.{or_else}
 use Rattle.world_core.specs.Objects.{tuple_of, before_objects, objects_of, tuples_of, is_short, last_with, replaced}
 use Rattle.world_core.specs.Stored.{objects_under}
 
@@ -27,7 +27,7 @@ puts_in_all (Tuple parts) rows other os is = absurd (other parts refl)
 puts_in_all Nil rows other os is = (os, is, λ key. refl)
 puts_in_all (Cons p) rows other os is = (os, is, λ key. refl)
 
-one_more : (a x : Option Meaning) (before : List Meaning) → replaced a (replaced x before) ≡ replaced (or_else a x) before
+one_more : (a x : Option Meaning) (before : List Meaning) → replaced a (replaced x before) ≡ replaced (option_or a x) before
 one_more None x before = refl
 one_more (Some o) x before = refl
 

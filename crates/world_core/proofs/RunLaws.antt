@@ -1,7 +1,7 @@
 -- What really happens is the history of its schedule.
 use Rattle.std.proofs.Common.{◌≡◌, List, [], ◌∷◌, ◌++◌, Option, Some, None, refl, ap, ◌∙◌, map}
 use Rattle.std.proofs.lemmas.List.{reverse-append}
-use Rattle.core_reader.specs.Syntax.{ModuleTree}
+use Rattle.core_tree.specs.Syntax.{ModuleTree}
 use Rattle.term_core.specs.declared.step.Step.{Step}
 use Rattle.world_core.specs.Events.{Happening, History}
 use Rattle.world_core.specs.Run.{next_event, grown, run_on, run, schedule_of, IsRun}

@@ -1,6 +1,6 @@
 -- The records of the code are what the history tells.
 use Rattle.std.specs.Prelude.{◌≡◌, ℕ, false, List, [], ◌∷◌, ◌++◌, Some}
-use Rattle.core_reader.specs.Syntax.{ModuleTree}
+use Rattle.core_tree.specs.Syntax.{ModuleTree}
 use Rattle.term_core.specs.Meaning.{Meaning}
 use Rattle.core_eval.specs.Ask.{ask}
 use Rattle.core_eval.specs.Asked.{Asked, Answered}

@@ -1,7 +1,7 @@
 -- The calls of tables that are served (ets manual): each with its arguments.
 use Rattle.std.specs.Prelude.{List, [], ◌∷◌, Option, Some, None}
-use Rattle.core_reader.specs.declared.call.CallKind.{CallKind}
-use Rattle.core_reader.specs.declared.call.CallKind.TheVariants as kinds
+use Rattle.core_tree.specs.declared.call.CallKind.{CallKind}
+use Rattle.core_tree.specs.declared.call.CallKind.TheVariants as kinds
 use Rattle.term_core.specs.Meaning.{Meaning}
 
 -- to make a table of this name with these options, to put objects into a table, and to look up the objects under a key

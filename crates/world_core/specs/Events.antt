@@ -1,6 +1,6 @@
 -- What happened in a world: its events, the latest first.
 use Rattle.std.specs.Prelude.{ℕ, List, Option}
-use Rattle.core_reader.specs.declared.call.CallKind.{CallKind}
+use Rattle.core_tree.specs.declared.call.CallKind.{CallKind}
 use Rattle.term_core.specs.Meaning.{Meaning}
 use Rattle.term_core.specs.declared.step.Step.{Step}
 use Rattle.world_core.specs.declared.tables.rule.Rule.{Rule}

@@ -1,8 +1,8 @@
 -- What the laws of histories speak of.
 use Rattle.std.specs.Prelude.{◌≡◌, ℕ, true, List, [], ◌∷◌, Some}
-use Rattle.core_reader.specs.declared.call.CallKind.{CallKind}
-use Rattle.core_reader.specs.declared.call.CallKind.TheVariants as kinds
-use Rattle.core_reader.specs.Syntax.{ModuleTree}
+use Rattle.core_tree.specs.declared.call.CallKind.{CallKind}
+use Rattle.core_tree.specs.declared.call.CallKind.TheVariants as kinds
+use Rattle.core_tree.specs.Syntax.{ModuleTree}
 use Rattle.term_core.specs.Meaning.{Meaning}
 use Rattle.term_core.specs.declared.step.Step.TheVariants.{Turn}
 use Rattle.core_eval.specs.Asked.{Asks}

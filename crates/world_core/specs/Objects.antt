@@ -1,8 +1,8 @@
 -- The objects of a set (ets manual, `insert/2`): tuples, each under its first element.
 use Rattle.std.specs.Prelude.{Bool, false, ◌||◌, List, [], ◌∷◌, Option, Some, None, option_map, is_none, if◌then◌else◌}
+use Rattle.std.specs.Option.{option_or}
 use Rattle.term_core.specs.Meaning.{Meaning, Meanings, Integer, Name, Reference, Process, Group, Empty, Cell, NoMore, Also}
 use Rattle.world_core.specs.Names.{same_term}
-use Rattle.world_core.specs.Options.{or_else}
 
 -- the tuple that a term is
 abbrev pub tuple_of : Meaning → Option Meaning
@@ -75,7 +75,7 @@ one_is_short (object ∷ objects) = is_short object || one_is_short objects
 -- the last of these objects with this key
 abbrev pub last_with : Meaning → List Meaning → Option Meaning
 last_with key [] = None
-last_with key (object ∷ objects) = or_else (last_with key objects) (if has_key key object then Some object else None)
+last_with key (object ∷ objects) = option_or (last_with key objects) (if has_key key object then Some object else None)
 
 -- the objects under a key after these were put in one after the other, where those were there before: in a set the last one replaces what was there
 abbrev pub replaced : Option Meaning → List Meaning → List Meaning

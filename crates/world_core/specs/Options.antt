@@ -1,5 +1,6 @@
 -- The options of a new table (ets manual, `new/2`): `'set'`, the three protections and `'named_table'`, in any order and number.
 use Rattle.std.specs.Prelude.{ℕ, Bool, true, false, ◌||◌, List, [], ◌∷◌, Option, Some, None, option_map, if◌then◌else◌, bytes_eq, codes, unwrap_or}
+use Rattle.std.specs.Option.{option_or}
 use Rattle.term_core.specs.Meaning.{Meaning, Integer, Name, Reference, Process, Group, Empty, Cell}
 use Rattle.world_core.specs.declared.tables.options.TableOption.{TableOption}
 use Rattle.world_core.specs.declared.tables.options.TableOption.TheVariants.{Set, Protects, Named}
@@ -46,15 +47,10 @@ protection_in Set = None
 protection_in (Protects protection) = Some protection
 protection_in Named = None
 
--- the first of two, where it is there
-abbrev pub or_else : {A : Type 0} → Option A → Option A → Option A
-or_else None other = other
-or_else (Some a) other = Some a
-
 -- the last protection that is asked for
 abbrev pub last_protection : List TableOption → Option Protection
 last_protection [] = None
-last_protection (o ∷ os) = or_else (last_protection os) (protection_in o)
+last_protection (o ∷ os) = option_or (last_protection os) (protection_in o)
 
 -- the protection of a table with these options: `'protected'` where none is asked for
 abbrev pub protection_of : List TableOption → Protection

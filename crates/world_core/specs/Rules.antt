@@ -1,9 +1,10 @@
 -- The rules by which a call of a table is served or refused (ets manual; "Access control"): the first that fails, in order.
 use Rattle.std.specs.Prelude.{ℕ, Bool, true, false, ◌&&◌, List, Option, Some, None, is_some, if◌then◌else◌}
+use Rattle.std.specs.Option.{option_or}
 use Rattle.term_core.specs.Meaning.{Meaning, Integer, Name, Reference, Process, Group, Empty, Cell}
 use Rattle.world_core.specs.Names.{same_pid}
 use Rattle.world_core.specs.Calls.{TableCall, New, Insert, Lookup}
-use Rattle.world_core.specs.Options.{options_of, is_named, or_else}
+use Rattle.world_core.specs.Options.{options_of, is_named}
 use Rattle.world_core.specs.Objects.{objects_of, one_is_short}
 use Rattle.world_core.specs.declared.tables.options.TableOption.{TableOption}
 use Rattle.world_core.specs.declared.tables.options.Protection.{Protection}
@@ -47,7 +48,7 @@ is_table_argument (Cell head tail) = false
 -- of a call with a table argument: the argument, what it finds, whether the caller may, and then the rules of the other arguments
 abbrev pub rule_at : Option Found → List ℕ → Class → Option Rule → Option Rule
 rule_at None caller class others = Some NoTable
-rule_at (Some found) caller class others = or_else (allowed class found.protection (same_pid found.owner caller)) others
+rule_at (Some found) caller class others = option_or (allowed class found.protection (same_pid found.owner caller)) others
 
 abbrev pub rule_on : Finder → List ℕ → Class → Meaning → Option Rule → Option Rule
 rule_on find caller class argument others = if is_table_argument argument then rule_at (find argument) caller class others else Some BadTable

@@ -1,7 +1,7 @@
 -- The next event of each step, and the history of a schedule.
 use Rattle.std.specs.Prelude.{◌≡◌, ℕ, Bool, true, false, List, [], ◌∷◌, Option, Some, None, option_map, is_some, not, if◌then◌else◌, codes, map, reverse}
-use Rattle.core_reader.specs.declared.call.CallKind.{CallKind}
-use Rattle.core_reader.specs.Syntax.{ModuleTree}
+use Rattle.core_tree.specs.declared.call.CallKind.{CallKind}
+use Rattle.core_tree.specs.Syntax.{ModuleTree}
 use Rattle.term_core.specs.Meaning.{Meaning}
 use Rattle.term_core.specs.declared.step.Step.{Step}
 use Rattle.term_core.specs.declared.step.Step.TheVariants.{Turn, Deliver}

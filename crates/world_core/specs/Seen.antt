@@ -1,8 +1,8 @@
 -- A world as callers see it: its module, what happened in it, and whether memory was wanting once.
 use Rattle.std.specs.Prelude.{Bool, refl}
 use Rattle.std.specs.Coded.{Coded, code_by, coded×, coded_bool}
-use Rattle.core_reader.specs.Syntax.{ModuleTree}
-use Rattle.core_reader.specs.SyntaxCodes.{coded_module}
+use Rattle.core_tree.specs.Syntax.{ModuleTree}
+use Rattle.core_tree.specs.SyntaxCodes.{coded_module}
 use Rattle.world_core.specs.Events.{History}
 use Rattle.world_core.specs.DeedCodes.{coded_history}
 

@@ -1,6 +1,6 @@
 // What happened in a world.
 use crate::tables::rule::Rule;
-use core_reader::CallKind;
+use core_tree::CallKind;
 use term_core::{Pid, Step, Term, Terms};
 
 /// What a step did.

@@ -1,8 +1,8 @@
 // The laws of histories: what the definitions of turns and tables come to.
 ghost use Rattle.std.specs.Prelude.{◌≡◌, ◌≢◌, ℕ, ◌+◌, ◌≤◌, List, ◌∷◌, length, Some, None, if◌then◌else◌, false};
 ghost use Rattle.core_eval.specs.Ask.{is_first};
-ghost use Rattle.core_reader.specs.Syntax.{ModuleTree};
-ghost use Rattle.core_reader.specs.declared.call.CallKind.{CallKind};
+ghost use Rattle.core_tree.specs.Syntax.{ModuleTree};
+ghost use Rattle.core_tree.specs.declared.call.CallKind.{CallKind};
 ghost use Rattle.term_core.specs.Meaning.{Meaning, Reference};
 ghost use Rattle.term_core.specs.declared.step.Step.TheVariants.{Turn};
 ghost use Rattle.world_core.specs.Calls.{TableCall};

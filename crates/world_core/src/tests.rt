@@ -301,3 +301,27 @@ fn other_steps_are_not_enabled(rt: HostRuntime) -> Result<(), Fail> {
     assert_eq!(rt; again.as_slice(), b"'normal'".as_slice());
     Ok(())
 }
+
+// A chain of so many `do`, each the second part of the one before it.
+fn chain(alloc: Global, count: usize) -> Result<String, AllocError> {
+    let mut body = String::new(alloc);
+    for _ in 0..count {
+        body.push_str("do 'a' ")?;
+    }
+    body.push_str("'a'")?;
+    Ok(body)
+}
+
+#[test]
+fn a_chain_of_do_is_bounded_by_the_reader(rt: HostRuntime) -> Result<(), Fail> {
+    let body = chain(rt.alloc(), 999)?;
+    let text = run(rt.alloc(), body.as_str())?;
+    assert_eq!(rt; text.as_slice(), b"'normal'\n".as_slice());
+    // The atom in the `do` of level 1,000 opens level 1,001: 57 + 999 * 7 + 3.
+    for count in [1_000, 100_000] {
+        let body = chain(rt.alloc(), count)?;
+        let fault = program(rt.alloc(), body.as_str()).err();
+        assert_eq!(rt; fault, Some(ReadFault::TooDeep(7_053)), "{count}");
+    }
+    Ok(())
+}

@@ -1,6 +1,6 @@
 // The turn of a process: the request that it stands at is served, and it runs to the next one.
 ghost use Rattle.std.specs.Prelude.{◌≡◌, ◌++◌, ◌∷◌, ◌+◌, ◌<◌, ◌^◌, true, false, List, IfOk, OnOk, Some, is_some, ◌&&◌, [], codes};
-ghost use Rattle.core_reader.specs.Syntax.{ModuleTree};
+ghost use Rattle.core_tree.specs.Syntax.{ModuleTree};
 ghost use Rattle.term_core.specs.Meaning.{Name};
 ghost use Rattle.term_core.specs.Term.{meaning_of};
 ghost use Rattle.core_eval.specs.Asked.{Answered, Asks};
@@ -22,7 +22,7 @@ use crate::tables::call::{TableCall, table_call};
 use crate::tables::rule::Rule;
 use crate::tables::store::Tables;
 use core_eval::{Answer, Machine, Request};
-use core_reader::CallKind;
+use core_tree::CallKind;
 use std::alloc::{AllocError, Global};
 use term_core::{Atom, Pid, Term, Terms};
 

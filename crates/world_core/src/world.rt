@@ -1,7 +1,7 @@
 // The world of one schedule.
 ghost use Rattle.std.specs.Prelude.{◌≡◌, ◌↔◌, [], true, false, Some, None, IfOk, OnOk, OnErr, IfErr, IsErr, IsSome, MatchResult, Contains, option_map, is_some};
 ghost use Rattle.term_core.specs.declared.step.Step.{Step};
-ghost use Rattle.core_reader.specs.Syntax.{ModuleTree};
+ghost use Rattle.core_tree.specs.Syntax.{ModuleTree};
 ghost use Rattle.world_core.specs.Agreement.{IsProcess};
 ghost use Rattle.world_core.specs.Deeds.{happening_of};
 ghost use Rattle.world_core.specs.Events.{History};
@@ -14,7 +14,7 @@ use crate::process::Process;
 use crate::tables::store::Tables;
 use crate::turn::{is_enabled, turn};
 use core_eval::start;
-use core_reader::Module;
+use core_tree::Module;
 use std::alloc::{AllocError, Global};
 use std::marker::Model;
 use term_core::{Atom, Pid, Step, Terms};

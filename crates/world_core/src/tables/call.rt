@@ -3,7 +3,7 @@ ghost use Rattle.std.specs.Prelude.{◌≡◌, option_map};
 ghost use Rattle.world_core.specs.Calls.{table_call};
 ghost use Rattle.world_core.specs.TableCalls.{call_of};
 
-use core_reader::CallKind;
+use core_tree::CallKind;
 use term_core::{Term, Terms};
 
 /// A call of a table with its arguments.

@@ -1,5 +1,5 @@
 // The options of a new table.
-ghost use Rattle.std.specs.Prelude.{◌≡◌, ◌||◌, option_map, unwrap_or};
+ghost use Rattle.std.specs.Prelude.{◌≡◌, ◌||◌, [], option_map, unwrap_or};
 ghost use Rattle.term_core.specs.Term.{meaning_of};
 ghost use Rattle.world_core.specs.Options.{option_of, options_of, protection_in, is_named_option};
 ghost use Rattle.world_core.specs.Settings.{settings_of, settings_by};
@@ -50,6 +50,16 @@ fn option_of(term: &Term) -> Option<TableOption>
 }
 
 impl Settings {
+    /// The settings where no option asks for anything.
+    fn unasked() -> Settings
+        ensures { result ≡ settings_of [] }
+    {
+        Settings {
+            protection: Protection::Protected,
+            is_named: false,
+        }
+    }
+
     /// The settings with one more option behind the others: a later protection replaces an earlier one.
     fn with(self, option: TableOption) -> Settings
         ensures protection { result.protection ≡ unwrap_or (protection_in option) self.protection }
@@ -71,10 +81,7 @@ impl Settings {
 pub(crate) fn settings_of(options: &Term) -> Option<Settings>
     ensures { result ≡ option_map settings_of (options_of (meaning_of options.now)) }
 {
-    let mut settings = Settings {
-        protection: Protection::Protected,
-        is_named: false,
-    };
+    let mut settings = Settings::unasked();
     let mut rest = options;
     loop {
         match rest {
@@ -94,8 +101,5 @@ pub(crate) fn settings_of(options: &Term) -> Option<Settings>
 pub(crate) fn settings_by(options: &Term) -> Settings
     ensures { result ≡ settings_by (options_of (meaning_of options.now)) }
 {
-    settings_of(options).unwrap_or(Settings {
-        protection: Protection::Protected,
-        is_named: false,
-    })
+    settings_of(options).unwrap_or(Settings::unasked())
 }
