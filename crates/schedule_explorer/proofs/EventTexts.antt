@@ -6,8 +6,8 @@ use Rattle.term_core.specs.Term.{meaning_of}
 use Rattle.term_core.specs.TermText.{text_of_term}
 use Rattle.term_core.specs.declared.term.Term.{Term}
 use Rattle.std.specs.Fmt.{decimal}
-use Rattle.core_reader.specs.declared.call.CallKind.{CallKind}
-use Rattle.core_reader.specs.Calls.{signature}
+use Rattle.core_tree.specs.declared.call.CallKind.{CallKind}
+use Rattle.core_tree.specs.Calls.{signature}
 use Rattle.world_core.specs.declared.tables.rule.Rule.{Rule}
 use Rattle.schedule_explorer.specs.EventText.{behind_comma, text_of_arguments, text_of_call, text_of_rule, number_of_rule, name_of_rule}
 

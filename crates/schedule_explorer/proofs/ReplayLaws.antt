@@ -3,7 +3,7 @@ use Rattle.std.proofs.Common.{◌≡◌, ◌<◌, ◌≤◌, ℕ, ◌+◌, Bool,
 use Rattle.std.specs.Prelude.{Ok, Err}
 use Rattle.std.specs.Io.KnownBytes.{Appends}
 use Rattle.std.proofs.lemmas.List.{at_drop_more, at_drop_all}
-use Rattle.core_reader.specs.Syntax.{ModuleTree}
+use Rattle.core_tree.specs.Syntax.{ModuleTree}
 use Rattle.term_core.specs.Stream.{WritesAll}
 use Rattle.term_core.specs.declared.step.Step.{Step}
 use Rattle.term_core.proofs.Writing.{Owes, owes_all, owes_same, owes_less, owes_nothing, owes_break_in, appends_none}

@@ -1,6 +1,6 @@
 -- Where a replay stops, and what runs before.
 use Rattle.std.proofs.Common.{◌≡◌, ℕ, ◌+◌, List, [], ◌∷◌, take, Option, Some, None, refl, sym, ap, ◌∙◌, add-one, arith}
-use Rattle.core_reader.specs.Syntax.{ModuleTree}
+use Rattle.core_tree.specs.Syntax.{ModuleTree}
 use Rattle.term_core.specs.declared.step.Step.{Step}
 use Rattle.world_core.specs.Events.{Happening, History}
 use Rattle.world_core.specs.Run.{next_event, grown, run_on}

@@ -4,8 +4,8 @@ use Rattle.std.specs.Fmt.{decimal}
 use Rattle.term_core.specs.Meaning.{Meaning}
 use Rattle.term_core.specs.Text.{text_of_pid, text_of_step}
 use Rattle.term_core.specs.TermText.{text_of_term}
-use Rattle.core_reader.specs.declared.call.CallKind.{CallKind}
-use Rattle.core_reader.specs.Calls.{signature}
+use Rattle.core_tree.specs.declared.call.CallKind.{CallKind}
+use Rattle.core_tree.specs.Calls.{signature}
 use Rattle.world_core.specs.Events.{Deed, Serves, Refuses, Ends, RunsAway, TimesOut, Happening, History}
 use Rattle.world_core.specs.declared.tables.rule.Rule.{Rule}
 use Rattle.world_core.specs.declared.tables.rule.Rule.TheVariants.{BadTable, NoTable, PrivateRead, PrivateWrite, ProtectedWrite, BadName, BadOption, NameTaken, NotObject, ShortObject}

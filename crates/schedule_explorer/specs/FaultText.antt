@@ -1,8 +1,8 @@
 -- The line by which a refusal is told, as bytes.
 use Rattle.std.specs.Prelude.{ℕ, List, ◌++◌, codes}
 use Rattle.std.specs.Fmt.{decimal}
-use Rattle.core_reader.specs.declared.fault.ReadFault.{ReadFault}
-use Rattle.core_reader.specs.declared.fault.ReadFault.TheVariants as read
+use Rattle.core_tokens.specs.declared.fault.ReadFault.{ReadFault}
+use Rattle.core_tokens.specs.declared.fault.ReadFault.TheVariants as read
 use Rattle.term_core.specs.declared.schedule.ScheduleFault.{ScheduleFault}
 use Rattle.term_core.specs.declared.schedule.ScheduleFault.TheVariants as schedule
 use Rattle.schedule_explorer.specs.declared.replay_fault.ReplayFault.{ReplayFault}

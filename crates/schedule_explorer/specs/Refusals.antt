@@ -1,5 +1,5 @@
 -- The refusal that a fault of each part becomes.
-use Rattle.core_reader.specs.declared.fault.ReadFault.TheVariants as read
+use Rattle.core_tokens.specs.declared.fault.ReadFault.TheVariants as read
 use Rattle.schedule_explorer.specs.declared.input.InputFault.{InputFault}
 use Rattle.schedule_explorer.specs.declared.input.InputFault.TheVariants as input
 use Rattle.schedule_explorer.specs.declared.replay_fault.ReplayFault.{ReplayFault}

@@ -1,6 +1,6 @@
 -- What a replay of a schedule comes to: as far as its steps are enabled.
 use Rattle.std.specs.Prelude.{◌≡◌, ℕ, ◌+◌, Bool, false, List, [], ◌∷◌, take, Option, Some, None, Result, Ok, Err}
-use Rattle.core_reader.specs.Syntax.{ModuleTree}
+use Rattle.core_tree.specs.Syntax.{ModuleTree}
 use Rattle.term_core.specs.Stream.{AppendsBeginning, WritesAll, BreaksOff}
 use Rattle.term_core.specs.declared.step.Step.{Step}
 use Rattle.world_core.specs.Events.{Happening, History}

@@ -1,7 +1,7 @@
 -- The exit status of a run.
 use Rattle.std.specs.Prelude.{ℕ, Result, Ok, Err}
-use Rattle.core_reader.specs.declared.fault.ReadFault.{ReadFault}
-use Rattle.core_reader.specs.declared.fault.ReadFault.TheVariants as read
+use Rattle.core_tokens.specs.declared.fault.ReadFault.{ReadFault}
+use Rattle.core_tokens.specs.declared.fault.ReadFault.TheVariants as read
 use Rattle.term_core.specs.declared.schedule.ScheduleFault.{ScheduleFault}
 use Rattle.term_core.specs.declared.schedule.ScheduleFault.TheVariants as schedule
 use Rattle.schedule_explorer.specs.declared.replay_fault.ReplayFault.{ReplayFault}

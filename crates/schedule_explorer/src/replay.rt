@@ -1,13 +1,13 @@
 // The replay of one schedule.
 ghost use Rattle.std.specs.Prelude.{◌≡◌, ℕ, false, List, None, Some, OnOk};
-ghost use Rattle.core_reader.specs.Syntax.{ModuleTree};
+ghost use Rattle.core_tree.specs.Syntax.{ModuleTree};
 ghost use Rattle.term_core.specs.declared.step.Step.{Step};
 ghost use Rattle.world_core.specs.Run.{run};
 ghost use Rattle.schedule_explorer.specs.Replay.{Replays, ReplaysStep, StopsAt, reached, stop};
 
 use crate::replay_fault::ReplayFault;
 use crate::transcript::write_event;
-use core_reader::Module;
+use core_tree::Module;
 use std::alloc::Global;
 use term_core::{Sink, Step};
 use world_core::{World, WorldFault};

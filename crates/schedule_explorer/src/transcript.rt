@@ -5,7 +5,7 @@ ghost use Rattle.term_core.specs.Term.{meaning_of};
 ghost use Rattle.world_core.specs.Deeds.{deed_seen, happening_of};
 ghost use Rattle.schedule_explorer.specs.EventText.{number_of_rule, name_of_rule, text_of_rule, text_of_told_owner, text_of_owner, behind_comma, text_of_arguments, text_of_call, text_of_answer, text_of_refusal, text_of_end, text_of_deed, text_of_event};
 
-use core_reader::CallKind;
+use core_tree::CallKind;
 use term_core::{
     Pid, Sink, Term, Terms, WriteFault, write_all, write_number, write_pid, write_step, write_term,
 };

@@ -17,7 +17,7 @@ const LINES: &str =
     "1 P ets:new('t',['named_table']) -> 't'\n2 P ets:insert('t',{'a',1}) -> 'true'\n3 P ets:lookup('t','a') -> [{'a',1}]\n4 P ends 'normal'\n";
 
 // A module and a schedule, the lines that are written, the line of the refusal, and the status.
-const ROWS: [(&str, &str, &str, &str, u8); 11] = [
+const ROWS: [(&str, &str, &str, &str, u8); 14] = [
     (TABLE, TURNS, LINES, "", 0),
     (TABLE, "", "", "", 0),
     (
@@ -57,6 +57,28 @@ const ROWS: [(&str, &str, &str, &str, u8); 11] = [
         "",
         "input: 13 NoMain at 28\n",
         2,
+    ),
+    // a form that is not evaluated yet is told before a schedule that is none
+    (
+        "module 'm' ['main'/0] attributes [] 'main'/0 = fun () -> {1,catch 'x'} end",
+        "P  P",
+        "",
+        "input: 14 UnsupportedForm at 60\n",
+        2,
+    ),
+    (
+        "module 'm' ['main'/0] attributes [] 'main'/0 = fun () -> let <X,Y> = <\"a\",$b> in call 'ets':'lookup'('t',{Y,X}) end",
+        "P P",
+        "1 P ets:lookup('t',{98,[97]}) -> badarg (2 NoTable)\n2 P ends {'badarg',[]}\n",
+        "",
+        0,
+    ),
+    (
+        "module 'm' ['main'/0] attributes [] 'main'/0 = fun () -> ( ( 'ok' -| [] ) -| ['x',1] ) end",
+        "P",
+        "1 P ends 'normal'\n",
+        "",
+        0,
     ),
     // both are refused
     ("module 'm", "P  P", "", "input: 1 BadToken at 7\n", 2),

@@ -1,6 +1,6 @@
 // The lines of events made by hand, byte for byte.
 use super::write_event;
-use core_reader::CallKind;
+use core_tree::CallKind;
 use std::alloc::{AllocError, Global};
 use std::process::Abort;
 use std::test::Fail;
