@@ -1,22 +1,28 @@
 -- What each fault of the grammar says: constants, names, patterns, expressions and clauses.
-use Rattle.std.proofs.Common.{◌≡◌, ℕ, zero, suc, Bool, true, false, cond, List, [], ◌∷◌, length, Option, Some, None, Result, refl, subst, inl, inr}
+use Rattle.std.proofs.Common.{◌≡◌, ℕ, zero, suc, Bool, true, false, cond, List, [], ◌∷◌, length, Option, Some, None, Result, Ok, refl, sym, ap, ◌∙◌, subst, inl, inr}
 use Rattle.std.specs.Prelude.{IfSome, ◌||◌}
 use Rattle.core_tokens.specs.declared.fault.ReadFault.{ReadFault}
 use Rattle.core_tokens.specs.declared.fault.ReadFault.TheVariants.{Expected, HigherOrder, UnsupportedCall, TooDeep, UnsupportedForm}
+use Rattle.core_tokens.specs.declared.token.Mark.{Mark}
 use Rattle.core_tokens.specs.declared.token.Mark.TheVariants as m
 use Rattle.core_tokens.specs.declared.token.Keyword.TheVariants as k
 use Rattle.core_tokens.specs.Piece.{Piece, Shape, A_word, A_mark, An_atom, A_variable, An_integer, A_character, A_text}
 use Rattle.core_tree.specs.Syntax.{Mention, NamedAt, Callee, OfWorld, OfItself, OfExport, OfDefinition, FailsMatch, RaisesAgain, Pattern, Patterns, NumberIn, CharacterIn, TextIn, NameIn, VariableIn, GroupIn, ListIn, JoinIn, AliasIn, NoneToMatch, AlsoMatch, patterns_of, Tree, Trees, Clauses, Number, Character, Text, Name, Mentioned, Grouped, Listed, Joined, Several, Bound, Chosen, Followed, Called, Tried, Caught, NoMore, Also, NoClause, Clause, trees_of, ClauseTree, clauses_of, Constant}
 use Rattle.core_reader.specs.declared.parser.Unserved.{Unserved}
 use Rattle.core_reader.specs.declared.parser.Unserved.TheVariants as unserved
-use Rattle.core_reader.specs.Grammar.{word, Calls, calls_world, calls_itself, calls_export, Operates, fails_match, raises_again}
+use Rattle.core_reader.specs.Grammar.{word, mark, AtomIn, Calls, calls_world, calls_itself, calls_export, Operates, fails_match, raises_again}
 use Rattle.core_tree.specs.Calls.{Signature}
+use Rattle.core_reader.specs.Arguments.{arguments}
+use Rattle.core_reader.specs.UnservedCalls.{within, IsOwn, LacksName, IsNoCall, lacks_module, lacks_function, calls_nothing}
 use Rattle.core_reader.specs.Places.{IsOne, Opens}
-use Rattle.core_reader.specs.Reading.{State, Read, ◌>>=◌, with_pieces, is_word, after_mark, after_word, is_foreign, mark_at, word_at, atom_in, atom_at, named_by, bare_name_at, closed_at, brackets_at, exactly_at, rows_at, begins_constant, deep_constant_of, deep_constant, note_at, in_note_at, constant_tuple_at, constant_list_at, constant_by, constant_form_by, constant_form_at, constant_at, noted_last, noted_by, noted_at, function_name_at, bare_variable_at, variable_at, bare_variables_by, bare_variables_at, variables_at, third_by, bare_caught_at, caught_at, begins_pattern, deep_pattern_of, deep_pattern, pattern_list, pattern_tuple_at, pattern_list_at, pattern_by, pattern_form_by, pattern_form_at, alias_by, alias_at, pattern_at}
+use Rattle.core_reader.specs.Reading.{State, Read, ◌>>=◌, with_pieces, is_mark, is_word, after_mark, after_word, refusal, is_foreign, mark_at, word_at, taken_by, taken, atom_in, atom_at, named_by, bare_name_at, closed_at, brackets_at, exactly_at, rows_at, begins_constant, deep_constant_of, deep_constant, note_at, in_note_at, constant_tuple_at, constant_list_at, constant_by, constant_form_by, constant_form_at, constant_at, noted_last, noted_by, noted_at, function_name_at, bare_variable_at, variable_at, bare_variables_by, bare_variables_at, variables_at, third_by, bare_caught_at, caught_at, begins_pattern, deep_pattern_of, deep_pattern, pattern_list, pattern_tuple_at, pattern_list_at, pattern_by, pattern_form_by, pattern_form_at, alias_by, alias_at, pattern_at}
 use Rattle.core_reader.specs.ReadingForms.{is_function, begins_expression, deep_expression_of, expression_fault_of, deep_expression, expression_fault, callee_fault_of, callee_fault, bare_callee_at, callee_at, applied_fault_of, applied_fault, applied_atom_at, behind_applied_by, bare_applied_at, applied_at, callee_named, operation_named, earlier, judged, tree_list, name_by, Start, OnePattern, ManyPatterns, WholeClause, tuple_at, list_at, values_at, let_at, do_at, apply_at, call_at, primop_at, try_at, catch_at, behind_patterns_at, clause_of, start_by, started, inside_start_at, aliased, noted_start_at, bare_start_by, bare_start_at, start_last, start_next, clause_at, case_at, form_by, form_of, form_at, expression_at, start_at}
-use Rattle.core_reader.proofs.Steps.{after_mark_found}
-use Rattle.core_reader.proofs.CallsByName.{callee_found, operation_found}
-use Rattle.core_reader.proofs.FaultSteps.{Place, Fault, Inside, IsUnservedAt, Good, Fine, fine_bind, cond_fine, refusal_fine, front, here, behind, fault_fine, too_deep_fine, good_at, mark_inside, mark_fine, word_fine, taken_fine, Keeps, atom_fine, named_place, bare_variable_fine, behind_atom_fine, bare_name_fine, Each, closed_fine, Listing, brackets_fine, exactly_fine, rows_fine}
+use Rattle.core_reader.proofs.Steps.{after_mark_found, mark_steps}
+use Rattle.core_reader.proofs.CallsByName.{signed, callee_found, callee_again, operation_found}
+use Rattle.core_reader.proofs.SoundForms.{goes_to, callee_sound}
+use Rattle.core_reader.proofs.BracketSteps.{Walks, closed_count}
+use Rattle.core_reader.proofs.BracketForms.{expression_walks}
+use Rattle.core_reader.proofs.FaultSteps.{piece_at, Place, Fault, Inside, IsUnservedAt, Good, Fine, fine_bind, fine_read, cond_fine, refusal_fine, front, here, behind, fault_fine, too_deep_fine, good_at, mark_inside, mark_fine, word_fine, taken_fine, Keeps, atom_fine, named_place, bare_variable_fine, behind_atom_fine, bare_name_fine, Each, closed_fine, Listing, brackets_fine, exactly_fine, rows_fine}
 
 module _ (all : List Piece) (end : ℕ) where
   abbrev Place' : ℕ → Type 0
@@ -42,6 +48,9 @@ module _ (all : List Piece) (end : ℕ) where
 
   abbrev bind : {A B : Type 0} (r : Result A ReadFault) (f : A → Result B ReadFault) (P : A → Type 0) (Q : B → Type 0) → Fine' r P → ((x : A) → P x → Fine' (f x) Q) → Fine' (r >>= f) Q
   bind r f P Q h g = fine_bind all end r f P Q h g
+
+  abbrev read : {A B : Type 0} (r : Result A ReadFault) (f : A → Result B ReadFault) (P : A → Type 0) (Q : B → Type 0) → Fine' r P → ((x : A) → r ≡ Ok x → P x → Fine' (f x) Q) → Fine' (r >>= f) Q
+  read r f P Q h g = fine_read all end r f P Q h g
 
   -- ---- tokens past the last level
 
@@ -141,11 +150,14 @@ module _ (all : List Piece) (end : ℕ) where
         bind (closed_at inner m.RightBracket s2) _ (λ x. Each' Any' x.0 × Good' x.1) Good' (closed_fine all end inner Any' each m.RightBracket s2 g2) (λ cs gc.
         mark_fine all end m.RightParenthesis cs.1 gc.1)))
 
-    pub in_note_fine : {X : Type 0} (item : State → Read X) (Q : X → Type 0) → Keeps' item Q → Keeps' (in_note_at inner item) Q
+    in_note_here_fine : {X : Type 0} (item : State → Read X) (Q : X → Type 0) (s : State) → Fine' (item s) (λ x. Q x.0 × Good' x.1) → Fine' (in_note_at inner item s) (λ x. Q x.0 × Good' x.1)
     unfolding in_note_at
-    in_note_fine item Q every s g =
-        bind (item s) _ (λ x. Q x.0 × Good' x.1) (λ x. Q x.0 × Good' x.1) (every s g) (λ x gx.
+    in_note_here_fine item Q s h =
+        bind (item s) _ (λ x. Q x.0 × Good' x.1) (λ x. Q x.0 × Good' x.1) h (λ x gx.
         bind (note_at inner x.1) _ Good' (λ x. Q x.0 × Good' x.1) (note_fine x.1 gx.1) (λ s1 g1. (gx.0, g1)))
+
+    pub in_note_fine : {X : Type 0} (item : State → Read X) (Q : X → Type 0) → Keeps' item Q → Keeps' (in_note_at inner item) Q
+    in_note_fine item Q every s g = in_note_here_fine item Q s (every s g)
 
     constant_tuple_fine : Keeps' (constant_tuple_at inner) Any'
     unfolding constant_tuple_at
@@ -180,19 +192,28 @@ module _ (all : List Piece) (end : ℕ) where
 
   -- ---- what may be annotated
 
-  module _ {X : Type 0} (bare : ℕ → State → Read X) (Q : X → Type 0) (each : (n : ℕ) → Keeps' (bare n) Q) where
-    noted_last_fine : (o : Option (List Piece)) (s : State) → after_mark m.LeftParenthesis s.pieces ≡ o → Good' s → Fine' (noted_last bare o s) (λ x. Q x.0 × Good' x.1)
-    noted_last_fine (Some ps) s is g = let f = after_mark_found m.LeftParenthesis s.pieces ps is in too_deep_fine all end s f.0 ps g f.1
-    noted_last_fine None s is g = each 0 s g
+  -- behind all the `(` of annotations stands this
+  module _ {X : Type 0} (bare : ℕ → State → Read X) (Q : X → Type 0) (start : List Piece)
+      (each : (n : ℕ) (s : State) → Good' s → after_mark m.LeftParenthesis s.pieces ≡ None → within s.pieces ≡ start → Fine' (bare n s) (λ x. Q x.0 × Good' x.1)) where
+    noted_last_fine : (o : Option (List Piece)) (s : State) → after_mark m.LeftParenthesis s.pieces ≡ o → within s.pieces ≡ start → Good' s → Fine' (noted_last bare o s) (λ x. Q x.0 × Good' x.1)
+    noted_last_fine (Some ps) s is w g = let f = after_mark_found m.LeftParenthesis s.pieces ps is in too_deep_fine all end s f.0 ps g f.1
+    noted_last_fine None s is w g = each 0 s g is w
 
-    noted_by_fine : (n : ℕ) → Keeps' (noted_at bare n) Q → (o : Option (List Piece)) (s : State) → after_mark m.LeftParenthesis s.pieces ≡ o → Good' s → Fine' (noted_by bare n (noted_at bare n) o s) (λ x. Q x.0 × Good' x.1)
-    noted_by_fine n again (Some ps) s is g = in_note_fine (constant_at n) (constant_fine n) (noted_at bare n) Q again (with_pieces s ps) (good_at all end s ps g (mark_inside all end m.LeftParenthesis s.pieces ps g.inside is))
-    noted_by_fine n again None s is g = each (suc n) s g
+    noted_by_fine : (n : ℕ) → ((s : State) → within s.pieces ≡ start → Good' s → Fine' (noted_at bare n s) (λ x. Q x.0 × Good' x.1)) → (o : Option (List Piece)) (s : State) → after_mark m.LeftParenthesis s.pieces ≡ o → within s.pieces ≡ start → Good' s
+        → Fine' (noted_by bare n (noted_at bare n) o s) (λ x. Q x.0 × Good' x.1)
+    noted_by_fine n again (Some ps) s is w g =
+        let f = after_mark_found m.LeftParenthesis s.pieces ps is in
+        let deeper : within ps ≡ start = sym (ap within f.1) ∙ w in
+        in_note_here_fine (constant_at n) (constant_fine n) (noted_at bare n) Q (with_pieces s ps) (again (with_pieces s ps) deeper (good_at all end s ps g (mark_inside all end m.LeftParenthesis s.pieces ps g.inside is)))
+    noted_by_fine n again None s is w g = each (suc n) s g is w
 
-    pub noted_fine : (n : ℕ) → Keeps' (noted_at bare n) Q
+    pub noted_from_fine : (n : ℕ) (s : State) → within s.pieces ≡ start → Good' s → Fine' (noted_at bare n s) (λ x. Q x.0 × Good' x.1)
     unfolding noted_at
-    noted_fine zero s g = noted_last_fine (after_mark m.LeftParenthesis s.pieces) s refl g
-    noted_fine (suc n) s g = noted_by_fine n (noted_fine n) (after_mark m.LeftParenthesis s.pieces) s refl g
+    noted_from_fine zero s w g = noted_last_fine (after_mark m.LeftParenthesis s.pieces) s refl w g
+    noted_from_fine (suc n) s w g = noted_by_fine n (noted_from_fine n) (after_mark m.LeftParenthesis s.pieces) s refl w g
+
+  pub noted_fine : {X : Type 0} (bare : ℕ → State → Read X) (Q : X → Type 0) → ((n : ℕ) → Keeps' (bare n) Q) → (n : ℕ) → Keeps' (noted_at bare n) Q
+  noted_fine bare Q each n s g = noted_from_fine bare Q (within s.pieces) (λ l s1 g1 none w. each l s1 g1) n s refl g
 
   -- ---- names
 
@@ -368,21 +389,68 @@ module _ (all : List Piece) (end : ℕ) where
 
   -- ---- names of calls
 
-  callee_fault_of_fine : (at stop : ℕ) (ps : List Piece) → IsOne all (word at k.Call) → stop ≡ end → Inside all end ps → Fault' (callee_fault_of at stop ps)
-  callee_fault_of_fine at stop [] h e inside = inr e
-  callee_fault_of_fine at stop (p ∷ ps) h e inside = cond_fine all end (is_function p.shape [] || begins_expression p.shape) (UnsupportedCall at) _ h (foreign_fine p ps inside)
+  -- where no atom and no `(` stands in front of what begins an expression, the name is missing
+  lacks_name : (shape : Shape) (at : ℕ) (ps : List Piece) → atom_in shape ≡ None → cond (is_mark m.LeftParenthesis shape) (Some ps) None ≡ None → (is_function shape [] || begins_expression shape) ≡ true → LacksName (within (record { at = at; shape = shape } ∷ ps))
+  lacks_name (An_integer n) at ps e none is = tt
+  lacks_name (A_character c) at ps e none is = tt
+  lacks_name (A_text cs) at ps e none is = tt
+  lacks_name (A_variable v) at ps e none is = tt
+  lacks_name (An_atom t) at ps e none is = absurd cc
+  lacks_name (A_mark m.LeftBrace) at ps e none is = tt
+  lacks_name (A_mark m.LeftBracket) at ps e none is = tt
+  lacks_name (A_mark m.LeftParenthesis) at ps e none is = absurd cc
+  lacks_name (A_mark m.Less) at ps e none is = tt
+  lacks_name (A_word k.Fun) at ps e none is = tt
+  lacks_name (A_word k.Letrec) at ps e none is = tt
+  lacks_name (A_word k.Let) at ps e none is = tt
+  lacks_name (A_word k.Case) at ps e none is = tt
+  lacks_name (A_word k.Apply) at ps e none is = tt
+  lacks_name (A_word k.Call) at ps e none is = tt
+  lacks_name (A_word k.Primop) at ps e none is = tt
+  lacks_name (A_word k.Do) at ps e none is = tt
+  lacks_name (A_word k.Try) at ps e none is = tt
+  lacks_name (A_word k.Catch) at ps e none is = tt
+  lacks_name (A_word k.Receive) at ps e none is = tt
+  lacks_name shape at ps e none is = absurd cc
 
-  callee_fault_fine : (at : ℕ) (s : State) → IsOne all (word at k.Call) → Good' s → Fault' (callee_fault at s)
-  unfolding callee_fault
-  callee_fault_fine at s h g = refusal_fine all end s.refused (callee_fault_of at s.stop s.pieces) g.refused (callee_fault_of_fine at s.stop s.pieces h g.stop g.inside)
+  -- an atom, or another token where its name is missing
+  callee_by_fine : (at : ℕ) (p : Piece) (ps : List Piece) (s : State) → Good' s → Inside all end (p ∷ ps) → after_mark m.LeftParenthesis (p ∷ ps) ≡ None → (LacksName (within (p ∷ ps)) → Fault' (UnsupportedCall at)) → (o : Option (List ℕ)) → atom_in p.shape ≡ o
+      → Fine' (taken_by o ps s (refusal s.refused (callee_fault_of at s.stop (p ∷ ps)))) (λ x. Any' x.0 × Good' x.1)
+  callee_by_fine at p ps s g inside none h (Some t) e = (tt, good_at all end s ps g (behind all end p ps inside))
+  callee_by_fine at p ps s g inside none h None e = refusal_fine all end s.refused (callee_fault_of at s.stop (p ∷ ps)) g.refused (by (is_function p.shape [] || begins_expression p.shape) refl)
+    where
+      by : (b : Bool) → (is_function p.shape [] || begins_expression p.shape) ≡ b → Fault' (cond b (UnsupportedCall at) (cond (is_foreign p.shape) (UnsupportedForm p.at) (Expected p.at)))
+      by true is = h (lacks_name p.shape p.at ps e none is)
+      by false is = foreign_fine p ps inside
 
-  bare_callee_fine : (at : ℕ) → IsOne all (word at k.Call) → Keeps' (bare_callee_at at) Any'
-  unfolding bare_callee_at
-  bare_callee_fine at h s g = taken_fine all end (λ p. atom_in p.shape) Any' (λ p x i e. tt) s.pieces s (callee_fault at s) g g.inside (callee_fault_fine at s h g)
+  callee_of_fine : (at : ℕ) (qs : List Piece) (s : State) → Good' s → Inside all end qs → after_mark m.LeftParenthesis qs ≡ None → (LacksName (within qs) → Fault' (UnsupportedCall at))
+      → Fine' (taken (λ p. atom_in p.shape) qs s (refusal s.refused (callee_fault_of at s.stop qs))) (λ x. Any' x.0 × Good' x.1)
+  callee_of_fine at [] s g inside none h = refusal_fine all end s.refused (Expected s.stop) g.refused (inr g.stop)
+  callee_of_fine at (p ∷ ps) s g inside none h = callee_by_fine at p ps s g inside none h (atom_in p.shape) refl
 
-  callee_fine : (at n : ℕ) → IsOne all (word at k.Call) → Keeps' (callee_at at n) Any'
+  bare_callee_fine : (at : ℕ) (s : State) → Good' s → after_mark m.LeftParenthesis s.pieces ≡ None → (LacksName (within s.pieces) → Fault' (UnsupportedCall at)) → Fine' (bare_callee_at at s) (λ x. Any' x.0 × Good' x.1)
+  unfolding bare_callee_at callee_fault
+  bare_callee_fine at s g none h = callee_of_fine at s.pieces s g g.inside none h
+
+  -- where no name stands, the call is not served
+  callee_fine : (at n : ℕ) (s : State) → Good' s → (LacksName (within s.pieces) → Fault' (UnsupportedCall at)) → Fine' (callee_at at n s) (λ x. Any' x.0 × Good' x.1)
   unfolding callee_at
-  callee_fine at n h s g = noted_fine (λ _. bare_callee_at at) Any' (λ _. bare_callee_fine at h) n s g
+  callee_fine at n s g h =
+      noted_from_fine (λ _. bare_callee_at at) Any' (within s.pieces) (λ l s1 g1 none w. bare_callee_fine at s1 g1 none (λ lacks. h (subst (λ (qs : List Piece). LacksName qs) w lacks))) n s refl g
+
+  -- an atom of a call and the mark behind it
+  atom_then : (x : Mark) (at n : ℕ) (s : State) (a : List ℕ) (t u : State) → callee_at at n s ≡ Ok (a, t) → mark_at x t ≡ Ok u → (bt : ℕ) × AtomIn n s.pieces a (mark bt x ∷ u.pieces)
+  atom_then x at n s a t u e f =
+      let step = mark_steps x t u f in
+      let spelt = callee_sound {left = t.refused} at n s a t e refl in
+      (step.at, goes_to (AtomIn n) s.pieces t.pieces (mark step.at x ∷ u.pieces) a step.pieces spelt.1)
+
+  found_nowhere : (o : Option Callee) (callee : Callee) → o ≡ Some callee → o ≡ None → ⊥
+  found_nowhere o callee e f = cc
+
+  -- what is not found by names and the number of arguments is not called
+  nothing_called : (own a f : List ℕ) (count items : ℕ) → count ≡ items → callee_named own a f items ≡ None → (callee : Callee) → ¬ (Calls own (signed a f count) callee)
+  nothing_called own a f count items same none callee h = found_nowhere (callee_named own a f count) callee (callee_again own (signed a f count) callee h) (ap (λ (i : ℕ). callee_named own a f i) same ∙ none)
 
   applied_fault_of_fine : (stop : ℕ) (ps : List Piece) → stop ≡ end → Inside all end ps → Fault' (applied_fault_of stop ps)
   applied_fault_of_fine stop [] e inside = inr e
@@ -395,11 +463,7 @@ module _ (all : List Piece) (end : ℕ) where
   applied_atom_fine : Keeps' applied_atom_at (λ x. Place' x.0)
   unfolding applied_atom_at
   applied_atom_fine s g =
-      taken_fine all end (λ p. named_by p.at p.shape) (λ x. Place' x.0) (λ p x h e. subst (λ (at : ℕ). Place' at) (named_place all end p.at p.shape x e) (here all end p [] (only p h))) s.pieces s (applied_fault s) g g.inside (applied_fault_fine s g)
-    where
-      only : (p : Piece) → IsOne all p → Inside all end (p ∷ [])
-      only p h q (inl e) = subst (λ (x : Piece). IsOne all x) e h
-      only p h q (inr i) = absurd i
+      taken_fine all end (λ p. named_by p.at p.shape) (λ x. Place' x.0) (λ p x h e. subst (λ (at : ℕ). Place' at) (named_place all end p.at p.shape x e) (inl (piece_at all p h))) s.pieces s (applied_fault s) g g.inside (applied_fault_fine s g)
 
   behind_applied_fine : (at : ℕ) (t : List ℕ) (o : Option (List Piece)) (s : State) → Place' at → Good' s → Fine' (behind_applied_by at t o s) (λ x. NamePlaced' x.0 × Good' x.1)
   behind_applied_fine at t (Some ps) s h g = refusal_fine all end s.refused (HigherOrder at) g.refused h
@@ -425,9 +489,9 @@ module _ (all : List Piece) (end : ℕ) where
       by true = h
       by false = g
 
-  judged_fine : (at : ℕ) (u : Unserved) (o : Option Callee) (ts : List Tree) (s : State) → IsUnservedAt all end u → ((c : Callee) → o ≡ Some c → CalleeAt at c) → Each' TreeAt ts → Good' s → Fine' (judged at u o ts s) (λ x. TreeAt x.0 × Good' x.1)
+  judged_fine : (at : ℕ) (u : Unserved) (o : Option Callee) (ts : List Tree) (s : State) → (o ≡ None → IsUnservedAt all end u) → ((c : Callee) → o ≡ Some c → CalleeAt at c) → Each' TreeAt ts → Good' s → Fine' (judged at u o ts s) (λ x. TreeAt x.0 × Good' x.1)
   judged_fine at u (Some c) ts s h p q g = ((p c refl, trees_at ts q), g)
-  judged_fine at u None ts s h p q g = (tt, record { stop = g.stop; inside = g.inside; refused = earlier_fine u s.refused h g.refused })
+  judged_fine at u None ts s h p q g = (tt, record { stop = g.stop; inside = g.inside; refused = earlier_fine u s.refused (h refl) g.refused })
 
   called_at : (own : List ℕ) (at : ℕ) (s : Signature) (c : Callee) → Place' at → IsOne all (word at k.Call) → Calls own s c → CalleeAt at c
   called_at own at s c p h (calls_world r) = p
@@ -438,7 +502,7 @@ module _ (all : List Piece) (end : ℕ) where
   operates_at at t n c p fails_match = p
   operates_at at t n c p raises_again = p
 
-  module _ (own : List ℕ) (n : ℕ) (inner : State → Read Tree) (each : Keeps' inner TreeAt) where
+  module _ (own : List ℕ) (owned : IsOwn all own) (n : ℕ) (inner : State → Read Tree) (each : Keeps' inner TreeAt) (walks : Walks inner) where
     tuple_fine : Keeps' (tuple_at own n inner) TreeAt
     unfolding tuple_at
     tuple_fine s g = bind (closed_at inner m.RightBrace s) _ (λ x. Each' TreeAt x.0 × Good' x.1) (λ x. TreeAt x.0 × Good' x.1) (closed_fine all end inner TreeAt each m.RightBrace s g) (λ x gx. (trees_at x.0 gx.0, gx.1))
@@ -478,15 +542,22 @@ module _ (all : List Piece) (end : ℕ) where
         bind (exactly_at inner true f.0.function.arity s1) _ (λ x. Each' TreeAt x.0 × Good' x.1) (λ x. TreeAt x.0 × Good' x.1) (exactly_fine all end inner TreeAt each true f.0.function.arity s1 g1) (λ ts gt.
         bind (mark_at m.RightParenthesis ts.1) _ Good' (λ x. TreeAt x.0 × Good' x.1) (mark_fine all end m.RightParenthesis ts.1 gt.1) (λ s2 g2. (((p, gf.0), trees_at ts.0 gt.0), g2)))))
 
-    call_fine : (at : ℕ) → Place' at → IsOne all (word at k.Call) → Keeps' (call_at own n inner at) TreeAt
+    call_fine : (at : ℕ) → Place' at → (s : State) → Inside all end (word at k.Call ∷ s.pieces) → Good' s → Fine' (call_at own n inner at s) (λ x. TreeAt x.0 × Good' x.1)
     unfolding call_at
-    call_fine at p h s g =
-        bind (callee_at at n s) _ (λ x. Any' x.0 × Good' x.1) (λ x. TreeAt x.0 × Good' x.1) (callee_fine at n h s g) (λ a ga.
-        bind (mark_at m.Colon a.1) _ Good' (λ x. TreeAt x.0 × Good' x.1) (mark_fine all end m.Colon a.1 ga.1) (λ s1 g1.
-        bind (callee_at at n s1) _ (λ x. Any' x.0 × Good' x.1) (λ x. TreeAt x.0 × Good' x.1) (callee_fine at n h s1 g1) (λ f gf.
-        bind (mark_at m.LeftParenthesis f.1) _ Good' (λ x. TreeAt x.0 × Good' x.1) (mark_fine all end m.LeftParenthesis f.1 gf.1) (λ s2 g2.
-        bind (closed_at inner m.RightParenthesis s2) _ (λ x. Each' TreeAt x.0 × Good' x.1) (λ x. TreeAt x.0 × Good' x.1) (closed_fine all end inner TreeAt each m.RightParenthesis s2 g2) (λ ts gt.
-        judged_fine at (unserved.Call at) (callee_named own a.0 f.0 (length ts.0)) ts.0 ts.1 h (λ c is. called_at own at _ c p h (callee_found own a.0 f.0 (length ts.0) c is)) gt.0 gt.1)))))
+    call_fine at p s o g =
+        let one = front all end (word at k.Call) s.pieces o in
+        let unserved_by : IsNoCall own s.pieces → Fault' (UnsupportedCall at) = λ h. (one, record { own = own; before = o.0; behind = s.pieces; named = owned; stands = o.1; unserved = h }) in
+        read (callee_at at n s) _ (λ x. Any' x.0 × Good' x.1) (λ x. TreeAt x.0 × Good' x.1) (callee_fine at n s g (λ l. unserved_by (lacks_module l))) (λ a ea ga.
+        read (mark_at m.Colon a.1) _ Good' (λ x. TreeAt x.0 × Good' x.1) (mark_fine all end m.Colon a.1 ga.1) (λ s1 e1 g1.
+        let first = atom_then m.Colon at n s a.0 a.1 s1 ea e1 in
+        read (callee_at at n s1) _ (λ x. Any' x.0 × Good' x.1) (λ x. TreeAt x.0 × Good' x.1) (callee_fine at n s1 g1 (λ l. unserved_by (lacks_function n first.1 l))) (λ f ef gf.
+        read (mark_at m.LeftParenthesis f.1) _ Good' (λ x. TreeAt x.0 × Good' x.1) (mark_fine all end m.LeftParenthesis f.1 gf.1) (λ s2 e2 g2.
+        let second = atom_then m.LeftParenthesis at n s1 f.0 f.1 s2 ef e2 in
+        read (closed_at inner m.RightParenthesis s2) _ (λ x. Each' TreeAt x.0 × Good' x.1) (λ x. TreeAt x.0 × Good' x.1) (closed_fine all end inner TreeAt each m.RightParenthesis s2 g2) (λ ts et gt.
+        let count : arguments s2.pieces ≡ length ts.0 = closed_count inner walks s2 ts.0 ts.1 et in
+        judged_fine at (unserved.Call at) (callee_named own a.0 f.0 (length ts.0)) ts.0 ts.1
+        (λ none. unserved_by (calls_nothing n first.1 second.1 (nothing_called own a.0 f.0 (arguments s2.pieces) (length ts.0) count none)))
+        (λ c is. called_at own at _ c p one (callee_found own a.0 f.0 (length ts.0) c is)) gt.0 gt.1)))))
 
     primop_fine : (at : ℕ) → Place' at → IsOne all (word at k.Primop) → Keeps' (primop_at own n inner at) TreeAt
     unfolding primop_at
@@ -494,7 +565,7 @@ module _ (all : List Piece) (end : ℕ) where
         bind (atom_at s) _ (λ x. Any' x.0 × Good' x.1) (λ x. TreeAt x.0 × Good' x.1) (atom_fine all end s g) (λ a ga.
         bind (mark_at m.LeftParenthesis a.1) _ Good' (λ x. TreeAt x.0 × Good' x.1) (mark_fine all end m.LeftParenthesis a.1 ga.1) (λ s1 g1.
         bind (closed_at inner m.RightParenthesis s1) _ (λ x. Each' TreeAt x.0 × Good' x.1) (λ x. TreeAt x.0 × Good' x.1) (closed_fine all end inner TreeAt each m.RightParenthesis s1 g1) (λ ts gt.
-        judged_fine at (unserved.Primop at) (operation_named a.0 (length ts.0)) ts.0 ts.1 h (λ c is. operates_at at a.0 (length ts.0) c p (operation_found a.0 (length ts.0) c is)) gt.0 gt.1)))
+        judged_fine at (unserved.Primop at) (operation_named a.0 (length ts.0)) ts.0 ts.1 (λ none. h) (λ c is. operates_at at a.0 (length ts.0) c p (operation_found a.0 (length ts.0) c is)) gt.0 gt.1)))
 
     try_fine : (at : ℕ) → Keeps' (try_at own n inner at) TreeAt
     unfolding try_at
@@ -575,7 +646,7 @@ module _ (all : List Piece) (end : ℕ) where
           bind (rows_at (clause_at own n inner start) c.1) _ (λ x. Each' ClauseAt x.0 × Good' x.1) (λ x. TreeAt x.0 × Good' x.1) (rows_fine all end (clause_at own n inner start) ClauseAt clause_fine c.1 gc.1) (λ cs gcs.
           bind (word_at k.End cs.1) _ Good' (λ x. TreeAt x.0 × Good' x.1) (word_fine all end k.End cs.1 gcs.1) (λ s2 g2. ((gt.0, (gc.0.0, gc.0.1, gc.0.2, clauses_at cs.0 gcs.0)), g2))))))
 
-      form_by_fine : (at : ℕ) (shape : Shape) (ps : List Piece) (s : State) → IsOne all (record { at = at; shape = shape }) → Place' at → Good' s → Good' (with_pieces s ps) → Fine' (form_by own n inner start at shape ps s) (λ x. TreeAt x.0 × Good' x.1)
+      form_by_fine : (at : ℕ) (shape : Shape) (ps : List Piece) (s : State) → Inside all end (record { at = at; shape = shape } ∷ ps) → Place' at → Good' s → Good' (with_pieces s ps) → Fine' (form_by own n inner start at shape ps s) (λ x. TreeAt x.0 × Good' x.1)
       form_by_fine at (An_integer i) ps s o p g h = (tt, h)
       form_by_fine at (A_character i) ps s o p g h = (tt, h)
       form_by_fine at (A_text i) ps s o p g h = (tt, h)
@@ -589,15 +660,15 @@ module _ (all : List Piece) (end : ℕ) where
       form_by_fine at (A_word k.Case) ps s o p g h = case_fine at (with_pieces s ps) h
       form_by_fine at (A_word k.Do) ps s o p g h = do_fine (with_pieces s ps) h
       form_by_fine at (A_word k.Apply) ps s o p g h = apply_fine at p (with_pieces s ps) h
-      form_by_fine at (A_word k.Call) ps s o p g h = call_fine at p o (with_pieces s ps) h
-      form_by_fine at (A_word k.Primop) ps s o p g h = primop_fine at p o (with_pieces s ps) h
+      form_by_fine at (A_word k.Call) ps s o p g h = call_fine at p (with_pieces s ps) o h
+      form_by_fine at (A_word k.Primop) ps s o p g h = primop_fine at p (front all end (word at k.Primop) ps o) (with_pieces s ps) h
       form_by_fine at (A_word k.Try) ps s o p g h = try_fine at (with_pieces s ps) h
       form_by_fine at (A_word k.Catch) ps s o p g h = catch_fine at (with_pieces s ps) h
       form_by_fine at shape ps s o p g h = expression_fault_fine s g
 
       form_of_fine : (ps : List Piece) (s : State) → Good' s → Inside all end ps → Fine' (form_of own n inner start ps s) (λ x. TreeAt x.0 × Good' x.1)
       form_of_fine [] s g inside = expression_fault_fine s g
-      form_of_fine (p ∷ ps) s g inside = form_by_fine p.at p.shape ps s (front all end p ps inside) (here all end p ps inside) g (good_at all end s ps g (behind all end p ps inside))
+      form_of_fine (p ∷ ps) s g inside = form_by_fine p.at p.shape ps s inside (here all end p ps inside) g (good_at all end s ps g (behind all end p ps inside))
 
       form_fine : Keeps' (form_at own n inner start) TreeAt
       unfolding form_at
@@ -623,9 +694,9 @@ module _ (all : List Piece) (end : ℕ) where
   start_last_fine (Some ps) s is g = let f = after_mark_found m.LeftParenthesis s.pieces ps is in too_deep_fine all end s f.0 ps g f.1
   start_last_fine None s is g = bare_start_fine 0 s g
 
-  module _ (own : List ℕ) where
+  module _ (own : List ℕ) (owned : IsOwn all own) where
     start_next_fine : (n : ℕ) → Keeps' (expression_at own n) TreeAt → Keeps' (start_at own n) Starting → (o : Option (List Piece)) (s : State) → after_mark m.LeftParenthesis s.pieces ≡ o → Good' s → Fine' (start_next own n (expression_at own n) (start_at own n) o s) (λ y. Starting y.0 × Good' y.1)
-    start_next_fine n each starts (Some ps) s is g = noted_start_fine own n (expression_at own n) each (start_at own n) starts (with_pieces s ps) (good_at all end s ps g (mark_inside all end m.LeftParenthesis s.pieces ps g.inside is))
+    start_next_fine n each starts (Some ps) s is g = noted_start_fine own owned n (expression_at own n) each (expression_walks own n) (start_at own n) starts (with_pieces s ps) (good_at all end s ps g (mark_inside all end m.LeftParenthesis s.pieces ps g.inside is))
     start_next_fine n each starts None s is g = bare_start_fine (suc n) s g
 
     both_fine : (n : ℕ) → Keeps' (expression_at own n) TreeAt × Keeps' (start_at own n) Starting
@@ -633,7 +704,7 @@ module _ (all : List Piece) (end : ℕ) where
     both_fine zero = (λ s g. deep_expression_fine s g, λ s g. start_last_fine (after_mark m.LeftParenthesis s.pieces) s refl g)
     both_fine (suc n) =
         let h = both_fine n in
-        (λ s g. form_fine own n (expression_at own n) h.0 (start_at own n) h.1 s g, λ s g. start_next_fine n h.0 h.1 (after_mark m.LeftParenthesis s.pieces) s refl g)
+        (λ s g. form_fine own owned n (expression_at own n) h.0 (expression_walks own n) (start_at own n) h.1 s g, λ s g. start_next_fine n h.0 h.1 (after_mark m.LeftParenthesis s.pieces) s refl g)
 
     pub expression_fine : (n : ℕ) → Keeps' (expression_at own n) TreeAt
     expression_fine n = (both_fine n).0

@@ -1,5 +1,5 @@
 -- What each fault of the grammar says: steps and lists.
-use Rattle.std.proofs.Common.{◌≡◌, ℕ, zero, suc, Bool, true, false, cond, List, [], ◌∷◌, length, Option, Some, None, Result, Ok, Err, refl, sym, ap, subst, inl, inr}
+use Rattle.std.proofs.Common.{◌≡◌, ℕ, zero, suc, Bool, true, false, cond, List, [], ◌∷◌, ◌++◌, length, Option, Some, None, Result, Ok, Err, refl, sym, ap, ◌∙◌, subst, inl, inr, append_assoc}
 use Rattle.std.specs.Prelude.{IfSome}
 use Rattle.core_tokens.specs.declared.fault.ReadFault.{ReadFault}
 use Rattle.core_tokens.specs.declared.fault.ReadFault.TheVariants.{Expected, HigherOrder, UnsupportedCall, TooDeep, UnsupportedForm}
@@ -12,21 +12,25 @@ use Rattle.core_tree.specs.Syntax.{Mention, NamedAt}
 use Rattle.core_reader.specs.declared.parser.Unserved.{Unserved}
 use Rattle.core_reader.specs.declared.parser.Unserved.TheVariants as unserved
 use Rattle.core_reader.specs.Grammar.{word}
+use Rattle.core_reader.specs.UnservedCalls.{UnservedCallAt}
 use Rattle.core_reader.specs.Places.{IsOne, IsAt, IsPlace, OpensAt}
 use Rattle.core_reader.specs.Reading.{State, Read, ◌>>=◌, with_pieces, is_mark, is_word, after_mark, after_word, fault_of_unserved, refusal, is_foreign, fault_of, fault, place_of, too_deep, passed, mark_at, word_at, taken_by, taken, atom_in, atom_at, named_by, placed_atom_at, arity_in, arity_at, mention_by, bare_variable_at, behind_atom_at, bare_name_at, comma_at, more_at, commas_at, items_at, closed_by, closed_at, tail_at, brackets_by, brackets_at, item_of, exactly_at, row_by, row_at, rows_at}
 
--- no token at all
-piece_at : (ps : List Piece) (p : Piece) → IsOne ps p → IsAt ps p.at
+pub piece_at : (ps : List Piece) (p : Piece) → IsOne ps p → IsAt ps p.at
 piece_at [] p h = absurd h
 piece_at (q ∷ qs) p (inl e) = inl (ap (λ (x : Piece). x.at) e)
 piece_at (q ∷ qs) p (inr h) = inr (piece_at qs p h)
+
+one_behind : (before ps : List Piece) (p : Piece) → IsOne ps p → IsOne (before ++ ps) p
+one_behind [] ps p h = h
+one_behind (q ∷ qs) ps p h = inr (one_behind qs ps p h)
 
 -- what a fault of the grammar says
 abbrev pub IsGrammarFault : List Piece → ℕ → ReadFault → Type 0
 IsGrammarFault ps length (Expected at) = IsPlace ps length at
 IsGrammarFault ps length (HigherOrder at) = IsPlace ps length at
 IsGrammarFault ps length (UnsupportedForm at) = IsPlace ps length at
-IsGrammarFault ps length (UnsupportedCall at) = IsOne ps (word at k.Call)
+IsGrammarFault ps length (UnsupportedCall at) = IsOne ps (word at k.Call) × UnservedCallAt ps at
 IsGrammarFault ps length (TooDeep at) = OpensAt ps at
 IsGrammarFault ps length f = ⊥
 
@@ -37,13 +41,17 @@ module _ (all : List Piece) (end : ℕ) where
   abbrev pub Fault : ReadFault → Type 0
   Fault f = IsGrammarFault all end f
 
-  -- tokens of the text
+  -- the last tokens of the text
   abbrev pub Inside : List Piece → Type 0
-  Inside ps = (p : Piece) → IsOne ps p → IsOne all p
+  Inside ps = (before : List Piece) × (all ≡ before ++ ps)
+
+  -- each of them is a token of the text
+  pub holds : (ps : List Piece) → Inside ps → (p : Piece) → IsOne ps p → IsOne all p
+  holds ps inside p h = subst (λ (qs : List Piece). IsOne qs p) (sym inside.1) (one_behind inside.0 ps p h)
 
   -- what is not served begins with its word
   abbrev pub IsUnservedAt : Unserved → Type 0
-  IsUnservedAt (unserved.Call at) = IsOne all (word at k.Call)
+  IsUnservedAt (unserved.Call at) = IsOne all (word at k.Call) × UnservedCallAt all at
   IsUnservedAt (unserved.Primop at) = IsOne all (word at k.Primop)
 
   pub record Good (s : State) : Type 0 where
@@ -58,6 +66,11 @@ module _ (all : List Piece) (end : ℕ) where
   pub fine_bind : {A B : Type 0} (r : Result A ReadFault) (f : A → Result B ReadFault) (P : A → Type 0) (Q : B → Type 0) → Fine r P → ((x : A) → P x → Fine (f x) Q) → Fine (r >>= f) Q
   fine_bind (Ok x) f P Q h g = g x h
   fine_bind (Err e) f P Q h g = h
+
+  -- the same, where what is read on is known to be what was read
+  pub fine_read : {A B : Type 0} (r : Result A ReadFault) (f : A → Result B ReadFault) (P : A → Type 0) (Q : B → Type 0) → Fine r P → ((x : A) → r ≡ Ok x → P x → Fine (f x) Q) → Fine (r >>= f) Q
+  fine_read (Ok x) f P Q h g = g x refl h
+  fine_read (Err e) f P Q h g = h
 
   -- ---- faults
 
@@ -77,13 +90,13 @@ module _ (all : List Piece) (end : ℕ) where
   refusal_fine (Some u) f p h = unserved_fault u p
 
   pub front : (p : Piece) (ps : List Piece) → Inside (p ∷ ps) → IsOne all p
-  front p ps inside = inside p (inl refl)
+  front p ps inside = holds (p ∷ ps) inside p (inl refl)
 
   pub here : (p : Piece) (ps : List Piece) → Inside (p ∷ ps) → Place p.at
   here p ps inside = inl (piece_at all p (front p ps inside))
 
   pub behind : (p : Piece) (ps : List Piece) → Inside (p ∷ ps) → Inside ps
-  behind p ps inside q h = inside q (inr h)
+  behind p ps inside = (inside.0 ++ p ∷ [], inside.1 ∙ sym (append_assoc inside.0 (p ∷ []) ps))
 
   pub fault_of_fine : (stop : ℕ) (ps : List Piece) → stop ≡ end → Inside ps → Fault (fault_of stop ps)
   fault_of_fine stop [] e inside = inr e
@@ -100,7 +113,7 @@ module _ (all : List Piece) (end : ℕ) where
       let p : Piece = record { at = at; shape = A_mark m.LeftParenthesis } in
       let one : IsOne s.pieces p = subst (λ (qs : List Piece). IsOne qs p) (sym e) (inl refl) in
       let place : at ≡ place_of s.stop s.pieces = sym (ap (place_of s.stop) e) in
-      refusal_fine s.refused (TooDeep (place_of s.stop s.pieces)) g.refused (p, g.inside p one, place, tt)
+      refusal_fine s.refused (TooDeep (place_of s.stop s.pieces)) g.refused (p, holds s.pieces g.inside p one, place, tt)
 
   -- ---- steps
 

@@ -10,6 +10,8 @@ pub mod SoundNames
 pub mod SoundPatterns
 pub mod SoundForms
 pub mod SoundModules
+pub mod BracketSteps
+pub mod BracketForms
 pub mod CompleteLists
 pub mod CompleteNames
 pub mod CompletePatterns
@@ -25,6 +27,11 @@ pub mod FaultSteps
 pub mod FaultForms
 pub mod FaultModules
 pub mod ScopeFaultLaws
+pub mod DeepLists
+pub mod DeepNames
+pub mod DeepForms
+pub mod DeepClauses
+pub mod DeepModules
 pub mod FaultLaws
 pub mod WholeLaws
 pub mod WithinText

@@ -21,37 +21,37 @@ goes_to Item ps p1 p2 x e h = subst (λ (qs : List Piece). Item ps x qs) e h
 
 -- ---- names of calls
 
-bare_callee_sound : (at : ℕ) → Sound (bare_callee_at at) BareAtom
+pub bare_callee_sound : {left : Option Unserved} (at : ℕ) → Sound left (bare_callee_at at) BareAtom
 unfolding bare_callee_at
 bare_callee_sound at s a t e done =
     let h = atom_of_front s a t (taken_ok (λ p. atom_in p.shape) s (callee_fault at s) a t e) in
     (h.back done, at_front BareAtom s.pieces (atom h.at a ∷ t.pieces) a t.pieces h.pieces is_the_atom)
 
-callee_sound : (at n : ℕ) → Sound (callee_at at n) (AtomIn n)
+pub callee_sound : {left : Option Unserved} (at n : ℕ) → Sound left (callee_at at n) (AtomIn n)
 unfolding callee_at
 callee_sound at n s a t e done = noted_sound (λ _. bare_callee_at at) (λ _. BareAtom) (λ _. bare_callee_sound at) n s a t e done
 
-applied_atom_steps : (s : State) (a : ℕ × List ℕ) (t : State) → applied_atom_at s ≡ Ok (a, t) → (s.pieces ≡ atom a.0 a.1 ∷ t.pieces) × (t.refused ≡ None → s.refused ≡ None)
+applied_atom_steps : (s : State) (a : ℕ × List ℕ) (t : State) → applied_atom_at s ≡ Ok (a, t) → (s.pieces ≡ atom a.0 a.1 ∷ t.pieces) × (s.refused ≡ t.refused)
 unfolding applied_atom_at
 applied_atom_steps s a t e =
     let h = taken_ok (λ p. named_by p.at p.shape) s (applied_fault s) a t e in
     let n = named_by_some h.front.at h.front.shape a h.is in
     let piece : h.front ≡ atom a.0 a.1 = ap (λ (x : Shape). record { at = h.front.at; shape = x }) n.0 ∙ ap (λ (at : ℕ). atom at a.1) n.1 in
-    (h.pieces ∙ ap (λ (q : Piece). q ∷ t.pieces) piece, h.back)
+    (h.pieces ∙ ap (λ (q : Piece). q ∷ t.pieces) piece, h.back refl)
 
-behind_applied_sound : (at : ℕ) (a : List ℕ) (ps : List Piece) (o : Option (List Piece)) (s : State) (x : NamedAt) (t : State) → ps ≡ atom at a ∷ s.pieces → behind_applied_by at a o s ≡ Ok (x, t) → t.refused ≡ None → (s.refused ≡ None) × BareName ps x t.pieces
+behind_applied_sound : {left : Option Unserved} (at : ℕ) (a : List ℕ) (ps : List Piece) (o : Option (List Piece)) (s : State) (x : NamedAt) (t : State) → ps ≡ atom at a ∷ s.pieces → behind_applied_by at a o s ≡ Ok (x, t) → t.refused ≡ left → (s.refused ≡ left) × BareName ps x t.pieces
 behind_applied_sound at a ps (Some qs) s x t is e done = absurd cc
 behind_applied_sound at a ps None s x t is e done = behind_atom_sound at a ps s x t is e done
 
-bare_applied_sound : Sound bare_applied_at BareName
+pub bare_applied_sound : {left : Option Unserved} → Sound left bare_applied_at BareName
 unfolding bare_applied_at
 bare_applied_sound s x t e done =
     let a = bind_ok _ _ _ e in
     let h0 = applied_atom_steps s a.0.0 a.0.1 a.1 in
     let h = behind_applied_sound a.0.0.0 a.0.0.1 s.pieces (after_mark m.LeftParenthesis a.0.1.pieces) a.0.1 x t h0.0 a.2 done in
-    (h0.1 h.0, h.1)
+    (h0.1 ∙ h.0, h.1)
 
-applied_sound : (n : ℕ) → Sound (applied_at n) (FunctionName n)
+pub applied_sound : {left : Option Unserved} (n : ℕ) → Sound left (applied_at n) (FunctionName n)
 unfolding applied_at
 applied_sound n s x t e done = noted_sound (λ _. bare_applied_at) (λ _. BareName) (λ _. bare_applied_sound) n s x t e done
 
@@ -81,7 +81,7 @@ judged_sound at u None ts s c t e done =
     let none : (refuse u s).refused ≡ None = ap (λ (r : Tree × State). r.1.refused) same ∙ done in
     absurd (something (earlier u s.refused) none)
 
-module _ (own : List ℕ) (n : ℕ) (inner : State → Read Tree) (Inner : List Piece → Tree → List Piece → Type 0) (each : Sound inner Inner) where
+module _ (own : List ℕ) (n : ℕ) (inner : State → Read Tree) (Inner : List Piece → Tree → List Piece → Type 0) (each : Sound None inner Inner) where
   abbrev Clause' : Type 1
   Clause' = List Piece → ClauseTree → List Piece → Type 0
 
@@ -282,7 +282,7 @@ module _ (own : List ℕ) (n : ℕ) (inner : State → Read Tree) (Inner : List 
         subst (λ (r : ClauseTree × State). r.1.refused ≡ None → (s.refused ≡ None) × (Starts ps (WholeClause d) s.pieces → AnyClause ps r.0 r.1.pieces)) same (λ f. (f, λ g. stands_noted g)) done
 
     -- what the start of a clause says inside the parentheses of an annotation
-    abbrev StartsInside : List Piece → Start → List Piece → Type 0
+    abbrev pub StartsInside : List Piece → Start → List Piece → Type 0
     StartsInside ps (OnePattern q) rest = PatternIn n ps q rest
     StartsInside ps (ManyPatterns qs) rest = Angles n ps qs rest
     StartsInside ps (WholeClause c) rest = AnyClause ps c rest
@@ -309,8 +309,8 @@ module _ (own : List ℕ) (n : ℕ) (inner : State → Read Tree) (Inner : List 
         let same : (WholeClause c, s) ≡ (y, t) = ok_is _ _ e in
         subst (λ (r : Start × State). r.1.refused ≡ None → (s.refused ≡ None) × (Starts ps (WholeClause c) s.pieces → StartsInside ps r.0 r.1.pieces)) same (λ f. (f, λ g. stands_noted g)) done
 
-    module _ (start : State → Read Start) (starts : Sound start Starts) where
-      inside_sound : Sound (inside_start_at own n inner start) StartsInside
+    module _ (start : State → Read Start) (starts : Sound None start Starts) where
+      pub inside_sound : Sound None (inside_start_at own n inner start) StartsInside
       unfolding inside_start_at
       inside_sound s y t e done =
           let x = bind_ok _ _ _ e in
@@ -356,7 +356,7 @@ module _ (own : List ℕ) (n : ℕ) (inner : State → Read Tree) (Inner : List 
           let g = in_note_sound (constant_at n) (ConstantIn n) (constant_sound n) (inside_start_at own n inner start) StartsInside inside_sound at ps s x.0.0 x.0.1 x.1 h.0 in
           (g.0, h.1 g.1)
 
-      pub clause_sound : Sound (clause_at own n inner start) AnyClause
+      pub clause_sound : Sound None (clause_at own n inner start) AnyClause
       unfolding clause_at
       clause_sound s c t e done =
           let x = bind_ok _ _ _ e in
@@ -415,7 +415,7 @@ module _ (own : List ℕ) (n : ℕ) (inner : State → Read Tree) (Inner : List 
       form_of_sound [] s c t e done = absurd cc
       form_of_sound (p ∷ ps) s c t e done = form_by_sound p.at p.shape ps s c t e done
 
-      pub form_sound : Sound (form_at own n inner start) (Form own n Inner AnyClause)
+      pub form_sound : Sound None (form_at own n inner start) (Form own n Inner AnyClause)
       unfolding form_at
       form_sound s c t e done = form_of_sound s.pieces s c t e done
 
@@ -440,7 +440,7 @@ bare_start_by_sound own n None s x t is e done =
     let same : (OnePattern a.0.0, a.0.1) ≡ (x, t) = ok_is _ _ a.2 in
     subst (λ (r : Start × State). r.1.refused ≡ None → (s.refused ≡ None) × StartsAt own n s.pieces r.0 r.1.pieces) same (λ d. pattern_sound n s a.0.0 a.0.1 a.1 d) done
 
-bare_start_sound : (own : List ℕ) (n : ℕ) → Sound (bare_start_at n) (StartsAt own n)
+bare_start_sound : (own : List ℕ) (n : ℕ) → Sound None (bare_start_at n) (StartsAt own n)
 unfolding bare_start_at
 bare_start_sound own n s x t e done = bare_start_by_sound own n (after_mark m.Less s.pieces) s x t refl e done
 
@@ -449,7 +449,7 @@ start_last_sound own (Some ps) s x t e done = absurd cc
 start_last_sound own None s x t e done = bare_start_sound own 0 s x t e done
 
 module _ (own : List ℕ) where
-  start_next_sound : (n : ℕ) (each : Sound (expression_at own n) (Expression own n)) (starts : Sound (start_at own n) (StartsAt own n)) (o : Option (List Piece)) (s : State) (x : Start) (t : State) → after_mark m.LeftParenthesis s.pieces ≡ o
+  start_next_sound : (n : ℕ) (each : Sound None (expression_at own n) (Expression own n)) (starts : Sound None (start_at own n) (StartsAt own n)) (o : Option (List Piece)) (s : State) (x : Start) (t : State) → after_mark m.LeftParenthesis s.pieces ≡ o
       → start_next own n (expression_at own n) (start_at own n) o s ≡ Ok (x, t) → t.refused ≡ None → (s.refused ≡ None) × StartsAt own (suc n) s.pieces x t.pieces
   start_next_sound n each starts (Some ps) s (OnePattern q) t is e done =
       let f = after_mark_found m.LeftParenthesis s.pieces ps is in
@@ -465,7 +465,7 @@ module _ (own : List ℕ) where
       (h.0, at_front (AnnotatedClause own (suc n)) s.pieces (mark f.0 m.LeftParenthesis ∷ ps) c t.pieces f.1 h.1)
   start_next_sound n each starts None s x t is e done = bare_start_sound own (suc n) s x t e done
 
-  both_sound : (n : ℕ) → Sound (expression_at own n) (Expression own n) × Sound (start_at own n) (StartsAt own n)
+  both_sound : (n : ℕ) → Sound None (expression_at own n) (Expression own n) × Sound None (start_at own n) (StartsAt own n)
   unfolding expression_at start_at
   both_sound zero = (λ s c t e done. absurd cc, λ s x t e done. start_last_sound own (after_mark m.LeftParenthesis s.pieces) s x t e done)
   both_sound (suc n) =
@@ -474,5 +474,8 @@ module _ (own : List ℕ) where
         λ s x t e done. start_next_sound n h.0 h.1 (after_mark m.LeftParenthesis s.pieces) s x t refl e done,
       )
 
-  pub expression_sound : (n : ℕ) → Sound (expression_at own n) (Expression own n)
+  pub expression_sound : (n : ℕ) → Sound None (expression_at own n) (Expression own n)
   expression_sound n = (both_sound n).0
+
+  pub start_sound : (n : ℕ) → Sound None (start_at own n) (StartsAt own n)
+  start_sound n = (both_sound n).1

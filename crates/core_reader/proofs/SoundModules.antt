@@ -6,6 +6,7 @@ use Rattle.core_tokens.specs.Piece.{Piece}
 use Rattle.core_tree.specs.Syntax.{Mention, Tree, Constant, NamedAt, AttributeTree, DefinitionTree, ModuleTree}
 use Rattle.core_reader.specs.declared.parser.Unserved.{Unserved}
 use Rattle.core_reader.specs.Grammar.{mark, word, atom, InNote, in_note, stands_bare, stands_noted, Annotated, Noted, Enclosed, Row, FunctionName, Variable, ConstantIn, Expression, level_limit, Attribute, an_attribute, BareFun, is_fun, Fun, BareDefinition, a_definition, Definition, BareModule, a_module, Spells}
+use Rattle.core_reader.specs.Depth.{FunOf}
 use Rattle.core_reader.specs.Reading.{State, Read, after_mark, function_name_at, variable_at, constant_at, place_of}
 use Rattle.core_reader.specs.ReadingModules.{attribute_at, bare_fun_at, fun_at, behind_name_at, Opening, TheName, WholeDefinition, opening_by, opened, inside_opening_at, bare_opening_at, opening_last, opening_next, opening_at, definition_of_opening, definition_at, front_at, bare_module_at, ended, module_at}
 use Rattle.core_reader.proofs.Steps.{ok_is, bind_ok, after_mark_found, mark_steps, word_steps, atom_steps, bare_name_sound, Sound}
@@ -16,7 +17,7 @@ use Rattle.core_reader.proofs.SoundForms.{goes_to, expression_sound}
 attribute_form : (n at bt : ℕ) (ps p1 p2 rest : List Piece) (a : List ℕ) (c : Constant) → ps ≡ atom at a ∷ p1 → p1 ≡ mark bt m.Equals ∷ p2 → ConstantIn n p2 c rest → Attribute (ConstantIn n) ps (record { name = a; value = c }) rest
 attribute_form n at bt ps p1 p2 rest a c e0 e1 h = rw (e0, e1) (an_attribute h)
 
-attribute_sound : (n : ℕ) → Sound (attribute_at n) (Attribute (ConstantIn n))
+pub attribute_sound : (n : ℕ) → Sound None (attribute_at n) (Attribute (ConstantIn n))
 unfolding attribute_at
 attribute_sound n s x t e done =
     let a = bind_ok _ _ _ e in
@@ -33,15 +34,11 @@ attribute_sound n s x t e done =
 
 -- ---- functions
 
--- a function with so many variables
-abbrev FunOf : List ℕ → ℕ → ℕ → List Piece → List Mention × Tree → List Piece → Type 0
-FunOf own arity n ps f rest = BareFun (Variable n) (Expression own n) ps f rest × (length f.0 ≡ arity)
-
 fun_form : (own : List ℕ) (n at bt ct : ℕ) (ps p1 p2 p3 p4 rest : List Piece) (vs : List Mention) (body : Tree) → ps ≡ word at k.Fun ∷ p1 → p1 ≡ mark bt m.LeftParenthesis ∷ p2 → Enclosed (Variable n) m.RightParenthesis p2 vs p3 → p3 ≡ mark ct m.Arrow ∷ p4 → Expression own n p4 body rest
     → BareFun (Variable n) (Expression own n) ps (vs, body) rest
 fun_form own n at bt ct ps p1 p2 p3 p4 rest vs body e0 e1 h e3 b = rw (e0, e1) (is_fun (goes_to (Enclosed (Variable n) m.RightParenthesis) p2 p3 (mark ct m.Arrow ∷ p4) vs e3 h) b)
 
-bare_fun_sound : (own : List ℕ) (arity n : ℕ) → Sound (bare_fun_at own arity n) (FunOf own arity n)
+pub bare_fun_sound : (own : List ℕ) (arity n : ℕ) → Sound None (bare_fun_at own arity n) (FunOf own arity n)
 unfolding bare_fun_at
 bare_fun_sound own arity n s x t e done =
     let a = bind_ok _ _ _ e in
@@ -89,12 +86,12 @@ behind_name_sound own n named ps s d t e done =
     (s0.back h.0, λ name. a_definition (goes_to (FunctionName n) _ _ _ _ s0.pieces name) h.1.0 h.1.1)) done
 
 -- what the opening of a definition says
-abbrev Opens : List ℕ → ℕ → List Piece → Opening → List Piece → Type 0
+abbrev pub Opens : List ℕ → ℕ → List Piece → Opening → List Piece → Type 0
 Opens own n ps (TheName named) rest = FunctionName n ps named rest
 Opens own n ps (WholeDefinition d) rest = Annotated (BareDefinition own) n ps d rest
 
 -- what it says inside the parentheses of an annotation
-abbrev OpensInside : List ℕ → ℕ → List Piece → Opening → List Piece → Type 0
+abbrev pub OpensInside : List ℕ → ℕ → List Piece → Opening → List Piece → Type 0
 OpensInside own n ps (TheName named) rest = FunctionName n ps named rest
 OpensInside own n ps (WholeDefinition d) rest = Definition own n ps d rest
 
@@ -114,7 +111,7 @@ opened_sound own n (WholeDefinition d) ps s y t e done =
     let same : (WholeDefinition d, s) ≡ (y, t) = ok_is _ _ e in
     subst (λ (r : Opening × State). r.1.refused ≡ None → (s.refused ≡ None) × (Opens own n ps (WholeDefinition d) s.pieces → OpensInside own n ps r.0 r.1.pieces)) same (λ f. (f, λ g. stands_noted g)) done
 
-inside_opening_sound : (own : List ℕ) (n : ℕ) (opening : State → Read Opening) → Sound opening (Opens own n) → Sound (inside_opening_at own n opening) (OpensInside own n)
+pub inside_opening_sound : (own : List ℕ) (n : ℕ) (opening : State → Read Opening) → Sound None opening (Opens own n) → Sound None (inside_opening_at own n opening) (OpensInside own n)
 unfolding inside_opening_at
 inside_opening_sound own n opening opens s y t e done =
     let x = bind_ok _ _ _ e in
@@ -122,7 +119,7 @@ inside_opening_sound own n opening opens s y t e done =
     let g = opens s x.0.0 x.0.1 x.1 h.0 in
     (g.0, h.1 g.1)
 
-bare_opening_sound : (own : List ℕ) (n : ℕ) → Sound (bare_opening_at own) (Opens own n)
+bare_opening_sound : (own : List ℕ) (n : ℕ) → Sound None (bare_opening_at own) (Opens own n)
 unfolding bare_opening_at
 bare_opening_sound own n s y t e done =
     let a = bind_ok _ _ _ e in
@@ -139,7 +136,7 @@ name_noted own n ps named rest (in_note h g) = stands_noted (in_note h g)
 whole_noted : (own : List ℕ) (n : ℕ) (ps : List Piece) (d : DefinitionTree) (rest : List Piece) → InNote (OpensInside own n) (ConstantIn n) ps (WholeDefinition d) rest → Annotated (BareDefinition own) (suc n) ps d rest
 whole_noted own n ps d rest (in_note h g) = in_note h g
 
-opening_next_sound : (own : List ℕ) (n : ℕ) → Sound (opening_at own n) (Opens own n) → (o : Option (List Piece)) (s : State) (y : Opening) (t : State) → after_mark m.LeftParenthesis s.pieces ≡ o → opening_next own n (opening_at own n) o s ≡ Ok (y, t) → t.refused ≡ None → (s.refused ≡ None) × Opens own (suc n) s.pieces y t.pieces
+opening_next_sound : (own : List ℕ) (n : ℕ) → Sound None (opening_at own n) (Opens own n) → (o : Option (List Piece)) (s : State) (y : Opening) (t : State) → after_mark m.LeftParenthesis s.pieces ≡ o → opening_next own n (opening_at own n) o s ≡ Ok (y, t) → t.refused ≡ None → (s.refused ≡ None) × Opens own (suc n) s.pieces y t.pieces
 opening_next_sound own n opens (Some ps) s (TheName named) t is e done =
     let f = after_mark_found m.LeftParenthesis s.pieces ps is in
     let h = in_note_sound (constant_at n) (ConstantIn n) (constant_sound n) (inside_opening_at own n (opening_at own n)) (OpensInside own n) (inside_opening_sound own n (opening_at own n) opens) f.0 ps s (TheName named) t e done in
@@ -150,7 +147,7 @@ opening_next_sound own n opens (Some ps) s (WholeDefinition d) t is e done =
     (h.0, at_front (Annotated (BareDefinition own) (suc n)) s.pieces (mark f.0 m.LeftParenthesis ∷ ps) d t.pieces f.1 (whole_noted own n _ d t.pieces h.1))
 opening_next_sound own n opens None s y t is e done = bare_opening_sound own (suc n) s y t e done
 
-opening_sound : (own : List ℕ) (n : ℕ) → Sound (opening_at own n) (Opens own n)
+pub opening_sound : (own : List ℕ) (n : ℕ) → Sound None (opening_at own n) (Opens own n)
 unfolding opening_at
 opening_sound own zero s y t e done = opening_last_sound own (after_mark m.LeftParenthesis s.pieces) s y t e done
 opening_sound own (suc n) s y t e done = opening_next_sound own n (opening_sound own n) (after_mark m.LeftParenthesis s.pieces) s y t refl e done
@@ -161,7 +158,7 @@ definition_of_sound own n (WholeDefinition w) ps s d t e done =
     let same : (w, s) ≡ (d, t) = ok_is _ _ e in
     subst (λ (r : DefinitionTree × State). r.1.refused ≡ None → (s.refused ≡ None) × (Opens own n ps (WholeDefinition w) s.pieces → Definition own n ps r.0 r.1.pieces)) same (λ f. (f, λ g. stands_noted g)) done
 
-definition_sound : (own : List ℕ) (n : ℕ) → Sound (definition_at own n) (Definition own n)
+pub definition_sound : (own : List ℕ) (n : ℕ) → Sound None (definition_at own n) (Definition own n)
 unfolding definition_at
 definition_sound own n s d t e done =
     let x = bind_ok _ _ _ e in
@@ -224,7 +221,7 @@ front_sound n s x t e done =
     )) done
 
 -- a module and a place
-abbrev IsModule : ℕ → List Piece → ModuleTree × ℕ → List Piece → Type 0
+abbrev pub IsModule : ℕ → List Piece → ModuleTree × ℕ → List Piece → Type 0
 IsModule n ps x rest = BareModule n ps x.0 rest
 
 module_form : (n ft : ℕ) (ps p3 p4 rest : List Piece) (f : Front) (ds : List DefinitionTree) → IsFront n ps f.0 f.1 f.2 p3 → Row (Definition f.0 n) p3 ds p4 → p4 ≡ word ft k.End ∷ rest
@@ -233,7 +230,7 @@ module_form n ft ps p3 p4 rest f ds front row e4 =
     let last : Row (Definition f.0 n) p3 ds (word ft k.End ∷ rest) = goes_to (Row (Definition f.0 n)) p3 p4 (word ft k.End ∷ rest) ds e4 row in
     rw front.opens (a_module front.exported front.attributed last)
 
-bare_module_sound : (n : ℕ) → Sound (bare_module_at n) (IsModule n)
+pub bare_module_sound : (n : ℕ) → Sound None (bare_module_at n) (IsModule n)
 unfolding bare_module_at
 bare_module_sound n s x t e done =
     let f = bind_ok _ _ _ e in
@@ -248,7 +245,7 @@ bare_module_sound n s x t e done =
     let front = front_sound n s f.0.0 f.0.1 f.1 row.0 in
     (front.0, module_form n s1.at s.pieces f.0.1.pieces d.0.1.pieces w.0.pieces f.0.0 d.0.0 front.1 row.1 s1.pieces)) done
 
-either_module : (n : ℕ) (ps : List Piece) (x : ModuleTree × ℕ) (rest : List Piece) → Noted IsModule n ps x rest → Noted BareModule n ps x.0 rest
+pub either_module : (n : ℕ) (ps : List Piece) (x : ModuleTree × ℕ) (rest : List Piece) → Noted IsModule n ps x rest → Noted BareModule n ps x.0 rest
 either_module n ps x rest (stands_bare h) = stands_bare h
 either_module zero ps x rest (stands_noted h) = absurd h
 either_module (suc n) ps x rest (stands_noted (in_note {ps = qs} {more = more} h g)) = stands_noted (in_note (either_module n qs x more h) g)

@@ -3,6 +3,7 @@ use Rattle.std.proofs.Common.{◌≡◌, ℕ, zero, suc, cond, List, [], ◌∷�
 use Rattle.core_tokens.specs.declared.token.Mark.TheVariants as m
 use Rattle.core_tokens.specs.Piece.{Piece, Shape, A_mark, An_atom, A_variable, An_integer, A_character, A_text}
 use Rattle.core_tree.specs.Syntax.{Mention, Pattern, NumberIn, CharacterIn, TextIn, NameIn, VariableIn, GroupIn, ListIn, JoinIn, AliasIn, patterns_of, Constant}
+use Rattle.core_reader.specs.declared.parser.Unserved.{Unserved}
 use Rattle.core_reader.specs.Grammar.{mark, ConstantIn, PatternForm, matches_integer, matches_character, matches_text, matches_atom, matches_any, matches_tuple, matches_list, matches_join, matches_noted, IsNoEquals, HasNoEquals, StandsAlone, PatternOrAlias, no_alias, is_alias, PatternIn}
 use Rattle.core_reader.specs.Reading.{State, Read, with_pieces, is_mark, after_mark, constant_at, pattern_list, pattern_tuple_at, pattern_list_at, pattern_by, pattern_form_by, pattern_form_at, alias_by, alias_at, pattern_at}
 use Rattle.core_reader.proofs.Steps.{ok_is, bind_ok, after_mark_found, Sound}
@@ -17,10 +18,10 @@ no_equals : (ps : List Piece) → after_mark m.Equals ps ≡ None → HasNoEqual
 no_equals [] e = tt
 no_equals (p ∷ ps) e = no_equals_by p.shape ps e
 
-module _ (inner : State → Read Pattern) (note : State → Read Constant) (Inner : List Piece → Pattern → List Piece → Type 0) (Note : List Piece → Constant → List Piece → Type 0) (each : Sound inner Inner) (noted : Sound note Note) where
+module _ {left : Option Unserved} (inner : State → Read Pattern) (note : State → Read Constant) (Inner : List Piece → Pattern → List Piece → Type 0) (Note : List Piece → Constant → List Piece → Type 0) (each : Sound left inner Inner) (noted : Sound left note Note) where
   -- a pattern whose first token is this one
   abbrev Reads : ℕ → Shape → List Piece → State → Pattern → State → Type 0
-  Reads at shape ps s q t = t.refused ≡ None → (s.refused ≡ None) × PatternForm Inner Note (record { at = at; shape = shape } ∷ ps) q t.pieces
+  Reads at shape ps s q t = t.refused ≡ left → (s.refused ≡ left) × PatternForm Inner Note (record { at = at; shape = shape } ∷ ps) q t.pieces
 
   pattern_listed : (ps rest : List Piece) (at : ℕ) (b : List Pattern × Option Pattern) → Bracketed inner Inner each ps b rest → PatternForm Inner Note (mark at m.LeftBracket ∷ ps) (pattern_list b) rest
   pattern_listed ps rest at (qs, None) h = matches_list h
@@ -64,17 +65,17 @@ module _ (inner : State → Read Pattern) (note : State → Read Constant) (Inne
   pattern_by_sound at (A_mark m.LeftParenthesis) ps s q t e = λ d. let h = in_note_sound note Note noted inner Inner each at ps s q t e d in (h.0, matches_noted h.1)
   pattern_by_sound at shape ps s q t e = absurd cc
 
-  pattern_form_by_sound : (ps : List Piece) (s : State) (q : Pattern) (t : State) → pattern_form_by inner note ps s ≡ Ok (q, t) → t.refused ≡ None → (s.refused ≡ None) × PatternForm Inner Note ps q t.pieces
+  pattern_form_by_sound : (ps : List Piece) (s : State) (q : Pattern) (t : State) → pattern_form_by inner note ps s ≡ Ok (q, t) → t.refused ≡ left → (s.refused ≡ left) × PatternForm Inner Note ps q t.pieces
   pattern_form_by_sound [] s q t e done = absurd cc
   pattern_form_by_sound (p ∷ ps) s q t e done = pattern_by_sound p.at p.shape ps s q t e done
 
-  pub pattern_form_sound : Sound (pattern_form_at inner note) (PatternForm Inner Note)
+  pub pattern_form_sound : Sound left (pattern_form_at inner note) (PatternForm Inner Note)
   unfolding pattern_form_at
   pattern_form_sound s q t e done = pattern_form_by_sound s.pieces s q t e done
 
   -- a pattern that was read, and perhaps an alias
   abbrev Aliases : List Piece → Pattern → State → Pattern → State → Type 0
-  Aliases ps p s q t = t.refused ≡ None → (s.refused ≡ None) × (PatternForm Inner Note ps p s.pieces → PatternOrAlias (PatternForm Inner Note) Inner ps q t.pieces)
+  Aliases ps p s q t = t.refused ≡ left → (s.refused ≡ left) × (PatternForm Inner Note ps p s.pieces → PatternOrAlias (PatternForm Inner Note) Inner ps q t.pieces)
 
   abbrev both : Pattern → State → Pattern × State
   both x y = (x, y)
@@ -104,11 +105,11 @@ module _ (inner : State → Read Pattern) (note : State → Read Constant) (Inne
   alias_by_sound (JoinIn n u) o ps s q t is e = stays (JoinIn n u) ps s q t tt (ok_is _ _ e)
   alias_by_sound (AliasIn v u) o ps s q t is e = stays (AliasIn v u) ps s q t tt (ok_is _ _ e)
 
-  pub alias_sound : (p : Pattern) (ps : List Piece) (s : State) (q : Pattern) (t : State) → alias_at inner note p s ≡ Ok (q, t) → t.refused ≡ None → (s.refused ≡ None) × (PatternForm Inner Note ps p s.pieces → PatternOrAlias (PatternForm Inner Note) Inner ps q t.pieces)
+  pub alias_sound : (p : Pattern) (ps : List Piece) (s : State) (q : Pattern) (t : State) → alias_at inner note p s ≡ Ok (q, t) → t.refused ≡ left → (s.refused ≡ left) × (PatternForm Inner Note ps p s.pieces → PatternOrAlias (PatternForm Inner Note) Inner ps q t.pieces)
   unfolding alias_at
   alias_sound p ps s q t e = alias_by_sound p (after_mark m.Equals s.pieces) ps s q t refl e
 
-pub pattern_sound : (n : ℕ) → Sound (pattern_at n) (PatternIn n)
+pub pattern_sound : {left : Option Unserved} (n : ℕ) → Sound left (pattern_at n) (PatternIn n)
 unfolding pattern_at
 pattern_sound zero s q t e done = absurd cc
 pattern_sound (suc n) s q t e done =

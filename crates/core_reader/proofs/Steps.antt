@@ -10,10 +10,11 @@ use Rattle.core_tokens.specs.declared.token.Keyword.{Keyword}
 use Rattle.core_tokens.specs.declared.token.Keyword.TheVariants as k
 use Rattle.core_tokens.specs.Piece.{Piece, Shape, A_word, A_mark, An_atom, A_variable, An_integer}
 use Rattle.core_tree.specs.Syntax.{Mention, NamedAt}
+use Rattle.core_reader.specs.declared.parser.Unserved.{Unserved}
 use Rattle.core_reader.specs.Grammar.{mark, word, atom, variable, integer, BareName, names_function, BareVariable, names_variable}
 use Rattle.core_reader.specs.Reading.{State, Read, ◌>>=◌, with_pieces, mark_number, word_number, is_mark, is_word, after_mark, after_word, fault, passed, mark_at, word_at, taken_by, taken, atom_in, atom_at, named_by, placed_atom_at, arity_by, arity_in, arity_at, mention_by, bare_variable_at, behind_atom_at, bare_name_at}
 
-abbrev done : {A : Type 0} → A → Result A ReadFault
+abbrev pub done : {A : Type 0} → A → Result A ReadFault
 done x = Ok x
 
 pub ok_is : {A : Type 0} (x y : A) → done x ≡ done y → x ≡ y
@@ -113,7 +114,7 @@ after_word_found x (p ∷ ps) rest e =
 pub record Steps (of : ℕ → Piece) (s t : State) : Type 0 where
   pub at : ℕ
   pub pieces : s.pieces ≡ of at ∷ t.pieces
-  pub back : t.refused ≡ None → s.refused ≡ None
+  pub back : {left : Option Unserved} → t.refused ≡ left → s.refused ≡ left
 
 passed_ok : (o : Option (List Piece)) (s : State) (f : ReadFault) (t : State) → passed o s f ≡ Ok t → (o ≡ Some t.pieces) × (t.refused ≡ s.refused)
 passed_ok None s f t e = absurd cc
@@ -140,7 +141,7 @@ pub record Takes {X : Type 0} (of : Piece → Option X) (s : State) (x : X) (t :
   pub front : Piece
   pub is : of front ≡ Some x
   pub pieces : s.pieces ≡ front ∷ t.pieces
-  pub back : t.refused ≡ None → s.refused ≡ None
+  pub back : {left : Option Unserved} → t.refused ≡ left → s.refused ≡ left
 
 taken_by_ok : {X : Type 0} (o : Option X) (ps : List Piece) (s : State) (f : ReadFault) (x : X) (t : State) → taken_by o ps s f ≡ Ok (x, t) → (o ≡ Some x) × (ps ≡ t.pieces) × (t.refused ≡ s.refused)
 taken_by_ok None ps s f x t e = absurd cc
@@ -177,13 +178,13 @@ named_by_some at (An_atom u) a e =
     (ap (λ (b : ℕ × List ℕ). An_atom b.1) same, ap (λ (b : ℕ × List ℕ). b.0) same)
 named_by_some at shape a e = absurd cc
 
-pub placed_atom_steps : (s : State) (a : ℕ × List ℕ) (t : State) → placed_atom_at s ≡ Ok (a, t) → (s.pieces ≡ atom a.0 a.1 ∷ t.pieces) × (t.refused ≡ None → s.refused ≡ None)
+pub placed_atom_steps : (s : State) (a : ℕ × List ℕ) (t : State) → placed_atom_at s ≡ Ok (a, t) → (s.pieces ≡ atom a.0 a.1 ∷ t.pieces) × (s.refused ≡ t.refused)
 unfolding placed_atom_at
 placed_atom_steps s a t e =
     let h = taken_ok (λ p. named_by p.at p.shape) s (fault s) a t e in
     let n = named_by_some h.front.at h.front.shape a h.is in
     let piece : h.front ≡ atom a.0 a.1 = ap (λ (x : Shape). record { at = h.front.at; shape = x }) n.0 ∙ ap (λ (at : ℕ). atom at a.1) n.1 in
-    (h.pieces ∙ ap (λ (q : Piece). q ∷ t.pieces) piece, h.back)
+    (h.pieces ∙ ap (λ (q : Piece). q ∷ t.pieces) piece, h.back refl)
 
 arity_by_some : (z : ℤ) (n : ℕ) → arity_by z ≡ Some n → (z ≡ pos n) × (n < 256)
 arity_by_some (pos x) n e =
@@ -211,45 +212,46 @@ mention_by_some at (A_variable u) v e =
     (ap (λ (w : Mention). A_variable w.name) same, ap (λ (w : Mention). w.at) same)
 mention_by_some at shape v e = absurd cc
 
-pub variable_steps : (s : State) (v : Mention) (t : State) → bare_variable_at s ≡ Ok (v, t) → (s.pieces ≡ variable v.at v.name ∷ t.pieces) × (t.refused ≡ None → s.refused ≡ None)
+pub variable_steps : (s : State) (v : Mention) (t : State) → bare_variable_at s ≡ Ok (v, t) → (s.pieces ≡ variable v.at v.name ∷ t.pieces) × (s.refused ≡ t.refused)
 unfolding bare_variable_at
 variable_steps s v t e =
     let h = taken_ok (λ p. mention_by p.at p.shape) s (fault s) v t e in
     let n = mention_by_some h.front.at h.front.shape v h.is in
     let piece : h.front ≡ variable v.at v.name = ap (λ (x : Shape). record { at = h.front.at; shape = x }) n.0 ∙ ap (λ (at : ℕ). variable at v.name) n.1 in
-    (h.pieces ∙ ap (λ (q : Piece). q ∷ t.pieces) piece, h.back)
+    (h.pieces ∙ ap (λ (q : Piece). q ∷ t.pieces) piece, h.back refl)
 
 -- ---- soundness: what is read is spelt
 
-abbrev pub Sound : {X : Type 0} → (State → Read X) → (List Piece → X → List Piece → Type 0) → Type 0
-Sound {X = X} item Item = (s : State) (x : X) (t : State) → item s ≡ Ok (x, t) → t.refused ≡ None → (s.refused ≡ None) × Item s.pieces x t.pieces
+-- what is read, where this is left as what is not served: it was so before, and what is read is spelt
+abbrev pub Sound : {X : Type 0} → Option Unserved → (State → Read X) → (List Piece → X → List Piece → Type 0) → Type 0
+Sound {X = X} left item Item = (s : State) (x : X) (t : State) → item s ≡ Ok (x, t) → t.refused ≡ left → (s.refused ≡ left) × Item s.pieces x t.pieces
 
-pub bare_variable_sound : Sound bare_variable_at BareVariable
+pub bare_variable_sound : {left : Option Unserved} → Sound left bare_variable_at BareVariable
 bare_variable_sound s v t e done =
     let h = variable_steps s v t e in
-    (h.1 done, rw h.0 names_variable)
+    (h.1 ∙ done, rw h.0 names_variable)
 
 function_form : (ps p1 p2 rest : List Piece) (at bt ct n : ℕ) (t : List ℕ) → n < 256 → ps ≡ atom at t ∷ p1 → p1 ≡ mark bt m.Slash ∷ p2 → p2 ≡ integer ct (pos n) ∷ rest
     → BareName ps (record { at = at; function = record { name = t; arity = n } }) rest
 function_form ps p1 p2 rest at bt ct n t small e0 e1 e2 = rw (e0, e1, e2) (names_function small)
 
 -- a name behind whose atom this was read
-pub behind_atom_sound : (at : ℕ) (a : List ℕ) (ps : List Piece) (s : State) (x : NamedAt) (t : State) → ps ≡ atom at a ∷ s.pieces → behind_atom_at at a s ≡ Ok (x, t) → t.refused ≡ None → (s.refused ≡ None) × BareName ps x t.pieces
+pub behind_atom_sound : {left : Option Unserved} (at : ℕ) (a : List ℕ) (ps : List Piece) (s : State) (x : NamedAt) (t : State) → ps ≡ atom at a ∷ s.pieces → behind_atom_at at a s ≡ Ok (x, t) → t.refused ≡ left → (s.refused ≡ left) × BareName ps x t.pieces
 unfolding behind_atom_at
-behind_atom_sound at a ps s x t is e done =
+behind_atom_sound {left = left} at a ps s x t is e done =
     let b = bind_ok _ _ _ e in
     let c = bind_ok _ _ _ b.2 in
     let h1 = mark_steps m.Slash s b.0 b.1 in
     let h2 = arity_steps b.0 c.0.0 c.0.1 c.1 in
     let made : NamedAt = record { at = at; function = record { name = a; arity = c.0.0 } } in
     let same : (made, c.0.1) ≡ (x, t) = ok_is _ _ c.2 in
-    subst (λ (y : NamedAt × State). y.1.refused ≡ None → (s.refused ≡ None) × BareName ps y.0 y.1.pieces) same
+    subst (λ (y : NamedAt × State). y.1.refused ≡ left → (s.refused ≡ left) × BareName ps y.0 y.1.pieces) same
     (λ d. (h1.back (h2.0.back d), function_form _ _ _ _ _ _ _ _ _ h2.1 is h1.pieces h2.0.pieces)) done
 
-pub bare_name_sound : Sound bare_name_at BareName
+pub bare_name_sound : {left : Option Unserved} → Sound left bare_name_at BareName
 unfolding bare_name_at
 bare_name_sound s x t e done =
     let a = bind_ok _ _ _ e in
     let h0 = placed_atom_steps s a.0.0 a.0.1 a.1 in
     let h = behind_atom_sound a.0.0.0 a.0.0.1 s.pieces a.0.1 x t h0.0 a.2 done in
-    (h0.1 h.0, h.1)
+    (h0.1 ∙ h.0, h.1)

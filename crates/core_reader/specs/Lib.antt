@@ -9,6 +9,9 @@ pub mod Parsing
 pub mod ScopeChecks
 pub mod Environment
 pub mod Whole
+pub mod Arguments
+pub mod UnservedCalls
+pub mod Depth
 pub mod Places
 pub mod Reader
 pub mod Refusal

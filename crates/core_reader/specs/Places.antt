@@ -7,8 +7,10 @@ use Rattle.core_tokens.specs.declared.token.Mark.TheVariants as m
 use Rattle.core_tokens.specs.Piece.{Piece, Shape, A_word, A_mark, An_atom, A_variable, An_integer, A_character, A_text}
 use Rattle.core_tree.specs.Syntax.{ModuleTree}
 use Rattle.core_reader.specs.Grammar.{word, Spells}
+use Rattle.core_reader.specs.Depth.{OpensPastLast}
 use Rattle.core_reader.specs.Scopes.{functions, main_function}
 use Rattle.core_reader.specs.ScopeFaults.{ModuleBreaks}
+use Rattle.core_reader.specs.UnservedCalls.{UnservedCallAt}
 
 -- one of the tokens
 abbrev pub IsOne : List Piece → Piece → Type 0
@@ -58,13 +60,13 @@ Breaks ps fault = (tree : ModuleTree) × Spells ps tree × ModuleBreaks tree fau
 abbrev pub LacksMain : List Piece → Type 0
 LacksMain ps = (tree : ModuleTree) × Spells ps tree × ¬ (Contains (functions tree.definitions) main_function)
 
--- the faults that tokens can have, and what they say: of the grammar a place, at 8 that of a word `call`, at 10 that of a token that opens a construct; of the scopes a place, and that they break a module there; at 13 a last `end` of a module without `main/0`
+-- the faults that tokens can have, and what they say: of the grammar a place, at 8 that of the word `call` of a call that is not served, by its names and the number of its arguments or as one of the module's own functions that it does not export, at 10 that of a token that opens a construct, to which the grammar leads with no level left; of the scopes a place, and that they break a module there; at 13 a last `end` of a module without `main/0`
 abbrev pub IsFaultOf : List Piece → ℕ → ReadFault → Type 0
 IsFaultOf ps length (Expected at) = IsPlace ps length at
 IsFaultOf ps length (HigherOrder at) = IsPlace ps length at
 IsFaultOf ps length (UnsupportedForm at) = IsPlace ps length at
-IsFaultOf ps length (UnsupportedCall at) = IsOne ps (word at k.Call)
-IsFaultOf ps length (TooDeep at) = OpensAt ps at
+IsFaultOf ps length (UnsupportedCall at) = IsOne ps (word at k.Call) × (UnservedCallAt ps at ⊎ Breaks ps (UnsupportedCall at))
+IsFaultOf ps length (TooDeep at) = OpensAt ps at × OpensPastLast ps at
 IsFaultOf ps length (Unbound at) = IsPlace ps length at × Breaks ps (Unbound at)
 IsFaultOf ps length (DuplicateVariable at) = IsPlace ps length at × Breaks ps (DuplicateVariable at)
 IsFaultOf ps length (DuplicateFunction at) = IsPlace ps length at × Breaks ps (DuplicateFunction at)

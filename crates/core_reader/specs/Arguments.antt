@@ -1,0 +1,46 @@
+-- How many arguments stand in front, by the commas that stand in no further bracket.
+use Rattle.std.specs.Prelude.{ℕ, zero, suc, List, [], ◌∷◌}
+use Rattle.core_tokens.specs.declared.token.Mark.TheVariants as m
+use Rattle.core_tokens.specs.Piece.{Piece, Shape, A_mark}
+
+-- what a token does to the depth of brackets
+pub data Turn : Type 0 where
+  TurnsIn : Turn
+  TurnsOut : Turn
+  Separates : Turn
+  GoesBy : Turn
+
+abbrev pub turn : Shape → Turn
+turn (A_mark m.LeftParenthesis) = TurnsIn
+turn (A_mark m.LeftBracket) = TurnsIn
+turn (A_mark m.LeftBrace) = TurnsIn
+turn (A_mark m.Less) = TurnsIn
+turn (A_mark m.RightParenthesis) = TurnsOut
+turn (A_mark m.RightBracket) = TurnsOut
+turn (A_mark m.RightBrace) = TurnsOut
+turn (A_mark m.Greater) = TurnsOut
+turn (A_mark m.Comma) = Separates
+turn shape = GoesBy
+
+-- a token at this depth, where what stands behind it has so many commas by the depth that it stands at
+abbrev pub counted : Turn → ℕ → (ℕ → ℕ) → ℕ
+counted TurnsIn depth behind = behind (suc depth)
+counted TurnsOut zero behind = 0
+counted TurnsOut (suc depth) behind = behind depth
+counted Separates zero behind = suc (behind 0)
+counted Separates (suc depth) behind = behind (suc depth)
+counted GoesBy depth behind = behind depth
+
+-- the commas that stand in no further bracket, as far as the bracket that closes; so many brackets were opened before
+abbrev pub commas : ℕ → List Piece → ℕ
+commas depth [] = 0
+commas depth (p ∷ ps) = counted (turn p.shape) depth (λ d. commas d ps)
+
+abbrev pub arguments_by : Shape → ℕ → ℕ
+arguments_by (A_mark m.RightParenthesis) n = 0
+arguments_by shape n = suc n
+
+-- the number of arguments behind the parenthesis of a call: none where `)` stands in front, else one more than the commas between them, as three in `X, {Y, Z}, []) ..`
+abbrev pub arguments : List Piece → ℕ
+arguments [] = 0
+arguments (p ∷ ps) = arguments_by p.shape (commas 0 (p ∷ ps))
