@@ -1,23 +1,21 @@
 -- Where evaluation answers an error in place of a value.
 use Rattle.std.proofs.Common.{◌≡◌, ℕ, ◌<◌, ◌≤◌, List, [], ◌∷◌, refl, ap, ◌∙◌, sym, subst, length, arith, IfOk, Result, Ok, Err}
-use Rattle.std.specs.Prelude.{codes, None}
+use Rattle.std.specs.Prelude.{codes, Option, None}
 use Rattle.std.specs.declared.alloc.AllocError.{AllocError}
-use Rattle.core_tree.specs.Syntax.{Mention}
-use Rattle.term_core.specs.Meaning.{Meaning, node_count}
+use Rattle.term_core.specs.Meaning.{Meaning, Group, group_of, node_count}
 use Rattle.core_eval.specs.declared.control.Control.{Control}
-use Rattle.core_eval.specs.Evaluation.{State, Got, Yields, Environment, error, limited, node_limit, one, bound}
-use Rattle.core_eval.specs.Holes.{Hole, Gathers, EndsList, Binds, Discards, Keeps, filled, through}
+use Rattle.core_eval.specs.Matching.{Environment}
+use Rattle.core_eval.specs.declared.exception.Class.{Class}
+use Rattle.core_eval.specs.Evaluation.{State, Got, Yields, error, limited, limited_error, node_limit, one, class_in}
+use Rattle.core_eval.specs.Holes.{Hole, Gathers, EndsList, Binds, Discards, Chooses, Guards, Tries, Catches, Keeps, filled, through}
 use Rattle.core_eval.specs.Steps.{going, load, GoesOn}
 
 -- a term with too many nodes is an error
 pub limited-over : (m : Meaning) (s : State) → node_limit < node_count m → limited m s ≡ error (codes "system_limit") s
 limited-over m s h = grind arith
 
--- one value is bound to one variable alone
-pub bound-miscounted : (vs : List Mention) (m : Meaning) (env : Environment) → (length vs ≡ 1 → ⊥) → bound vs (m ∷ []) env ≡ None
-bound-miscounted [] m env h = refl
-bound-miscounted (v ∷ []) m env h = absurd (h refl)
-bound-miscounted (v ∷ w ∷ vs) m env h = refl
+pub limited_error-over : (m : Meaning) (s : State) → node_limit < node_count m → limited_error m s ≡ error (codes "system_limit") s
+limited_error-over m s h = grind arith
 
 -- what is an error means the same as the error
 pub same_error : (r : Result Control AllocError) (text : List ℕ) (got : State → Got) → IfOk r (λ next. (holes : List Hole) (s : State) → going holes next s ≡ through holes (error text s)) → ((s : State) → got s ≡ error text s) → IfOk r (λ next. (holes : List Hole) (s : State) → going holes next s ≡ through holes (got s))
@@ -39,16 +37,19 @@ miscounted go (v ∷ w ∷ vs) s h = refl
 abbrev pub WantsOne : Hole → Type 0
 WantsOne (Gathers purpose done later) = Unit {0}
 WantsOne (EndsList items) = Unit {0}
-WantsOne (Binds variables body) = ⊥
 WantsOne (Discards second) = Unit {0}
-WantsOne (Keeps name value) = ⊥
+WantsOne hole = ⊥
 
 pub filled-miscounted : (hole : Hole) (env : Environment) (vs : List Meaning) (s : State) → WantsOne hole → (length vs ≡ 1 → ⊥) → filled hole env (Yields vs s) ≡ error (codes "value_count") s
 filled-miscounted (Gathers purpose done later) env vs s w h = rw (miscounted _ vs s h) refl
 filled-miscounted (EndsList items) env vs s w h = miscounted _ vs s h
-filled-miscounted (Binds variables body) env vs s w h = absurd w
 filled-miscounted (Discards second) env vs s w h = miscounted _ vs s h
-filled-miscounted (Keeps name value) env vs s w h = absurd w
+filled-miscounted (Binds variables body) env vs s w h = absurd w
+filled-miscounted (Chooses clauses) env vs s w h = absurd w
+filled-miscounted (Guards bindings body others values) env vs s w h = absurd w
+filled-miscounted (Tries variables body caught handler) env vs s w h = absurd w
+filled-miscounted Catches env vs s w h = absurd w
+filled-miscounted (Keeps bindings) env vs s w h = absurd w
 
 -- a term in place of one that it is equal to
 pub same_limited : (r : Result Control AllocError) (m n : Meaning) → m ≡ n → IfOk r (λ next. (holes : List Hole) (s : State) → going holes next s ≡ through holes (limited m s)) → IfOk r (λ next. (holes : List Hole) (s : State) → going holes next s ≡ through holes (limited n s))
@@ -58,3 +59,14 @@ same_limited r m n e h = subst (λ (x : Meaning). IfOk r (λ next. (holes : List
 pub enters : (r : Result Control AllocError) (old : List Hole) (got : State → Got) (left : ℕ) → IfOk r (λ next. (holes : List Hole) (s : State) → going holes next s ≡ through holes (got s)) → IfOk r (λ next. load next ≤ 2) → 2 < left → IfOk r (λ next. GoesOn old old next got left)
 enters (Ok next) old got left h l p = record { same = λ s. h old s; less = omega (arith, l) }
 enters (Err e) old got left h l p = tt
+
+-- the same of an error's reason
+pub same_limited_error : (r : Result Control AllocError) (m n : Meaning) → m ≡ n → IfOk r (λ next. (holes : List Hole) (s : State) → going holes next s ≡ through holes (limited_error m s)) → IfOk r (λ next. (holes : List Hole) (s : State) → going holes next s ≡ through holes (limited_error n s))
+same_limited_error r m n e h = subst (λ (x : Meaning). IfOk r (λ next. (holes : List Hole) (s : State) → going holes next s ≡ through holes (limited_error x s))) e h
+
+-- a trace is a tuple of two
+pub no_trace : (ms : List Meaning) → (length ms ≡ 2 → ⊥) → class_in (Group (group_of ms)) ≡ None
+no_trace [] h = refl
+no_trace (m ∷ []) h = refl
+no_trace (m ∷ n ∷ []) h = absurd (h refl)
+no_trace (m ∷ n ∷ o ∷ ms) h = refl

@@ -7,7 +7,10 @@ use Rattle.core_tree.specs.Functions.{same_function}
 use Rattle.term_core.specs.Meaning.{Meaning, Group, Empty, group_of}
 use Rattle.term_core.specs.Meaning as terms
 use Rattle.core_eval.specs.Asked.{Asked, Ends, Answered}
-use Rattle.core_eval.specs.Evaluation.{State, before, Class, Error, Exit, Throw, Got, Yields, Raises, Stops, error, bound, within, evaluate}
+use Rattle.core_eval.specs.declared.exception.Class.{Class}
+use Rattle.core_eval.specs.declared.exception.Class.TheVariants.{Error, Exit, Throw}
+use Rattle.core_eval.specs.Matching.{bound}
+use Rattle.core_eval.specs.Evaluation.{State, before, Got, Yields, Raises, Stops, error, within, evaluate}
 
 -- where a process begins: a function by module and name, and its arguments
 pub record Entry : Type 0 where
@@ -51,7 +54,7 @@ first_function m pid e = if is_open m pid e then definition (function_of e) m.de
 -- the body of a function with the arguments as its parameters; without a function it is undefined
 abbrev pub applied : Option (List Mention × Tree) → List Meaning → State → Got
 applied None arguments s = error (codes "undef") s
-applied (Some f) arguments s = within (bound f.0 arguments []) (λ env s'. evaluate f.1 env s') s
+applied (Some f) arguments s = within (bound f.0 arguments []) [] (λ env s'. evaluate f.1 env s') s
 
 -- the reason of the end of a process by an exception (Erlang reference manual, "Errors and Error Handling")
 abbrev pub reason_of : Class → Meaning → Meaning

@@ -1,13 +1,15 @@
 -- Evaluation (Core Erlang 1.0.3, "Expressions"): what an expression gives, from left to right, out of the answers to the calls that it makes.
-use Rattle.std.specs.Prelude.{ℕ, pos, map, ◌==◌, List, [], ◌∷◌, ◌++◌, Option, Some, None, if◌then◌else◌, nat_le, codes}
-use Rattle.std.specs.Cmp.Lexicographic.{pointwise}
+use Rattle.std.specs.Prelude.{ℕ, Bool, true, false, pos, ◌==◌, List, [], ◌∷◌, ◌++◌, length, Option, Some, None, if◌then◌else◌, nat_le, codes}
 use Rattle.core_tree.specs.declared.call.CallKind.{CallKind}
-use Rattle.core_tree.specs.Syntax.{Mention, OfWorld, Tree, Trees, Number, Character, Text, Mentioned, Grouped, Listed, Joined, Several, Bound, Chosen, Followed, Called, Tried, Caught}
+use Rattle.core_tree.specs.Syntax.{patterns_of, Callee, OfWorld, OfItself, OfExport, OfDefinition, FailsMatch, RaisesAgain, Tree, Trees, Clauses, Number, Character, Text, Mentioned, Grouped, Listed, Joined, Several, Bound, Chosen, Followed, Called, Tried, Caught, NoClause, Clause}
 use Rattle.core_tree.specs.Syntax as syntax
-use Rattle.term_core.specs.Meaning.{Meaning, Integer, Group, Empty, group_of, node_count}
+use Rattle.term_core.specs.Meaning.{Meaning, Meanings, Integer, Group, Empty, NoMore, Also, group_of, node_count}
 use Rattle.term_core.specs.Meaning as terms
 use Rattle.term_core.specs.Term.{list_onto}
+use Rattle.core_eval.specs.declared.exception.Class.{Class}
+use Rattle.core_eval.specs.declared.exception.Class.TheVariants.{Error, Exit, Throw}
 use Rattle.core_eval.specs.Asked.{Asked, Asks, Answered, Gives, Refuses, Brings, TimesOut}
+use Rattle.core_eval.specs.Matching.{Environment, lookup, bound, text_of, is_name, match_each}
 
 -- the answers that are still to come, and the applications made since the last one
 pub record State : Type 0 where
@@ -17,12 +19,6 @@ pub record State : Type 0 where
 -- before these answers, with no application made
 abbrev pub before : List Answered → State
 before answers = record { answers = answers; made = 0 }
-
--- the classes of exceptions
-pub data Class : Type 0 where
-  Error : Class
-  Exit : Class
-  Throw : Class
 
 -- an evaluation yields values, raises an exception, or stops at a request that is not answered
 pub data Got : Type 0 where
@@ -36,9 +32,19 @@ then_do (Yields values s) go = go values s
 then_do (Raises class reason s) go = Raises class reason s
 then_do (Stops request) go = Stops request
 
+-- with the values or with the exception the evaluation goes on
+abbrev pub handled : Got → (List Meaning → State → Got) → (Class → Meaning → State → Got) → Got
+handled (Yields values s) go catch = go values s
+handled (Raises class reason s) go catch = catch class reason s
+handled (Stops request) go catch = Stops request
+
+-- an atom as a term
+abbrev pub name : List ℕ → Meaning
+name text = terms.Name text
+
 -- an error with this atom as its reason
 abbrev pub error : List ℕ → State → Got
-error reason s = Raises Error (terms.Name reason) s
+error reason s = Raises Error (name reason) s
 
 -- where one value is wanted, any other number of them is an error
 abbrev pub one : (Meaning → State → Got) → List Meaning → State → Got
@@ -50,9 +56,17 @@ one go (v ∷ w ∷ vs) s = error (codes "value_count") s
 abbrev pub node_limit : ℕ
 node_limit = 10000
 
--- a term that was built, or an error in its place where it is too large
+-- what is done with a term that was built, or an error in its place where it is too large
+abbrev pub within_limit : Meaning → Got → State → Got
+within_limit m got s = if nat_le (node_count m) node_limit then got else error (codes "system_limit") s
+
+-- a term that was built
 abbrev pub limited : Meaning → State → Got
-limited m s = if nat_le (node_count m) node_limit then Yields (m ∷ []) s else error (codes "system_limit") s
+limited m s = within_limit m (Yields (m ∷ []) s) s
+
+-- an error whose reason was built
+abbrev pub limited_error : Meaning → State → Got
+limited_error m s = within_limit m (Raises Error m s) s
 
 -- what stands in the place of a form that is not evaluated yet; no module with one is run
 abbrev pub not_evaluated : State → Got
@@ -69,35 +83,100 @@ served kind arguments (TimesOut ∷ later) = served kind arguments later
 abbrev pub called : CallKind → List Meaning → State → Got
 called kind arguments s = served kind arguments s.answers
 
--- the list of the numbers of characters
-abbrev pub text_of : List ℕ → Meaning
-text_of cs = list_onto (map (λ c. Integer (pos c)) cs) Empty
+-- ---- exceptions
 
--- the values of the variables in scope, innermost first
-abbrev pub Environment : Type 0
-Environment = List (List ℕ × Meaning)
+-- the atom of a class
+abbrev pub class_name : Class → Meaning
+class_name Error = name (codes "error")
+class_name Exit = name (codes "exit")
+class_name Throw = name (codes "throw")
 
--- the innermost value of a variable
-abbrev pub lookup : List ℕ → Environment → Option Meaning
-lookup name [] = None
-lookup name (b ∷ env) = if pointwise ◌==◌ b.0 name then Some b.1 else lookup name env
+-- the trace of an exception tells its class
+abbrev pub trace_of : Class → Meaning
+trace_of class = Group (group_of (name (codes "$trace") ∷ class_name class ∷ []))
+
+-- the values of the variables of a handler: the class, the reason, and the trace where there are more than two
+abbrev pub caught_values : ℕ → Class → Meaning → List Meaning
+caught_values count class reason = if nat_le count 2 then class_name class ∷ reason ∷ [] else class_name class ∷ reason ∷ trace_of class ∷ []
+
+-- the value that `catch` makes of an exception
+abbrev pub caught : Class → Meaning → State → Got
+caught Error reason s = limited (Group (group_of (name (codes "EXIT") ∷ Group (group_of (reason ∷ Empty ∷ [])) ∷ []))) s
+caught Exit reason s = limited (Group (group_of (name (codes "EXIT") ∷ reason ∷ []))) s
+caught Throw value s = Yields (value ∷ []) s
+
+-- whether a term is a tuple that begins with this atom
+abbrev pub begins_with : List ℕ → Meaning → Bool
+begins_with text (Group (Also first others)) = is_name text first
+begins_with text m = false
+
+-- the reason of a failed match: where the clauses of a function failed, their atom alone
+abbrev pub match_reason : Meaning → Meaning
+match_reason reason = if begins_with (codes "function_clause") reason then name (codes "function_clause") else reason
+
+-- the class of this name
+abbrev pub class_named : Meaning → Option Class
+class_named m =
+    if is_name (codes "error") m then Some Error
+    else (if is_name (codes "exit") m then Some Exit
+    else (if is_name (codes "throw") m then Some Throw else None))
+
+-- the class that a trace tells
+abbrev pub class_in : Meaning → Option Class
+class_in (Group (Also tag (Also class NoMore))) = if is_name (codes "$trace") tag then class_named class else None
+class_in m = None
+
+-- an exception that was caught before is raised again, with the class that its trace tells
+abbrev pub raised_again : Option Class → Meaning → State → Got
+raised_again None reason s = error (codes "badarg") s
+raised_again (Some class) reason s = Raises class reason s
+
+-- ---- what is applied to arguments; a call that was read has as many of them as it wants
+
+abbrev pub applied_to : Callee → List Meaning → State → Got
+applied_to (OfWorld kind) arguments s = called kind arguments s
+applied_to FailsMatch (reason ∷ []) s = Raises Error (match_reason reason) s
+applied_to RaisesAgain (trace ∷ reason ∷ []) s = raised_again (class_in trace) reason s
+applied_to callee arguments s = not_evaluated s
+
+-- ---- variables and clauses
 
 -- the value of a variable; no module that was read has one that is not bound
 abbrev pub value_or_error : Option Meaning → State → Got
 value_or_error None s = error (codes "unbound") s
 value_or_error (Some m) s = Yields (m ∷ []) s
 
--- as many variables as values are bound to them, in order
-abbrev pub bound : List Mention → List Meaning → Environment → Option Environment
-bound [] [] env = Some env
-bound [] (m ∷ ms) env = None
-bound (v ∷ vs) [] env = None
-bound (v ∷ vs) (m ∷ ms) env = bound vs ms ((v.name, m) ∷ env)
+-- what is done with these variables in scope too; another number of values than variables is an error
+abbrev pub within : Option Environment → Environment → (Environment → State → Got) → State → Got
+within None env go s = error (codes "value_count") s
+within (Some bindings) env go s = go (bindings ++ env) s
 
--- what is done in an environment that is there; another number of values than variables is an error
-abbrev pub within : Option Environment → (Environment → State → Got) → State → Got
-within None go s = error (codes "value_count") s
-within (Some env) go s = go env s
+-- whether a guard gave `'true'`, and nothing else
+abbrev pub is_true : List Meaning → Bool
+is_true [] = false
+is_true (m ∷ []) = is_name (codes "true") m
+is_true (m ∷ n ∷ ms) = false
+
+-- a guard that gives `'true'` holds; one that gives anything else, or raises, fails
+abbrev pub judged : Got → (State → Got) → (State → Got) → Got
+judged (Yields values s) holds fails = if is_true values then holds s else fails s
+judged (Raises class reason s) holds fails = fails s
+judged (Stops request) holds fails = Stops request
+
+-- with the variables of a clause that matches the evaluation goes on, and else by the others
+abbrev pub taken : Option Environment → Environment → (Environment → State → Got) → (State → Got) → State → Got
+taken None env go others s = others s
+taken (Some bindings) env go others s = go (bindings ++ env) s
+
+-- several values as one: what is one already, else the tuple of them
+abbrev pub as_one : List Meaning → Meaning
+as_one [] = Group NoMore
+as_one (m ∷ []) = m
+as_one (m ∷ n ∷ ms) = Group (group_of (m ∷ n ∷ ms))
+
+-- no clause is taken
+abbrev pub no_clause : List Meaning → State → Got
+no_clause values s = limited_error (Group (group_of (name (codes "case_clause") ∷ as_one values ∷ []))) s
 
 abbrev mutual
   -- what an expression gives; its parts go from left to right
@@ -105,21 +184,29 @@ abbrev mutual
   evaluate (Number n) env s = Yields (Integer n ∷ []) s
   evaluate (Character c) env s = Yields (Integer (pos c) ∷ []) s
   evaluate (Text cs) env s = limited (text_of cs) s
-  evaluate (syntax.Name text) env s = Yields (terms.Name text ∷ []) s
+  evaluate (syntax.Name text) env s = Yields (name text ∷ []) s
   evaluate (Mentioned v) env s = value_or_error (lookup v.name env) s
   evaluate (Grouped ts) env s = then_do (evaluate_all ts env [] s) (λ vs s'. limited (Group (group_of vs)) s')
   evaluate (Listed ts) env s = then_do (evaluate_all ts env [] s) (λ vs s'. limited (list_onto vs Empty) s')
   evaluate (Joined ts t) env s = then_do (evaluate_all ts env [] s) (λ vs s'. then_do (evaluate t env s') (one (λ v s''. limited (list_onto vs v) s'')))
   evaluate (Several ts) env s = evaluate_all ts env [] s
-  evaluate (Bound variables t body) env s = then_do (evaluate t env s) (λ vs s'. within (bound variables vs env) (λ inner s''. evaluate body inner s'') s')
+  evaluate (Bound variables t body) env s = then_do (evaluate t env s) (λ vs s'. within (bound variables vs []) env (λ inner s''. evaluate body inner s'') s')
   evaluate (Followed t u) env s = then_do (evaluate t env s) (one (λ v s'. evaluate u env s'))
-  evaluate (Called at (OfWorld kind) ts) env s = then_do (evaluate_all ts env [] s) (λ vs s'. called kind vs s')
-  evaluate (Called at callee ts) env s = not_evaluated s
-  evaluate (Chosen at t cs) env s = not_evaluated s
-  evaluate (Tried at t vs u ws h) env s = not_evaluated s
-  evaluate (Caught at t) env s = not_evaluated s
+  evaluate (Called at callee ts) env s = then_do (evaluate_all ts env [] s) (λ vs s'. applied_to callee vs s')
+  evaluate (Chosen at t cs) env s = then_do (evaluate t env s) (λ vs s'. choose cs vs env s')
+  evaluate (Tried at t variables body caught_variables handler) env s =
+      handled (evaluate t env s)
+      (λ vs s'. within (bound variables vs []) env (λ inner s''. evaluate body inner s'') s')
+      (λ class reason s'. within (bound caught_variables (caught_values (length caught_variables) class reason) []) env (λ inner s''. evaluate handler inner s'') s')
+  evaluate (Caught at t) env s = handled (evaluate t env s) Yields caught
 
   -- the values of several expressions, each of which wants to be one, behind those that are there
   pub evaluate_all : Trees → Environment → List Meaning → State → Got
   evaluate_all syntax.NoMore env done s = Yields done s
   evaluate_all (syntax.Also t ts) env done s = then_do (evaluate t env s) (one (λ v s'. evaluate_all ts env (done ++ v ∷ []) s'))
+
+  -- the first clause that the values match and whose guard holds; a clause with another number of patterns than values does not match
+  pub choose : Clauses → List Meaning → Environment → State → Got
+  choose NoClause values env s = no_clause values s
+  choose (Clause patterns guard body others) values env s =
+      taken (match_each (patterns_of patterns) values []) env (λ inner s'. judged (evaluate guard inner s') (λ s''. evaluate body inner s'') (λ s''. choose others values env s'')) (λ s'. choose others values env s') s

@@ -1,19 +1,22 @@
 -- The frames of the code's stack, as contracts see them.
-use Rattle.std.specs.Prelude.{List, map, reverse}
-use Rattle.core_tree.specs.Tree.{tree_of}
+use Rattle.std.specs.Prelude.{ℕ, List, map, reverse}
+use Rattle.core_tree.specs.Tree.{callee_of, tree_of}
+use Rattle.core_eval.specs.declared.bindings.Binding.{Binding}
 use Rattle.core_eval.specs.declared.frame.Purpose.{Purpose as Use}
 use Rattle.core_eval.specs.declared.frame.Purpose.TheVariants as uses
 use Rattle.core_eval.specs.declared.frame.Frame.{Frame}
 use Rattle.core_eval.specs.declared.frame.Frame.TheVariants as frames
+use Rattle.term_core.specs.Meaning.{Meaning}
 use Rattle.term_core.specs.Term.{meaning_of}
-use Rattle.core_eval.specs.Holes.{Purpose, ToGroup, ToList, ToFront, ToCall, ToValues, Hole, Gathers, EndsList, Binds, Discards, Keeps}
+use Rattle.core_eval.specs.Matching.{Environment}
+use Rattle.core_eval.specs.Holes.{Purpose, ToGroup, ToList, ToFront, ToCall, ToValues, Hole, Gathers, EndsList, Binds, Discards, Chooses, Guards, Tries, Catches, Keeps}
 
 -- what a frame's parts are for
 abbrev pub purpose_of : Use → Purpose
 purpose_of uses.Tuple = ToGroup
 purpose_of uses.List = ToList
 purpose_of (uses.Onto tail) = ToFront (tree_of tail.now)
-purpose_of (uses.Call kind) = ToCall kind
+purpose_of (uses.Call callee) = ToCall (callee_of callee.now)
 purpose_of uses.Values = ToValues
 
 -- what a frame leaves out
@@ -22,7 +25,11 @@ hole_of (frames.Parts purpose done later) = Gathers (purpose_of purpose) done (m
 hole_of (frames.Tail items) = EndsList items
 hole_of (frames.Body variables body) = Binds variables.now (tree_of body.now)
 hole_of (frames.Second second) = Discards (tree_of second.now)
-hole_of (frames.Kept name value) = Keeps name.now (meaning_of value)
+hole_of (frames.Clauses clauses) = Chooses clauses.now
+hole_of (frames.Guard bindings body others values) = Guards bindings (tree_of body.now) others.now values
+hole_of (frames.Try protected) = Tries protected.now.2 (protected.now.3) protected.now.4 protected.now.5
+hole_of frames.Catch = Catches
+hole_of (frames.Kept bindings) = Keeps bindings
 
 -- a stack's frames from the top down; the last item of the list is the top
 abbrev pub holes_of : List Frame → List Hole

@@ -5,69 +5,102 @@ use Rattle.std.proofs.Common.{inl, inr}
 use base.Stored.{coded_unit}
 use Rattle.core_tree.specs.declared.call.CallKind.{CallKind}
 use Rattle.core_tree.specs.Calls.{coded_call}
-use Rattle.core_tree.specs.Syntax.{Mention, Tree}
-use Rattle.core_tree.specs.SyntaxCodes.{coded_mention, coded_tree}
+use Rattle.core_tree.specs.Syntax.{Mention, Callee, Tree, ClauseTree}
+use Rattle.core_tree.specs.SyntaxCodes.{coded_mention, coded_callee, coded_tree, coded_clause}
 use Rattle.term_core.specs.Meaning.{Meaning, coded_meaning}
 use Rattle.core_eval.specs.Asked.{Asked, Asks, Receives, Ends, RunsAway}
-use Rattle.core_eval.specs.Holes.{Purpose, ToGroup, ToList, ToFront, ToCall, ToValues, Hole, Gathers, EndsList, Binds, Discards, Keeps}
+use Rattle.core_eval.specs.Matching.{Environment}
+use Rattle.core_eval.specs.Holes.{Purpose, ToGroup, ToList, ToFront, ToCall, ToValues, Hole, Gathers, EndsList, Binds, Discards, Chooses, Guards, Tries, Catches, Keeps}
 
 abbrev PurposeShape : Type 0
-PurposeShape = (Unit {0} ⊎ Unit {0}) ⊎ (Tree ⊎ (CallKind ⊎ Unit {0}))
+PurposeShape = (Unit {0} ⊎ Unit {0}) ⊎ (Tree ⊎ (Callee ⊎ Unit {0}))
 
 abbrev purpose_shape : Purpose → PurposeShape
 purpose_shape ToGroup = inl (inl tt)
 purpose_shape ToList = inl (inr tt)
 purpose_shape (ToFront t) = inr (inl t)
-purpose_shape (ToCall kind) = inr (inr (inl kind))
+purpose_shape (ToCall callee) = inr (inr (inl callee))
 purpose_shape ToValues = inr (inr (inr tt))
 
 abbrev purpose_in : PurposeShape → Purpose
 purpose_in (inl (inl u)) = ToGroup
 purpose_in (inl (inr u)) = ToList
 purpose_in (inr (inl t)) = ToFront t
-purpose_in (inr (inr (inl kind))) = ToCall kind
+purpose_in (inr (inr (inl callee))) = ToCall callee
 purpose_in (inr (inr (inr u))) = ToValues
 
 pub purpose_in-purpose_shape : (p : Purpose) → purpose_in (purpose_shape p) ≡ p
 purpose_in-purpose_shape ToGroup = refl
 purpose_in-purpose_shape ToList = refl
 purpose_in-purpose_shape (ToFront t) = refl
-purpose_in-purpose_shape (ToCall kind) = refl
+purpose_in-purpose_shape (ToCall callee) = refl
 purpose_in-purpose_shape ToValues = refl
 
 abbrev pub coded_purpose : Coded Purpose
-coded_purpose = code_by PurposeShape (coded⊎ (coded⊎ coded_unit coded_unit) (coded⊎ coded_tree (coded⊎ coded_call coded_unit))) purpose_shape purpose_in purpose_in-purpose_shape
+coded_purpose = code_by PurposeShape (coded⊎ (coded⊎ coded_unit coded_unit) (coded⊎ coded_tree (coded⊎ coded_callee coded_unit))) purpose_shape purpose_in purpose_in-purpose_shape
+
+abbrev pub coded_environment : Coded Environment
+coded_environment = coded_list (coded× (coded_list coded_ℕ) coded_meaning)
+
+-- the holes that wait for one of several parts, for values, and for what may raise
+abbrev PartShape : Type 0
+PartShape = (Purpose × (List Meaning × List Tree)) ⊎ (List Meaning ⊎ Tree)
+
+abbrev ValuesShape : Type 0
+ValuesShape = (List Mention × Tree) ⊎ (List ClauseTree ⊎ Environment)
+
+abbrev ProtectedShape : Type 0
+ProtectedShape = (Environment × (Tree × (List ClauseTree × List Meaning))) ⊎ ((List Mention × (Tree × (List Mention × Tree))) ⊎ Unit {0})
 
 abbrev HoleShape : Type 0
-HoleShape = ((Purpose × (List Meaning × List Tree)) ⊎ List Meaning) ⊎ ((List Mention × Tree) ⊎ (Tree ⊎ (List ℕ × Meaning)))
+HoleShape = PartShape ⊎ (ValuesShape ⊎ ProtectedShape)
 
 abbrev hole_shape : Hole → HoleShape
 hole_shape (Gathers purpose done later) = inl (inl (purpose, (done, later)))
-hole_shape (EndsList items) = inl (inr items)
-hole_shape (Binds variables body) = inr (inl (variables, body))
-hole_shape (Discards second) = inr (inr (inl second))
-hole_shape (Keeps name value) = inr (inr (inr (name, value)))
+hole_shape (EndsList items) = inl (inr (inl items))
+hole_shape (Discards second) = inl (inr (inr second))
+hole_shape (Binds variables body) = inr (inl (inl (variables, body)))
+hole_shape (Chooses clauses) = inr (inl (inr (inl clauses)))
+hole_shape (Keeps bindings) = inr (inl (inr (inr bindings)))
+hole_shape (Guards bindings body others values) = inr (inr (inl (bindings, (body, (others, values)))))
+hole_shape (Tries variables body caught handler) = inr (inr (inr (inl (variables, (body, (caught, handler))))))
+hole_shape Catches = inr (inr (inr (inr tt)))
 
 abbrev hole_in : HoleShape → Hole
 hole_in (inl (inl g)) = Gathers g.0 g.1.0 g.1.1
-hole_in (inl (inr items)) = EndsList items
-hole_in (inr (inl b)) = Binds b.0 b.1
-hole_in (inr (inr (inl second))) = Discards second
-hole_in (inr (inr (inr k))) = Keeps k.0 k.1
+hole_in (inl (inr (inl items))) = EndsList items
+hole_in (inl (inr (inr second))) = Discards second
+hole_in (inr (inl (inl b))) = Binds b.0 b.1
+hole_in (inr (inl (inr (inl clauses)))) = Chooses clauses
+hole_in (inr (inl (inr (inr bindings)))) = Keeps bindings
+hole_in (inr (inr (inl g))) = Guards g.0 g.1.0 g.1.1.0 g.1.1.1
+hole_in (inr (inr (inr (inl t)))) = Tries t.0 t.1.0 t.1.1.0 t.1.1.1
+hole_in (inr (inr (inr (inr u)))) = Catches
 
 pub hole_in-hole_shape : (h : Hole) → hole_in (hole_shape h) ≡ h
 hole_in-hole_shape (Gathers purpose done later) = refl
 hole_in-hole_shape (EndsList items) = refl
 hole_in-hole_shape (Binds variables body) = refl
 hole_in-hole_shape (Discards second) = refl
-hole_in-hole_shape (Keeps name value) = refl
+hole_in-hole_shape (Chooses clauses) = refl
+hole_in-hole_shape (Guards bindings body others values) = refl
+hole_in-hole_shape (Tries variables body caught handler) = refl
+hole_in-hole_shape Catches = refl
+hole_in-hole_shape (Keeps bindings) = refl
+
+abbrev coded_part : Coded PartShape
+coded_part = coded⊎ (coded× coded_purpose (coded× (coded_list coded_meaning) (coded_list coded_tree))) (coded⊎ (coded_list coded_meaning) coded_tree)
+
+abbrev coded_values : Coded ValuesShape
+coded_values = coded⊎ (coded× (coded_list coded_mention) coded_tree) (coded⊎ (coded_list coded_clause) coded_environment)
+
+abbrev coded_protected : Coded ProtectedShape
+coded_protected =
+    coded⊎ (coded× coded_environment (coded× coded_tree (coded× (coded_list coded_clause) (coded_list coded_meaning))))
+    (coded⊎ (coded× (coded_list coded_mention) (coded× coded_tree (coded× (coded_list coded_mention) coded_tree))) coded_unit)
 
 abbrev pub coded_hole : Coded Hole
-coded_hole =
-    code_by HoleShape
-    (coded⊎ (coded⊎ (coded× coded_purpose (coded× (coded_list coded_meaning) (coded_list coded_tree))) (coded_list coded_meaning))
-    (coded⊎ (coded× (coded_list coded_mention) coded_tree) (coded⊎ coded_tree (coded× (coded_list coded_ℕ) coded_meaning))))
-    hole_shape hole_in hole_in-hole_shape
+coded_hole = code_by HoleShape (coded⊎ coded_part (coded⊎ coded_values coded_protected)) hole_shape hole_in hole_in-hole_shape
 
 abbrev AskedShape : Type 0
 AskedShape = ((CallKind × List Meaning) ⊎ Bool) ⊎ (Meaning ⊎ Unit {0})

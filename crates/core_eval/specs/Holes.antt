@@ -1,12 +1,11 @@
 -- A stack of what is still to do, as contracts see it: each item is an expression with one part left out, and says what the whole gives once the part is there.
-use Rattle.std.specs.Prelude.{ℕ, ◌==◌, List, [], ◌∷◌, ◌++◌, Option, Some, None, if◌then◌else◌}
-use Rattle.std.specs.Cmp.Lexicographic.{pointwise}
-use Rattle.core_tree.specs.declared.call.CallKind.{CallKind}
-use Rattle.core_tree.specs.Syntax.{Mention, Tree, trees_of}
+use Rattle.std.specs.Prelude.{ℕ, List, [], ◌∷◌, ◌++◌, length, Option, Some, None}
+use Rattle.core_tree.specs.Syntax.{Mention, Callee, Tree, ClauseTree, trees_of, clauses_of}
 use Rattle.term_core.specs.Meaning.{Meaning, Group, Empty, group_of}
 use Rattle.term_core.specs.Term.{list_onto}
 use Rattle.core_eval.specs.Asked.{Asked, Asks, Receives, Ends, RunsAway, Answered}
-use Rattle.core_eval.specs.Evaluation.{State, before, Got, Yields, then_do, one, limited, called, Environment, bound, within, evaluate, evaluate_all}
+use Rattle.core_eval.specs.Matching.{Environment, lookup, bound}
+use Rattle.core_eval.specs.Evaluation.{State, before, Got, Yields, then_do, handled, one, limited, called, caught, caught_values, applied_to, within, judged, evaluate, evaluate_all, choose}
 use Rattle.core_eval.specs.Ask.{request_of}
 
 -- what several values are evaluated for
@@ -14,49 +13,60 @@ pub data Purpose : Type 0 where
   ToGroup : Purpose
   ToList : Purpose
   ToFront : (tail : Tree) → Purpose
-  ToCall : (kind : CallKind) → Purpose
+  ToCall : (callee : Callee) → Purpose
   ToValues : Purpose
 
--- what is left out: one of several parts, the tail of a list, the value of a `let`, the first part of a `do`; a variable's value is kept for what is above it
+-- what is left out: one of several parts, the tail of a list, the value of a `let`, the first part of a `do`, the values of a `case`, the guard of a clause with what it binds, what a `try` or a `catch` protects; the values of variables are kept for what is above them
 pub data Hole : Type 0 where
   Gathers : (purpose : Purpose) (done : List Meaning) (later : List Tree) → Hole
   EndsList : (items : List Meaning) → Hole
   Binds : (variables : List Mention) (body : Tree) → Hole
   Discards : (second : Tree) → Hole
-  Keeps : (name : List ℕ) (value : Meaning) → Hole
+  Chooses : (clauses : List ClauseTree) → Hole
+  Guards : (bindings : Environment) (body : Tree) (others : List ClauseTree) (values : List Meaning) → Hole
+  Tries : (variables : List Mention) (body : Tree) (caught : List Mention) (handler : Tree) → Hole
+  Catches : Hole
+  Keeps : (bindings : Environment) → Hole
+
+-- the variables that a hole keeps for what is above it
+abbrev pub kept_in : Hole → Environment
+kept_in (Gathers purpose done later) = []
+kept_in (EndsList items) = []
+kept_in (Binds variables body) = []
+kept_in (Discards second) = []
+kept_in (Chooses clauses) = []
+kept_in (Guards bindings body others values) = bindings
+kept_in (Tries variables body caught handler) = []
+kept_in Catches = []
+kept_in (Keeps bindings) = bindings
 
 -- the variables in scope on top of a stack
 abbrev pub scope : List Hole → Environment
 scope [] = []
-scope (Gathers purpose done later ∷ holes) = scope holes
-scope (EndsList items ∷ holes) = scope holes
-scope (Binds variables body ∷ holes) = scope holes
-scope (Discards second ∷ holes) = scope holes
-scope (Keeps name value ∷ holes) = (name, value) ∷ scope holes
-
--- the value of a variable, if it is kept just here
-abbrev pub value_in : List ℕ → Hole → Option Meaning
-value_in name (Gathers purpose done later) = None
-value_in name (EndsList items) = None
-value_in name (Binds variables body) = None
-value_in name (Discards second) = None
-value_in name (Keeps kept value) = if pointwise ◌==◌ kept name then Some value else None
+scope (hole ∷ holes) = kept_in hole ++ scope holes
 
 -- what the values become
 abbrev pub become : Purpose → Environment → List Meaning → State → Got
 become ToGroup env vs s = limited (Group (group_of vs)) s
 become ToList env vs s = limited (list_onto vs Empty) s
 become (ToFront t) env vs s = then_do (evaluate t env s) (one (λ v s'. limited (list_onto vs v) s'))
-become (ToCall kind) env vs s = called kind vs s
+become (ToCall callee) env vs s = applied_to callee vs s
 become ToValues env vs s = Yields vs s
 
 -- what an expression gives where the part that was left out gives this
 abbrev pub filled : Hole → Environment → Got → Got
 filled (Gathers purpose done later) env got = then_do (then_do got (one (λ v s. evaluate_all (trees_of later) env (done ++ v ∷ []) s))) (λ vs s. become purpose env vs s)
 filled (EndsList items) env got = then_do got (one (λ v s. limited (list_onto items v) s))
-filled (Binds variables body) env got = then_do got (λ vs s. within (bound variables vs env) (λ inner s'. evaluate body inner s') s)
+filled (Binds variables body) env got = then_do got (λ vs s. within (bound variables vs []) env (λ inner s'. evaluate body inner s') s)
 filled (Discards second) env got = then_do got (one (λ v s. evaluate second env s))
-filled (Keeps name value) env got = got
+filled (Chooses clauses) env got = then_do got (λ vs s. choose (clauses_of clauses) vs env s)
+filled (Guards bindings body others values) env got = judged got (λ s. evaluate body (bindings ++ env) s) (λ s. choose (clauses_of others) values env s)
+filled (Tries variables body caught handler) env got =
+    handled got
+    (λ vs s. within (bound variables vs []) env (λ inner s'. evaluate body inner s') s)
+    (λ class reason s. within (bound caught (caught_values (length caught) class reason) []) env (λ inner s'. evaluate handler inner s') s)
+filled Catches env got = handled got Yields caught
+filled (Keeps bindings) env got = got
 
 -- what the outermost expression gives where the innermost part gives this
 abbrev pub through : List Hole → Got → Got

@@ -1,10 +1,13 @@
 pub mod NotYet
 pub mod Asked
 pub mod Requests
+pub mod Matching
 pub mod Evaluation
 pub mod Ask
 pub mod Holes
 pub mod HoleCodes
+pub mod Bindings
+pub mod Matched
 pub mod Frames
 pub mod Steps
 pub mod Standing

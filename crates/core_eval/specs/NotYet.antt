@@ -1,7 +1,7 @@
 -- Forms that are read and not evaluated yet: no module that holds one is run.
 use Rattle.std.specs.Prelude.{ℕ, zero, suc, List, [], ◌∷◌, Option, Some, None}
 use Rattle.std.specs.Option.{option_or}
-use Rattle.core_tree.specs.Syntax.{OfWorld, Tree, Trees, Number, Character, Text, Name, Mentioned, Grouped, Listed, Joined, Several, Bound, Chosen, Followed, Called, Tried, Caught, NoMore, Also, DefinitionTree, ModuleTree}
+use Rattle.core_tree.specs.Syntax.{OfItself, OfExport, OfDefinition, Tree, Trees, Clauses, Number, Character, Text, Name, Mentioned, Grouped, Listed, Joined, Several, Bound, Chosen, Followed, Called, Tried, Caught, NoMore, Also, NoClause, Clause, DefinitionTree, ModuleTree}
 
 abbrev mutual
   -- the place of the first such form of an expression, in the order of the text
@@ -17,15 +17,21 @@ abbrev mutual
   not_evaluated_in (Several ts) = not_evaluated_among ts
   not_evaluated_in (Bound vs t u) = option_or (not_evaluated_in t) (not_evaluated_in u)
   not_evaluated_in (Followed t u) = option_or (not_evaluated_in t) (not_evaluated_in u)
-  not_evaluated_in (Called at (OfWorld kind) ts) = not_evaluated_among ts
-  not_evaluated_in (Called at callee ts) = Some at
-  not_evaluated_in (Chosen at t cs) = Some at
-  not_evaluated_in (Tried at t vs u ws h) = Some at
-  not_evaluated_in (Caught at t) = Some at
+  not_evaluated_in (Chosen at t cs) = option_or (not_evaluated_in t) (not_evaluated_in_clauses cs)
+  not_evaluated_in (Tried at t vs u ws h) = option_or (not_evaluated_in t) (option_or (not_evaluated_in u) (not_evaluated_in h))
+  not_evaluated_in (Caught at t) = not_evaluated_in t
+  not_evaluated_in (Called at (OfItself kind) ts) = Some at
+  not_evaluated_in (Called at (OfExport f) ts) = Some at
+  not_evaluated_in (Called at (OfDefinition n) ts) = Some at
+  not_evaluated_in (Called at callee ts) = not_evaluated_among ts
 
   pub not_evaluated_among : Trees → Option ℕ
   not_evaluated_among NoMore = None
   not_evaluated_among (Also t ts) = option_or (not_evaluated_in t) (not_evaluated_among ts)
+
+  pub not_evaluated_in_clauses : Clauses → Option ℕ
+  not_evaluated_in_clauses NoClause = None
+  not_evaluated_in_clauses (Clause ps g b cs) = option_or (option_or (not_evaluated_in g) (not_evaluated_in b)) (not_evaluated_in_clauses cs)
 
 -- the place of the first such form of several definitions
 abbrev pub not_evaluated_by : List DefinitionTree → Option ℕ

@@ -1,12 +1,12 @@
 // The terms that evaluation builds.
 ghost use Rattle.std.specs.Prelude.{◌≡◌, ◌≤◌, ◌++◌, ◌∷◌, [], IfOk};
-ghost use Rattle.term_core.specs.Meaning.{Name};
+ghost use Rattle.term_core.specs.Meaning.{Group, group_of};
 ghost use Rattle.term_core.specs.Term.{meaning_of};
-ghost use Rattle.core_eval.specs.Evaluation.{Error, error, limited};
-ghost use Rattle.core_eval.specs.Ask.{reason_of};
+ghost use Rattle.core_eval.specs.Evaluation.{error, limited, limited_error, name};
 ghost use Rattle.core_eval.specs.Steps.{Means, load};
 
 use crate::control::Control;
+use crate::exception::Class;
 use std::alloc::{AllocError, Global};
 use term_core::{Atom, Term, Terms};
 
@@ -15,7 +15,7 @@ const NODE_LIMIT: u64 = 10_000;
 
 /// The atom of this text.
 pub(crate) fn atom(alloc: Global, text: &str) -> Result<Term, AllocError>
-    ensures { IfOk result (λ atom. meaning_of atom ≡ Name text.now) }
+    ensures { IfOk result (λ atom. meaning_of atom ≡ name text.now) }
 {
     Ok(Term::Atom(Atom(String::from_str(alloc, text)?)))
 }
@@ -25,7 +25,26 @@ pub(crate) fn error<'m>(alloc: Global, text: &str) -> Result<Control<'m>, AllocE
     ensures same { IfOk result (λ next. Means next (error text.now)) }
     ensures less { IfOk result (λ next. load next ≡ 0) }
 {
-    Ok(Control::Raise(atom(alloc, text)?))
+    Ok(Control::Raise(Class::Error, atom(alloc, text)?))
+}
+
+/// The tuple of two terms.
+pub(crate) fn pair(alloc: Global, first: Term, second: Term) -> Result<Term, AllocError>
+    ensures { IfOk result (λ pair. meaning_of pair ≡ Group (group_of (meaning_of first ∷ meaning_of second ∷ []))) }
+{
+    let mut parts = Vec::with_capacity(alloc, 2)?;
+    parts.push(first)?;
+    parts.push(second)?;
+    Ok(Term::Tuple(Terms(parts)))
+}
+
+/// One term as several.
+pub(crate) fn single(alloc: Global, term: Term) -> Result<Terms, AllocError>
+    ensures { IfOk result (λ terms. terms ≡ meaning_of term ∷ []) }
+{
+    let mut terms = Vec::with_capacity(alloc, 1)?;
+    terms.push(term)?;
+    Ok(Terms(terms))
 }
 
 /// The term, or the error `'system_limit'` in its place where it has too many nodes.
@@ -40,6 +59,18 @@ pub(crate) fn limited<'m>(alloc: Global, term: Term) -> Result<Control<'m>, Allo
     }
 }
 
+/// An error with the term as its reason, or the error `'system_limit'` where that has too many nodes.
+pub(crate) fn limited_error<'m>(alloc: Global, reason: Term) -> Result<Control<'m>, AllocError>
+    ensures same { IfOk result (λ next. Means next (limited_error (meaning_of reason))) }
+    ensures less { IfOk result (λ next. load next ≡ 0) }
+{
+    if reason.nodes() <= NODE_LIMIT {
+        Ok(Control::Raise(Class::Error, reason))
+    } else {
+        error(alloc, "system_limit")
+    }
+}
+
 /// The terms with one more at their end.
 pub(crate) fn with_last(terms: Terms, last: Term) -> Result<Terms, AllocError>
     ensures { IfOk result (λ all. all ≡ terms ++ meaning_of last ∷ []) }
@@ -47,14 +78,4 @@ pub(crate) fn with_last(terms: Terms, last: Term) -> Result<Terms, AllocError>
     let mut all = terms;
     all.0.push(last)?;
     Ok(all)
-}
-
-/// The reason of the end by an error with this reason: the tuple of it and nil.
-pub(crate) fn end_by_error(alloc: Global, reason: Term) -> Result<Term, AllocError>
-    ensures { IfOk result (λ end. meaning_of end ≡ reason_of Error (meaning_of reason)) }
-{
-    let mut parts = Vec::with_capacity(alloc, 2)?;
-    parts.push(reason)?;
-    parts.push(Term::Nil)?;
-    Ok(Term::Tuple(Terms(parts)))
 }

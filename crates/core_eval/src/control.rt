@@ -1,4 +1,5 @@
 // What is on top of the stack of a machine that runs.
+use crate::exception::Class;
 use core_tree::{CallKind, Expr};
 use term_core::{Term, Terms};
 
@@ -11,8 +12,8 @@ pub(crate) enum Control<'m> {
     Return(Term),
     /// To go on with these values of the innermost expression, any number of them.
     Values(Terms),
-    /// To raise an error with this reason.
-    Raise(Term),
+    /// To raise an exception of this class with this reason.
+    Raise(Class, Term),
     /// To ask the world for this call.
     Ask(CallKind, Terms),
 }

@@ -5,6 +5,7 @@ ghost use Rattle.core_eval.specs.Ask.{entry, first_function, definition, is_expo
 ghost use Rattle.core_eval.specs.Functions.{function_in};
 ghost use Rattle.core_eval.specs.Steps.{EntersWith};
 
+use crate::bindings::Bindings;
 use crate::build::error;
 use crate::control::Control;
 use crate::frame::Frame;
@@ -57,30 +58,21 @@ fn definition_of<'m>(program: &'m Module, function: &FunctionName) -> Option<&'m
     program.definitions.get(function)
 }
 
-/// Into the body of a function with its arguments; another number of arguments than parameters is an error.
-pub(crate) fn enter_function<'m>(
+/// Into a body with these values as its variables; another number of values than variables is an error.
+pub(crate) fn bind<'m>(
     alloc: Global,
     stack: &mut Stack<'m>,
-    parameters: &'m [Variable],
+    variables: &'m [Variable],
     body: &'m Expr,
-    arguments: Terms,
+    values: Terms,
 ) -> Result<Control<'m>, AllocError>
-    ensures { IfOk result (λ next.
-        EntersWith stack.old stack.new next parameters.now arguments (tree_of body.now)) }
+    ensures { IfOk result (λ next. EntersWith stack.old stack.new next variables.now values (tree_of body.now)) }
 {
-    let mut left = parameters;
-    let mut values = arguments.0;
-    values.reverse();
-    while let Some(value) = values.pop() {
-        let Some((parameter, others)) = left.split_first() else {
-            return error(alloc, "value_count");
-        };
-        stack.push(Frame::Kept(parameter.name.as_slice(), value))?;
-        left = others;
-    }
-    if left.is_empty() {
-        Ok(Control::Evaluate(body))
-    } else {
-        error(alloc, "value_count")
+    match Bindings::of(alloc, variables, values)? {
+        Some(bindings) => {
+            stack.push(Frame::Kept(bindings))?;
+            Ok(Control::Evaluate(body))
+        }
+        None => error(alloc, "value_count"),
     }
 }

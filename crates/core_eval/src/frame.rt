@@ -1,10 +1,12 @@
-// The frames of the stack: what is still to do with the value of an expression.
+// The frames of the stack: what is still to do with the values of an expression, or with what it raises.
 ghost use Rattle.std.specs.Prelude.{◌≡◌, IfOk, option_map};
 ghost use Rattle.core_eval.specs.Frames.{hole_of};
-ghost use Rattle.core_eval.specs.Holes.{value_in};
+ghost use Rattle.core_eval.specs.Holes.{kept_in};
+ghost use Rattle.core_eval.specs.Matching.{lookup};
 ghost use Rattle.term_core.specs.Term.{meaning_of};
 
-use core_tree::{CallKind, Expr, Variable};
+use crate::bindings::Bindings;
+use core_tree::{Callee, Clause, Expr, Try, Variable};
 use std::alloc::{AllocError, Global};
 use term_core::{Term, Terms};
 
@@ -15,8 +17,8 @@ pub(crate) enum Purpose<'m> {
     List,
     /// The items of a list that goes on with the value of this expression.
     Onto(&'m Expr),
-    /// The arguments of a call.
-    Call(CallKind),
+    /// The arguments of what is called.
+    Call(&'m Callee),
     /// Values that stand side by side.
     Values,
 }
@@ -28,21 +30,31 @@ pub(crate) enum Frame<'m> {
     Parts(Purpose<'m>, Terms, &'m [Expr]),
     /// The tail behind these items of a list.
     Tail(Terms),
-    /// The value of a `let`: its variables and its body.
+    /// The values of a `let`: its variables and its body.
     Body(&'m [Variable], &'m Expr),
     /// The first expression of a `do`, and the second.
     Second(&'m Expr),
-    /// An expression inside the scope of this variable, and its value.
-    Kept(&'m [u8], Term),
+    /// The values of a `case`, and its clauses.
+    Clauses(&'m [Clause]),
+    /// The guard of a clause: what its patterns bind, its body, the clauses behind it, and the values of the
+    /// `case`.
+    Guard(Bindings<'m>, &'m Expr, &'m [Clause], Terms),
+    /// What a `try` protects.
+    Try(&'m Try),
+    /// What a `catch` protects.
+    Catch,
+    /// An expression inside the scope of these variables.
+    Kept(Bindings<'m>),
 }
 
 impl<'m> Frame<'m> {
-    /// The value of the variable of this name, if the frame keeps it.
-    pub(crate) fn value_of(&self, name: &[u8]) -> Option<&Term>
-        ensures { option_map (λ found. meaning_of found.now) result ≡ value_in name.now (hole_of self.now) }
+    /// The value of the innermost variable of this name that the frame keeps.
+    pub(crate) fn lookup(&self, name: &[u8]) -> Option<&Term>
+        ensures { option_map (λ found. meaning_of found.now) result ≡ lookup name.now (kept_in (hole_of self.now)) }
     {
         match self {
-            Frame::Kept(kept, value) if *kept == name => Some(value),
+            Frame::Kept(bindings) => bindings.lookup(name),
+            Frame::Guard(bindings, _, _, _) => bindings.lookup(name),
             _ => None,
         }
     }
@@ -56,7 +68,13 @@ impl<'m> Frame<'m> {
             Frame::Tail(items) => Frame::Tail(items.copy(alloc)?),
             Frame::Body(variables, body) => Frame::Body(variables, body),
             Frame::Second(second) => Frame::Second(second),
-            Frame::Kept(name, value) => Frame::Kept(name, value.copy(alloc)?),
+            Frame::Clauses(clauses) => Frame::Clauses(clauses),
+            Frame::Guard(bindings, body, others, values) => {
+                Frame::Guard(bindings.copy(alloc)?, body, others, values.copy(alloc)?)
+            }
+            Frame::Try(protected) => Frame::Try(protected),
+            Frame::Catch => Frame::Catch,
+            Frame::Kept(bindings) => Frame::Kept(bindings.copy(alloc)?),
         })
     }
 }

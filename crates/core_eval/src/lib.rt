@@ -1,11 +1,15 @@
 // The machine that runs one process of a module, from one request of the world to the next.
 #![tactic(auto)]
 
+mod bindings;
 mod build;
 mod control;
 mod entry;
+mod exception;
 mod frame;
+mod leave;
 pub mod machine;
+mod matching;
 mod not_yet;
 pub mod request;
 mod run;

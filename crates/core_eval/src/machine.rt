@@ -7,7 +7,8 @@ ghost use Rattle.core_eval.specs.Standing.{StandsAt, after, is_spent};
 
 use crate::build::error;
 use crate::control::Control;
-use crate::entry::{enter_function, first_definition};
+use crate::entry::{bind, first_definition};
+use crate::exception::Class;
 use crate::request::{Answer, Request};
 use crate::run::run;
 use crate::stack::Stack;
@@ -57,7 +58,7 @@ pub fn start<'m>(
     let mut stack = Stack::new(alloc);
     let found = first_definition(alloc, program, &pid, module_name, function_name, &arguments)?;
     let control = match found {
-        Some(definition) => enter_function(
+        Some(definition) => bind(
             alloc,
             &mut stack,
             definition.parameters.as_slice(),
@@ -101,7 +102,7 @@ impl<'m> Machine<'m> {
         };
         let control = match answer {
             Answer::Value(value) => Control::Return(value),
-            Answer::Raise(reason) => Control::Raise(reason),
+            Answer::Raise(reason) => Control::Raise(Class::Error, reason),
             Answer::Message(_) | Answer::TimedOut => return Ok(()),
         };
         self.is_spent = true;

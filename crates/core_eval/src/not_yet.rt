@@ -1,11 +1,13 @@
 // Which modules hold a form that is not evaluated yet.
 ghost use Rattle.std.specs.Prelude.{◌≡◌, map};
-ghost use Rattle.core_tree.specs.Syntax.{trees_of};
+ghost use Rattle.core_tree.specs.Syntax.{trees_of, clauses_of};
 ghost use Rattle.core_tree.specs.Tree.{tree_of};
 ghost use Rattle.core_tree.specs.Definitions.{definition_of};
-ghost use Rattle.core_eval.specs.NotYet.{first_not_evaluated, not_evaluated_among, not_evaluated_at, not_evaluated_in};
+ghost use Rattle.core_eval.specs.NotYet.{first_not_evaluated, not_evaluated_among, not_evaluated_at, not_evaluated_in, not_evaluated_in_clauses};
 
-use core_tree::{Callee, Definition, Do, Expr, Exprs, FunctionName, Let, Module, Onto};
+use core_tree::{
+    Callee, Case, Catch, Clauses, Definition, Do, Expr, Exprs, FunctionName, Let, Module, Onto, Try,
+};
 use indexmap::IndexMap;
 
 /// The place of the first form of the module that the machine does not evaluate yet, in the order of the
@@ -51,13 +53,22 @@ fn in_expr(expr: &Expr) -> Option<usize>
             let both: &Do = both;
             in_expr(&both.first).or(in_expr(&both.second))
         }
+        Expr::Case(case) => {
+            let case: &Case = case;
+            in_expr(&case.value).or(in_clauses(&case.clauses))
+        }
+        Expr::Try(protected) => {
+            let protected: &Try = protected;
+            in_expr(&protected.value).or(in_expr(&protected.body).or(in_expr(&protected.handler)))
+        }
+        Expr::Catch(protected) => {
+            let protected: &Catch = protected;
+            in_expr(&protected.value)
+        }
         Expr::Call(call) => match &call.callee {
-            Callee::World(_) => in_exprs(&call.arguments),
-            _ => Some(call.at),
+            Callee::World(_) | Callee::MatchFail | Callee::Raise => in_exprs(&call.arguments),
+            Callee::Pure(_) | Callee::Exported(_) | Callee::Defined(_) => Some(call.at),
         },
-        Expr::Case(case) => Some(case.at),
-        Expr::Try(protected) => Some(protected.at),
-        Expr::Catch(caught) => Some(caught.at),
     }
 }
 
@@ -68,6 +79,20 @@ fn in_exprs(exprs: &Exprs) -> Option<usize>
 {
     for expr in &exprs.0 {
         let found = in_expr(expr);
+        if found.is_some() {
+            return found;
+        }
+    }
+    None
+}
+
+/// The place of the first such form of several clauses.
+#[cycle(forms)]
+fn in_clauses(clauses: &Clauses) -> Option<usize>
+    ensures { result ≡ not_evaluated_in_clauses (clauses_of clauses.now) }
+{
+    for clause in &clauses.0 {
+        let found = in_expr(&clause.guard).or(in_expr(&clause.body));
         if found.is_some() {
             return found;
         }

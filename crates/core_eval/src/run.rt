@@ -7,11 +7,13 @@ ghost use Rattle.core_eval.specs.Holes.{standing};
 ghost use Rattle.core_eval.specs.Requests.{asked_of};
 ghost use Rattle.core_eval.specs.Steps.{going};
 
-use crate::build::{atom, end_by_error};
+use crate::build::atom;
 use crate::control::Control;
+use crate::exception::end_of;
+use crate::leave::{leave, leave_raised, leave_with};
 use crate::request::Request;
 use crate::stack::Stack;
-use crate::step::{enter, leave, leave_with};
+use crate::step::enter;
 use std::alloc::{AllocError, Global};
 
 /// Runs to the next request or the end, from what is on top of the stack.
@@ -38,10 +40,9 @@ pub(crate) fn run<'m>(
                 };
                 leave_with(alloc, stack, frame, values)?
             }
-            // No frame catches it.
-            Control::Raise(reason) => match stack.pop() {
-                Some(_) => Control::Raise(reason),
-                None => return Ok(Request::End(end_by_error(alloc, reason)?)),
+            Control::Raise(class, reason) => match stack.pop() {
+                Some(frame) => leave_raised(alloc, stack, frame, class, reason)?,
+                None => return Ok(Request::End(end_of(alloc, class, reason)?)),
             },
             Control::Ask(kind, arguments) => return Ok(Request::Call(kind, arguments)),
         };

@@ -2,7 +2,7 @@
 ghost use Rattle.std.specs.Prelude.{◌≡◌, ◌∷◌, [], OnOk, IfOk, MatchOption, option_map};
 ghost use Rattle.core_eval.specs.Frames.{hole_of};
 ghost use Rattle.core_eval.specs.Holes.{scope};
-ghost use Rattle.core_eval.specs.Evaluation.{lookup};
+ghost use Rattle.core_eval.specs.Matching.{lookup};
 ghost use Rattle.term_core.specs.Term.{meaning_of};
 
 use crate::frame::Frame;
@@ -60,7 +60,7 @@ impl<'m> Stack<'m> {
         let mut left = self.0.len();
         while left > 0 {
             left -= 1;
-            if let Some(value) = self.0[left].value_of(name) {
+            if let Some(value) = self.0[left].lookup(name) {
                 return Some(value);
             }
         }

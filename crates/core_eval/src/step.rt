@@ -1,19 +1,19 @@
-// The steps of the machine: into an expression, and out of it with its value.
-ghost use Rattle.std.specs.Prelude.{◌≡◌, ◌+◌, ◌≤◌, ◌∷◌, [], IfOk, length, map};
-ghost use Rattle.core_tree.specs.Syntax.{trees_of, Joined, Bound, Followed, Called};
+// The steps of the machine into an expression.
+ghost use Rattle.std.specs.Prelude.{◌≡◌, ◌≤◌, [], IfOk, map};
+ghost use Rattle.core_tree.specs.Syntax.{trees_of, clauses_of, Joined, Bound, Chosen, Followed, Called, Tried, Caught, FailsMatch, RaisesAgain};
 ghost use Rattle.core_tree.specs.Tree.{callee_of, tree_of};
-ghost use Rattle.term_core.specs.Term.{meaning_of};
-ghost use Rattle.core_eval.specs.Evaluation.{Yields, limited, lookup, text_of, value_or_error};
-ghost use Rattle.core_eval.specs.Frames.{hole_of, purpose_of};
-ghost use Rattle.core_eval.specs.Holes.{scope, filled};
-ghost use Rattle.core_eval.specs.Steps.{GoesOn, Means, Enters, GathersOn, EntersWith, load, work_in};
+ghost use Rattle.core_eval.specs.Evaluation.{applied_to, limited, value_or_error};
+ghost use Rattle.core_eval.specs.Matching.{lookup, text_of};
+ghost use Rattle.core_eval.specs.Frames.{purpose_of};
+ghost use Rattle.core_eval.specs.Holes.{scope};
+ghost use Rattle.core_eval.specs.Steps.{GoesOn, Means, Enters, GathersOn, load};
 
-use crate::build::{error, limited, with_last};
+use crate::build::{error, limited};
 use crate::control::Control;
-use crate::entry::enter_function;
+use crate::exception::{Class, match_reason, raise_again};
 use crate::frame::{Frame, Purpose};
 use crate::stack::Stack;
-use core_tree::{Call, Callee, Do, Expr, Let, Onto, Variable};
+use core_tree::{Call, Callee, Case, Catch, Do, Expr, Let, Onto, Try, Variable};
 use std::alloc::{AllocError, Global};
 use term_core::{Term, Terms, list_onto};
 
@@ -56,8 +56,9 @@ pub(crate) fn enter<'m>(
         Expr::Let(inner) => enter_let(stack, inner),
         Expr::Do(both) => enter_do(stack, both),
         Expr::Call(call) => enter_call(alloc, stack, call),
-        // No module with one of these is run yet.
-        Expr::Case(_) | Expr::Try(_) | Expr::Catch(_) => error(alloc, "undef"),
+        Expr::Case(case) => enter_case(stack, case),
+        Expr::Try(protected) => enter_try(stack, protected),
+        Expr::Catch(protected) => enter_catch(stack, protected),
     }
 }
 
@@ -109,6 +110,31 @@ fn enter_do<'m>(stack: &mut Stack<'m>, both: &'m Do) -> Result<Control<'m>, Allo
     Ok(Control::Evaluate(&both.first))
 }
 
+/// Into the expression whose values the clauses of a `case` match.
+fn enter_case<'m>(stack: &mut Stack<'m>, case: &'m Case) -> Result<Control<'m>, AllocError>
+    ensures { IfOk result (λ next. Enters stack.old stack.new next (Chosen case.now.0 case.now.1 (clauses_of case.now.2))) }
+{
+    stack.push(Frame::Clauses(case.clauses.0.as_slice()))?;
+    Ok(Control::Evaluate(&case.value))
+}
+
+/// Into the expression that a `try` protects.
+fn enter_try<'m>(stack: &mut Stack<'m>, protected: &'m Try) -> Result<Control<'m>, AllocError>
+    ensures { IfOk result (λ next.
+        Enters stack.old stack.new next (Tried protected.now.0 protected.now.1 protected.now.2 protected.now.3 protected.now.4 protected.now.5)) }
+{
+    stack.push(Frame::Try(protected))?;
+    Ok(Control::Evaluate(&protected.value))
+}
+
+/// Into the expression that a `catch` protects.
+fn enter_catch<'m>(stack: &mut Stack<'m>, protected: &'m Catch) -> Result<Control<'m>, AllocError>
+    ensures { IfOk result (λ next. Enters stack.old stack.new next (Caught protected.now.0 protected.now.1)) }
+{
+    stack.push(Frame::Catch)?;
+    Ok(Control::Evaluate(&protected.value))
+}
+
 /// The list of the numbers of a string's characters.
 fn text<'m>(alloc: Global, characters: &[char]) -> Result<Control<'m>, AllocError>
     ensures same { IfOk result (λ next. Means next (limited (text_of characters.now))) }
@@ -121,7 +147,7 @@ fn text<'m>(alloc: Global, characters: &[char]) -> Result<Control<'m>, AllocErro
     limited(alloc, list_onto(alloc, numbers, Term::Nil)?)
 }
 
-/// Into the arguments of a call.
+/// Into the arguments of what is called.
 fn enter_call<'m>(
     alloc: Global,
     stack: &mut Stack<'m>,
@@ -130,21 +156,17 @@ fn enter_call<'m>(
     ensures { IfOk result (λ next.
         Enters stack.old stack.new next (Called call.now.0 call.now.1 (trees_of call.now.2))) }
 {
-    // No module with a call of another kind is run yet.
-    let Callee::World(kind) = &call.callee else {
-        return error(alloc, "undef");
-    };
     gather(
         alloc,
         stack,
-        Purpose::Call(*kind),
+        Purpose::Call(&call.callee),
         Terms(Vec::new(alloc)),
         call.arguments.0.as_slice(),
     )
 }
 
 /// To the next of several expressions, or to what their values are for.
-fn gather<'m>(
+pub(crate) fn gather<'m>(
     alloc: Global,
     stack: &mut Stack<'m>,
     purpose: Purpose<'m>,
@@ -180,97 +202,50 @@ fn complete<'m>(
             stack.push(Frame::Tail(done))?;
             Ok(Control::Evaluate(tail))
         }
-        Purpose::Call(kind) => Ok(Control::Ask(kind, done)),
+        Purpose::Call(callee) => apply(alloc, callee, done),
         Purpose::Values => Ok(Control::Values(done)),
     }
 }
 
-/// Out of an expression with its value, to what the frame above it leaves to do.
-pub(crate) fn leave<'m>(
-    alloc: Global,
-    stack: &mut Stack<'m>,
-    frame: Frame<'m>,
-    value: Term,
-) -> Result<Control<'m>, AllocError>
-    ensures { IfOk result (λ next.
-        GoesOn stack.old stack.new next
-        (λ s. filled (hole_of frame.entry) (scope stack.old) (Yields (meaning_of value ∷ []) s))
-        (2 + work_in (hole_of frame.entry))) }
+/// What is called, applied to its arguments.
+fn apply<'m>(alloc: Global, callee: &Callee, arguments: Terms) -> Result<Control<'m>, AllocError>
+    ensures same { IfOk result (λ next. Means next (applied_to (callee_of callee.now) arguments)) }
+    ensures less { IfOk result (λ next. load next ≤ 2) }
 {
-    match frame {
-        Frame::Parts(purpose, done, later) => gather(
-            alloc,
-            stack,
-            purpose,
-            with_last(done, value)?,
-            later,
-        ),
-        Frame::Tail(items) => limited(alloc, list_onto(alloc, items.0, value)?),
-        Frame::Body(variables, body) => bind(alloc, stack, variables, body, value),
-        Frame::Second(second) => Ok(Control::Evaluate(second)),
-        Frame::Kept(_, _) => Ok(Control::Return(value)),
+    match callee {
+        Callee::World(kind) => Ok(Control::Ask(*kind, arguments)),
+        Callee::MatchFail => fail_match(alloc, arguments),
+        Callee::Raise => raise(alloc, arguments),
+        // No module with one of these is run yet.
+        Callee::Pure(_) | Callee::Exported(_) | Callee::Defined(_) => error(alloc, "undef"),
     }
 }
 
-/// Out of an expression with its values, of which there may be any number, to what the frame above it
-/// leaves to do.
-pub(crate) fn leave_with<'m>(
-    alloc: Global,
-    stack: &mut Stack<'m>,
-    frame: Frame<'m>,
-    values: Terms,
-) -> Result<Control<'m>, AllocError>
-    ensures { IfOk result (λ next.
-        GoesOn stack.old stack.new next
-        (λ s. filled (hole_of frame.entry) (scope stack.old) (Yields values s))
-        (2 + (length values + work_in (hole_of frame.entry)))) }
+/// `primop 'match_fail'`: the error that its one argument tells.
+fn fail_match<'m>(alloc: Global, arguments: Terms) -> Result<Control<'m>, AllocError>
+    ensures same { IfOk result (λ next. Means next (applied_to FailsMatch arguments)) }
+    ensures less { IfOk result (λ next. load next ≤ 2) }
 {
-    let mut items = values.0;
-    if items.len() == 1 {
-        if let Some(value) = items.pop() {
-            return leave(alloc, stack, frame, value);
+    let mut reasons = arguments.0;
+    match reasons.pop() {
+        Some(reason) if reasons.is_empty() => {
+            Ok(Control::Raise(Class::Error, match_reason(alloc, reason)?))
         }
-    }
-    leave_several(alloc, stack, frame, Terms(items))
-}
-
-/// Out of an expression with no value or with more than one.
-fn leave_several<'m>(
-    alloc: Global,
-    stack: &mut Stack<'m>,
-    frame: Frame<'m>,
-    values: Terms,
-) -> Result<Control<'m>, AllocError>
-    requires { length values ≡ 1 → ⊥ }
-    ensures { IfOk result (λ next.
-        GoesOn stack.old stack.new next
-        (λ s. filled (hole_of frame.entry) (scope stack.old) (Yields values s))
-        (2 + (length values + work_in (hole_of frame.entry)))) }
-{
-    match frame {
-        Frame::Body(variables, body) => enter_function(alloc, stack, variables, body, values),
-        Frame::Kept(_, _) => Ok(Control::Values(values)),
-        Frame::Parts(_, _, _) => error(alloc, "value_count"),
-        Frame::Tail(_) => error(alloc, "value_count"),
-        Frame::Second(_) => error(alloc, "value_count"),
+        _ => error(alloc, "undef"),
     }
 }
 
-/// Into the body of a `let`, with its variable bound; another number of variables is an error.
-fn bind<'m>(
-    alloc: Global,
-    stack: &mut Stack<'m>,
-    variables: &'m [Variable],
-    body: &'m Expr,
-    value: Term,
-) -> Result<Control<'m>, AllocError>
-    ensures { IfOk result (λ next.
-        EntersWith stack.old stack.new next variables.now (meaning_of value ∷ []) (tree_of body.now)) }
+/// `primop 'raise'`: the exception that its two arguments tell, the trace and the reason.
+fn raise<'m>(alloc: Global, arguments: Terms) -> Result<Control<'m>, AllocError>
+    ensures same { IfOk result (λ next. Means next (applied_to RaisesAgain arguments)) }
+    ensures less { IfOk result (λ next. load next ≤ 2) }
 {
-    if variables.len() != 1 {
-        return error(alloc, "value_count");
+    let mut parts = arguments.0;
+    if parts.len() != 2 {
+        return error(alloc, "undef");
     }
-    let variable = &variables[0];
-    stack.push(Frame::Kept(variable.name.as_slice(), value))?;
-    Ok(Control::Evaluate(body))
+    match parts.pop() {
+        Some(reason) => raise_again(alloc, &parts[0], reason),
+        None => error(alloc, "undef"),
+    }
 }

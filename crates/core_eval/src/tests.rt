@@ -5,18 +5,39 @@ use crate::machine::{Machine, start};
 use crate::not_yet::first_not_evaluated;
 use crate::request::{Answer, Request};
 use core_tree::{
-    Call, CallKind, Callee, Catch, Definition, Do, Expr, Exprs, FunctionName, Let, Module, Onto,
-    Variable,
+    Alias, Call, CallKind, Callee, Case, Catch, Clause, Clauses, Definition, Do, Expr, Exprs,
+    FunctionName, Let, Module, Onto, OntoPattern, Pattern, Patterns, PureCall, Try, Variable,
 };
 use indexmap::IndexMap;
 use std::alloc::{AllocError, Global};
 use std::test::Fail;
 use term_core::{Atom, Output, Pid, Term, Terms, WriteFault, write_all, write_term};
 
+// A pattern is built from looks, its parts before it.
+#[derive(Clone, Copy)]
+enum Look {
+    Int(i64),
+    Letter,
+    // a string of this many letters `a`
+    Letters(usize),
+    Name(&'static str),
+    // the variables `X` and `Y`
+    First,
+    Second,
+    Tuple(usize),
+    List(usize),
+    // this many items, and the tail
+    Onto(usize),
+    // `X = p`
+    Alias,
+}
+
 // An expression is built from words, its parts before it.
 #[derive(Clone, Copy)]
 enum Word {
     Int(i64),
+    Name(&'static str),
+    Letter,
     // this many integers, from 1 on
     Ints(i64),
     Read,
@@ -36,6 +57,16 @@ enum Word {
     LetTwo,
     Do,
     Call(CallKind, usize),
+    // the value, and for each clause its guard and its body; the patterns of the clauses
+    Case(&'static [&'static [Look]]),
+    // the value, the body with `X`, and the handler with `X`, `Y` and perhaps `Z`
+    Try(usize),
+    Catch,
+    // `primop 'match_fail'` of this many
+    Fail(usize),
+    // `primop 'raise'` of this many
+    Raise(usize),
+    ReadThird,
 }
 
 fn variable(alloc: Global, name: &[u8]) -> Result<Variable, AllocError> {
@@ -106,6 +137,144 @@ fn call_of(
     }))
 }
 
+fn patterns_of(parts: &mut Vec<Pattern>) -> Pattern {
+    parts.pop().unwrap_or(Pattern::Integer(0))
+}
+
+// The last patterns, this many.
+fn take_patterns(
+    alloc: Global,
+    parts: &mut Vec<Pattern>,
+    count: usize,
+) -> Result<Patterns, AllocError> {
+    let mut taken = Vec::new(alloc);
+    for _ in 0..count {
+        taken.push(patterns_of(parts))?;
+    }
+    taken.reverse();
+    Ok(Patterns(taken))
+}
+
+fn onto_pattern(
+    alloc: Global,
+    parts: &mut Vec<Pattern>,
+    count: usize,
+) -> Result<Pattern, AllocError> {
+    let tail = patterns_of(parts);
+    let items = take_patterns(alloc, parts, count)?;
+    Ok(Pattern::Onto(Box::new(alloc, OntoPattern { items, tail })?))
+}
+
+fn alias_pattern(alloc: Global, parts: &mut Vec<Pattern>) -> Result<Pattern, AllocError> {
+    let whole = patterns_of(parts);
+    let variable = variable(alloc, b"X")?;
+    Ok(Pattern::Alias(Box::new(alloc, Alias { variable, whole })?))
+}
+
+fn letters_pattern(alloc: Global, count: usize) -> Result<Pattern, AllocError> {
+    let mut letters = Vec::new(alloc);
+    for _ in 0..count {
+        letters.push('a')?;
+    }
+    Ok(Pattern::Text(letters))
+}
+
+fn add_look(alloc: Global, parts: &mut Vec<Pattern>, look: Look) -> Result<(), AllocError> {
+    let made = match look {
+        Look::Int(number) => Pattern::Integer(number),
+        Look::Letter => Pattern::Character('a'),
+        Look::Letters(count) => letters_pattern(alloc, count)?,
+        Look::Name(text) => Pattern::Atom(Atom(String::from_str(alloc, text)?)),
+        Look::First => Pattern::Variable(variable(alloc, b"X")?),
+        Look::Second => Pattern::Variable(variable(alloc, b"Y")?),
+        Look::Tuple(count) => Pattern::Tuple(take_patterns(alloc, parts, count)?),
+        Look::List(count) => Pattern::List(take_patterns(alloc, parts, count)?),
+        Look::Onto(count) => onto_pattern(alloc, parts, count)?,
+        Look::Alias => alias_pattern(alloc, parts)?,
+    };
+    parts.push(made)?;
+    Ok(())
+}
+
+// All the patterns that the looks build.
+fn patterns(alloc: Global, looks: &[Look]) -> Result<Patterns, AllocError> {
+    let mut parts = Vec::new(alloc);
+    for one in looks {
+        add_look(alloc, &mut parts, *one)?;
+    }
+    Ok(Patterns(parts))
+}
+
+fn case_of(alloc: Global, parts: &mut Vec<Expr>, clauses: &[&[Look]]) -> Result<Expr, AllocError> {
+    let mut built = Vec::new(alloc);
+    for behind in 0..clauses.len() {
+        let body = last(parts);
+        let guard = last(parts);
+        let patterns = patterns(alloc, clauses[clauses.len() - 1 - behind])?;
+        built.push(Clause {
+            patterns,
+            guard,
+            body,
+        })?;
+    }
+    built.reverse();
+    let value = last(parts);
+    let case = Case {
+        at: 0,
+        value,
+        clauses: Clauses(built),
+    };
+    Ok(Expr::Case(Box::new(alloc, case)?))
+}
+
+fn variables(alloc: Global, names: &[&[u8]]) -> Result<Vec<Variable>, AllocError> {
+    let mut variables = Vec::new(alloc);
+    for name in names {
+        variables.push(variable(alloc, name)?)?;
+    }
+    Ok(variables)
+}
+
+fn try_of(alloc: Global, parts: &mut Vec<Expr>, count: usize) -> Result<Expr, AllocError> {
+    let three: [&[u8]; 3] = [b"X", b"Y", b"Z"];
+    let handler = last(parts);
+    let body = last(parts);
+    let value = last(parts);
+    let caught = if count > 2 {
+        variables(alloc, &three)?
+    } else {
+        variables(alloc, &[b"X", b"Y"])?
+    };
+    let protected = Try {
+        at: 0,
+        value,
+        variables: variables(alloc, &[b"X"])?,
+        body,
+        caught,
+        handler,
+    };
+    Ok(Expr::Try(Box::new(alloc, protected)?))
+}
+
+fn catch_of(alloc: Global, parts: &mut Vec<Expr>) -> Result<Expr, AllocError> {
+    let value = last(parts);
+    Ok(Expr::Catch(Box::new(alloc, Catch { at: 0, value })?))
+}
+
+fn primop_of(
+    alloc: Global,
+    parts: &mut Vec<Expr>,
+    callee: Callee,
+    count: usize,
+) -> Result<Expr, AllocError> {
+    let arguments = take(alloc, parts, count)?;
+    Ok(Expr::Call(Call {
+        at: 0,
+        callee,
+        arguments,
+    }))
+}
+
 fn put_integers(parts: &mut Vec<Expr>, count: i64) -> Result<(), AllocError> {
     for number in 1..count {
         parts.push(Expr::Integer(number))?;
@@ -131,6 +300,14 @@ fn put(alloc: Global, parts: &mut Vec<Expr>, word: Word) -> Result<(), AllocErro
         Word::LetTwo => let_of(alloc, parts, &[b"X", b"Y"])?,
         Word::Do => do_of(alloc, parts)?,
         Word::Call(kind, count) => call_of(alloc, parts, kind, count)?,
+        Word::Name(text) => Expr::Atom(Atom(String::from_str(alloc, text)?)),
+        Word::Letter => Expr::Character('a'),
+        Word::Case(clauses) => case_of(alloc, parts, clauses)?,
+        Word::Try(count) => try_of(alloc, parts, count)?,
+        Word::Catch => catch_of(alloc, parts)?,
+        Word::Fail(count) => primop_of(alloc, parts, Callee::MatchFail, count)?,
+        Word::Raise(count) => primop_of(alloc, parts, Callee::Raise, count)?,
+        Word::ReadThird => Expr::Variable(variable(alloc, b"Z")?),
     };
     parts.push(made)?;
     Ok(())
@@ -405,18 +582,411 @@ fn evaluates_strings_and_values(rt: HostRuntime) -> Result<(), Fail> {
     Ok(())
 }
 
+const TRUE: Word = Word::Name("true");
+
+// `case 2 of <1> -> take(1) <2> -> take(2) <X> -> take(3) end`
+const SECOND_CLAUSE: [Word; 11] = [
+    Word::Int(2),
+    TRUE,
+    Word::Int(1),
+    TAKE,
+    TRUE,
+    Word::Int(2),
+    TAKE,
+    TRUE,
+    Word::Int(3),
+    TAKE,
+    Word::Case(&[&[Look::Int(1)], &[Look::Int(2)], &[Look::First]]),
+];
+
+// a guard that gives something else, one that raises, one that gives two values, and one that holds
+const GUARDS: [Word; 16] = [
+    Word::Int(1),
+    Word::Name("false"),
+    Word::Int(1),
+    Word::Int(7),
+    Word::Fail(1),
+    Word::Int(2),
+    TRUE,
+    TRUE,
+    Word::Values(2),
+    Word::Int(3),
+    Word::Int(4),
+    Word::Int(4),
+    TRUE,
+    Word::Read,
+    TAKE,
+    Word::Case(&[
+        &[Look::First],
+        &[Look::First],
+        &[Look::First],
+        &[Look::First],
+        &[Look::First],
+    ]),
+];
+
+// of `{1,'b',97,[97,97],[3,4|5]}` every part; `X` is the whole of the last, and `Y` its tail
+const EVERY_PATTERN: [Word; 18] = [
+    Word::Int(1),
+    Word::Name("b"),
+    Word::Letter,
+    Word::Letters(2),
+    Word::Int(3),
+    Word::Int(4),
+    Word::Int(5),
+    Word::Onto(2),
+    Word::Tuple(5),
+    TRUE,
+    Word::Int(0),
+    TRUE,
+    Word::Read,
+    Word::ReadSecond,
+    Word::Call(CallKind::Insert, 2),
+    TRUE,
+    Word::Int(9),
+    Word::Case(&[
+        &[
+            Look::Int(1),
+            Look::Name("c"),
+            Look::Letter,
+            Look::First,
+            Look::Second,
+            Look::Tuple(5),
+        ],
+        &[
+            Look::Int(1),
+            Look::Name("b"),
+            Look::Letter,
+            Look::Letters(2),
+            Look::Int(3),
+            Look::Int(4),
+            Look::Second,
+            Look::Onto(2),
+            Look::Alias,
+            Look::Tuple(5),
+        ],
+        &[Look::First],
+    ]),
+];
+
+// `X` is 1 outside; a clause that binds it to 2 does not match after all, and the next one reads it
+const FAILED_CLAUSE: [Word; 12] = [
+    Word::Int(1),
+    Word::Int(2),
+    Word::Int(3),
+    Word::Tuple(2),
+    TRUE,
+    Word::Int(0),
+    TRUE,
+    Word::Read,
+    TAKE,
+    Word::Case(&[
+        &[Look::First, Look::Int(4), Look::Tuple(2)],
+        &[Look::Second],
+    ]),
+    Word::Let,
+    TAKE,
+];
+
+// patterns of lists that do not match: a list that is too short, one that is too long, an improper one
+const LISTS: [Word; 13] = [
+    Word::Int(1),
+    Word::Int(2),
+    Word::List(2),
+    TRUE,
+    Word::Int(1),
+    TRUE,
+    Word::Int(3),
+    TRUE,
+    Word::Int(5),
+    TRUE,
+    Word::Int(2),
+    Word::Case(&[
+        &[Look::First, Look::List(1)],
+        &[Look::First, Look::First, Look::First, Look::List(3)],
+        &[Look::Letters(2)],
+        &[Look::Int(1), Look::Int(2), Look::List(2)],
+    ]),
+    TAKE,
+];
+
+// two values: a clause with one pattern does not match
+const TWO_PATTERNS: [Word; 9] = [
+    Word::Int(1),
+    Word::Int(2),
+    Word::Values(2),
+    TRUE,
+    Word::Int(0),
+    TRUE,
+    Word::ReadSecond,
+    Word::Case(&[&[Look::First], &[Look::First, Look::Second]]),
+    TAKE,
+];
+
+const NO_CLAUSE: [Word; 4] = [
+    Word::Int(5),
+    TRUE,
+    Word::Int(0),
+    Word::Case(&[&[Look::Int(4)]]),
+];
+
+const NO_CLAUSE_OF_TWO: [Word; 6] = [
+    Word::Int(5),
+    Word::Int(6),
+    Word::Values(2),
+    TRUE,
+    Word::Int(0),
+    Word::Case(&[&[Look::First]]),
+];
+
+// 9,997 nodes and the tuple with its atom: 10,000 in all, and one more
+const WHOLE_CASE: [Word; 5] = [
+    Word::Ints(9_997),
+    Word::Tuple(9_997),
+    TRUE,
+    Word::Int(0),
+    Word::Case(&[&[Look::Int(4)]]),
+];
+
+const LARGE_CASE: [Word; 5] = [
+    Word::Ints(9_998),
+    Word::Tuple(9_998),
+    TRUE,
+    Word::Int(0),
+    Word::Case(&[&[Look::Int(4)]]),
+];
+
+#[test]
+fn takes_the_first_clause(rt: HostRuntime) -> Result<(), Fail> {
+    let rows = [
+        (SECOND_CLAUSE.as_slice(), "take 2\n'normal'"),
+        (GUARDS.as_slice(), "take 1\n'normal'"),
+        (EVERY_PATTERN.as_slice(), "insert [3,4|5] 5\n'normal'"),
+        (FAILED_CLAUSE.as_slice(), "take 1\ntake 1\n'normal'"),
+        (LISTS.as_slice(), "take 2\n'normal'"),
+        (TWO_PATTERNS.as_slice(), "take 2\n'normal'"),
+        (NO_CLAUSE.as_slice(), "{{'case_clause',5},[]}"),
+        (NO_CLAUSE_OF_TWO.as_slice(), "{{'case_clause',{5,6}},[]}"),
+        (LARGE_CASE.as_slice(), "{'system_limit',[]}"),
+    ];
+    for (words, want) in rows {
+        let text = asked(rt.alloc(), words)?;
+        assert_eq!(rt; text.as_slice(), want.as_bytes());
+    }
+    let whole = asked(rt.alloc(), WHOLE_CASE.as_slice())?;
+    assert_eq!(rt; whole.starts_with(b"{{'case_clause',{1,2,3"), true);
+    Ok(())
+}
+
+// `raise({'$trace',class}, 5)`
+const AN_EXIT: [Word; 5] = [
+    Word::Name("$trace"),
+    Word::Name("exit"),
+    Word::Tuple(2),
+    Word::Int(5),
+    Word::Raise(2),
+];
+
+const A_THROW: [Word; 5] = [
+    Word::Name("$trace"),
+    Word::Name("throw"),
+    Word::Tuple(2),
+    Word::Int(5),
+    Word::Raise(2),
+];
+
+const AN_ERROR: [Word; 5] = [
+    Word::Name("$trace"),
+    Word::Name("error"),
+    Word::Tuple(2),
+    Word::Int(5),
+    Word::Raise(2),
+];
+
+const NO_CLASS: [Word; 5] = [
+    Word::Name("$trace"),
+    Word::Name("fault"),
+    Word::Tuple(2),
+    Word::Int(5),
+    Word::Raise(2),
+];
+
+const NO_TRACE: [Word; 5] = [
+    Word::Name("trace"),
+    Word::Name("exit"),
+    Word::Tuple(2),
+    Word::Int(5),
+    Word::Raise(2),
+];
+
+const FUNCTION_CLAUSE: [Word; 4] = [
+    Word::Name("function_clause"),
+    Word::Int(1),
+    Word::Tuple(2),
+    Word::Fail(1),
+];
+
+const BADMATCH: [Word; 4] = [
+    Word::Name("badmatch"),
+    Word::Int(1),
+    Word::Tuple(2),
+    Word::Fail(1),
+];
+
+#[test]
+fn ends_by_exceptions(rt: HostRuntime) -> Result<(), Fail> {
+    let rows = [
+        (AN_ERROR.as_slice(), "{5,[]}"),
+        (AN_EXIT.as_slice(), "5"),
+        (A_THROW.as_slice(), "{{'nocatch',5},[]}"),
+        (NO_CLASS.as_slice(), "{'badarg',[]}"),
+        (NO_TRACE.as_slice(), "{'badarg',[]}"),
+        (FUNCTION_CLAUSE.as_slice(), "{'function_clause',[]}"),
+        (BADMATCH.as_slice(), "{{'badmatch',1},[]}"),
+    ];
+    for (words, want) in rows {
+        let text = asked(rt.alloc(), words)?;
+        assert_eq!(rt; text.as_slice(), want.as_bytes());
+    }
+    Ok(())
+}
+
+// What `take(catch e)` asks.
+fn caught_of(alloc: Global, words: &[Word]) -> Result<Vec<u8>, Fail> {
+    let mut parts = Vec::new(alloc);
+    parts.push(build(alloc, words)?)?;
+    put(alloc, &mut parts, Word::Catch)?;
+    put(alloc, &mut parts, TAKE)?;
+    let program = module_of(alloc, last(&mut parts))?;
+    run_of(alloc, &program)
+}
+
+// What `take(try e of X -> X catch <X, Y, Z> -> {X, Y, Z})` asks, or the same with two variables.
+fn tried_of(alloc: Global, words: &[Word], count: usize) -> Result<Vec<u8>, Fail> {
+    let mut parts = Vec::new(alloc);
+    parts.push(build(alloc, words)?)?;
+    put(alloc, &mut parts, Word::Read)?;
+    put(alloc, &mut parts, Word::Read)?;
+    put(alloc, &mut parts, Word::ReadSecond)?;
+    if count > 2 {
+        put(alloc, &mut parts, Word::ReadThird)?;
+    }
+    put(alloc, &mut parts, Word::Tuple(count))?;
+    put(alloc, &mut parts, Word::Try(count))?;
+    put(alloc, &mut parts, TAKE)?;
+    let program = module_of(alloc, last(&mut parts))?;
+    run_of(alloc, &program)
+}
+
+// 9,995 nodes, which with what `catch` puts around are 10,000, and one more
+const WHOLE_ERROR: [Word; 6] = [
+    Word::Name("$trace"),
+    Word::Name("error"),
+    Word::Tuple(2),
+    Word::Ints(9_995),
+    Word::Tuple(9_995),
+    Word::Raise(2),
+];
+
+const LARGE_ERROR: [Word; 6] = [
+    Word::Name("$trace"),
+    Word::Name("error"),
+    Word::Tuple(2),
+    Word::Ints(9_996),
+    Word::Tuple(9_996),
+    Word::Raise(2),
+];
+
+#[test]
+fn catches_exceptions(rt: HostRuntime) -> Result<(), Fail> {
+    let rows = [
+        (AN_ERROR.as_slice(), "take {'EXIT',{5,[]}}\n'normal'"),
+        (AN_EXIT.as_slice(), "take {'EXIT',5}\n'normal'"),
+        (A_THROW.as_slice(), "take 5\n'normal'"),
+        (LETTERS.as_slice(), "take [97,97]\ntake 1\n'normal'"),
+        (LARGE_ERROR.as_slice(), "{'system_limit',[]}"),
+        (TWO.as_slice(), "{'value_count',[]}"),
+    ];
+    for (words, want) in rows {
+        let text = caught_of(rt.alloc(), words)?;
+        assert_eq!(rt; text.as_slice(), want.as_bytes());
+    }
+    let whole = caught_of(rt.alloc(), WHOLE_ERROR.as_slice())?;
+    assert_eq!(rt; whole.starts_with(b"take {'EXIT',{{1,2,3"), true);
+    Ok(())
+}
+
+#[test]
+fn handles_exceptions(rt: HostRuntime) -> Result<(), Fail> {
+    let two = [
+        (AN_ERROR.as_slice(), "take {'error',5}\n'normal'"),
+        (AN_EXIT.as_slice(), "take {'exit',5}\n'normal'"),
+        (A_THROW.as_slice(), "take {'throw',5}\n'normal'"),
+        (LETTERS.as_slice(), "take [97,97]\ntake 1\n'normal'"),
+        // outside of what is protected
+        (TWO.as_slice(), "{'value_count',[]}"),
+    ];
+    for (words, want) in two {
+        let text = tried_of(rt.alloc(), words, 2)?;
+        assert_eq!(rt; text.as_slice(), want.as_bytes());
+    }
+    let three = [
+        (
+            AN_ERROR.as_slice(),
+            "take {'error',5,{'$trace','error'}}\n'normal'",
+        ),
+        (
+            AN_EXIT.as_slice(),
+            "take {'exit',5,{'$trace','exit'}}\n'normal'",
+        ),
+        (
+            A_THROW.as_slice(),
+            "take {'throw',5,{'$trace','throw'}}\n'normal'",
+        ),
+    ];
+    for (words, want) in three {
+        let text = tried_of(rt.alloc(), words, 3)?;
+        assert_eq!(rt; text.as_slice(), want.as_bytes());
+    }
+    Ok(())
+}
+
+// `1 + 2`, by the call at this place
+fn sum(alloc: Global, at: usize) -> Result<Expr, AllocError> {
+    let mut numbers = Vec::new(alloc);
+    numbers.push(Expr::Integer(1))?;
+    numbers.push(Expr::Integer(2))?;
+    Ok(Expr::Call(Call {
+        at,
+        callee: Callee::Pure(PureCall::Add),
+        arguments: Exprs(numbers),
+    }))
+}
+
 #[test]
 fn a_form_that_is_not_evaluated_is_found(rt: HostRuntime) -> Result<(), Fail> {
-    let program = module_of(rt.alloc(), build(rt.alloc(), EACH_PLACE.as_slice())?)?;
-    assert_eq!(rt; first_not_evaluated(&program), None);
-    let value = build(rt.alloc(), EACH_PLACE.as_slice())?;
-    let caught = Expr::Catch(Box::new(rt.alloc(), Catch { at: 70, value })?);
-    let mut parts = Vec::new(rt.alloc());
-    put(rt.alloc(), &mut parts, Word::Int(1))?;
-    parts.push(caught)?;
-    put(rt.alloc(), &mut parts, Word::Do)?;
-    let program = module_of(rt.alloc(), last(&mut parts))?;
-    assert_eq!(rt; first_not_evaluated(&program), Some(70));
+    for words in [
+        EACH_PLACE.as_slice(),
+        EVERY_PATTERN.as_slice(),
+        BADMATCH.as_slice(),
+    ] {
+        let program = module_of(rt.alloc(), build(rt.alloc(), words)?)?;
+        assert_eq!(rt; first_not_evaluated(&program), None);
+    }
+    for (at, form) in [
+        (70, Word::Do),
+        (71, Word::Case(&[&[Look::First]])),
+        (72, Word::Try(2)),
+        (73, Word::Catch),
+    ] {
+        let mut parts = Vec::new(rt.alloc());
+        put(rt.alloc(), &mut parts, Word::Int(1))?;
+        put(rt.alloc(), &mut parts, Word::Int(1))?;
+        parts.push(sum(rt.alloc(), at)?)?;
+        put(rt.alloc(), &mut parts, form)?;
+        let program = module_of(rt.alloc(), last(&mut parts))?;
+        assert_eq!(rt; first_not_evaluated(&program), Some(at));
+    }
     Ok(())
 }
 

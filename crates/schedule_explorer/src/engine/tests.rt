@@ -17,7 +17,7 @@ const LINES: &str =
     "1 P ets:new('t',['named_table']) -> 't'\n2 P ets:insert('t',{'a',1}) -> 'true'\n3 P ets:lookup('t','a') -> [{'a',1}]\n4 P ends 'normal'\n";
 
 // A module and a schedule, the lines that are written, the line of the refusal, and the status.
-const ROWS: [(&str, &str, &str, &str, u8); 14] = [
+const ROWS: [(&str, &str, &str, &str, u8); 15] = [
     (TABLE, TURNS, LINES, "", 0),
     (TABLE, "", "", "", 0),
     (
@@ -60,7 +60,7 @@ const ROWS: [(&str, &str, &str, &str, u8); 14] = [
     ),
     // a form that is not evaluated yet is told before a schedule that is none
     (
-        "module 'm' ['main'/0] attributes [] 'main'/0 = fun () -> {1,catch 'x'} end",
+        "module 'm' ['main'/0] attributes [] 'main'/0 = fun () -> {1,call 'erlang':'+'(1,2)} end",
         "P  P",
         "",
         "input: 14 UnsupportedForm at 60\n",
@@ -77,6 +77,14 @@ const ROWS: [(&str, &str, &str, &str, u8); 14] = [
         "module 'm' ['main'/0] attributes [] 'main'/0 = fun () -> ( ( 'ok' -| [] ) -| ['x',1] ) end",
         "P",
         "1 P ends 'normal'\n",
+        "",
+        0,
+    ),
+    // a refused call is caught, and a clause takes what it was refused with
+    (
+        "module 'm' ['main'/0] attributes [] 'main'/0 = fun () -> case catch call 'ets':'lookup'('t','a') of <[]> when 'true' -> 'none' <{'EXIT',R}> when 'true' -> call 'ets':'lookup'(R,1) end end",
+        "P P P",
+        "1 P ets:lookup('t','a') -> badarg (2 NoTable)\n2 P ets:lookup({'badarg',[]},1) -> badarg (1 BadTable)\n3 P ends {'badarg',[]}\n",
         "",
         0,
     ),

@@ -1,0 +1,59 @@
+-- Clauses that are tried one by one.
+use Rattle.std.proofs.Common.{◌≡◌, ◌+◌, ◌*◌, ◌≤◌, List, [], ◌∷◌, ◌++◌, length, refl, ap, ◌∙◌, sym, arith, IfOk, Result, Ok, Err}
+use Rattle.std.specs.Prelude.{Option, Some, None}
+use Rattle.std.specs.declared.alloc.AllocError.{AllocError}
+use Rattle.core_tree.specs.Syntax.{Tree, ClauseTree, patterns_of, clauses_of, size_of, size_of_clause_list}
+use Rattle.term_core.specs.Meaning.{Meaning}
+use Rattle.core_eval.specs.declared.control.Control.{Control}
+use Rattle.core_eval.specs.Matching.{Environment, match_each}
+use Rattle.core_eval.specs.Evaluation.{State, Got, evaluate, choose, judged, no_clause, taken}
+use Rattle.core_eval.specs.Holes.{Hole, Guards, scope, through}
+use Rattle.core_eval.specs.Steps.{going, load, work, GoesOn}
+
+-- the clauses that are left choose as all of them do, in the same place and for the same values
+pub record IsLeft (old new : List Hole) (all left : List ClauseTree) (values kept : List Meaning) : Type 0 where
+  pub stays : new ≡ old
+  pub same : kept ≡ values
+  pub picks : (s : State) → choose (clauses_of left) values (scope old) s ≡ choose (clauses_of all) values (scope old) s
+  pub fewer : size_of_clause_list left ≤ size_of_clause_list all
+
+pub none_taken : (r : Result Control AllocError) (old new : List Hole) (all left : List ClauseTree) (values kept : List Meaning) → IsLeft old new all left values kept → length left ≡ 0
+    → IfOk r (λ next. (holes : List Hole) (s : State) → going holes next s ≡ through holes (no_clause kept s)) → IfOk r (λ next. load next ≡ 0)
+    → IfOk r (λ next. GoesOn old new next (λ s. choose (clauses_of all) values (scope old) s) (2 + 4 * size_of_clause_list all))
+none_taken (Ok next) old new all [] values kept h e same less = record {
+  same = λ s. same new s ∙ ap (λ vs. through new (no_clause vs s)) h.same ∙ ap (λ hs. through hs (no_clause values s)) h.stays ∙ ap (through old) (h.picks s);
+  less = omega (arith, less, ap work h.stays);
+}
+none_taken (Ok next) old new all (c ∷ cs) values kept h e same less = absurd (omega (arith, e))
+none_taken (Err e) old new all left values kept h f same less = tt
+
+-- with what it binds a clause that matches is taken
+picked : (o : Option Environment) (bindings env : Environment) (go : Environment → State → Got) (others : State → Got) (s : State) → o ≡ Some bindings → taken o env go others s ≡ go (bindings ++ env) s
+picked o bindings env go others s e = ap (λ (p : Option Environment). taken p env go others s) e
+
+passed_over : (o : Option Environment) (env : Environment) (go : Environment → State → Got) (others : State → Got) (s : State) → o ≡ None → taken o env go others s ≡ others s
+passed_over o env go others s e = ap (λ (p : Option Environment). taken p env go others s) e
+
+pub clause_taken : (next : Control) (old new top : List Hole) (all left others : List ClauseTree) (c : ClauseTree) (guard body : Tree) (values kept : List Meaning) (bindings : Environment)
+    → IsLeft old new all left values kept → left ≡ c ∷ others → match_each (patterns_of c.patterns) kept [] ≡ Some bindings
+    → top ≡ Guards bindings body others kept ∷ new → guard ≡ c.guard → body ≡ c.body
+    → ((holes : List Hole) (s : State) → going holes next s ≡ through holes (evaluate guard (scope holes) s)) → load next ≡ 4 * size_of guard
+    → GoesOn old top next (λ s. choose (clauses_of all) values (scope old) s) (2 + 4 * size_of_clause_list all)
+clause_taken next old new top all left others c guard body values kept bindings h el em et eg eb same less = record {
+  same = λ s.
+      let chosen : choose (clauses_of left) values (scope old) s ≡ judged (evaluate c.guard (bindings ++ scope old) s) (λ s'. evaluate c.body (bindings ++ scope old) s') (λ s'. choose (clauses_of others) values (scope old) s') =
+      ap (λ (cs : List ClauseTree). choose (clauses_of cs) values (scope old) s) el
+      ∙ picked (match_each (patterns_of c.patterns) values []) bindings (scope old) _ _ s (ap (λ vs. match_each (patterns_of c.patterns) vs []) (sym h.same) ∙ em) in
+      same top s ∙ rw (et, h.stays, h.same, eg, eb) (ap (through old) (sym chosen ∙ h.picks s));
+  less =
+      let size : size_of_clause_list left ≡ 1 + (size_of c.guard + (size_of c.body + size_of_clause_list others)) = ap size_of_clause_list el in
+      omega (arith, less, ap work et, ap work h.stays, ap size_of eg, ap size_of eb, size, h.fewer);
+}
+
+pub next_left : (old new : List Hole) (all left others : List ClauseTree) (c : ClauseTree) (values kept : List Meaning) → IsLeft old new all left values kept → left ≡ c ∷ others → match_each (patterns_of c.patterns) kept [] ≡ None → IsLeft old new all others values kept
+next_left old new all left others c values kept h el em = record {
+  stays = h.stays;
+  same = h.same;
+  picks = λ s. sym (ap (λ (cs : List ClauseTree). choose (clauses_of cs) values (scope old) s) el ∙ passed_over (match_each (patterns_of c.patterns) values []) (scope old) _ (λ s'. choose (clauses_of others) values (scope old) s') s (ap (λ vs. match_each (patterns_of c.patterns) vs []) (sym h.same) ∙ em)) ∙ h.picks s;
+  fewer = omega (arith, h.fewer, ap size_of_clause_list el);
+}

@@ -1,0 +1,105 @@
+// The values of variables.
+ghost use Rattle.std.specs.Prelude.{◌≡◌, ◌∷◌, [], IfOk, OnOk, option_map};
+ghost use Rattle.core_eval.specs.Matching.{bound, lookup};
+ghost use Rattle.term_core.specs.Term.{meaning_of};
+
+use core_tree::Variable;
+use std::alloc::{AllocError, Global};
+use std::marker::Model;
+use term_core::{Term, Terms};
+
+/// A variable and its value.
+#[derive(Drop)]
+pub(crate) struct Binding<'m> {
+    name: &'m [u8],
+    value: Term,
+}
+
+/// Variables and their values, the innermost last. Contracts see them as a list, the innermost first.
+#[derive(Drop)]
+pub(crate) struct Bindings<'m>(Vec<Binding<'m>>);
+
+impl<'m> Model for Bindings<'m> {
+    ghost use Rattle.core_eval.specs.Matching.{Environment};
+    ghost use Rattle.core_eval.specs.HoleCodes.{coded_environment};
+
+    ghost Value = { Environment };
+
+    ghost coded = { coded_environment };
+
+    ghost use Rattle.std.specs.Prelude.{map, reverse};
+    ghost use Rattle.core_eval.specs.Bindings.{binding_of};
+
+    ghost view = { λ b. reverse (map binding_of b.0.items) };
+}
+
+impl<'m> Bindings<'m> {
+    /// No variable.
+    pub(crate) fn new(alloc: Global) -> Bindings<'m>
+        ensures { result ≡ [] }
+    {
+        Bindings(Vec::new(alloc))
+    }
+
+    /// One more variable, the innermost.
+    pub(crate) fn push(&mut self, name: &'m [u8], value: Term) -> Result<(), AllocError>
+        ensures { OnOk result (self.new ≡ (name.now, meaning_of value) ∷ self.old) }
+    {
+        self.0.push(Binding { name, value })?;
+        Ok(())
+    }
+
+    /// The variables with these values, if they are as many.
+    pub(crate) fn of(
+        alloc: Global,
+        variables: &'m [Variable],
+        values: Terms,
+    ) -> Result<Option<Bindings<'m>>, AllocError>
+        ensures { IfOk result (λ bindings. bindings ≡ bound variables.now values []) }
+    {
+        let mut bindings = Bindings::new(alloc);
+        let mut left = variables;
+        let mut later = values.0;
+        later.reverse();
+        while let Some(value) = later.pop() {
+            let Some((variable, others)) = left.split_first() else {
+                return Ok(None);
+            };
+            bindings.push(variable.name.as_slice(), value)?;
+            left = others;
+        }
+        if left.is_empty() {
+            Ok(Some(bindings))
+        } else {
+            Ok(None)
+        }
+    }
+
+    /// The value of the innermost variable of this name.
+    pub(crate) fn lookup(&self, name: &[u8]) -> Option<&Term>
+        ensures { option_map (λ found. meaning_of found.now) result ≡ lookup name.now self.now }
+    {
+        let mut left = self.0.len();
+        while left > 0 {
+            left -= 1;
+            if self.0[left].name == name {
+                return Some(&self.0[left].value);
+            }
+        }
+        None
+    }
+
+    /// The same variables, or `AllocError` where memory is wanting.
+    pub(crate) fn copy(&self, alloc: Global) -> Result<Bindings<'m>, AllocError>
+        ensures { IfOk result (λ copied. copied ≡ self.now) }
+    {
+        let mut copied = Vec::with_capacity(alloc, self.0.len())?;
+        for binding in &self.0 {
+            copied.push(Binding {
+                name: binding.name,
+                value: binding.value.copy(alloc)?,
+            })?;
+        }
+        Ok(Bindings(copied))
+    }
+}

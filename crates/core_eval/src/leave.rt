@@ -1,0 +1,189 @@
+// The steps of the machine out of an expression, with its values or with what it raises, to what the frame
+// above it leaves to do.
+ghost use Rattle.std.specs.Prelude.{◌≡◌, ◌+◌, ◌*◌, ◌≤◌, ◌∷◌, [], IfOk, length};
+ghost use Rattle.core_tree.specs.Syntax.{clauses_of, size_of_clause_list};
+ghost use Rattle.core_tree.specs.Tree.{tree_of};
+ghost use Rattle.term_core.specs.Term.{meaning_of};
+ghost use Rattle.core_eval.specs.Evaluation.{Raises, Yields, as_one, choose, no_clause};
+ghost use Rattle.core_eval.specs.Frames.{hole_of};
+ghost use Rattle.core_eval.specs.Holes.{Guards, scope, filled};
+ghost use Rattle.core_eval.specs.Steps.{EntersWith, GoesOn, Means, load, work_in};
+
+use crate::bindings::Bindings;
+use crate::build::{atom, error, limited, limited_error, pair, single, with_last};
+use crate::control::Control;
+use crate::entry::bind;
+use crate::exception::{Class, caught, caught_values};
+use crate::frame::Frame;
+use crate::matching::{is_atom, matches_each};
+use crate::stack::Stack;
+use crate::step::gather;
+use core_tree::{Clause, Try};
+use std::alloc::{AllocError, Global};
+use term_core::{Term, Terms, list_onto};
+
+/// Out of an expression with its one value.
+pub(crate) fn leave<'m>(
+    alloc: Global,
+    stack: &mut Stack<'m>,
+    frame: Frame<'m>,
+    value: Term,
+) -> Result<Control<'m>, AllocError>
+    ensures { IfOk result (λ next.
+        GoesOn stack.old stack.new next
+        (λ s. filled (hole_of frame.entry) (scope stack.old) (Yields (meaning_of value ∷ []) s))
+        (2 + work_in (hole_of frame.entry))) }
+{
+    match frame {
+        Frame::Parts(purpose, done, later) => gather(
+            alloc,
+            stack,
+            purpose,
+            with_last(done, value)?,
+            later,
+        ),
+        Frame::Tail(items) => limited(alloc, list_onto(alloc, items.0, value)?),
+        Frame::Body(variables, body) => bind(alloc, stack, variables, body, single(alloc, value)?),
+        Frame::Second(second) => Ok(Control::Evaluate(second)),
+        Frame::Clauses(clauses) => choose(alloc, stack, clauses, single(alloc, value)?),
+        Frame::Guard(bindings, body, others, values) if is_atom(&value, "true") => {
+            stack.push(Frame::Kept(bindings))?;
+            Ok(Control::Evaluate(body))
+        }
+        Frame::Guard(_, _, others, values) => choose(alloc, stack, others, values),
+        Frame::Try(protected) => enter_body(alloc, stack, protected, single(alloc, value)?),
+        Frame::Catch | Frame::Kept(_) => Ok(Control::Return(value)),
+    }
+}
+
+/// Out of an expression with its values, of which there may be any number.
+pub(crate) fn leave_with<'m>(
+    alloc: Global,
+    stack: &mut Stack<'m>,
+    frame: Frame<'m>,
+    values: Terms,
+) -> Result<Control<'m>, AllocError>
+    ensures { IfOk result (λ next.
+        GoesOn stack.old stack.new next
+        (λ s. filled (hole_of frame.entry) (scope stack.old) (Yields values s))
+        (2 + work_in (hole_of frame.entry))) }
+{
+    let mut items = values.0;
+    if items.len() == 1 {
+        if let Some(value) = items.pop() {
+            return leave(alloc, stack, frame, value);
+        }
+    }
+    leave_several(alloc, stack, frame, Terms(items))
+}
+
+/// Out of an expression with no value or with more than one.
+fn leave_several<'m>(
+    alloc: Global,
+    stack: &mut Stack<'m>,
+    frame: Frame<'m>,
+    values: Terms,
+) -> Result<Control<'m>, AllocError>
+    requires { length values ≡ 1 → ⊥ }
+    ensures { IfOk result (λ next.
+        GoesOn stack.old stack.new next
+        (λ s. filled (hole_of frame.entry) (scope stack.old) (Yields values s))
+        (2 + work_in (hole_of frame.entry))) }
+{
+    match frame {
+        Frame::Parts(_, _, _) => error(alloc, "value_count"),
+        Frame::Tail(_) => error(alloc, "value_count"),
+        Frame::Second(_) => error(alloc, "value_count"),
+        Frame::Body(variables, body) => bind(alloc, stack, variables, body, values),
+        Frame::Clauses(clauses) => choose(alloc, stack, clauses, values),
+        Frame::Guard(_, _, others, judged) => choose(alloc, stack, others, judged),
+        Frame::Try(protected) => enter_body(alloc, stack, protected, values),
+        Frame::Catch | Frame::Kept(_) => Ok(Control::Values(values)),
+    }
+}
+
+/// Out of an expression with the exception that it raises.
+pub(crate) fn leave_raised<'m>(
+    alloc: Global,
+    stack: &mut Stack<'m>,
+    frame: Frame<'m>,
+    class: Class,
+    reason: Term,
+) -> Result<Control<'m>, AllocError>
+    ensures { IfOk result (λ next.
+        GoesOn stack.old stack.new next
+        (λ s. filled (hole_of frame.entry) (scope stack.old) (Raises class (meaning_of reason) s))
+        (work_in (hole_of frame.entry))) }
+{
+    match frame {
+        Frame::Guard(_, _, others, given) => choose(alloc, stack, others, given),
+        Frame::Try(protected) => bind(
+            alloc,
+            stack,
+            protected.caught.as_slice(),
+            &protected.handler,
+            caught_values(alloc, protected.caught.len(), class, reason)?,
+        ),
+        Frame::Catch => caught(alloc, class, reason),
+        _ => Ok(Control::Raise(class, reason)),
+    }
+}
+
+/// Into the body of a `try` with the values that it protected; what the body raises is not handled there.
+fn enter_body<'m>(
+    alloc: Global,
+    stack: &mut Stack<'m>,
+    protected: &'m Try,
+    values: Terms,
+) -> Result<Control<'m>, AllocError>
+    ensures { IfOk result (λ next. EntersWith stack.old stack.new next protected.now.2 values protected.now.3) }
+{
+    let variables = protected.variables.as_slice();
+    bind(alloc, stack, variables, &protected.body, values)
+}
+
+/// Into the guard of the first clause that the values match, or to the error that none does.
+fn choose<'m>(
+    alloc: Global,
+    stack: &mut Stack<'m>,
+    clauses: &'m [Clause],
+    values: Terms,
+) -> Result<Control<'m>, AllocError>
+    ensures { IfOk result (λ next.
+        GoesOn stack.old stack.new next
+        (λ s. choose (clauses_of clauses.now) values (scope stack.old) s)
+        (2 + 4 * size_of_clause_list clauses.now)) }
+{
+    let mut left = clauses;
+    while let Some((clause, others)) = left.split_first() {
+        let mut bindings = Bindings::new(alloc);
+        if matches_each(alloc, &clause.patterns, &values, &mut bindings)? {
+            stack.push(Frame::Guard(bindings, &clause.body, others, values))?;
+            return Ok(Control::Evaluate(&clause.guard));
+        }
+        left = others;
+    }
+    no_clause(alloc, values)
+}
+
+/// The error that no clause is taken: its reason tells the values.
+fn no_clause<'m>(alloc: Global, values: Terms) -> Result<Control<'m>, AllocError>
+    ensures same { IfOk result (λ next. Means next (no_clause values)) }
+    ensures less { IfOk result (λ next. load next ≡ 0) }
+{
+    let whole = as_one(values);
+    limited_error(alloc, pair(alloc, atom(alloc, "case_clause")?, whole)?)
+}
+
+/// Several values as one: what is one already, else the tuple of them.
+fn as_one(values: Terms) -> Term
+    ensures { meaning_of result ≡ as_one values }
+{
+    let mut items = values.0;
+    if items.len() == 1 {
+        if let Some(value) = items.pop() {
+            return value;
+        }
+    }
+    Term::Tuple(Terms(items))
+}

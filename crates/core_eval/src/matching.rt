@@ -1,0 +1,154 @@
+// Patterns that are matched against values (Core Erlang 1.0.3, "Pattern matching").
+ghost use Rattle.std.specs.Prelude.{◌≡◌, IfOk, Option, option_map};
+ghost use Rattle.core_tree.specs.Syntax.{patterns_of};
+ghost use Rattle.core_tree.specs.Tree.{pattern_of};
+ghost use Rattle.term_core.specs.Meaning.{Meaning};
+ghost use Rattle.term_core.specs.Term.{meaning_of};
+ghost use Rattle.core_eval.specs.Evaluation.{begins_with};
+ghost use Rattle.core_eval.specs.Matching.{Environment, is_name, is_number, is_text, match, match_each, match_items};
+ghost use Rattle.core_eval.specs.Matched.{IsMatch, behind_items};
+
+use crate::bindings::Bindings;
+use core_tree::{Alias, OntoPattern, Pattern, Patterns};
+use std::alloc::{AllocError, Global};
+use term_core::{Pair, Term, Terms};
+
+/// Whether the value is the atom of this text.
+pub(crate) fn is_atom(value: &Term, text: &str) -> bool
+    ensures { result ≡ is_name text.now (meaning_of value.now) }
+{
+    match value {
+        Term::Atom(atom) => atom.0.as_str() == text,
+        _ => false,
+    }
+}
+
+/// Whether the value is a tuple that begins with the atom of this text.
+pub(crate) fn begins_with(value: &Term, text: &str) -> bool
+    ensures { result ≡ begins_with text.now (meaning_of value.now) }
+{
+    match value {
+        Term::Tuple(parts) => match parts.0.first() {
+            Some(first) => is_atom(first, text),
+            None => false,
+        },
+        _ => false,
+    }
+}
+
+/// Whether the value is this integer.
+fn is_integer(value: &Term, wanted: i64) -> bool
+    ensures { result ≡ is_number wanted (meaning_of value.now) }
+{
+    match value {
+        Term::Int(number) => *number == wanted,
+        _ => false,
+    }
+}
+
+/// Whether the value is the list of the numbers of these characters.
+fn is_text(value: &Term, characters: &[char]) -> bool
+    ensures { result ≡ is_text characters.now (meaning_of value.now) }
+{
+    let mut left = value;
+    'characters: for character in characters {
+        let Term::Cons(cell) = left else {
+            return false;
+        };
+        let cell: &Pair = cell;
+        if !is_integer(&cell.head, *character as i64) {
+            return false;
+        }
+        left = &cell.tail;
+    }
+    matches!(left, Term::Nil)
+}
+
+/// Whether the value matches the pattern. Its variables, from left to right, come on top of the bindings;
+/// where it does not match, some of them may. `AllocError` where memory is wanting.
+#[cycle(matching)]
+pub(crate) fn matches<'m>(
+    alloc: Global,
+    pattern: &'m Pattern,
+    value: &Term,
+    bindings: &mut Bindings<'m>,
+) -> Result<bool, AllocError>
+    ensures { IfOk result (λ found. IsMatch found bindings.new (match (pattern_of pattern.now) (meaning_of value.now) bindings.old)) }
+{
+    match pattern {
+        Pattern::Integer(number) => Ok(is_integer(value, *number)),
+        Pattern::Character(character) => Ok(is_integer(value, *character as i64)),
+        Pattern::Text(characters) => Ok(is_text(value, characters)),
+        Pattern::Atom(atom) => Ok(is_atom(value, atom.0.as_str())),
+        Pattern::Variable(variable) => {
+            bindings.push(variable.name.as_slice(), value.copy(alloc)?)?;
+            Ok(true)
+        }
+        Pattern::Tuple(parts) => match value {
+            Term::Tuple(values) => matches_each(alloc, parts, values, bindings),
+            _ => Ok(false),
+        },
+        Pattern::List(items) => match matches_items(alloc, items, value, bindings)? {
+            Some(Term::Nil) => Ok(true),
+            _ => Ok(false),
+        },
+        Pattern::Onto(onto) => {
+            let onto: &'m OntoPattern = onto;
+            match matches_items(alloc, &onto.items, value, bindings)? {
+                Some(tail) => matches(alloc, &onto.tail, tail, bindings),
+                None => Ok(false),
+            }
+        }
+        Pattern::Alias(alias) => {
+            let alias: &'m Alias = alias;
+            bindings.push(alias.variable.name.as_slice(), value.copy(alloc)?)?;
+            matches(alloc, &alias.whole, value, bindings)
+        }
+    }
+}
+
+/// Whether there are as many values as patterns, and each matches its own.
+#[cycle(matching)]
+pub(crate) fn matches_each<'m>(
+    alloc: Global,
+    patterns: &'m Patterns,
+    values: &Terms,
+    bindings: &mut Bindings<'m>,
+) -> Result<bool, AllocError>
+    ensures { IfOk result (λ found. IsMatch found bindings.new (match_each (patterns_of patterns.now) values.now bindings.old)) }
+{
+    if patterns.0.len() != values.0.len() {
+        return Ok(false);
+    }
+    for i in 0..patterns.0.len() {
+        if !matches(alloc, &patterns.0[i], &values.0[i], bindings)? {
+            return Ok(false);
+        }
+    }
+    Ok(true)
+}
+
+/// What stands in a list behind its first items, if these match the patterns.
+#[cycle(matching)]
+fn matches_items<'m, 'v>(
+    alloc: Global,
+    patterns: &'m Patterns,
+    value: &'v Term,
+    bindings: &mut Bindings<'m>,
+) -> Result<Option<&'v Term>, AllocError>
+    ensures { IfOk result (λ rest. (behind : Meaning → Environment → Option Environment) →
+        match_items (patterns_of patterns.now) behind (meaning_of value.now) bindings.old ≡ behind_items (option_map (λ tail. meaning_of tail.now) rest) behind bindings.new) }
+{
+    let mut left = value;
+    'items: for pattern in &patterns.0 {
+        let Term::Cons(cell) = left else {
+            return Ok(None);
+        };
+        let cell: &Pair = cell;
+        if !matches(alloc, pattern, &cell.head, bindings)? {
+            return Ok(None);
+        }
+        left = &cell.tail;
+    }
+    Ok(Some(left))
+}
