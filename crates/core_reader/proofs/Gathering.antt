@@ -19,19 +19,8 @@ use Rattle.core_reader.specs.Scopes.{names, bound_by, Setting, guard_of, functio
 use Rattle.core_reader.specs.Reading.{◌>>=◌, Gives}
 use Rattle.core_reader.specs.ScopeChecks.{Checked, is_defined, check_callee, check_tree, check_trees, check_clauses, check_definition, check_definitions, check_exports, check_module}
 use Rattle.core_reader.specs.Environment.{shown, check_bodies, check_kept, before_second, fault_of_second, next_second, check_functions}
+use Rattle.core_reader.proofs.SameFunctions.{same_function_is}
 use Rattle.core_reader.proofs.ScopeLoops.{drop_item, drop_all}
-
--- names that are the same
-pub same_function_is : (f g : Function) → same_function f g ≡ true → f ≡ g
-same_function_is f g e =
-    let h = both_true (pointwise ◌==◌ f.name g.name) (f.arity == g.arity) e in
-    let name : f.name ≡ g.name = same_text f.name g.name (sym h.0) in
-    let arity : f.arity ≡ g.arity = eqb-true _ _ h.1 in
-    λ i. record { name = name i; arity = arity i }
-  where
-    both_true : (a b : Bool) → (a && b) ≡ true → (a ≡ true) × (b ≡ true)
-    both_true true b e = (refl, e)
-    both_true false b e = absurd cc
 
 -- whether a key is there, by its value
 pub found_is_defined : (es : List (Function × Definition)) (f : Function) → is_some (lookup (same_function f) es) ≡ is_defined (keys_in es) f
