@@ -1,5 +1,5 @@
 use Rattle.std.proofs.Common.{◌≡◌, false}
-use Rattle.core_eval.proofs.tests.write_call.Given as goal
+use Rattle.core_eval.proofs.tests.runs.write_call.Given as goal
 
 -- the sink has not failed
 abbrev pub invariant-loop-argument : goal.invariant-loop-argument

@@ -1,0 +1,103 @@
+// Modules of one function, and what their processes ask, as text.
+ghost use Rattle.std.specs.Prelude.{◌≡◌, false};
+
+use super::words::{Word, build};
+use crate::machine::{Machine, start};
+use crate::request::{Answer, Request};
+use core_tree::{CallKind, Definition, Expr, FunctionName, Module};
+use indexmap::IndexMap;
+use std::alloc::{AllocError, Global};
+use std::test::Fail;
+use term_core::{Atom, Output, Pid, Term, Terms, WriteFault, write_all, write_term};
+
+fn main_name(alloc: Global) -> Result<FunctionName, AllocError> {
+    let name = Atom(String::from_str(alloc, "main")?);
+    Ok(FunctionName { name, arity: 0 })
+}
+
+fn main_with(alloc: Global, body: Expr) -> Result<IndexMap<FunctionName, Definition>, AllocError> {
+    let mut definitions = IndexMap::new(alloc);
+    let parameters = Vec::new(alloc);
+    let definition = Definition {
+        at: 0,
+        parameters,
+        body,
+    };
+    definitions.insert(main_name(alloc)?, definition)?;
+    Ok(definitions)
+}
+
+// The module `m` that exports nothing and defines `'main'/0`.
+pub(crate) fn module_of(alloc: Global, body: Expr) -> Result<Module, AllocError> {
+    let definitions = main_with(alloc, body)?;
+    let name = Atom(String::from_str(alloc, "m")?);
+    Ok(Module {
+        name,
+        exports: Vec::new(alloc),
+        attributes: Vec::new(alloc),
+        definitions,
+    })
+}
+
+// A process at the function of `m` with this name.
+pub(crate) fn process<'m>(
+    alloc: Global,
+    program: &'m Module,
+    pid: Pid,
+    name: &str,
+) -> Result<Machine<'m>, AllocError> {
+    let function_name = Atom(String::from_str(alloc, name)?);
+    let none = Terms(Vec::new(alloc));
+    start(alloc, program, pid, &program.name, &function_name, none)
+}
+
+fn write_call(
+    kind: CallKind,
+    arguments: &Terms,
+    sink: &mut Output<Vec<u8>>,
+) -> Result<(), WriteFault>
+    requires { sink.old.has_failed ≡ false }
+{
+    write_all(sink, kind.function_name().as_bytes())?;
+    for argument in &arguments.0 {
+        write_all(sink, b" ")?;
+        write_term(argument, sink)?;
+    }
+    Ok(())
+}
+
+// The name of a call and its arguments, or the reason of an end.
+pub(crate) fn text_of(alloc: Global, request: &Request) -> Result<Vec<u8>, WriteFault> {
+    let mut sink = Output::new(Vec::new(alloc));
+    match request {
+        Request::Call(kind, arguments) => write_call(*kind, arguments, &mut sink)?,
+        Request::Receive { .. } => write_all(&mut sink, b"receives")?,
+        Request::End(reason) => write_term(reason, &mut sink)?,
+        Request::Runaway => write_all(&mut sink, b"runs away")?,
+    }
+    Ok(sink.writer)
+}
+
+// What the machine asks, one request a line; each call is answered by its number.
+pub(crate) fn run_on(alloc: Global, machine: &mut Machine) -> Result<Vec<u8>, Fail> {
+    let mut text = text_of(alloc, machine.request())?;
+    for number in 1..20 {
+        if let Request::Call(_, _) = machine.request() {
+            machine.resume(alloc, Answer::Value(Term::Int(number)))?;
+            text.push(b'\n')?;
+            text.extend_from_slice(text_of(alloc, machine.request())?.as_slice())?;
+        }
+    }
+    Ok(text)
+}
+
+// What the first process of the module asks.
+pub(crate) fn run_of(alloc: Global, program: &Module) -> Result<Vec<u8>, Fail> {
+    let mut machine = process(alloc, program, Pid(Vec::new(alloc)), "main")?;
+    run_on(alloc, &mut machine)
+}
+
+pub(crate) fn asked(alloc: Global, words: &[Word]) -> Result<Vec<u8>, Fail> {
+    let program = module_of(alloc, build(alloc, words)?)?;
+    run_of(alloc, &program)
+}
