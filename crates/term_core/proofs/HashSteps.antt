@@ -1,5 +1,6 @@
 -- Steps of feeding the parts of a term to a hasher, one after another.
-use Rattle.std.proofs.Common.{◌≡◌, ℕ, ◌+◌, ◌<◌, List, [], ◌∷◌, ◌++◌, length, get_or, drop, map, refl, sym, ap, ◌∙◌, add-one}
+use Rattle.std.proofs.Common.{Global, ◌≡◌, ℕ, ◌+◌, ◌<◌, List, [], ◌∷◌, ◌++◌, length, get_or, drop, map, refl, sym, ap, ◌∙◌, add-one}
+use Rattle.std.specs.declared.sync.Arc.{Arc}
 use Rattle.std.specs.List.{fold, flat_map}
 use Rattle.std.specs.Hash as fed
 use Rattle.std.specs.Hash.{fed_then}
@@ -33,7 +34,7 @@ module _ {S : Type 0} (write : S → List ℕ → S) where
       whole ∙ ap (fold write now) (next_part xs vs i x p h e) ∙ so
 
   -- a tuple is fed to its end
-  pub tuple_fed : (term rest : Term) (ms : List Meaning) (start before after done : S) → rest ≡ Tuple ms → fold write before (writes_of_term (meaning_of rest)) ≡ fold write start (writes_of_term (meaning_of term)) → after ≡ fold write before (fed.u8 4) → done ≡ fold write after (writes_of_items ms) → done ≡ fold write start (writes_of_term (meaning_of term))
-  tuple_fed term rest ms start before after done is so kind parts =
-      let whole = fed_then write before after done (fed.u8 4) (writes_of_items ms) kind parts in
-      whole ∙ ap (fold write before) (writes_of_term-Group ms) ∙ (λ i. fold write before (writes_of_term (meaning_of (sym is i)))) ∙ so
+  pub tuple_fed : (term rest : Term) (parts : Arc (List Meaning) Global) (ms : List Meaning) (start before after done : S) → rest ≡ Tuple parts → ms ≡ parts.value → fold write before (writes_of_term (meaning_of rest)) ≡ fold write start (writes_of_term (meaning_of term)) → after ≡ fold write before (fed.u8 4) → done ≡ fold write after (writes_of_items ms) → done ≡ fold write start (writes_of_term (meaning_of term))
+  tuple_fed term rest parts ms start before after done is same so kind each =
+      let whole = fed_then write before after done (fed.u8 4) (writes_of_items ms) kind each in
+      whole ∙ ap (fold write before) (writes_of_term-Group ms) ∙ (λ i. fold write before (writes_of_term (Group (group_of (same i))))) ∙ (λ i. fold write before (writes_of_term (meaning_of (sym is i)))) ∙ so

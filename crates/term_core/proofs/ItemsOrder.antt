@@ -1,11 +1,12 @@
 -- Steps along two lists of terms that are compared part by part.
-use Rattle.std.proofs.Common.{◌≡◌, ℕ, zero, suc, ◌+◌, ◌<◌, true, false, List, [], ◌∷◌, length, get_or, drop, map, refl, sym, ap, ◌∙◌, arith, add-one}
+use Rattle.std.proofs.Common.{Global, ◌≡◌, ℕ, zero, suc, ◌+◌, ◌<◌, true, false, List, [], ◌∷◌, length, get_or, drop, map, refl, sym, ap, ◌∙◌, arith, add-one}
 use Rattle.std.specs.declared.cmp.Ordering.{Ordering}
+use Rattle.std.specs.declared.sync.Arc.{Arc}
 use Rattle.std.specs.declared.cmp.Ordering.TheVariants.{Less, Equal, Greater}
 use Rattle.std.specs.Ordering.{ordering_then, nat_cmp, is_ne}
 use Rattle.std.specs.Cmp.{nat_cmp_total, tied_itself}
 use Rattle.std.specs.Cmp.Lexicographic.{slice_cmp}
-use Rattle.term_core.specs.Meaning.{Meaning}
+use Rattle.term_core.specs.Meaning.{Meaning, Group, group_of}
 use Rattle.term_core.specs.Term.{meaning_of}
 use Rattle.term_core.specs.Order.{order_of_terms, order_of_items}
 use Rattle.term_core.specs.Order.Laws.{order_of_terms-Group}
@@ -65,9 +66,9 @@ module _ (xs ys : List Term) (vs ws : List Meaning) (i : ℕ) (x y : Term) (r : 
       sym (sym g ∙ here ∙ ap (λ o. ordering_then o (order_of_items (drop (i + 1) vs) (drop (i + 1) ws))) (sym is) ∙ so)
 
 -- two tuples, from what their parts say
-pub tuples : (a b left right : Term) (xs ys : List Meaning) (r : Ordering) → left ≡ Tuple xs → right ≡ Tuple ys → order_of_terms (meaning_of left) (meaning_of right) ≡ order_of_terms (meaning_of a) (meaning_of b) → r ≡ ordering_then (nat_cmp (length xs) (length ys)) (order_of_items xs ys) → r ≡ order_of_terms (meaning_of a) (meaning_of b)
-tuples a b left right xs ys r p q e is =
-    is ∙ sym (order_of_terms-Group xs ys) ∙ (λ i. order_of_terms (meaning_of (sym p i)) (meaning_of (sym q i))) ∙ e
+pub tuples : (a b left right : Term) (ps qs : Arc (List Meaning) Global) (xs ys : List Meaning) (r : Ordering) → left ≡ Tuple ps → right ≡ Tuple qs → xs ≡ ps.value → ys ≡ qs.value → order_of_terms (meaning_of left) (meaning_of right) ≡ order_of_terms (meaning_of a) (meaning_of b) → r ≡ ordering_then (nat_cmp (length xs) (length ys)) (order_of_items xs ys) → r ≡ order_of_terms (meaning_of a) (meaning_of b)
+tuples a b left right ps qs xs ys r p q f g e is =
+    is ∙ sym (order_of_terms-Group xs ys) ∙ (λ i. order_of_terms (Group (group_of (f i))) (Group (group_of (g i)))) ∙ (λ i. order_of_terms (meaning_of (sym p i)) (meaning_of (sym q i))) ∙ e
 
 -- two lists of terms, item by item
 pub order_of_items-map : (xs ys : List Term) → slice_cmp (λ x y. order_of_terms (meaning_of x) (meaning_of y)) xs ys ≡ order_of_items (map meaning_of xs) (map meaning_of ys)

@@ -1,5 +1,5 @@
 pub mod Writing
-pub mod Copying
+pub mod Building
 pub mod Texts
 pub mod Pieces
 pub mod NumberTexts
@@ -9,3 +9,4 @@ pub mod ScheduleTexts
 pub mod ItemsOrder
 pub mod Equality
 pub mod HashSteps
+pub mod Sizes

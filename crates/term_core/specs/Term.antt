@@ -9,7 +9,7 @@ meaning_of (Int n) = Integer n
 meaning_of (Atom a) = Name a
 meaning_of (Ref r) = Reference r.pid r.number
 meaning_of (Pid p) = Process p
-meaning_of (Tuple ts) = Group (group_of ts)
+meaning_of (Tuple ts) = Group (group_of ts.value)
 meaning_of Nil = Empty
 meaning_of (Cons p) = Cell p.value.0 p.value.1
 

@@ -1,12 +1,13 @@
 // Copies of terms and of their parts.
-ghost use Rattle.std.specs.Prelude.{◌≡◌, IfOk, map};
-ghost use Rattle.term_core.specs.Term.{meaning_of, list_onto};
+ghost use Rattle.std.specs.Prelude.{◌≡◌, IfOk};
+ghost use Rattle.term_core.specs.Term.{meaning_of};
 
 use crate::atom::Atom;
 use crate::pid::{Pid, RefId};
 use crate::step::Step;
-use crate::term::{Pair, Term, Terms};
+use crate::term::{Term, Terms};
 use std::alloc::{AllocError, Global};
+use std::sync::Arc;
 
 impl Atom {
     /// The same atom, or `AllocError` where memory is wanting.
@@ -51,56 +52,36 @@ impl Step {
 }
 
 impl Term {
-    /// The same term, or `AllocError` where memory is wanting.
-    #[cycle(copy)]
+    /// The same term, or `AllocError` where memory is wanting. Lists and tuples are shared with it: of
+    /// them the copy takes no memory and one step, and fails only where so many copies are held that
+    /// they can no longer be counted.
     pub fn copy(&self, alloc: Global) -> Result<Term, AllocError>
         ensures { IfOk result (λ copied. meaning_of copied ≡ meaning_of self.now) }
     {
-        let mut heads = Vec::new(alloc);
-        let mut rest = self;
-        let last = loop {
-            match rest {
-                Term::Cons(cell) => {
-                    let pair: &Pair = cell;
-                    heads.push(pair.head.copy(alloc)?)?;
-                    rest = &pair.tail;
-                }
-                Term::Int(number) => break Term::Int(*number),
-                Term::Atom(atom) => break Term::Atom(atom.copy(alloc)?),
-                Term::Ref(reference) => break Term::Ref(reference.copy(alloc)?),
-                Term::Pid(pid) => break Term::Pid(pid.copy(alloc)?),
-                Term::Tuple(parts) => break Term::Tuple(parts.copy(alloc)?),
-                Term::Nil => break Term::Nil,
-            }
-        };
-        list_onto(alloc, heads, last)
+        match self {
+            Term::Int(number) => Ok(Term::Int(*number)),
+            Term::Atom(atom) => Ok(Term::Atom(atom.copy(alloc)?)),
+            Term::Ref(reference) => Ok(Term::Ref(reference.copy(alloc)?)),
+            Term::Pid(pid) => Ok(Term::Pid(pid.copy(alloc)?)),
+            Term::Tuple(parts) => Ok(Term::Tuple(Arc::try_clone(parts)?)),
+            Term::Nil => Ok(Term::Nil),
+            Term::Cons(cell) => Ok(Term::Cons(Arc::try_clone(cell)?)),
+        }
     }
 }
 
 impl Terms {
-    /// The same terms, or `AllocError` where memory is wanting.
-    #[cycle(copy)]
+    /// The same terms, each a copy, or `AllocError` where memory is wanting.
     pub fn copy(&self, alloc: Global) -> Result<Terms, AllocError>
         ensures { IfOk result (λ copied. copied ≡ self.now) }
     {
-        let mut copied = Vec::with_capacity(alloc, self.0.len())?;
-        for part in &self.0 {
-            copied.push(part.copy(alloc)?)?;
+        let mut items = Vec::with_capacity(alloc, self.items.len())?;
+        for part in &self.items {
+            items.push(part.copy(alloc)?)?;
         }
-        Ok(Terms(copied))
+        Ok(Terms {
+            items,
+            nodes: self.nodes,
+        })
     }
-}
-
-/// The list of these heads that goes on with the tail, or `AllocError` where memory is wanting, and
-/// then heads and tail are dropped.
-pub fn list_onto(alloc: Global, heads: Vec<Term>, tail: Term) -> Result<Term, AllocError>
-    ensures { IfOk result (λ list. meaning_of list ≡ list_onto (map meaning_of heads.items) (meaning_of tail)) }
-{
-    let mut heads = heads;
-    let mut list = tail;
-    while let Some(head) = heads.pop() {
-        let pair = Pair { head, tail: list };
-        list = Term::Cons(Box::new(alloc, pair)?);
-    }
-    Ok(list)
 }

@@ -62,9 +62,9 @@ fn feed_term<H: Hasher>(term: &Term, state: &mut H)
 fn feed_parts<H: Hasher>(parts: &Terms, state: &mut H)
     ensures { state.new ≡ fold H.write state.old (writes_of_items parts.now) }
 {
-    state.write_usize(parts.0.len());
-    for i in 0..parts.0.len() {
-        feed_term(&parts.0[i], state);
+    state.write_usize(parts.items.len());
+    for i in 0..parts.items.len() {
+        feed_term(&parts.items[i], state);
     }
 }
 

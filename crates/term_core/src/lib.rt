@@ -3,11 +3,13 @@
 #![tactic(auto)]
 
 pub mod atom;
+pub mod build;
 pub mod copy;
 pub mod devices;
 pub mod hash;
 pub mod nodes;
 pub mod order;
+pub mod parts;
 pub mod pid;
 pub mod schedule;
 pub mod step;
@@ -19,7 +21,7 @@ mod tests;
 pub mod text;
 
 pub use atom::Atom;
-pub use copy::list_onto;
+pub use build::list_onto;
 pub use order::steps::compare_schedules;
 pub use pid::{Pid, RefId};
 pub use schedule::{ScheduleFault, read_schedule};

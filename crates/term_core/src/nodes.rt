@@ -7,38 +7,27 @@ use crate::term::{Pair, Term, Terms};
 
 impl Term {
     /// Its size in nodes: 1 for each integer, atom, reference, pid, nil, tuple and list cell, and the
-    /// nodes of its parts; `u64::MAX` where there are more. It takes no memory.
-    #[cycle(nodes)]
+    /// nodes of its parts; `u64::MAX` where there are more. It takes no memory, and one step.
     pub fn nodes(&self) -> u64
         ensures { result ≡ min (node_count (meaning_of self.now)) (2 ^ 64 - 1) }
     {
-        let mut count: u64 = 0;
-        let mut rest = self;
-        loop {
-            count = count.saturating_add(1);
-            match rest {
-                Term::Cons(cell) => {
-                    let pair: &Pair = cell;
-                    count = count.saturating_add(pair.head.nodes());
-                    rest = &pair.tail;
-                }
-                Term::Tuple(parts) => return count.saturating_add(parts.nodes()),
-                _ => return count,
+        match self {
+            Term::Cons(cell) => {
+                let pair: &Pair = cell;
+                pair.nodes
             }
+            Term::Tuple(parts) => parts.nodes().saturating_add(1),
+            _ => 1,
         }
     }
 }
 
 impl Terms {
-    /// The sizes of the terms together, in nodes; `u64::MAX` where there are more. It takes no memory.
-    #[cycle(nodes)]
+    /// The sizes of the terms together, in nodes; `u64::MAX` where there are more. It takes no memory,
+    /// and one step.
     pub fn nodes(&self) -> u64
         ensures { result ≡ min (sum_of_nodes self.now) (2 ^ 64 - 1) }
     {
-        let mut count: u64 = 0;
-        for part in &self.0 {
-            count = count.saturating_add(part.nodes());
-        }
-        count
+        self.nodes
     }
 }

@@ -66,11 +66,11 @@ fn order_of(a: &Term, b: &Term) -> Ordering
 fn order_of_tuples(a: &Terms, b: &Terms) -> Ordering
     ensures { result ≡ ordering_then (nat_cmp (length a.now) (length b.now)) (order_of_items a.now b.now) }
 {
-    if a.0.len() != b.0.len() {
-        return a.0.len().cmp(&b.0.len());
+    if a.items.len() != b.items.len() {
+        return a.items.len().cmp(&b.items.len());
     }
-    for i in 0..a.0.len() {
-        let parts = order_of(&a.0[i], &b.0[i]);
+    for i in 0..a.items.len() {
+        let parts = order_of(&a.items[i], &b.items[i]);
         if parts.is_ne() {
             return parts;
         }
@@ -214,6 +214,6 @@ impl Ord for Terms {
     /// Item by item: the first that differs decides, and a list comes before its longer ones. It takes
     /// no memory.
     fn cmp(&self, other: &Terms) -> Ordering {
-        self.0.cmp(&other.0)
+        self.items.cmp(&other.items)
     }
 }

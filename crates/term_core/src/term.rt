@@ -1,12 +1,14 @@
-// Terms.
+// Terms. Tuples and list cells are shared by all that hold them, and know their sizes.
 ghost use Rattle.std.specs.Prelude.{◌≡◌};
 ghost use Rattle.term_core.specs.Term.{meaning_of};
 
 use crate::atom::Atom;
 use crate::pid::{Pid, RefId};
 use std::marker::Model;
+use std::sync::Arc;
 
-/// A term: an integer of 64 bits, an atom, a reference, a pid, a tuple, nil, or a list cell.
+/// A term: an integer of 64 bits, an atom, a reference, a pid, a tuple, nil, or a list cell. A copy
+/// shares the parts of tuples and cells.
 #[derive(Drop)]
 #[cycle(term)]
 pub enum Term {
@@ -14,22 +16,23 @@ pub enum Term {
     Atom(Atom),
     Ref(RefId),
     Pid(Pid),
-    Tuple(Terms),
+    Tuple(Arc<Terms>),
     Nil,
-    Cons(Box<Pair>),
+    Cons(Arc<Pair>),
 }
 
-/// A list cell. Contracts see it as the pair of what its parts mean.
+/// A list cell, with its size. Contracts see it as the pair of what its parts mean.
 #[cycle(term)]
 pub struct Pair {
-    pub head: Term,
-    pub tail: Term,
+    pub(crate) head: Term,
+    pub(crate) tail: Term,
+    pub(crate) nodes: u64,
 }
 
 impl Model for Pair {
-    ghost use Rattle.std.specs.Prelude.{ℕ, List, ◌+◌};
+    ghost use Rattle.std.specs.Prelude.{◌≡◌, ◌+◌, ◌-◌, ◌^◌, min};
     ghost use Rattle.std.specs.Coded.{coded×};
-    ghost use Rattle.term_core.specs.Meaning.{Meaning, coded_meaning, node_count};
+    ghost use Rattle.term_core.specs.Meaning.{Meaning, Cell, coded_meaning, node_count};
 
     ghost Value = { Meaning × Meaning };
 
@@ -39,6 +42,8 @@ impl Model for Pair {
 
     ghost view = { λ p. (meaning_of p.head, meaning_of p.tail) };
 
+    ghost invariant = { λ p. p.nodes ≡ min (node_count (Cell (meaning_of p.head) (meaning_of p.tail))) (2 ^ 64 - 1) };
+
     ghost size = { λ v. node_count v.0 + node_count v.1 };
 
     ghost use Rattle.std.proofs.Common.{arith};
@@ -47,13 +52,16 @@ impl Model for Pair {
     ghost size_decreases = { λ a h. Prim.omega (arith, deep_le a.head, deep_le a.tail) };
 }
 
-/// The parts of a tuple, and the arguments of a call. Contracts see them as a list.
+/// The parts of a tuple, and the arguments of a call, with their size. Contracts see them as a list.
 #[derive(Drop)]
 #[cycle(term)]
-pub struct Terms(pub Vec<Term>);
+pub struct Terms {
+    pub(crate) items: Vec<Term>,
+    pub(crate) nodes: u64,
+}
 
 impl Model for Terms {
-    ghost use Rattle.std.specs.Prelude.{ℕ, List, ◌+◌, map};
+    ghost use Rattle.std.specs.Prelude.{◌≡◌, ◌-◌, ◌^◌, min, List, map};
     ghost use Rattle.std.specs.Coded.{coded_list};
     ghost use Rattle.term_core.specs.Meaning.{Meaning, coded_meaning, sum_of_nodes};
 
@@ -63,40 +71,80 @@ impl Model for Terms {
 
     ghost use Rattle.term_core.specs.Term.{meaning_of};
 
-    ghost view = { λ a. map meaning_of a.0.items };
+    ghost view = { λ a. map meaning_of a.items.items };
+
+    ghost invariant = { λ a. a.nodes ≡ min (sum_of_nodes (map meaning_of a.items.items)) (2 ^ 64 - 1) };
 
     ghost size = { sum_of_nodes };
 
     ghost use Rattle.std.proofs.Common.{arith};
     ghost use Rattle.term_core.specs.Depth.{most_le};
 
-    ghost size_decreases = { λ a h. Prim.omega (arith, most_le a.0.items) };
+    ghost size_decreases = { λ a h. Prim.omega (arith, most_le a.items.items) };
 }
 
 impl Pair {
+    /// The cell of a head and a tail. It takes no memory.
+    pub fn new(head: Term, tail: Term) -> Pair
+        ensures { result ≡ (meaning_of head, meaning_of tail) }
+    {
+        let parts = head.nodes().saturating_add(tail.nodes());
+        Pair {
+            head,
+            tail,
+            nodes: parts.saturating_add(1),
+        }
+    }
+
+    /// The head.
+    pub fn head(&self) -> &Term
+        ensures { meaning_of result.now ≡ self.now.0 }
+    {
+        &self.head
+    }
+
+    /// The tail.
+    pub fn tail(&self) -> &Term
+        ensures { meaning_of result.now ≡ self.now.1 }
+    {
+        &self.tail
+    }
+
     /// The head and the tail.
     pub fn into_parts(self) -> (Term, Term)
         ensures head { meaning_of result.0 ≡ self.0 }
         ensures tail { meaning_of result.1 ≡ self.1 }
     {
-        let Pair { head, tail } = self;
+        let Pair {
+            head,
+            tail,
+            nodes: _nodes,
+        } = self;
         (head, tail)
     }
 }
 
 impl Drop for Pair {
-    // A list is dropped by a loop over its tails, so that it may be of any length.
+    // A list is dropped by a loop over its tails, so that it may be of any length. It ends at a cell
+    // that others hold as well.
     #[cycle(drop)]
     fn drop(self) {
-        let Pair { head, mut tail } = self;
+        let Pair {
+            head,
+            mut tail,
+            nodes: _nodes,
+        } = self;
         drop(head);
         loop {
             match tail {
-                Term::Cons(cell) => {
-                    let (head, rest) = Box::into_inner(cell).into_parts();
-                    drop(head);
-                    tail = rest;
-                }
+                Term::Cons(cell) => match Arc::into_inner(cell) {
+                    Some(pair) => {
+                        let (head, rest) = pair.into_parts();
+                        drop(head);
+                        tail = rest;
+                    }
+                    None => return,
+                },
                 last => {
                     drop(last);
                     return;

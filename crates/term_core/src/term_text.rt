@@ -34,11 +34,11 @@ fn write_tuple<S: Sink>(parts: &Terms, sink: &mut S) -> Result<(), WriteFault>
     requires { S.has_failed sink.old ≡ false }
     ensures { Writes (S.contents sink.old) (S.contents sink.new) (S.has_failed sink.new) result (text_of_tuple (group_of parts.now)) }
 {
-    if parts.0.is_empty() {
+    if parts.items.is_empty() {
         return write_all(sink, b"{}");
     }
     let mut mark = b'{';
-    for part in &parts.0 {
+    for part in &parts.items {
         write_behind(mark, part, sink)?;
         mark = b',';
     }

@@ -10,4 +10,4 @@ invariant-order_of-loop-left l =
 
 abbrev pub invariant-order_of_tuples-loop-i : goal.invariant-order_of_tuples-loop-i
 invariant-order_of_tuples-loop-i l =
-    (length l.a-inside.0.items ≡ length l.b-inside.0.items) × (order_of_items (drop l.i l.a) (drop l.i l.b) ≡ order_of_items l.a l.b)
+    (length l.a-inside.items.items ≡ length l.b-inside.items.items) × (order_of_items (drop l.i l.a) (drop l.i l.b) ≡ order_of_items l.a l.b)

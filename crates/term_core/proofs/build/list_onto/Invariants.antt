@@ -1,6 +1,6 @@
 use Rattle.std.proofs.Common.{◌≡◌, map, vec_len}
 use Rattle.term_core.specs.Term.{meaning_of, list_onto}
-use Rattle.term_core.proofs.copy.list_onto.Given as goal
+use Rattle.term_core.proofs.build.list_onto.Given as goal
 
 -- the heads that are left, onto the list so far, are the whole list
 abbrev pub invariant-loop-head : goal.invariant-loop-head

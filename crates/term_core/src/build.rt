@@ -1,0 +1,38 @@
+// Tuples and lists, built of their parts.
+ghost use Rattle.std.specs.Prelude.{◌≡◌, IfOk, map};
+ghost use Rattle.term_core.specs.Meaning.{Cell, Group, group_of};
+ghost use Rattle.term_core.specs.Term.{meaning_of, list_onto};
+
+use crate::term::{Pair, Term, Terms};
+use std::alloc::{AllocError, Global};
+use std::sync::Arc;
+
+impl Term {
+    /// The list cell of a head and a tail, or `AllocError` where memory is wanting, and then both are
+    /// dropped.
+    pub fn cell(alloc: Global, head: Term, tail: Term) -> Result<Term, AllocError>
+        ensures { IfOk result (λ cell. meaning_of cell ≡ Cell (meaning_of head) (meaning_of tail)) }
+    {
+        Ok(Term::Cons(Arc::new(alloc, Pair::new(head, tail))?))
+    }
+
+    /// The tuple of these parts, or `AllocError` where memory is wanting, and then they are dropped.
+    pub fn tuple(alloc: Global, parts: Terms) -> Result<Term, AllocError>
+        ensures { IfOk result (λ tuple. meaning_of tuple ≡ Group (group_of parts)) }
+    {
+        Ok(Term::Tuple(Arc::new(alloc, parts)?))
+    }
+}
+
+/// The list of these heads that goes on with the tail, or `AllocError` where memory is wanting, and
+/// then heads and tail are dropped.
+pub fn list_onto(alloc: Global, heads: Vec<Term>, tail: Term) -> Result<Term, AllocError>
+    ensures { IfOk result (λ list. meaning_of list ≡ list_onto (map meaning_of heads.items) (meaning_of tail)) }
+{
+    let mut heads = heads;
+    let mut list = tail;
+    while let Some(head) = heads.pop() {
+        list = Term::cell(alloc, head, list)?;
+    }
+    Ok(list)
+}
