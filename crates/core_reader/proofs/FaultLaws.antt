@@ -14,6 +14,7 @@ use Rattle.core_reader.specs.Places.{IsFaultOf}
 use Rattle.core_reader.proofs.SoundModules.{module_sound}
 use Rattle.core_reader.proofs.FaultSteps.{IsGrammarFault, Good, Fine}
 use Rattle.core_reader.proofs.FaultModules.{ModulePlaced, module_fine}
+use Rattle.core_reader.proofs.LastEnd.{module_ends}
 use Rattle.core_reader.proofs.DeepModules.{module_falls}
 use Rattle.core_reader.proofs.ScopeFaultLaws.{Says, module_says}
 
@@ -53,7 +54,7 @@ fault_stands end ps e failed =
     by (module_at (start end ps)) refl (module_fine ps end (start end ps) good refl) failed
   where
     by : (r : Result (ModuleTree × ℕ) ReadFault) → module_at (start end ps) ≡ r → Fine ps end r (ModulePlaced ps end) → (r >>= check_module) ≡ Err e → IsFaultOf ps end e
-    by (Ok (m, at)) is placed fails = of_scopes end ps m e (module_sound (start end ps) (m, at) is) (module_says ps end m at e placed fails)
+    by (Ok (m, at)) is placed fails = of_scopes end ps m e (module_sound (start end ps) (m, at) is) (module_says ps end m at e placed (module_ends (start end ps) (m, at) is) fails)
     by (Err f) is stands fails = subst (λ (x : ReadFault). IsFaultOf ps end x) (same_fault f e fails) (of_grammar end ps f is stands)
 
 pub is_fault : (end : ℕ) (ps : List Piece) (e : ReadFault) → (e ≢ fault.Memory → whole_at (start end ps) ≡ Err e) → IsFaultOf ps end e

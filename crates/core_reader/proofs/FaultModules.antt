@@ -1,5 +1,5 @@
 -- What each fault of the grammar says: definitions and modules.
-use Rattle.std.proofs.Common.{◌≡◌, ℕ, zero, suc, true, List, [], ◌∷◌, Option, Some, None, Result, Ok, Err, refl, sym, ap, ◌∙◌, subst, inl}
+use Rattle.std.proofs.Common.{◌≡◌, ℕ, zero, suc, true, List, [], ◌∷◌, ◌++◌, Option, Some, None, Result, Ok, Err, refl, sym, ap, ◌∙◌, subst}
 use Rattle.std.specs.Prelude.{IfSome}
 use Rattle.core_tokens.specs.declared.fault.ReadFault.{ReadFault}
 use Rattle.core_tokens.specs.declared.token.Mark.TheVariants as m
@@ -9,12 +9,11 @@ use Rattle.core_tree.specs.Syntax.{Mention, Tree, NamedAt, AttributeTree, Defini
 use Rattle.core_reader.specs.declared.parser.Unserved.{Unserved}
 use Rattle.core_reader.specs.Grammar.{word, atom, level_limit}
 use Rattle.core_reader.specs.UnservedCalls.{within, IsOwn}
-use Rattle.core_reader.specs.Places.{IsOne}
 use Rattle.core_reader.specs.Reading.{State, Read, ◌>>=◌, with_pieces, after_mark, place_of, mark_at, word_at, atom_at, bare_name_at, closed_at, exactly_at, rows_at, constant_at, noted_at, function_name_at, variable_at}
 use Rattle.core_reader.specs.ReadingForms.{expression_at}
 use Rattle.core_reader.specs.ReadingModules.{attribute_at, bare_fun_at, fun_at, behind_name_at, Opening, TheName, WholeDefinition, opening_by, opened, inside_opening_at, bare_opening_at, opening_last, opening_next, opening_at, definition_of_opening, definition_at, front_at, bare_module_at, ended, module_at}
-use Rattle.core_reader.proofs.Steps.{after_mark_found, word_steps, atom_steps}
-use Rattle.core_reader.proofs.FaultSteps.{IsUnservedAt, holds, Good, Fine, fine_bind, fine_read, unserved_fine, fault_fine, too_deep_fine, good_at, mark_inside, mark_fine, word_fine, Keeps, atom_fine, bare_name_fine, Each, closed_fine, exactly_fine, rows_fine}
+use Rattle.core_reader.proofs.Steps.{ok_is, bind_ok, after_mark_found, word_steps, atom_steps}
+use Rattle.core_reader.proofs.FaultSteps.{IsUnservedAt, Good, Fine, fine_bind, fine_read, unserved_fine, fault_fine, too_deep_fine, good_at, mark_inside, mark_fine, word_fine, Keeps, atom_fine, bare_name_fine, Each, closed_fine, exactly_fine, rows_fine}
 use Rattle.core_reader.proofs.FaultForms.{in_note_fine, constant_fine, noted_fine, noted_from_fine, NamePlaced', MentionAt', function_name_fine, variable_fine, TreeAt, expression_fine}
 
 module _ (all : List Piece) (end : ℕ) where
@@ -149,32 +148,35 @@ module _ (all : List Piece) (end : ℕ) where
       bind (closed_at (attribute_at n) m.RightBracket s4) _ (λ x. Each' Any' x.0 × Good' x.1) (λ x. FrontPlaced x.0 × Good' x.1) (closed_fine all end (attribute_at n) Any' (attribute_fine n) m.RightBracket s4 g4) (λ ts gt. ((owned, ge.0), gt.1))))))))
 
   abbrev pub ModulePlaced : ModuleTree × ℕ → Type 0
-  ModulePlaced x = Each' Name x.0.exports × (Each' DefinitionPlaced x.0.definitions × IsOne all (word x.1 k.End))
-
-  -- where an `end` is stepped over, one stands
-  end_stands : (s t : State) → Good' s → word_at k.End s ≡ Ok t → IsOne all (word (place_of s.stop s.pieces) k.End)
-  end_stands s t g e =
-      let step = word_steps k.End s t e in
-      let here : step.at ≡ place_of s.stop s.pieces = sym (ap (place_of s.stop) step.pieces) in
-      let one : IsOne s.pieces (word step.at k.End) = subst (λ (qs : List Piece). IsOne qs (word step.at k.End)) (sym step.pieces) (inl refl) in
-      subst (λ (at : ℕ). IsOne all (word at k.End)) here (holds all end s.pieces g.inside (word step.at k.End) one)
-
-  abbrev placed : ModuleTree → ℕ → State → Read (ModuleTree × ℕ)
-  placed x at t = Ok ((x, at), t)
-
-  ended_at : (s : State) (x : ModuleTree) → Good' s → Each' Name x.exports → Each' DefinitionPlaced x.definitions → Fine' (word_at k.End s >>= λ s1. placed x (place_of s.stop s.pieces) s1) (λ y. ModulePlaced y.0 × Good' y.1)
-  ended_at s x g h i = by (word_at k.End s) refl (word_fine all end k.End s g)
-    where
-      by : (r : Result State ReadFault) → word_at k.End s ≡ r → Fine' r Good' → Fine' (r >>= λ s1. placed x (place_of s.stop s.pieces) s1) (λ y. ModulePlaced y.0 × Good' y.1)
-      by (Ok t) e f = ((h, (i, end_stands s t g e)), f)
-      by (Err d) e f = f
+  ModulePlaced x = Each' Name x.0.exports × Each' DefinitionPlaced x.0.definitions
 
   bare_module_fine : (n : ℕ) (s : State) → Good' s → within s.pieces ≡ within all → Fine' (bare_module_at n s) (λ x. ModulePlaced x.0 × Good' x.1)
   unfolding bare_module_at
   bare_module_fine n s g w =
       bind (front_at n s) _ (λ x. FrontPlaced x.0 × Good' x.1) (λ x. ModulePlaced x.0 × Good' x.1) (front_fine n s g w) (λ f gf.
       bind (rows_at (definition_at f.0.0 n) f.1) _ (λ x. Each' DefinitionPlaced x.0 × Good' x.1) (λ x. ModulePlaced x.0 × Good' x.1) (rows_fine all end (definition_at f.0.0 n) DefinitionPlaced (definition_fine f.0.0 gf.0.0 n) f.1 gf.1) (λ ds gd.
-      ended_at ds.1 (record { name = f.0.0; exports = f.0.1; attributes = f.0.2; definitions = ds.0 }) gd.1 gf.0.1 gd.0))
+      bind (word_at k.End ds.1) _ Good' (λ x. ModulePlaced x.0 × Good' x.1) (word_fine all end k.End ds.1 gd.1) (λ s1 g1. ((gf.0.1, gd.0), g1))))
+
+  -- what holds of each value that is read, of this one
+  fine_ok : {A : Type 0} (r : Result A ReadFault) (x : A) (P : A → Type 0) → r ≡ Ok x → Fine' r P → P x
+  fine_ok {A = A} r x P e h = subst (λ (q : Result A ReadFault). Fine' q P) e h
+
+  -- the place that is read with a module is that of an `end`, and nothing of the module stands behind it
+  pub bare_module_ends : (n : ℕ) (s : State) (x : ModuleTree × ℕ) (t : State) → Good' s → within s.pieces ≡ within all → bare_module_at n s ≡ Ok (x, t) → (before : List Piece) × (all ≡ before ++ word x.1 k.End ∷ t.pieces)
+  unfolding bare_module_at
+  bare_module_ends n s x t g w e =
+      let f = bind_ok _ _ _ e in
+      let d = bind_ok _ _ _ f.2 in
+      let a = bind_ok _ _ _ d.2 in
+      let gf = fine_ok (front_at n s) f.0 (λ y. FrontPlaced y.0 × Good' y.1) f.1 (front_fine n s g w) in
+      let gd = fine_ok (rows_at (definition_at f.0.0.0 n) f.0.1) d.0 (λ y. Each' DefinitionPlaced y.0 × Good' y.1) d.1 (rows_fine all end (definition_at f.0.0.0 n) DefinitionPlaced (definition_fine f.0.0.0 gf.0.0 n) f.0.1 gf.1) in
+      let step = word_steps k.End d.0.1 a.0 a.1 in
+      let here : step.at ≡ place_of d.0.1.stop d.0.1.pieces = sym (ap (place_of d.0.1.stop) step.pieces) in
+      let made : ModuleTree = record { name = f.0.0.0; exports = f.0.0.1; attributes = f.0.0.2; definitions = d.0.0 } in
+      let same : ((made, place_of d.0.1.stop d.0.1.pieces), a.0) ≡ (x, t) = ok_is _ _ a.2 in
+      let last : d.0.1.pieces ≡ word x.1 k.End ∷ t.pieces =
+          step.pieces ∙ ap (λ (at : ℕ). word at k.End ∷ a.0.pieces) here ∙ ap (λ (y : (ModuleTree × ℕ) × State). word y.0.1 k.End ∷ y.1.pieces) same in
+      (gd.1.inside.0, gd.1.inside.1 ∙ ap (λ (qs : List Piece). gd.1.inside.0 ++ qs) last)
 
   ended_fine : (ps : List Piece) (o : Option Unserved) (x : ModuleTree × ℕ) (s : State) → Good' s → IfSome o (IsUnservedAt all end) → ModulePlaced x → Fine' (ended ps o x s) ModulePlaced
   ended_fine [] None x s g h q = q

@@ -21,7 +21,7 @@ piece_at [] p h = absurd h
 piece_at (q ∷ qs) p (inl e) = inl (ap (λ (x : Piece). x.at) e)
 piece_at (q ∷ qs) p (inr h) = inr (piece_at qs p h)
 
-one_behind : (before ps : List Piece) (p : Piece) → IsOne ps p → IsOne (before ++ ps) p
+pub one_behind : (before ps : List Piece) (p : Piece) → IsOne ps p → IsOne (before ++ ps) p
 one_behind [] ps p h = h
 one_behind (q ∷ qs) ps p h = inr (one_behind qs ps p h)
 

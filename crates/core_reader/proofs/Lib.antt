@@ -26,6 +26,7 @@ pub mod ScopeLaws
 pub mod FaultSteps
 pub mod FaultForms
 pub mod FaultModules
+pub mod LastEnd
 pub mod ScopeFaultLaws
 pub mod DeepLists
 pub mod DeepNames

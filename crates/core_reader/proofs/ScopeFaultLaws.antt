@@ -12,7 +12,7 @@ use Rattle.core_reader.specs.Reading.{◌>>=◌}
 use Rattle.core_reader.specs.Scopes.{names, variables_of, variables_of_all, bound_by, Setting, guard_of, functions, setting_of, main_function}
 use Rattle.core_reader.specs.ScopeFaults.{Repeats, HasEffect, MayNotCall, Breaks, SomeBreaks, SomeClauseBreaks, SomeDefinitionBreaks, SomeExportBreaks, ModuleBreaks}
 use Rattle.core_reader.specs.ScopeChecks.{Checked, is_among, check_variable, check_distinct, is_defined, check_effect, check_callee, check_tree, check_trees, check_clauses, check_definition, check_definitions, check_exports, check_module}
-use Rattle.core_reader.specs.Places.{IsOne}
+use Rattle.core_reader.specs.Places.{IsOne, IsLastEnd}
 use Rattle.core_reader.proofs.SameFunctions.{turned, turned_same, bytes_own, function_own, same_function_is}
 use Rattle.core_reader.proofs.Distinct.{any_contains, contains_any}
 use Rattle.core_reader.proofs.FaultSteps.{Place, Each}
@@ -264,7 +264,7 @@ module _ (all : List Piece) (end : ℕ) where
 
   -- what a fault of the last pass says of a module whose last `end` stands at a place
   abbrev pub Says : ModuleTree → ReadFault → Type 0
-  Says m (NoMain at) = IsOne all (word at k.End) × ¬ (Contains (functions m.definitions) main_function)
+  Says m (NoMain at) = IsLastEnd all at × ¬ (Contains (functions m.definitions) main_function)
   Says m f = ModuleBreaks m f × Stands f
 
   says : (m : ModuleTree) (f : ReadFault) → ModuleBreaks m f × Stands f → Says m f
@@ -284,16 +284,16 @@ module _ (all : List Piece) (end : ℕ) where
   then_fails (Ok u) r f e = inr e
   then_fails (Err g) r f e = inl (ap failed (module_fault_is g f e))
 
-  pub module_says : (m : ModuleTree) (at : ℕ) (f : ReadFault) → ModulePlaced all end (m, at) → check_module (m, at) ≡ Err f → Says m f
+  pub module_says : (m : ModuleTree) (at : ℕ) (f : ReadFault) → ModulePlaced all end (m, at) → IsLastEnd all at → check_module (m, at) ≡ Err f → Says m f
   unfolding check_module
-  module_says m at f h e =
+  module_says m at f h last e =
       let rest : Result ModuleTree ReadFault = cond (is_defined (functions m.definitions) main_function) (Ok m) (Err (NoMain at)) in
       elim (then_fails (check_exports (functions m.definitions) m.exports) (check_definitions (setting_of m) [] m.definitions >>= λ _. rest) f e) [
         | inl g ↦ says m f (on_left f (exports_break (functions m.definitions) m.exports f h.0 g))
         | inr g ↦ elim (then_fails (check_definitions (setting_of m) [] m.definitions) rest f g) [
-          | inl i ↦ says m f (on_right f (definitions_break (setting_of m) [] m.definitions f h.1.0 i))
+          | inl i ↦ says m f (on_right f (definitions_break (setting_of m) [] m.definitions f h.1 i))
           | inr i ↦
               let j = main_missing (is_defined (functions m.definitions) main_function) m at f i in
-              subst (λ (x : ReadFault). Says m x) (sym j.1) (h.1.1, not_defined (functions m.definitions) main_function j.0)
+              subst (λ (x : ReadFault). Says m x) (sym j.1) (last, not_defined (functions m.definitions) main_function j.0)
         ]
       ]

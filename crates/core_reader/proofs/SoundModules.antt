@@ -250,7 +250,7 @@ either_module n ps x rest (stands_bare h) = stands_bare h
 either_module zero ps x rest (stands_noted h) = absurd h
 either_module (suc n) ps x rest (stands_noted (in_note {ps = qs} {more = more} h g)) = stands_noted (in_note (either_module n qs x more h) g)
 
-ended_ok : {X : Type 0} (ps : List Piece) (refused : Option Unserved) (x : X) (s : State) (y : X) → ended ps refused x s ≡ Ok y → (ps ≡ []) × (refused ≡ None) × (x ≡ y)
+pub ended_ok : {X : Type 0} (ps : List Piece) (refused : Option Unserved) (x : X) (s : State) (y : X) → ended ps refused x s ≡ Ok y → (ps ≡ []) × (refused ≡ None) × (x ≡ y)
 ended_ok [] None x s y e = (refl, refl, ok_is _ _ e)
 ended_ok [] (Some at) x s y e = absurd cc
 ended_ok (p ∷ ps) refused x s y e = absurd cc

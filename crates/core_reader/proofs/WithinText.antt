@@ -14,6 +14,7 @@ use Rattle.core_reader.specs.Grammar.{word, Spells}
 use Rattle.core_reader.specs.Places.{IsOne, IsAt, IsPlace, IsFaultOf}
 use Rattle.core_tokens.specs.Within.{IsPlacedWithin, StandWithin}
 use Rattle.core_reader.specs.Reader.{SpellsModule, text_limit}
+use Rattle.core_reader.proofs.LastEnd.{last_end_stands}
 
 -- the tokens of a text stand in it
 pub tokens_within : {stop : ℕ} {behind last : Bool} {bytes rest : List ℕ} {ps : List Piece} → Spelt stop behind bytes ps last rest → StandWithin stop ps
@@ -77,7 +78,7 @@ fault_within stop ps (fault.EffectInGuard at) w f = place_within stop ps at w f.
 fault_within stop ps (fault.HigherOrder at) w f = place_within stop ps at w f
 fault_within stop ps (fault.UnsupportedForm at) w f = place_within stop ps at w f
 fault_within stop ps (fault.UnsupportedCall at) w f = one_within stop ps (word at k.Call) w f.0
-fault_within stop ps (fault.NoMain at) w f = one_within stop ps (word at k.End) w f.0
+fault_within stop ps (fault.NoMain at) w f = one_within stop ps (word at k.End) w (last_end_stands ps at f.0)
 fault_within stop ps (fault.TooDeep at) w f = subst (λ (x : ℕ). x ≤ stop) f.0.2 (one_within stop ps f.0.0 w f.0.1)
 fault_within stop ps fault.Memory w f = tt
 fault_within stop ps (fault.BadToken at) w f = absurd f

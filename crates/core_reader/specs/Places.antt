@@ -1,5 +1,5 @@
 -- What a fault of the grammar or of the scopes says of the tokens.
-use Rattle.std.specs.Prelude.{◌≡◌, ℕ, List, [], ◌∷◌, ◌⊎◌, Contains}
+use Rattle.std.specs.Prelude.{◌≡◌, ◌≢◌, ℕ, List, [], ◌∷◌, ◌++◌, ◌⊎◌, Contains}
 use Rattle.core_tokens.specs.declared.fault.ReadFault.{ReadFault}
 use Rattle.core_tokens.specs.declared.fault.ReadFault.TheVariants.{Expected, Unbound, DuplicateVariable, DuplicateFunction, NoFunction, HigherOrder, UnsupportedCall, EffectInGuard, TooDeep, NoMain, UnsupportedForm, Memory}
 use Rattle.core_tokens.specs.declared.token.Keyword.TheVariants as k
@@ -52,6 +52,18 @@ Opens shape = ⊥
 abbrev pub OpensAt : List Piece → ℕ → Type 0
 OpensAt ps at = (p : Piece) × IsOne ps p × (p.at ≡ at) × Opens p.shape
 
+-- none of the tokens is the word `end`
+abbrev pub LacksEnd : List Piece → Type 0
+LacksEnd [] = Unit {0}
+LacksEnd (p ∷ ps) = (p.shape ≢ A_word k.End) × LacksEnd ps
+
+-- the last word `end` of the tokens begins there: behind it stands no other
+pub record IsLastEnd (ps : List Piece) (at : ℕ) : Type 0 where
+  pub before : List Piece
+  pub behind : List Piece
+  pub stands : ps ≡ before ++ word at k.End ∷ behind
+  pub last : LacksEnd behind
+
 -- the tokens spell a module of which what the fault says is so
 abbrev pub Breaks : List Piece → ReadFault → Type 0
 Breaks ps fault = (tree : ModuleTree) × Spells ps tree × ModuleBreaks tree fault
@@ -60,7 +72,7 @@ Breaks ps fault = (tree : ModuleTree) × Spells ps tree × ModuleBreaks tree fau
 abbrev pub LacksMain : List Piece → Type 0
 LacksMain ps = (tree : ModuleTree) × Spells ps tree × ¬ (Contains (functions tree.definitions) main_function)
 
--- the faults that tokens can have, and what they say: of the grammar a place, at 8 that of the word `call` of a call that is not served, by its names and the number of its arguments or as one of the module's own functions that it does not export, at 10 that of a token that opens a construct, to which the grammar leads with no level left; of the scopes a place, and that they break a module there; at 13 a last `end` of a module without `main/0`
+-- the faults that tokens can have, and what they say: of the grammar a place, at 8 that of the word `call` of a call that is not served, by its names and the number of its arguments or as one of the module's own functions that it does not export, at 10 that of a token that opens a construct, to which the grammar leads with no level left; of the scopes a place, and that they break a module there; at 13 the place of the last `end`, and that they spell a module without `main/0`
 abbrev pub IsFaultOf : List Piece → ℕ → ReadFault → Type 0
 IsFaultOf ps length (Expected at) = IsPlace ps length at
 IsFaultOf ps length (HigherOrder at) = IsPlace ps length at
@@ -72,6 +84,6 @@ IsFaultOf ps length (DuplicateVariable at) = IsPlace ps length at × Breaks ps (
 IsFaultOf ps length (DuplicateFunction at) = IsPlace ps length at × Breaks ps (DuplicateFunction at)
 IsFaultOf ps length (NoFunction at) = IsPlace ps length at × Breaks ps (NoFunction at)
 IsFaultOf ps length (EffectInGuard at) = IsPlace ps length at × Breaks ps (EffectInGuard at)
-IsFaultOf ps length (NoMain at) = IsOne ps (word at k.End) × LacksMain ps
+IsFaultOf ps length (NoMain at) = IsLastEnd ps at × LacksMain ps
 IsFaultOf ps length Memory = Unit {0}
 IsFaultOf ps length f = ⊥

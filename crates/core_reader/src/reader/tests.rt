@@ -215,7 +215,7 @@ fn names_faults_of_scopes(rt: HostRuntime) {
 
 #[test]
 fn names_faults_of_scopes_2(rt: HostRuntime) {
-    let table: [(&[u8], ReadFault); 3] = [
+    let table: [(&[u8], ReadFault); 6] = [
         (
             b"module 'm' ['main'/0] attributes [] 'main'/0 = fun () -> X 'main'/0 = fun () -> 'ok' end",
             ReadFault::Unbound(57),
@@ -227,6 +227,18 @@ fn names_faults_of_scopes_2(rt: HostRuntime) {
         (
             b"module 'm' ['main'/0] attributes [] 'main'/0 = fun () -> X end",
             ReadFault::Unbound(57),
+        ),
+        (
+            b"module 'm' ['f'/1] attributes [] 'f'/1 = fun (X) -> case X of <1> when 'true' -> 'ok' end end",
+            ReadFault::NoMain(90),
+        ),
+        (
+            b"module 'm' [] attributes [] 'f'/0 = fun () -> case <> of <> when 'true' -> 'ok' end 'main'/1 = fun (X) -> X end % end",
+            ReadFault::NoMain(108),
+        ),
+        (
+            b"( ( module 'm' ['f'/1] attributes [] 'f'/1 = fun (X) -> case X of <Y> when 'true' -> case Y of <Z> when 'true' -> Z end end end -| ['end',{'end',\"end\"}] ) -| [( 'end' -| [] )] )",
+            ReadFault::NoMain(124),
         ),
     ];
     answers(&rt, rt.alloc(), &table);
