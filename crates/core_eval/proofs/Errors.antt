@@ -1,11 +1,10 @@
 -- Where evaluation answers an error in place of a value.
 use Rattle.std.proofs.Common.{◌≡◌, ℕ, ◌<◌, ◌≤◌, List, [], ◌∷◌, refl, ap, ◌∙◌, sym, subst, length, arith, IfOk, Result, Ok, Err}
-use Rattle.std.specs.Prelude.{codes, Option, None}
+use Rattle.std.specs.Prelude.{codes, None}
 use Rattle.std.specs.declared.alloc.AllocError.{AllocError}
 use Rattle.term_core.specs.Meaning.{Meaning, Group, group_of, node_count}
 use Rattle.core_eval.specs.declared.control.Control.{Control}
 use Rattle.core_eval.specs.Matching.{Environment}
-use Rattle.core_eval.specs.declared.exception.Class.{Class}
 use Rattle.core_eval.specs.Evaluation.{State, Got, Yields, error, limited, limited_error, node_limit, one, class_in}
 use Rattle.core_eval.specs.Holes.{Hole, Gathers, EndsList, Binds, Discards, Chooses, Guards, Tries, Catches, Keeps, filled, through}
 use Rattle.core_eval.specs.Steps.{going, load, GoesOn}

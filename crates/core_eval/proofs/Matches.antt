@@ -2,12 +2,12 @@
 use Rattle.std.proofs.Common.{◌≡◌, ◌∙◌, ◌+◌, ◌<◌, ℕ, zero, suc, Bool, true, false, List, [], ◌∷◌, length, map, drop, get_or, ap, sym, subst, refl, arith, add-one, Result, IfOk, if◌then◌else◌}
 use Rattle.std.specs.Prelude.{Option, Some, None}
 use Rattle.std.specs.declared.alloc.AllocError.{AllocError}
-use Rattle.core_tree.specs.Syntax.{Pattern, Patterns, GroupIn, patterns_of}
+use Rattle.core_tree.specs.Syntax.{Pattern, GroupIn, patterns_of}
 use Rattle.core_tree.specs.Tree.{pattern_of}
 use Rattle.core_tree.specs.declared.pattern.Pattern.{Pattern as Shape}
 use Rattle.term_core.specs.declared.term.Term.{Term}
 use Rattle.term_core.specs.Term.{meaning_of}
-use Rattle.term_core.specs.Meaning.{Meaning, Group, group_of, parts_of, parts_of-group_of}
+use Rattle.term_core.specs.Meaning.{Meaning, Group, group_of, parts_of-group_of}
 use Rattle.core_eval.specs.Matched.{IsMatch}
 use Rattle.core_eval.specs.Matching.{Environment, and_then, match, match_each}
 

@@ -1,5 +1,5 @@
 -- Evaluation (Core Erlang 1.0.3, "Expressions"): what an expression gives, from left to right, out of the answers to the calls that it makes.
-use Rattle.std.specs.Prelude.{ℕ, Bool, true, false, pos, ◌==◌, List, [], ◌∷◌, ◌++◌, length, Option, Some, None, if◌then◌else◌, nat_le, codes}
+use Rattle.std.specs.Prelude.{ℕ, Bool, false, pos, List, [], ◌∷◌, ◌++◌, length, Option, Some, None, if◌then◌else◌, nat_le, codes}
 use Rattle.core_tree.specs.declared.call.CallKind.{CallKind}
 use Rattle.core_tree.specs.Syntax.{patterns_of, Callee, OfWorld, OfItself, OfExport, OfDefinition, FailsMatch, RaisesAgain, Tree, Trees, Clauses, Number, Character, Text, Mentioned, Grouped, Listed, Joined, Several, Bound, Chosen, Followed, Called, Tried, Caught, NoClause, Clause}
 use Rattle.core_tree.specs.Syntax as syntax

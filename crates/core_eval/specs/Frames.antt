@@ -1,14 +1,10 @@
 -- The frames of the code's stack, as contracts see them.
-use Rattle.std.specs.Prelude.{ℕ, List, map, reverse}
+use Rattle.std.specs.Prelude.{List, map, reverse}
 use Rattle.core_tree.specs.Tree.{callee_of, tree_of}
-use Rattle.core_eval.specs.declared.bindings.Binding.{Binding}
 use Rattle.core_eval.specs.declared.frame.Purpose.{Purpose as Use}
 use Rattle.core_eval.specs.declared.frame.Purpose.TheVariants as uses
 use Rattle.core_eval.specs.declared.frame.Frame.{Frame}
 use Rattle.core_eval.specs.declared.frame.Frame.TheVariants as frames
-use Rattle.term_core.specs.Meaning.{Meaning}
-use Rattle.term_core.specs.Term.{meaning_of}
-use Rattle.core_eval.specs.Matching.{Environment}
 use Rattle.core_eval.specs.Holes.{Purpose, ToGroup, ToList, ToFront, ToCall, ToValues, Hole, Gathers, EndsList, Binds, Discards, Chooses, Guards, Tries, Catches, Keeps}
 
 -- what a frame's parts are for

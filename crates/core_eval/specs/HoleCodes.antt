@@ -1,5 +1,5 @@
 -- The codes of stacks, requests and answers, by which proofs tell values apart.
-use Rattle.std.specs.Prelude.{◌≡◌, ◌⊎◌, ℕ, Bool, List, refl}
+use Rattle.std.specs.Prelude.{◌≡◌, ◌⊎◌, Bool, List, refl}
 use Rattle.std.specs.Coded.{Coded, code_by, coded×, coded⊎, coded_list, coded_ℕ, coded_bool}
 use Rattle.std.proofs.Common.{inl, inr}
 use base.Stored.{coded_unit}

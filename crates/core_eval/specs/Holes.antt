@@ -1,10 +1,10 @@
 -- A stack of what is still to do, as contracts see it: each item is an expression with one part left out, and says what the whole gives once the part is there.
-use Rattle.std.specs.Prelude.{ℕ, List, [], ◌∷◌, ◌++◌, length, Option, Some, None}
+use Rattle.std.specs.Prelude.{List, [], ◌∷◌, ◌++◌, length}
 use Rattle.core_tree.specs.Syntax.{Mention, Callee, Tree, ClauseTree, trees_of, clauses_of}
 use Rattle.term_core.specs.Meaning.{Meaning, Group, Empty, group_of}
 use Rattle.term_core.specs.Term.{list_onto}
 use Rattle.core_eval.specs.Asked.{Asked, Asks, Receives, Ends, RunsAway, Answered}
-use Rattle.core_eval.specs.Matching.{Environment, lookup, bound}
+use Rattle.core_eval.specs.Matching.{Environment, bound}
 use Rattle.core_eval.specs.Evaluation.{State, before, Got, Yields, then_do, handled, one, limited, called, caught, caught_values, applied_to, within, judged, evaluate, evaluate_all, choose}
 use Rattle.core_eval.specs.Ask.{request_of}
 

@@ -1,5 +1,5 @@
 -- The steps of the code: what it has on top of its stack means something as a whole, and the work that is left grows less.
-use Rattle.std.specs.Prelude.{ℕ, ◌+◌, ◌*◌, ◌<◌, ◌≡◌, List, [], ◌∷◌, length}
+use Rattle.std.specs.Prelude.{ℕ, ◌+◌, ◌*◌, ◌<◌, ◌≡◌, List, [], ◌∷◌}
 use Rattle.core_tree.specs.Syntax.{Mention, Tree, trees_of, size_of, size_of_list, size_of_clause_list}
 use Rattle.core_tree.specs.Tree.{tree_of}
 use Rattle.term_core.specs.Meaning.{Meaning}

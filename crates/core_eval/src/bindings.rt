@@ -59,7 +59,7 @@ impl<'m> Bindings<'m> {
     {
         let mut bindings = Bindings::new(alloc);
         let mut left = variables;
-        let mut later = values.0;
+        let mut later = values.into_vec();
         later.reverse();
         while let Some(value) = later.pop() {
             let Some((variable, others)) = left.split_first() else {

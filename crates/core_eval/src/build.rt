@@ -32,19 +32,19 @@ pub(crate) fn error<'m>(alloc: Global, text: &str) -> Result<Control<'m>, AllocE
 pub(crate) fn pair(alloc: Global, first: Term, second: Term) -> Result<Term, AllocError>
     ensures { IfOk result (λ pair. meaning_of pair ≡ Group (group_of (meaning_of first ∷ meaning_of second ∷ []))) }
 {
-    let mut parts = Vec::with_capacity(alloc, 2)?;
+    let mut parts = Terms::new(alloc);
     parts.push(first)?;
     parts.push(second)?;
-    Ok(Term::Tuple(Terms(parts)))
+    Term::tuple(alloc, parts)
 }
 
 /// One term as several.
 pub(crate) fn single(alloc: Global, term: Term) -> Result<Terms, AllocError>
     ensures { IfOk result (λ terms. terms ≡ meaning_of term ∷ []) }
 {
-    let mut terms = Vec::with_capacity(alloc, 1)?;
+    let mut terms = Terms::new(alloc);
     terms.push(term)?;
-    Ok(Terms(terms))
+    Ok(terms)
 }
 
 /// The term, or the error `'system_limit'` in its place where it has too many nodes.
@@ -76,6 +76,6 @@ pub(crate) fn with_last(terms: Terms, last: Term) -> Result<Terms, AllocError>
     ensures { IfOk result (λ all. all ≡ terms ++ meaning_of last ∷ []) }
 {
     let mut all = terms;
-    all.0.push(last)?;
+    all.push(last)?;
     Ok(all)
 }

@@ -28,7 +28,7 @@ pub(crate) fn first_definition<'m>(
         option_map function_in (option_copied found)
         ≡ first_function program.now pid.now (entry module_name.now function_name.now arguments.now)) }
 {
-    let Ok(arity) = u8::try_from(arguments.0.len()) else {
+    let Ok(arity) = u8::try_from(arguments.len()) else {
         return Ok(None);
     };
     let function = FunctionName {

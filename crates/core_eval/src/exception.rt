@@ -60,13 +60,13 @@ fn class_in(trace: &Term) -> Option<Class>
     let Term::Tuple(parts) = trace else {
         return None;
     };
-    if parts.0.len() != 2 {
+    if parts.len() != 2 {
         return None;
     }
-    if !is_atom(&parts.0[0], "$trace") {
+    if !is_atom(&parts.as_slice()[0], "$trace") {
         return None;
     }
-    class_named(&parts.0[1])
+    class_named(&parts.as_slice()[1])
 }
 
 /// The values of the variables of a handler: the class, the reason, and the trace where there are more than
@@ -79,13 +79,13 @@ pub(crate) fn caught_values(
 ) -> Result<Terms, AllocError>
     ensures { IfOk result (λ values. values ≡ caught_values count class (meaning_of reason)) }
 {
-    let mut values = Vec::with_capacity(alloc, 3)?;
+    let mut values = Terms::new(alloc);
     values.push(class_name(alloc, class)?)?;
     values.push(reason)?;
     if count > 2 {
         values.push(trace_of(alloc, class)?)?;
     }
-    Ok(Terms(values))
+    Ok(values)
 }
 
 /// The value that `catch` makes of an exception, or the error `'system_limit'` where it is too large.

@@ -42,7 +42,7 @@ pub(crate) fn leave<'m>(
             with_last(done, value)?,
             later,
         ),
-        Frame::Tail(items) => limited(alloc, list_onto(alloc, items.0, value)?),
+        Frame::Tail(items) => limited(alloc, list_onto(alloc, items.into_vec(), value)?),
         Frame::Body(variables, body) => bind(alloc, stack, variables, body, single(alloc, value)?),
         Frame::Second(second) => Ok(Control::Evaluate(second)),
         Frame::Clauses(clauses) => choose(alloc, stack, clauses, single(alloc, value)?),
@@ -68,13 +68,13 @@ pub(crate) fn leave_with<'m>(
         (λ s. filled (hole_of frame.entry) (scope stack.old) (Yields values s))
         (2 + work_in (hole_of frame.entry))) }
 {
-    let mut items = values.0;
+    let mut items = values.into_vec();
     if items.len() == 1 {
         if let Some(value) = items.pop() {
             return leave(alloc, stack, frame, value);
         }
     }
-    leave_several(alloc, stack, frame, Terms(items))
+    leave_several(alloc, stack, frame, Terms::from_vec(items))
 }
 
 /// Out of an expression with no value or with more than one.
@@ -171,19 +171,19 @@ fn no_clause<'m>(alloc: Global, values: Terms) -> Result<Control<'m>, AllocError
     ensures same { IfOk result (λ next. Means next (no_clause values)) }
     ensures less { IfOk result (λ next. load next ≡ 0) }
 {
-    let whole = as_one(values);
+    let whole = as_one(alloc, values)?;
     limited_error(alloc, pair(alloc, atom(alloc, "case_clause")?, whole)?)
 }
 
 /// Several values as one: what is one already, else the tuple of them.
-fn as_one(values: Terms) -> Term
-    ensures { meaning_of result ≡ as_one values }
+fn as_one(alloc: Global, values: Terms) -> Result<Term, AllocError>
+    ensures { IfOk result (λ whole. meaning_of whole ≡ as_one values) }
 {
-    let mut items = values.0;
+    let mut items = values.into_vec();
     if items.len() == 1 {
         if let Some(value) = items.pop() {
-            return value;
+            return Ok(value);
         }
     }
-    Term::Tuple(Terms(items))
+    Term::tuple(alloc, Terms::from_vec(items))
 }

@@ -28,7 +28,7 @@ pub(crate) fn begins_with(value: &Term, text: &str) -> bool
     ensures { result ≡ begins_with text.now (meaning_of value.now) }
 {
     match value {
-        Term::Tuple(parts) => match parts.0.first() {
+        Term::Tuple(parts) => match parts.as_slice().first() {
             Some(first) => is_atom(first, text),
             None => false,
         },
@@ -56,10 +56,10 @@ fn is_text(value: &Term, characters: &[char]) -> bool
             return false;
         };
         let cell: &Pair = cell;
-        if !is_integer(&cell.head, *character as i64) {
+        if !is_integer(cell.head(), *character as i64) {
             return false;
         }
-        left = &cell.tail;
+        left = cell.tail();
     }
     matches!(left, Term::Nil)
 }
@@ -117,11 +117,12 @@ pub(crate) fn matches_each<'m>(
 ) -> Result<bool, AllocError>
     ensures { IfOk result (λ found. IsMatch found bindings.new (match_each (patterns_of patterns.now) values.now bindings.old)) }
 {
-    if patterns.0.len() != values.0.len() {
+    let items = values.as_slice();
+    if patterns.0.len() != items.len() {
         return Ok(false);
     }
     for i in 0..patterns.0.len() {
-        if !matches(alloc, &patterns.0[i], &values.0[i], bindings)? {
+        if !matches(alloc, &patterns.0[i], &items[i], bindings)? {
             return Ok(false);
         }
     }
@@ -145,10 +146,10 @@ fn matches_items<'m, 'v>(
             return Ok(None);
         };
         let cell: &Pair = cell;
-        if !matches(alloc, pattern, &cell.head, bindings)? {
+        if !matches(alloc, pattern, cell.head(), bindings)? {
             return Ok(None);
         }
-        left = &cell.tail;
+        left = cell.tail();
     }
     Ok(Some(left))
 }

@@ -35,14 +35,14 @@ pub(crate) fn enter<'m>(
             alloc,
             stack,
             Purpose::Tuple,
-            Terms(Vec::new(alloc)),
+            Terms::new(alloc),
             parts.0.as_slice(),
         ),
         Expr::List(items) => gather(
             alloc,
             stack,
             Purpose::List,
-            Terms(Vec::new(alloc)),
+            Terms::new(alloc),
             items.0.as_slice(),
         ),
         Expr::Onto(onto) => enter_onto(alloc, stack, onto),
@@ -50,7 +50,7 @@ pub(crate) fn enter<'m>(
             alloc,
             stack,
             Purpose::Values,
-            Terms(Vec::new(alloc)),
+            Terms::new(alloc),
             values.0.as_slice(),
         ),
         Expr::Let(inner) => enter_let(stack, inner),
@@ -89,7 +89,7 @@ fn enter_onto<'m>(
         alloc,
         stack,
         Purpose::Onto(&onto.tail),
-        Terms(Vec::new(alloc)),
+        Terms::new(alloc),
         onto.items.0.as_slice(),
     )
 }
@@ -160,7 +160,7 @@ fn enter_call<'m>(
         alloc,
         stack,
         Purpose::Call(&call.callee),
-        Terms(Vec::new(alloc)),
+        Terms::new(alloc),
         call.arguments.0.as_slice(),
     )
 }
@@ -196,8 +196,8 @@ fn complete<'m>(
         GathersOn stack.old stack.new next (purpose_of purpose.entry) done []) }
 {
     match purpose {
-        Purpose::Tuple => limited(alloc, Term::Tuple(done)),
-        Purpose::List => limited(alloc, list_onto(alloc, done.0, Term::Nil)?),
+        Purpose::Tuple => limited(alloc, Term::tuple(alloc, done)?),
+        Purpose::List => limited(alloc, list_onto(alloc, done.into_vec(), Term::Nil)?),
         Purpose::Onto(tail) => {
             stack.push(Frame::Tail(done))?;
             Ok(Control::Evaluate(tail))
@@ -226,7 +226,7 @@ fn fail_match<'m>(alloc: Global, arguments: Terms) -> Result<Control<'m>, AllocE
     ensures same { IfOk result (λ next. Means next (applied_to FailsMatch arguments)) }
     ensures less { IfOk result (λ next. load next ≤ 2) }
 {
-    let mut reasons = arguments.0;
+    let mut reasons = arguments.into_vec();
     match reasons.pop() {
         Some(reason) if reasons.is_empty() => {
             Ok(Control::Raise(Class::Error, match_reason(alloc, reason)?))
@@ -240,7 +240,7 @@ fn raise<'m>(alloc: Global, arguments: Terms) -> Result<Control<'m>, AllocError>
     ensures same { IfOk result (λ next. Means next (applied_to RaisesAgain arguments)) }
     ensures less { IfOk result (λ next. load next ≤ 2) }
 {
-    let mut parts = arguments.0;
+    let mut parts = arguments.into_vec();
     if parts.len() != 2 {
         return error(alloc, "undef");
     }

@@ -111,7 +111,7 @@ fn write_arguments<W: Sink>(sink: &mut W, arguments: &Terms) -> Result<(), Write
     requires { W.has_failed sink.old ≡ false }
     ensures { Writes (W.contents sink.old) (W.contents sink.new) (W.has_failed sink.new) result (text_of_arguments arguments.now) }
 {
-    let Some((first, others)) = arguments.0.split_first() else {
+    let Some((first, others)) = arguments.as_slice().split_first() else {
         return Ok(());
     };
     write_term(first, sink)?;

@@ -31,7 +31,7 @@ fn write_call(
     ensures { OnOk result (sink.new.has_failed ≡ false) }
 {
     write_all(sink, kind.function_name().as_bytes())?;
-    for argument in &arguments.0 {
+    for argument in arguments.as_slice() {
         write_all(sink, b" ")?;
         write_term(argument, sink)?;
     }

@@ -52,7 +52,7 @@ fn first_process<'m>(alloc: Global, program: &'m Module) -> Result<Process<'m>, 
     ensures { IfOk result (λ process. (process.pid ≡ []) × IsProcess program.now [] process) }
 {
     let main = Atom(String::from_str(alloc, "main")?);
-    let arguments = Terms(Vec::new(alloc));
+    let arguments = Terms::new(alloc);
     let pid = Pid(Vec::new(alloc));
     let machine = start(alloc, program, pid, &program.name, &main, arguments)?;
     Ok(Process {

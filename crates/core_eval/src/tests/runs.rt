@@ -47,7 +47,7 @@ pub(crate) fn process<'m>(
     name: &str,
 ) -> Result<Machine<'m>, AllocError> {
     let function_name = Atom(String::from_str(alloc, name)?);
-    let none = Terms(Vec::new(alloc));
+    let none = Terms::new(alloc);
     start(alloc, program, pid, &program.name, &function_name, none)
 }
 
@@ -59,7 +59,7 @@ fn write_call(
     requires { sink.old.has_failed ≡ false }
 {
     write_all(sink, kind.function_name().as_bytes())?;
-    for argument in &arguments.0 {
+    for argument in arguments.as_slice() {
         write_all(sink, b" ")?;
         write_term(argument, sink)?;
     }

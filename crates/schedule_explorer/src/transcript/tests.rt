@@ -28,7 +28,7 @@ fn atom(alloc: Global, text: &str) -> Result<Term, AllocError> {
 
 fn object(alloc: Global, text: &str) -> Result<Term, AllocError> {
     let parts = vec![in alloc; atom(alloc, text)?, Term::Int(1)]?;
-    Ok(Term::Tuple(Terms(parts)))
+    Term::tuple(alloc, Terms::from_vec(parts))
 }
 
 fn list_of(alloc: Global, item: Term) -> Result<Term, AllocError> {
@@ -54,11 +54,11 @@ fn term(alloc: Global, word: Word) -> Result<Term, AllocError> {
 }
 
 fn terms(alloc: Global, words: &[Word]) -> Result<Terms, AllocError> {
-    let mut made = Vec::new(alloc);
+    let mut made = Terms::new(alloc);
     for word in words {
         made.push(term(alloc, *word)?)?;
     }
-    Ok(Terms(made))
+    Ok(made)
 }
 
 // Asserts that the line is written so, in one write or in many.

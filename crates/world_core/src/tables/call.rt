@@ -21,7 +21,7 @@ pub(crate) enum TableCall<'a> {
 pub(crate) fn table_call<'a>(kind: CallKind, arguments: &'a Terms) -> Option<TableCall<'a>>
     ensures { option_map call_of result ≡ table_call kind arguments.now }
 {
-    let (first, others) = arguments.0.as_slice().split_first()?;
+    let (first, others) = arguments.as_slice().split_first()?;
     let (second, more) = others.split_first()?;
     if !more.is_empty() {
         return None;

@@ -26,7 +26,7 @@ fn tuple_of(term: &Term) -> Option<&Terms>
 fn is_short(parts: &Terms) -> bool
     ensures { result ≡ is_short (Group (group_of parts.now)) }
 {
-    parts.0.is_empty()
+    parts.is_empty()
 }
 
 /// The rule for objects one of which may be too short to have a key.
@@ -53,11 +53,11 @@ pub(crate) fn rule_of_objects(objects: &Term) -> Option<Rule>
         match rest {
             Term::Cons(cell) => {
                 let pair: &Pair = cell;
-                let Some(parts) = tuple_of(&pair.head) else {
+                let Some(parts) = tuple_of(pair.head()) else {
                     return Some(Rule::NotObject);
                 };
                 one_is_short |= is_short(parts);
-                rest = &pair.tail;
+                rest = pair.tail();
             }
             Term::Nil => return rule_of_keys(one_is_short),
             _ => return Some(Rule::NotObject),
@@ -70,7 +70,7 @@ fn insert_object(alloc: Global, rows: &mut Rows, parts: &Terms) -> Result<(), Al
     ensures { OnOk result ((key : Meaning) →
         objects_under rows.new key ≡ replaced (last_with key (Group (group_of parts.now) ∷ [])) (objects_under rows.old key)) }
 {
-    let Some(key) = parts.0.as_slice().first() else {
+    let Some(key) = parts.as_slice().first() else {
         return Ok(());
     };
     let key = key.copy(alloc)?;
@@ -93,10 +93,10 @@ pub(crate) fn insert_objects(
     let mut rest = objects;
     while let Term::Cons(cell) = rest {
         let pair: &Pair = cell;
-        if let Some(parts) = tuple_of(&pair.head) {
+        if let Some(parts) = tuple_of(pair.head()) {
             insert_object(alloc, rows, parts)?;
         }
-        rest = &pair.tail;
+        rest = pair.tail();
     }
     Ok(())
 }

@@ -87,8 +87,8 @@ pub(crate) fn settings_of(options: &Term) -> Option<Settings>
         match rest {
             Term::Cons(cell) => {
                 let pair: &Pair = cell;
-                settings = settings.with(option_of(&pair.head)?);
-                rest = &pair.tail;
+                settings = settings.with(option_of(pair.head())?);
+                rest = pair.tail();
             }
             Term::Nil => return Some(settings),
             _ => return None,

@@ -19,7 +19,7 @@ use crate::tables::rule::Rule;
 use indexmap::IndexMap;
 use std::alloc::{AllocError, Global};
 use std::marker::Model;
-use term_core::{Atom, Pair, Pid, RefId, Term, Terms};
+use term_core::{Atom, Pid, RefId, Term, Terms};
 
 /// The tables, each under its handle: the name of a named table, and the reference of another one.
 /// Contracts see each handle with its record.
@@ -192,11 +192,8 @@ impl Tables {
         let Some(parts) = self.object_at(argument, key) else {
             return Ok(Term::Nil);
         };
-        let only = Pair {
-            head: Term::Tuple(parts.copy(alloc)?),
-            tail: Term::Nil,
-        };
-        Ok(Term::Cons(Box::new(alloc, only)?))
+        let object = Term::tuple(alloc, parts.copy(alloc)?)?;
+        Term::cell(alloc, object, Term::Nil)
     }
 }
 

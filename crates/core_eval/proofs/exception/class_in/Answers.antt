@@ -1,11 +1,9 @@
-use Rattle.std.proofs.Common.{◌≡◌, ◌∙◌, List, length, ap, sym, arith}
-use Rattle.term_core.specs.Meaning.{Meaning}
+use Rattle.std.proofs.Common.{◌∙◌, ap, sym, arith}
 use Rattle.term_core.specs.Term.{meaning_of}
-use Rattle.std.proofs.lemmas.List.{length-map}
 use Rattle.core_eval.specs.Evaluation.{class_in}
 use Rattle.core_eval.proofs.Errors.{no_trace}
 use Rattle.core_eval.proofs.exception.class_in.Goals as goal
 
 pub returns-then-len-ne2 : goal.returns-then-len-ne2
 returns-then-len-ne2 c =
-    sym (no_trace c.in-Tuple.parts (λ two. omega (arith, length-map c.parts.inside.0.items meaning_of, ap length c.parts.view_is, two))) ∙ sym (ap (λ t. class_in (meaning_of t)) c.in-Tuple.is)
+    sym (no_trace c.in-Tuple.parts (λ two. omega (arith, c.len.ensures, two))) ∙ sym (ap (λ t. class_in (meaning_of t)) c.in-Tuple.is)

@@ -10,19 +10,22 @@ matches-returns-in-Tuple-value t c =
     group_matches c.matches_each.result c.matches_each.new.bindings (pattern_of c.args.pattern.now) c.in-Tuple.parts (meaning_of c.args.value.now) c.in-Tuple-value.values c.args.bindings.now
     (ap pattern_of c.in-Tuple.is) (ap meaning_of c.in-Tuple-value.is) c.matches_each.ensures
 
-pub matches_each-returns-then-len : goal.matches_each-returns-then-len
-matches_each-returns-then-len t c =
+pub matches_each-returns-then-len-items : goal.matches_each-returns-then-len-items
+matches_each-returns-then-len-items t c =
     other_count c.args.patterns.now c.args.values.now c.args.bindings.now
-    (λ same. omega (arith, length-map c.patterns.inside.0.items pattern_of, ap length c.patterns.view_is, same, ap length c.values.view_is, length-map c.values.inside.0.items meaning_of))
+    (λ same. omega (arith, length-map c.patterns.inside.0.items pattern_of, ap length c.patterns.view_is, same, ap length c.as_slice-items.ensures, length-map c.as_slice-items.result.now meaning_of))
 
 pub matches_each-returns-then-not-branch : goal.matches_each-returns-then-not-branch
 matches_each-returns-then-not-branch t c =
-    each_fails c.patterns.inside.0.items c.values.inside.0.items _ _ c.patterns.view_is c.values.view_is c.loop-i.i c.index.result.now c.index-in-loop-i.result.now (omega arith) c.loop-i.invariant.0 c.index.ensures c.index-in-loop-i.ensures
-    c.in_ok-matches.field-0 c.loop-i.bindings c.matches.new.bindings _ c.in_ok-matches.ensures c.if-not-branch.true c.loop-i.invariant.1
+    each_fails c.patterns.inside.0.items c.as_slice-items.result.now _ _ c.patterns.view_is c.as_slice-items.ensures c.loop-i.i c.index.result.now c.index-items-i.result (omega arith) c.loop-i.invariant.1.0 c.index.ensures c.index-items-i.is
+    c.in_ok-matches.field-0 c.loop-i.bindings c.matches.new.bindings _ c.in_ok-matches.ensures c.if-not-branch.true c.loop-i.invariant.1.1
 
 pub matches_each-loop-i-preserved : goal.matches_each-loop-i-preserved
 matches_each-loop-i-preserved t c = (
-  c.loop-i.invariant.0,
-  each_goes_on c.patterns.inside.0.items c.values.inside.0.items _ _ c.patterns.view_is c.values.view_is c.loop-i.i c.index.result.now c.index-in-loop-i.result.now (omega arith) c.loop-i.invariant.0 c.index.ensures c.index-in-loop-i.ensures
-      c.in_ok-matches.field-0 c.loop-i.bindings c.matches.new.bindings _ c.in_ok-matches.ensures c.if-not-branch.false c.loop-i.invariant.1,
+  c.as_slice-items.ensures,
+  (
+    c.loop-i.invariant.1.0,
+    each_goes_on c.patterns.inside.0.items c.as_slice-items.result.now _ _ c.patterns.view_is c.as_slice-items.ensures c.loop-i.i c.index.result.now c.index-items-i.result (omega arith) c.loop-i.invariant.1.0 c.index.ensures c.index-items-i.is
+        c.in_ok-matches.field-0 c.loop-i.bindings c.matches.new.bindings _ c.in_ok-matches.ensures c.if-not-branch.false c.loop-i.invariant.1.1,
+  ),
 )

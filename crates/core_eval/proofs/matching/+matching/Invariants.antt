@@ -8,7 +8,7 @@ use Rattle.core_eval.proofs.matching.+matching.Given as goal
 
 -- what is left to match, on top of what is bound so far, is what was to match
 abbrev pub invariant-matches_each-loop-i : goal.invariant-matches_each-loop-i
-invariant-matches_each-loop-i l = (length l.patterns-inside.0.items ≡ length l.values-inside.0.items) × (match_each (patterns_of (drop l.i l.patterns)) (drop l.i l.values) l.bindings ≡ match_each (patterns_of l.patterns) l.values l.fn.bindings)
+invariant-matches_each-loop-i l = (map meaning_of l.items ≡ l.values) × ((length l.patterns-inside.0.items ≡ length l.items) × (match_each (patterns_of (drop l.i l.patterns)) (drop l.i l.values) l.bindings ≡ match_each (patterns_of l.patterns) l.values l.fn.bindings))
 
 abbrev pub invariant-matches_items-items : goal.invariant-matches_items-items
 invariant-matches_items-items l =

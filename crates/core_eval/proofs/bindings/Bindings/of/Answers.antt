@@ -6,7 +6,7 @@ use Rattle.core_eval.proofs.bindings.Bindings.of.Goals as goal
 pub loop-value-init : goal.loop-value-init
 loop-value-init c =
     ap (λ before. bound c.args.variables.now (values_of c.reverse.new.self.items) before) c.new-bindings.ensures
-    ∙ ap (λ ms. bound c.args.variables.now ms []) (values_of-reversed c.values.inside.0.items c.reverse.new.self.items c.args.values c.values.view_is c.reverse.ensures.items)
+    ∙ ap (λ ms. bound c.args.variables.now ms []) (values_of-reversed c.into_vec-later.result.items c.reverse.new.self.items c.args.values c.into_vec-later.ensures c.reverse.ensures.items)
 
 pub returns : goal.returns
 returns c =
