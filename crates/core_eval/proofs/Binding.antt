@@ -11,7 +11,7 @@ use Rattle.std.proofs.lemmas.List.{take_more}
 use Rattle.core_eval.specs.Matching.{Environment, bound, lookup}
 use Rattle.core_eval.specs.declared.frame.Frame.{Frame}
 use Rattle.core_eval.specs.Frames.{hole_of, holes_of}
-use Rattle.core_eval.specs.Holes.{Hole, kept_in, scope}
+use Rattle.core_eval.specs.Holes.{Hole, kept_in, hides, scope}
 
 -- the values that are left, of which the last item is the first value
 abbrev pub values_of : List Term → List Meaning
@@ -75,8 +75,21 @@ module _ (frames : List Frame) (left : ℕ) (frame : Frame) (lt : 0 < left) (le 
       ∙ ap (λ (f : Frame). holes_of (take (left - 1) frames ++ f ∷ [])) (sym is)
       ∙ holes_of-last (take (left - 1) frames) frame
 
-  pub found_in_frame : (name : List ℕ) (m : Meaning) → lookup name (kept_in (hole_of frame)) ≡ Some m → lookup name (scope (holes_of (take left frames))) ≡ Some m
-  found_in_frame name m e = ap (λ (hs : List Hole). lookup name (scope hs)) top_frame ∙ lookup_here name (kept_in (hole_of frame)) (scope (holes_of (take (left - 1) frames))) m e
+  -- the variables below the top frame, where it hides them or not
+  abbrev seen_below : Bool → Environment
+  seen_below b = if b then [] else scope (holes_of (take (left - 1) frames))
 
-  pub not_in_frame : (name : List ℕ) → lookup name (kept_in (hole_of frame)) ≡ None → lookup name (scope (holes_of (take left frames))) ≡ lookup name (scope (holes_of (take (left - 1) frames)))
-  not_in_frame name e = ap (λ (hs : List Hole). lookup name (scope hs)) top_frame ∙ lookup_over name (kept_in (hole_of frame)) (scope (holes_of (take (left - 1) frames))) e
+  pub found_in_frame : (name : List ℕ) (m : Meaning) → lookup name (kept_in (hole_of frame)) ≡ Some m → lookup name (scope (holes_of (take left frames))) ≡ Some m
+  found_in_frame name m e = ap (λ (hs : List Hole). lookup name (scope hs)) top_frame ∙ lookup_here name (kept_in (hole_of frame)) (seen_below (hides (hole_of frame))) m e
+
+  beyond_frame : (name : List ℕ) (b : Bool) → lookup name (kept_in (hole_of frame)) ≡ None → hides (hole_of frame) ≡ b → lookup name (scope (holes_of (take left frames))) ≡ lookup name (seen_below b)
+  beyond_frame name b e h =
+      ap (λ (hs : List Hole). lookup name (scope hs)) top_frame
+      ∙ lookup_over name (kept_in (hole_of frame)) (seen_below (hides (hole_of frame))) e
+      ∙ ap (λ (c : Bool). lookup name (seen_below c)) h
+
+  pub not_in_frame : (name : List ℕ) → lookup name (kept_in (hole_of frame)) ≡ None → hides (hole_of frame) ≡ false → lookup name (scope (holes_of (take left frames))) ≡ lookup name (scope (holes_of (take (left - 1) frames)))
+  not_in_frame name e h = beyond_frame name false e h
+
+  pub hidden_by_frame : (name : List ℕ) → lookup name (kept_in (hole_of frame)) ≡ None → hides (hole_of frame) ≡ true → lookup name (scope (holes_of (take left frames))) ≡ None
+  hidden_by_frame name e h = beyond_frame name true e h

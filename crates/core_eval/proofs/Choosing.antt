@@ -6,7 +6,7 @@ use Rattle.core_tree.specs.Syntax.{Tree, ClauseTree, patterns_of, clauses_of, si
 use Rattle.term_core.specs.Meaning.{Meaning}
 use Rattle.core_eval.specs.declared.control.Control.{Control}
 use Rattle.core_eval.specs.Matching.{Environment, match_each}
-use Rattle.core_eval.specs.Evaluation.{State, Got, evaluate, choose, judged, no_clause, taken}
+use Rattle.core_eval.specs.Evaluation.{State, Got, Setting, evaluate, choose, judged, no_clause, taken}
 use Rattle.core_eval.specs.Holes.{Hole, Guards, scope, through}
 use Rattle.core_eval.specs.Steps.{going, load, work, GoesOn}
 
@@ -14,14 +14,14 @@ use Rattle.core_eval.specs.Steps.{going, load, work, GoesOn}
 pub record IsLeft (old new : List Hole) (all left : List ClauseTree) (values kept : List Meaning) : Type 0 where
   pub stays : new ≡ old
   pub same : kept ≡ values
-  pub picks : (s : State) → choose (clauses_of left) values (scope old) s ≡ choose (clauses_of all) values (scope old) s
+  pub picks : (setting : Setting) (s : State) → choose setting (clauses_of left) values (scope old) s ≡ choose setting (clauses_of all) values (scope old) s
   pub fewer : size_of_clause_list left ≤ size_of_clause_list all
 
 pub none_taken : (r : Result Control AllocError) (old new : List Hole) (all left : List ClauseTree) (values kept : List Meaning) → IsLeft old new all left values kept → length left ≡ 0
-    → IfOk r (λ next. (holes : List Hole) (s : State) → going holes next s ≡ through holes (no_clause kept s)) → IfOk r (λ next. load next ≡ 0)
-    → IfOk r (λ next. GoesOn old new next (λ s. choose (clauses_of all) values (scope old) s) (2 + 4 * size_of_clause_list all))
+    → IfOk r (λ next. (setting : Setting) (holes : List Hole) (s : State) → going setting holes next s ≡ through setting holes (no_clause kept s)) → IfOk r (λ next. load next ≡ 0)
+    → IfOk r (λ next. GoesOn old new next (λ setting s. choose setting (clauses_of all) values (scope old) s) (2 + 4 * size_of_clause_list all))
 none_taken (Ok next) old new all [] values kept h e same less = record {
-  same = λ s. same new s ∙ ap (λ vs. through new (no_clause vs s)) h.same ∙ ap (λ hs. through hs (no_clause values s)) h.stays ∙ ap (through old) (h.picks s);
+  same = λ setting s. same setting new s ∙ ap (λ vs. through setting new (no_clause vs s)) h.same ∙ ap (λ hs. through setting hs (no_clause values s)) h.stays ∙ ap (through setting old) (h.picks setting s);
   less = omega (arith, less, ap work h.stays);
 }
 none_taken (Ok next) old new all (c ∷ cs) values kept h e same less = absurd (omega (arith, e))
@@ -37,14 +37,14 @@ passed_over o env go others s e = ap (λ (p : Option Environment). taken p env g
 pub clause_taken : (next : Control) (old new top : List Hole) (all left others : List ClauseTree) (c : ClauseTree) (guard body : Tree) (values kept : List Meaning) (bindings : Environment)
     → IsLeft old new all left values kept → left ≡ c ∷ others → match_each (patterns_of c.patterns) kept [] ≡ Some bindings
     → top ≡ Guards bindings body others kept ∷ new → guard ≡ c.guard → body ≡ c.body
-    → ((holes : List Hole) (s : State) → going holes next s ≡ through holes (evaluate guard (scope holes) s)) → load next ≡ 4 * size_of guard
-    → GoesOn old top next (λ s. choose (clauses_of all) values (scope old) s) (2 + 4 * size_of_clause_list all)
+    → ((setting : Setting) (holes : List Hole) (s : State) → going setting holes next s ≡ through setting holes (evaluate setting guard (scope holes) s)) → load next ≡ 4 * size_of guard
+    → GoesOn old top next (λ setting s. choose setting (clauses_of all) values (scope old) s) (2 + 4 * size_of_clause_list all)
 clause_taken next old new top all left others c guard body values kept bindings h el em et eg eb same less = record {
-  same = λ s.
-      let chosen : choose (clauses_of left) values (scope old) s ≡ judged (evaluate c.guard (bindings ++ scope old) s) (λ s'. evaluate c.body (bindings ++ scope old) s') (λ s'. choose (clauses_of others) values (scope old) s') =
-      ap (λ (cs : List ClauseTree). choose (clauses_of cs) values (scope old) s) el
+  same = λ setting s.
+      let chosen : choose setting (clauses_of left) values (scope old) s ≡ judged (evaluate setting c.guard (bindings ++ scope old) s) (λ s'. evaluate setting c.body (bindings ++ scope old) s') (λ s'. choose setting (clauses_of others) values (scope old) s') =
+      ap (λ (cs : List ClauseTree). choose setting (clauses_of cs) values (scope old) s) el
       ∙ picked (match_each (patterns_of c.patterns) values []) bindings (scope old) _ _ s (ap (λ vs. match_each (patterns_of c.patterns) vs []) (sym h.same) ∙ em) in
-      same top s ∙ rw (et, h.stays, h.same, eg, eb) (ap (through old) (sym chosen ∙ h.picks s));
+      same setting top s ∙ rw (et, h.stays, h.same, eg, eb) (ap (through setting old) (sym chosen ∙ h.picks setting s));
   less =
       let size : size_of_clause_list left ≡ 1 + (size_of c.guard + (size_of c.body + size_of_clause_list others)) = ap size_of_clause_list el in
       omega (arith, less, ap work et, ap work h.stays, ap size_of eg, ap size_of eb, size, h.fewer);
@@ -54,6 +54,6 @@ pub next_left : (old new : List Hole) (all left others : List ClauseTree) (c : C
 next_left old new all left others c values kept h el em = record {
   stays = h.stays;
   same = h.same;
-  picks = λ s. sym (ap (λ (cs : List ClauseTree). choose (clauses_of cs) values (scope old) s) el ∙ passed_over (match_each (patterns_of c.patterns) values []) (scope old) _ (λ s'. choose (clauses_of others) values (scope old) s') s (ap (λ vs. match_each (patterns_of c.patterns) vs []) (sym h.same) ∙ em)) ∙ h.picks s;
+  picks = λ setting s. sym (ap (λ (cs : List ClauseTree). choose setting (clauses_of cs) values (scope old) s) el ∙ passed_over (match_each (patterns_of c.patterns) values []) (scope old) _ (λ s'. choose setting (clauses_of others) values (scope old) s') s (ap (λ vs. match_each (patterns_of c.patterns) vs []) (sym h.same) ∙ em)) ∙ h.picks setting s;
   fewer = omega (arith, h.fewer, ap size_of_clause_list el);
 }

@@ -5,8 +5,8 @@ use Rattle.std.specs.declared.alloc.AllocError.{AllocError}
 use Rattle.term_core.specs.Meaning.{Meaning, Group, group_of, node_count}
 use Rattle.core_eval.specs.declared.control.Control.{Control}
 use Rattle.core_eval.specs.Matching.{Environment}
-use Rattle.core_eval.specs.Evaluation.{State, Got, Yields, error, limited, limited_error, node_limit, one, class_in}
-use Rattle.core_eval.specs.Holes.{Hole, Gathers, EndsList, Binds, Discards, Chooses, Guards, Tries, Catches, Keeps, filled, through}
+use Rattle.core_eval.specs.Evaluation.{State, Got, Setting, Yields, error, limited, limited_error, node_limit, one, class_in}
+use Rattle.core_eval.specs.Holes.{Hole, Gathers, EndsList, Binds, Discards, Chooses, Guards, Tries, Catches, Keeps, Applies, filled, through}
 use Rattle.core_eval.specs.Steps.{going, load, GoesOn}
 
 -- a term with too many nodes is an error
@@ -17,13 +17,13 @@ pub limited_error-over : (m : Meaning) (s : State) → node_limit < node_count m
 limited_error-over m s h = grind arith
 
 -- what is an error means the same as the error
-pub same_error : (r : Result Control AllocError) (text : List ℕ) (got : State → Got) → IfOk r (λ next. (holes : List Hole) (s : State) → going holes next s ≡ through holes (error text s)) → ((s : State) → got s ≡ error text s) → IfOk r (λ next. (holes : List Hole) (s : State) → going holes next s ≡ through holes (got s))
-same_error (Ok next) text got h e = λ holes s. h holes s ∙ ap (through holes) (sym (e s))
+pub same_error : (r : Result Control AllocError) (text : List ℕ) (got : State → Got) → IfOk r (λ next. (setting : Setting) (holes : List Hole) (s : State) → going setting holes next s ≡ through setting holes (error text s)) → ((s : State) → got s ≡ error text s) → IfOk r (λ next. (setting : Setting) (holes : List Hole) (s : State) → going setting holes next s ≡ through setting holes (got s))
+same_error (Ok next) text got h e = λ setting holes s. h setting holes s ∙ ap (through setting holes) (sym (e s))
 same_error (Err e) text got h f = tt
 
 -- and so the machine goes on with it
-pub goes_on : (r : Result Control AllocError) (text : List ℕ) (got : State → Got) (old : List Hole) (left : ℕ) → IfOk r (λ next. (holes : List Hole) (s : State) → going holes next s ≡ through holes (error text s)) → IfOk r (λ next. load next ≡ 0) → ((s : State) → got s ≡ error text s) → 0 < left → IfOk r (λ next. GoesOn old old next got left)
-goes_on (Ok next) text got old left h l e p = record { same = λ s. h old s ∙ ap (through old) (sym (e s)); less = omega (arith, l) }
+pub goes_on : (r : Result Control AllocError) (text : List ℕ) (got : Setting → State → Got) (old : List Hole) (left : ℕ) → IfOk r (λ next. (setting : Setting) (holes : List Hole) (s : State) → going setting holes next s ≡ through setting holes (error text s)) → IfOk r (λ next. load next ≡ 0) → ((setting : Setting) (s : State) → got setting s ≡ error text s) → 0 < left → IfOk r (λ next. GoesOn old old next got left)
+goes_on (Ok next) text got old left h l e p = record { same = λ setting s. h setting old s ∙ ap (through setting old) (sym (e setting s)); less = omega (arith, l) }
 goes_on (Err e) text got old left h l f p = tt
 
 -- where one value is wanted, any other number is an error
@@ -39,29 +39,30 @@ WantsOne (EndsList items) = Unit {0}
 WantsOne (Discards second) = Unit {0}
 WantsOne hole = ⊥
 
-pub filled-miscounted : (hole : Hole) (env : Environment) (vs : List Meaning) (s : State) → WantsOne hole → (length vs ≡ 1 → ⊥) → filled hole env (Yields vs s) ≡ error (codes "value_count") s
-filled-miscounted (Gathers purpose done later) env vs s w h = rw (miscounted _ vs s h) refl
-filled-miscounted (EndsList items) env vs s w h = miscounted _ vs s h
-filled-miscounted (Discards second) env vs s w h = miscounted _ vs s h
-filled-miscounted (Binds variables body) env vs s w h = absurd w
-filled-miscounted (Chooses clauses) env vs s w h = absurd w
-filled-miscounted (Guards bindings body others values) env vs s w h = absurd w
-filled-miscounted (Tries variables body caught handler) env vs s w h = absurd w
-filled-miscounted Catches env vs s w h = absurd w
-filled-miscounted (Keeps bindings) env vs s w h = absurd w
+pub filled-miscounted : (setting : Setting) (hole : Hole) (env : Environment) (vs : List Meaning) (s : State) → WantsOne hole → (length vs ≡ 1 → ⊥) → filled setting hole env (Yields vs s) ≡ error (codes "value_count") s
+filled-miscounted setting (Gathers purpose done later) env vs s w h = rw (miscounted _ vs s h) refl
+filled-miscounted setting (EndsList items) env vs s w h = miscounted _ vs s h
+filled-miscounted setting (Discards second) env vs s w h = miscounted _ vs s h
+filled-miscounted setting (Binds variables body) env vs s w h = absurd w
+filled-miscounted setting (Chooses clauses) env vs s w h = absurd w
+filled-miscounted setting (Guards bindings body others values) env vs s w h = absurd w
+filled-miscounted setting (Tries variables body caught handler) env vs s w h = absurd w
+filled-miscounted setting Catches env vs s w h = absurd w
+filled-miscounted setting (Keeps bindings) env vs s w h = absurd w
+filled-miscounted setting (Applies bindings) env vs s w h = absurd w
 
 -- a term in place of one that it is equal to
-pub same_limited : (r : Result Control AllocError) (m n : Meaning) → m ≡ n → IfOk r (λ next. (holes : List Hole) (s : State) → going holes next s ≡ through holes (limited m s)) → IfOk r (λ next. (holes : List Hole) (s : State) → going holes next s ≡ through holes (limited n s))
-same_limited r m n e h = subst (λ (x : Meaning). IfOk r (λ next. (holes : List Hole) (s : State) → going holes next s ≡ through holes (limited x s))) e h
+pub same_limited : (r : Result Control AllocError) (m n : Meaning) → m ≡ n → IfOk r (λ next. (setting : Setting) (holes : List Hole) (s : State) → going setting holes next s ≡ through setting holes (limited m s)) → IfOk r (λ next. (setting : Setting) (holes : List Hole) (s : State) → going setting holes next s ≡ through setting holes (limited n s))
+same_limited r m n e h = subst (λ (x : Meaning). IfOk r (λ next. (setting : Setting) (holes : List Hole) (s : State) → going setting holes next s ≡ through setting holes (limited x s))) e h
 
 -- what means this on top of every stack goes on with it
-pub enters : (r : Result Control AllocError) (old : List Hole) (got : State → Got) (left : ℕ) → IfOk r (λ next. (holes : List Hole) (s : State) → going holes next s ≡ through holes (got s)) → IfOk r (λ next. load next ≤ 2) → 2 < left → IfOk r (λ next. GoesOn old old next got left)
-enters (Ok next) old got left h l p = record { same = λ s. h old s; less = omega (arith, l) }
+pub enters : (r : Result Control AllocError) (old : List Hole) (got : Setting → State → Got) (left : ℕ) → IfOk r (λ next. (setting : Setting) (holes : List Hole) (s : State) → going setting holes next s ≡ through setting holes (got setting s)) → IfOk r (λ next. load next ≤ 2) → 2 < left → IfOk r (λ next. GoesOn old old next got left)
+enters (Ok next) old got left h l p = record { same = λ setting s. h setting old s; less = omega (arith, l) }
 enters (Err e) old got left h l p = tt
 
 -- the same of an error's reason
-pub same_limited_error : (r : Result Control AllocError) (m n : Meaning) → m ≡ n → IfOk r (λ next. (holes : List Hole) (s : State) → going holes next s ≡ through holes (limited_error m s)) → IfOk r (λ next. (holes : List Hole) (s : State) → going holes next s ≡ through holes (limited_error n s))
-same_limited_error r m n e h = subst (λ (x : Meaning). IfOk r (λ next. (holes : List Hole) (s : State) → going holes next s ≡ through holes (limited_error x s))) e h
+pub same_limited_error : (r : Result Control AllocError) (m n : Meaning) → m ≡ n → IfOk r (λ next. (setting : Setting) (holes : List Hole) (s : State) → going setting holes next s ≡ through setting holes (limited_error m s)) → IfOk r (λ next. (setting : Setting) (holes : List Hole) (s : State) → going setting holes next s ≡ through setting holes (limited_error n s))
+same_limited_error r m n e h = subst (λ (x : Meaning). IfOk r (λ next. (setting : Setting) (holes : List Hole) (s : State) → going setting holes next s ≡ through setting holes (limited_error x s))) e h
 
 -- a trace is a tuple of two
 pub no_trace : (ms : List Meaning) → (length ms ≡ 2 → ⊥) → class_in (Group (group_of ms)) ≡ None

@@ -1,5 +1,8 @@
 pub mod Errors
 pub mod Stops
+pub mod Rooms
+pub mod ApplyLaw
+pub mod Running
 pub mod Lookups
 pub mod Binding
 pub mod Matches

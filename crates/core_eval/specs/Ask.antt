@@ -1,16 +1,16 @@
 -- What a process of a module asks of the world, after the answers that it got so far.
-use Rattle.std.specs.Prelude.{ℕ, Bool, true, false, ◌==◌, ◌&&◌, ◌||◌, List, [], ◌∷◌, Option, Some, None, if◌then◌else◌, nat_le, length, codes}
+use Rattle.std.specs.Prelude.{ℕ, Bool, true, false, ◌==◌, ◌&&◌, ◌||◌, List, [], ◌∷◌, Option, None, if◌then◌else◌, nat_le, length, codes}
 use Rattle.std.specs.List.{list_any}
 use Rattle.std.specs.Cmp.Lexicographic.{pointwise}
-use Rattle.core_tree.specs.Syntax.{Mention, Tree, Function, NamedAt, DefinitionTree, ModuleTree}
+use Rattle.core_tree.specs.Syntax.{Mention, Tree, Function, NamedAt, ModuleTree}
 use Rattle.core_tree.specs.Functions.{same_function}
 use Rattle.term_core.specs.Meaning.{Meaning, Group, Empty, group_of}
 use Rattle.term_core.specs.Meaning as terms
 use Rattle.core_eval.specs.Asked.{Asked, Ends, Answered}
 use Rattle.core_eval.specs.declared.exception.Class.{Class}
 use Rattle.core_eval.specs.declared.exception.Class.TheVariants.{Error, Exit, Throw}
-use Rattle.core_eval.specs.Matching.{bound}
-use Rattle.core_eval.specs.Evaluation.{State, before, Got, Yields, Raises, Stops, error, within, evaluate}
+use Rattle.core_eval.specs.Evaluation.{before, Got, Yields, Raises, Stops}
+use Rattle.core_eval.specs.Applications.{definition, body_with, setting_of}
 
 -- where a process begins: a function by module and name, and its arguments
 pub record Entry : Type 0 where
@@ -34,11 +34,6 @@ abbrev pub is_first : List ℕ → Bool
 is_first [] = true
 is_first (n ∷ ns) = false
 
--- the parameters and the body of a function
-abbrev pub definition : Function → List DefinitionTree → Option (List Mention × Tree)
-definition f [] = None
-definition f (d ∷ ds) = if same_function f d.named.function then Some (d.parameters, d.body) else definition f ds
-
 -- the most arguments of a function
 abbrev pub arity_limit : ℕ
 arity_limit = 255
@@ -50,11 +45,6 @@ is_open m pid e = nat_le (length e.arguments) arity_limit && pointwise ◌==◌ 
 -- the function that a process begins with, if it may
 abbrev pub first_function : ModuleTree → List ℕ → Entry → Option (List Mention × Tree)
 first_function m pid e = if is_open m pid e then definition (function_of e) m.definitions else None
-
--- the body of a function with the arguments as its parameters; without a function it is undefined
-abbrev pub applied : Option (List Mention × Tree) → List Meaning → State → Got
-applied None arguments s = error (codes "undef") s
-applied (Some f) arguments s = within (bound f.0 arguments []) [] (λ env s'. evaluate f.1 env s') s
 
 -- the reason of the end of a process by an exception (Erlang reference manual, "Errors and Error Handling")
 abbrev pub reason_of : Class → Meaning → Meaning
@@ -68,6 +58,6 @@ request_of (Yields values s) = Ends (terms.Name (codes "normal"))
 request_of (Raises class reason s) = Ends (reason_of class reason)
 request_of (Stops request) = request
 
--- what the process of a module that began at an entry asks after these answers
+-- what the process of a module that began at an entry asks after these answers; its beginning is no application
 abbrev pub ask : ModuleTree → List ℕ → Entry → List Answered → Asked
-ask m pid e answers = request_of (applied (first_function m pid e) e.arguments (before answers))
+ask m pid e answers = request_of (body_with (setting_of m pid) (first_function m pid e) e.arguments (before answers))

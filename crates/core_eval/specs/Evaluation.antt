@@ -1,7 +1,7 @@
 -- Evaluation (Core Erlang 1.0.3, "Expressions"): what an expression gives, from left to right, out of the answers to the calls that it makes.
 use Rattle.std.specs.Prelude.{ℕ, Bool, false, pos, List, [], ◌∷◌, ◌++◌, length, Option, Some, None, if◌then◌else◌, nat_le, codes}
 use Rattle.core_tree.specs.declared.call.CallKind.{CallKind}
-use Rattle.core_tree.specs.Syntax.{patterns_of, Callee, OfWorld, OfItself, OfExport, OfDefinition, FailsMatch, RaisesAgain, Tree, Trees, Clauses, Number, Character, Text, Mentioned, Grouped, Listed, Joined, Several, Bound, Chosen, Followed, Called, Tried, Caught, NoClause, Clause}
+use Rattle.core_tree.specs.Syntax.{patterns_of, Function, Callee, OfWorld, OfItself, OfExport, OfDefinition, FailsMatch, RaisesAgain, Tree, Trees, Clauses, Number, Character, Text, Mentioned, Grouped, Listed, Joined, Several, Bound, Chosen, Followed, Called, Tried, Caught, NoClause, Clause}
 use Rattle.core_tree.specs.Syntax as syntax
 use Rattle.term_core.specs.Meaning.{Meaning, Meanings, Integer, Group, Empty, NoMore, Also, group_of, node_count}
 use Rattle.term_core.specs.Meaning as terms
@@ -25,6 +25,11 @@ pub data Got : Type 0 where
   Yields : (values : List Meaning) (state : State) → Got
   Raises : (class : Class) (reason : Meaning) (state : State) → Got
   Stops : (request : Asked) → Got
+
+-- where an expression is evaluated: the process's own pid, and what the functions of its module give
+pub record Setting : Type 0 where
+  pub own : List ℕ
+  pub apply : Function → List Meaning → State → Got
 
 -- with the values, if there are any, the evaluation goes on
 abbrev pub then_do : Got → (List Meaning → State → Got) → Got
@@ -131,14 +136,6 @@ abbrev pub raised_again : Option Class → Meaning → State → Got
 raised_again None reason s = error (codes "badarg") s
 raised_again (Some class) reason s = Raises class reason s
 
--- ---- what is applied to arguments; a call that was read has as many of them as it wants
-
-abbrev pub applied_to : Callee → List Meaning → State → Got
-applied_to (OfWorld kind) arguments s = called kind arguments s
-applied_to FailsMatch (reason ∷ []) s = Raises Error (match_reason reason) s
-applied_to RaisesAgain (trace ∷ reason ∷ []) s = raised_again (class_in trace) reason s
-applied_to callee arguments s = not_evaluated s
-
 -- ---- variables and clauses
 
 -- the value of a variable; no module that was read has one that is not bound
@@ -178,35 +175,47 @@ as_one (m ∷ n ∷ ms) = Group (group_of (m ∷ n ∷ ms))
 abbrev pub no_clause : List Meaning → State → Got
 no_clause values s = limited_error (Group (group_of (name (codes "case_clause") ∷ as_one values ∷ []))) s
 
-abbrev mutual
-  -- what an expression gives; its parts go from left to right
-  pub evaluate : Tree → Environment → State → Got
-  evaluate (Number n) env s = Yields (Integer n ∷ []) s
-  evaluate (Character c) env s = Yields (Integer (pos c) ∷ []) s
-  evaluate (Text cs) env s = limited (text_of cs) s
-  evaluate (syntax.Name text) env s = Yields (name text ∷ []) s
-  evaluate (Mentioned v) env s = value_or_error (lookup v.name env) s
-  evaluate (Grouped ts) env s = then_do (evaluate_all ts env [] s) (λ vs s'. limited (Group (group_of vs)) s')
-  evaluate (Listed ts) env s = then_do (evaluate_all ts env [] s) (λ vs s'. limited (list_onto vs Empty) s')
-  evaluate (Joined ts t) env s = then_do (evaluate_all ts env [] s) (λ vs s'. then_do (evaluate t env s') (one (λ v s''. limited (list_onto vs v) s'')))
-  evaluate (Several ts) env s = evaluate_all ts env [] s
-  evaluate (Bound variables t body) env s = then_do (evaluate t env s) (λ vs s'. within (bound variables vs []) env (λ inner s''. evaluate body inner s'') s')
-  evaluate (Followed t u) env s = then_do (evaluate t env s) (one (λ v s'. evaluate u env s'))
-  evaluate (Called at callee ts) env s = then_do (evaluate_all ts env [] s) (λ vs s'. applied_to callee vs s')
-  evaluate (Chosen at t cs) env s = then_do (evaluate t env s) (λ vs s'. choose cs vs env s')
-  evaluate (Tried at t variables body caught_variables handler) env s =
-      handled (evaluate t env s)
-      (λ vs s'. within (bound variables vs []) env (λ inner s''. evaluate body inner s'') s')
-      (λ class reason s'. within (bound caught_variables (caught_values (length caught_variables) class reason) []) env (λ inner s''. evaluate handler inner s'') s')
-  evaluate (Caught at t) env s = handled (evaluate t env s) Yields caught
+-- ---- evaluation in a setting
 
-  -- the values of several expressions, each of which wants to be one, behind those that are there
-  pub evaluate_all : Trees → Environment → List Meaning → State → Got
-  evaluate_all syntax.NoMore env done s = Yields done s
-  evaluate_all (syntax.Also t ts) env done s = then_do (evaluate t env s) (one (λ v s'. evaluate_all ts env (done ++ v ∷ []) s'))
+module _ (setting : Setting) where
+  -- what is applied to arguments; a call that was read has as many of them as it wants
+  abbrev pub applied_to : Callee → List Meaning → State → Got
+  applied_to (OfWorld kind) arguments s = called kind arguments s
+  applied_to (OfExport function) arguments s = setting.apply function arguments s
+  applied_to (OfDefinition named) arguments s = setting.apply named.function arguments s
+  applied_to FailsMatch (reason ∷ []) s = Raises Error (match_reason reason) s
+  applied_to RaisesAgain (trace ∷ reason ∷ []) s = raised_again (class_in trace) reason s
+  applied_to callee arguments s = not_evaluated s
 
-  -- the first clause that the values match and whose guard holds; a clause with another number of patterns than values does not match
-  pub choose : Clauses → List Meaning → Environment → State → Got
-  choose NoClause values env s = no_clause values s
-  choose (Clause patterns guard body others) values env s =
-      taken (match_each (patterns_of patterns) values []) env (λ inner s'. judged (evaluate guard inner s') (λ s''. evaluate body inner s'') (λ s''. choose others values env s'')) (λ s'. choose others values env s') s
+  abbrev mutual
+    -- what an expression gives; its parts go from left to right
+    pub evaluate : Tree → Environment → State → Got
+    evaluate (Number n) env s = Yields (Integer n ∷ []) s
+    evaluate (Character c) env s = Yields (Integer (pos c) ∷ []) s
+    evaluate (Text cs) env s = limited (text_of cs) s
+    evaluate (syntax.Name text) env s = Yields (name text ∷ []) s
+    evaluate (Mentioned v) env s = value_or_error (lookup v.name env) s
+    evaluate (Grouped ts) env s = then_do (evaluate_all ts env [] s) (λ vs s'. limited (Group (group_of vs)) s')
+    evaluate (Listed ts) env s = then_do (evaluate_all ts env [] s) (λ vs s'. limited (list_onto vs Empty) s')
+    evaluate (Joined ts t) env s = then_do (evaluate_all ts env [] s) (λ vs s'. then_do (evaluate t env s') (one (λ v s''. limited (list_onto vs v) s'')))
+    evaluate (Several ts) env s = evaluate_all ts env [] s
+    evaluate (Bound variables t body) env s = then_do (evaluate t env s) (λ vs s'. within (bound variables vs []) env (λ inner s''. evaluate body inner s'') s')
+    evaluate (Followed t u) env s = then_do (evaluate t env s) (one (λ v s'. evaluate u env s'))
+    evaluate (Called at callee ts) env s = then_do (evaluate_all ts env [] s) (λ vs s'. applied_to callee vs s')
+    evaluate (Chosen at t cs) env s = then_do (evaluate t env s) (λ vs s'. choose cs vs env s')
+    evaluate (Tried at t variables body caught_variables handler) env s =
+        handled (evaluate t env s)
+        (λ vs s'. within (bound variables vs []) env (λ inner s''. evaluate body inner s'') s')
+        (λ class reason s'. within (bound caught_variables (caught_values (length caught_variables) class reason) []) env (λ inner s''. evaluate handler inner s'') s')
+    evaluate (Caught at t) env s = handled (evaluate t env s) Yields caught
+
+    -- the values of several expressions, each of which wants to be one, behind those that are there
+    pub evaluate_all : Trees → Environment → List Meaning → State → Got
+    evaluate_all syntax.NoMore env done s = Yields done s
+    evaluate_all (syntax.Also t ts) env done s = then_do (evaluate t env s) (one (λ v s'. evaluate_all ts env (done ++ v ∷ []) s'))
+
+    -- the first clause that the values match and whose guard holds; a clause with another number of patterns than values does not match
+    pub choose : Clauses → List Meaning → Environment → State → Got
+    choose NoClause values env s = no_clause values s
+    choose (Clause patterns guard body others) values env s =
+        taken (match_each (patterns_of patterns) values []) env (λ inner s'. judged (evaluate guard inner s') (λ s''. evaluate body inner s'') (λ s''. choose others values env s'')) (λ s'. choose others values env s') s

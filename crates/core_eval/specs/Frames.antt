@@ -5,7 +5,7 @@ use Rattle.core_eval.specs.declared.frame.Purpose.{Purpose as Use}
 use Rattle.core_eval.specs.declared.frame.Purpose.TheVariants as uses
 use Rattle.core_eval.specs.declared.frame.Frame.{Frame}
 use Rattle.core_eval.specs.declared.frame.Frame.TheVariants as frames
-use Rattle.core_eval.specs.Holes.{Purpose, ToGroup, ToList, ToFront, ToCall, ToValues, Hole, Gathers, EndsList, Binds, Discards, Chooses, Guards, Tries, Catches, Keeps}
+use Rattle.core_eval.specs.Holes.{Purpose, ToGroup, ToList, ToFront, ToCall, ToValues, Hole, Gathers, EndsList, Binds, Discards, Chooses, Guards, Tries, Catches, Keeps, Applies}
 
 -- what a frame's parts are for
 abbrev pub purpose_of : Use → Purpose
@@ -26,6 +26,7 @@ hole_of (frames.Guard bindings body others values) = Guards bindings (tree_of bo
 hole_of (frames.Try protected) = Tries protected.now.2 (protected.now.3) protected.now.4 protected.now.5
 hole_of frames.Catch = Catches
 hole_of (frames.Kept bindings) = Keeps bindings
+hole_of (frames.Applied bindings) = Applies bindings
 
 -- a stack's frames from the top down; the last item of the list is the top
 abbrev pub holes_of : List Frame → List Hole

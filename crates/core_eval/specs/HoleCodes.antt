@@ -10,7 +10,7 @@ use Rattle.core_tree.specs.SyntaxCodes.{coded_mention, coded_callee, coded_tree,
 use Rattle.term_core.specs.Meaning.{Meaning, coded_meaning}
 use Rattle.core_eval.specs.Asked.{Asked, Asks, Receives, Ends, RunsAway}
 use Rattle.core_eval.specs.Matching.{Environment}
-use Rattle.core_eval.specs.Holes.{Purpose, ToGroup, ToList, ToFront, ToCall, ToValues, Hole, Gathers, EndsList, Binds, Discards, Chooses, Guards, Tries, Catches, Keeps}
+use Rattle.core_eval.specs.Holes.{Purpose, ToGroup, ToList, ToFront, ToCall, ToValues, Hole, Gathers, EndsList, Binds, Discards, Chooses, Guards, Tries, Catches, Keeps, Applies}
 
 abbrev PurposeShape : Type 0
 PurposeShape = (Unit {0} ⊎ Unit {0}) ⊎ (Tree ⊎ (Callee ⊎ Unit {0}))
@@ -47,7 +47,7 @@ abbrev PartShape : Type 0
 PartShape = (Purpose × (List Meaning × List Tree)) ⊎ (List Meaning ⊎ Tree)
 
 abbrev ValuesShape : Type 0
-ValuesShape = (List Mention × Tree) ⊎ (List ClauseTree ⊎ Environment)
+ValuesShape = (List Mention × Tree) ⊎ (List ClauseTree ⊎ (Environment ⊎ Environment))
 
 abbrev ProtectedShape : Type 0
 ProtectedShape = (Environment × (Tree × (List ClauseTree × List Meaning))) ⊎ ((List Mention × (Tree × (List Mention × Tree))) ⊎ Unit {0})
@@ -61,7 +61,8 @@ hole_shape (EndsList items) = inl (inr (inl items))
 hole_shape (Discards second) = inl (inr (inr second))
 hole_shape (Binds variables body) = inr (inl (inl (variables, body)))
 hole_shape (Chooses clauses) = inr (inl (inr (inl clauses)))
-hole_shape (Keeps bindings) = inr (inl (inr (inr bindings)))
+hole_shape (Keeps bindings) = inr (inl (inr (inr (inl bindings))))
+hole_shape (Applies bindings) = inr (inl (inr (inr (inr bindings))))
 hole_shape (Guards bindings body others values) = inr (inr (inl (bindings, (body, (others, values)))))
 hole_shape (Tries variables body caught handler) = inr (inr (inr (inl (variables, (body, (caught, handler))))))
 hole_shape Catches = inr (inr (inr (inr tt)))
@@ -72,7 +73,8 @@ hole_in (inl (inr (inl items))) = EndsList items
 hole_in (inl (inr (inr second))) = Discards second
 hole_in (inr (inl (inl b))) = Binds b.0 b.1
 hole_in (inr (inl (inr (inl clauses)))) = Chooses clauses
-hole_in (inr (inl (inr (inr bindings)))) = Keeps bindings
+hole_in (inr (inl (inr (inr (inl bindings))))) = Keeps bindings
+hole_in (inr (inl (inr (inr (inr bindings))))) = Applies bindings
 hole_in (inr (inr (inl g))) = Guards g.0 g.1.0 g.1.1.0 g.1.1.1
 hole_in (inr (inr (inr (inl t)))) = Tries t.0 t.1.0 t.1.1.0 t.1.1.1
 hole_in (inr (inr (inr (inr u)))) = Catches
@@ -87,12 +89,13 @@ hole_in-hole_shape (Guards bindings body others values) = refl
 hole_in-hole_shape (Tries variables body caught handler) = refl
 hole_in-hole_shape Catches = refl
 hole_in-hole_shape (Keeps bindings) = refl
+hole_in-hole_shape (Applies bindings) = refl
 
 abbrev coded_part : Coded PartShape
 coded_part = coded⊎ (coded× coded_purpose (coded× (coded_list coded_meaning) (coded_list coded_tree))) (coded⊎ (coded_list coded_meaning) coded_tree)
 
 abbrev coded_values : Coded ValuesShape
-coded_values = coded⊎ (coded× (coded_list coded_mention) coded_tree) (coded⊎ (coded_list coded_clause) coded_environment)
+coded_values = coded⊎ (coded× (coded_list coded_mention) coded_tree) (coded⊎ (coded_list coded_clause) (coded⊎ coded_environment coded_environment))
 
 abbrev coded_protected : Coded ProtectedShape
 coded_protected =

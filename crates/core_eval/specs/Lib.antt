@@ -3,6 +3,7 @@ pub mod Asked
 pub mod Requests
 pub mod Matching
 pub mod Evaluation
+pub mod Applications
 pub mod Ask
 pub mod Holes
 pub mod HoleCodes

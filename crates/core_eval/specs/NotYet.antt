@@ -1,7 +1,7 @@
 -- Forms that are read and not evaluated yet: no module that holds one is run.
 use Rattle.std.specs.Prelude.{ℕ, zero, suc, List, [], ◌∷◌, Option, Some, None}
 use Rattle.std.specs.Option.{option_or}
-use Rattle.core_tree.specs.Syntax.{OfItself, OfExport, OfDefinition, Tree, Trees, Clauses, Number, Character, Text, Name, Mentioned, Grouped, Listed, Joined, Several, Bound, Chosen, Followed, Called, Tried, Caught, NoMore, Also, NoClause, Clause, DefinitionTree, ModuleTree}
+use Rattle.core_tree.specs.Syntax.{OfItself, Tree, Trees, Clauses, Number, Character, Text, Name, Mentioned, Grouped, Listed, Joined, Several, Bound, Chosen, Followed, Called, Tried, Caught, NoMore, Also, NoClause, Clause, DefinitionTree, ModuleTree}
 
 abbrev mutual
   -- the place of the first such form of an expression, in the order of the text
@@ -21,8 +21,6 @@ abbrev mutual
   not_evaluated_in (Tried at t vs u ws h) = option_or (not_evaluated_in t) (option_or (not_evaluated_in u) (not_evaluated_in h))
   not_evaluated_in (Caught at t) = not_evaluated_in t
   not_evaluated_in (Called at (OfItself kind) ts) = Some at
-  not_evaluated_in (Called at (OfExport f) ts) = Some at
-  not_evaluated_in (Called at (OfDefinition n) ts) = Some at
   not_evaluated_in (Called at callee ts) = not_evaluated_among ts
 
   pub not_evaluated_among : Trees → Option ℕ

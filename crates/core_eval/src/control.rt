@@ -1,6 +1,7 @@
-// What is on top of the stack of a machine that runs.
+// What is on top of the stack of a machine that runs, and where it pauses.
 use crate::exception::Class;
-use core_tree::{CallKind, Expr};
+use crate::request::Request;
+use core_tree::{CallKind, Expr, FunctionName};
 use term_core::{Term, Terms};
 
 /// What is to be done next.
@@ -16,4 +17,15 @@ pub(crate) enum Control<'m> {
     Raise(Class, Term),
     /// To ask the world for this call.
     Ask(CallKind, Terms),
+    /// To apply this function of the module to arguments.
+    Apply(&'m FunctionName, Terms),
+}
+
+/// Where the evaluation of a body comes to by itself.
+#[derive(Drop)]
+pub(crate) enum Pause<'m> {
+    /// At a request of the world.
+    Request(Request),
+    /// At an application of this function of the module to arguments.
+    Application(&'m FunctionName, Terms),
 }

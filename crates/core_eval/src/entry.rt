@@ -1,9 +1,10 @@
-// Where a process begins.
-ghost use Rattle.std.specs.Prelude.{◌≡◌, IfOk, option_map, option_copied};
+// Where a process begins, and what it applies.
+ghost use Rattle.std.specs.Prelude.{◌≡◌, true, false, IfOk, option_map, option_copied};
 ghost use Rattle.core_tree.specs.Tree.{tree_of};
-ghost use Rattle.core_eval.specs.Ask.{entry, first_function, definition, is_exported};
+ghost use Rattle.core_eval.specs.Applications.{definition};
+ghost use Rattle.core_eval.specs.Ask.{entry, first_function, is_exported};
 ghost use Rattle.core_eval.specs.Functions.{function_in};
-ghost use Rattle.core_eval.specs.Steps.{EntersWith};
+ghost use Rattle.core_eval.specs.Steps.{Begins, EntersWith, keeps_on_top, keeps_once};
 
 use crate::bindings::Bindings;
 use crate::build::error;
@@ -75,4 +76,46 @@ pub(crate) fn bind<'m>(
         }
         None => error(alloc, "value_count"),
     }
+}
+
+/// Into the body of a function with these arguments as its parameters, and no other variable in scope.
+/// Without a function it is undefined.
+pub(crate) fn begin<'m>(
+    alloc: Global,
+    stack: &mut Stack<'m>,
+    function: Option<&'m Definition>,
+    arguments: Terms,
+) -> Result<Control<'m>, AllocError>
+    ensures same { IfOk result (λ next.
+        Begins stack.old stack.new next (option_map function_in (option_copied function.entry)) arguments) }
+    ensures small { keeps_on_top stack.old ≡ false → IfOk result (λ _. keeps_once stack.new ≡ true) }
+{
+    let Some(definition) = function else {
+        return error(alloc, "undef");
+    };
+    match Bindings::of(alloc, definition.parameters.as_slice(), arguments)? {
+        Some(bindings) => {
+            stack.push(Frame::Applied(bindings))?;
+            Ok(Control::Evaluate(&definition.body))
+        }
+        None => error(alloc, "value_count"),
+    }
+}
+
+/// Into the body of the function that is applied to these arguments. Nothing that the body sees stands on
+/// the stack, so what only keeps variables is dropped there: an application that is the last thing that a
+/// function does takes no more place than the function did.
+pub(crate) fn apply<'m>(
+    alloc: Global,
+    program: &'m Module,
+    stack: &mut Stack<'m>,
+    function: &FunctionName,
+    arguments: Terms,
+) -> Result<Control<'m>, AllocError>
+    ensures same { IfOk result (λ next.
+        Begins stack.old stack.new next (definition function.now program.now.definitions) arguments) }
+    ensures small { IfOk result (λ _. keeps_once stack.new ≡ true) }
+{
+    stack.bare();
+    begin(alloc, stack, definition_of(program, function), arguments)
 }

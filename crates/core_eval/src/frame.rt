@@ -1,7 +1,7 @@
 // The frames of the stack: what is still to do with the values of an expression, or with what it raises.
 ghost use Rattle.std.specs.Prelude.{◌≡◌, IfOk, option_map};
 ghost use Rattle.core_eval.specs.Frames.{hole_of};
-ghost use Rattle.core_eval.specs.Holes.{kept_in};
+ghost use Rattle.core_eval.specs.Holes.{hides, kept_in, only_keeps};
 ghost use Rattle.core_eval.specs.Matching.{lookup};
 ghost use Rattle.term_core.specs.Term.{meaning_of};
 
@@ -45,6 +45,8 @@ pub(crate) enum Frame<'m> {
     Catch,
     /// An expression inside the scope of these variables.
     Kept(Bindings<'m>),
+    /// The body of a function, with its parameters as the only variables in scope.
+    Applied(Bindings<'m>),
 }
 
 impl<'m> Frame<'m> {
@@ -53,10 +55,24 @@ impl<'m> Frame<'m> {
         ensures { option_map (λ found. meaning_of found.now) result ≡ lookup name.now (kept_in (hole_of self.now)) }
     {
         match self {
-            Frame::Kept(bindings) => bindings.lookup(name),
+            Frame::Kept(bindings) | Frame::Applied(bindings) => bindings.lookup(name),
             Frame::Guard(bindings, _, _, _) => bindings.lookup(name),
             _ => None,
         }
+    }
+
+    /// Whether no variable below the frame is in scope above it.
+    pub(crate) fn hides_below(&self) -> bool
+        ensures { result ≡ hides (hole_of self.now) }
+    {
+        matches!(self, Frame::Applied(_))
+    }
+
+    /// Whether the frame does nothing but keep variables, so that what leaves it is what came to it.
+    pub(crate) fn only_keeps(&self) -> bool
+        ensures { result ≡ only_keeps (hole_of self.now) }
+    {
+        matches!(self, Frame::Kept(_) | Frame::Applied(_))
     }
 
     /// The same frame, or `AllocError` where memory is wanting.
@@ -75,6 +91,7 @@ impl<'m> Frame<'m> {
             Frame::Try(protected) => Frame::Try(protected),
             Frame::Catch => Frame::Catch,
             Frame::Kept(bindings) => Frame::Kept(bindings.copy(alloc)?),
+            Frame::Applied(bindings) => Frame::Applied(bindings.copy(alloc)?),
         })
     }
 }

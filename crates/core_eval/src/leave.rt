@@ -31,7 +31,7 @@ pub(crate) fn leave<'m>(
 ) -> Result<Control<'m>, AllocError>
     ensures { IfOk result (λ next.
         GoesOn stack.old stack.new next
-        (λ s. filled (hole_of frame.entry) (scope stack.old) (Yields (meaning_of value ∷ []) s))
+        (λ setting s. filled setting (hole_of frame.entry) (scope stack.old) (Yields (meaning_of value ∷ []) s))
         (2 + work_in (hole_of frame.entry))) }
 {
     match frame {
@@ -52,7 +52,7 @@ pub(crate) fn leave<'m>(
         }
         Frame::Guard(_, _, others, values) => choose(alloc, stack, others, values),
         Frame::Try(protected) => enter_body(alloc, stack, protected, single(alloc, value)?),
-        Frame::Catch | Frame::Kept(_) => Ok(Control::Return(value)),
+        Frame::Catch | Frame::Kept(_) | Frame::Applied(_) => Ok(Control::Return(value)),
     }
 }
 
@@ -65,7 +65,7 @@ pub(crate) fn leave_with<'m>(
 ) -> Result<Control<'m>, AllocError>
     ensures { IfOk result (λ next.
         GoesOn stack.old stack.new next
-        (λ s. filled (hole_of frame.entry) (scope stack.old) (Yields values s))
+        (λ setting s. filled setting (hole_of frame.entry) (scope stack.old) (Yields values s))
         (2 + work_in (hole_of frame.entry))) }
 {
     let mut items = values.into_vec();
@@ -87,7 +87,7 @@ fn leave_several<'m>(
     requires { length values ≡ 1 → ⊥ }
     ensures { IfOk result (λ next.
         GoesOn stack.old stack.new next
-        (λ s. filled (hole_of frame.entry) (scope stack.old) (Yields values s))
+        (λ setting s. filled setting (hole_of frame.entry) (scope stack.old) (Yields values s))
         (2 + work_in (hole_of frame.entry))) }
 {
     match frame {
@@ -98,7 +98,7 @@ fn leave_several<'m>(
         Frame::Clauses(clauses) => choose(alloc, stack, clauses, values),
         Frame::Guard(_, _, others, judged) => choose(alloc, stack, others, judged),
         Frame::Try(protected) => enter_body(alloc, stack, protected, values),
-        Frame::Catch | Frame::Kept(_) => Ok(Control::Values(values)),
+        Frame::Catch | Frame::Kept(_) | Frame::Applied(_) => Ok(Control::Values(values)),
     }
 }
 
@@ -112,7 +112,7 @@ pub(crate) fn leave_raised<'m>(
 ) -> Result<Control<'m>, AllocError>
     ensures { IfOk result (λ next.
         GoesOn stack.old stack.new next
-        (λ s. filled (hole_of frame.entry) (scope stack.old) (Raises class (meaning_of reason) s))
+        (λ setting s. filled setting (hole_of frame.entry) (scope stack.old) (Raises class (meaning_of reason) s))
         (work_in (hole_of frame.entry))) }
 {
     match frame {
@@ -151,7 +151,7 @@ fn choose<'m>(
 ) -> Result<Control<'m>, AllocError>
     ensures { IfOk result (λ next.
         GoesOn stack.old stack.new next
-        (λ s. choose (clauses_of clauses.now) values (scope stack.old) s)
+        (λ setting s. choose setting (clauses_of clauses.now) values (scope stack.old) s)
         (2 + 4 * size_of_clause_list clauses.now)) }
 {
     let mut left = clauses;

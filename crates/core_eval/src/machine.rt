@@ -5,9 +5,8 @@ ghost use Rattle.core_eval.specs.Asked.{Answered};
 ghost use Rattle.core_eval.specs.Requests.{asked_of, answered_of};
 ghost use Rattle.core_eval.specs.Standing.{StandsAt, after, is_spent};
 
-use crate::build::error;
 use crate::control::Control;
-use crate::entry::{bind, first_definition};
+use crate::entry::{begin, first_definition};
 use crate::exception::Class;
 use crate::request::{Answer, Request};
 use crate::run::run;
@@ -21,6 +20,8 @@ use term_core::{Atom, Pid, Terms};
 /// says what it asks after any further answers, and `is_spent` whether memory was wanting in `resume`.
 #[derive(Drop)]
 pub struct Machine<'m> {
+    program: &'m Module,
+    pid: Pid,
     stack: Stack<'m>,
     request: Request,
     is_spent: bool,
@@ -35,7 +36,13 @@ impl<'m> Model for Machine<'m> {
 
     ghost use Rattle.core_eval.specs.Requests.{asked_of};
 
-    ghost view = { λ m. record { holes = m.stack; asked = asked_of m.request; spent = m.is_spent } };
+    ghost view = { λ m. record {
+      program = m.program.now;
+      own = m.pid;
+      holes = m.stack;
+      asked = asked_of m.request;
+      spent = m.is_spent;
+    } };
 }
 
 /// The process `pid` of the module, run to its first request: it begins with the function
@@ -57,18 +64,11 @@ pub fn start<'m>(
 {
     let mut stack = Stack::new(alloc);
     let found = first_definition(alloc, program, &pid, module_name, function_name, &arguments)?;
-    let control = match found {
-        Some(definition) => bind(
-            alloc,
-            &mut stack,
-            definition.parameters.as_slice(),
-            &definition.body,
-            arguments,
-        )?,
-        None => error(alloc, "undef")?,
-    };
-    let request = run(alloc, &mut stack, control)?;
+    let control = begin(alloc, &mut stack, found, arguments)?;
+    let request = run(alloc, program, &mut stack, control)?;
     Ok(Machine {
+        program,
+        pid,
         stack,
         request,
         is_spent: false,
@@ -106,7 +106,7 @@ impl<'m> Machine<'m> {
             Answer::Message(_) | Answer::TimedOut => return Ok(()),
         };
         self.is_spent = true;
-        self.request = run(alloc, &mut self.stack, control)?;
+        self.request = run(alloc, self.program, &mut self.stack, control)?;
         self.is_spent = false;
         Ok(())
     }
@@ -120,6 +120,8 @@ impl<'m> Machine<'m> {
             return Err(AllocError);
         }
         Ok(Machine {
+            program: self.program,
+            pid: self.pid.copy(alloc)?,
             stack: self.stack.copy(alloc)?,
             request: self.request.copy(alloc)?,
             is_spent: false,

@@ -66,8 +66,8 @@ fn in_expr(expr: &Expr) -> Option<usize>
             in_expr(&protected.value)
         }
         Expr::Call(call) => match &call.callee {
-            Callee::World(_) | Callee::MatchFail | Callee::Raise => in_exprs(&call.arguments),
-            Callee::Pure(_) | Callee::Exported(_) | Callee::Defined(_) => Some(call.at),
+            Callee::Pure(_) => Some(call.at),
+            _ => in_exprs(&call.arguments),
         },
     }
 }

@@ -15,7 +15,8 @@ pub enum Request {
     Receive { waits: bool },
     /// The process has ended, with this reason.
     End(Term),
-    /// The process made too many applications without a request. No form that is read today does so.
+    /// The process made 10,000 applications of its module's functions since its start or its last answer, and
+    /// would make one more. Nothing catches it, and no answer fits.
     Runaway,
 }
 

@@ -1,30 +1,62 @@
 // The run of a machine to its next request.
-ghost use Rattle.std.specs.Prelude.{◌≡◌, List, IfOk};
+ghost use Rattle.std.specs.Prelude.{◌≡◌, ℕ, List, IfOk};
+ghost use Rattle.core_eval.specs.Applications.{setting_of};
 ghost use Rattle.core_eval.specs.Asked.{Answered};
 ghost use Rattle.core_eval.specs.Ask.{request_of};
-ghost use Rattle.core_eval.specs.Evaluation.{before};
+ghost use Rattle.core_eval.specs.Evaluation.{Setting, State, before};
 ghost use Rattle.core_eval.specs.Holes.{standing};
 ghost use Rattle.core_eval.specs.Requests.{asked_of};
-ghost use Rattle.core_eval.specs.Steps.{going};
+ghost use Rattle.core_eval.specs.Steps.{going, paused};
 
 use crate::build::atom;
-use crate::control::Control;
+use crate::control::{Control, Pause};
+use crate::entry::apply;
 use crate::exception::end_of;
 use crate::leave::{leave, leave_raised, leave_with};
 use crate::request::Request;
 use crate::stack::Stack;
 use crate::step::enter;
+use core_tree::Module;
 use std::alloc::{AllocError, Global};
 
-/// Runs to the next request or the end, from what is on top of the stack.
+/// The most applications between two requests.
+const APPLICATION_LIMIT: usize = 10_000;
+
+/// Runs to the next request or the end, from what is on top of the stack. Where one more application than
+/// the limit would be made since the start or the last answer, the request is a runaway.
 pub(crate) fn run<'m>(
     alloc: Global,
+    program: &'m Module,
     stack: &mut Stack<'m>,
     control: Control<'m>,
 ) -> Result<Request, AllocError>
-    ensures { IfOk result (λ request. (answers : List Answered) →
-        standing stack.new (asked_of request) answers
-        ≡ request_of (going stack.old control.entry (before answers))) }
+    ensures { IfOk result (λ request. (own : List ℕ) (answers : List Answered) →
+        standing (setting_of program.now own) stack.new (asked_of request) answers
+        ≡ request_of (going (setting_of program.now own) stack.old control.entry (before answers))) }
+{
+    let mut control = control;
+    'applications: for _made in 0..APPLICATION_LIMIT {
+        control = match advance(alloc, stack, control)? {
+            Pause::Request(request) => return Ok(request),
+            Pause::Application(function, arguments) => {
+                apply(alloc, program, stack, function, arguments)?
+            }
+        };
+    }
+    match advance(alloc, stack, control)? {
+        Pause::Request(request) => Ok(request),
+        Pause::Application(_, _) => Ok(Request::Runaway),
+    }
+}
+
+/// Runs to the next application, request or end, from what is on top of the stack.
+fn advance<'m>(
+    alloc: Global,
+    stack: &mut Stack<'m>,
+    control: Control<'m>,
+) -> Result<Pause<'m>, AllocError>
+    ensures { IfOk result (λ pause. (setting : Setting) (s : State) →
+        paused setting stack.new pause s ≡ request_of (going setting stack.old control.entry s)) }
 {
     let mut control = control;
     loop {
@@ -32,19 +64,24 @@ pub(crate) fn run<'m>(
             Control::Evaluate(expression) => enter(alloc, stack, expression)?,
             Control::Return(value) => match stack.pop() {
                 Some(frame) => leave(alloc, stack, frame, value)?,
-                None => return Ok(Request::End(atom(alloc, "normal")?)),
+                None => return Ok(Pause::Request(Request::End(atom(alloc, "normal")?))),
             },
             Control::Values(values) => {
                 let Some(frame) = stack.pop() else {
-                    return Ok(Request::End(atom(alloc, "normal")?));
+                    return Ok(Pause::Request(Request::End(atom(alloc, "normal")?)));
                 };
                 leave_with(alloc, stack, frame, values)?
             }
             Control::Raise(class, reason) => match stack.pop() {
                 Some(frame) => leave_raised(alloc, stack, frame, class, reason)?,
-                None => return Ok(Request::End(end_of(alloc, class, reason)?)),
+                None => return Ok(Pause::Request(Request::End(end_of(alloc, class, reason)?))),
             },
-            Control::Ask(kind, arguments) => return Ok(Request::Call(kind, arguments)),
+            Control::Ask(kind, arguments) => {
+                return Ok(Pause::Request(Request::Call(kind, arguments)));
+            }
+            Control::Apply(function, arguments) => {
+                return Ok(Pause::Application(function, arguments));
+            }
         };
     }
 }

@@ -3,6 +3,7 @@ ghost use Rattle.std.specs.Prelude.{◌≡◌, ◌∷◌, [], OnOk, IfOk, MatchO
 ghost use Rattle.core_eval.specs.Frames.{hole_of};
 ghost use Rattle.core_eval.specs.Holes.{scope};
 ghost use Rattle.core_eval.specs.Matching.{lookup};
+ghost use Rattle.core_eval.specs.Steps.{IsBared, keeps_on_top};
 ghost use Rattle.term_core.specs.Term.{meaning_of};
 
 use crate::frame::Frame;
@@ -60,11 +61,35 @@ impl<'m> Stack<'m> {
         let mut left = self.0.len();
         while left > 0 {
             left -= 1;
-            if let Some(value) = self.0[left].lookup(name) {
+            let frame = &self.0[left];
+            if let Some(value) = frame.lookup(name) {
                 return Some(value);
+            }
+            if frame.hides_below() {
+                return None;
             }
         }
         None
+    }
+
+    /// Whether the frame on top does nothing but keep variables.
+    fn keeps_on_top(&self) -> bool
+        ensures { result ≡ keeps_on_top self.now }
+    {
+        match self.0.last() {
+            Some(frame) => frame.only_keeps(),
+            None => false,
+        }
+    }
+
+    /// Drops the frames on top that do nothing but keep variables: what does not see them needs no place
+    /// for them.
+    pub(crate) fn bare(&mut self)
+        ensures { IsBared self.old self.new }
+    {
+        'kept: while self.keeps_on_top() {
+            let _frame = self.pop();
+        }
     }
 
     /// The same stack, or `AllocError` where memory is wanting.

@@ -6,7 +6,7 @@ ghost use Rattle.core_eval.specs.Evaluation.{applied_to, limited, value_or_error
 ghost use Rattle.core_eval.specs.Matching.{lookup, text_of};
 ghost use Rattle.core_eval.specs.Frames.{purpose_of};
 ghost use Rattle.core_eval.specs.Holes.{scope};
-ghost use Rattle.core_eval.specs.Steps.{GoesOn, Means, Enters, GathersOn, load};
+ghost use Rattle.core_eval.specs.Steps.{GoesOn, Means, MeansIn, Enters, GathersOn, load};
 
 use crate::build::{error, limited};
 use crate::control::Control;
@@ -69,7 +69,7 @@ fn value_of<'m>(
     variable: &'m Variable,
 ) -> Result<Control<'m>, AllocError>
     ensures { IfOk result (λ next.
-        GoesOn stack.old stack.new next (value_or_error (lookup variable.now.name (scope stack.old))) 3) }
+        GoesOn stack.old stack.new next (λ setting s. value_or_error (lookup variable.now.name (scope stack.old)) s) 3) }
 {
     match stack.lookup(variable.name.as_slice()) {
         Some(value) => Ok(Control::Return(value.copy(alloc)?)),
@@ -208,22 +208,24 @@ fn complete<'m>(
 }
 
 /// What is called, applied to its arguments.
-fn apply<'m>(alloc: Global, callee: &Callee, arguments: Terms) -> Result<Control<'m>, AllocError>
-    ensures same { IfOk result (λ next. Means next (applied_to (callee_of callee.now) arguments)) }
+fn apply<'m>(alloc: Global, callee: &'m Callee, arguments: Terms) -> Result<Control<'m>, AllocError>
+    ensures same { IfOk result (λ next. MeansIn next (λ setting s. applied_to setting (callee_of callee.now) arguments s)) }
     ensures less { IfOk result (λ next. load next ≤ 2) }
 {
     match callee {
         Callee::World(kind) => Ok(Control::Ask(*kind, arguments)),
         Callee::MatchFail => fail_match(alloc, arguments),
         Callee::Raise => raise(alloc, arguments),
+        Callee::Exported(function) => Ok(Control::Apply(function, arguments)),
+        Callee::Defined(named) => Ok(Control::Apply(&named.function, arguments)),
         // No module with one of these is run yet.
-        Callee::Pure(_) | Callee::Exported(_) | Callee::Defined(_) => error(alloc, "undef"),
+        Callee::Pure(_) => error(alloc, "undef"),
     }
 }
 
 /// `primop 'match_fail'`: the error that its one argument tells.
 fn fail_match<'m>(alloc: Global, arguments: Terms) -> Result<Control<'m>, AllocError>
-    ensures same { IfOk result (λ next. Means next (applied_to FailsMatch arguments)) }
+    ensures same { IfOk result (λ next. MeansIn next (λ setting s. applied_to setting FailsMatch arguments s)) }
     ensures less { IfOk result (λ next. load next ≤ 2) }
 {
     let mut reasons = arguments.into_vec();
@@ -237,7 +239,7 @@ fn fail_match<'m>(alloc: Global, arguments: Terms) -> Result<Control<'m>, AllocE
 
 /// `primop 'raise'`: the exception that its two arguments tell, the trace and the reason.
 fn raise<'m>(alloc: Global, arguments: Terms) -> Result<Control<'m>, AllocError>
-    ensures same { IfOk result (λ next. Means next (applied_to RaisesAgain arguments)) }
+    ensures same { IfOk result (λ next. MeansIn next (λ setting s. applied_to setting RaisesAgain arguments s)) }
     ensures less { IfOk result (λ next. load next ≤ 2) }
 {
     let mut parts = arguments.into_vec();

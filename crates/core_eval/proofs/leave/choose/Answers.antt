@@ -15,7 +15,7 @@ returns-then-branch c =
     ∙ ap (λ b. if b then Some c.matches_each.new.bindings else None) c.if-branch.true in
     clause_taken _ _ c.loop-clause.stack c.push.new.self _ c.loop-clause.left.now c.in-Some.others.now c.in-Some.clause.now (tree_of c.clause.inside.guard) (tree_of c.clause.inside.body) _ c.loop-clause.values c.matches_each.new.bindings
     c.loop-clause.invariant c.in-Some.ensures.cases.0 found c.in_ok-push.ensures
-    (ap (λ (d : ClauseTree). d.guard) c.clause.view_is) (ap (λ (d : ClauseTree). d.body) c.clause.view_is) (λ holes s. refl) refl
+    (ap (λ (d : ClauseTree). d.guard) c.clause.view_is) (ap (λ (d : ClauseTree). d.body) c.clause.view_is) (λ setting holes s. refl) refl
 
 pub returns : goal.returns
 returns c =

@@ -1,11 +1,11 @@
-use Rattle.std.proofs.Common.{◌≡◌, ◌+◌}
-use Rattle.core_eval.specs.Evaluation.{State}
-use Rattle.core_eval.specs.Steps.{going, load, work}
+use Rattle.std.proofs.Common.{◌≡◌, ℕ, List}
+use Rattle.core_eval.specs.Applications.{setting_of}
+use Rattle.core_eval.specs.Ask.{request_of}
+use Rattle.core_eval.specs.Asked.{Answered}
+use Rattle.core_eval.specs.Evaluation.{before}
+use Rattle.core_eval.specs.Steps.{going}
 use Rattle.core_eval.proofs.run.run.Given as goal
 
--- what is on top of the stack means what it meant at first
-abbrev pub invariant-loop-control : goal.invariant-loop-control
-invariant-loop-control l = (s : State) → going l.stack l.control s ≡ going l.fn.stack l.fn.control s
-
-abbrev pub decreases-loop-control : goal.decreases-loop-control
-decreases-loop-control l = load l.control + work l.stack
+-- what is on top of the stack asks, after so many applications, what it asked at first
+abbrev pub invariant-applications : goal.invariant-applications
+invariant-applications l = (own : List ℕ) (answers : List Answered) → request_of (going (setting_of l.program own) l.stack l.control (record { answers = answers; made = l._made })) ≡ request_of (going (setting_of l.program own) l.fn.stack l.fn.control (before answers))

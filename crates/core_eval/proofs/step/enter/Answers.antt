@@ -11,4 +11,4 @@ pub returns-in-Text : goal.returns-in-Text
 returns-in-Text c =
     let same : tree_of c.args.expression.now ≡ Text c.deref.result.now = ap tree_of c.in-Text.is ∙ ap Text (sym c.deref.ensures.value) in
     subst (λ (t : Tree). IfOk c.text.result (λ next. Enters c.args.stack.now c.args.stack.now next t)) (sym same)
-    (enters c.text.result c.args.stack.now (λ s. evaluate (Text c.deref.result.now) (scope c.args.stack.now) s) 4 c.text.ensures.same c.text.ensures.less (omega arith))
+    (enters c.text.result c.args.stack.now (λ setting s. evaluate setting (Text c.deref.result.now) (scope c.args.stack.now) s) 4 c.text.ensures.same c.text.ensures.less (omega arith))

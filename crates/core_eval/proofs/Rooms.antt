@@ -1,0 +1,174 @@
+-- Evaluations gain no room for applications, and two ways to apply that agree within some room give the same there.
+use Rattle.std.proofs.Common.{◌≡◌, ℕ, ◌+◌, ◌*◌, ◌≤◌, Bool, true, false, List, [], ◌∷◌, ◌++◌, length, refl, subst, arith, if◌then◌else◌}
+use Rattle.std.specs.Prelude.{Option, Some, None, nat_le, codes}
+use Rattle.core_tree.specs.declared.call.CallKind.{CallKind}
+use Rattle.core_tree.specs.Syntax.{patterns_of, Mention, Function, Callee, OfWorld, OfItself, OfExport, OfDefinition, FailsMatch, RaisesAgain, Tree, Trees, Clauses, Number, Character, Text, Name, Mentioned, Grouped, Listed, Joined, Several, Bound, Chosen, Followed, Called, Tried, Caught, NoMore, Also, NoClause, Clause}
+use Rattle.term_core.specs.Meaning.{Meaning, Group, Empty, group_of, node_count}
+use Rattle.term_core.specs.Term.{list_onto}
+use Rattle.core_eval.specs.declared.exception.Class.{Class}
+use Rattle.core_eval.specs.declared.exception.Class.TheVariants.{Error, Exit, Throw}
+use Rattle.core_eval.specs.Asked.{Answered, Gives, Refuses, Brings, TimesOut}
+use Rattle.core_eval.specs.Matching.{Environment, lookup, bound, text_of, match_each}
+use Rattle.core_eval.specs.Evaluation.{State, name, Got, Yields, Raises, Stops, Setting, then_do, handled, one, node_limit, limited, served, called, caught, caught_values, class_in, raised_again, value_or_error, within, is_true, judged, taken, no_clause, applied_to, evaluate, evaluate_all, choose}
+use Rattle.core_eval.specs.Applications.{limit, room, body_with}
+
+-- an evaluation ends with no more room than this
+abbrev pub Fits : ℕ → Got → Type 0
+Fits r (Yields vs s) = room s ≤ r
+Fits r (Raises class reason s) = room s ≤ r
+Fits r (Stops request) = Unit {0}
+
+-- two evaluations give the same, with no more room than this
+pub record Both (r : ℕ) (g h : Got) : Type 0 where
+  pub same : g ≡ h
+  pub fits : Fits r g
+
+pub alone : (r : ℕ) (g : Got) → Fits r g → Both r g g
+alone r g h = record { same = refl; fits = h }
+
+fits_wider : (q r : ℕ) (g : Got) → q ≤ r → Fits q g → Fits r g
+fits_wider q r (Yields vs s) le h = omega (arith, h)
+fits_wider q r (Raises class reason s) le h = omega (arith, h)
+fits_wider q r (Stops request) le h = tt
+
+pub wider : (q r : ℕ) (g h : Got) → q ≤ r → Both q g h → Both r g h
+wider q r g h le b = record { same = b.same; fits = fits_wider q r g le b.fits }
+
+-- what is chosen by the same test
+pub either : (r : ℕ) (x : Bool) (g h g' h' : Got) → Both r g g' → Both r h h' → Both r (if x then g else h) (if x then g' else h')
+either r true g h g' h' b c = b
+either r false g h g' h' b c = c
+
+-- ---- what goes on behind two evaluations that give the same
+
+module _ (r : ℕ) where
+  -- from every state with no more room than this
+  abbrev Everywhere : (State → Got) → (State → Got) → Type 0
+  Everywhere go go' = (s : State) → room s ≤ r → Both r (go s) (go' s)
+
+  behind : (g : Got) (go go' : List Meaning → State → Got) → Fits r g → ((vs : List Meaning) → Everywhere (go vs) (go' vs)) → Both r (then_do g go) (then_do g go')
+  behind (Yields vs s) go go' h e = e vs s h
+  behind (Raises class reason s) go go' h e = alone r (Raises class reason s) h
+  behind (Stops request) go go' h e = alone r (Stops request) tt
+
+  pub both_then : (g h : Got) (go go' : List Meaning → State → Got) → Both r g h → ((vs : List Meaning) → Everywhere (go vs) (go' vs)) → Both r (then_do g go) (then_do h go')
+  both_then g h go go' b e = subst (λ (k : Got). Both r (then_do g go) (then_do k go')) b.same (behind g go go' b.fits e)
+
+  handled_behind : (g : Got) (go go' : List Meaning → State → Got) (catch catch' : Class → Meaning → State → Got) → Fits r g → ((vs : List Meaning) → Everywhere (go vs) (go' vs)) → ((class : Class) (reason : Meaning) → Everywhere (catch class reason) (catch' class reason)) → Both r (handled g go catch) (handled g go' catch')
+  handled_behind (Yields vs s) go go' catch catch' h e f = e vs s h
+  handled_behind (Raises class reason s) go go' catch catch' h e f = f class reason s h
+  handled_behind (Stops request) go go' catch catch' h e f = alone r (Stops request) tt
+
+  pub both_handled : (g h : Got) (go go' : List Meaning → State → Got) (catch catch' : Class → Meaning → State → Got) → Both r g h → ((vs : List Meaning) → Everywhere (go vs) (go' vs)) → ((class : Class) (reason : Meaning) → Everywhere (catch class reason) (catch' class reason)) → Both r (handled g go catch) (handled h go' catch')
+  both_handled g h go go' catch catch' b e f = subst (λ (k : Got). Both r (handled g go catch) (handled k go' catch')) b.same (handled_behind g go go' catch catch' b.fits e f)
+
+  judged_behind : (g : Got) (holds holds' fails fails' : State → Got) → Fits r g → Everywhere holds holds' → Everywhere fails fails' → Both r (judged g holds fails) (judged g holds' fails')
+  judged_behind (Yields vs s) holds holds' fails fails' h e f = either r (is_true vs) (holds s) (fails s) (holds' s) (fails' s) (e s h) (f s h)
+  judged_behind (Raises class reason s) holds holds' fails fails' h e f = f s h
+  judged_behind (Stops request) holds holds' fails fails' h e f = alone r (Stops request) tt
+
+  pub both_judged : (g h : Got) (holds holds' fails fails' : State → Got) → Both r g h → Everywhere holds holds' → Everywhere fails fails' → Both r (judged g holds fails) (judged h holds' fails')
+  both_judged g h holds holds' fails fails' b e f = subst (λ (k : Got). Both r (judged g holds fails) (judged k holds' fails')) b.same (judged_behind g holds holds' fails fails' b.fits e f)
+
+  pub both_one : (go go' : Meaning → State → Got) → ((v : Meaning) → Everywhere (go v) (go' v)) → (vs : List Meaning) → Everywhere (one go vs) (one go' vs)
+  both_one go go' e [] s le = alone r (one go [] s) le
+  both_one go go' e (v ∷ []) s le = e v s le
+  both_one go go' e (v ∷ w ∷ vs) s le = alone r (one go (v ∷ w ∷ vs) s) le
+
+  pub both_within : (o : Option Environment) (env : Environment) (go go' : Environment → State → Got) → ((inner : Environment) → Everywhere (go inner) (go' inner)) → Everywhere (within o env go) (within o env go')
+  both_within None env go go' e s le = alone r (within None env go s) le
+  both_within (Some bindings) env go go' e s le = e (bindings ++ env) s le
+
+  pub both_taken : (o : Option Environment) (env : Environment) (go go' : Environment → State → Got) (others others' : State → Got) → ((inner : Environment) → Everywhere (go inner) (go' inner)) → Everywhere others others' → Everywhere (taken o env go others) (taken o env go' others')
+  both_taken None env go go' others others' e f s le = f s le
+  both_taken (Some bindings) env go go' others others' e f s le = e (bindings ++ env) s le
+
+  -- ---- what gives the same in every setting
+
+  pub both_limited : (m : Meaning) → Everywhere (limited m) (limited m)
+  both_limited m s le = either r (nat_le (node_count m) node_limit) _ _ _ _ (alone r (Yields (m ∷ []) s) le) (alone r (Raises Error (name (codes "system_limit")) s) le)
+
+  both_no_clause : (vs : List Meaning) → Everywhere (no_clause vs) (no_clause vs)
+  both_no_clause vs s le = either r _ _ _ _ _ (alone r (Raises Error _ s) le) (alone r (Raises Error (name (codes "system_limit")) s) le)
+
+  both_caught : (class : Class) (reason : Meaning) → Everywhere (caught class reason) (caught class reason)
+  both_caught Error reason s le = both_limited (Group (group_of (name (codes "EXIT") ∷ Group (group_of (reason ∷ Empty ∷ [])) ∷ []))) s le
+  both_caught Exit reason s le = both_limited (Group (group_of (name (codes "EXIT") ∷ reason ∷ []))) s le
+  both_caught Throw value s le = alone r (Yields (value ∷ []) s) le
+
+  both_value : (o : Option Meaning) → Everywhere (value_or_error o) (value_or_error o)
+  both_value None s le = alone r (value_or_error None s) le
+  both_value (Some m) s le = alone r (Yields (m ∷ []) s) le
+
+  both_raised_again : (o : Option Class) (reason : Meaning) → Everywhere (raised_again o reason) (raised_again o reason)
+  both_raised_again None reason s le = alone r (raised_again None reason s) le
+  both_raised_again (Some class) reason s le = alone r (Raises class reason s) le
+
+  served_fits : (kind : CallKind) (arguments : List Meaning) (answers : List Answered) → (limit + 1) * length answers ≤ r → Fits r (served kind arguments answers)
+  served_fits kind arguments [] le = tt
+  served_fits kind arguments (Gives value ∷ later) le = omega (arith, le)
+  served_fits kind arguments (Refuses reason ∷ later) le = omega (arith, le)
+  served_fits kind arguments (Brings message ∷ later) le = served_fits kind arguments later (omega (arith, le))
+  served_fits kind arguments (TimesOut ∷ later) le = served_fits kind arguments later (omega (arith, le))
+
+  both_called : (kind : CallKind) (arguments : List Meaning) → Everywhere (called kind arguments) (called kind arguments)
+  both_called kind arguments s le = alone r (called kind arguments s) (served_fits kind arguments s.answers (omega (arith, le)))
+
+-- ---- two ways to apply that agree within some room
+
+module _ (own : List ℕ) (a b : Function → List Meaning → State → Got) (r : ℕ) (agree : (f : Function) (vs : List Meaning) (s : State) → room s ≤ r → Both r (a f vs s) (b f vs s)) where
+  abbrev one_setting : Setting
+  one_setting = record { own = own; apply = a }
+
+  abbrev other_setting : Setting
+  other_setting = record { own = own; apply = b }
+
+  both_applied : (callee : Callee) (vs : List Meaning) → Everywhere r (applied_to one_setting callee vs) (applied_to other_setting callee vs)
+  both_applied (OfWorld kind) vs s le = both_called r kind vs s le
+  both_applied (OfItself kind) vs s le = alone r _ le
+  both_applied (OfExport f) vs s le = agree f vs s le
+  both_applied (OfDefinition named) vs s le = agree named.function vs s le
+  both_applied FailsMatch [] s le = alone r _ le
+  both_applied FailsMatch (reason ∷ []) s le = alone r _ le
+  both_applied FailsMatch (reason ∷ v ∷ vs) s le = alone r _ le
+  both_applied RaisesAgain [] s le = alone r _ le
+  both_applied RaisesAgain (trace ∷ []) s le = alone r _ le
+  both_applied RaisesAgain (trace ∷ reason ∷ []) s le = both_raised_again r (class_in trace) reason s le
+  both_applied RaisesAgain (trace ∷ reason ∷ v ∷ vs) s le = alone r _ le
+
+  mutual
+    both_evaluated : (t : Tree) (env : Environment) → Everywhere r (evaluate one_setting t env) (evaluate other_setting t env)
+    both_evaluated (Number n) env s le = alone r _ le
+    both_evaluated (Character c) env s le = alone r _ le
+    both_evaluated (Text cs) env s le = both_limited r (text_of cs) s le
+    both_evaluated (Name text) env s le = alone r _ le
+    both_evaluated (Mentioned v) env s le = both_value r (lookup v.name env) s le
+    both_evaluated (Grouped ts) env s le = both_then r _ _ _ _ (both_all ts env [] s le) (λ vs. both_limited r (Group (group_of vs)))
+    both_evaluated (Listed ts) env s le = both_then r _ _ _ _ (both_all ts env [] s le) (λ vs. both_limited r (list_onto vs Empty))
+    both_evaluated (Joined ts t) env s le = both_then r _ _ _ _ (both_all ts env [] s le) (λ vs s' le'. both_then r _ _ _ _ (both_evaluated t env s' le') (both_one r _ _ (λ v. both_limited r (list_onto vs v))))
+    both_evaluated (Several ts) env s le = both_all ts env [] s le
+    both_evaluated (Bound variables t body) env s le = both_then r _ _ _ _ (both_evaluated t env s le) (λ vs. both_within r (bound variables vs []) env _ _ (λ inner. both_evaluated body inner))
+    both_evaluated (Followed t u) env s le = both_then r _ _ _ _ (both_evaluated t env s le) (both_one r _ _ (λ v. both_evaluated u env))
+    both_evaluated (Called at callee ts) env s le = both_then r _ _ _ _ (both_all ts env [] s le) (λ vs. both_applied callee vs)
+    both_evaluated (Chosen at t cs) env s le = both_then r _ _ _ _ (both_evaluated t env s le) (λ vs. both_chosen cs vs env)
+    both_evaluated (Tried at t variables body caught_variables handler) env s le =
+        both_handled r _ _ _ _ _ _ (both_evaluated t env s le)
+        (λ vs. both_within r (bound variables vs []) env _ _ (λ inner. both_evaluated body inner))
+        (λ class reason. both_within r (bound caught_variables (caught_values (length caught_variables) class reason) []) env _ _ (λ inner. both_evaluated handler inner))
+    both_evaluated (Caught at t) env s le = both_handled r _ _ Yields Yields caught caught (both_evaluated t env s le) (λ vs s' le'. alone r (Yields vs s') le') (both_caught r)
+
+    both_all : (ts : Trees) (env : Environment) (done : List Meaning) → Everywhere r (evaluate_all one_setting ts env done) (evaluate_all other_setting ts env done)
+    both_all NoMore env done s le = alone r (Yields done s) le
+    both_all (Also t ts) env done s le = both_then r _ _ _ _ (both_evaluated t env s le) (both_one r _ _ (λ v. both_all ts env (done ++ v ∷ [])))
+
+    both_chosen : (cs : Clauses) (values : List Meaning) (env : Environment) → Everywhere r (choose one_setting cs values env) (choose other_setting cs values env)
+    both_chosen NoClause values env s le = both_no_clause r values s le
+    both_chosen (Clause patterns guard body others) values env s le =
+        both_taken r (match_each (patterns_of patterns) values []) env _ _ _ _
+        (λ inner s' le'. both_judged r _ _ _ _ _ _ (both_evaluated guard inner s' le') (both_evaluated body inner) (both_chosen others values env))
+        (both_chosen others values env)
+        s le
+
+  pub both_bodies : (f : Option (List Mention × Tree)) (vs : List Meaning) → Everywhere r (body_with one_setting f vs) (body_with other_setting f vs)
+  both_bodies None vs s le = alone r _ le
+  both_bodies (Some f) vs s le = both_within r (bound f.0 vs []) [] _ _ (λ env. both_evaluated f.1 env) s le
