@@ -1,8 +1,7 @@
 // Printed texts, bad streams, and terms of great length and depth.
 use crate::devices::{EndlessSource, MemorySink, MemorySource};
 use crate::{
-    Atom, Pair, Pid, RefId, Source, Step, Term, Terms, list_onto, write_schedule, write_step,
-    write_term,
+    Atom, Pid, RefId, Source, Step, Term, Terms, list_onto, write_schedule, write_step, write_term,
 };
 use std::alloc::{AllocError, Global};
 use std::process::Abort;
@@ -16,8 +15,8 @@ fn pid(alloc: Global, numbers: &[u64]) -> Result<Pid, AllocError> {
     Ok(Pid(Vec::from_slice(alloc, numbers)?))
 }
 
-fn tuple(parts: Vec<Term>) -> Term {
-    Term::Tuple(Terms(parts))
+fn tuple(alloc: Global, parts: Vec<Term>) -> Result<Term, AllocError> {
+    Term::tuple(alloc, Terms::from_vec(parts))
 }
 
 // Asserts that the term is printed so, in one write or in many.
@@ -82,16 +81,18 @@ fn prints_atoms_with_escapes(rt: HostRuntime) -> Result<(), Fail> {
 #[test]
 fn prints_tuples_and_lists(rt: HostRuntime) -> Result<(), Fail> {
     let alloc = rt.alloc();
-    prints(&rt, alloc, &tuple(Vec::new(alloc)), b"{}")?;
-    let pair = tuple(vec![in alloc; atom(alloc, "a")?, Term::Int(1)]?);
+    prints(&rt, alloc, &tuple(alloc, Vec::new(alloc))?, b"{}")?;
+    let pair = tuple(alloc, vec![in alloc; atom(alloc, "a")?, Term::Int(1)]?)?;
     let row = list_onto(alloc, vec![in alloc; pair]?, Term::Nil)?;
     prints(&rt, alloc, &row, b"[{'a',1}]")?;
     let heads = vec![in alloc; atom(alloc, "a")?, atom(alloc, "b")?]?;
     let improper = list_onto(alloc, heads, atom(alloc, "t")?)?;
     prints(&rt, alloc, &improper, b"['a','b'|'t']")?;
-    let nested = tuple(vec![in alloc; Term::Nil, tuple(vec![in alloc; improper]?), Term::Int(-1)]?);
+    let inner = tuple(alloc, vec![in alloc; improper]?)?;
+    let nested = tuple(alloc, vec![in alloc; Term::Nil, inner, Term::Int(-1)]?)?;
     prints(&rt, alloc, &nested, b"{[],{['a','b'|'t']},-1}")?;
-    let behind_bar = list_onto(alloc, vec![in alloc; Term::Int(1)]?, tuple(Vec::new(alloc)))?;
+    let tail = tuple(alloc, Vec::new(alloc))?;
+    let behind_bar = list_onto(alloc, vec![in alloc; Term::Int(1)]?, tail)?;
     prints(&rt, alloc, &behind_bar, b"[1|{}]")
 }
 
@@ -117,7 +118,7 @@ fn prints_steps_and_schedules(rt: HostRuntime) -> Result<(), Fail> {
 fn breaks_off_where_the_sink_fails(rt: HostRuntime) -> Result<(), Fail> {
     let alloc = rt.alloc();
     let whole = b"[{'a',1}|#P.7]";
-    let pair = tuple(vec![in alloc; atom(alloc, "a")?, Term::Int(1)]?);
+    let pair = tuple(alloc, vec![in alloc; atom(alloc, "a")?, Term::Int(1)]?)?;
     let tail = Term::Ref(RefId {
         pid: pid(alloc, &[])?,
         number: 7,
@@ -180,7 +181,7 @@ fn each_kind(alloc: Global) -> Result<Vec<Term>, AllocError> {
         pid: pid(alloc, &[3])?,
         number: 7,
     };
-    let pair = tuple(vec![in alloc; atom(alloc, "a")?, Term::Int(1)]?);
+    let pair = tuple(alloc, vec![in alloc; atom(alloc, "a")?, Term::Int(1)]?)?;
     let list = list_onto(alloc, vec![in alloc; pair, Term::Nil]?, atom(alloc, "t")?)?;
     let name = atom(alloc, "b")?;
     let process = Term::Pid(pid(alloc, &[2, 1])?);
@@ -189,7 +190,7 @@ fn each_kind(alloc: Global) -> Result<Vec<Term>, AllocError> {
         name,
         Term::Ref(reference),
         process,
-        tuple(Vec::new(alloc)),
+        tuple(alloc, Vec::new(alloc))?,
         Term::Nil,
         list,
     ]?)
@@ -198,9 +199,9 @@ fn each_kind(alloc: Global) -> Result<Vec<Term>, AllocError> {
 #[test]
 fn copies_each_kind_of_term(rt: HostRuntime) -> Result<(), Fail> {
     let alloc = rt.alloc();
-    let parts = Terms(each_kind(alloc)?);
+    let parts = Terms::from_vec(each_kind(alloc)?);
     assert!(rt; parts.copy(alloc)? == parts);
-    let list = list_onto(alloc, each_kind(alloc)?, Term::Tuple(parts))?;
+    let list = list_onto(alloc, each_kind(alloc)?, Term::tuple(alloc, parts)?)?;
     let copied = list.copy(alloc)?;
     assert!(rt; copied == list);
     let text =
@@ -212,9 +213,7 @@ fn copies_each_kind_of_term(rt: HostRuntime) -> Result<(), Fail> {
 fn long_list(alloc: Global, cells: u64) -> Result<Term, AllocError> {
     let mut list = Term::Nil;
     for number in 0..cells {
-        let head = Term::Int((number % 7) as i64);
-        let pair = Pair { head, tail: list };
-        list = Term::Cons(Box::new(alloc, pair)?);
+        list = Term::cell(alloc, Term::Int((number % 7) as i64), list)?;
     }
     Ok(list)
 }
@@ -224,7 +223,7 @@ fn deep_term(alloc: Global, levels: u64) -> Result<Term, AllocError> {
     let mut term = Term::Int(1);
     for level in 0..levels {
         if level % 2 == 0 {
-            term = tuple(vec![in alloc; term]?);
+            term = tuple(alloc, vec![in alloc; term]?)?;
         } else {
             term = list_onto(alloc, vec![in alloc; term]?, Term::Nil)?;
         }

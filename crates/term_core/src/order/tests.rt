@@ -25,22 +25,18 @@ fn reference(alloc: Global, numbers: &[u64], number: u64) -> Result<Term, AllocE
 }
 
 fn integers(alloc: Global, numbers: &[i64]) -> Result<Terms, AllocError> {
-    let mut parts = Vec::new(alloc);
+    let mut parts = Terms::new(alloc);
     for number in numbers {
         parts.push(Term::Int(*number))?;
     }
-    Ok(Terms(parts))
-}
-
-fn cell(alloc: Global, head: Term, tail: Term) -> Result<Term, AllocError> {
-    Ok(Term::Cons(Box::new(alloc, Pair { head, tail })?))
+    Ok(parts)
 }
 
 /// A list of integers, with nil or an integer for its end.
 fn list(alloc: Global, items: &[i64], end: Option<i64>) -> Result<Term, AllocError> {
     let mut term = end.map_or(Term::Nil, |number| Term::Int(number));
     for item in items.iter().rev() {
-        term = cell(alloc, Term::Int(*item), term)?;
+        term = Term::cell(alloc, Term::Int(*item), term)?;
     }
     Ok(term)
 }
@@ -70,7 +66,7 @@ fn push_names(alloc: Global, terms: &mut Vec<Term>) -> Result<(), AllocError> {
 /// Tuples by size and then by their parts, then nil, and then lists by head and then by tail.
 fn push_groups(alloc: Global, terms: &mut Vec<Term>) -> Result<(), AllocError> {
     for numbers in [&[] as &[i64], &[9], &[1, 1], &[1, 2]] {
-        terms.push(Term::Tuple(integers(alloc, numbers)?))?;
+        terms.push(Term::tuple(alloc, integers(alloc, numbers)?)?)?;
     }
     terms.push(Term::Nil)?;
     for (items, end) in [
@@ -81,7 +77,7 @@ fn push_groups(alloc: Global, terms: &mut Vec<Term>) -> Result<(), AllocError> {
     ] {
         terms.push(list(alloc, items, end)?)?;
     }
-    terms.push(cell(alloc, Term::Nil, Term::Nil)?)?;
+    terms.push(Term::cell(alloc, Term::Nil, Term::Nil)?)?;
     Ok(())
 }
 
@@ -135,10 +131,7 @@ fn lists_of_terms_go_item_by_item(rt: HostRuntime) -> Result<(), Fail> {
 fn cells_go_by_head_and_then_by_tail(rt: HostRuntime) -> Result<(), Fail> {
     let mut pairs = Vec::new(rt.alloc());
     for (head, tail) in [(1, 2), (1, 3), (2, 1)] {
-        pairs.push(Pair {
-            head: Term::Int(head),
-            tail: Term::Int(tail),
-        })?;
+        pairs.push(Pair::new(Term::Int(head), Term::Int(tail)))?;
     }
     check_ascending(&rt, &pairs, &pairs);
     Ok(())
@@ -221,9 +214,9 @@ fn schedules_go_by_length_first(rt: HostRuntime) -> Result<(), Fail> {
 
 /// `[last, 0, 0, ..]` from its end on: so many zeros, and then the last.
 fn long_list(alloc: Global, zeros: u32, last: i64) -> Result<Term, AllocError> {
-    let mut list = cell(alloc, Term::Int(last), Term::Nil)?;
+    let mut list = Term::cell(alloc, Term::Int(last), Term::Nil)?;
     for _zero in 0..zeros {
-        list = cell(alloc, Term::Int(0), list)?;
+        list = Term::cell(alloc, Term::Int(0), list)?;
     }
     Ok(list)
 }
@@ -232,7 +225,7 @@ fn long_list(alloc: Global, zeros: u32, last: i64) -> Result<Term, AllocError> {
 fn nested_list(alloc: Global, depth: u32, core: Term) -> Result<Term, AllocError> {
     let mut term = core;
     for _level in 0..depth {
-        term = cell(alloc, term, Term::Nil)?;
+        term = Term::cell(alloc, term, Term::Nil)?;
     }
     Ok(term)
 }
@@ -241,9 +234,9 @@ fn nested_list(alloc: Global, depth: u32, core: Term) -> Result<Term, AllocError
 fn nested_tuple(alloc: Global, depth: u32, core: Term) -> Result<Term, AllocError> {
     let mut term = core;
     for _level in 0..depth {
-        let mut parts = Vec::new(alloc);
+        let mut parts = Terms::new(alloc);
         parts.push(term)?;
-        term = Term::Tuple(Terms(parts));
+        term = Term::tuple(alloc, parts)?;
     }
     Ok(term)
 }
