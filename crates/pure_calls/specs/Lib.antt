@@ -1,0 +1,10 @@
+pub mod Answers
+pub mod Outcomes
+pub mod Arithmetic
+pub mod Comparing
+pub mod Kinds
+pub mod Tuples
+pub mod Lists
+pub mod Walks
+pub mod Raising
+pub mod Calls

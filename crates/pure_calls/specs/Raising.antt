@@ -1,0 +1,21 @@
+-- Calls that raise (Erlang reference manual, module erlang, `error/1`, `error/2`, `exit/1`, `throw/1`).
+use Rattle.std.specs.Prelude.{codes}
+use Rattle.term_core.specs.Meaning.{Meaning}
+use Rattle.pure_calls.specs.declared.outcome.Class.TheVariants as classes
+use Rattle.pure_calls.specs.Answers.{Answer, Fails, error}
+
+-- `error/1`, and `error/2`, whose second argument tells of the arguments of the caller and is not kept
+abbrev pub error_with : Meaning → Answer
+error_with reason = Fails classes.Error reason
+
+-- `exit/1`
+abbrev pub exit_with : Meaning → Answer
+exit_with reason = Fails classes.Exit reason
+
+-- `throw/1`
+abbrev pub throw_of : Meaning → Answer
+throw_of term = Fails classes.Throw term
+
+-- what there is no function for: `get_module_info/1`, `get_module_info/2`, and a call with another number of arguments than it has
+abbrev pub undefined : Answer
+undefined = error (codes "undef")

@@ -1,0 +1,51 @@
+-- Tuples (Erlang reference manual, module erlang, `element/2`, `setelement/3`, `tuple_size/1`, `tuple_to_list/1`). Places count from 1.
+use Rattle.std.specs.Prelude.{ℕ, zero, suc, ℤ, pos, negsuc, nat_lt, slice_get, slice_set, List, length, Option, Some, None, if◌then◌else◌}
+use Rattle.term_core.specs.Meaning.{Meaning, Meanings, Group, Empty, group_of, parts_of}
+use Rattle.term_core.specs.Term.{list_onto}
+use Rattle.pure_calls.specs.Answers.{Answer, Gives, integer_in, whole, wrong_argument}
+
+-- the parts of the tuple that a term is
+abbrev pub tuple_in : Meaning → Option (List Meaning)
+tuple_in (Group parts) = Some (parts_of parts)
+tuple_in m = None
+
+-- what is done with the parts of a tuple, if the term is one
+abbrev pub with_tuple : (List Meaning → Answer) → Option (List Meaning) → Answer
+with_tuple f (Some parts) = f parts
+with_tuple f None = wrong_argument
+
+-- how many parts stand before the one at this place, if there are so many
+abbrev pub before_place : Option ℤ → ℕ → Option ℕ
+before_place (Some (pos (suc n))) size = if nat_lt n size then Some n else None
+before_place index size = None
+
+-- a part, if there is one
+abbrev pub part_or_error : Option Meaning → Answer
+part_or_error (Some part) = Gives part
+part_or_error None = wrong_argument
+
+-- the part behind so many, if there are so many
+abbrev pub part_behind : Option ℕ → List Meaning → Answer
+part_behind (Some n) parts = part_or_error (slice_get parts n)
+part_behind None parts = wrong_argument
+
+-- `element/2`
+abbrev pub element : Meaning → Meaning → Answer
+element index m = with_tuple (λ parts. part_behind (before_place (integer_in index) (length parts)) parts) (tuple_in m)
+
+-- the tuple with another part behind so many, if there are so many
+abbrev pub replaced_behind : Option ℕ → List Meaning → Meaning → Answer
+replaced_behind (Some n) parts value = Gives (Group (group_of (slice_set parts n value)))
+replaced_behind None parts value = wrong_argument
+
+-- `setelement/3`
+abbrev pub with_element : Meaning → Meaning → Meaning → Answer
+with_element index m value = with_tuple (λ parts. replaced_behind (before_place (integer_in index) (length parts)) parts value) (tuple_in m)
+
+-- `tuple_size/1`
+abbrev pub size_of_tuple : Meaning → Answer
+size_of_tuple m = with_tuple (λ parts. whole (pos (length parts))) (tuple_in m)
+
+-- `tuple_to_list/1`
+abbrev pub list_of_tuple : Meaning → Answer
+list_of_tuple m = with_tuple (λ parts. Gives (list_onto parts Empty)) (tuple_in m)

@@ -1,0 +1,14 @@
+// What the calls give that a process answers by itself: from their arguments to a value or an exception.
+#![tactic(auto)]
+
+mod arithmetic;
+pub mod calls;
+mod compare;
+mod kinds;
+mod lists;
+pub mod outcome;
+mod raise;
+mod tuples;
+
+pub use calls::answer;
+pub use outcome::{Class, Outcome};

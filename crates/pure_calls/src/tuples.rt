@@ -1,0 +1,117 @@
+// Tuples (Erlang reference manual, module erlang, `element/2` and its neighbours).
+ghost use Rattle.std.specs.Prelude.{◌≡◌, ◌<◌, IfOk, map, option_map, slice_set, vec_len};
+ghost use Rattle.term_core.specs.Term.{meaning_of};
+ghost use Rattle.pure_calls.specs.Outcomes.{integer_or_refusal, outcome_of};
+ghost use Rattle.pure_calls.specs.Answers.{integer_in, whole};
+ghost use Rattle.pure_calls.specs.Tuples.{before_place, element, list_of_tuple, size_of_tuple, tuple_in, with_element};
+
+use crate::arithmetic::{count, integer};
+use crate::outcome::{Outcome, Refusal, refuse};
+use std::alloc::{AllocError, Global};
+use std::mem;
+use term_core::{Term, Terms, list_onto};
+
+/// The parts of the tuple that a term is.
+#[tactic(auto, using(crate::proofs::Parts::parts_of_group))]
+pub(crate) fn tuple(term: &Term) -> Option<&Terms>
+    ensures { option_map (λ parts. parts.now) result ≡ tuple_in (meaning_of term.now) }
+{
+    match term {
+        Term::Tuple(parts) => {
+            let parts: &Terms = parts;
+            Some(parts)
+        }
+        _ => None,
+    }
+}
+
+/// How many parts stand before the one at this place of a tuple, if it has so many.
+fn before_place(index: &Term, size: usize) -> Option<usize>
+    ensures { result ≡ before_place (integer_in (meaning_of index.now)) size }
+{
+    let place = integer(index)?;
+    if place < 1 {
+        return None;
+    }
+    let before = place as u64 - 1;
+    if before < size as u64 {
+        Some(before as usize)
+    } else {
+        None
+    }
+}
+
+/// Copies of terms, in order.
+pub(crate) fn copies(alloc: Global, terms: &[Term]) -> Result<Vec<Term>, AllocError>
+    ensures { IfOk result (λ copied. map meaning_of copied.items ≡ map meaning_of terms.now) }
+{
+    let mut copied = Vec::with_capacity(alloc, terms.len())?;
+    for term in terms {
+        copied.push(term.copy(alloc)?)?;
+    }
+    Ok(copied)
+}
+
+/// `element` of a place and a tuple.
+pub(crate) fn element(alloc: Global, index: &Term, term: &Term) -> Result<Outcome, AllocError>
+    ensures { IfOk result (λ outcome. outcome_of outcome ≡ element (meaning_of index.now) (meaning_of term.now)) }
+{
+    let Some(parts) = tuple(term) else {
+        return refuse(alloc, Refusal::BadArgument);
+    };
+    let parts = parts.as_slice();
+    match before_place(index, parts.len()) {
+        Some(before) => Ok(Outcome::Value(parts[before].copy(alloc)?)),
+        None => refuse(alloc, Refusal::BadArgument),
+    }
+}
+
+/// Puts a term into the place of another.
+fn replace(terms: &mut Vec<Term>, place: usize, term: Term)
+    requires { place < vec_len terms.old }
+    ensures { terms.new.items ≡ slice_set terms.old.items place term }
+{
+    drop(mem::replace(&mut terms[place], term));
+}
+
+/// `setelement` of a place, a tuple and a value.
+pub(crate) fn with_element(
+    alloc: Global,
+    index: &Term,
+    term: &Term,
+    value: &Term,
+) -> Result<Outcome, AllocError>
+    ensures { IfOk result (λ outcome. outcome_of outcome ≡ with_element (meaning_of index.now) (meaning_of term.now) (meaning_of value.now)) }
+{
+    let Some(parts) = tuple(term) else {
+        return refuse(alloc, Refusal::BadArgument);
+    };
+    let parts = parts.as_slice();
+    let Some(before) = before_place(index, parts.len()) else {
+        return refuse(alloc, Refusal::BadArgument);
+    };
+    let mut replaced = copies(alloc, parts)?;
+    replace(&mut replaced, before, value.copy(alloc)?);
+    Ok(Outcome::Value(Term::tuple(alloc, Terms::from_vec(replaced))?))
+}
+
+/// `tuple_size` of a term.
+pub(crate) fn size_of_tuple(term: &Term) -> Result<i64, Refusal>
+    ensures { integer_or_refusal result ≡ size_of_tuple (meaning_of term.now) }
+{
+    match tuple(term) {
+        Some(parts) => count(parts.len() as u64),
+        None => Err(Refusal::BadArgument),
+    }
+}
+
+/// `tuple_to_list` of a term.
+pub(crate) fn list_of_tuple(alloc: Global, term: &Term) -> Result<Outcome, AllocError>
+    ensures { IfOk result (λ outcome. outcome_of outcome ≡ list_of_tuple (meaning_of term.now)) }
+{
+    let Some(parts) = tuple(term) else {
+        return refuse(alloc, Refusal::BadArgument);
+    };
+    let items = copies(alloc, parts.as_slice())?;
+    Ok(Outcome::Value(list_onto(alloc, items, Term::Nil)?))
+}
