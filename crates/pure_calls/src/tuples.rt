@@ -1,5 +1,6 @@
 // Tuples (Erlang reference manual, module erlang, `element/2` and its neighbours).
-ghost use Rattle.std.specs.Prelude.{◌≡◌, ◌<◌, IfOk, map, option_map, slice_set, vec_len};
+ghost use Rattle.std.specs.Prelude.{◌≡◌, ◌<◌, IfOk, length, map, option_map, slice_set, vec_len};
+ghost use Rattle.term_core.specs.Meaning.{Group, group_of};
 ghost use Rattle.term_core.specs.Term.{meaning_of};
 ghost use Rattle.pure_calls.specs.Outcomes.{integer_or_refusal, outcome_of};
 ghost use Rattle.pure_calls.specs.Answers.{integer_in, whole};
@@ -74,6 +75,17 @@ fn replace(terms: &mut Vec<Term>, place: usize, term: Term)
     drop(mem::replace(&mut terms[place], term));
 }
 
+/// The tuple of these parts with another term in one place.
+#[tactic(auto, using(crate::proofs::ListSteps::map_replaced))]
+fn tuple_with(alloc: Global, parts: &[Term], place: usize, value: &Term) -> Result<Term, AllocError>
+    requires { place < length parts.now }
+    ensures { IfOk result (λ term. meaning_of term ≡ Group (group_of (slice_set (map meaning_of parts.now) place (meaning_of value.now)))) }
+{
+    let mut replaced = copies(alloc, parts)?;
+    replace(&mut replaced, place, value.copy(alloc)?);
+    Term::tuple(alloc, Terms::from_vec(replaced))
+}
+
 /// `setelement` of a place, a tuple and a value.
 pub(crate) fn with_element(
     alloc: Global,
@@ -87,12 +99,10 @@ pub(crate) fn with_element(
         return refuse(alloc, Refusal::BadArgument);
     };
     let parts = parts.as_slice();
-    let Some(before) = before_place(index, parts.len()) else {
-        return refuse(alloc, Refusal::BadArgument);
-    };
-    let mut replaced = copies(alloc, parts)?;
-    replace(&mut replaced, before, value.copy(alloc)?);
-    Ok(Outcome::Value(Term::tuple(alloc, Terms::from_vec(replaced))?))
+    match before_place(index, parts.len()) {
+        Some(place) => Ok(Outcome::Value(tuple_with(alloc, parts, place, value)?)),
+        None => refuse(alloc, Refusal::BadArgument),
+    }
 }
 
 /// `tuple_size` of a term.
