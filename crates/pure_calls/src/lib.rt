@@ -8,6 +8,8 @@ mod kinds;
 mod lists;
 pub mod outcome;
 mod raise;
+#[cfg(test)]
+mod tests;
 mod tuples;
 
 pub use calls::answer;

@@ -1,0 +1,50 @@
+// What the calls answer, row by row, from the rules of the language.
+mod long;
+mod rows;
+mod words;
+
+use core_tree::PURE_CALLS;
+use rows::{COMPARISONS, EACH, KINDS, LISTS, NUMBERS, RAISING, Row, TUPLES};
+use std::alloc::Global;
+use std::process::Abort;
+use std::test::Fail;
+use words::{answered, terms};
+
+fn check(rt: &impl Abort, alloc: Global, rows: &[Row]) -> Result<(), Fail> {
+    for (call, words, want) in rows {
+        let text = answered(alloc, *call, words)?;
+        assert_eq!(rt; text.as_slice(), want.as_bytes(), "{call:?} {want}");
+    }
+    Ok(())
+}
+
+#[test]
+fn each_call_answers(rt: HostRuntime) -> Result<(), Fail> {
+    for (i, (call, words, _)) in EACH.iter().enumerate() {
+        assert_eq!(rt; *call, PURE_CALLS[i]);
+        assert_eq!(rt; terms(rt.alloc(), words)?.len(), call.arity());
+    }
+    check(&rt, rt.alloc(), &EACH)
+}
+
+#[test]
+fn numbers_end_at_64_bits(rt: HostRuntime) -> Result<(), Fail> {
+    check(&rt, rt.alloc(), &NUMBERS)
+}
+
+#[test]
+fn terms_compare_and_booleans_join(rt: HostRuntime) -> Result<(), Fail> {
+    check(&rt, rt.alloc(), &COMPARISONS)?;
+    check(&rt, rt.alloc(), &KINDS)
+}
+
+#[test]
+fn tuples_and_lists_are_taken_apart(rt: HostRuntime) -> Result<(), Fail> {
+    check(&rt, rt.alloc(), &TUPLES)?;
+    check(&rt, rt.alloc(), &LISTS)
+}
+
+#[test]
+fn exceptions_are_raised(rt: HostRuntime) -> Result<(), Fail> {
+    check(&rt, rt.alloc(), &RAISING)
+}
