@@ -8,4 +8,3 @@ pub mod Binding
 pub mod Matches
 pub mod Choosing
 pub mod WorkedRows
-pub mod NotYetLoops

@@ -5,11 +5,14 @@ use Rattle.core_tree.specs.declared.call.CallKind.{CallKind}
 use Rattle.core_tree.specs.Syntax.{patterns_of, Mention, Function, Callee, OfWorld, OfItself, OfExport, OfDefinition, FailsMatch, RaisesAgain, Tree, Trees, Clauses, Number, Character, Text, Name, Mentioned, Grouped, Listed, Joined, Several, Bound, Chosen, Followed, Called, Tried, Caught, NoMore, Also, NoClause, Clause}
 use Rattle.term_core.specs.Meaning.{Meaning, Group, Empty, group_of, node_count}
 use Rattle.term_core.specs.Term.{list_onto}
-use Rattle.core_eval.specs.declared.exception.Class.{Class}
-use Rattle.core_eval.specs.declared.exception.Class.TheVariants.{Error, Exit, Throw}
+use Rattle.pure_calls.specs.declared.outcome.Class.{Class}
+use Rattle.pure_calls.specs.declared.outcome.Class.TheVariants.{Error, Exit, Throw}
 use Rattle.core_eval.specs.Asked.{Answered, Gives, Refuses, Brings, TimesOut}
 use Rattle.core_eval.specs.Matching.{Environment, lookup, bound, text_of, match_each}
-use Rattle.core_eval.specs.Evaluation.{State, name, Got, Yields, Raises, Stops, Setting, then_do, handled, one, node_limit, limited, served, called, caught, caught_values, class_in, raised_again, value_or_error, within, is_true, judged, taken, no_clause, applied_to, evaluate, evaluate_all, choose}
+use Rattle.core_eval.specs.Evaluation.{State, name, Got, Yields, Raises, Stops, Setting, then_do, handled, one, node_limit, limited, served, called, caught, caught_values, told, class_in, raised_again, value_or_error, within, is_true, judged, taken, no_clause, applied_to, evaluate, evaluate_all, choose}
+use Rattle.pure_calls.specs.Answers.{Answer}
+use Rattle.pure_calls.specs.Answers as answers
+use Rattle.pure_calls.specs.Calls.{answer_of}
 use Rattle.core_eval.specs.Applications.{limit, room, body_with}
 
 -- an evaluation ends with no more room than this
@@ -96,6 +99,10 @@ module _ (r : ℕ) where
   both_caught Exit reason s le = both_limited (Group (group_of (name (codes "EXIT") ∷ reason ∷ []))) s le
   both_caught Throw value s le = alone r (Yields (value ∷ []) s) le
 
+  both_told : (answer : Answer) → Everywhere (told answer) (told answer)
+  both_told (answers.Gives value) s le = both_limited value s le
+  both_told (answers.Fails class reason) s le = alone r (Raises class reason s) le
+
   both_value : (o : Option Meaning) → Everywhere (value_or_error o) (value_or_error o)
   both_value None s le = alone r (value_or_error None s) le
   both_value (Some m) s le = alone r (Yields (m ∷ []) s) le
@@ -125,7 +132,7 @@ module _ (own : List ℕ) (a b : Function → List Meaning → State → Got) (r
 
   both_applied : (callee : Callee) (vs : List Meaning) → Everywhere r (applied_to one_setting callee vs) (applied_to other_setting callee vs)
   both_applied (OfWorld kind) vs s le = both_called r kind vs s le
-  both_applied (OfItself kind) vs s le = alone r _ le
+  both_applied (OfItself kind) vs s le = both_told r (answer_of own kind vs) s le
   both_applied (OfExport f) vs s le = agree f vs s le
   both_applied (OfDefinition named) vs s le = agree named.function vs s le
   both_applied FailsMatch [] s le = alone r _ le

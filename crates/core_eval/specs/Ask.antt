@@ -7,8 +7,8 @@ use Rattle.core_tree.specs.Functions.{same_function}
 use Rattle.term_core.specs.Meaning.{Meaning, Group, Empty, group_of}
 use Rattle.term_core.specs.Meaning as terms
 use Rattle.core_eval.specs.Asked.{Asked, Ends, Answered}
-use Rattle.core_eval.specs.declared.exception.Class.{Class}
-use Rattle.core_eval.specs.declared.exception.Class.TheVariants.{Error, Exit, Throw}
+use Rattle.pure_calls.specs.declared.outcome.Class.{Class}
+use Rattle.pure_calls.specs.declared.outcome.Class.TheVariants.{Error, Exit, Throw}
 use Rattle.core_eval.specs.Evaluation.{before, Got, Yields, Raises, Stops}
 use Rattle.core_eval.specs.Applications.{definition, body_with, setting_of}
 

@@ -6,8 +6,11 @@ use Rattle.core_tree.specs.Syntax as syntax
 use Rattle.term_core.specs.Meaning.{Meaning, Meanings, Integer, Group, Empty, NoMore, Also, group_of, node_count}
 use Rattle.term_core.specs.Meaning as terms
 use Rattle.term_core.specs.Term.{list_onto}
-use Rattle.core_eval.specs.declared.exception.Class.{Class}
-use Rattle.core_eval.specs.declared.exception.Class.TheVariants.{Error, Exit, Throw}
+use Rattle.pure_calls.specs.declared.outcome.Class.{Class}
+use Rattle.pure_calls.specs.declared.outcome.Class.TheVariants.{Error, Exit, Throw}
+use Rattle.pure_calls.specs.Answers.{Answer}
+use Rattle.pure_calls.specs.Answers as answers
+use Rattle.pure_calls.specs.Calls.{answer_of}
 use Rattle.core_eval.specs.Asked.{Asked, Asks, Answered, Gives, Refuses, Brings, TimesOut}
 use Rattle.core_eval.specs.Matching.{Environment, lookup, bound, text_of, is_name, match_each}
 
@@ -73,9 +76,14 @@ limited m s = within_limit m (Yields (m ∷ []) s) s
 abbrev pub limited_error : Meaning → State → Got
 limited_error m s = within_limit m (Raises Error m s) s
 
--- what stands in the place of a form that is not evaluated yet; no module with one is run
-abbrev pub not_evaluated : State → Got
-not_evaluated s = error (codes "undef") s
+-- an operation with another number of arguments than it has; no module that was read holds one
+abbrev pub undefined : State → Got
+undefined s = error (codes "undef") s
+
+-- the value of a call that the process answers by itself, within the limit, or the exception that it raises
+abbrev pub told : Answer → State → Got
+told (answers.Gives value) s = limited value s
+told (answers.Fails class reason) s = Raises class reason s
 
 -- a call with the answers that are left: the first that is one to a call is its value or its error; with none left the call is the request
 abbrev pub served : CallKind → List Meaning → List Answered → Got
@@ -181,11 +189,12 @@ module _ (setting : Setting) where
   -- what is applied to arguments; a call that was read has as many of them as it wants
   abbrev pub applied_to : Callee → List Meaning → State → Got
   applied_to (OfWorld kind) arguments s = called kind arguments s
+  applied_to (OfItself kind) arguments s = told (answer_of setting.own kind arguments) s
   applied_to (OfExport function) arguments s = setting.apply function arguments s
   applied_to (OfDefinition named) arguments s = setting.apply named.function arguments s
   applied_to FailsMatch (reason ∷ []) s = Raises Error (match_reason reason) s
   applied_to RaisesAgain (trace ∷ reason ∷ []) s = raised_again (class_in trace) reason s
-  applied_to callee arguments s = not_evaluated s
+  applied_to callee arguments s = undefined s
 
   abbrev mutual
     -- what an expression gives; its parts go from left to right

@@ -1,4 +1,3 @@
-pub mod NotYet
 pub mod Asked
 pub mod Requests
 pub mod Matching

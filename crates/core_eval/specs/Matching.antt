@@ -3,8 +3,9 @@ use Rattle.std.specs.Prelude.{ℕ, ℤ, pos, map, ◌==◌, ◌&&◌, Bool, true
 use Rattle.std.specs.Ordering.{int_eq}
 use Rattle.std.specs.Cmp.Lexicographic.{pointwise}
 use Rattle.core_tree.specs.Syntax.{Mention, Pattern, Patterns, NumberIn, CharacterIn, TextIn, NameIn, VariableIn, GroupIn, ListIn, JoinIn, AliasIn, NoneToMatch, AlsoMatch}
-use Rattle.term_core.specs.Meaning.{Meaning, Integer, Name, Group, Empty, Cell, parts_of}
+use Rattle.term_core.specs.Meaning.{Meaning, Integer, Group, Empty, Cell, parts_of}
 use Rattle.term_core.specs.Term.{list_onto}
+pub use Rattle.pure_calls.specs.Answers.{is_name}
 
 -- the values of variables in scope, innermost first
 abbrev pub Environment : Type 0
@@ -30,11 +31,6 @@ text_of cs = list_onto (map (λ c. Integer (pos c)) cs) Empty
 abbrev pub is_number : ℤ → Meaning → Bool
 is_number n (Integer m) = int_eq m n
 is_number n m = false
-
--- whether a term is the atom of this text
-abbrev pub is_name : List ℕ → Meaning → Bool
-is_name text (Name t) = pointwise ◌==◌ t text
-is_name text m = false
 
 -- whether a term is nil
 abbrev pub is_nil : Meaning → Bool

@@ -5,11 +5,12 @@ use Rattle.core_tree.specs.Tree.{tree_of}
 use Rattle.term_core.specs.Meaning.{Meaning}
 use Rattle.term_core.specs.Term.{meaning_of}
 use Rattle.core_eval.specs.declared.control.Control.{Control}
-use Rattle.core_eval.specs.declared.control.Control.TheVariants.{Evaluate, Return, Values, Raise, Ask, Apply}
+use Rattle.core_eval.specs.declared.control.Control.TheVariants.{Evaluate, Return, Values, Raise, Answer, Ask, Apply}
 use Rattle.core_eval.specs.declared.control.Pause.{Pause}
 use Rattle.core_eval.specs.declared.control.Pause.TheVariants as pauses
 use Rattle.core_eval.specs.Matching.{Environment, bound}
-use Rattle.core_eval.specs.Evaluation.{State, Got, Yields, Raises, Setting, then_do, called, within, evaluate, evaluate_all}
+use Rattle.core_eval.specs.Evaluation.{State, Got, Yields, Raises, Setting, then_do, called, told, within, evaluate, evaluate_all}
+use Rattle.pure_calls.specs.Calls.{answer_of}
 use Rattle.core_eval.specs.Applications.{body_with}
 use Rattle.core_eval.specs.Ask.{request_of}
 use Rattle.core_eval.specs.Requests.{Asked, asked_of}
@@ -21,6 +22,7 @@ going setting holes (Evaluate expression) s = through setting holes (evaluate se
 going setting holes (Return value) s = through setting holes (Yields (meaning_of value ∷ []) s)
 going setting holes (Values values) s = through setting holes (Yields values s)
 going setting holes (Raise class reason) s = through setting holes (Raises class (meaning_of reason) s)
+going setting holes (Answer kind arguments) s = through setting holes (told (answer_of setting.own kind arguments) s)
 going setting holes (Ask kind arguments) s = through setting holes (called kind arguments s)
 going setting holes (Apply function arguments) s = through setting holes (setting.apply function.now arguments s)
 
@@ -43,6 +45,7 @@ load (Evaluate expression) = 4 * size_of (tree_of expression.now)
 load (Return value) = 2
 load (Values values) = 2
 load (Raise class reason) = 0
+load (Answer kind arguments) = 3
 load (Ask kind arguments) = 0
 load (Apply function arguments) = 0
 
@@ -50,7 +53,7 @@ load (Apply function arguments) = 0
 abbrev pub further : Purpose → List Meaning → ℕ
 further ToGroup done = 0
 further ToList done = 0
-further (ToFront t) done = 1 + 4 * size_of t
+further (ToFront t) done = 4 * size_of t
 further (ToCall callee) done = 0
 further ToValues done = 0
 
@@ -97,7 +100,7 @@ gathered setting purpose done later env s = then_do (evaluate_all setting (trees
 
 -- what is on top of the new stack gathers these values in the old one
 abbrev pub GathersOn : List Hole → List Hole → Control → Purpose → List Meaning → List Tree → Type 0
-GathersOn old new next purpose done later = GoesOn old new next (λ setting s. gathered setting purpose done later (scope old) s) (3 + (4 * size_of_list later + further purpose done))
+GathersOn old new next purpose done later = GoesOn old new next (λ setting s. gathered setting purpose done later (scope old) s) (4 + (4 * size_of_list later + further purpose done))
 
 -- what is on top of the new stack is the evaluation of a body in the old one, with these values bound to variables
 abbrev pub EntersWith : List Hole → List Hole → Control → List Mention → List Meaning → Tree → Type 0

@@ -6,7 +6,7 @@ ghost use Rattle.core_eval.specs.Evaluation.{error, limited, limited_error, name
 ghost use Rattle.core_eval.specs.Steps.{Means, load};
 
 use crate::control::Control;
-use crate::exception::Class;
+use pure_calls::Class;
 use std::alloc::{AllocError, Global};
 use term_core::{Atom, Term, Terms};
 

@@ -1,7 +1,7 @@
 // What is on top of the stack of a machine that runs, and where it pauses.
-use crate::exception::Class;
 use crate::request::Request;
-use core_tree::{CallKind, Expr, FunctionName};
+use core_tree::{CallKind, Expr, FunctionName, PureCall};
+use pure_calls::Class;
 use term_core::{Term, Terms};
 
 /// What is to be done next.
@@ -15,6 +15,8 @@ pub(crate) enum Control<'m> {
     Values(Terms),
     /// To raise an exception of this class with this reason.
     Raise(Class, Term),
+    /// To answer this call by itself.
+    Answer(PureCall, Terms),
     /// To ask the world for this call.
     Ask(CallKind, Terms),
     /// To apply this function of the module to arguments.

@@ -9,16 +9,9 @@ ghost use Rattle.core_eval.specs.Steps.{Means, load};
 use crate::build::{atom, error, limited, pair};
 use crate::control::Control;
 use crate::matching::{begins_with, is_atom};
+use pure_calls::Class;
 use std::alloc::{AllocError, Global};
 use term_core::{Term, Terms};
-
-/// The class of an exception.
-#[derive(Clone, Copy)]
-pub(crate) enum Class {
-    Error,
-    Exit,
-    Throw,
-}
 
 /// The atom of a class.
 fn class_name(alloc: Global, class: Class) -> Result<Term, AllocError>

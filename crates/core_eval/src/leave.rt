@@ -13,12 +13,13 @@ use crate::bindings::Bindings;
 use crate::build::{atom, error, limited, limited_error, pair, single, with_last};
 use crate::control::Control;
 use crate::entry::bind;
-use crate::exception::{Class, caught, caught_values};
+use crate::exception::{caught, caught_values};
 use crate::frame::Frame;
 use crate::matching::{is_atom, matches_each};
 use crate::stack::Stack;
 use crate::step::gather;
 use core_tree::{Clause, Try};
+use pure_calls::Class;
 use std::alloc::{AllocError, Global};
 use term_core::{Term, Terms, list_onto};
 

@@ -10,14 +10,13 @@ mod frame;
 mod leave;
 pub mod machine;
 mod matching;
-mod not_yet;
+mod pure;
 pub mod request;
 mod run;
 mod stack;
 mod step;
 
 pub use machine::{Machine, start};
-pub use not_yet::first_not_evaluated;
 pub use request::{Answer, Request};
 
 #[cfg(test)]

@@ -7,11 +7,11 @@ ghost use Rattle.core_eval.specs.Standing.{StandsAt, after, is_spent};
 
 use crate::control::Control;
 use crate::entry::{begin, first_definition};
-use crate::exception::Class;
 use crate::request::{Answer, Request};
 use crate::run::run;
 use crate::stack::Stack;
 use core_tree::Module;
+use pure_calls::Class;
 use std::alloc::{AllocError, Global};
 use std::marker::Model;
 use term_core::{Atom, Pid, Terms};
@@ -65,7 +65,7 @@ pub fn start<'m>(
     let mut stack = Stack::new(alloc);
     let found = first_definition(alloc, program, &pid, module_name, function_name, &arguments)?;
     let control = begin(alloc, &mut stack, found, arguments)?;
-    let request = run(alloc, program, &mut stack, control)?;
+    let request = run(alloc, program, &pid, &mut stack, control)?;
     Ok(Machine {
         program,
         pid,
@@ -106,7 +106,7 @@ impl<'m> Machine<'m> {
             Answer::Message(_) | Answer::TimedOut => return Ok(()),
         };
         self.is_spent = true;
-        self.request = run(alloc, self.program, &mut self.stack, control)?;
+        self.request = run(alloc, self.program, &self.pid, &mut self.stack, control)?;
         self.is_spent = false;
         Ok(())
     }

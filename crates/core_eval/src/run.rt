@@ -1,5 +1,5 @@
 // The run of a machine to its next request.
-ghost use Rattle.std.specs.Prelude.{◌≡◌, ℕ, List, IfOk};
+ghost use Rattle.std.specs.Prelude.{◌≡◌, List, IfOk};
 ghost use Rattle.core_eval.specs.Applications.{setting_of};
 ghost use Rattle.core_eval.specs.Asked.{Answered};
 ghost use Rattle.core_eval.specs.Ask.{request_of};
@@ -13,49 +13,53 @@ use crate::control::{Control, Pause};
 use crate::entry::apply;
 use crate::exception::end_of;
 use crate::leave::{leave, leave_raised, leave_with};
+use crate::pure::answer_call;
 use crate::request::Request;
 use crate::stack::Stack;
 use crate::step::enter;
 use core_tree::Module;
 use std::alloc::{AllocError, Global};
+use term_core::Pid;
 
 /// The most applications between two requests.
 const APPLICATION_LIMIT: usize = 10_000;
 
-/// Runs to the next request or the end, from what is on top of the stack. Where one more application than
+/// Runs the process with this pid to the next request or the end, from what is on top of the stack. Where one more application than
 /// the limit would be made since the start or the last answer, the request is a runaway.
 pub(crate) fn run<'m>(
     alloc: Global,
     program: &'m Module,
+    own: &Pid,
     stack: &mut Stack<'m>,
     control: Control<'m>,
 ) -> Result<Request, AllocError>
-    ensures { IfOk result (λ request. (own : List ℕ) (answers : List Answered) →
-        standing (setting_of program.now own) stack.new (asked_of request) answers
-        ≡ request_of (going (setting_of program.now own) stack.old control.entry (before answers))) }
+    ensures { IfOk result (λ request. (answers : List Answered) →
+        standing (setting_of program.now own.now) stack.new (asked_of request) answers
+        ≡ request_of (going (setting_of program.now own.now) stack.old control.entry (before answers))) }
 {
     let mut control = control;
     'applications: for _made in 0..APPLICATION_LIMIT {
-        control = match advance(alloc, stack, control)? {
+        control = match advance(alloc, own, stack, control)? {
             Pause::Request(request) => return Ok(request),
             Pause::Application(function, arguments) => {
                 apply(alloc, program, stack, function, arguments)?
             }
         };
     }
-    match advance(alloc, stack, control)? {
+    match advance(alloc, own, stack, control)? {
         Pause::Request(request) => Ok(request),
         Pause::Application(_, _) => Ok(Request::Runaway),
     }
 }
 
-/// Runs to the next application, request or end, from what is on top of the stack.
+/// Runs the process with this pid to the next application, request or end, from what is on top of the stack.
 fn advance<'m>(
     alloc: Global,
+    own: &Pid,
     stack: &mut Stack<'m>,
     control: Control<'m>,
 ) -> Result<Pause<'m>, AllocError>
-    ensures { IfOk result (λ pause. (setting : Setting) (s : State) →
+    ensures { IfOk result (λ pause. (setting : Setting) → setting.own ≡ own.now → (s : State) →
         paused setting stack.new pause s ≡ request_of (going setting stack.old control.entry s)) }
 {
     let mut control = control;
@@ -76,6 +80,7 @@ fn advance<'m>(
                 Some(frame) => leave_raised(alloc, stack, frame, class, reason)?,
                 None => return Ok(Pause::Request(Request::End(end_of(alloc, class, reason)?))),
             },
+            Control::Answer(kind, arguments) => answer_call(alloc, own, kind, arguments)?,
             Control::Ask(kind, arguments) => {
                 return Ok(Pause::Request(Request::Call(kind, arguments)));
             }

@@ -10,10 +10,11 @@ ghost use Rattle.core_eval.specs.Steps.{GoesOn, Means, MeansIn, Enters, GathersO
 
 use crate::build::{error, limited};
 use crate::control::Control;
-use crate::exception::{Class, match_reason, raise_again};
+use crate::exception::{match_reason, raise_again};
 use crate::frame::{Frame, Purpose};
 use crate::stack::Stack;
 use core_tree::{Call, Callee, Case, Catch, Do, Expr, Let, Onto, Try, Variable};
+use pure_calls::Class;
 use std::alloc::{AllocError, Global};
 use term_core::{Term, Terms, list_onto};
 
@@ -210,16 +211,15 @@ fn complete<'m>(
 /// What is called, applied to its arguments.
 fn apply<'m>(alloc: Global, callee: &'m Callee, arguments: Terms) -> Result<Control<'m>, AllocError>
     ensures same { IfOk result (λ next. MeansIn next (λ setting s. applied_to setting (callee_of callee.now) arguments s)) }
-    ensures less { IfOk result (λ next. load next ≤ 2) }
+    ensures less { IfOk result (λ next. load next ≤ 3) }
 {
     match callee {
         Callee::World(kind) => Ok(Control::Ask(*kind, arguments)),
+        Callee::Pure(kind) => Ok(Control::Answer(*kind, arguments)),
         Callee::MatchFail => fail_match(alloc, arguments),
         Callee::Raise => raise(alloc, arguments),
         Callee::Exported(function) => Ok(Control::Apply(function, arguments)),
         Callee::Defined(named) => Ok(Control::Apply(&named.function, arguments)),
-        // No module with one of these is run yet.
-        Callee::Pure(_) => error(alloc, "undef"),
     }
 }
 

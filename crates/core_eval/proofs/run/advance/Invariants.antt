@@ -5,7 +5,7 @@ use Rattle.core_eval.proofs.run.advance.Given as goal
 
 -- what is on top of the stack means what it meant at first
 abbrev pub invariant-loop-control : goal.invariant-loop-control
-invariant-loop-control l = (setting : Setting) (s : State) → going setting l.stack l.control s ≡ going setting l.fn.stack l.fn.control s
+invariant-loop-control l = (setting : Setting) → setting.own ≡ l.own → (s : State) → going setting l.stack l.control s ≡ going setting l.fn.stack l.fn.control s
 
 abbrev pub decreases-loop-control : goal.decreases-loop-control
 decreases-loop-control l = load l.control + work l.stack

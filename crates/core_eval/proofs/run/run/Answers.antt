@@ -1,4 +1,4 @@
-use Rattle.std.proofs.Common.{◌≡◌, ◌∙◌, ap, sym, arith}
+use Rattle.std.proofs.Common.{◌≡◌, ◌∙◌, refl, ap, sym, arith}
 use Rattle.core_eval.specs.Applications.{setting_of}
 use Rattle.core_eval.specs.Asked.{Asked}
 use Rattle.core_eval.specs.Evaluation.{Setting, State}
@@ -14,17 +14,17 @@ at_pause : (setting : Setting) (holes : List Hole) (p q : Pause) (s : State) (as
 at_pause setting holes p q s asked is e = sym (ap (λ (r : Pause). paused setting holes r s) is) ∙ e
 
 pub applications-preserved : goal.applications-preserved
-applications-preserved c = λ own answers.
-    let setting : Setting = setting_of c.args.program.now own in
+applications-preserved c = λ answers.
+    let setting : Setting = setting_of c.args.program.now c.args.own.now in
     let s : State = record { answers = answers; made = c.applications._made } in
-    asks_in_body c.args.program.now own c.in-Application.function.now c.in-Application.arguments s
+    asks_in_body c.args.program.now c.args.own.now c.in-Application.function.now c.in-Application.arguments s
     c.advance.new.stack c.apply.new.stack c.in_ok-control-in-Application.control _ (omega (arith, c.applications-test.true)) c.in_ok-control-in-Application.ensures.same
-    (at_pause setting c.advance.new.stack _ _ s _ c.in-Application.is (c.in_ok-request.ensures setting s ∙ c.applications.invariant own answers))
+    (at_pause setting c.advance.new.stack _ _ s _ c.in-Application.is (c.in_ok-request.ensures setting refl s ∙ c.applications.invariant answers))
 
 pub returns : goal.returns
-returns c = λ own answers.
-    let setting : Setting = setting_of c.args.program.now own in
+returns c = λ answers.
+    let setting : Setting = setting_of c.args.program.now c.args.own.now in
     let s : State = record { answers = answers; made = c.applications._made } in
-    asks_to_run_away c.args.program.now own c.in-Application-2.field-0.now c.in-Application-2.field-1 s
+    asks_to_run_away c.args.program.now c.args.own.now c.in-Application-2.field-0.now c.in-Application-2.field-1 s
     c.advance-2.new.stack _ (omega (arith, c.applications-test.false))
-    (at_pause setting c.advance-2.new.stack _ _ s _ c.in-Application-2.is (c.in_ok-request-2.ensures setting s ∙ c.applications.invariant own answers))
+    (at_pause setting c.advance-2.new.stack _ _ s _ c.in-Application-2.is (c.in_ok-request-2.ensures setting refl s ∙ c.applications.invariant answers))

@@ -8,4 +8,4 @@ use Rattle.core_eval.proofs.run.run.Given as goal
 
 -- what is on top of the stack asks, after so many applications, what it asked at first
 abbrev pub invariant-applications : goal.invariant-applications
-invariant-applications l = (own : List ℕ) (answers : List Answered) → request_of (going (setting_of l.program own) l.stack l.control (record { answers = answers; made = l._made })) ≡ request_of (going (setting_of l.program own) l.fn.stack l.fn.control (before answers))
+invariant-applications l = (answers : List Answered) → request_of (going (setting_of l.program l.own) l.stack l.control (record { answers = answers; made = l._made })) ≡ request_of (going (setting_of l.program l.own) l.fn.stack l.fn.control (before answers))

@@ -1,0 +1,29 @@
+// The calls that a process answers by itself.
+ghost use Rattle.std.specs.Prelude.{◌≡◌, ◌≤◌, IfOk};
+ghost use Rattle.pure_calls.specs.Calls.{answer_of};
+ghost use Rattle.core_eval.specs.Evaluation.{told};
+ghost use Rattle.core_eval.specs.Steps.{Means, load};
+
+use crate::build::limited;
+use crate::control::Control;
+use core_tree::PureCall;
+use pure_calls::{Outcome, answer};
+use std::alloc::{AllocError, Global};
+use term_core::{Pid, Terms};
+
+/// The value of a call of the process with this pid, or the error `'system_limit'` in its place where it has
+/// too many nodes, or the exception that the call raises.
+pub(crate) fn answer_call<'m>(
+    alloc: Global,
+    own: &Pid,
+    kind: PureCall,
+    arguments: Terms,
+) -> Result<Control<'m>, AllocError>
+    ensures same { IfOk result (λ next. Means next (told (answer_of own.now kind arguments))) }
+    ensures less { IfOk result (λ next. load next ≤ 2) }
+{
+    match answer(alloc, own, kind, arguments)? {
+        Outcome::Value(value) => limited(alloc, value),
+        Outcome::Raised(class, reason) => Ok(Control::Raise(class, reason)),
+    }
+}
