@@ -13,7 +13,8 @@ use Rattle.core_tree.specs.Calls.{Signature, signature, calls, number_of_call, c
 use Rattle.core_tree.specs.PureCalls.{pure_signature, pure_calls, number_of_pure, pure_of_number-number_of_pure, pure_call_with}
 use Rattle.core_tree.specs.Syntax.{Callee, OfWorld, OfItself, OfExport, FailsMatch, RaisesAgain}
 use Rattle.core_reader.specs.Grammar.{IsRead, IsUnlisted, Calls, calls_world, calls_itself, calls_export, Operates, fails_match, raises_again}
-use Rattle.core_reader.specs.ReadingForms.{same_bytes, is_read, export_called, unlisted_called, callee_by, callee_named, operation_named}
+use Rattle.core_scopes.specs.Names.{same_bytes}
+use Rattle.core_reader.specs.ReadingForms.{is_read, export_called, unlisted_called, callee_by, callee_named, operation_named}
 
 -- ---- the first that passes a test
 

@@ -10,7 +10,8 @@ use Rattle.core_tree.specs.Syntax.{Callee, Pattern, Tree, Name, Called, Listed, 
 use Rattle.core_reader.specs.Grammar.{atom, BareName, FunctionName, BareAtom, is_the_atom, AtomIn, Variables, CaughtVariables, HasNoSlash, IsNoSlash}
 use Rattle.core_reader.specs.Depth.{BeginsExpression, Front, Nowhere, PartOf, PastMark, PastWord, Part, Past, InItems, InCommas, InList, DeepName, DeepAtom, DeepVariables, DeepCaught}
 use Rattle.core_reader.specs.declared.parser.Unserved.{Unserved}
-use Rattle.core_reader.specs.Reading.{State, Read, ◌>>=◌, with_pieces, is_mark, is_word, after_mark, is_foreign, refusal, mark_at, atom_in, named_by, atom_at, closed_at, brackets_at, exactly_at, variables_at, caught_at}
+use Rattle.core_scopes.specs.Outcomes.{◌>>=◌}
+use Rattle.core_reader.specs.Reading.{State, Read, with_pieces, is_mark, is_word, after_mark, is_foreign, refusal, mark_at, atom_in, named_by, atom_at, closed_at, brackets_at, exactly_at, variables_at, caught_at}
 use Rattle.core_reader.specs.ReadingForms.{is_function, begins_expression, deep_expression_of, expression_fault_of, deep_expression, expression_fault, callee_fault_of, callee_fault, bare_callee_at, callee_at, applied_fault_of, applied_fault, applied_atom_at, behind_applied_by, bare_applied_at, applied_at, refuse, judged, name_by, tuple_at, list_at, values_at, let_at, do_at, apply_at, call_at, primop_at, try_at, catch_at, behind_patterns_at}
 use Rattle.core_reader.proofs.Steps.{atom_steps, Sound}
 use Rattle.core_reader.proofs.SoundNames.{at_front, variables_sound, caught_sound}

@@ -15,7 +15,8 @@ use Rattle.core_tree.specs.Calls.{Signature}
 use Rattle.core_reader.specs.Arguments.{arguments}
 use Rattle.core_reader.specs.UnservedCalls.{within, IsOwn, LacksName, IsNoCall, lacks_module, lacks_function, calls_nothing}
 use Rattle.core_reader.specs.Places.{IsOne, Opens}
-use Rattle.core_reader.specs.Reading.{State, Read, ◌>>=◌, with_pieces, is_mark, is_word, after_mark, after_word, refusal, is_foreign, mark_at, word_at, taken_by, taken, atom_in, atom_at, named_by, bare_name_at, closed_at, brackets_at, exactly_at, rows_at, begins_constant, deep_constant_of, deep_constant, note_at, in_note_at, constant_tuple_at, constant_list_at, constant_by, constant_form_by, constant_form_at, constant_at, noted_last, noted_by, noted_at, function_name_at, bare_variable_at, variable_at, bare_variables_by, bare_variables_at, variables_at, third_by, bare_caught_at, caught_at, begins_pattern, deep_pattern_of, deep_pattern, pattern_list, pattern_tuple_at, pattern_list_at, pattern_by, pattern_form_by, pattern_form_at, alias_by, alias_at, pattern_at}
+use Rattle.core_scopes.specs.Outcomes.{◌>>=◌}
+use Rattle.core_reader.specs.Reading.{State, Read, with_pieces, is_mark, is_word, after_mark, after_word, refusal, is_foreign, mark_at, word_at, taken_by, taken, atom_in, atom_at, named_by, bare_name_at, closed_at, brackets_at, exactly_at, rows_at, begins_constant, deep_constant_of, deep_constant, note_at, in_note_at, constant_tuple_at, constant_list_at, constant_by, constant_form_by, constant_form_at, constant_at, noted_last, noted_by, noted_at, function_name_at, bare_variable_at, variable_at, bare_variables_by, bare_variables_at, variables_at, third_by, bare_caught_at, caught_at, begins_pattern, deep_pattern_of, deep_pattern, pattern_list, pattern_tuple_at, pattern_list_at, pattern_by, pattern_form_by, pattern_form_at, alias_by, alias_at, pattern_at}
 use Rattle.core_reader.specs.ReadingForms.{is_function, begins_expression, deep_expression_of, expression_fault_of, deep_expression, expression_fault, callee_fault_of, callee_fault, bare_callee_at, callee_at, applied_fault_of, applied_fault, applied_atom_at, behind_applied_by, bare_applied_at, applied_at, callee_named, operation_named, earlier, judged, tree_list, name_by, Start, OnePattern, ManyPatterns, WholeClause, tuple_at, list_at, values_at, let_at, do_at, apply_at, call_at, primop_at, try_at, catch_at, behind_patterns_at, clause_of, start_by, started, inside_start_at, aliased, noted_start_at, bare_start_by, bare_start_at, start_last, start_next, clause_at, case_at, form_by, form_of, form_at, expression_at, start_at}
 use Rattle.core_reader.proofs.Steps.{after_mark_found, mark_steps}
 use Rattle.core_reader.proofs.CallsByName.{signed, callee_found, callee_again, operation_found}

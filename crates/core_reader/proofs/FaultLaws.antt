@@ -5,9 +5,9 @@ use Rattle.core_tokens.specs.declared.fault.ReadFault.{ReadFault}
 use Rattle.core_tokens.specs.declared.fault.ReadFault.TheVariants as fault
 use Rattle.core_tokens.specs.Piece.{Piece}
 use Rattle.core_tree.specs.Syntax.{ModuleTree}
-use Rattle.core_reader.specs.Reading.{Gives, ◌>>=◌}
+use Rattle.core_scopes.specs.Outcomes.{Gives, ◌>>=◌}
 use Rattle.core_reader.specs.ReadingModules.{module_at}
-use Rattle.core_reader.specs.ScopeChecks.{check_module}
+use Rattle.core_scopes.specs.ScopeChecks.{check_module}
 use Rattle.core_reader.specs.Grammar.{Spells}
 use Rattle.core_reader.specs.Whole.{start, whole_at}
 use Rattle.core_reader.specs.Places.{IsFaultOf}
@@ -16,7 +16,7 @@ use Rattle.core_reader.proofs.FaultSteps.{IsGrammarFault, Good, Fine}
 use Rattle.core_reader.proofs.FaultModules.{ModulePlaced, module_fine}
 use Rattle.core_reader.proofs.LastEnd.{module_ends}
 use Rattle.core_reader.proofs.DeepModules.{module_falls}
-use Rattle.core_reader.proofs.ScopeFaultLaws.{Says, module_says}
+use Rattle.core_reader.proofs.ScopePlaces.{Says, module_says}
 
 abbrev no_module : ReadFault → Result (ModuleTree × ℕ) ReadFault
 no_module f = Err f

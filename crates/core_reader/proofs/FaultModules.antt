@@ -1,5 +1,5 @@
 -- What each fault of the grammar says: definitions and modules.
-use Rattle.std.proofs.Common.{◌≡◌, ℕ, zero, suc, true, List, [], ◌∷◌, ◌++◌, Option, Some, None, Result, Ok, Err, refl, sym, ap, ◌∙◌, subst}
+use Rattle.std.proofs.Common.{◌≡◌, ℕ, zero, suc, true, List, [], ◌∷◌, ◌++◌, Option, Some, None, Result, Ok, refl, sym, ap, ◌∙◌, subst}
 use Rattle.std.specs.Prelude.{IfSome}
 use Rattle.core_tokens.specs.declared.fault.ReadFault.{ReadFault}
 use Rattle.core_tokens.specs.declared.token.Mark.TheVariants as m
@@ -9,7 +9,8 @@ use Rattle.core_tree.specs.Syntax.{Mention, Tree, NamedAt, AttributeTree, Defini
 use Rattle.core_reader.specs.declared.parser.Unserved.{Unserved}
 use Rattle.core_reader.specs.Grammar.{word, atom, level_limit}
 use Rattle.core_reader.specs.UnservedCalls.{within, IsOwn}
-use Rattle.core_reader.specs.Reading.{State, Read, ◌>>=◌, with_pieces, after_mark, place_of, mark_at, word_at, atom_at, bare_name_at, closed_at, exactly_at, rows_at, constant_at, noted_at, function_name_at, variable_at}
+use Rattle.core_scopes.specs.Outcomes.{◌>>=◌}
+use Rattle.core_reader.specs.Reading.{State, Read, with_pieces, after_mark, place_of, mark_at, word_at, atom_at, bare_name_at, closed_at, exactly_at, rows_at, constant_at, noted_at, function_name_at, variable_at}
 use Rattle.core_reader.specs.ReadingForms.{expression_at}
 use Rattle.core_reader.specs.ReadingModules.{attribute_at, bare_fun_at, fun_at, behind_name_at, Opening, TheName, WholeDefinition, opening_by, opened, inside_opening_at, bare_opening_at, opening_last, opening_next, opening_at, definition_of_opening, definition_at, front_at, bare_module_at, ended, module_at}
 use Rattle.core_reader.proofs.Steps.{ok_is, bind_ok, after_mark_found, word_steps, atom_steps}
@@ -175,7 +176,7 @@ module _ (all : List Piece) (end : ℕ) where
       let made : ModuleTree = record { name = f.0.0.0; exports = f.0.0.1; attributes = f.0.0.2; definitions = d.0.0 } in
       let same : ((made, place_of d.0.1.stop d.0.1.pieces), a.0) ≡ (x, t) = ok_is _ _ a.2 in
       let last : d.0.1.pieces ≡ word x.1 k.End ∷ t.pieces =
-          step.pieces ∙ ap (λ (at : ℕ). word at k.End ∷ a.0.pieces) here ∙ ap (λ (y : (ModuleTree × ℕ) × State). word y.0.1 k.End ∷ y.1.pieces) same in
+      step.pieces ∙ ap (λ (at : ℕ). word at k.End ∷ a.0.pieces) here ∙ ap (λ (y : (ModuleTree × ℕ) × State). word y.0.1 k.End ∷ y.1.pieces) same in
       (gd.1.inside.0, gd.1.inside.1 ∙ ap (λ (qs : List Piece). gd.1.inside.0 ++ qs) last)
 
   ended_fine : (ps : List Piece) (o : Option Unserved) (x : ModuleTree × ℕ) (s : State) → Good' s → IfSome o (IsUnservedAt all end) → ModulePlaced x → Fine' (ended ps o x s) ModulePlaced

@@ -14,7 +14,8 @@ use Rattle.core_reader.specs.declared.parser.Unserved.TheVariants as unserved
 use Rattle.core_reader.specs.Grammar.{word}
 use Rattle.core_reader.specs.UnservedCalls.{UnservedCallAt}
 use Rattle.core_reader.specs.Places.{IsOne, IsAt, IsPlace, OpensAt}
-use Rattle.core_reader.specs.Reading.{State, Read, ◌>>=◌, with_pieces, is_mark, is_word, after_mark, after_word, fault_of_unserved, refusal, is_foreign, fault_of, fault, place_of, too_deep, passed, mark_at, word_at, taken_by, taken, atom_in, atom_at, named_by, placed_atom_at, arity_in, arity_at, mention_by, bare_variable_at, behind_atom_at, bare_name_at, comma_at, more_at, commas_at, items_at, closed_by, closed_at, tail_at, brackets_by, brackets_at, item_of, exactly_at, row_by, row_at, rows_at}
+use Rattle.core_scopes.specs.Outcomes.{◌>>=◌}
+use Rattle.core_reader.specs.Reading.{State, Read, with_pieces, is_mark, is_word, after_mark, after_word, fault_of_unserved, refusal, is_foreign, fault_of, fault, place_of, too_deep, passed, mark_at, word_at, taken_by, taken, atom_in, atom_at, named_by, placed_atom_at, arity_in, arity_at, mention_by, bare_variable_at, behind_atom_at, bare_name_at, comma_at, more_at, commas_at, items_at, closed_by, closed_at, tail_at, brackets_by, brackets_at, item_of, exactly_at, row_by, row_at, rows_at}
 
 pub piece_at : (ps : List Piece) (p : Piece) → IsOne ps p → IsAt ps p.at
 piece_at [] p h = absurd h

@@ -9,7 +9,7 @@ use Rattle.core_tree.specs.Syntax.{Constant, ModuleTree}
 use Rattle.core_reader.specs.declared.parser.Unserved.{Unserved}
 use Rattle.core_reader.specs.Grammar.{word, mark, Commas, spells_one, spells_next, Enclosed, spells_none, spells_some, Note, is_note, InNote, in_note, stands_bare, stands_noted, Noted, ConstantForm, is_integer, is_character, is_text, is_atom, is_tuple, is_list, is_join, is_noted, ConstantIn, level_limit}
 use Rattle.core_reader.specs.Places.{IsOne, LacksEnd, IsLastEnd}
-use Rattle.core_reader.specs.Reading.{State, noted_at}
+use Rattle.core_reader.specs.Reading.{State}
 use Rattle.core_reader.specs.ReadingModules.{bare_module_at, module_at}
 use Rattle.core_reader.proofs.Steps.{bind_ok, Sound}
 use Rattle.core_reader.proofs.SoundNames.{noted_sound}

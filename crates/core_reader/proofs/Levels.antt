@@ -5,7 +5,8 @@ use Rattle.core_tokens.specs.declared.fault.ReadFault.TheVariants.{Memory}
 use Rattle.core_tokens.specs.declared.token.Mark.TheVariants as m
 use Rattle.core_tokens.specs.Piece.{Piece}
 use Rattle.core_tree.specs.Syntax.{Pattern}
-use Rattle.core_reader.specs.Reading.{◌>>=◌, State, Read, with_pieces, after_mark, too_deep, in_note_at, noted_at, constant_at, constant_form_at, deep_constant, pattern_at, pattern_form_at, alias_at, deep_pattern}
+use Rattle.core_scopes.specs.Outcomes.{◌>>=◌}
+use Rattle.core_reader.specs.Reading.{State, Read, with_pieces, after_mark, too_deep, in_note_at, noted_at, constant_at, constant_form_at, deep_constant, pattern_at, pattern_form_at, alias_at, deep_pattern}
 
 pub constant_zero : (n : ℕ) (s : State) → n ≡ 0 → constant_at n s ≡ Err (deep_constant s)
 unfolding constant_at

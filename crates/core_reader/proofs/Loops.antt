@@ -8,7 +8,8 @@ use Rattle.core_tokens.specs.declared.token.Mark.TheVariants as m
 use Rattle.core_tokens.specs.declared.token.Keyword.TheVariants as k
 use Rattle.core_tokens.specs.declared.token.Token.{Token}
 use Rattle.core_tokens.specs.Piece.{pieces}
-use Rattle.core_reader.specs.Reading.{State, Read, ◌>>=◌, with_pieces, after_mark, after_word, fault, commas_at, items_at, comma_at, exactly_at, row_at, rows_at}
+use Rattle.core_scopes.specs.Outcomes.{◌>>=◌}
+use Rattle.core_reader.specs.Reading.{State, Read, with_pieces, after_mark, after_word, fault, commas_at, items_at, comma_at, exactly_at, row_at, rows_at}
 use Rattle.core_reader.specs.Parsing.{Skips}
 
 -- what was read before, and what is still read

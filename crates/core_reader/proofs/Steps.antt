@@ -12,7 +12,8 @@ use Rattle.core_tokens.specs.Piece.{Piece, Shape, A_word, A_mark, An_atom, A_var
 use Rattle.core_tree.specs.Syntax.{Mention, NamedAt}
 use Rattle.core_reader.specs.declared.parser.Unserved.{Unserved}
 use Rattle.core_reader.specs.Grammar.{mark, word, atom, variable, integer, BareName, names_function, BareVariable, names_variable}
-use Rattle.core_reader.specs.Reading.{State, Read, ◌>>=◌, with_pieces, mark_number, word_number, is_mark, is_word, after_mark, after_word, fault, passed, mark_at, word_at, taken_by, taken, atom_in, atom_at, named_by, placed_atom_at, arity_by, arity_in, arity_at, mention_by, bare_variable_at, behind_atom_at, bare_name_at}
+use Rattle.core_scopes.specs.Outcomes.{◌>>=◌}
+use Rattle.core_reader.specs.Reading.{State, Read, with_pieces, mark_number, word_number, is_mark, is_word, after_mark, after_word, fault, passed, mark_at, word_at, taken_by, taken, atom_in, atom_at, named_by, placed_atom_at, arity_by, arity_in, arity_at, mention_by, bare_variable_at, behind_atom_at, bare_name_at}
 
 abbrev pub done : {A : Type 0} → A → Result A ReadFault
 done x = Ok x

@@ -1,26 +1,24 @@
 -- What is read is spelt and lawful.
-use Rattle.std.proofs.Common.{◌≡◌, ◌≢◌, ℕ, List, Result, Ok, Err, refl, sym, subst, ◌∙◌}
+use Rattle.std.proofs.Common.{◌≡◌, ℕ, List, Result, Ok, Err, sym, subst, ◌∙◌}
 use Rattle.std.specs.Prelude.{IfOk}
 use Rattle.core_tokens.specs.declared.fault.ReadFault.{ReadFault}
-use Rattle.core_tokens.specs.declared.fault.ReadFault.TheVariants.{Memory}
 use Rattle.core_tokens.specs.Piece.{Piece}
 use Rattle.core_tree.specs.Syntax.{ModuleTree}
 use Rattle.core_reader.specs.Grammar.{Spells}
-use Rattle.core_reader.specs.Scopes.{IsLawful}
-use Rattle.core_reader.specs.Reading.{State, Gives}
+use Rattle.core_scopes.specs.Scopes.{IsLawful}
+use Rattle.core_scopes.specs.Outcomes.{Gives}
+use Rattle.core_reader.specs.Reading.{State}
 use Rattle.core_reader.specs.ReadingModules.{module_at}
-use Rattle.core_reader.specs.ScopeChecks.{check_module}
+use Rattle.core_scopes.specs.ScopeChecks.{check_module}
 use Rattle.core_reader.specs.Whole.{start, whole_at, IsReadAs}
+use Rattle.core_scopes.proofs.ScopeLaws.{module_lawful, lawful_module}
+use Rattle.core_scopes.proofs.ClosedModules.{only_memory}
 use Rattle.core_reader.proofs.Steps.{bind_ok}
 use Rattle.core_reader.proofs.SoundModules.{module_sound}
 use Rattle.core_reader.proofs.CompleteModules.{module_complete}
-use Rattle.core_reader.proofs.ScopeLaws.{module_lawful, lawful_module}
 
 abbrev read_is : ModuleTree → Result ModuleTree ReadFault
 read_is m = Ok m
-
-abbrev fails_with : ReadFault → Result ModuleTree ReadFault
-fails_with e = Err e
 
 whole_sound : (s : State) (m : ModuleTree) → whole_at s ≡ Ok m → Spells s.pieces m × IsLawful m
 unfolding whole_at
@@ -43,13 +41,6 @@ unfolding whole_at
 whole_complete length ps m h lawful =
     let a = module_complete length ps m h in
     rw a.1 (lawful_module m a.0 lawful)
-
-only_memory : (e : ReadFault) (m : ModuleTree) → (e ≢ Memory → read_is m ≡ fails_with e) → e ≡ Memory
-only_memory Memory m h = refl
-only_memory e m h = absurd (apart m e (h (λ same. absurd cc)))
-  where
-    apart : (x : ModuleTree) (f : ReadFault) → read_is x ≡ fails_with f → ⊥
-    apart x f same = absurd cc
 
 pub is_only : (length : ℕ) (ps : List Piece) (r : Result ModuleTree ReadFault) → Gives (λ m. m) r (whole_at (start length ps)) → (m : ModuleTree) → Spells ps m → IsLawful m → IsReadAs m r
 is_only length ps (Ok x) given m h lawful = let same : read_is x ≡ read_is m = sym given ∙ whole_complete length ps m h lawful in cc

@@ -6,7 +6,7 @@ use Rattle.core_tokens.specs.declared.fault.ReadFault.{ReadFault}
 use Rattle.core_tokens.specs.declared.fault.ReadFault.TheVariants as fault
 use Rattle.core_tokens.specs.Piece.{Piece}
 use Rattle.core_tree.specs.Syntax.{ModuleTree}
-use Rattle.core_reader.specs.Scopes.{IsLawful}
+use Rattle.core_scopes.specs.Scopes.{IsLawful}
 use Rattle.core_reader.specs.Whole.{IsReadAs}
 use Rattle.core_tokens.specs.Tokens.{Spelt, none, blank, comment, token, AreTokens, IsTokenFault}
 use Rattle.core_tokens.specs.declared.token.Keyword.TheVariants as k

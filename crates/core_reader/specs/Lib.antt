@@ -1,13 +1,9 @@
 pub mod Grammar
-pub mod Scopes
-pub mod ScopeFaults
 pub mod Reading
 pub mod ReadingForms
 pub mod ReadingModules
 pub mod Handled
 pub mod Parsing
-pub mod ScopeChecks
-pub mod Environment
 pub mod Whole
 pub mod Arguments
 pub mod UnservedCalls

@@ -4,14 +4,12 @@ use Rattle.core_tokens.specs.declared.fault.ReadFault.{ReadFault}
 use Rattle.core_tokens.specs.declared.token.Mark.TheVariants as m
 use Rattle.core_reader.specs.declared.parser.Parser.{Parser}
 use Rattle.core_reader.specs.declared.grammar.Fun.{Fun}
-use Rattle.core_reader.specs.declared.grammar.Defined.{Defined}
 use Rattle.core_reader.specs.declared.grammar.Opening.{Opening as Opened}
 use Rattle.core_reader.specs.declared.grammar.Opening.TheVariants as openings
-use Rattle.core_reader.specs.declared.grammar.Front.{Front}
-use Rattle.core_reader.specs.declared.grammar.Draft.{Draft}
+use Rattle.core_scopes.specs.declared.draft.Front.{Front}
+use Rattle.core_scopes.specs.Drafts.{defined_of}
 use Rattle.core_tokens.specs.Piece.{Piece, pieces}
-use Rattle.core_tree.specs.Syntax.{Mention, Tree, NamedAt, AttributeTree, DefinitionTree, ModuleTree}
-use Rattle.core_tree.specs.Definitions.{definition_of}
+use Rattle.core_tree.specs.Syntax.{Mention, Tree, NamedAt, AttributeTree}
 use Rattle.core_tree.specs.Tree.{tree_of, pattern_of}
 use Rattle.core_reader.specs.declared.clauses.Start.{Start as Begun}
 use Rattle.core_reader.specs.declared.clauses.Start.TheVariants as starts
@@ -37,10 +35,6 @@ Opens levels (Err e) old new = (levels ≡ 0) × (after_mark m.LeftParenthesis o
 abbrev pub fun_of : Fun → List Mention × Tree
 fun_of f = (f.parameters.items, tree_of f.body)
 
--- a definition that the grammar read
-abbrev pub defined_of : Defined → DefinitionTree
-defined_of d = definition_of (d.function, d.definition)
-
 -- what a definition begins with
 abbrev pub opening_of : Opened → Opening
 opening_of (openings.Name named) = TheName named
@@ -48,10 +42,6 @@ opening_of (openings.Whole d) = WholeDefinition (defined_of d)
 
 abbrev pub front_of : Front → List ℕ × List NamedAt × List AttributeTree
 front_of f = (f.name, f.exports.items, f.attributes.items)
-
--- a module that the grammar read, and the place of its last `end`
-abbrev pub draft_of : Draft → ModuleTree × ℕ
-draft_of d = (record { name = d.front.name; exports = d.front.exports.items; attributes = d.front.attributes.items; definitions = map defined_of d.definitions.items }, d.end)
 
 -- what a clause begins with
 abbrev pub start_of : Begun → Start

@@ -8,8 +8,8 @@ use Rattle.core_tokens.specs.Piece.{Piece, Shape, A_word, A_mark, An_atom, A_var
 use Rattle.core_tree.specs.Syntax.{ModuleTree}
 use Rattle.core_reader.specs.Grammar.{word, Spells}
 use Rattle.core_reader.specs.Depth.{OpensPastLast}
-use Rattle.core_reader.specs.Scopes.{functions, main_function}
-use Rattle.core_reader.specs.ScopeFaults.{ModuleBreaks}
+use Rattle.core_scopes.specs.Scopes.{functions, main_function}
+use Rattle.core_scopes.specs.ScopeFaults.{ModuleBreaks}
 use Rattle.core_reader.specs.UnservedCalls.{UnservedCallAt}
 
 -- one of the tokens

@@ -5,7 +5,7 @@ use Rattle.core_tokens.specs.Piece.{Piece}
 use Rattle.core_tokens.specs.Tokens.{AreTokens}
 use Rattle.core_tree.specs.Syntax.{ModuleTree}
 use Rattle.core_reader.specs.Grammar.{Spells}
-use Rattle.core_reader.specs.Scopes.{IsLawful}
+use Rattle.core_scopes.specs.Scopes.{IsLawful}
 
 -- the most bytes that a module may have
 abbrev pub text_limit : ℕ

@@ -8,6 +8,7 @@ use Rattle.core_tokens.specs.declared.token.Mark.{Mark}
 use Rattle.core_tokens.specs.declared.token.Mark.TheVariants as m
 use Rattle.core_tokens.specs.Piece.{Piece, Shape, A_word, A_mark, An_atom, A_variable, An_integer, A_float, A_character, A_text}
 use Rattle.core_tree.specs.Syntax.{Mention, NamedAt, Pattern, NumberIn, CharacterIn, TextIn, NameIn, VariableIn, GroupIn, ListIn, JoinIn, AliasIn, patterns_of, Constant, NumberOf, CharacterOf, TextOf, NameOf, GroupOf, ListOf, JoinOf, constants_of}
+use Rattle.core_scopes.specs.Outcomes.{◌>>=◌}
 use Rattle.core_reader.specs.declared.parser.Unserved.{Unserved}
 use Rattle.core_reader.specs.declared.parser.Unserved.TheVariants as unserved
 
@@ -29,11 +30,6 @@ pub record State : Type 0 where
 abbrev pub Read : Type 0 → Type 0
 Read X = Result (X × State) ReadFault
 
-infixl 10 ◌>>=◌
-abbrev pub ◌>>=◌ : {A B : Type 0} → Result A ReadFault → (A → Result B ReadFault) → Result B ReadFault
-(Ok x) >>= f = f x
-(Err e) >>= f = Err e
-
 -- what a function returned, seen by view, and what it left, are what reading gives, unless memory ran out
 abbrev pub Moves : {X Y : Type 0} → (X → Y) → Result X ReadFault → State → Read Y → Type 0
 Moves view (Ok x) after read = read ≡ Ok (view x, after)
@@ -43,11 +39,6 @@ Moves view (Err e) after read = e ≢ Memory → read ≡ Err e
 abbrev pub Passes : Result (Unit {0}) ReadFault → State → Result State ReadFault → Type 0
 Passes (Ok x) after read = read ≡ Ok after
 Passes (Err e) after read = e ≢ Memory → read ≡ Err e
-
--- the same of a function at the end
-abbrev pub Gives : {X Y : Type 0} → (X → Y) → Result X ReadFault → Result Y ReadFault → Type 0
-Gives view (Ok x) read = read ≡ Ok (view x)
-Gives view (Err e) read = e ≢ Memory → read ≡ Err e
 
 -- what a function built, seen by view, is this, unless memory ran out
 abbrev pub Builds : {X Y : Type 0} → (X → Y) → Result X ReadFault → Y → Type 0

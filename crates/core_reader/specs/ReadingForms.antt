@@ -1,6 +1,5 @@
 -- Reading expressions and clauses from left to right, with the fault that comes first by place.
 use Rattle.std.specs.Prelude.{ℕ, zero, suc, List, [], ◌∷◌, length, Option, Some, None, Ok, Err, Bool, true, false, ◌&&◌, ◌||◌, ◌==◌, nat_lt, if◌then◌else◌, codes}
-use Rattle.std.specs.Cmp.Lexicographic.{pointwise}
 use Rattle.core_tokens.specs.declared.fault.ReadFault.{ReadFault}
 use Rattle.core_tokens.specs.declared.fault.ReadFault.TheVariants.{Expected, HigherOrder, UnsupportedCall, TooDeep, UnsupportedForm}
 use Rattle.core_tree.specs.declared.call.CallKind.{CallKind}
@@ -14,7 +13,9 @@ use Rattle.core_tokens.specs.Piece.{Piece, Shape, A_word, A_mark, An_atom, A_var
 use Rattle.core_tree.specs.Syntax.{NamedAt, Callee, OfWorld, OfItself, OfExport, OfDefinition, FailsMatch, RaisesAgain, Pattern, Tree, Number, Character, Text, Name, Mentioned, Grouped, Listed, Joined, Several, Bound, Chosen, Followed, Called, Tried, Caught, NoMore, trees_of, ClauseTree, clauses_of}
 use Rattle.core_reader.specs.declared.parser.Unserved.{Unserved}
 use Rattle.core_reader.specs.declared.parser.Unserved.TheVariants as unserved
-use Rattle.core_reader.specs.Reading.{◌>>=◌, place_of_unserved, State, Read, with_pieces, is_mark, is_word, after_mark, after_word, refusal, is_foreign, too_deep, mark_at, word_at, taken, atom_in, atom_at, named_by, behind_atom_at, closed_at, brackets_at, exactly_at, rows_at, begins_constant, in_note_at, constant_at, noted_at, variables_at, caught_at, alias_at, pattern_at}
+use Rattle.core_scopes.specs.Names.{same_bytes}
+use Rattle.core_scopes.specs.Outcomes.{◌>>=◌}
+use Rattle.core_reader.specs.Reading.{place_of_unserved, State, Read, with_pieces, is_mark, is_word, after_mark, after_word, refusal, is_foreign, too_deep, mark_at, word_at, taken, atom_in, atom_at, named_by, behind_atom_at, closed_at, brackets_at, exactly_at, rows_at, begins_constant, in_note_at, constant_at, noted_at, variables_at, caught_at, alias_at, pattern_at}
 
 -- ---- expressions
 
@@ -106,9 +107,6 @@ bare_applied_at s = do
 -- the name of the function of an `apply`
 unfoldable pub applied_at : ℕ → State → Read NamedAt
 applied_at n s = noted_at (λ _. bare_applied_at) n s
-
-abbrev pub same_bytes : List ℕ → List ℕ → Bool
-same_bytes = pointwise ◌==◌
 
 -- the calls of the world that are read so far
 abbrev pub is_read : CallKind → Bool

@@ -7,7 +7,8 @@ use Rattle.core_tokens.specs.Piece.{Piece}
 use Rattle.core_tree.specs.Syntax.{Mention, NamedAt, Tree, AttributeTree, DefinitionTree, ModuleTree}
 use Rattle.core_reader.specs.Grammar.{level_limit}
 use Rattle.core_reader.specs.declared.parser.Unserved.{Unserved}
-use Rattle.core_reader.specs.Reading.{◌>>=◌, fault_of_unserved, State, Read, with_pieces, after_mark, fault, place_of, too_deep, mark_at, word_at, atom_at, bare_name_at, closed_at, exactly_at, rows_at, in_note_at, constant_at, noted_at, function_name_at, variable_at}
+use Rattle.core_scopes.specs.Outcomes.{◌>>=◌}
+use Rattle.core_reader.specs.Reading.{fault_of_unserved, State, Read, with_pieces, after_mark, fault, place_of, too_deep, mark_at, word_at, atom_at, bare_name_at, closed_at, exactly_at, rows_at, in_note_at, constant_at, noted_at, function_name_at, variable_at}
 use Rattle.core_reader.specs.ReadingForms.{expression_at}
 
 -- ---- modules

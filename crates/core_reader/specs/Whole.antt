@@ -4,9 +4,10 @@ use Rattle.core_tokens.specs.declared.fault.ReadFault.{ReadFault}
 use Rattle.core_tokens.specs.declared.fault.ReadFault.TheVariants.{Memory}
 use Rattle.core_tokens.specs.Piece.{Piece}
 use Rattle.core_tree.specs.Syntax.{ModuleTree}
-use Rattle.core_reader.specs.Reading.{State, ◌>>=◌}
+use Rattle.core_scopes.specs.Outcomes.{◌>>=◌}
+use Rattle.core_reader.specs.Reading.{State}
 use Rattle.core_reader.specs.ReadingModules.{module_at}
-use Rattle.core_reader.specs.ScopeChecks.{check_module}
+use Rattle.core_scopes.specs.ScopeChecks.{check_module}
 
 abbrev pub start : ℕ → List Piece → State
 start length ps = record { pieces = ps; refused = None; stop = length }

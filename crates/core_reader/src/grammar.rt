@@ -1,13 +1,16 @@
 // Definitions and modules (Core Erlang 1.0.3, "Module definitions").
 ghost use Rattle.std.specs.Prelude.{map};
 ghost use Rattle.core_tokens.specs.declared.token.Mark.TheVariants.{RightBracket};
-ghost use Rattle.core_reader.specs.Reading.{Moves, Gives, items_at, closed_at, rows_at, noted_at, function_name_at};
+ghost use Rattle.core_scopes.specs.Outcomes.{Gives};
+ghost use Rattle.core_reader.specs.Reading.{Moves, items_at, closed_at, rows_at, noted_at, function_name_at};
 ghost use Rattle.core_reader.specs.ReadingModules.{attribute_at, bare_fun_at, fun_at, behind_name_at, opened, opening_at, definition_at, front_at, bare_module_at, ended, module_at};
-ghost use Rattle.core_reader.specs.Parsing.{state_of, fun_of, defined_of, opening_of, front_of, draft_of};
+ghost use Rattle.core_scopes.specs.Drafts.{defined_of, draft_of};
+ghost use Rattle.core_reader.specs.Parsing.{state_of, fun_of, opening_of, front_of};
 
 use crate::parser::Parser;
+use core_scopes::{Defined, Draft, Front};
 use core_tokens::{Keyword, Mark, ReadFault};
-use core_tree::{Attribute, Definition, Expr, FunctionName, NamedFunction, Variable};
+use core_tree::{Attribute, Definition, Expr, NamedFunction, Variable};
 use term_core::Atom;
 
 /// The levels of construct within construct that a text may have.
@@ -20,13 +23,6 @@ pub(crate) struct Fun {
     pub body: Expr,
 }
 
-/// A definition with its name.
-#[derive(Drop)]
-pub(crate) struct Defined {
-    pub function: FunctionName,
-    pub definition: Definition,
-}
-
 /// What a definition begins with.
 #[derive(Drop)]
 pub(crate) enum Opening {
@@ -34,23 +30,6 @@ pub(crate) enum Opening {
     Name(NamedFunction),
     /// The whole of it, in the parentheses of an annotation.
     Whole(Defined),
-}
-
-/// What stands before the definitions of a module.
-#[derive(Drop)]
-pub(crate) struct Front {
-    pub name: Atom,
-    pub exports: Vec<NamedFunction>,
-    pub attributes: Vec<Attribute>,
-}
-
-/// A module as the grammar reads it: nothing is known yet of its scopes.
-#[derive(Drop)]
-pub(crate) struct Draft {
-    pub front: Front,
-    pub definitions: Vec<Defined>,
-    /// The place of the last `end`.
-    pub end: usize,
 }
 
 impl<'a> Parser<'a> {

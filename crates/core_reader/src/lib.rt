@@ -5,14 +5,12 @@ mod calls;
 mod clauses;
 mod constants;
 mod expressions;
-mod functions;
 mod grammar;
 mod names;
 mod parser;
 mod patterns;
 pub mod reader;
 pub mod reading;
-mod scopes;
 #[cfg(test)]
 mod tests;
 

@@ -4,12 +4,12 @@ ghost use Rattle.core_reader.specs.Places.{IsFaultOf};
 ghost use Rattle.core_tokens.specs.Piece.{pieces};
 ghost use Rattle.core_tree.specs.Syntax.{ModuleTree};
 ghost use Rattle.core_reader.specs.Grammar.{Spells};
-ghost use Rattle.core_reader.specs.Scopes.{IsLawful};
-ghost use Rattle.core_reader.specs.Reading.{Gives};
+ghost use Rattle.core_scopes.specs.Scopes.{IsLawful};
+ghost use Rattle.core_scopes.specs.Outcomes.{Gives};
 ghost use Rattle.core_reader.specs.Whole.{whole_at, start, IsReadAs};
 
-use crate::functions::closed_module;
 use crate::parser::Parser;
+use core_scopes::closed_module;
 use core_tokens::{ReadFault, Token};
 use core_tree::Module;
 use std::alloc::Global;

@@ -2,7 +2,8 @@ use Rattle.std.proofs.Common.{map, sym, ap, ◌∙◌, arith, Err}
 use Rattle.std.proofs.lemmas.Result.{err_from_is_err_and}
 use Rattle.std.proofs.lemmas.List.{map-append}
 use Rattle.core_reader.specs.ReadingModules.{definition_at}
-use Rattle.core_reader.specs.Parsing.{state_of, defined_of}
+use Rattle.core_scopes.specs.Drafts.{defined_of}
+use Rattle.core_reader.specs.Parsing.{state_of}
 use Rattle.core_reader.proofs.Loops.{rows_begin, rows_on, rows_end, rows_fail, rows_out, pieces_length}
 use Rattle.core_reader.proofs.parser.Parser.definitions.Goals as goal
 

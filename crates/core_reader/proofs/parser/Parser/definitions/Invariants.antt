@@ -1,7 +1,8 @@
 use Rattle.std.proofs.Common.{◌≡◌, ◌-◌, map}
 use Rattle.core_reader.specs.Reading.{row_at, rows_at}
 use Rattle.core_reader.specs.ReadingModules.{definition_at}
-use Rattle.core_reader.specs.Parsing.{state_of, defined_of}
+use Rattle.core_scopes.specs.Drafts.{defined_of}
+use Rattle.core_reader.specs.Parsing.{state_of}
 use Rattle.core_reader.proofs.Loops.{with_front}
 use Rattle.core_reader.proofs.parser.Parser.definitions.Given as goal
 

@@ -1,0 +1,7 @@
+pub mod Names
+pub mod Outcomes
+pub mod Scopes
+pub mod ScopeFaults
+pub mod ScopeChecks
+pub mod Drafts
+pub mod Environment

@@ -1,0 +1,369 @@
+// Scopes: each variable has a binding, each function that is called a definition or an export, and a guard
+// no effect (Core Erlang 1.0.3, "Lexical scoping" and "Static constraints").
+ghost use Rattle.std.specs.Prelude.{◌≡◌, [], ◌∷◌, ◌++◌};
+ghost use Rattle.core_tree.specs.Syntax.{OfExport, OfDefinition, patterns_of, trees_of, clauses_of, Bound, Chosen, Tried, Joined, Followed, Called, Caught};
+ghost use Rattle.core_tree.specs.Tree.{callee_of, pattern_of, tree_of};
+ghost use Rattle.core_tree.specs.Definitions.{keys_in};
+ghost use Rattle.core_scopes.specs.Scopes.{bound_by, variables_of, variables_of_all};
+ghost use Rattle.core_scopes.specs.Environment.{shown, bound_in, setting_in, Adds, Binds, check_clause};
+ghost use Rattle.core_scopes.specs.Outcomes.{Gives};
+ghost use Rattle.core_scopes.specs.ScopeChecks.{is_among, is_defined, check_variable, check_effect, check_callee, check_tree, check_trees, check_clauses};
+
+use core_tokens::ReadFault;
+use core_tree::{
+    Alias, Call, Callee, Case, Catch, Clause, Clauses, Definition, Do, Expr, Exprs, FunctionName,
+    Let, NamedFunction, Onto, OntoPattern, Pattern, Patterns, Try, Variable,
+};
+use indexmap::{IndexMap, IndexSet};
+use std::alloc::Global;
+
+/// The variables that are bound: those of one list or of the patterns of a clause, by their names, and those
+/// around them.
+#[derive(Clone, Copy)]
+pub(crate) enum Scope<'s, 'n> {
+    Top,
+    Within(&'s IndexSet<&'n [u8]>, &'s Scope<'s, 'n>),
+}
+
+/// Where an expression stands: the functions that are defined, those that are exported, and whether it is
+/// part of a guard.
+#[derive(Clone, Copy)]
+pub(crate) struct Setting<'d, 'e, 'f> {
+    pub alloc: Global,
+    pub definitions: &'d IndexMap<FunctionName, Definition>,
+    pub exported: &'e IndexSet<&'f FunctionName>,
+    pub in_guard: bool,
+}
+
+fn is_named(names: &IndexSet<&[u8]>, name: &[u8]) -> bool
+    ensures { result ≡ is_among (shown names.now.keys) name.now }
+{
+    names.contains(name)
+}
+
+/// Whether a variable of the name is bound.
+fn is_bound(scope: &Scope, name: &[u8]) -> bool
+    ensures { result ≡ is_among (bound_in scope.now) name.now }
+{
+    let mut inner = scope;
+    while let Scope::Within(names, outer) = inner {
+        if is_named(names, name) {
+            return true;
+        }
+        inner = outer;
+    }
+    false
+}
+
+fn check_variable(scope: &Scope, variable: &Variable) -> Result<(), ReadFault>
+    ensures { result ≡ check_variable (bound_in scope.now) variable.now }
+{
+    if is_bound(scope, &variable.name) {
+        Ok(())
+    } else {
+        Err(ReadFault::Unbound(variable.at))
+    }
+}
+
+/// Puts a variable behind those that are bound with it. The fault is `DuplicateVariable`, if one of them has
+/// its name.
+fn bind<'a>(names: &mut IndexSet<&'a [u8]>, variable: &'a Variable) -> Result<(), ReadFault>
+    ensures { Adds (variable.now ∷ []) result (shown names.old.keys) (shown names.new.keys) }
+{
+    if names.insert(variable.name.as_slice())? {
+        Ok(())
+    } else {
+        Err(ReadFault::DuplicateVariable(variable.at))
+    }
+}
+
+/// The names of the variables of a list, which differ from each other. The fault is `DuplicateVariable` at the
+/// first variable that has the name of one before it.
+pub(crate) fn distinct<'a>(
+    alloc: Global,
+    variables: &'a [Variable],
+) -> Result<IndexSet<&'a [u8]>, ReadFault>
+    ensures { Binds variables.now result }
+{
+    let mut names = IndexSet::new(alloc);
+    'variables: for variable in variables {
+        bind(&mut names, variable)?;
+    }
+    Ok(names)
+}
+
+/// Binds the variables of a pattern, from left to right.
+#[cycle(patterns)]
+fn bind_pattern<'a>(names: &mut IndexSet<&'a [u8]>, pattern: &'a Pattern) -> Result<(), ReadFault>
+    ensures { Adds (variables_of (pattern_of pattern.now)) result (shown names.old.keys) (shown names.new.keys) }
+{
+    match pattern {
+        Pattern::Integer(_) | Pattern::Character(_) | Pattern::Text(_) | Pattern::Atom(_) => Ok(()),
+        Pattern::Variable(variable) => bind(names, variable),
+        Pattern::Tuple(patterns) | Pattern::List(patterns) => bind_patterns(names, patterns),
+        Pattern::Onto(onto) => bind_onto(names, onto),
+        Pattern::Alias(alias) => bind_alias(names, alias),
+    }
+}
+
+#[cycle(patterns)]
+fn bind_onto<'a>(names: &mut IndexSet<&'a [u8]>, onto: &'a OntoPattern) -> Result<(), ReadFault>
+    ensures { Adds (variables_of_all (patterns_of onto.now.0) ++ variables_of onto.now.1) result (shown names.old.keys) (shown names.new.keys) }
+{
+    bind_patterns(names, &onto.items)?;
+    bind_pattern(names, &onto.tail)
+}
+
+/// The variable for the whole comes before those of its pattern.
+#[cycle(patterns)]
+fn bind_alias<'a>(names: &mut IndexSet<&'a [u8]>, alias: &'a Alias) -> Result<(), ReadFault>
+    ensures { Adds (alias.now.0 ∷ variables_of alias.now.1) result (shown names.old.keys) (shown names.new.keys) }
+{
+    bind(names, &alias.variable)?;
+    bind_pattern(names, &alias.whole)
+}
+
+#[cycle(patterns)]
+fn bind_patterns<'a>(
+    names: &mut IndexSet<&'a [u8]>,
+    patterns: &'a Patterns,
+) -> Result<(), ReadFault>
+    ensures { Adds (variables_of_all (patterns_of patterns.now)) result (shown names.old.keys) (shown names.new.keys) }
+{
+    'patterns: for pattern in &patterns.0 {
+        bind_pattern(names, pattern)?;
+    }
+    Ok(())
+}
+
+/// The names of the variables of a clause's patterns, which differ from each other (Core Erlang 1.0.3,
+/// "Patterns"). The fault is `DuplicateVariable` at the first variable that has the name of one before it.
+fn bound_by<'a>(alloc: Global, patterns: &'a Patterns) -> Result<IndexSet<&'a [u8]>, ReadFault>
+    ensures { Binds (bound_by patterns.now) result }
+{
+    let mut names = IndexSet::new(alloc);
+    bind_patterns(&mut names, patterns)?;
+    Ok(names)
+}
+
+/// A guard has no effect (Core Erlang 1.0.3, "Static constraints"). The fault is `EffectInGuard`.
+fn check_effect(setting: &Setting, at: usize) -> Result<(), ReadFault>
+    ensures { result ≡ check_effect (setting_in setting.now) at }
+{
+    if setting.in_guard {
+        Err(ReadFault::EffectInGuard(at))
+    } else {
+        Ok(())
+    }
+}
+
+fn is_exported(setting: &Setting, function: &FunctionName) -> bool
+    ensures { result ≡ is_defined (shown setting.now.exported.now.keys) function.now }
+{
+    setting.exported.contains(&function)
+}
+
+/// Whether a function of the name is defined.
+pub(crate) fn is_defined(
+    definitions: &IndexMap<FunctionName, Definition>,
+    name: &FunctionName,
+) -> bool
+    ensures { result ≡ is_defined (keys_in definitions.now.entries) name.now }
+{
+    definitions.contains_key(name)
+}
+
+/// An exported function of this module is called outside of guards. Faults: `UnsupportedCall` where it is not
+/// exported, `EffectInGuard`.
+fn check_exported(setting: &Setting, at: usize, function: &FunctionName) -> Result<(), ReadFault>
+    ensures { result ≡ check_callee (setting_in setting.now) at (OfExport function.now) }
+{
+    if is_exported(setting, function) {
+        check_effect(setting, at)
+    } else {
+        Err(ReadFault::UnsupportedCall(at))
+    }
+}
+
+/// A defined function is applied outside of guards. Faults: `EffectInGuard`, `NoFunction` at its name.
+fn check_defined(setting: &Setting, at: usize, named: &NamedFunction) -> Result<(), ReadFault>
+    ensures { result ≡ check_callee (setting_in setting.now) at (OfDefinition named.now) }
+{
+    check_effect(setting, at)?;
+    if is_defined(setting.definitions, &named.function) {
+        Ok(())
+    } else {
+        Err(ReadFault::NoFunction(named.at))
+    }
+}
+
+/// What the call at the place calls may be called there.
+fn check_callee(setting: &Setting, at: usize, callee: &Callee) -> Result<(), ReadFault>
+    ensures { result ≡ check_callee (setting_in setting.now) at (callee_of callee.now) }
+{
+    match callee {
+        Callee::Pure(_) => Ok(()),
+        Callee::World(_) | Callee::MatchFail | Callee::Raise => check_effect(setting, at),
+        Callee::Exported(function) => check_exported(setting, at, function),
+        Callee::Defined(named) => check_defined(setting, at, named),
+    }
+}
+
+/// Each variable of the expression is bound, there or around it, and each call may be made. The fault is the
+/// first in the text. It goes into the parts by recursion.
+#[cycle(scopes)]
+pub(crate) fn check_expr<'n>(
+    setting: &Setting,
+    scope: &Scope<'_, 'n>,
+    expr: &'n Expr,
+) -> Result<(), ReadFault>
+    ensures { Gives (λ u. u) result (check_tree (setting_in setting.now) (bound_in scope.now) (tree_of expr.now)) }
+{
+    match expr {
+        Expr::Integer(_) | Expr::Character(_) | Expr::Text(_) | Expr::Atom(_) => Ok(()),
+        Expr::Variable(variable) => check_variable(scope, variable),
+        Expr::Tuple(items) | Expr::List(items) | Expr::Values(items) => {
+            check_exprs(setting, scope, items)
+        }
+        Expr::Onto(onto) => check_onto(setting, scope, onto),
+        Expr::Let(binding) => check_let(setting, scope, binding),
+        Expr::Case(case) => check_case(setting, scope, case),
+        Expr::Do(both) => check_do(setting, scope, both),
+        Expr::Call(call) => check_call(setting, scope, call),
+        Expr::Try(handled) => check_try(setting, scope, handled),
+        Expr::Catch(caught) => check_catch(setting, scope, caught),
+    }
+}
+
+/// The same, where variables are bound.
+#[cycle(scopes)]
+fn check_within<'a, 's, 'n>(
+    setting: &Setting,
+    scope: &'a Scope<'s, 'n>,
+    names: &'a IndexSet<&'n [u8]>,
+    expr: &'n Expr,
+) -> Result<(), ReadFault>
+    ensures { Gives (λ u. u) result (check_tree (setting_in setting.now) (shown names.now.keys ++ bound_in scope.now) (tree_of expr.now)) }
+{
+    check_expr(setting, &Scope::Within(&*names, &*scope), expr)
+}
+
+#[cycle(scopes)]
+fn check_onto<'n>(setting: &Setting, scope: &Scope<'_, 'n>, onto: &'n Onto) -> Result<(), ReadFault>
+    ensures { Gives (λ u. u) result (check_tree (setting_in setting.now) (bound_in scope.now) (Joined (trees_of onto.now.0) onto.now.1)) }
+{
+    check_exprs(setting, scope, &onto.items)?;
+    check_expr(setting, scope, &onto.tail)
+}
+
+/// The variables of a `let` differ, and its body sees them.
+#[cycle(scopes)]
+fn check_let<'n>(
+    setting: &Setting,
+    scope: &Scope<'_, 'n>,
+    binding: &'n Let,
+) -> Result<(), ReadFault>
+    ensures { Gives (λ u. u) result (check_tree (setting_in setting.now) (bound_in scope.now) (Bound binding.now.0 binding.now.1 binding.now.2)) }
+{
+    let names = distinct(setting.alloc, &binding.variables)?;
+    check_expr(setting, scope, &binding.value)?;
+    check_within(setting, &*scope, &names, &binding.body)
+}
+
+#[cycle(scopes)]
+fn check_case<'n>(setting: &Setting, scope: &Scope<'_, 'n>, case: &'n Case) -> Result<(), ReadFault>
+    ensures { Gives (λ u. u) result (check_tree (setting_in setting.now) (bound_in scope.now) (Chosen case.now.0 case.now.1 (clauses_of case.now.2))) }
+{
+    check_expr(setting, scope, &case.value)?;
+    check_clauses(setting, scope, &case.clauses)
+}
+
+#[cycle(scopes)]
+fn check_do<'n>(setting: &Setting, scope: &Scope<'_, 'n>, both: &'n Do) -> Result<(), ReadFault>
+    ensures { Gives (λ u. u) result (check_tree (setting_in setting.now) (bound_in scope.now) (Followed both.now.0 both.now.1)) }
+{
+    check_expr(setting, scope, &both.first)?;
+    check_expr(setting, scope, &both.second)
+}
+
+#[cycle(scopes)]
+fn check_call<'n>(setting: &Setting, scope: &Scope<'_, 'n>, call: &'n Call) -> Result<(), ReadFault>
+    ensures { Gives (λ u. u) result (check_tree (setting_in setting.now) (bound_in scope.now) (Called call.now.0 call.now.1 (trees_of call.now.2))) }
+{
+    check_callee(setting, call.at, &call.callee)?;
+    check_exprs(setting, scope, &call.arguments)
+}
+
+/// The variables of each list of a `try` differ; the body sees those of the values, and the handler those of
+/// the exception.
+#[cycle(scopes)]
+fn check_try<'n>(
+    setting: &Setting,
+    scope: &Scope<'_, 'n>,
+    handled: &'n Try,
+) -> Result<(), ReadFault>
+    ensures { Gives (λ u. u) result (check_tree (setting_in setting.now) (bound_in scope.now) (Tried handled.now.0 handled.now.1 handled.now.2 handled.now.3 handled.now.4 handled.now.5)) }
+{
+    check_expr(setting, scope, &handled.value)?;
+    let names = distinct(setting.alloc, &handled.variables)?;
+    check_within(setting, &*scope, &names, &handled.body)?;
+    let caught = distinct(setting.alloc, &handled.caught)?;
+    check_within(setting, &*scope, &caught, &handled.handler)
+}
+
+#[cycle(scopes)]
+fn check_catch<'n>(
+    setting: &Setting,
+    scope: &Scope<'_, 'n>,
+    caught: &'n Catch,
+) -> Result<(), ReadFault>
+    ensures { Gives (λ u. u) result (check_tree (setting_in setting.now) (bound_in scope.now) (Caught caught.now.0 caught.now.1)) }
+{
+    check_expr(setting, scope, &caught.value)
+}
+
+/// The variables of the patterns differ, and the guard and the body see them.
+#[cycle(scopes)]
+fn check_clause<'n>(
+    setting: &Setting,
+    scope: &Scope<'_, 'n>,
+    clause: &'n Clause,
+) -> Result<(), ReadFault>
+    ensures { Gives (λ u. u) result (check_clause (setting_in setting.now) (bound_in scope.now) clause.now) }
+{
+    let names = bound_by(setting.alloc, &clause.patterns)?;
+    let guard = Setting {
+        in_guard: true,
+        ..*setting
+    };
+    check_within(&guard, &*scope, &names, &clause.guard)?;
+    check_within(setting, &*scope, &names, &clause.body)
+}
+
+#[cycle(scopes)]
+fn check_clauses<'n>(
+    setting: &Setting,
+    scope: &Scope<'_, 'n>,
+    clauses: &'n Clauses,
+) -> Result<(), ReadFault>
+    ensures { Gives (λ u. u) result (check_clauses (setting_in setting.now) (bound_in scope.now) (clauses_of clauses.now)) }
+{
+    'clauses: for clause in &clauses.0 {
+        check_clause(setting, scope, clause)?;
+    }
+    Ok(())
+}
+
+#[cycle(scopes)]
+fn check_exprs<'n>(
+    setting: &Setting,
+    scope: &Scope<'_, 'n>,
+    exprs: &'n Exprs,
+) -> Result<(), ReadFault>
+    ensures { Gives (λ u. u) result (check_trees (setting_in setting.now) (bound_in scope.now) (trees_of exprs.now)) }
+{
+    'exprs: for expr in &exprs.0 {
+        check_expr(setting, scope, expr)?;
+    }
+    Ok(())
+}
