@@ -5,11 +5,10 @@ use Rattle.std.specs.Prelude.{Result, Ok, Err}
 use Rattle.core_tree.specs.Syntax.{ModuleTree}
 use Rattle.core_reader.specs.Reader.{SpellsModule}
 use Rattle.core_reader.specs.Refusal.{IsTrueOf, IsRefusalOf}
-use Rattle.core_eval.specs.NotYet.{first_not_evaluated}
 use Rattle.core_tokens.specs.declared.fault.ReadFault.{ReadFault}
 use Rattle.core_tokens.specs.declared.fault.ReadFault.TheVariants as read
 use Rattle.schedule_explorer.specs.Input.{IsInputOf}
-use Rattle.schedule_explorer.specs.Engine.{IsRunOf, IsBadSchedule, IsGiven, IsAtFirstForm}
+use Rattle.schedule_explorer.specs.Engine.{IsRunOf, IsBadSchedule, IsGiven}
 use Rattle.schedule_explorer.specs.Refusals.{refusal_of_replay}
 use Rattle.schedule_explorer.specs.Replay.{Replays}
 use Rattle.schedule_explorer.specs.declared.replay_fault.ReplayFault.{ReplayFault}
@@ -58,29 +57,20 @@ pub module_refused : (remaining : Option (List ℕ)) (bytes word : List ℕ) (co
     → IfSome remaining (λ input. IsRunOf input word contents contents failed r)
 module_refused None bytes word contents failed fault r e is refusal sound = tt
 module_refused (Some all) bytes word contents failed fault r e is refusal sound =
-    subst (λ (r : Result Verdict RunFault). IsRunOf all word contents contents failed r) (sym e) (inl (refused_all all bytes fault is refusal), record { same = refl; sound = sound })
-
--- a run whose module has a form that is not evaluated yet
-pub form_refused : (remaining : Option (List ℕ)) (bytes word : List ℕ) (contents : Option (List ℕ)) (failed : Bool) (m : ModuleTree) (fault : ReadFault) (r : Result Verdict RunFault)
-    → r ≡ Err (run.Input fault) → IfSome remaining (λ all. IsInputOf 1048576 all bytes) → SpellsModule bytes m → IsAtFirstForm m fault → failed ≡ false
-    → IfSome remaining (λ input. IsRunOf input word contents contents failed r)
-form_refused None bytes word contents failed m fault r e is spelt first sound = tt
-form_refused (Some all) bytes word contents failed m fault r e is spelt first sound =
-    subst (λ (r : Result Verdict RunFault). IsRunOf all word contents contents failed r) (sym e)
-    (inr (record { program = m; module_text = spells_all all bytes m is spelt; first = first }), record { same = refl; sound = sound })
+    subst (λ (r : Result Verdict RunFault). IsRunOf all word contents contents failed r) (sym e) (refused_all all bytes fault is refusal, record { same = refl; sound = sound })
 
 -- a run whose schedule was refused
 pub schedule_refused : (remaining : Option (List ℕ)) (bytes word : List ℕ) (contents : Option (List ℕ)) (failed : Bool) (m : ModuleTree) (fault : ScheduleFault) (r : Result Verdict RunFault)
-    → r ≡ Err (run.Schedule fault) → IfSome remaining (λ all. IsInputOf 1048576 all bytes) → SpellsModule bytes m → first_not_evaluated m ≡ None → IsBadSchedule word fault → failed ≡ false
+    → r ≡ Err (run.Schedule fault) → IfSome remaining (λ all. IsInputOf 1048576 all bytes) → SpellsModule bytes m → IsBadSchedule word fault → failed ≡ false
     → IfSome remaining (λ input. IsRunOf input word contents contents failed r)
-schedule_refused None bytes word contents failed m fault r e is spelt evaluated bad sound = tt
-schedule_refused (Some all) bytes word contents failed m fault r e is spelt evaluated bad sound =
+schedule_refused None bytes word contents failed m fault r e is spelt bad sound = tt
+schedule_refused (Some all) bytes word contents failed m fault r e is spelt bad sound =
     subst (λ (r : Result Verdict RunFault). IsRunOf all word contents contents failed r) (sym e)
-    (record { program = m; module_text = spells_all all bytes m is spelt; evaluated = evaluated; bad = bad; quiet = record { same = refl; sound = sound } })
+    (record { program = m; module_text = spells_all all bytes m is spelt; bad = bad; quiet = record { same = refl; sound = sound } })
 
 -- module and schedule were read
-given_by : (all bytes word : List ℕ) (m : ModuleTree) (steps : List Step) → IsInputOf 1048576 all bytes → SpellsModule bytes m → first_not_evaluated m ≡ None → AreLawful steps × (word ≡ text_of_schedule steps) → IsGiven all word m steps
-given_by all bytes word m steps is spelt evaluated read = record { module_text = spells_all all bytes m is spelt; evaluated = evaluated; lawful = read.0; schedule_text = read.1 }
+given_by : (all bytes word : List ℕ) (m : ModuleTree) (steps : List Step) → IsInputOf 1048576 all bytes → SpellsModule bytes m → AreLawful steps × (word ≡ text_of_schedule steps) → IsGiven all word m steps
+given_by all bytes word m steps is spelt read = record { module_text = spells_all all bytes m is spelt; lawful = read.0; schedule_text = read.1 }
 
 stopped_by : (all bytes word : List ℕ) (old new : Option (List ℕ)) (failed : Bool) (m : ModuleTree) (steps : List Step) (fault : ReplayFault)
     → IsGiven all word m steps → Replays m steps old new failed (Err fault) → IsRunOf all word old new failed (Err (refusal_of_replay fault))
@@ -90,18 +80,18 @@ stopped_by all bytes word old new failed m steps replay.Write given ends = recor
 
 -- a run whose replay stopped
 pub replay_stopped : (remaining : Option (List ℕ)) (bytes word : List ℕ) (old new : Option (List ℕ)) (failed : Bool) (m : ModuleTree) (steps : List Step) (fault : ReplayFault) (r : Result Verdict RunFault)
-    → r ≡ Err (refusal_of_replay fault) → IfSome remaining (λ all. IsInputOf 1048576 all bytes) → SpellsModule bytes m → first_not_evaluated m ≡ None → AreLawful steps × (word ≡ text_of_schedule steps) → Replays m steps old new failed (Err fault)
+    → r ≡ Err (refusal_of_replay fault) → IfSome remaining (λ all. IsInputOf 1048576 all bytes) → SpellsModule bytes m → AreLawful steps × (word ≡ text_of_schedule steps) → Replays m steps old new failed (Err fault)
     → IfSome remaining (λ input. IsRunOf input word old new failed r)
-replay_stopped None bytes word old new failed m steps fault r e is spelt evaluated read ends = tt
-replay_stopped (Some all) bytes word old new failed m steps fault r e is spelt evaluated read ends =
-    subst (λ (r : Result Verdict RunFault). IsRunOf all word old new failed r) (sym e) (stopped_by all bytes word old new failed m steps fault (given_by all bytes word m steps is spelt evaluated read) ends)
+replay_stopped None bytes word old new failed m steps fault r e is spelt read ends = tt
+replay_stopped (Some all) bytes word old new failed m steps fault r e is spelt read ends =
+    subst (λ (r : Result Verdict RunFault). IsRunOf all word old new failed r) (sym e) (stopped_by all bytes word old new failed m steps fault (given_by all bytes word m steps is spelt read) ends)
 
 -- a run that was done
 pub replayed : (remaining : Option (List ℕ)) (bytes word : List ℕ) (old new : Option (List ℕ)) (failed : Bool) (m : ModuleTree) (steps : List Step)
-    → IfSome remaining (λ all. IsInputOf 1048576 all bytes) → SpellsModule bytes m → first_not_evaluated m ≡ None → AreLawful steps × (word ≡ text_of_schedule steps) → Replays m steps old new failed (Ok tt)
+    → IfSome remaining (λ all. IsInputOf 1048576 all bytes) → SpellsModule bytes m → AreLawful steps × (word ≡ text_of_schedule steps) → Replays m steps old new failed (Ok tt)
     → IfSome remaining (λ input. IsRunOf input word old new failed (Ok Done))
-replayed None bytes word old new failed m steps is spelt evaluated read ends = tt
-replayed (Some all) bytes word old new failed m steps is spelt evaluated read ends = record { program = m; steps = steps; given = given_by all bytes word m steps is spelt evaluated read; end = ends }
+replayed None bytes word old new failed m steps is spelt read ends = tt
+replayed (Some all) bytes word old new failed m steps is spelt read ends = record { program = m; steps = steps; given = given_by all bytes word m steps is spelt read; end = ends }
 
 pub bad_by : (word : List ℕ) (fault : ScheduleFault) → ((at : ℕ) → fault ≡ schedule.BadStep at → IsFirstBadStep word at) → IsBadSchedule word fault
 bad_by word (schedule.BadStep at) bad = bad at refl

@@ -1,11 +1,8 @@
 -- What a run of the program comes to, by the bytes that it is given.
-use Rattle.std.specs.Prelude.{◌≡◌, ℕ, Bool, false, List, Option, None, Some, Result, Ok, Err, ◌⊎◌}
+use Rattle.std.specs.Prelude.{◌≡◌, ℕ, Bool, false, List, Option, Result, Ok, Err}
 use Rattle.core_tree.specs.Syntax.{ModuleTree}
-use Rattle.core_tokens.specs.declared.fault.ReadFault.{ReadFault}
-use Rattle.core_tokens.specs.declared.fault.ReadFault.TheVariants as read
 use Rattle.core_reader.specs.Reader.{SpellsModule}
 use Rattle.core_reader.specs.Refusal.{IsRefusalOf}
-use Rattle.core_eval.specs.NotYet.{first_not_evaluated}
 use Rattle.term_core.specs.Schedule.{AreLawful, IsFirstBadStep}
 use Rattle.term_core.specs.Stream.{BreaksOff}
 use Rattle.term_core.specs.Text.{text_of_schedule}
@@ -18,21 +15,9 @@ use Rattle.schedule_explorer.specs.declared.verdict.RunFault.TheVariants as run
 use Rattle.schedule_explorer.specs.declared.verdict.Verdict.{Verdict}
 use Rattle.schedule_explorer.specs.declared.verdict.Verdict.TheVariants.{Done}
 
--- the fault is 14, at the module's first form that is not evaluated yet
-abbrev pub IsAtFirstForm : ModuleTree → ReadFault → Type 0
-IsAtFirstForm m (read.UnsupportedForm place) = first_not_evaluated m ≡ Some place
-IsAtFirstForm m _ = ⊥
-
--- the input is the text of a module, and the fault is 14 at the first form of it that is not evaluated yet
-pub record IsNotEvaluated (input : List ℕ) (fault : ReadFault) : Type 0 where
-  pub program : ModuleTree
-  pub module_text : SpellsModule input program
-  pub first : IsAtFirstForm program fault
-
--- the input is the text of this module, each form of it is evaluated, and the word is the text of this schedule
+-- the input is the text of this module, and the word is the text of this schedule
 pub record IsGiven (input word : List ℕ) (m : ModuleTree) (steps : List Step) : Type 0 where
   pub module_text : SpellsModule input m
-  pub evaluated : first_not_evaluated m ≡ None
   pub lawful : AreLawful steps
   pub schedule_text : word ≡ text_of_schedule steps
 
@@ -53,24 +38,23 @@ pub record IsReplayed (input word : List ℕ) (old new : Option (List ℕ)) (End
   pub given : IsGiven input word program steps
   pub end : End program steps
 
--- the input is a module, each form of it is evaluated, and the word is refused
+-- the input is a module, and the word is refused
 pub record IsNoSchedule (input word : List ℕ) (old new : Option (List ℕ)) (failed : Bool) (fault : ScheduleFault) : Type 0 where
   pub program : ModuleTree
   pub module_text : SpellsModule input program
-  pub evaluated : first_not_evaluated program ≡ None
   pub bad : IsBadSchedule word fault
   pub quiet : WritesNothing old new failed
 
--- a run replayed its schedule to the end; or the input was refused as a module, or is one with a form that is not evaluated yet, or could not be read, or the schedule was refused, and nothing was written; or the replay stopped at a step or for want of memory, or the output failed
+-- a run replayed its schedule to the end; or the input was refused as a module, or could not be read, or the schedule was refused, and nothing was written; or the replay stopped at a step or for want of memory, or the output failed
 abbrev pub IsRunOf : (input word : List ℕ) → (old new : Option (List ℕ)) → Bool → Result Verdict RunFault → Type 0
 IsRunOf input word old new failed (Ok Done) = IsReplayed input word old new (λ m steps. Replays m steps old new failed (Ok tt))
-IsRunOf input word old new failed (Err (run.Input fault)) = (IsRefusalOf input fault ⊎ IsNotEvaluated input fault) × WritesNothing old new failed
+IsRunOf input word old new failed (Err (run.Input fault)) = IsRefusalOf input fault × WritesNothing old new failed
 IsRunOf input word old new failed (Err run.ReadFailed) = WritesNothing old new failed
 IsRunOf input word old new failed (Err (run.Schedule fault)) = IsNoSchedule input word old new failed fault
 IsRunOf input word old new failed (Err (run.Replay fault)) = IsReplayed input word old new (λ m steps. Replays m steps old new failed (Err fault))
 IsRunOf input word old new failed (Err run.Output) = IsReplayed input word old new (λ m steps. BreaksOff old new failed (transcript m steps))
 
--- the run was refused before its replay: its input could not be read, or is no module, or is one with a form that is not evaluated yet, or the word is no schedule
+-- the run was refused before its replay: its input could not be read, or is no module, or the word is no schedule
 abbrev pub IsRefusedBefore : Result Verdict RunFault → Type 0
 IsRefusedBefore (Ok Done) = ⊥
 IsRefusedBefore (Err (run.Input fault)) = Unit {0}

@@ -1,14 +1,11 @@
 // The run of the program, from the bytes that it is given to the bytes that it writes.
-ghost use Rattle.std.specs.Prelude.{◌≡◌, true, false, None, IfSome, Err, OnOk, IfErr};
-ghost use Rattle.core_eval.specs.NotYet.{first_not_evaluated};
-ghost use Rattle.schedule_explorer.specs.Engine.{IsRunOf, IsRefusedBefore, IsAtFirstForm, WritesNothing};
+ghost use Rattle.std.specs.Prelude.{◌≡◌, true, false, IfSome, Err};
+ghost use Rattle.schedule_explorer.specs.Engine.{IsRunOf, IsRefusedBefore, WritesNothing};
 
 use crate::input::read_input;
 use crate::replay::replay;
 use crate::verdict::{RunFault, Verdict};
-use core_eval::first_not_evaluated;
-use core_reader::{ReadFault, read_module};
-use core_tree::Module;
+use core_reader::read_module;
 use std::alloc::Global;
 use term_core::{Sink, Source, read_schedule};
 
@@ -17,9 +14,9 @@ use term_core::{Sink, Source, read_schedule};
 ///
 /// # Errors
 ///
-/// `Input` where the source gives no module, or one that has a form which is not evaluated yet,
-/// `ReadFailed` where it cannot be read, `Schedule` where the text is that of no schedule, and then
-/// nothing was written; where both are refused it is the module's refusal. `Replay` where a step is not
+/// `Input` where the source gives no module, `ReadFailed` where it cannot be read, `Schedule` where
+/// the text is that of no schedule, and then nothing was written; where both are refused it is the
+/// module's refusal. `Replay` where a step is not
 /// enabled, with the lines of the steps before it. `Output` where the sink has failed, and a want of
 /// memory in each part as its own: then a beginning of the lines was written.
 pub fn run_replay<R: Source, W: Sink>(
@@ -42,21 +39,9 @@ pub fn run_replay<R: Source, W: Sink>(
 {
     let text = read_input(alloc, source)?;
     let program = read_module(alloc, &text)?;
-    check_evaluated(&program)?;
     let steps = read_schedule(alloc, schedule.as_bytes())?;
     replay(alloc, &program, &steps, sink)?;
     Ok(Verdict::Done)
-}
-
-// Refuses a module that has a form which is not evaluated yet, at its first one.
-fn check_evaluated(program: &Module) -> Result<(), ReadFault>
-    ensures evaluated { OnOk result (first_not_evaluated program.now ≡ None) }
-    ensures first { IfErr result (IsAtFirstForm program.now) }
-{
-    match first_not_evaluated(program) {
-        Some(place) => Err(ReadFault::UnsupportedForm(place)),
-        None => Ok(()),
-    }
 }
 
 #[cfg(test)]

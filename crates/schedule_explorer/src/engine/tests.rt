@@ -16,8 +16,20 @@ const TURNS: &str = "P P P P";
 const LINES: &str =
     "1 P ets:new('t',['named_table']) -> 't'\n2 P ets:insert('t',{'a',1}) -> 'true'\n3 P ets:lookup('t','a') -> [{'a',1}]\n4 P ends 'normal'\n";
 
+// A function that applies itself until its argument is 0, from one more application below the limit, and
+// from the limit.
+const DOWN_FROM_9999: &str =
+    "module 'm' ['main'/0] attributes [] 'f'/1 = fun (N) -> case N of <0> when 'true' -> 'ok' <M> when 'true' -> apply 'f'/1(call 'erlang':'-'(M,1)) end 'main'/0 = fun () -> apply 'f'/1(9999) end";
+
+const DOWN_FROM_10000: &str =
+    "module 'm' ['main'/0] attributes [] 'f'/1 = fun (N) -> case N of <0> when 'true' -> 'ok' <M> when 'true' -> apply 'f'/1(call 'erlang':'-'(M,1)) end 'main'/0 = fun () -> apply 'f'/1(10000) end";
+
+// A module as a compiler writes it.
+const COMPILED: &str =
+    "module 'm' ['main'/0,'module_info'/0]\n    attributes ['file' = [{\"m.erl\",1}]]\n'main'/0 = ( fun () ->\n  case ( 3 -| [5] ) of\n    <X> when try let <A> = call 'erlang':'hd'(X)\n                 in call 'erlang':'=:='(A,1)\n             of <V> -> V catch <T,R> -> 'false' -> 'one'\n    ( <Y> when 'true' -> 'other' -| ['compiler_generated'] )\n  end -| [{'function',{'main',0}}] )\n'module_info'/0 = fun () -> call 'erlang':'get_module_info'('m')\nend\n";
+
 // A module and a schedule, the lines that are written, the line of the refusal, and the status.
-const ROWS: [(&str, &str, &str, &str, u8); 15] = [
+const ROWS: [(&str, &str, &str, &str, u8); 25] = [
     (TABLE, TURNS, LINES, "", 0),
     (TABLE, "", "", "", 0),
     (
@@ -58,14 +70,66 @@ const ROWS: [(&str, &str, &str, &str, u8); 15] = [
         "input: 13 NoMain at 28\n",
         2,
     ),
-    // a form that is not evaluated yet is told before a schedule that is none
     (
-        "module 'm' ['main'/0] attributes [] 'main'/0 = fun () -> {1,call 'erlang':'+'(1,2)} end",
-        "P  P",
+        "module 'm' ['main'/0] attributes [] 'main'/0 = fun () -> case {1,2} of <{X,Y}> when call 'erlang':'>'(X,Y) -> 'a' end end",
+        "P",
+        "1 P ends {{'case_clause',{1,2}},[]}\n",
         "",
-        "input: 14 UnsupportedForm at 60\n",
-        2,
+        0,
     ),
+    (
+        "module 'm' ['main'/0] attributes [] 'main'/0 = fun () -> try call 'erlang':'throw'('t') of <X> -> X catch <K,R,S> -> primop 'raise'(S,R) end",
+        "P",
+        "1 P ends {{'nocatch','t'},[]}\n",
+        "",
+        0,
+    ),
+    (
+        "module 'm' ['main'/0] attributes [] 'main'/0 = fun () -> call 'erlang':'exit'(catch call 'erlang':'hd'([])) end",
+        "P",
+        "1 P ends {'EXIT',{'badarg',[]}}\n",
+        "",
+        0,
+    ),
+    (
+        "module 'm' ['main'/0] attributes [] 'main'/0 = fun () -> let <X,Y> = 'a' in X end",
+        "P",
+        "1 P ends {'value_count',[]}\n",
+        "",
+        0,
+    ),
+    (
+        "module 'm' ['main'/0] attributes [] 'main'/0 = fun () -> {call 'erlang':'error'('a'),call 'erlang':'error'('b')} end",
+        "P",
+        "1 P ends {'a',[]}\n",
+        "",
+        0,
+    ),
+    (
+        "module 'm' ['main'/0] attributes [] 'main'/0 = fun () -> call 'erlang':'+'(9223372036854775807,1) end",
+        "P",
+        "1 P ends {'system_limit',[]}\n",
+        "",
+        0,
+    ),
+    (
+        "module 'm' ['main'/0] attributes [] 'main'/0 = fun () -> apply 'main'/0() end",
+        "P",
+        "1 P runs away\n",
+        "",
+        0,
+    ),
+    (
+        "module 'm' ['main'/0] attributes [] 'main'/0 = fun () -> catch try apply 'main'/0() of <X> -> X catch <K,R> -> R end",
+        "P",
+        "1 P runs away\n",
+        "",
+        0,
+    ),
+    // 10,000 applications, and one more
+    (DOWN_FROM_9999, "P", "1 P ends 'normal'\n", "", 0),
+    (DOWN_FROM_10000, "P", "1 P runs away\n", "", 0),
+    (COMPILED, "P", "1 P ends 'normal'\n", "", 0),
     (
         "module 'm' ['main'/0] attributes [] 'main'/0 = fun () -> let <X,Y> = <\"a\",$b> in call 'ets':'lookup'('t',{Y,X}) end",
         "P P",

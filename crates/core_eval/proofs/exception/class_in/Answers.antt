@@ -6,4 +6,4 @@ use Rattle.core_eval.proofs.exception.class_in.Goals as goal
 
 pub returns-then-len-ne2 : goal.returns-then-len-ne2
 returns-then-len-ne2 c =
-    sym (no_trace c.in-Tuple.parts (λ two. omega (arith, c.len.ensures, two))) ∙ sym (ap (λ t. class_in (meaning_of t)) c.in-Tuple.is)
+    sym (no_trace c.in-Tuple.parts.value (λ two. omega (arith, c.len.ensures, two))) ∙ sym (ap (λ t. class_in (meaning_of t)) c.in-Tuple.is)

@@ -7,7 +7,7 @@ use Rattle.core_eval.proofs.matching.+matching.Goals as goal
 
 pub matches-returns-in-Tuple-value : goal.matches-returns-in-Tuple-value
 matches-returns-in-Tuple-value t c =
-    group_matches c.matches_each.result c.matches_each.new.bindings (pattern_of c.args.pattern.now) c.in-Tuple.parts (meaning_of c.args.value.now) c.in-Tuple-value.values c.args.bindings.now
+    group_matches c.matches_each.result c.matches_each.new.bindings (pattern_of c.args.pattern.now) c.in-Tuple.parts (meaning_of c.args.value.now) c.in-Tuple-value.values.value c.args.bindings.now
     (ap pattern_of c.in-Tuple.is) (ap meaning_of c.in-Tuple-value.is) c.matches_each.ensures
 
 pub matches_each-returns-then-len-items : goal.matches_each-returns-then-len-items

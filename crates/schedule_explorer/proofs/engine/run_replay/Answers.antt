@@ -8,7 +8,7 @@ use Rattle.term_core.specs.Text.{text_of_schedule}
 use Rattle.term_core.specs.declared.step.Step.{Step}
 use Rattle.schedule_explorer.specs.Engine.{IsBadSchedule}
 use Rattle.schedule_explorer.specs.Replay.{Replays}
-use Rattle.schedule_explorer.proofs.EngineLaws.{module_refused, form_refused, schedule_refused, replay_stopped, replayed, bad_by}
+use Rattle.schedule_explorer.proofs.EngineLaws.{module_refused, schedule_refused, replay_stopped, replayed, bad_by}
 use Rattle.schedule_explorer.proofs.engine.run_replay.Goals as goal
 
 pub returns-in_err-program-clause-run : goal.returns-in_err-program-clause-run
@@ -18,21 +18,12 @@ returns-in_err-program-clause-run g c =
     c.in_err-program.field-0.0 c.from_residual-in_err-program.result (p.1 ∙ ap Err p.2) c.in_ok-text.ensures.input
     (subst (λ (t : List ℕ). IsRefusalOf t c.in_err-program.field-0.0) c.deref.ensures.value c.in_err-program.ensures.refusal) c.requires.writable
 
-pub returns-in_err-check_evaluated-clause-run : goal.returns-in_err-check_evaluated-clause-run
-returns-in_err-check_evaluated-clause-run g c =
-    let p = err_from_is_err_and c.from_residual-in_err-check_evaluated.result c.from_residual-in_err-check_evaluated.ensures.1 in
-    form_refused (g.R.Source.remaining c.args.source.now) c.in_ok-text.text.items c.args.schedule.now (g.W.Sink.contents c.args.sink.now) (g.W.Sink.has_failed c.args.sink.now)
-    c.in_ok-program.program c.in_err-check_evaluated.field-0.0 c.from_residual-in_err-check_evaluated.result (p.1 ∙ ap Err p.2) c.in_ok-text.ensures.input
-    (subst (λ (t : List ℕ). SpellsModule t c.in_ok-program.program) c.deref.ensures.value c.in_ok-program.ensures.spelt)
-    c.in_err-check_evaluated.ensures.first c.requires.writable
-
 pub returns-in_err-steps-clause-run : goal.returns-in_err-steps-clause-run
 returns-in_err-steps-clause-run g c =
     let p = err_from_is_err_and c.from_residual-in_err-steps.result c.from_residual-in_err-steps.ensures.1 in
     schedule_refused (g.R.Source.remaining c.args.source.now) c.in_ok-text.text.items c.args.schedule.now (g.W.Sink.contents c.args.sink.now) (g.W.Sink.has_failed c.args.sink.now)
     c.in_ok-program.program c.in_err-steps.field-0.0 c.from_residual-in_err-steps.result (p.1 ∙ ap Err p.2) c.in_ok-text.ensures.input
     (subst (λ (t : List ℕ). SpellsModule t c.in_ok-program.program) c.deref.ensures.value c.in_ok-program.ensures.spelt)
-    c.in_ok-check_evaluated.ensures.evaluated
     (subst (λ (w : List ℕ). IsBadSchedule w c.in_err-steps.field-0.0) c.as_bytes.ensures.value (bad_by c.as_bytes.result.now c.in_err-steps.field-0.0 (λ at e. c.in_err-steps.ensures.bad_step at (ap Err e))))
     c.requires.writable
 
@@ -45,7 +36,6 @@ returns-in_err-replay-clause-run g c =
     replay_stopped (g.R.Source.remaining c.args.source.now) c.in_ok-text.text.items c.args.schedule.now old new failed
     c.in_ok-program.program c.in_ok-steps.steps.items c.in_err-replay.field-0.0 c.from_residual-in_err-replay.result (p.1 ∙ ap Err p.2) c.in_ok-text.ensures.input
     (subst (λ (t : List ℕ). SpellsModule t c.in_ok-program.program) c.deref.ensures.value c.in_ok-program.ensures.spelt)
-    c.in_ok-check_evaluated.ensures.evaluated
     (subst (λ (w : List ℕ). AreLawful c.in_ok-steps.steps.items × (w ≡ text_of_schedule c.in_ok-steps.steps.items)) c.as_bytes.ensures.value c.in_ok-steps.ensures.ok)
     (subst (λ (ss : List Step). Replays c.in_ok-program.program ss old new failed (Err c.in_err-replay.field-0.0)) c.deref-2.ensures.value c.in_err-replay.ensures)
 
@@ -57,6 +47,5 @@ returns-clause-run g c =
     replayed (g.R.Source.remaining c.args.source.now) c.in_ok-text.text.items c.args.schedule.now old new failed
     c.in_ok-program.program c.in_ok-steps.steps.items c.in_ok-text.ensures.input
     (subst (λ (t : List ℕ). SpellsModule t c.in_ok-program.program) c.deref.ensures.value c.in_ok-program.ensures.spelt)
-    c.in_ok-check_evaluated.ensures.evaluated
     (subst (λ (w : List ℕ). AreLawful c.in_ok-steps.steps.items × (w ≡ text_of_schedule c.in_ok-steps.steps.items)) c.as_bytes.ensures.value c.in_ok-steps.ensures.ok)
     (subst (λ (ss : List Step). Replays c.in_ok-program.program ss old new failed (Ok tt)) c.deref-2.ensures.value c.in_ok-replay.ensures)
