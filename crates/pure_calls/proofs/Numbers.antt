@@ -1,10 +1,7 @@
 -- Absolute values of integers of 64 bits.
-use Rattle.std.proofs.Common.{◌≡◌, ℕ, zero, suc, ◌<◌, ◌^◌, ℤ, pos, negsuc, neg_ℤ, arith, Option, Some, None, Result}
+use Rattle.std.proofs.Common.{ℕ, zero, suc, ℤ, pos, negsuc, neg_ℤ, arith, Option, Some, None}
 use Rattle.std.specs.Prelude.{SomeIff, FitsSigned, unsigned_abs}
 use Rattle.std.specs.Int.{w64}
-use Rattle.pure_calls.specs.Answers.{whole}
-use Rattle.pure_calls.specs.Outcomes.{integer_or_refusal}
-use Rattle.pure_calls.specs.declared.outcome.Refusal.{Refusal}
 
 -- the negative of a natural number fits where the number does
 negative_fits : (n : ℕ) → FitsSigned w64 (pos n) → FitsSigned w64 (neg_ℤ (pos n))

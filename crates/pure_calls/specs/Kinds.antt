@@ -1,7 +1,7 @@
 -- The kinds of terms (Erlang reference manual, module erlang, `is_integer/1` and its neighbours). There are no floats, binaries, maps and functions.
-use Rattle.std.specs.Prelude.{ℤ, pos, Bool, true, false, ◌&&◌, List, Option, Some, None, is_some, length}
+use Rattle.std.specs.Prelude.{ℤ, pos, Bool, true, false, ◌&&◌, Option, Some, is_some, length}
 use Rattle.std.specs.Ordering.{int_eq}
-use Rattle.term_core.specs.Meaning.{Meaning, Meanings, Integer, Name, Reference, Process, Group, Empty, Cell, NoMore, Also, parts_of}
+use Rattle.term_core.specs.Meaning.{Meaning, Meanings, Name, Reference, Process, Group, Empty, Cell, NoMore, Also, parts_of}
 use Rattle.pure_calls.specs.Answers.{Answer, Gives, truth, integer_in, wrong_argument}
 use Rattle.pure_calls.specs.Comparing.{are_equal, boolean_in}
 

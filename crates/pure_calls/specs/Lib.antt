@@ -8,3 +8,4 @@ pub mod Lists
 pub mod Walks
 pub mod Raising
 pub mod Calls
+pub mod Rows

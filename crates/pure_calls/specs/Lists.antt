@@ -1,5 +1,5 @@
 -- Lists (Erlang reference manual, modules erlang and lists). A list is cells, one in the tail of another, and the last tail; it is proper where that is nil.
-use Rattle.std.specs.Prelude.{ℕ, pos, Bool, true, false, ◌&&◌, ◌||◌, nat_lt, List, [], ◌∷◌, reverse, length, codes, if◌then◌else◌}
+use Rattle.std.specs.Prelude.{pos, Bool, true, false, ◌&&◌, ◌||◌, nat_lt, List, [], ◌∷◌, reverse, length, codes, if◌then◌else◌}
 use Rattle.term_core.specs.Meaning.{Meaning, Group, Empty, Cell, group_of}
 use Rattle.term_core.specs.Term.{list_onto}
 use Rattle.pure_calls.specs.Answers.{Answer, Gives, truth, error, whole, wrong_argument}

@@ -75,10 +75,10 @@ fn begin_with(tag: &Term, parts: &Terms) -> bool
 fn is_record_of(tag: &Term, size: i64, term: &Term) -> bool
     ensures { result ≡ is_record_of (meaning_of tag.now) size (meaning_of term.now) }
 {
-    match tuple(term) {
-        Some(parts) => { size >= 0 && size as u64 == parts.len() as u64 && begin_with(tag, parts) }
-        None => false,
-    }
+    let Some(parts) = tuple(term) else {
+        return false;
+    };
+    size >= 0 && size as u64 == parts.len() as u64 && begin_with(tag, parts)
 }
 
 /// `is_record` of a term, a tag and a size.

@@ -5,6 +5,7 @@ mod arithmetic;
 pub mod calls;
 mod compare;
 mod kinds;
+pub mod laws;
 mod lists;
 pub mod outcome;
 mod raise;

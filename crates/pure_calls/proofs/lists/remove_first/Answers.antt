@@ -1,5 +1,4 @@
 use Rattle.std.proofs.Common.{◌∙◌, ap, sym, map, List, arith}
-use Rattle.term_core.specs.Meaning.{Meaning}
 use Rattle.term_core.specs.Term.{meaning_of}
 use Rattle.term_core.specs.declared.term.Term.{Term}
 use Rattle.pure_calls.specs.Walks.{first_equal}
