@@ -6,22 +6,27 @@ use Rattle.term_core.specs.Meaning.{Meaning}
 use Rattle.term_core.specs.Order.{order_of_terms}
 use Rattle.pure_calls.specs.Answers.{Answer, Gives, truth, is_name, wrong_argument}
 
--- there are no floats, so that terms are equal where they are the same
+-- `==/2` and `=:=/2`: there are no floats, so that terms are equal where they are the same
 abbrev pub are_equal : Meaning → Meaning → Bool
 are_equal m n = is_eq (order_of_terms m n)
 
+-- `/=/2` and `=/=/2`
 abbrev pub are_different : Meaning → Meaning → Bool
 are_different m n = is_ne (order_of_terms m n)
 
+-- `</2`
 abbrev pub is_less : Meaning → Meaning → Bool
 is_less m n = is_lt (order_of_terms m n)
 
+-- `=</2`
 abbrev pub is_at_most : Meaning → Meaning → Bool
 is_at_most m n = is_le (order_of_terms m n)
 
+-- `>/2`
 abbrev pub is_greater : Meaning → Meaning → Bool
 is_greater m n = is_gt (order_of_terms m n)
 
+-- `>=/2`
 abbrev pub is_at_least : Meaning → Meaning → Bool
 is_at_least m n = is_ge (order_of_terms m n)
 

@@ -56,7 +56,7 @@ subtracted list taken = if is_proper list && is_proper taken then Gives (list_of
 abbrev pub tuple_of_list : Meaning → Answer
 tuple_of_list list = if is_proper list then Gives (Group (group_of (heads_of list))) else wrong_argument
 
--- `reverse/1`; what has no second cell is told apart before the function goes along the tails
+-- `reverse/1`: what is no list, and a single cell with another last tail than nil, fits no clause of the function; a longer improper list is a wrong argument
 abbrev pub reversed : Meaning → Answer
 reversed list =
     if is_proper list then Gives (list_of (reverse (heads_of list)))

@@ -11,6 +11,7 @@ use Rattle.pure_calls.specs.Lists.{list_of}
 abbrev pub Row : PureCall → List Meaning → Answer → Type 0
 Row call arguments told = answer_of [] call arguments ≡ told
 
+-- three small integers
 abbrev one : Meaning
 one = Integer (pos 1)
 

@@ -105,10 +105,14 @@ fn answer_to_three(
     }
 }
 
-/// What a call gives of the process with this pid: its value, or the exception that it raises, or
-/// `AllocError` where memory is wanting, and then nothing is left of it. A call with another number of
-/// arguments than it has is the error `'undef'`. The arguments are dropped (Erlang reference
-/// manual, modules `erlang` and `lists`).
+/// What a call gives that the process with this pid makes: its value, or the exception that it raises
+/// (Erlang reference manual, modules `erlang` and `lists`).
+///
+/// A wrong argument is the error `'badarg'`, in arithmetic `'badarith'`, which is looked at first; an
+/// integer outside 64 bits is the error `'system_limit'`; `lists:reverse/1` of what has no second cell and
+/// is no proper list is the error `'function_clause'`; `get_module_info` and a call with another number of
+/// arguments than it has are the error `'undef'`. Terms of any size are answered. The arguments are
+/// dropped. It fails with `AllocError` where memory is wanting.
 pub fn answer(
     alloc: Global,
     own: &Pid,
