@@ -1,4 +1,5 @@
 // Small modules built by hand, and what their processes ask.
+mod applications;
 mod clauses;
 mod exceptions;
 mod runs;
@@ -205,6 +206,8 @@ fn a_form_that_is_not_evaluated_is_found(rt: HostRuntime) -> Result<(), Fail> {
         (71, Word::Case(&[&[Look::First]])),
         (72, Word::Try(2)),
         (73, Word::Catch),
+        (74, Word::Apply("f", 3)),
+        (75, Word::CallOwn("f", 3)),
     ] {
         let mut parts = Vec::new(rt.alloc());
         put(rt.alloc(), &mut parts, Word::Int(1))?;

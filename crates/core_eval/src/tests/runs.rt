@@ -1,7 +1,7 @@
 // Modules of one function, and what their processes ask, as text.
 ghost use Rattle.std.specs.Prelude.{◌≡◌, false};
 
-use super::words::{Word, build};
+use super::words::{Word, build, function_name, variables};
 use crate::machine::{Machine, start};
 use crate::request::{Answer, Request};
 use core_tree::{CallKind, Definition, Expr, FunctionName, Module};
@@ -10,26 +10,40 @@ use std::alloc::{AllocError, Global};
 use std::test::Fail;
 use term_core::{Atom, Output, Pid, Term, Terms, WriteFault, write_all, write_term};
 
-fn main_name(alloc: Global) -> Result<FunctionName, AllocError> {
-    let name = Atom(String::from_str(alloc, "main")?);
-    Ok(FunctionName { name, arity: 0 })
-}
+// The functions of a module.
+pub(crate) type Definitions = IndexMap<FunctionName, Definition>;
 
-fn main_with(alloc: Global, body: Expr) -> Result<IndexMap<FunctionName, Definition>, AllocError> {
-    let mut definitions = IndexMap::new(alloc);
-    let parameters = Vec::new(alloc);
+// One more function, of no parameter, of `X`, or of `X` and `Y`.
+pub(crate) fn define(
+    alloc: Global,
+    definitions: &mut Definitions,
+    name: &str,
+    arity: u8,
+    body: Expr,
+) -> Result<(), AllocError> {
+    let parameters = match arity {
+        0 => Vec::new(alloc),
+        1 => variables(alloc, &[b"X"])?,
+        _ => variables(alloc, &[b"X", b"Y"])?,
+    };
     let definition = Definition {
         at: 0,
         parameters,
         body,
     };
-    definitions.insert(main_name(alloc)?, definition)?;
-    Ok(definitions)
+    definitions.insert(function_name(alloc, name, arity)?, definition)?;
+    Ok(())
 }
 
 // The module `m` that exports nothing and defines `'main'/0`.
 pub(crate) fn module_of(alloc: Global, body: Expr) -> Result<Module, AllocError> {
-    let definitions = main_with(alloc, body)?;
+    let mut definitions = IndexMap::new(alloc);
+    define(alloc, &mut definitions, "main", 0, body)?;
+    module_with(alloc, definitions)
+}
+
+// The module `m` that exports nothing and has these definitions.
+pub(crate) fn module_with(alloc: Global, definitions: Definitions) -> Result<Module, AllocError> {
     let name = Atom(String::from_str(alloc, "m")?);
     Ok(Module {
         name,

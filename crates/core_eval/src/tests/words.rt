@@ -1,7 +1,7 @@
 // Expressions and patterns built by hand, from words.
 use core_tree::{
-    Alias, Call, CallKind, Callee, Case, Catch, Clause, Clauses, Do, Expr, Exprs, Let, Onto,
-    OntoPattern, Pattern, Patterns, Try, Variable,
+    Alias, Call, CallKind, Callee, Case, Catch, Clause, Clauses, Do, Expr, Exprs, FunctionName,
+    Let, NamedFunction, Onto, OntoPattern, Pattern, Patterns, Try, Variable,
 };
 use std::alloc::{AllocError, Global};
 use term_core::Atom;
@@ -60,6 +60,11 @@ pub(crate) enum Word {
     // `primop 'raise'` of this many
     Raise(usize),
     ReadThird,
+    // `apply` of the function of this name and this many arguments, and `call` of it
+    Apply(&'static str, u8),
+    CallOwn(&'static str, u8),
+    // `apply` of the function of one argument with the letter `f` and this number as its name
+    Link(usize),
 }
 
 fn variable(alloc: Global, name: &[u8]) -> Result<Variable, AllocError> {
@@ -220,7 +225,7 @@ fn case_of(alloc: Global, parts: &mut Vec<Expr>, clauses: &[&[Look]]) -> Result<
     Ok(Expr::Case(Box::new(alloc, case)?))
 }
 
-fn variables(alloc: Global, names: &[&[u8]]) -> Result<Vec<Variable>, AllocError> {
+pub(crate) fn variables(alloc: Global, names: &[&[u8]]) -> Result<Vec<Variable>, AllocError> {
     let mut variables = Vec::new(alloc);
     for name in names {
         variables.push(variable(alloc, name)?)?;
@@ -254,7 +259,7 @@ fn catch_of(alloc: Global, parts: &mut Vec<Expr>) -> Result<Expr, AllocError> {
     Ok(Expr::Catch(Box::new(alloc, Catch { at: 0, value })?))
 }
 
-fn primop_of(
+fn call_by(
     alloc: Global,
     parts: &mut Vec<Expr>,
     callee: Callee,
@@ -266,6 +271,30 @@ fn primop_of(
         callee,
         arguments,
     }))
+}
+
+pub(crate) fn function_name(
+    alloc: Global,
+    name: &str,
+    arity: u8,
+) -> Result<FunctionName, AllocError> {
+    let name = Atom(String::from_str(alloc, name)?);
+    Ok(FunctionName { name, arity })
+}
+
+pub(crate) fn link_name(alloc: Global, index: usize) -> Result<String, AllocError> {
+    format!(in alloc; "f{index}")
+}
+
+fn apply_of(
+    alloc: Global,
+    parts: &mut Vec<Expr>,
+    name: &str,
+    arity: u8,
+) -> Result<Expr, AllocError> {
+    let function = function_name(alloc, name, arity)?;
+    let callee = Callee::Defined(NamedFunction { at: 0, function });
+    call_by(alloc, parts, callee, usize::from(arity))
 }
 
 fn put_integers(parts: &mut Vec<Expr>, count: i64) -> Result<(), AllocError> {
@@ -298,9 +327,18 @@ pub(crate) fn put(alloc: Global, parts: &mut Vec<Expr>, word: Word) -> Result<()
         Word::Case(clauses) => case_of(alloc, parts, clauses)?,
         Word::Try(count) => try_of(alloc, parts, count)?,
         Word::Catch => catch_of(alloc, parts)?,
-        Word::Fail(count) => primop_of(alloc, parts, Callee::MatchFail, count)?,
-        Word::Raise(count) => primop_of(alloc, parts, Callee::Raise, count)?,
+        Word::Fail(count) => call_by(alloc, parts, Callee::MatchFail, count)?,
+        Word::Raise(count) => call_by(alloc, parts, Callee::Raise, count)?,
         Word::ReadThird => Expr::Variable(variable(alloc, b"Z")?),
+        Word::Apply(name, arity) => apply_of(alloc, parts, name, arity)?,
+        Word::CallOwn(name, arity) => {
+            let function = function_name(alloc, name, arity)?;
+            call_by(alloc, parts, Callee::Exported(function), usize::from(arity))?
+        }
+        Word::Link(index) => {
+            let name = link_name(alloc, index)?;
+            apply_of(alloc, parts, name.as_str(), 1)?
+        }
     };
     parts.push(made)?;
     Ok(())
