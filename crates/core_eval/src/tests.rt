@@ -2,20 +2,18 @@
 mod applications;
 mod clauses;
 mod exceptions;
+mod own_calls;
 mod runs;
 mod words;
 
 use crate::machine::Machine;
-use crate::not_yet::first_not_evaluated;
 use crate::request::Answer;
-use clauses::EVERY_PATTERN;
-use core_tree::{Call, CallKind, Callee, Expr, Exprs, PureCall};
-use exceptions::BADMATCH;
+use core_tree::{CallKind, Expr};
 use runs::{asked, module_of, process, run_of, run_on, text_of};
 use std::alloc::{AllocError, Global};
 use std::test::Fail;
 use term_core::{Atom, Pid, Term};
-use words::{FIRST, LETTERS, Look, TAKE, TWO, Word, build, last, put};
+use words::{FIRST, LETTERS, TAKE, TWO, Word};
 
 // A call in each place of a tuple, a list, a list with a tail, a `do`, a `let` and a call.
 const EACH_PLACE: [Word; 24] = [
@@ -175,47 +173,6 @@ fn evaluates_strings_and_values(rt: HostRuntime) -> Result<(), Fail> {
     for (words, want) in rows {
         let text = asked(rt.alloc(), words)?;
         assert_eq!(rt; text.as_slice(), want.as_bytes());
-    }
-    Ok(())
-}
-
-// `1 + 2`, by the call at this place
-fn sum(alloc: Global, at: usize) -> Result<Expr, AllocError> {
-    let mut numbers = Vec::new(alloc);
-    numbers.push(Expr::Integer(1))?;
-    numbers.push(Expr::Integer(2))?;
-    Ok(Expr::Call(Call {
-        at,
-        callee: Callee::Pure(PureCall::Add),
-        arguments: Exprs(numbers),
-    }))
-}
-
-#[test]
-fn a_form_that_is_not_evaluated_is_found(rt: HostRuntime) -> Result<(), Fail> {
-    for words in [
-        EACH_PLACE.as_slice(),
-        EVERY_PATTERN.as_slice(),
-        BADMATCH.as_slice(),
-    ] {
-        let program = module_of(rt.alloc(), build(rt.alloc(), words)?)?;
-        assert_eq!(rt; first_not_evaluated(&program), None);
-    }
-    for (at, form) in [
-        (70, Word::Do),
-        (71, Word::Case(&[&[Look::First]])),
-        (72, Word::Try(2)),
-        (73, Word::Catch),
-        (74, Word::Apply("f", 3)),
-        (75, Word::CallOwn("f", 3)),
-    ] {
-        let mut parts = Vec::new(rt.alloc());
-        put(rt.alloc(), &mut parts, Word::Int(1))?;
-        put(rt.alloc(), &mut parts, Word::Int(1))?;
-        parts.push(sum(rt.alloc(), at)?)?;
-        put(rt.alloc(), &mut parts, form)?;
-        let program = module_of(rt.alloc(), last(&mut parts))?;
-        assert_eq!(rt; first_not_evaluated(&program), Some(at));
     }
     Ok(())
 }

@@ -1,7 +1,7 @@
 // Expressions and patterns built by hand, from words.
 use core_tree::{
     Alias, Call, CallKind, Callee, Case, Catch, Clause, Clauses, Do, Expr, Exprs, FunctionName,
-    Let, NamedFunction, Onto, OntoPattern, Pattern, Patterns, Try, Variable,
+    Let, NamedFunction, Onto, OntoPattern, Pattern, Patterns, PureCall, Try, Variable,
 };
 use std::alloc::{AllocError, Global};
 use term_core::Atom;
@@ -60,6 +60,8 @@ pub(crate) enum Word {
     // `primop 'raise'` of this many
     Raise(usize),
     ReadThird,
+    // a call that the process answers by itself, of this many
+    Own(PureCall, usize),
     // `apply` of the function of this name and this many arguments, and `call` of it
     Apply(&'static str, u8),
     CallOwn(&'static str, u8),
@@ -330,6 +332,7 @@ pub(crate) fn put(alloc: Global, parts: &mut Vec<Expr>, word: Word) -> Result<()
         Word::Fail(count) => call_by(alloc, parts, Callee::MatchFail, count)?,
         Word::Raise(count) => call_by(alloc, parts, Callee::Raise, count)?,
         Word::ReadThird => Expr::Variable(variable(alloc, b"Z")?),
+        Word::Own(kind, count) => call_by(alloc, parts, Callee::Pure(kind), count)?,
         Word::Apply(name, arity) => apply_of(alloc, parts, name, arity)?,
         Word::CallOwn(name, arity) => {
             let function = function_name(alloc, name, arity)?;
