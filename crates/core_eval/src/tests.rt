@@ -13,7 +13,7 @@ use runs::{asked, module_of, process, run_of, run_on, text_of};
 use std::alloc::{AllocError, Global};
 use std::test::Fail;
 use term_core::{Atom, Pid, Term};
-use words::{FIRST, LETTERS, TAKE, TWO, Word};
+use words::{FIRST, LETTERS, TAKE, TWO, Word, build, last, put};
 
 // A call in each place of a tuple, a list, a list with a tail, a `do`, a `let` and a call.
 const EACH_PLACE: [Word; 24] = [

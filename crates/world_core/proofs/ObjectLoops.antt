@@ -1,8 +1,8 @@
 -- Objects, put in one after another.
-use Rattle.std.proofs.Common.{◌≡◌, ℕ, false, List, [], ◌∷◌, suc, length, map, arith, Option, None, Some, refl, sym, ap, ◌∙◌}
-use Rattle.std.specs.Prelude.{◌==◌, option_map}
+use Rattle.std.proofs.Common.{◌≡◌, Bool, true, false, Global, List, [], ◌∷◌, Option, None, Some, refl, sym, ap, ◌∙◌}
+use Rattle.std.specs.Prelude.{IsTrue, ◌↔◌, option_map}
+use Rattle.std.specs.declared.sync.Arc.{Arc}
 use Rattle.std.specs.Option.{option_or}
-use Rattle.std.proofs.lemmas.Bool.Decides.{nat_tests}
 use Rattle.term_core.specs.Meaning.{Meaning, Group, Cell, group_of}
 use Rattle.term_core.specs.Term.{meaning_of}
 use Rattle.term_core.specs.declared.term.Term.{Term}
@@ -18,7 +18,7 @@ PutsIn all first rows rest =
     → (left : List Meaning) × (tuples_of rest ≡ Some left) × ((key : Meaning) → replaced (last_with key left) (objects_under rows key) ≡ replaced (last_with key os) (objects_under first key))
 
 -- where a term is no tuple, all are left in the beginning
-pub puts_in_all : (t : Term) (rows : List (Meaning × List Meaning)) → ((parts : Terms) → t ≡ Tuple parts → ⊥) → PutsIn (meaning_of t) rows rows (meaning_of t)
+pub puts_in_all : (t : Term) (rows : List (Meaning × List Meaning)) → ((parts : Arc Terms Global) → t ≡ Tuple parts → ⊥) → PutsIn (meaning_of t) rows rows (meaning_of t)
 puts_in_all (Int n) rows other os is = absurd cc
 puts_in_all (Atom a) rows other os is = absurd cc
 puts_in_all (Ref r) rows other os is = absurd cc
@@ -67,9 +67,11 @@ module _ (all cell head tail : Meaning) (first rows new : List (Meaning × List 
       none_left left q = cc
 
 -- an object is too short where it has no parts
-pub short_where_empty : (ts : List Term) (n : ℕ) → n ≡ length ts → (n == 0) ≡ is_short (Group (group_of (map meaning_of ts)))
-short_where_empty [] n e = ap (λ k. k == 0) e
-short_where_empty (t ∷ ts) n e = no_zero n (length ts) e
+pub short_where_empty : (b : Bool) (ms : List Meaning) → (IsTrue b ↔ (ms ≡ [])) → b ≡ is_short (Group (group_of ms))
+short_where_empty true [] h = refl
+short_where_empty false [] h = h.1 refl
+short_where_empty true (m ∷ ms) h = absurd (no_more (h.0 refl))
   where
-    no_zero : (n k : ℕ) → n ≡ suc k → (n == 0) ≡ false
-    no_zero n k e = grind (arith, nat_tests)
+    no_more : m ∷ ms ≡ [] → ⊥
+    no_more e = cc
+short_where_empty false (m ∷ ms) h = refl
