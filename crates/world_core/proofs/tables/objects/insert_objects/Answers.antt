@@ -12,7 +12,7 @@ loop-rest-init c = puts_in_all c.args.objects.now c.args.rows.now c.in_default.n
 pub loop-rest-preserved : goal.loop-rest-preserved
 loop-rest-preserved c =
     let all = meaning_of c.args.objects.now in
-    let cell = ap meaning_of c.in-Cons.is ∙ sym (ap (λ (p : Meaning × Meaning). Cell p.0 p.1) c.deref-pair.ensures) in
+    let cell = ap meaning_of c.in-Cons.is ∙ sym (ap (λ (p : Meaning × Meaning). Cell p.0 p.1) c.deref-pair.ensures) ∙ sym (λ i. Cell (c.head.ensures i) (c.tail-rest.ensures i)) in
     elim c.match-tuple_of.branch [
       | in-Some+in_ok-insert_object w ↦ puts_in_on all _ _ _ c.args.rows.now c.loop-rest.rows c.match-tuple_of.rows cell w.in-Some.parts.now w.in-Some.ensures
           (λ key. ap (λ (rows : List (Meaning × List Meaning)). objects_under rows key) w.rows-is ∙ w.in_ok-insert_object.ensures key)

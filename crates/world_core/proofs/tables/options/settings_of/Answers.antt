@@ -6,5 +6,5 @@ use Rattle.world_core.proofs.tables.options.settings_of.Goals as goal
 
 pub loop-rest-preserved : goal.loop-rest-preserved
 loop-rest-preserved c =
-    let cell = ap meaning_of c.in-Cons.is ∙ sym (ap (λ (p : Meaning × Meaning). Cell p.0 p.1) c.deref-pair.ensures) in
+    let cell = ap meaning_of c.in-Cons.is ∙ sym (ap (λ (p : Meaning × Meaning). Cell p.0 p.1) c.deref-pair.ensures) ∙ sym (λ i. Cell (c.head.ensures i) (c.tail-rest.ensures i)) in
     joined_on c.loop-rest.settings c.with-settings.result _ _ _ _ cell c.in_ok-option_of-in-Cons.ensures c.with-settings.ensures.protection c.with-settings.ensures.is_named ∙ c.loop-rest.invariant
