@@ -170,10 +170,11 @@ const FIRST_OF_NEST: [Word; 9] = [
     ]),
 ];
 
-fn link_behind(alloc: Global, index: usize, is_nest: bool) -> Result<Expr, AllocError> {
+// The body of a function that applies the link of this index.
+fn link_to(alloc: Global, index: usize, is_nest: bool) -> Result<Expr, AllocError> {
     let mut parts = Vec::new(alloc);
     put(alloc, &mut parts, Word::Read)?;
-    put(alloc, &mut parts, Word::Link((index + 1) % LINKS))?;
+    put(alloc, &mut parts, Word::Link(index))?;
     if is_nest {
         put(alloc, &mut parts, Word::Name("done"))?;
         put(alloc, &mut parts, Word::Do)?;
@@ -194,7 +195,7 @@ fn add_chain(
     define(alloc, definitions, "f0", 1, first)?;
     for index in 1..LINKS {
         let name = link_name(alloc, index)?;
-        let body = link_behind(alloc, index, is_nest)?;
+        let body = link_to(alloc, (index + 1) % LINKS, is_nest)?;
         define(alloc, definitions, name.as_str(), 1, body)?;
     }
     Ok(())
