@@ -11,13 +11,13 @@ use Rattle.schedule_explorer.proofs.transcript.write_arguments.Goals as goal
 pub returns-in_err-write_term : goal.returns-in_err-write_term
 returns-in_err-write_term g c =
     let p = err_from_is_err_and c.from_residual.result c.from_residual.ensures.1 in
-    let opens : text_of_arguments c.args.arguments.now ≡ text_of_term (meaning_of c.in-Some.first.now) ++ flat_map (λ u. behind_comma (meaning_of u)) c.in-Some.others.now = ap text_of_arguments (sym c.arguments.view_is ∙ ap (map meaning_of) (sym c.deref.ensures.value ∙ c.in-Some.ensures.cases.0)) ∙ text_of_arguments-cons c.in-Some.first.now c.in-Some.others.now in
+    let opens : text_of_arguments c.args.arguments.now ≡ text_of_term (meaning_of c.in-Some.first.now) ++ flat_map (λ u. behind_comma (meaning_of u)) c.in-Some.others.now = ap text_of_arguments (sym c.as_slice.ensures ∙ ap (map meaning_of) c.in-Some.ensures.cases.0) ∙ text_of_arguments-cons c.in-Some.first.now c.in-Some.others.now in
     let o = owes_same _ _ _ _ _ opens (owes_all _ _) in
     breaks_at _ _ _ _ _ _ p.1 (owes_break_in _ _ _ _ (text_of_term (meaning_of c.in-Some.first.now)) _ _ o c.in_err-write_term.ensures)
 
 pub loop-argument-init : goal.loop-argument-init
 loop-argument-init g c =
-    let opens : text_of_arguments c.args.arguments.now ≡ text_of_term (meaning_of c.in-Some.first.now) ++ flat_map (λ u. behind_comma (meaning_of u)) c.in-Some.others.now = ap text_of_arguments (sym c.arguments.view_is ∙ ap (map meaning_of) (sym c.deref.ensures.value ∙ c.in-Some.ensures.cases.0)) ∙ text_of_arguments-cons c.in-Some.first.now c.in-Some.others.now in
+    let opens : text_of_arguments c.args.arguments.now ≡ text_of_term (meaning_of c.in-Some.first.now) ++ flat_map (λ u. behind_comma (meaning_of u)) c.in-Some.others.now = ap text_of_arguments (sym c.as_slice.ensures ∙ ap (map meaning_of) c.in-Some.ensures.cases.0) ∙ text_of_arguments-cons c.in-Some.first.now c.in-Some.others.now in
     let o = owes_same _ _ _ _ _ opens (owes_all _ _) in
     let w = c.in_ok-write_term.ensures in
     (w.sound, owes_same _ _ _ _ _ (sym (append-nil _)) (owes_less _ _ _ (text_of_term (meaning_of c.in-Some.first.now)) _ _ o w.appends))
