@@ -1,4 +1,4 @@
-use Rattle.std.proofs.Common.{◌≡◌, ℕ, List}
+use Rattle.std.proofs.Common.{◌≡◌, List}
 use Rattle.core_eval.specs.Applications.{setting_of}
 use Rattle.core_eval.specs.Ask.{request_of}
 use Rattle.core_eval.specs.Asked.{Answered}
