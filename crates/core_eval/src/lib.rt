@@ -7,6 +7,7 @@ mod control;
 mod entry;
 mod exception;
 mod frame;
+pub mod laws;
 mod leave;
 pub mod machine;
 mod matching;
