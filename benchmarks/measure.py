@@ -1,0 +1,220 @@
+#!/usr/bin/env python3
+"""Measures the built program on long modules and on long evaluations.
+
+    benchmarks/measure.py [--program PATH] [--runs N]
+
+Each module is run at half its size and at its whole size. A row tells the size, the seconds of the
+clock of the fastest of N runs, the most memory in MB, and how many times as long as the half the
+whole took: 2 where the cost is linear. A run that does not print what it has to ends the measurement.
+It wants Python 3.9 or later and nothing besides. Without --program it takes the program that the
+script `schedule_explorer` at the root of the repository built; run that once before.
+"""
+
+import argparse
+import os
+import resource
+import subprocess
+import sys
+import tempfile
+import time
+from pathlib import Path
+from typing import Callable, List, NamedTuple, Tuple
+
+PROGRAM = Path(__file__).resolve().parent.parent / "crates/schedule_explorer/out/schedule_explorer"
+MODULE_BYTES = 1_048_000
+DEPTH = 998
+
+
+class Row(NamedTuple):
+    """A module by its size, the schedule, and the transcript that has to come."""
+
+    name: str
+    size: int
+    module: Callable[[int], str]
+    schedule: str
+    transcript: str
+
+
+class Figure(NamedTuple):
+    """What one run took."""
+
+    seconds: float
+    megabytes: float
+
+
+def module(body: str, others: str = "") -> str:
+    return f"module 'm' ['main'/0] attributes []\n'main'/0 = fun () -> {body}\n{others}\nend\n"
+
+
+def beside(part: str, size: int) -> str:
+    """A list of equal parts, of this many bytes at most."""
+    return "[" + ",".join([part] * (size // (len(part) + 1))) + "]"
+
+
+def annotated_items(size: int) -> str:
+    return beside("( 1 -| [1,2,3] )", size)
+
+
+def nested_lists(size: int) -> str:
+    return beside("[" * DEPTH + "]" * DEPTH, size)
+
+
+def nested_annotations(size: int) -> str:
+    return beside("( " * DEPTH + "1" + " -| [] )" * DEPTH, size)
+
+
+def integers(size: int) -> str:
+    return beside("7", size)
+
+
+def string(size: int) -> str:
+    return '"' + "a" * size + '"'
+
+
+def definitions(count: int) -> str:
+    return module("'ok'", "\n".join(f"'f{n}'/0=fun()->1" for n in range(count)))
+
+
+def unused(part: Callable[[int], str]) -> Callable[[int], str]:
+    """The part in a function that is not called: it is read and not evaluated."""
+    return lambda size: module("'ok'", f"'f'/0 = fun () -> {part(size)}")
+
+
+def evaluated(part: Callable[[int], str]) -> Callable[[int], str]:
+    return lambda size: module(part(size))
+
+
+COUNT_DOWN = """'f'/1 = fun (N) ->
+  case N of
+    <0> when 'true' -> 'ok'
+    <M> when 'true' -> apply 'f'/1(call 'erlang':'-'(M,1))
+  end"""
+
+ADD_UP = """'f'/1 = fun (N) ->
+  case N of
+    <0> when 'true' -> 0
+    <M> when 'true' -> call 'erlang':'+'(1,apply 'f'/1(call 'erlang':'-'(M,1)))
+  end"""
+
+BUILD = """'b'/2 = fun (N,L) ->
+  case N of
+    <0> when 'true' -> L
+    <M> when 'true' -> apply 'b'/2(call 'erlang':'-'(M,1),[M|L])
+  end"""
+
+REVERSE = """'r'/2 = fun (L,Done) ->
+  case L of
+    <[]> when 'true' -> Done
+    <[X|Others]> when 'true' -> apply 'r'/2(Others,[X|Done])
+  end"""
+
+
+def count_down(size: int) -> str:
+    return module(f"apply 'f'/1({size})", COUNT_DOWN)
+
+
+def add_up(size: int) -> str:
+    return module(f"apply 'f'/1({size})", ADD_UP)
+
+
+def own_reverse(size: int) -> str:
+    return module(f"apply 'r'/2(apply 'b'/2({size},[]),[])", BUILD + "\n" + REVERSE)
+
+
+def listed_reverse(size: int) -> str:
+    return module(f"call 'lists':'reverse'(apply 'b'/2({size},[]))", BUILD)
+
+
+def difference(size: int) -> str:
+    body = f"let <L> = apply 'b'/2({size},[]) in call 'erlang':'--'(L,call 'lists':'reverse'(L))"
+    return module(body, BUILD)
+
+
+NOTHING = ""
+NORMAL = "1 P ends 'normal'\n"
+TOO_LARGE = "1 P ends {'system_limit',[]}\n"
+
+READING = [
+    Row("items of a list, each annotated", MODULE_BYTES, unused(annotated_items), "", NOTHING),
+    Row("lists nested 998 deep, side by side", MODULE_BYTES, unused(nested_lists), "", NOTHING),
+    Row("annotations nested 998 deep", MODULE_BYTES, unused(nested_annotations), "", NOTHING),
+    Row("one string", MODULE_BYTES, unused(string), "", NOTHING),
+    Row("one list of integers", MODULE_BYTES, unused(integers), "", NOTHING),
+    Row("definitions", 50_000, definitions, "", NOTHING),
+]
+
+BUILDING = [
+    Row("lists nested 998 deep", MODULE_BYTES, evaluated(nested_lists), "P", TOO_LARGE),
+    Row("one string", MODULE_BYTES, evaluated(string), "P", TOO_LARGE),
+    Row("one list of integers", MODULE_BYTES, evaluated(integers), "P", TOO_LARGE),
+]
+
+EVALUATION = [
+    Row("a function that applies itself at its end", 9_999, count_down, "P", NORMAL),
+    Row("1 + f(N - 1), nested", 9_999, add_up, "P", NORMAL),
+    Row("a list built and reversed by own functions", 4_000, own_reverse, "P", NORMAL),
+    Row("a list built, and reversed by `lists:reverse`", 4_000, listed_reverse, "P", NORMAL),
+    Row("`--` of a list and its reverse", 4_990, difference, "P", NORMAL),
+]
+
+
+def run(program: Path, row: Row, text: bytes) -> Figure:
+    """One run of the program; its memory is told when it is waited for."""
+    with tempfile.TemporaryFile() as source, tempfile.TemporaryFile() as sink:
+        source.write(text)
+        source.seek(0)
+        began = time.monotonic()
+        child = subprocess.Popen([program, "replay", row.schedule], stdin=source, stdout=sink)
+        _, status, usage = os.wait4(child.pid, 0)
+        seconds = time.monotonic() - began
+        child.returncode = os.waitstatus_to_exitcode(status)
+        sink.seek(0)
+        transcript = sink.read().decode()
+    if child.returncode != 0 or transcript != row.transcript:
+        sys.exit(f"{row.name}: status {child.returncode}, it printed {transcript!r}")
+    return Figure(seconds, usage.ru_maxrss / 1024)
+
+
+def fastest(program: Path, row: Row, runs: int) -> Tuple[Figure, Figure]:
+    """The half and the whole, in turns, so that what else the machine does falls on both."""
+    texts = [row.module(size).encode() for size in (row.size // 2, row.size)]
+    halves, wholes = zip(*([run(program, row, text) for text in texts] for _ in range(runs)))
+    return min(halves), min(wholes)
+
+
+def memory(figure: Figure) -> str:
+    """What the program took; a process begins with what its parent held, so less is not seen."""
+    own = resource.getrusage(resource.RUSAGE_SELF).ru_maxrss / 1024
+    return f"{figure.megabytes:.0f}" if figure.megabytes > own else f"under {own:.0f}"
+
+
+def print_table(program: Path, title: str, rows: List[Row], runs: int) -> None:
+    print(f"\n| {title} | size | seconds | MB | as many times the half |")
+    print("| --- | --- | --- | --- | --- |")
+    for row in rows:
+        half, whole = fastest(program, row, runs)
+        cells = (
+            row.name,
+            f"{row.size:,}",
+            f"{whole.seconds:.3f}",
+            memory(whole),
+            f"{whole.seconds / half.seconds:.1f}",
+        )
+        print("| " + " | ".join(cells) + " |", flush=True)
+
+
+def main() -> None:
+    layout = argparse.RawDescriptionHelpFormatter
+    parser = argparse.ArgumentParser(description=__doc__, formatter_class=layout)
+    parser.add_argument("--program", type=Path, default=PROGRAM)
+    parser.add_argument("--runs", type=int, default=9)
+    words = parser.parse_args()
+    if not words.program.is_file():
+        sys.exit(f"there is no program {words.program}")
+    print_table(words.program, "read, bytes", READING, words.runs)
+    print_table(words.program, "evaluated until it is too large, bytes", BUILDING, words.runs)
+    print_table(words.program, "evaluated in one turn, items", EVALUATION, words.runs)
+
+
+if __name__ == "__main__":
+    main()
