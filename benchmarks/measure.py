@@ -140,7 +140,7 @@ READING = [
     Row("annotations nested 998 deep", MODULE_BYTES, unused(nested_annotations), "", NOTHING),
     Row("one string", MODULE_BYTES, unused(string), "", NOTHING),
     Row("one list of integers", MODULE_BYTES, unused(integers), "", NOTHING),
-    Row("definitions", 50_000, definitions, "", NOTHING),
+    Row("definitions, their number", 50_000, definitions, "", NOTHING),
 ]
 
 BUILDING = [
@@ -209,6 +209,8 @@ def main() -> None:
     parser.add_argument("--program", type=Path, default=PROGRAM)
     parser.add_argument("--runs", type=int, default=9)
     words = parser.parse_args()
+    if words.runs < 1:
+        parser.error("--runs is at least 1")
     if not words.program.is_file():
         sys.exit(f"there is no program {words.program}")
     print_table(words.program, "read, bytes", READING, words.runs)
