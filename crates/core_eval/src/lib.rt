@@ -19,6 +19,3 @@ mod step;
 
 pub use machine::{Machine, start};
 pub use request::{Answer, Request};
-
-#[cfg(test)]
-mod tests;

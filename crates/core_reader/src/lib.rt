@@ -11,8 +11,6 @@ mod parser;
 mod patterns;
 pub mod reader;
 pub mod reading;
-#[cfg(test)]
-mod tests;
 
 pub use core_tokens::{ReadFault, check_text, tokens};
 pub use core_tree::{

@@ -40,7 +40,3 @@ pub fn read_module(alloc: Global, text: &[u8]) -> Result<Module, ReadFault>
     read_tokens(alloc, &tokens, text.len())
 }
 
-#[cfg(test)]
-mod language;
-#[cfg(test)]
-mod tests;

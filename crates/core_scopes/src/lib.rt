@@ -5,8 +5,6 @@
 pub mod draft;
 pub mod functions;
 mod scopes;
-#[cfg(test)]
-mod tests;
 
 pub use core_tokens::ReadFault;
 pub use core_tree::Module;

@@ -161,6 +161,3 @@ pub fn tokens(alloc: Global, text: &[u8]) -> Result<Vec<Token>, ReadFault>
 pub fn tokens_are_unique()
     ensures { (text : List ℕ) (ps qs : List Piece) → AreTokens text ps → AreTokens text qs → ps ≡ qs }
 {}
-
-#[cfg(test)]
-mod tests;

@@ -32,23 +32,3 @@ pub fn check_text(text: &[u8]) -> Result<(), ReadFault>
         Err(error) => Err(ReadFault::NotUtf8(error.valid_up_to())),
     }
 }
-
-#[cfg(test)]
-mod tests {
-    use super::*;
-    use std::test::Fail;
-
-    #[test]
-    fn checks_texts(rt: HostRuntime) -> Result<(), Fail> {
-        assert_eq!(rt; check_text(b""), Ok(()));
-        assert_eq!(rt; check_text("a\u{20ac}".as_bytes()), Ok(()));
-        assert_eq!(rt; check_text(b"module \xff"), Err(ReadFault::NotUtf8(7)));
-        assert_eq!(rt; check_text(b"ab\xe2\x82"), Err(ReadFault::NotUtf8(2)));
-        assert_eq!(rt; check_text(b"\xed\xa0\x80"), Err(ReadFault::NotUtf8(0)));
-        let mut text = vec![in rt.alloc(); b' '; TEXT_LIMIT]?;
-        assert_eq!(rt; check_text(&text), Ok(()));
-        text.push(0xff)?;
-        assert_eq!(rt; check_text(&text), Err(ReadFault::TooLong(TEXT_LIMIT)));
-        Ok(())
-    }
-}

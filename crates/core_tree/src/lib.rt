@@ -7,8 +7,6 @@ pub mod module;
 pub mod pattern;
 pub mod pure;
 mod sameness;
-#[cfg(test)]
-mod tests;
 pub mod tree;
 pub mod variable;
 

@@ -9,8 +9,6 @@ pub mod laws;
 mod lists;
 pub mod outcome;
 mod raise;
-#[cfg(test)]
-mod tests;
 mod tuples;
 
 pub use calls::answer;

@@ -1,19 +1,7 @@
 // The program: reads a module, replays a schedule of it, and prints what happened.
 #![tactic(auto)]
 
-pub mod engine;
-pub mod fault_text;
-pub mod input;
-pub mod replay;
-pub mod replay_fault;
-pub mod transcript;
-pub mod verdict;
-pub mod words;
-
-use crate::engine::run_replay;
-use crate::fault_text::write_fault;
-use crate::verdict::{RunFault, Verdict, status};
-use crate::words::{Words, read_words};
+use explorer_engine::{RunFault, Verdict, Words, read_words, run_replay, status, write_fault};
 use std::env;
 use std::io::{BufWriter, Write};
 use std::process::ExitCode;

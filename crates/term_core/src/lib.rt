@@ -5,7 +5,6 @@
 pub mod atom;
 pub mod build;
 pub mod copy;
-pub mod devices;
 pub mod hash;
 pub mod nodes;
 pub mod order;
@@ -16,8 +15,6 @@ pub mod step;
 pub mod stream;
 pub mod term;
 pub mod term_text;
-#[cfg(test)]
-mod tests;
 pub mod text;
 
 pub use atom::Atom;

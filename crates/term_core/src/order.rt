@@ -12,8 +12,6 @@ use std::cmp::Ordering;
 
 pub mod names;
 pub mod steps;
-#[cfg(test)]
-mod tests;
 
 /// The place of the term's kind among the kinds.
 fn rank(term: &Term) -> u8

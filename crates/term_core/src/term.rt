@@ -7,9 +7,6 @@ use crate::pid::{Pid, RefId};
 use std::marker::Model;
 use std::sync::Arc;
 
-#[cfg(test)]
-mod tests;
-
 /// A term: an integer of 64 bits, an atom, a reference, a pid, a tuple, nil, or a list cell. A copy
 /// shares the parts of tuples and cells.
 #[derive(Drop)]

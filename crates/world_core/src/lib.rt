@@ -13,6 +13,3 @@ pub use event::{Deed, Event};
 pub use fault::WorldFault;
 pub use tables::rule::Rule;
 pub use world::World;
-
-#[cfg(test)]
-mod tests;

@@ -1,0 +1,64 @@
+-- What a run of the program comes to, by the bytes that it is given.
+use Rattle.std.specs.Prelude.{◌≡◌, ℕ, Bool, false, List, Option, Result, Ok, Err}
+use Rattle.core_tree.specs.Syntax.{ModuleTree}
+use Rattle.core_reader.specs.Reader.{SpellsModule}
+use Rattle.core_reader.specs.Refusal.{IsRefusalOf}
+use Rattle.term_core.specs.Schedule.{AreLawful, IsFirstBadStep}
+use Rattle.term_core.specs.Stream.{BreaksOff}
+use Rattle.term_core.specs.Text.{text_of_schedule}
+use Rattle.term_core.specs.declared.schedule.ScheduleFault.{ScheduleFault}
+use Rattle.term_core.specs.declared.schedule.ScheduleFault.TheVariants as schedule
+use Rattle.term_core.specs.declared.step.Step.{Step}
+use Rattle.explorer_engine.specs.Replay.{Replays, transcript}
+use Rattle.explorer_engine.specs.declared.verdict.RunFault.{RunFault}
+use Rattle.explorer_engine.specs.declared.verdict.RunFault.TheVariants as run
+use Rattle.explorer_engine.specs.declared.verdict.Verdict.{Verdict}
+use Rattle.explorer_engine.specs.declared.verdict.Verdict.TheVariants.{Done}
+
+-- the input is the text of this module, and the word is the text of this schedule
+pub record IsGiven (input word : List ℕ) (m : ModuleTree) (steps : List Step) : Type 0 where
+  pub module_text : SpellsModule input m
+  pub lawful : AreLawful steps
+  pub schedule_text : word ≡ text_of_schedule steps
+
+-- nothing was written
+pub record WritesNothing (old new : Option (List ℕ)) (failed : Bool) : Type 0 where
+  pub same : new ≡ old
+  pub sound : failed ≡ false
+
+-- the word is refused as a schedule: but for want of memory at its first bad step
+abbrev pub IsBadSchedule : List ℕ → ScheduleFault → Type 0
+IsBadSchedule word (schedule.BadStep at) = IsFirstBadStep word at
+IsBadSchedule word schedule.Memory = Unit {0}
+
+-- what was replayed, and how that ended
+pub record IsReplayed (input word : List ℕ) (old new : Option (List ℕ)) (End : ModuleTree → List Step → Type 0) : Type 0 where
+  pub program : ModuleTree
+  pub steps : List Step
+  pub given : IsGiven input word program steps
+  pub end : End program steps
+
+-- the input is a module, and the word is refused
+pub record IsNoSchedule (input word : List ℕ) (old new : Option (List ℕ)) (failed : Bool) (fault : ScheduleFault) : Type 0 where
+  pub program : ModuleTree
+  pub module_text : SpellsModule input program
+  pub bad : IsBadSchedule word fault
+  pub quiet : WritesNothing old new failed
+
+-- a run replayed its schedule to the end; or the input was refused as a module, or could not be read, or the schedule was refused, and nothing was written; or the replay stopped at a step or for want of memory, or the output failed
+abbrev pub IsRunOf : (input word : List ℕ) → (old new : Option (List ℕ)) → Bool → Result Verdict RunFault → Type 0
+IsRunOf input word old new failed (Ok Done) = IsReplayed input word old new (λ m steps. Replays m steps old new failed (Ok tt))
+IsRunOf input word old new failed (Err (run.Input fault)) = IsRefusalOf input fault × WritesNothing old new failed
+IsRunOf input word old new failed (Err run.ReadFailed) = WritesNothing old new failed
+IsRunOf input word old new failed (Err (run.Schedule fault)) = IsNoSchedule input word old new failed fault
+IsRunOf input word old new failed (Err (run.Replay fault)) = IsReplayed input word old new (λ m steps. Replays m steps old new failed (Err fault))
+IsRunOf input word old new failed (Err run.Output) = IsReplayed input word old new (λ m steps. BreaksOff old new failed (transcript m steps))
+
+-- the run was refused before its replay: its input could not be read, or is no module, or the word is no schedule
+abbrev pub IsRefusedBefore : Result Verdict RunFault → Type 0
+IsRefusedBefore (Ok Done) = ⊥
+IsRefusedBefore (Err (run.Input fault)) = Unit {0}
+IsRefusedBefore (Err run.ReadFailed) = Unit {0}
+IsRefusedBefore (Err (run.Schedule fault)) = Unit {0}
+IsRefusedBefore (Err (run.Replay fault)) = ⊥
+IsRefusedBefore (Err run.Output) = ⊥

@@ -1,0 +1,53 @@
+-- The line by which a refusal is told, as bytes.
+use Rattle.std.specs.Prelude.{ℕ, List, ◌++◌, codes}
+use Rattle.std.specs.Fmt.{decimal}
+use Rattle.core_tokens.specs.declared.fault.ReadFault.{ReadFault}
+use Rattle.core_tokens.specs.declared.fault.ReadFault.TheVariants as read
+use Rattle.term_core.specs.declared.schedule.ScheduleFault.{ScheduleFault}
+use Rattle.term_core.specs.declared.schedule.ScheduleFault.TheVariants as schedule
+use Rattle.explorer_engine.specs.declared.replay_fault.ReplayFault.{ReplayFault}
+use Rattle.explorer_engine.specs.declared.replay_fault.ReplayFault.TheVariants as replay
+use Rattle.explorer_engine.specs.declared.verdict.RunFault.{RunFault}
+use Rattle.explorer_engine.specs.declared.verdict.RunFault.TheVariants as run
+
+-- a number behind words, to the end of the line
+abbrev pub placed : List ℕ → ℕ → List ℕ
+placed words number = words ++ (decimal number ++ codes "\n")
+
+-- the module's refusal by its number, its name and its place
+abbrev pub text_of_read_fault : ReadFault → List ℕ
+text_of_read_fault (read.BadToken at) = placed (codes "input: 1 BadToken at ") at
+text_of_read_fault (read.Expected at) = placed (codes "input: 2 Expected at ") at
+text_of_read_fault (read.Unbound at) = placed (codes "input: 3 Unbound at ") at
+text_of_read_fault (read.DuplicateVariable at) = placed (codes "input: 4 DuplicateVariable at ") at
+text_of_read_fault (read.DuplicateFunction at) = placed (codes "input: 5 DuplicateFunction at ") at
+text_of_read_fault (read.NoFunction at) = placed (codes "input: 6 NoFunction at ") at
+text_of_read_fault (read.HigherOrder at) = placed (codes "input: 7 HigherOrder at ") at
+text_of_read_fault (read.UnsupportedCall at) = placed (codes "input: 8 UnsupportedCall at ") at
+text_of_read_fault (read.EffectInGuard at) = placed (codes "input: 9 EffectInGuard at ") at
+text_of_read_fault (read.TooDeep at) = placed (codes "input: 10 TooDeep at ") at
+text_of_read_fault (read.BadInteger at) = placed (codes "input: 11 BadInteger at ") at
+text_of_read_fault (read.NotUtf8 at) = placed (codes "input: 12 NotUtf8 at ") at
+text_of_read_fault (read.NoMain at) = placed (codes "input: 13 NoMain at ") at
+text_of_read_fault (read.UnsupportedForm at) = placed (codes "input: 14 UnsupportedForm at ") at
+text_of_read_fault read.Memory = codes "input: 15 Memory\n"
+text_of_read_fault (read.TooLong at) = placed (codes "input: 16 TooLong at ") at
+
+-- the schedule's refusal
+abbrev pub text_of_schedule_fault : ScheduleFault → List ℕ
+text_of_schedule_fault (schedule.BadStep at) = placed (codes "schedule: 1 BadStep at ") at
+text_of_schedule_fault schedule.Memory = codes "schedule: 2 Memory\n"
+
+-- what stopped a replay; a line that could not be written is told as for every output
+abbrev pub text_of_replay_fault : ReplayFault → List ℕ
+text_of_replay_fault (replay.NotEnabled step) = placed (codes "replay: 1 NotEnabled at step ") step
+text_of_replay_fault replay.Memory = codes "replay: 2 Memory\n"
+text_of_replay_fault replay.Write = codes "output failed\n"
+
+-- the line of a run's refusal
+abbrev pub text_of_fault : RunFault → List ℕ
+text_of_fault (run.Input fault) = text_of_read_fault fault
+text_of_fault run.ReadFailed = codes "input: read failed\n"
+text_of_fault (run.Schedule fault) = text_of_schedule_fault fault
+text_of_fault (run.Replay fault) = text_of_replay_fault fault
+text_of_fault run.Output = codes "output failed\n"

@@ -1,0 +1,41 @@
+-- The exit status of a run.
+use Rattle.std.specs.Prelude.{ℕ, Result, Ok, Err}
+use Rattle.core_tokens.specs.declared.fault.ReadFault.{ReadFault}
+use Rattle.core_tokens.specs.declared.fault.ReadFault.TheVariants as read
+use Rattle.term_core.specs.declared.schedule.ScheduleFault.{ScheduleFault}
+use Rattle.term_core.specs.declared.schedule.ScheduleFault.TheVariants as schedule
+use Rattle.explorer_engine.specs.declared.replay_fault.ReplayFault.{ReplayFault}
+use Rattle.explorer_engine.specs.declared.replay_fault.ReplayFault.TheVariants as replay
+use Rattle.explorer_engine.specs.declared.verdict.RunFault.{RunFault}
+use Rattle.explorer_engine.specs.declared.verdict.RunFault.TheVariants as run
+use Rattle.explorer_engine.specs.declared.verdict.Verdict.{Verdict}
+use Rattle.explorer_engine.specs.declared.verdict.Verdict.TheVariants.{Done}
+
+-- a module that was refused, or the want of memory
+abbrev pub status_of_read_fault : ReadFault → ℕ
+status_of_read_fault read.Memory = 3
+status_of_read_fault _ = 2
+
+-- a schedule that was refused, or the want of memory
+abbrev pub status_of_schedule_fault : ScheduleFault → ℕ
+status_of_schedule_fault (schedule.BadStep at) = 2
+status_of_schedule_fault schedule.Memory = 3
+
+-- a step that is not enabled, the want of memory, or output that failed
+abbrev pub status_of_replay_fault : ReplayFault → ℕ
+status_of_replay_fault (replay.NotEnabled step) = 2
+status_of_replay_fault replay.Memory = 3
+status_of_replay_fault replay.Write = 4
+
+-- of a refusal
+abbrev pub status_of_fault : RunFault → ℕ
+status_of_fault (run.Input fault) = status_of_read_fault fault
+status_of_fault run.ReadFailed = 2
+status_of_fault (run.Schedule fault) = status_of_schedule_fault fault
+status_of_fault (run.Replay fault) = status_of_replay_fault fault
+status_of_fault run.Output = 4
+
+-- of a run
+abbrev pub status_of : Result Verdict RunFault → ℕ
+status_of (Ok Done) = 0
+status_of (Err fault) = status_of_fault fault

@@ -1,0 +1,89 @@
+// The line by which a refusal is told. No write takes memory.
+ghost use Rattle.std.specs.Prelude.{◌≡◌, false};
+ghost use Rattle.term_core.specs.Stream.{Writes};
+ghost use Rattle.explorer_engine.specs.FaultText.{placed, text_of_read_fault, text_of_schedule_fault, text_of_replay_fault, text_of_fault};
+
+use crate::replay_fault::ReplayFault;
+use crate::verdict::RunFault;
+use core_reader::ReadFault;
+use term_core::{ScheduleFault, Sink, WriteFault, write_all, write_number};
+
+/// Writes the line of a refusal: the part that refused, the fault by its number and its name, and its
+/// place. `WriteFault` comes only where the sink has failed, and then a beginning of the line was
+/// written.
+pub fn write_fault<W: Sink>(sink: &mut W, fault: &RunFault) -> Result<(), WriteFault>
+    requires { W.has_failed sink.old ≡ false }
+    ensures { Writes (W.contents sink.old) (W.contents sink.new) (W.has_failed sink.new) result (text_of_fault fault.now) }
+{
+    match fault {
+        RunFault::Input(fault) => write_read_fault(sink, fault),
+        RunFault::ReadFailed => write_all(sink, b"input: read failed\n"),
+        RunFault::Schedule(fault) => write_schedule_fault(sink, fault),
+        RunFault::Replay(fault) => write_replay_fault(sink, fault),
+        RunFault::Output => write_all(sink, b"output failed\n"),
+    }
+}
+
+// Writes the line of a module's refusal.
+fn write_read_fault<W: Sink>(sink: &mut W, fault: &ReadFault) -> Result<(), WriteFault>
+    requires { W.has_failed sink.old ≡ false }
+    ensures { Writes (W.contents sink.old) (W.contents sink.new) (W.has_failed sink.new) result (text_of_read_fault fault.now) }
+{
+    match fault {
+        ReadFault::BadToken(at) => write_placed(sink, b"input: 1 BadToken at ", *at),
+        ReadFault::Expected(at) => write_placed(sink, b"input: 2 Expected at ", *at),
+        ReadFault::Unbound(at) => write_placed(sink, b"input: 3 Unbound at ", *at),
+        ReadFault::DuplicateVariable(at) => {
+            write_placed(sink, b"input: 4 DuplicateVariable at ", *at)
+        }
+        ReadFault::DuplicateFunction(at) => {
+            write_placed(sink, b"input: 5 DuplicateFunction at ", *at)
+        }
+        ReadFault::NoFunction(at) => write_placed(sink, b"input: 6 NoFunction at ", *at),
+        ReadFault::HigherOrder(at) => write_placed(sink, b"input: 7 HigherOrder at ", *at),
+        ReadFault::UnsupportedCall(at) => write_placed(sink, b"input: 8 UnsupportedCall at ", *at),
+        ReadFault::EffectInGuard(at) => write_placed(sink, b"input: 9 EffectInGuard at ", *at),
+        ReadFault::TooDeep(at) => write_placed(sink, b"input: 10 TooDeep at ", *at),
+        ReadFault::BadInteger(at) => write_placed(sink, b"input: 11 BadInteger at ", *at),
+        ReadFault::NotUtf8(at) => write_placed(sink, b"input: 12 NotUtf8 at ", *at),
+        ReadFault::NoMain(at) => write_placed(sink, b"input: 13 NoMain at ", *at),
+        ReadFault::UnsupportedForm(at) => write_placed(sink, b"input: 14 UnsupportedForm at ", *at),
+        ReadFault::Memory => write_all(sink, b"input: 15 Memory\n"),
+        ReadFault::TooLong(at) => write_placed(sink, b"input: 16 TooLong at ", *at),
+    }
+}
+
+// Writes the line of a schedule's refusal.
+fn write_schedule_fault<W: Sink>(sink: &mut W, fault: &ScheduleFault) -> Result<(), WriteFault>
+    requires { W.has_failed sink.old ≡ false }
+    ensures { Writes (W.contents sink.old) (W.contents sink.new) (W.has_failed sink.new) result (text_of_schedule_fault fault.now) }
+{
+    match fault {
+        ScheduleFault::BadStep(at) => write_placed(sink, b"schedule: 1 BadStep at ", *at),
+        ScheduleFault::Memory => write_all(sink, b"schedule: 2 Memory\n"),
+    }
+}
+
+// Writes the line of what stopped a replay.
+fn write_replay_fault<W: Sink>(sink: &mut W, fault: &ReplayFault) -> Result<(), WriteFault>
+    requires { W.has_failed sink.old ≡ false }
+    ensures { Writes (W.contents sink.old) (W.contents sink.new) (W.has_failed sink.new) result (text_of_replay_fault fault.now) }
+{
+    match fault {
+        ReplayFault::NotEnabled(step) => {
+            write_placed(sink, b"replay: 1 NotEnabled at step ", *step)
+        }
+        ReplayFault::Memory => write_all(sink, b"replay: 2 Memory\n"),
+        ReplayFault::Write => write_all(sink, b"output failed\n"),
+    }
+}
+
+// Writes a line of words with a number behind them.
+fn write_placed<W: Sink>(sink: &mut W, words: &[u8], number: usize) -> Result<(), WriteFault>
+    requires { W.has_failed sink.old ≡ false }
+    ensures { Writes (W.contents sink.old) (W.contents sink.new) (W.has_failed sink.new) result (placed words.now number) }
+{
+    write_all(sink, words)?;
+    write_number(number as u64, sink)?;
+    write_all(sink, b"\n")
+}

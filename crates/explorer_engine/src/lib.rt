@@ -1,0 +1,21 @@
+// What the program does between its words and its exit status: it reads a module and a schedule, replays
+// the one under the other, and writes what happened, or why it was refused.
+#![tactic(auto)]
+
+pub mod engine;
+pub mod fault_text;
+pub mod input;
+pub mod replay;
+pub mod replay_fault;
+pub mod transcript;
+pub mod verdict;
+pub mod words;
+
+pub use engine::run_replay;
+pub use fault_text::write_fault;
+pub use input::{INPUT_LIMIT, InputFault, PIECE_LIMIT, READ_LIMIT, read_input};
+pub use replay::replay;
+pub use replay_fault::ReplayFault;
+pub use transcript::write_event;
+pub use verdict::{RunFault, Verdict, status};
+pub use words::{NAME, Words, read_words};

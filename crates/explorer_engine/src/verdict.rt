@@ -1,0 +1,147 @@
+// How a run ends: its verdict or its refusal, and the exit status and the line that tell it.
+ghost use Rattle.std.specs.Prelude.{◌≡◌, false};
+ghost use Rattle.explorer_engine.specs.Status.{status_of, status_of_fault, status_of_read_fault, status_of_schedule_fault, status_of_replay_fault};
+
+use crate::input::InputFault;
+use crate::replay_fault::ReplayFault;
+use core_reader::ReadFault;
+use term_core::{ScheduleFault, WriteFault};
+use thiserror::Error;
+
+/// What a run that was not refused came to.
+#[derive(Clone, Copy, Debug, PartialEq, Eq)]
+pub enum Verdict {
+    /// The whole schedule was replayed.
+    Done,
+}
+
+/// Why a run was refused.
+#[derive(Clone, Copy, Debug, PartialEq, Eq, Error)]
+pub enum RunFault {
+    /// The module was refused, or there was no memory to read it.
+    #[error("input: {0}")]
+    Input(ReadFault),
+    /// The input could not be read.
+    #[error("input: read failed")]
+    ReadFailed,
+    /// The schedule was refused.
+    #[error("schedule: {0}")]
+    Schedule(ScheduleFault),
+    /// The replay stopped.
+    #[error("replay: {0}")]
+    Replay(ReplayFault),
+    /// The output could not be written.
+    #[error("output failed")]
+    Output,
+}
+
+impl From<InputFault> for RunFault {
+    ghost use Rattle.explorer_engine.specs.Refusals.{refusal_of_input};
+
+    ghost from_gives = { λ fault refusal. refusal ≡ refusal_of_input fault };
+
+    fn from(fault: InputFault) -> RunFault {
+        match fault {
+            InputFault::ReadFailed => RunFault::ReadFailed,
+            InputFault::Memory => RunFault::Input(ReadFault::Memory),
+        }
+    }
+}
+
+impl From<ReadFault> for RunFault {
+    ghost use Rattle.explorer_engine.specs.declared.verdict.RunFault.TheVariants as run;
+
+    ghost from_gives = { λ fault refusal. refusal ≡ run.Input fault };
+
+    fn from(fault: ReadFault) -> RunFault {
+        RunFault::Input(fault)
+    }
+}
+
+impl From<ScheduleFault> for RunFault {
+    ghost use Rattle.explorer_engine.specs.declared.verdict.RunFault.TheVariants as run;
+
+    ghost from_gives = { λ fault refusal. refusal ≡ run.Schedule fault };
+
+    fn from(fault: ScheduleFault) -> RunFault {
+        RunFault::Schedule(fault)
+    }
+}
+
+impl From<ReplayFault> for RunFault {
+    ghost use Rattle.explorer_engine.specs.Refusals.{refusal_of_replay};
+
+    ghost from_gives = { λ fault refusal. refusal ≡ refusal_of_replay fault };
+
+    fn from(fault: ReplayFault) -> RunFault {
+        match fault {
+            ReplayFault::Write => RunFault::Output,
+            _ => RunFault::Replay(fault),
+        }
+    }
+}
+
+impl From<WriteFault> for RunFault {
+    ghost use Rattle.explorer_engine.specs.declared.verdict.RunFault.TheVariants as run;
+
+    ghost from_gives = { λ _ refusal. refusal ≡ run.Output };
+
+    fn from(_fault: WriteFault) -> RunFault {
+        RunFault::Output
+    }
+}
+
+/// The exit status of a run: 0 where it was done, 2 where what it was given was refused, 3 where there
+/// was no memory, and 4 where its output could not be written.
+pub fn status(outcome: &Result<Verdict, RunFault>) -> u8
+    ensures { result ≡ status_of outcome.now }
+{
+    match outcome {
+        Ok(Verdict::Done) => 0,
+        Err(fault) => fault_status(fault),
+    }
+}
+
+// The exit status of a refusal.
+fn fault_status(fault: &RunFault) -> u8
+    ensures { result ≡ status_of_fault fault.now }
+{
+    match fault {
+        RunFault::Input(fault) => input_status(fault),
+        RunFault::ReadFailed => 2,
+        RunFault::Schedule(fault) => schedule_status(fault),
+        RunFault::Replay(fault) => replay_status(fault),
+        RunFault::Output => 4,
+    }
+}
+
+// The exit status where the module was refused.
+fn input_status(fault: &ReadFault) -> u8
+    ensures { result ≡ status_of_read_fault fault.now }
+{
+    match fault {
+        ReadFault::Memory => 3,
+        _ => 2,
+    }
+}
+
+// The exit status where the schedule was refused.
+fn schedule_status(fault: &ScheduleFault) -> u8
+    ensures { result ≡ status_of_schedule_fault fault.now }
+{
+    match fault {
+        ScheduleFault::BadStep(_) => 2,
+        ScheduleFault::Memory => 3,
+    }
+}
+
+// The exit status where the replay stopped.
+fn replay_status(fault: &ReplayFault) -> u8
+    ensures { result ≡ status_of_replay_fault fault.now }
+{
+    match fault {
+        ReplayFault::NotEnabled(_) => 2,
+        ReplayFault::Memory => 3,
+        ReplayFault::Write => 4,
+    }
+}

@@ -1,0 +1,51 @@
+// The words of the command line.
+use clap::error::ErrorKind;
+use clap::{Arg, ArgAction, ArgMatches, Command, Error};
+use std::alloc::Global;
+use std::convert::AsStr;
+
+/// What the program is asked to do.
+#[derive(Debug, Drop)]
+pub enum Words {
+    /// `replay SCHEDULE`: to replay a schedule of the module on standard input.
+    Replay(String),
+}
+
+/// Reads the words of a command line, of which the first is the program's name.
+///
+/// # Errors
+///
+/// The parser's error where the words are not those of a command, where they ask for help, and where
+/// there was no memory.
+pub fn read_words<S: AsStr>(alloc: Global, words: &[S]) -> Result<Words, Error> {
+    let command = command(alloc)?;
+    let matches = command.try_get_matches_from(words)?;
+    let Some(schedule) = schedule_of(&matches) else {
+        return Err(Command::new(alloc, NAME).error(ErrorKind::MissingSubcommand, "no command")?);
+    };
+    Ok(Words::Replay(String::from_str(alloc, schedule)?))
+}
+
+/// The name of the program.
+pub const NAME: &str = "schedule_explorer";
+
+// The program's command line.
+fn command<'a>(alloc: Global) -> Result<Command<'a>, Error> {
+    let schedule = Arg::new(alloc, "SCHEDULE")
+        .required(true)
+        .action(ArgAction::Set)
+        .help("Steps with one blank between them, as one word: \"P P.2 P>P.2\"");
+    let replay = Command::new(alloc, "replay")
+        .about("Replays a schedule, and prints what each of its steps did")
+        .arg(schedule)?;
+    let explorer = Command::new(alloc, NAME)
+        .about("Runs a module of Core Erlang, read from standard input, under given schedules")
+        .subcommand_required(true)
+        .subcommand(replay)?;
+    Ok(explorer)
+}
+
+// The schedule that is to be replayed.
+fn schedule_of<'a>(matches: &ArgMatches<'a>) -> Option<&'a str> {
+    matches.subcommand_matches("replay")?.get_str("SCHEDULE")
+}

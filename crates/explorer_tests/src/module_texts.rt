@@ -1,0 +1,293 @@
+// Texts with the fault and the place that the rules give each, and whole modules.
+use core_reader::{ReadFault, read_module};
+use std::alloc::Global;
+use std::process::Abort;
+use std::test::Fail;
+
+// Asserts what the reader answers to each text.
+pub(super) fn answers(rt: &impl Abort, alloc: Global, table: &[(&[u8], ReadFault)]) {
+    for (text, fault) in table {
+        let answer = read_module(alloc, text).err();
+        assert_eq!(rt; answer, Some(*fault));
+    }
+}
+
+#[test]
+fn accepts_texts_of_modules(rt: HostRuntime) {
+    let table: [&[u8]; 7] = [
+        b"module 'm' ['main'/0] attributes ['a' = 1, 'b' = {'x',[1,2|'y']}, 'c' = []] 'main'/0 = fun () -> 'ok' end",
+        b" \t\r\n module'm'['main'/0]attributes[]'main'/0=fun()->'ok'end\n",
+        b"% a\nmodule % b\n 'm' ['main'/0] attributes [] 'main'/0 = fun () -> 'ok' end % c",
+        b"module 'm' ['main'/0] attributes [] 'main'/0 = fun () -> '' end",
+        b"module 'm' ['main'/0] attributes [] 'main'/0 = fun () -> 9223372036854775807 end",
+        b"module 'm' ['main'/0] attributes [] 'main'/0 = fun () -> -9223372036854775808 end",
+        b"module 'm' [] attributes [] 'main'/0 = fun () -> 'ok' end",
+    ];
+    for text in table {
+        let answer = read_module(rt.alloc(), text).err();
+        assert_eq!(rt; answer, None);
+    }
+}
+
+#[test]
+fn names_bad_tokens(rt: HostRuntime) {
+    let table: [(&[u8], ReadFault); 8] = [
+        (b"module 'm", ReadFault::BadToken(7)),
+        (b"module 'm' ['a'/256]", ReadFault::BadInteger(16)),
+        (b"module 'm' ['a'/-1]", ReadFault::BadInteger(16)),
+        (
+            b"module 'm' ['main'/0] attributes [] 'main'/0 = fun () -> '\\q' end",
+            ReadFault::BadToken(57),
+        ),
+        (
+            b"module 'm' ['main'/0] attributes [] 'main'/0 = fun () -> @ end",
+            ReadFault::BadToken(57),
+        ),
+        (
+            b"module 'm' ['main'/0] attributes [] 'main'/0 = fun () -> -9223372036854775809 end",
+            ReadFault::BadInteger(57),
+        ),
+        (
+            b"module 'm' ['main'/0] attributes [] 'main'/0 = fun () -> 9223372036854775808 end",
+            ReadFault::BadInteger(57),
+        ),
+        (
+            b"module 'm' ['main'/0] attributes [] 'main'/0 = fun () -> 'o\nk' end",
+            ReadFault::BadToken(57),
+        ),
+    ];
+    answers(&rt, rt.alloc(), &table);
+}
+
+#[test]
+fn names_bad_tokens_2(rt: HostRuntime) {
+    let table: [(&[u8], ReadFault); 5] = [
+        (
+            b"module 'm' ['main'/0] attributes [] 'main'/0 = fun () -> endx end",
+            ReadFault::BadToken(57),
+        ),
+        (
+            b"module 'm' ['main'/0] attributes [] 'main'/0 = fun () -> foo end",
+            ReadFault::BadToken(57),
+        ),
+        (b"module \xff", ReadFault::NotUtf8(7)),
+        (
+            b"module 'm' ['main'/0] attributes [] 'main'/0 = fun () -> { end @",
+            ReadFault::BadToken(63),
+        ),
+        (
+            b"module 'm' ['main'/0] attributes [] 'main'/0 = fun () -> 'ok end",
+            ReadFault::BadToken(57),
+        ),
+    ];
+    answers(&rt, rt.alloc(), &table);
+}
+
+#[test]
+fn names_unexpected_tokens(rt: HostRuntime) {
+    let table: [(&[u8], ReadFault); 8] = [
+        (
+            b"module 'm' ['main'/0] attributes [] 'main'/0 = fun () -> 'ok'",
+            ReadFault::Expected(61),
+        ),
+        (b"", ReadFault::Expected(0)),
+        (
+            b"module 'm' ['main'/0] attributes [] 'main'/0 = fun () -> [|1] end",
+            ReadFault::Expected(58),
+        ),
+        (
+            b"module 'm' ['main'/0] attributes [] 'main'/0 = fun (X) -> X end",
+            ReadFault::Expected(52),
+        ),
+        (
+            b"module 'm' ['main'/0] attributes [] 'main'/0 = fun () -> {1 2} end",
+            ReadFault::Expected(60),
+        ),
+        (
+            b"module 'm' ['main'/0] attributes [] 'main'/0 = fun () -> let <X> = 1 X end",
+            ReadFault::Expected(69),
+        ),
+        (
+            b"module 'm' ['main'/0] attributes [] 'main'/0 = fun () -> 'ok' end 'x'",
+            ReadFault::Expected(66),
+        ),
+        (
+            b"module 'm' ['main'/0] attributes [] 'main'/0 = fun () -> [1,] end",
+            ReadFault::Expected(60),
+        ),
+    ];
+    answers(&rt, rt.alloc(), &table);
+}
+
+#[test]
+fn names_forms_that_are_not_read(rt: HostRuntime) {
+    let table: [(&[u8], ReadFault); 8] = [
+        (
+            b"module 'm' ['main'/0] attributes [] 'main'/0 = fun () -> fun (X) -> X end",
+            ReadFault::HigherOrder(57),
+        ),
+        (
+            b"module 'm' ['main'/0] attributes [] 'main'/0 = fun () -> let <X> = 'ets' in call X:'lookup'(1,2) end",
+            ReadFault::UnsupportedCall(76),
+        ),
+        (
+            b"module 'm' ['main'/0] attributes [] 'main'/0 = fun () -> 1.0e5 end",
+            ReadFault::UnsupportedForm(57),
+        ),
+        (
+            b"module 'm' ['main'/0] attributes [] 'main'/0 = fun () -> 1.5 end",
+            ReadFault::UnsupportedForm(57),
+        ),
+        (
+            b"module 'm' ['main'/0] attributes [] 'main'/0 = fun () -> {1,fun () -> 'x'} end",
+            ReadFault::HigherOrder(60),
+        ),
+        (
+            b"module 'm' ['main'/0] attributes [] 'main'/0 = fun () -> 'main'/0 end",
+            ReadFault::HigherOrder(57),
+        ),
+        (
+            b"module 'm' ['main'/0] attributes [] 'main'/0 = fun () -> # end",
+            ReadFault::UnsupportedForm(57),
+        ),
+        (
+            b"module 'm' ['main'/0] attributes [] 'main'/0 = fun () -> letrec 'f'/0 = fun () -> 'x' in 'y' end",
+            ReadFault::HigherOrder(57),
+        ),
+    ];
+    answers(&rt, rt.alloc(), &table);
+}
+
+#[test]
+fn names_forms_that_are_not_read_2(rt: HostRuntime) {
+    let table: [(&[u8], ReadFault); 3] = [
+        (
+            b"module 'm' ['main'/0] attributes [] 'main'/0 = fun () -> ~ end",
+            ReadFault::UnsupportedForm(57),
+        ),
+        (
+            b"module 'm' ['main'/0] attributes [] 'main'/0 = fun () -> call 'ets':'lookup'(1) end",
+            ReadFault::UnsupportedCall(57),
+        ),
+        (
+            b"module 'm' ['main'/0] attributes [] 'main'/0 = fun () -> call 'ets':'nothing'(1) end",
+            ReadFault::UnsupportedCall(57),
+        ),
+    ];
+    answers(&rt, rt.alloc(), &table);
+}
+
+#[test]
+fn names_faults_of_scopes(rt: HostRuntime) {
+    let table: [(&[u8], ReadFault); 8] = [
+        (b"module 'm' [] attributes [] end", ReadFault::NoMain(28)),
+        (
+            b"module 'm' ['main'/0] attributes [] 'main'/0 = fun () -> 'ok' 'main'/0 = fun () -> 'ok' end",
+            ReadFault::DuplicateFunction(62),
+        ),
+        (
+            b"module 'm' ['main'/0] attributes [] 'main'/0 = fun () -> 'ok' 'f'/2 = fun (X,X) -> X end",
+            ReadFault::DuplicateVariable(77),
+        ),
+        (
+            b"module 'm' ['main'/0,'g'/1] attributes [] 'main'/0 = fun () -> 'ok' end",
+            ReadFault::NoFunction(21),
+        ),
+        (
+            b"module 'm' ['main'/1] attributes [] 'main'/1 = fun (X) -> X end",
+            ReadFault::NoMain(60),
+        ),
+        (
+            b"module 'm' ['f'/0] attributes [] 'f'/0 = fun () -> 'ok' end",
+            ReadFault::NoMain(56),
+        ),
+        (
+            b"module 'm' ['main'/0] attributes [] 'main'/0 = fun () -> {A,B} end",
+            ReadFault::Unbound(58),
+        ),
+        (
+            b"module 'm' ['main'/0] attributes [] 'main'/0 = fun () -> do let <X> = 1 in X X end",
+            ReadFault::Unbound(77),
+        ),
+    ];
+    answers(&rt, rt.alloc(), &table);
+}
+
+#[test]
+fn names_faults_of_scopes_2(rt: HostRuntime) {
+    let table: [(&[u8], ReadFault); 6] = [
+        (
+            b"module 'm' ['main'/0] attributes [] 'main'/0 = fun () -> X 'main'/0 = fun () -> 'ok' end",
+            ReadFault::Unbound(57),
+        ),
+        (
+            b"module 'm' ['main'/0] attributes [] 'main'/0 = fun () -> let <X> = X in X end",
+            ReadFault::Unbound(67),
+        ),
+        (
+            b"module 'm' ['main'/0] attributes [] 'main'/0 = fun () -> X end",
+            ReadFault::Unbound(57),
+        ),
+        (
+            b"module 'm' ['f'/1] attributes [] 'f'/1 = fun (X) -> case X of <1> when 'true' -> 'ok' end end",
+            ReadFault::NoMain(90),
+        ),
+        (
+            b"module 'm' [] attributes [] 'f'/0 = fun () -> case <> of <> when 'true' -> 'ok' end 'main'/1 = fun (X) -> X end % end",
+            ReadFault::NoMain(108),
+        ),
+        (
+            b"( ( module 'm' ['f'/1] attributes [] 'f'/1 = fun (X) -> case X of <Y> when 'true' -> case Y of <Z> when 'true' -> Z end end end -| ['end',{'end',\"end\"}] ) -| [( 'end' -| [] )] )",
+            ReadFault::NoMain(124),
+        ),
+    ];
+    answers(&rt, rt.alloc(), &table);
+}
+
+#[test]
+fn answers_long_texts(rt: HostRuntime) -> Result<(), Fail> {
+    let mut text = Vec::new(rt.alloc());
+    for _blank in 0..1_048_576 {
+        text.push(b' ')?;
+    }
+    let longest = read_module(rt.alloc(), &text).err();
+    assert_eq!(rt; longest, Some(ReadFault::Expected(1_048_576)));
+    text.push(b' ')?;
+    let too_long = read_module(rt.alloc(), &text).err();
+    assert_eq!(rt; too_long, Some(ReadFault::TooLong(1_048_576)));
+    Ok(())
+}
+
+// A module with every form that is read.
+fn whole() -> &'static [u8] {
+    b"module 'm' ['main'/0,'f'/2]
+    attributes ['file' = [{\"m.erl\",1}], 'x' = [$a,'b'|[]]]
+'main'/0 = fun () ->
+    let <T> = call 'ets':'new'('t',['named_table'|[]]) in
+    do call 'ets':'insert'(T,{'a',1,-2,{},[]}) % and then
+    let X = call 'ets':'lookup'(T,'a') in [X,T|X]
+'f'/2 = fun (A,B) -> {A,[B]}
+end"
+}
+
+#[test]
+fn refuses_every_front_of_a_module(rt: HostRuntime) {
+    let text = whole();
+    assert!(rt; read_module(rt.alloc(), text).is_ok());
+    for end in 0..text.len() {
+        let answer = read_module(rt.alloc(), &text[..end]).err();
+        assert!(rt; answer.is_some());
+        assert_ne!(rt; answer, Some(ReadFault::Memory));
+    }
+}
+
+#[test]
+fn reads_equal_values_from_one_text(rt: HostRuntime) -> Result<(), Fail> {
+    let first = read_module(rt.alloc(), whole())?;
+    let second = read_module(rt.alloc(), whole())?;
+    assert!(rt; first == second);
+    let other = b"module 'm' [] attributes [] 'main'/0 = fun () -> 1 end";
+    let other = read_module(rt.alloc(), other)?;
+    assert!(rt; first != other);
+    Ok(())
+}

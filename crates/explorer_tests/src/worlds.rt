@@ -1,0 +1,325 @@
+// Worlds of small modules, and what happens in them.
+ghost use Rattle.std.specs.Prelude.{◌≡◌, false, OnOk};
+
+use core_reader::{CallKind, Module, ReadFault, read_module};
+use std::alloc::{AllocError, Global};
+use std::test::Fail;
+use term_core::{
+    Output, Pid, Step, Terms, WriteFault, write_all, write_number, write_pid, write_term,
+};
+use world_core::{Deed, World, WorldFault};
+
+// The module `m` whose `main/0` has this body.
+fn program(alloc: Global, body: &str) -> Result<Module, ReadFault> {
+    let mut text = String::from_str(
+        alloc,
+        "module 'm' ['main'/0] attributes [] 'main'/0 = fun () -> ",
+    )?;
+    text.push_str(body)?;
+    text.push_str(" end")?;
+    read_module(alloc, text.as_bytes())
+}
+
+fn write_call(
+    kind: CallKind,
+    arguments: &Terms,
+    sink: &mut Output<Vec<u8>>,
+) -> Result<(), WriteFault>
+    requires { sink.old.has_failed ≡ false }
+    ensures { OnOk result (sink.new.has_failed ≡ false) }
+{
+    write_all(sink, kind.function_name().as_bytes())?;
+    for argument in arguments.as_slice() {
+        write_all(sink, b" ")?;
+        write_term(argument, sink)?;
+    }
+    Ok(())
+}
+
+fn write_owner(owner: &Option<Pid>, sink: &mut Output<Vec<u8>>) -> Result<(), WriteFault>
+    requires { sink.old.has_failed ≡ false }
+{
+    let Some(owner) = owner else {
+        return Ok(());
+    };
+    write_all(sink, b" of ")?;
+    write_pid(owner, sink)
+}
+
+// What happened, in a few words.
+fn write_deed(deed: &Deed, sink: &mut Output<Vec<u8>>) -> Result<(), WriteFault>
+    requires { sink.old.has_failed ≡ false }
+{
+    match deed {
+        Deed::Served {
+            kind,
+            arguments,
+            answer,
+        } => {
+            write_call(*kind, arguments, sink)?;
+            write_all(sink, b" -> ")?;
+            write_term(answer, sink)
+        }
+        Deed::Refused {
+            kind,
+            arguments,
+            rule,
+            owner,
+        } => {
+            write_call(*kind, arguments, sink)?;
+            write_all(sink, b" refused by ")?;
+            write_number(u64::from(*rule as u8), sink)?;
+            write_owner(owner, sink)
+        }
+        Deed::Ended(reason) => write_term(reason, sink),
+        Deed::RanAway => write_all(sink, b"runs away"),
+        Deed::TimedOut => write_all(sink, b"times out"),
+    }
+}
+
+// What happened last.
+fn last(alloc: Global, world: &World) -> Result<Vec<u8>, WriteFault> {
+    let mut sink = Output::new(Vec::new(alloc));
+    if let Some(event) = world.last_event() {
+        write_deed(&event.deed, &mut sink)?;
+    }
+    Ok(sink.writer)
+}
+
+// The turn of the first process.
+fn turn(alloc: Global) -> Step {
+    Step::Turn(Pid(Vec::new(alloc)))
+}
+
+// What happens in a world up to its end, one event a line.
+fn run_on(alloc: Global, world: &mut World) -> Result<Vec<u8>, Fail> {
+    let mut text = Vec::new(alloc);
+    for _ in 0..20 {
+        if !world.enabled(alloc)?.is_empty() {
+            world.step(alloc, &turn(alloc))?;
+            text.extend_from_slice(last(alloc, world)?.as_slice())?;
+            text.push(b'\n')?;
+        }
+    }
+    Ok(text)
+}
+
+fn run(alloc: Global, body: &str) -> Result<Vec<u8>, Fail> {
+    let program = program(alloc, body)?;
+    let mut world = World::open(alloc, &program)?;
+    run_on(alloc, &mut world)
+}
+
+// A call and its refusal, which ends the process.
+const REFUSED: [(&str, &str); 13] = [
+    (
+        "call 'ets':'insert'(7,{'a',1})",
+        "insert 7 {'a',1} refused by 1\n",
+    ),
+    (
+        "call 'ets':'insert'([],'x')",
+        "insert [] 'x' refused by 1\n",
+    ),
+    (
+        "call 'ets':'lookup'({'t'},'a')",
+        "lookup {'t'} 'a' refused by 1\n",
+    ),
+    (
+        "call 'ets':'lookup'('t','a')",
+        "lookup 't' 'a' refused by 2\n",
+    ),
+    (
+        "call 'ets':'insert'('t',{})",
+        "insert 't' {} refused by 2\n",
+    ),
+    ("call 'ets':'new'(7,[])", "new 7 [] refused by 7\n"),
+    (
+        "call 'ets':'new'([],['bag'])",
+        "new [] ['bag'] refused by 7\n",
+    ),
+    (
+        "call 'ets':'new'('t',['bag'])",
+        "new 't' ['bag'] refused by 8\n",
+    ),
+    (
+        "call 'ets':'new'('t','set')",
+        "new 't' 'set' refused by 8\n",
+    ),
+    (
+        "call 'ets':'new'('t',['set'|'set'])",
+        "new 't' ['set'|'set'] refused by 8\n",
+    ),
+    (
+        "call 'ets':'new'('t',['set',7])",
+        "new 't' ['set',7] refused by 8\n",
+    ),
+    (
+        "call 'ets':'new'('t',[{'keypos',2}])",
+        "new 't' [{'keypos',2}] refused by 8\n",
+    ),
+    (
+        "call 'ets':'new'('t',{'set'})",
+        "new 't' {'set'} refused by 8\n",
+    ),
+];
+
+// The same behind a named table.
+const REFUSED_LATER: [(&str, &str); 11] = [
+    (
+        "call 'ets':'new'('t',['named_table'])",
+        "new 't' ['named_table'] refused by 9\n",
+    ),
+    (
+        "call 'ets':'new'('t',['named_table','bag'])",
+        "new 't' ['named_table','bag'] refused by 8\n",
+    ),
+    (
+        "call 'ets':'insert'('u',{'a',1})",
+        "insert 'u' {'a',1} refused by 2\n",
+    ),
+    (
+        "call 'ets':'insert'('t','x')",
+        "insert 't' 'x' refused by 10 of P\n",
+    ),
+    (
+        "call 'ets':'insert'('t',[{'a'},'x'])",
+        "insert 't' [{'a'},'x'] refused by 10 of P\n",
+    ),
+    (
+        "call 'ets':'insert'('t',[{},'x'])",
+        "insert 't' [{},'x'] refused by 10 of P\n",
+    ),
+    (
+        "call 'ets':'insert'('t',[{'a'}|{'b'}])",
+        "insert 't' [{'a'}|{'b'}] refused by 10 of P\n",
+    ),
+    (
+        "call 'ets':'insert'('t',7)",
+        "insert 't' 7 refused by 10 of P\n",
+    ),
+    (
+        "call 'ets':'insert'('t',{})",
+        "insert 't' {} refused by 11 of P\n",
+    ),
+    (
+        "call 'ets':'insert'('t',[{'a',1},{}])",
+        "insert 't' [{'a',1},{}] refused by 11 of P\n",
+    ),
+    (
+        "call 'ets':'insert'('t',[{},{'a',1}])",
+        "insert 't' [{},{'a',1}] refused by 11 of P\n",
+    ),
+];
+
+const NAMED: &str = "do call 'ets':'new'('t',['named_table']) ";
+
+const MADE: &str = "new 't' ['named_table'] -> 't'\n";
+
+const END: &str = "{'badarg',[]}\n";
+
+fn joined(alloc: Global, parts: &[&str]) -> Result<String, AllocError> {
+    let mut text = String::new(alloc);
+    for part in parts {
+        text.push_str(part)?;
+    }
+    Ok(text)
+}
+
+#[test]
+fn each_refusal_has_its_rule(rt: HostRuntime) -> Result<(), Fail> {
+    for (body, refusal) in REFUSED {
+        let want = joined(rt.alloc(), &[refusal, END])?;
+        assert_eq!(rt; run(rt.alloc(), body)?.as_slice(), want.as_bytes());
+    }
+    Ok(())
+}
+
+#[test]
+fn each_refusal_of_a_table_has_its_rule(rt: HostRuntime) -> Result<(), Fail> {
+    for (body, refusal) in REFUSED_LATER {
+        let body = joined(rt.alloc(), &[NAMED, body])?;
+        let want = joined(rt.alloc(), &[MADE, refusal, END])?;
+        assert_eq!(rt; run(rt.alloc(), body.as_str())?.as_slice(), want.as_bytes());
+    }
+    Ok(())
+}
+
+// Bodies, and what happens.
+const SERVED: [(&str, &str); 6] = [
+    (
+        "do call 'ets':'new'('t',['named_table']) do call 'ets':'insert'('t',{'a',1}) call 'ets':'lookup'('t','a')",
+        "new 't' ['named_table'] -> 't'\ninsert 't' {'a',1} -> 'true'\nlookup 't' 'a' -> [{'a',1}]\n'normal'\n",
+    ),
+    ("'ok'", "'normal'\n"),
+    (
+        "let T = call 'ets':'new'('t',['private','public','set']) in do call 'ets':'insert'(T,[{1},{2,'x'},{1,'y'}]) {call 'ets':'lookup'(T,1),call 'ets':'lookup'(T,2),call 'ets':'lookup'(T,3)}",
+        "new 't' ['private','public','set'] -> #P.1\ninsert #P.1 [{1},{2,'x'},{1,'y'}] -> 'true'\nlookup #P.1 1 -> [{1,'y'}]\nlookup #P.1 2 -> [{2,'x'}]\nlookup #P.1 3 -> []\n'normal'\n",
+    ),
+    (
+        "let T = call 'ets':'new'('t',[]) in let U = call 'ets':'new'('t',[]) in do call 'ets':'insert'(U,[]) do call 'ets':'insert'(U,{[],T}) do call 'ets':'insert'(T,{[],U}) [call 'ets':'lookup'(T,[])|call 'ets':'lookup'(U,[])]",
+        "new 't' [] -> #P.1\nnew 't' [] -> #P.2\ninsert #P.2 [] -> 'true'\ninsert #P.2 {[],#P.1} -> 'true'\ninsert #P.1 {[],#P.2} -> 'true'\nlookup #P.1 [] -> [{[],#P.2}]\nlookup #P.2 [] -> [{[],#P.1}]\n'normal'\n",
+    ),
+    (
+        "do call 'ets':'new'('t',['named_table']) let T = call 'ets':'new'('t',['protected']) in do call 'ets':'insert'(T,{{'k'},1}) call 'ets':'lookup'('t',{'k'})",
+        "new 't' ['named_table'] -> 't'\nnew 't' ['protected'] -> #P.2\ninsert #P.2 {{'k'},1} -> 'true'\nlookup 't' {'k'} -> []\n'normal'\n",
+    ),
+    (
+        "do call 'ets':'new'('t',['named_table']) do call 'ets':'insert'('t',{'a',1}) do call 'ets':'insert'('t',{'a',2}) call 'ets':'lookup'('t','a')",
+        "new 't' ['named_table'] -> 't'\ninsert 't' {'a',1} -> 'true'\ninsert 't' {'a',2} -> 'true'\nlookup 't' 'a' -> [{'a',2}]\n'normal'\n",
+    ),
+];
+
+#[test]
+fn served_calls_answer(rt: HostRuntime) -> Result<(), Fail> {
+    for (body, want) in SERVED {
+        assert_eq!(rt; run(rt.alloc(), body)?.as_slice(), want.as_bytes());
+    }
+    Ok(())
+}
+
+// No step of another process, no delivery, and no step behind the end.
+#[test]
+fn other_steps_are_not_enabled(rt: HostRuntime) -> Result<(), Fail> {
+    let alloc = rt.alloc();
+    let program = program(alloc, "'ok'")?;
+    let mut world = World::open(alloc, &program)?;
+    let child = Step::Turn(Pid(Vec::from_slice(alloc, &[1])?));
+    let first = Pid(Vec::new(alloc));
+    let delivery = Step::Deliver(Pid(Vec::new(alloc)), first);
+    assert!(rt; world.last_event().is_none());
+    assert_eq!(rt; world.step(alloc, &child), Err(WorldFault::NotEnabled));
+    assert_eq!(rt; world.step(alloc, &delivery), Err(WorldFault::NotEnabled));
+    let text = run_on(alloc, &mut world)?;
+    assert_eq!(rt; text.as_slice(), b"'normal'\n".as_slice());
+    assert_eq!(rt;
+        world.step(alloc, &turn(alloc)),
+        Err(WorldFault::NotEnabled)
+    );
+    let again = last(alloc, &world)?;
+    assert_eq!(rt; again.as_slice(), b"'normal'".as_slice());
+    Ok(())
+}
+
+// A chain of so many `do`, each the second part of the one before it.
+fn chain(alloc: Global, count: usize) -> Result<String, AllocError> {
+    let mut body = String::new(alloc);
+    for _ in 0..count {
+        body.push_str("do 'a' ")?;
+    }
+    body.push_str("'a'")?;
+    Ok(body)
+}
+
+#[test]
+fn a_chain_of_do_is_bounded_by_the_reader(rt: HostRuntime) -> Result<(), Fail> {
+    let body = chain(rt.alloc(), 999)?;
+    let text = run(rt.alloc(), body.as_str())?;
+    assert_eq!(rt; text.as_slice(), b"'normal'\n".as_slice());
+    // The atom in the `do` of level 1,000 opens level 1,001: 57 + 999 * 7 + 3.
+    for count in [1_000, 100_000] {
+        let body = chain(rt.alloc(), count)?;
+        let fault = program(rt.alloc(), body.as_str()).err();
+        assert_eq!(rt; fault, Some(ReadFault::TooDeep(7_053)), "{count}");
+    }
+    Ok(())
+}
