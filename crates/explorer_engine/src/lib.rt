@@ -14,7 +14,6 @@ pub mod words;
 pub use engine::run_replay;
 pub use fault_text::write_fault;
 pub use input::{INPUT_LIMIT, InputFault, PIECE_LIMIT, READ_LIMIT, read_input};
-pub use replay::replay;
 pub use replay_fault::ReplayFault;
 pub use transcript::write_event;
 pub use verdict::{RunFault, Verdict, status};

@@ -63,11 +63,7 @@ fn names_the_first_bad_step(rt: HostRuntime) {
 
 #[test]
 fn writes_faults(rt: HostRuntime) -> Result<(), Fail> {
-    let text = format!(in rt.alloc();
-        "{}, {}",
-        ScheduleFault::BadStep(2),
-        ScheduleFault::Memory
-    )?;
+    let text = format!(in rt.alloc(); "{}, {}", ScheduleFault::BadStep(2), ScheduleFault::Memory)?;
     assert_eq!(rt; text.as_str(), "1 BadStep at 2, 2 Memory");
     Ok(())
 }

@@ -1,5 +1,5 @@
 // The tokens of texts, each with its place, and the faults.
-use core_tokens::{Lexeme, Token, tokens};
+use core_tokens::{Lexeme, ReadFault, Token, tokens};
 use std::alloc::Global;
 use std::fmt::Write;
 use std::process::Abort;
