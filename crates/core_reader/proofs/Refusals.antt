@@ -5,9 +5,9 @@ use Rattle.core_tokens.specs.declared.fault.ReadFault.{ReadFault}
 use Rattle.core_tokens.specs.declared.fault.ReadFault.TheVariants as fault
 use Rattle.core_tokens.specs.Piece.{Piece}
 use Rattle.core_tree.specs.Syntax.{ModuleTree}
-use Rattle.core_reader.specs.Whole.{IsReadAs}
+use Rattle.core_grammar.specs.Whole.{IsReadAs}
 use Rattle.core_tokens.specs.Tokens.{AreTokens, IsTokenFault}
-use Rattle.core_reader.specs.Places.{IsFaultOf}
+use Rattle.core_grammar.specs.Places.{IsFaultOf}
 use Rattle.core_reader.specs.Reader.{SpellsModule}
 use Rattle.core_reader.specs.Refusal.{IsLegible, IsTrueOf, IsRefusalOf}
 

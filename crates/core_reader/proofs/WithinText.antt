@@ -1,5 +1,5 @@
 -- What the passes say together of a text, and the places of their faults within it.
-use Rattle.std.proofs.Common.{◌≡◌, ℕ, ◌<◌, ◌≤◌, Bool, List, [], ◌∷◌, length, sym, subst, inl, inr, arith}
+use Rattle.std.proofs.Common.{◌≡◌, ℕ, ◌<◌, ◌≤◌, Bool, List, [], ◌∷◌, ◌++◌, length, refl, sym, subst, inl, inr, arith}
 use Rattle.std.specs.Prelude.{Result, Ok, Err, IfOk, IfErr}
 use Rattle.std.specs.Str.{IsUtf8}
 use Rattle.core_tokens.specs.declared.fault.ReadFault.{ReadFault}
@@ -7,14 +7,13 @@ use Rattle.core_tokens.specs.declared.fault.ReadFault.TheVariants as fault
 use Rattle.core_tokens.specs.Piece.{Piece}
 use Rattle.core_tree.specs.Syntax.{ModuleTree}
 use Rattle.core_scopes.specs.Scopes.{IsLawful}
-use Rattle.core_reader.specs.Whole.{IsReadAs}
+use Rattle.core_grammar.specs.Whole.{IsReadAs}
 use Rattle.core_tokens.specs.Tokens.{Spelt, none, blank, comment, token, AreTokens, IsTokenFault}
 use Rattle.core_tokens.specs.declared.token.Keyword.TheVariants as k
-use Rattle.core_reader.specs.Grammar.{word, Spells}
-use Rattle.core_reader.specs.Places.{IsOne, IsAt, IsPlace, IsFaultOf}
+use Rattle.core_grammar.specs.Grammar.{word, Spells}
+use Rattle.core_grammar.specs.Places.{IsOne, IsAt, IsPlace, IsLastEnd, IsFaultOf}
 use Rattle.core_tokens.specs.Within.{IsPlacedWithin, StandWithin}
 use Rattle.core_reader.specs.Reader.{SpellsModule, text_limit}
-use Rattle.core_reader.proofs.LastEnd.{last_end_stands}
 
 -- the tokens of a text stand in it
 pub tokens_within : {stop : ℕ} {behind last : Bool} {bytes rest : List ℕ} {ps : List Piece} → Spelt stop behind bytes ps last rest → StandWithin stop ps
@@ -66,6 +65,14 @@ one_within : (stop : ℕ) (ps : List Piece) (p : Piece) → StandWithin stop ps 
 one_within stop [] p w h = absurd h
 one_within stop (q ∷ qs) p w (inl e) = subst (λ (x : Piece). x.at ≤ stop) e w.0
 one_within stop (q ∷ qs) p w (inr h) = one_within stop qs p w.1 h
+
+behind_stands : (before behind : List Piece) (p : Piece) → IsOne (before ++ p ∷ behind) p
+behind_stands [] behind p = inl refl
+behind_stands (q ∷ qs) behind p = inr (behind_stands qs behind p)
+
+-- a last `end` is one of the tokens
+last_end_stands : (ps : List Piece) (at : ℕ) → IsLastEnd ps at → IsOne ps (word at k.End)
+last_end_stands ps at h = subst (λ (qs : List Piece). IsOne qs (word at k.End)) (sym h.stands) (behind_stands h.before h.behind (word at k.End))
 
 -- a fault of the grammar or of the scopes stands in the text
 pub fault_within : (stop : ℕ) (ps : List Piece) (e : ReadFault) → StandWithin stop ps → IsFaultOf ps stop e → IsPlacedWithin stop e

@@ -1,13 +1,3 @@
-pub mod Grammar
-pub mod Reading
-pub mod ReadingForms
-pub mod ReadingModules
-pub mod Handled
 pub mod Parsing
-pub mod Whole
-pub mod Arguments
-pub mod UnservedCalls
-pub mod Depth
-pub mod Places
 pub mod Reader
 pub mod Refusal

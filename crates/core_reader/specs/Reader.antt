@@ -4,7 +4,7 @@ use Rattle.std.specs.Str.{IsUtf8}
 use Rattle.core_tokens.specs.Piece.{Piece}
 use Rattle.core_tokens.specs.Tokens.{AreTokens}
 use Rattle.core_tree.specs.Syntax.{ModuleTree}
-use Rattle.core_reader.specs.Grammar.{Spells}
+use Rattle.core_grammar.specs.Grammar.{Spells}
 use Rattle.core_scopes.specs.Scopes.{IsLawful}
 
 -- the most bytes that a module may have

@@ -7,7 +7,7 @@ use Rattle.core_tokens.specs.declared.fault.ReadFault.TheVariants as fault
 use Rattle.core_tokens.specs.Piece.{Piece}
 use Rattle.core_tree.specs.Syntax.{ModuleTree}
 use Rattle.core_tokens.specs.Tokens.{AreTokens, IsTokenFault}
-use Rattle.core_reader.specs.Places.{IsFaultOf}
+use Rattle.core_grammar.specs.Places.{IsFaultOf}
 use Rattle.core_reader.specs.Reader.{SpellsModule, text_limit}
 
 -- the text is of lawful length, and is UTF-8

@@ -4,12 +4,13 @@ ghost use Rattle.core_tokens.specs.Piece.{pieces};
 ghost use Rattle.core_tokens.specs.declared.token.Mark.TheVariants.{LeftParenthesis};
 ghost use Rattle.core_tree.specs.Syntax.{OfItself};
 ghost use Rattle.core_tree.specs.Tree.{tree_of, callee_of};
-ghost use Rattle.core_reader.specs.Reading.{Moves, after_mark, exactly_at};
-ghost use Rattle.core_reader.specs.ReadingForms.{callee_fault_of, callee_fault, bare_callee_at, callee_at, applied_fault_of, applied_fault, applied_atom_at, behind_applied_by, bare_applied_at, applied_at, is_read, export_called, unlisted_called, callee_named, operation_named, earlier, refuse, judged, apply_at, call_at, primop_at, expression_at};
-ghost use Rattle.core_reader.specs.Parsing.{state_of};
+ghost use Rattle.core_grammar.specs.Reading.{Moves, after_mark, exactly_at};
+ghost use Rattle.core_grammar.specs.ReadingForms.{callee_fault_of, callee_fault, bare_callee_at, callee_at, applied_fault_of, applied_fault, applied_atom_at, behind_applied_by, bare_applied_at, applied_at, is_read, export_called, unlisted_called, callee_named, operation_named, earlier, refuse, judged, apply_at, call_at, primop_at, expression_at};
+ghost use Rattle.core_reader.specs.Parsing.{state_in};
 
 use crate::expressions::{begins_expression, is_function};
-use crate::parser::{Parser, Unserved, atom_copy, is_foreign};
+use crate::form_reader::FormReader;
+use core_parser::{Unserved, atom_copy, is_foreign};
 use core_tokens::{Lexeme, Mark, ReadFault, Token};
 use core_tree::{Call, CallKind, Callee, Expr, Exprs, FunctionName, NamedFunction, PureCall};
 use term_core::Atom;
@@ -92,7 +93,7 @@ fn unlisted_called(
 }
 
 /// What a call in the module `own` calls, by its two names and the number of its arguments.
-#[tactic(auto, unfolding(crate::specs::ReadingForms::callee_named))]
+#[tactic(auto, unfolding(core_grammar::specs::ReadingForms::callee_named))]
 fn callee_named(own: &Atom, module_name: &Atom, function_name: Atom, arity: usize) -> Option<Callee>
     ensures { option_map callee_of result ≡ callee_named own.now module_name.now function_name arity }
 {
@@ -113,7 +114,7 @@ fn callee_named(own: &Atom, module_name: &Atom, function_name: Atom, arity: usiz
 }
 
 /// The operation of a `primop`, by its name and the number of its arguments.
-#[tactic(auto, unfolding(crate::specs::ReadingForms::operation_named))]
+#[tactic(auto, unfolding(core_grammar::specs::ReadingForms::operation_named))]
 fn operation_named(name: &Atom, arity: usize) -> Option<Callee>
     ensures { option_map callee_of result ≡ operation_named name.now arity }
 {
@@ -142,21 +143,21 @@ fn earlier(unserved: Unserved, before: Option<Unserved>) -> Unserved
     }
 }
 
-impl<'a> Parser<'a> {
+impl<'a> FormReader<'a> {
     /// The fault where an atom of the call at `at` should stand.
-    #[tactic(auto, unfolding(crate::specs::ReadingForms::callee_fault))]
+    #[tactic(auto, unfolding(core_grammar::specs::ReadingForms::callee_fault))]
     fn callee_fault(&self, at: usize) -> ReadFault
-        ensures { result ≡ callee_fault at (state_of self.now) }
+        ensures { result ≡ callee_fault at (state_in self.now) }
     {
-        self.refusal(callee_fault_of(at, self.length, self.tokens))
+        self.parser.refusal(callee_fault_of(at, self.parser.length, self.parser.tokens))
     }
 
     /// One of the two atoms of the call at `at`, without annotations.
-    #[tactic(auto, unfolding(crate::specs::ReadingForms::bare_callee_at))]
+    #[tactic(auto, unfolding(core_grammar::specs::ReadingForms::bare_callee_at))]
     fn bare_callee(&mut self, at: usize) -> Result<Atom, ReadFault>
-        ensures { Moves (λ a. a) result (state_of self.new) (bare_callee_at at (state_of self.old)) }
+        ensures { Moves (λ a. a) result (state_in self.new) (bare_callee_at at (state_in self.old)) }
     {
-        let tokens = self.tokens;
+        let tokens = self.parser.tokens;
         match tokens {
             [
                 Token {
@@ -165,8 +166,8 @@ impl<'a> Parser<'a> {
                 },
                 rest @ ..,
             ] => {
-                self.tokens = rest;
-                Ok(atom_copy(self.alloc, atom)?)
+                self.parser.tokens = rest;
+                Ok(atom_copy(self.parser.alloc, atom)?)
             }
             _ => Err(self.callee_fault(at)),
         }
@@ -174,30 +175,31 @@ impl<'a> Parser<'a> {
 
     /// One of the two atoms of the call at `at`, annotated in at most so many levels.
     fn callee(&mut self, at: usize, levels: u16) -> Result<Atom, ReadFault>
-        ensures { Moves (λ a. a) result (state_of self.new) (callee_at at levels (state_of self.old)) }
+        ensures { Moves (λ a. a) result (state_in self.new) (callee_at at levels (state_in self.old)) }
     {
-        if !self.opens_note(levels)? {
+        if !self.parser.opens_note(levels)? {
             return Ok(self.bare_callee(at)?);
         }
         let name = self.callee(at, levels - 1)?;
-        self.note(levels - 1)?;
+        self.parser.note(levels - 1)?;
         Ok(name)
     }
 
     /// The fault where the name of the function of an `apply` should stand.
-    #[tactic(auto, unfolding(crate::specs::ReadingForms::applied_fault))]
+    #[tactic(auto, unfolding(core_grammar::specs::ReadingForms::applied_fault))]
     fn applied_fault(&self) -> ReadFault
-        ensures { result ≡ applied_fault (state_of self.now) }
+        ensures { result ≡ applied_fault (state_in self.now) }
     {
-        self.refusal(applied_fault_of(self.length, self.tokens))
+        self.parser
+            .refusal(applied_fault_of(self.parser.length, self.parser.tokens))
     }
 
     /// The atom of the function of an `apply`, with its place.
-    #[tactic(auto, unfolding(crate::specs::ReadingForms::applied_atom_at))]
+    #[tactic(auto, unfolding(core_grammar::specs::ReadingForms::applied_atom_at))]
     fn applied_atom(&mut self) -> Result<(usize, Atom), ReadFault>
-        ensures { Moves (λ a. a) result (state_of self.new) (applied_atom_at (state_of self.old)) }
+        ensures { Moves (λ a. a) result (state_in self.new) (applied_atom_at (state_in self.old)) }
     {
-        let tokens = self.tokens;
+        let tokens = self.parser.tokens;
         match tokens {
             [
                 Token {
@@ -206,8 +208,8 @@ impl<'a> Parser<'a> {
                 },
                 rest @ ..,
             ] => {
-                self.tokens = rest;
-                Ok((*at, atom_copy(self.alloc, atom)?))
+                self.parser.tokens = rest;
+                Ok((*at, atom_copy(self.parser.alloc, atom)?))
             }
             _ => Err(self.applied_fault()),
         }
@@ -215,18 +217,18 @@ impl<'a> Parser<'a> {
 
     /// What stands behind the atom of an `apply`: with arguments there the atom is a value that is applied.
     fn behind_applied(&mut self, at: usize, name: Atom) -> Result<NamedFunction, ReadFault>
-        ensures { Moves (λ e. e) result (state_of self.new) (behind_applied_by at name (after_mark LeftParenthesis (state_of self.old).pieces) (state_of self.old)) }
+        ensures { Moves (λ e. e) result (state_in self.new) (behind_applied_by at name (after_mark LeftParenthesis (state_in self.old).pieces) (state_in self.old)) }
     {
-        if self.is_at_mark(Mark::LeftParenthesis) {
-            return Err(self.refusal(ReadFault::HigherOrder(at)));
+        if self.parser.is_at_mark(Mark::LeftParenthesis) {
+            return Err(self.parser.refusal(ReadFault::HigherOrder(at)));
         }
-        Ok(self.behind_atom(at, name)?)
+        Ok(self.parser.behind_atom(at, name)?)
     }
 
     /// The name of the function of an `apply`, without annotations.
-    #[tactic(auto, unfolding(crate::specs::ReadingForms::bare_applied_at))]
+    #[tactic(auto, unfolding(core_grammar::specs::ReadingForms::bare_applied_at))]
     fn bare_applied(&mut self) -> Result<NamedFunction, ReadFault>
-        ensures { Moves (λ e. e) result (state_of self.new) (bare_applied_at (state_of self.old)) }
+        ensures { Moves (λ e. e) result (state_in self.new) (bare_applied_at (state_in self.old)) }
     {
         let (at, name) = self.applied_atom()?;
         Ok(self.behind_applied(at, name)?)
@@ -234,22 +236,22 @@ impl<'a> Parser<'a> {
 
     /// The name of the function of an `apply`, annotated in at most so many levels.
     fn applied(&mut self, levels: u16) -> Result<NamedFunction, ReadFault>
-        ensures { Moves (λ e. e) result (state_of self.new) (applied_at levels (state_of self.old)) }
+        ensures { Moves (λ e. e) result (state_in self.new) (applied_at levels (state_in self.old)) }
     {
-        if !self.opens_note(levels)? {
+        if !self.parser.opens_note(levels)? {
             return Ok(self.bare_applied()?);
         }
         let named = self.applied(levels - 1)?;
-        self.note(levels - 1)?;
+        self.parser.note(levels - 1)?;
         Ok(named)
     }
 
     /// Keeps in mind what was read whole and is not served: reading goes on, since it may stand in
     /// something whose place is less.
     fn refuse(&mut self, unserved: Unserved)
-        ensures { state_of self.new ≡ refuse unserved (state_of self.old) }
+        ensures { state_in self.new ≡ refuse unserved (state_in self.old) }
     {
-        self.refused = Some(earlier(unserved, self.refused));
+        self.parser.refused = Some(earlier(unserved, self.parser.refused));
     }
 
     /// The call at `at` of this callee, if there is one; else something in its place, as reading goes on.
@@ -260,8 +262,8 @@ impl<'a> Parser<'a> {
         callee: Option<Callee>,
         arguments: Vec<Expr>,
     ) -> Expr
-        ensures { judged at unserved (option_map callee_of callee) (map tree_of arguments.items) (state_of self.old)
-            ≡ Ok (tree_of result, state_of self.new) }
+        ensures { judged at unserved (option_map callee_of callee) (map tree_of arguments.items) (state_in self.old)
+            ≡ Ok (tree_of result, state_in self.new) }
     {
         match callee {
             Some(callee) => Expr::Call(Call {
@@ -271,21 +273,21 @@ impl<'a> Parser<'a> {
             }),
             None => {
                 self.refuse(unserved);
-                Expr::List(Exprs(Vec::new(self.alloc)))
+                Expr::List(Exprs(Vec::new(self.parser.alloc)))
             }
         }
     }
 
     /// What stands behind the `apply` at `at`.
     #[cycle(expressions)]
-    #[tactic(auto, unfolding(crate::specs::ReadingForms::apply_at))]
+    #[tactic(auto, unfolding(core_grammar::specs::ReadingForms::apply_at))]
     pub(crate) fn apply(&mut self, own: &Atom, levels: u16, at: usize) -> Result<Expr, ReadFault>
-        ensures { Moves tree_of result (state_of self.new) (apply_at own.now levels (expression_at own.now levels) at (state_of self.old)) }
+        ensures { Moves tree_of result (state_in self.new) (apply_at own.now levels (expression_at own.now levels) at (state_in self.old)) }
     {
         let named = self.applied(levels)?;
-        self.mark(Mark::LeftParenthesis)?;
+        self.parser.mark(Mark::LeftParenthesis)?;
         let arguments = self.arguments(own, levels, named.function.arity)?;
-        self.mark(Mark::RightParenthesis)?;
+        self.parser.mark(Mark::RightParenthesis)?;
         Ok(Expr::Call(Call {
             at,
             callee: Callee::Defined(named),
@@ -296,11 +298,11 @@ impl<'a> Parser<'a> {
     /// So many expressions, with commas between them.
     #[cycle(expressions)]
     fn arguments(&mut self, own: &Atom, levels: u16, arity: u8) -> Result<Vec<Expr>, ReadFault>
-        ensures { Moves (λ v. map tree_of v.items) result (state_of self.new) (exactly_at (expression_at own.now levels) true arity (state_of self.old)) }
+        ensures { Moves (λ v. map tree_of v.items) result (state_in self.new) (exactly_at (expression_at own.now levels) true arity (state_in self.old)) }
     {
-        let mut arguments = Vec::new(self.alloc);
+        let mut arguments = Vec::new(self.parser.alloc);
         'arguments: for taken in 0..arity {
-            self.comma(taken == 0)?;
+            self.parser.comma(taken == 0)?;
             arguments.push(self.expression(own, levels)?)?;
         }
         Ok(arguments)
@@ -308,14 +310,14 @@ impl<'a> Parser<'a> {
 
     /// What stands behind the `call` at `at`.
     #[cycle(expressions)]
-    #[tactic(auto, unfolding(crate::specs::ReadingForms::call_at))]
+    #[tactic(auto, unfolding(core_grammar::specs::ReadingForms::call_at))]
     pub(crate) fn call(&mut self, own: &Atom, levels: u16, at: usize) -> Result<Expr, ReadFault>
-        ensures { Moves tree_of result (state_of self.new) (call_at own.now levels (expression_at own.now levels) at (state_of self.old)) }
+        ensures { Moves tree_of result (state_in self.new) (call_at own.now levels (expression_at own.now levels) at (state_in self.old)) }
     {
         let module_name = self.callee(at, levels)?;
-        self.mark(Mark::Colon)?;
+        self.parser.mark(Mark::Colon)?;
         let function_name = self.callee(at, levels)?;
-        self.mark(Mark::LeftParenthesis)?;
+        self.parser.mark(Mark::LeftParenthesis)?;
         let arguments = self.expressions(own, levels, Mark::RightParenthesis)?;
         let callee = callee_named(own, &module_name, function_name, arguments.len());
         Ok(self.judged(at, Unserved::Call(at), callee, arguments))
@@ -323,12 +325,12 @@ impl<'a> Parser<'a> {
 
     /// What stands behind the `primop` at `at`.
     #[cycle(expressions)]
-    #[tactic(auto, unfolding(crate::specs::ReadingForms::primop_at))]
+    #[tactic(auto, unfolding(core_grammar::specs::ReadingForms::primop_at))]
     pub(crate) fn primop(&mut self, own: &Atom, levels: u16, at: usize) -> Result<Expr, ReadFault>
-        ensures { Moves tree_of result (state_of self.new) (primop_at own.now levels (expression_at own.now levels) at (state_of self.old)) }
+        ensures { Moves tree_of result (state_in self.new) (primop_at own.now levels (expression_at own.now levels) at (state_in self.old)) }
     {
-        let name = self.atom()?;
-        self.mark(Mark::LeftParenthesis)?;
+        let name = self.parser.atom()?;
+        self.parser.mark(Mark::LeftParenthesis)?;
         let arguments = self.expressions(own, levels, Mark::RightParenthesis)?;
         let callee = operation_named(&name, arguments.len());
         Ok(self.judged(at, Unserved::Primop(at), callee, arguments))

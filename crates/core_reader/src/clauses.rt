@@ -4,11 +4,11 @@ ghost use Rattle.core_tokens.specs.declared.token.Keyword.TheVariants.{When};
 ghost use Rattle.core_tokens.specs.declared.token.Mark.TheVariants.{Less};
 ghost use Rattle.core_tree.specs.Syntax.{Chosen, clauses_of};
 ghost use Rattle.core_tree.specs.Tree.{pattern_of, tree_of};
-ghost use Rattle.core_reader.specs.Reading.{Builds, Moves, after_word, rows_at};
-ghost use Rattle.core_reader.specs.ReadingForms.{behind_patterns_at, clause_of, started, inside_start_at, aliased, noted_start_at, bare_start_at, start_at, clause_at, case_at, expression_at};
-ghost use Rattle.core_reader.specs.Parsing.{state_of, start_of};
+ghost use Rattle.core_grammar.specs.Reading.{Builds, Moves, after_word, rows_at};
+ghost use Rattle.core_grammar.specs.ReadingForms.{behind_patterns_at, clause_of, started, inside_start_at, aliased, noted_start_at, bare_start_at, start_at, clause_at, case_at, expression_at};
+ghost use Rattle.core_reader.specs.Parsing.{state_in, start_of};
 
-use crate::parser::Parser;
+use crate::form_reader::FormReader;
 use core_tokens::{Keyword, Mark, ReadFault};
 use core_tree::{Case, Clause, Clauses, Expr, Pattern, Patterns};
 use std::alloc::Global;
@@ -48,21 +48,21 @@ fn case_of(alloc: Global, at: usize, value: Expr, clauses: Vec<Clause>) -> Resul
     Ok(Expr::Case(Box::new(alloc, Case { at, value, clauses })?))
 }
 
-impl<'a> Parser<'a> {
+impl<'a> FormReader<'a> {
     /// What stands behind the patterns of a clause: `when expr -> expr`.
     #[cycle(expressions)]
-    #[tactic(auto, unfolding(crate::specs::ReadingForms::behind_patterns_at))]
+    #[tactic(auto, unfolding(core_grammar::specs::ReadingForms::behind_patterns_at))]
     fn behind_patterns(
         &mut self,
         own: &Atom,
         levels: u16,
         patterns: Vec<Pattern>,
     ) -> Result<Clause, ReadFault>
-        ensures { Moves (λ c. c) result (state_of self.new) (behind_patterns_at own.now levels (expression_at own.now levels) (map pattern_of patterns.items) (state_of self.old)) }
+        ensures { Moves (λ c. c) result (state_in self.new) (behind_patterns_at own.now levels (expression_at own.now levels) (map pattern_of patterns.items) (state_in self.old)) }
     {
-        self.word(Keyword::When)?;
+        self.parser.word(Keyword::When)?;
         let guard = self.expression(own, levels)?;
-        self.mark(Mark::Arrow)?;
+        self.parser.mark(Mark::Arrow)?;
         let body = self.expression(own, levels)?;
         Ok(Clause {
             patterns: Patterns(patterns),
@@ -74,11 +74,11 @@ impl<'a> Parser<'a> {
     /// The start of a clause as a clause.
     #[cycle(expressions)]
     fn clause_of(&mut self, own: &Atom, levels: u16, start: Start) -> Result<Clause, ReadFault>
-        ensures { Moves (λ c. c) result (state_of self.new) (clause_of own.now levels (expression_at own.now levels) (start_of start) (state_of self.old)) }
+        ensures { Moves (λ c. c) result (state_in self.new) (clause_of own.now levels (expression_at own.now levels) (start_of start) (state_in self.old)) }
     {
         match start {
             Start::One(pattern) => {
-                let patterns = one_pattern(self.alloc, pattern)?;
+                let patterns = one_pattern(self.parser.alloc, pattern)?;
                 Ok(self.behind_patterns(own, levels, patterns)?)
             }
             Start::Many(patterns) => Ok(self.behind_patterns(own, levels, patterns)?),
@@ -90,9 +90,9 @@ impl<'a> Parser<'a> {
     /// whole clause.
     #[cycle(expressions)]
     fn started(&mut self, own: &Atom, levels: u16, start: Start) -> Result<Start, ReadFault>
-        ensures { Moves start_of result (state_of self.new) (started own.now levels (expression_at own.now levels) (start_of start) (after_word When (state_of self.old).pieces) (state_of self.old)) }
+        ensures { Moves start_of result (state_in self.new) (started own.now levels (expression_at own.now levels) (start_of start) (after_word When (state_in self.old).pieces) (state_in self.old)) }
     {
-        if !self.is_at_word(Keyword::When) {
+        if !self.parser.is_at_word(Keyword::When) {
             return Ok(start);
         }
         Ok(Start::Whole(self.clause_of(own, levels, start)?))
@@ -100,9 +100,9 @@ impl<'a> Parser<'a> {
 
     /// What stands in the parentheses of an annotation of a clause or of its patterns.
     #[cycle(expressions)]
-    #[tactic(auto, unfolding(crate::specs::ReadingForms::inside_start_at))]
+    #[tactic(auto, unfolding(core_grammar::specs::ReadingForms::inside_start_at))]
     fn inside_start(&mut self, own: &Atom, levels: u16) -> Result<Start, ReadFault>
-        ensures { Moves start_of result (state_of self.new) (inside_start_at own.now levels (expression_at own.now levels) (start_at own.now levels) (state_of self.old)) }
+        ensures { Moves start_of result (state_in self.new) (inside_start_at own.now levels (expression_at own.now levels) (start_at own.now levels) (state_in self.old)) }
     {
         let start = self.start(own, levels)?;
         Ok(self.started(own, levels, start)?)
@@ -110,10 +110,10 @@ impl<'a> Parser<'a> {
 
     /// The start of a clause behind the parentheses of an annotation: a variable may be that of an alias.
     fn aliased(&mut self, own: &Atom, levels: u16, start: Start) -> Result<Start, ReadFault>
-        ensures { Moves start_of result (state_of self.new) (aliased own.now levels (expression_at own.now levels) (start_of start) (state_of self.old)) }
+        ensures { Moves start_of result (state_in self.new) (aliased own.now levels (expression_at own.now levels) (start_of start) (state_in self.old)) }
     {
         match start {
-            Start::One(pattern) => Ok(Start::One(self.alias(pattern, levels)?)),
+            Start::One(pattern) => Ok(Start::One(self.parser.alias(pattern, levels)?)),
             Start::Many(patterns) => Ok(Start::Many(patterns)),
             Start::Whole(clause) => Ok(Start::Whole(clause)),
         }
@@ -121,32 +121,32 @@ impl<'a> Parser<'a> {
 
     /// A start of a clause in the parentheses of an annotation, whose parts stand at so many levels.
     #[cycle(expressions)]
-    #[tactic(auto, unfolding(crate::specs::ReadingForms::noted_start_at, crate::specs::Reading::in_note_at))]
+    #[tactic(auto, unfolding(core_grammar::specs::ReadingForms::noted_start_at, core_grammar::specs::Reading::in_note_at))]
     fn noted_start(&mut self, own: &Atom, levels: u16) -> Result<Start, ReadFault>
-        ensures { Moves start_of result (state_of self.new) (noted_start_at own.now levels (expression_at own.now levels) (start_at own.now levels) (state_of self.old)) }
+        ensures { Moves start_of result (state_in self.new) (noted_start_at own.now levels (expression_at own.now levels) (start_at own.now levels) (state_in self.old)) }
     {
         let start = self.inside_start(own, levels)?;
-        self.note(levels)?;
+        self.parser.note(levels)?;
         Ok(self.aliased(own, levels, start)?)
     }
 
     /// Patterns that no parenthesis stands before.
-    #[tactic(auto, unfolding(crate::specs::ReadingForms::bare_start_at))]
+    #[tactic(auto, unfolding(core_grammar::specs::ReadingForms::bare_start_at))]
     fn bare_start(&mut self, levels: u16) -> Result<Start, ReadFault>
-        ensures { Moves start_of result (state_of self.new) (bare_start_at levels (state_of self.old)) }
+        ensures { Moves start_of result (state_in self.new) (bare_start_at levels (state_in self.old)) }
     {
-        if self.skip_mark(Mark::Less) {
-            return Ok(Start::Many(self.patterns(levels, Mark::Greater)?));
+        if self.parser.skip_mark(Mark::Less) {
+            return Ok(Start::Many(self.parser.patterns(levels, Mark::Greater)?));
         }
-        Ok(Start::One(self.pattern(levels)?))
+        Ok(Start::One(self.parser.pattern(levels)?))
     }
 
     /// What a clause begins with, annotated in at most so many levels.
     #[cycle(expressions)]
     fn start(&mut self, own: &Atom, levels: u16) -> Result<Start, ReadFault>
-        ensures { Moves start_of result (state_of self.new) (start_at own.now levels (state_of self.old)) }
+        ensures { Moves start_of result (state_in self.new) (start_at own.now levels (state_in self.old)) }
     {
-        if !self.opens_note(levels)? {
+        if !self.parser.opens_note(levels)? {
             return Ok(self.bare_start(levels)?);
         }
         Ok(self.noted_start(own, levels - 1)?)
@@ -154,9 +154,9 @@ impl<'a> Parser<'a> {
 
     /// A clause whose parts have at most so many levels.
     #[cycle(expressions)]
-    #[tactic(auto, unfolding(crate::specs::ReadingForms::clause_at))]
+    #[tactic(auto, unfolding(core_grammar::specs::ReadingForms::clause_at))]
     fn clause(&mut self, own: &Atom, levels: u16) -> Result<Clause, ReadFault>
-        ensures { Moves (λ c. c) result (state_of self.new) (clause_at own.now levels (expression_at own.now levels) (start_at own.now levels) (state_of self.old)) }
+        ensures { Moves (λ c. c) result (state_in self.new) (clause_at own.now levels (expression_at own.now levels) (start_at own.now levels) (state_in self.old)) }
     {
         let start = self.start(own, levels)?;
         Ok(self.clause_of(own, levels, start)?)
@@ -165,31 +165,31 @@ impl<'a> Parser<'a> {
     /// The clauses behind the first, as far as the `end`.
     #[cycle(expressions)]
     fn clauses(&mut self, own: &Atom, levels: u16) -> Result<Vec<Clause>, ReadFault>
-        ensures { Moves (λ v. v.items) result (state_of self.new) (rows_at (clause_at own.now levels (expression_at own.now levels) (start_at own.now levels)) (state_of self.old)) }
+        ensures { Moves (λ v. v.items) result (state_in self.new) (rows_at (clause_at own.now levels (expression_at own.now levels) (start_at own.now levels)) (state_in self.old)) }
     {
-        let mut clauses = Vec::new(self.alloc);
-        let count = self.tokens.len();
+        let mut clauses = Vec::new(self.parser.alloc);
+        let count = self.parser.tokens.len();
         'clauses: for _taken in 0..count {
-            if self.is_at_word(Keyword::End) {
+            if self.parser.is_at_word(Keyword::End) {
                 return Ok(clauses);
             }
             clauses.push(self.clause(own, levels)?)?;
         }
-        Err(self.fault())
+        Err(self.parser.fault())
     }
 
     /// What stands behind the `case` at `at`.
     #[cycle(expressions)]
-    #[tactic(auto, unfolding(crate::specs::ReadingForms::case_at))]
+    #[tactic(auto, unfolding(core_grammar::specs::ReadingForms::case_at))]
     pub(crate) fn case(&mut self, own: &Atom, levels: u16, at: usize) -> Result<Expr, ReadFault>
-        ensures { Moves tree_of result (state_of self.new) (case_at own.now levels (expression_at own.now levels) (start_at own.now levels) at (state_of self.old)) }
+        ensures { Moves tree_of result (state_in self.new) (case_at own.now levels (expression_at own.now levels) (start_at own.now levels) at (state_in self.old)) }
     {
         let value = self.expression(own, levels)?;
-        self.word(Keyword::Of)?;
+        self.parser.word(Keyword::Of)?;
         let first = self.clause(own, levels)?;
         let others = self.clauses(own, levels)?;
-        self.word(Keyword::End)?;
+        self.parser.word(Keyword::End)?;
         let clauses = with_first(first, others)?;
-        Ok(case_of(self.alloc, at, value, clauses)?)
+        Ok(case_of(self.parser.alloc, at, value, clauses)?)
     }
 }

@@ -4,13 +4,12 @@ ghost use Rattle.core_tokens.specs.Piece.{shape_of, pieces, A_mark, A_word};
 ghost use Rattle.core_tokens.specs.declared.token.Mark.TheVariants.{Slash};
 ghost use Rattle.core_tree.specs.Syntax.{Joined, Bound, Followed, Tried, Caught, trees_of};
 ghost use Rattle.core_tree.specs.Tree.{tree_of};
-ghost use Rattle.core_reader.specs.Reading.{Builds, Moves, items_at, closed_at, in_note_at, constant_at, after_mark, place_of};
-ghost use Rattle.core_reader.specs.ReadingForms.{is_function, begins_expression, deep_expression_of, expression_fault_of, deep_expression, expression_fault, name_by, tuple_at, list_at, values_at, let_at, do_at, try_at, catch_at, form_by, form_at, expression_at, start_at};
-ghost use Rattle.core_reader.specs.Handled.{handled_at};
-ghost use Rattle.core_reader.specs.Parsing.{state_of};
+ghost use Rattle.core_grammar.specs.Reading.{Builds, Moves, items_at, closed_at, in_note_at, constant_at, after_mark, place_of};
+ghost use Rattle.core_grammar.specs.ReadingForms.{is_function, begins_expression, deep_expression_of, expression_fault_of, deep_expression, expression_fault, name_by, tuple_at, list_at, values_at, let_at, do_at, try_at, handled_at, catch_at, form_by, form_at, expression_at, start_at};
+ghost use Rattle.core_reader.specs.Parsing.{state_in};
 
-use crate::names::variable_of;
-use crate::parser::{Parser, atom_copy, is_foreign};
+use crate::form_reader::FormReader;
+use core_parser::{atom_copy, is_foreign, variable_of};
 use core_tokens::{Keyword, Lexeme, Mark, ReadFault, Token};
 use core_tree::{Catch, Do, Expr, Exprs, Let, Onto, Try, Variable};
 use std::alloc::Global;
@@ -174,27 +173,28 @@ fn catch_of(alloc: Global, at: usize, value: Expr) -> Result<Expr, ReadFault>
     Ok(Expr::Catch(Box::new(alloc, Catch { at, value })?))
 }
 
-impl<'a> Parser<'a> {
+impl<'a> FormReader<'a> {
     /// The fault at a token past the last level.
-    #[tactic(auto, unfolding(crate::specs::ReadingForms::deep_expression))]
+    #[tactic(auto, unfolding(core_grammar::specs::ReadingForms::deep_expression))]
     fn deep_expression(&self) -> ReadFault
-        ensures { result ≡ deep_expression (state_of self.now) }
+        ensures { result ≡ deep_expression (state_in self.now) }
     {
-        self.refusal(deep_expression_of(self.length, self.tokens))
+        self.parser
+            .refusal(deep_expression_of(self.parser.length, self.parser.tokens))
     }
 
     /// The fault at a token that begins no expression that is read.
-    #[tactic(auto, unfolding(crate::specs::ReadingForms::expression_fault))]
+    #[tactic(auto, unfolding(core_grammar::specs::ReadingForms::expression_fault))]
     fn expression_fault(&self) -> ReadFault
-        ensures { result ≡ expression_fault (state_of self.now) }
+        ensures { result ≡ expression_fault (state_in self.now) }
     {
-        self.refusal(expression_fault_of(self.length, self.tokens))
+        self.parser.refusal(expression_fault_of(self.parser.length, self.parser.tokens))
     }
 
     /// An expression of the module `own`, of at most so many levels.
     #[cycle(expressions)]
     pub fn expression(&mut self, own: &Atom, levels: u16) -> Result<Expr, ReadFault>
-        ensures { Moves tree_of result (state_of self.new) (expression_at own.now levels (state_of self.old)) }
+        ensures { Moves tree_of result (state_in self.new) (expression_at own.now levels (state_in self.old)) }
     {
         if levels == 0 {
             Err(self.deep_expression())
@@ -205,12 +205,12 @@ impl<'a> Parser<'a> {
 
     /// An expression whose parts have at most so many levels.
     #[cycle(expressions)]
-    #[tactic(auto, unfolding(crate::specs::ReadingForms::form_at))]
+    #[tactic(auto, unfolding(core_grammar::specs::ReadingForms::form_at))]
     fn form(&mut self, own: &Atom, levels: u16) -> Result<Expr, ReadFault>
-        ensures { Moves tree_of result (state_of self.new) (form_at own.now levels (expression_at own.now levels) (start_at own.now levels) (state_of self.old)) }
+        ensures { Moves tree_of result (state_in self.new) (form_at own.now levels (expression_at own.now levels) (start_at own.now levels) (state_in self.old)) }
     {
         let fault = self.expression_fault();
-        let tokens = self.tokens;
+        let tokens = self.parser.tokens;
         match tokens {
             [] => Err(fault),
             [token, rest @ ..] => match &token.lexeme {
@@ -218,20 +218,20 @@ impl<'a> Parser<'a> {
                 Lexeme::Word(word) => Ok(self.word_form(own, levels, token.at, *word, rest)?),
                 Lexeme::Atom(atom) => Ok(self.name(atom, rest)?),
                 Lexeme::Integer(number) => {
-                    self.tokens = rest;
+                    self.parser.tokens = rest;
                     Ok(Expr::Integer(*number))
                 }
                 Lexeme::Character(character) => {
-                    self.tokens = rest;
+                    self.parser.tokens = rest;
                     Ok(Expr::Character(*character))
                 }
                 Lexeme::Text(text) => {
-                    self.tokens = rest;
-                    Ok(Expr::Text(Vec::from_slice(self.alloc, text)?))
+                    self.parser.tokens = rest;
+                    Ok(Expr::Text(Vec::from_slice(self.parser.alloc, text)?))
                 }
                 Lexeme::Variable(name) => {
-                    self.tokens = rest;
-                    Ok(Expr::Variable(variable_of(self.alloc, token.at, name)?))
+                    self.parser.tokens = rest;
+                    Ok(Expr::Variable(variable_of(self.parser.alloc, token.at, name)?))
                 }
                 Lexeme::Float => Err(fault),
             },
@@ -247,10 +247,10 @@ impl<'a> Parser<'a> {
         mark: Mark,
         rest: &'a [Token],
     ) -> Result<Expr, ReadFault>
-        ensures { Moves tree_of result (state_of self.new) (form_by own.now levels (expression_at own.now levels) (start_at own.now levels) (place_of (state_of self.old).stop (state_of self.old).pieces) (A_mark mark) (pieces rest.now) (state_of self.old)) }
+        ensures { Moves tree_of result (state_in self.new) (form_by own.now levels (expression_at own.now levels) (start_at own.now levels) (place_of (state_in self.old).stop (state_in self.old).pieces) (A_mark mark) (pieces rest.now) (state_in self.old)) }
     {
         let fault = self.expression_fault();
-        self.tokens = rest;
+        self.parser.tokens = rest;
         match mark {
             Mark::LeftBrace => Ok(self.tuple(own, levels)?),
             Mark::LeftBracket => Ok(self.list(own, levels)?),
@@ -270,10 +270,10 @@ impl<'a> Parser<'a> {
         word: Keyword,
         rest: &'a [Token],
     ) -> Result<Expr, ReadFault>
-        ensures { Moves tree_of result (state_of self.new) (form_by own.now levels (expression_at own.now levels) (start_at own.now levels) at (A_word word) (pieces rest.now) (state_of self.old)) }
+        ensures { Moves tree_of result (state_in self.new) (form_by own.now levels (expression_at own.now levels) (start_at own.now levels) at (A_word word) (pieces rest.now) (state_in self.old)) }
     {
         let fault = self.expression_fault();
-        self.tokens = rest;
+        self.parser.tokens = rest;
         match word {
             Keyword::Let => Ok(self.let_in(own, levels)?),
             Keyword::Case => Ok(self.case(own, levels, at)?),
@@ -289,7 +289,7 @@ impl<'a> Parser<'a> {
 
     /// An atom with these tokens behind it, if it begins no function's name.
     fn name(&mut self, atom: &Atom, rest: &'a [Token]) -> Result<Expr, ReadFault>
-        ensures { Moves tree_of result (state_of self.new) (name_by (after_mark Slash (pieces rest.now)) atom.now (pieces rest.now) (state_of self.old)) }
+        ensures { Moves tree_of result (state_in self.new) (name_by (after_mark Slash (pieces rest.now)) atom.now (pieces rest.now) (state_in self.old)) }
     {
         if matches!(
             rest,
@@ -303,26 +303,26 @@ impl<'a> Parser<'a> {
         ) {
             return Err(self.expression_fault());
         }
-        self.tokens = rest;
-        Ok(Expr::Atom(atom_copy(self.alloc, atom)?))
+        self.parser.tokens = rest;
+        Ok(Expr::Atom(atom_copy(self.parser.alloc, atom)?))
     }
 
     /// What stands in the parentheses of an annotated expression, and the end of the annotation.
     #[cycle(expressions)]
-    #[tactic(auto, unfolding(crate::specs::Reading::in_note_at))]
+    #[tactic(auto, unfolding(core_grammar::specs::Reading::in_note_at))]
     fn expression_in_note(&mut self, own: &Atom, levels: u16) -> Result<Expr, ReadFault>
-        ensures { Moves tree_of result (state_of self.new) (in_note_at (constant_at levels) (expression_at own.now levels) (state_of self.old)) }
+        ensures { Moves tree_of result (state_in self.new) (in_note_at (constant_at levels) (expression_at own.now levels) (state_in self.old)) }
     {
         let expression = self.expression(own, levels)?;
-        self.note(levels)?;
+        self.parser.note(levels)?;
         Ok(expression)
     }
 
     /// What stands behind the brace of a tuple.
     #[cycle(expressions)]
-    #[tactic(auto, unfolding(crate::specs::ReadingForms::tuple_at))]
+    #[tactic(auto, unfolding(core_grammar::specs::ReadingForms::tuple_at))]
     fn tuple(&mut self, own: &Atom, levels: u16) -> Result<Expr, ReadFault>
-        ensures { Moves tree_of result (state_of self.new) (tuple_at own.now levels (expression_at own.now levels) (state_of self.old)) }
+        ensures { Moves tree_of result (state_in self.new) (tuple_at own.now levels (expression_at own.now levels) (state_in self.old)) }
     {
         let items = self.expressions(own, levels, Mark::RightBrace)?;
         Ok(Expr::Tuple(Exprs(items)))
@@ -330,28 +330,28 @@ impl<'a> Parser<'a> {
 
     /// What stands behind the bracket of a list.
     #[cycle(expressions)]
-    #[tactic(auto, unfolding(crate::specs::ReadingForms::list_at, crate::specs::Reading::brackets_at))]
+    #[tactic(auto, unfolding(core_grammar::specs::ReadingForms::list_at, core_grammar::specs::Reading::brackets_at))]
     fn list(&mut self, own: &Atom, levels: u16) -> Result<Expr, ReadFault>
-        ensures { Moves tree_of result (state_of self.new) (list_at own.now levels (expression_at own.now levels) (state_of self.old)) }
+        ensures { Moves tree_of result (state_in self.new) (list_at own.now levels (expression_at own.now levels) (state_in self.old)) }
     {
-        if self.skip_mark(Mark::RightBracket) {
-            return Ok(Expr::List(Exprs(Vec::new(self.alloc))));
+        if self.parser.skip_mark(Mark::RightBracket) {
+            return Ok(Expr::List(Exprs(Vec::new(self.parser.alloc))));
         }
         let items = self.expression_items(own, levels)?;
-        if self.skip_mark(Mark::Bar) {
+        if self.parser.skip_mark(Mark::Bar) {
             let tail = self.expression(own, levels)?;
-            self.mark(Mark::RightBracket)?;
-            return Ok(onto(self.alloc, items, tail)?);
+            self.parser.mark(Mark::RightBracket)?;
+            return Ok(onto(self.parser.alloc, items, tail)?);
         }
-        self.mark(Mark::RightBracket)?;
+        self.parser.mark(Mark::RightBracket)?;
         Ok(Expr::List(Exprs(items)))
     }
 
     /// What stands behind the angle of a list of values.
     #[cycle(expressions)]
-    #[tactic(auto, unfolding(crate::specs::ReadingForms::values_at))]
+    #[tactic(auto, unfolding(core_grammar::specs::ReadingForms::values_at))]
     fn values(&mut self, own: &Atom, levels: u16) -> Result<Expr, ReadFault>
-        ensures { Moves tree_of result (state_of self.new) (values_at own.now levels (expression_at own.now levels) (state_of self.old)) }
+        ensures { Moves tree_of result (state_in self.new) (values_at own.now levels (expression_at own.now levels) (state_in self.old)) }
     {
         let values = self.expressions(own, levels, Mark::Greater)?;
         Ok(Expr::Values(Exprs(values)))
@@ -359,39 +359,39 @@ impl<'a> Parser<'a> {
 
     /// What stands behind a `let`.
     #[cycle(expressions)]
-    #[tactic(auto, unfolding(crate::specs::ReadingForms::let_at))]
+    #[tactic(auto, unfolding(core_grammar::specs::ReadingForms::let_at))]
     fn let_in(&mut self, own: &Atom, levels: u16) -> Result<Expr, ReadFault>
-        ensures { Moves tree_of result (state_of self.new) (let_at own.now levels (expression_at own.now levels) (state_of self.old)) }
+        ensures { Moves tree_of result (state_in self.new) (let_at own.now levels (expression_at own.now levels) (state_in self.old)) }
     {
-        let variables = self.variables(levels)?;
-        self.mark(Mark::Equals)?;
+        let variables = self.parser.variables(levels)?;
+        self.parser.mark(Mark::Equals)?;
         let value = self.expression(own, levels)?;
-        self.word(Keyword::In)?;
+        self.parser.word(Keyword::In)?;
         let body = self.expression(own, levels)?;
-        Ok(let_of(self.alloc, variables, value, body)?)
+        Ok(let_of(self.parser.alloc, variables, value, body)?)
     }
 
     /// What stands behind a `do`.
     #[cycle(expressions)]
-    #[tactic(auto, unfolding(crate::specs::ReadingForms::do_at))]
+    #[tactic(auto, unfolding(core_grammar::specs::ReadingForms::do_at))]
     fn do_then(&mut self, own: &Atom, levels: u16) -> Result<Expr, ReadFault>
-        ensures { Moves tree_of result (state_of self.new) (do_at own.now levels (expression_at own.now levels) (state_of self.old)) }
+        ensures { Moves tree_of result (state_in self.new) (do_at own.now levels (expression_at own.now levels) (state_in self.old)) }
     {
         let first = self.expression(own, levels)?;
         let second = self.expression(own, levels)?;
-        Ok(do_both(self.alloc, first, second)?)
+        Ok(do_both(self.parser.alloc, first, second)?)
     }
 
     /// What stands behind the `try` at `at`.
     #[cycle(expressions)]
-    #[tactic(auto, unfolding(crate::specs::ReadingForms::try_at))]
+    #[tactic(auto, unfolding(core_grammar::specs::ReadingForms::try_at))]
     fn try_in(&mut self, own: &Atom, levels: u16, at: usize) -> Result<Expr, ReadFault>
-        ensures { Moves tree_of result (state_of self.new) (try_at own.now levels (expression_at own.now levels) at (state_of self.old)) }
+        ensures { Moves tree_of result (state_in self.new) (try_at own.now levels (expression_at own.now levels) at (state_in self.old)) }
     {
         let value = self.expression(own, levels)?;
-        self.word(Keyword::Of)?;
-        let variables = self.variables(levels)?;
-        self.mark(Mark::Arrow)?;
+        self.parser.word(Keyword::Of)?;
+        let variables = self.parser.variables(levels)?;
+        self.parser.mark(Mark::Arrow)?;
         let body = self.expression(own, levels)?;
         let guarded = Guarded {
             at,
@@ -405,57 +405,57 @@ impl<'a> Parser<'a> {
     /// What stands behind the body of a `try`.
     #[cycle(expressions)]
     fn handled(&mut self, own: &Atom, levels: u16, guarded: Guarded) -> Result<Expr, ReadFault>
-        ensures { Moves tree_of result (state_of self.new) (handled_at levels (expression_at own.now levels) guarded.at (tree_of guarded.value) guarded.variables.items (tree_of guarded.body) (state_of self.old)) }
+        ensures { Moves tree_of result (state_in self.new) (handled_at levels (expression_at own.now levels) guarded.at (tree_of guarded.value) guarded.variables.items (tree_of guarded.body) (state_in self.old)) }
     {
-        self.word(Keyword::Catch)?;
-        let caught = self.caught(levels)?;
-        self.mark(Mark::Arrow)?;
+        self.parser.word(Keyword::Catch)?;
+        let caught = self.parser.caught(levels)?;
+        self.parser.mark(Mark::Arrow)?;
         let handler = self.expression(own, levels)?;
-        Ok(try_of(self.alloc, guarded, caught, handler)?)
+        Ok(try_of(self.parser.alloc, guarded, caught, handler)?)
     }
 
     /// What stands behind the `catch` at `at`.
     #[cycle(expressions)]
-    #[tactic(auto, unfolding(crate::specs::ReadingForms::catch_at))]
+    #[tactic(auto, unfolding(core_grammar::specs::ReadingForms::catch_at))]
     fn catch(&mut self, own: &Atom, levels: u16, at: usize) -> Result<Expr, ReadFault>
-        ensures { Moves tree_of result (state_of self.new) (catch_at own.now levels (expression_at own.now levels) at (state_of self.old)) }
+        ensures { Moves tree_of result (state_in self.new) (catch_at own.now levels (expression_at own.now levels) at (state_in self.old)) }
     {
         let value = self.expression(own, levels)?;
-        Ok(catch_of(self.alloc, at, value)?)
+        Ok(catch_of(self.parser.alloc, at, value)?)
     }
 
     /// Any number of expressions, and the closing mark.
     #[cycle(expressions)]
-    #[tactic(auto, unfolding(crate::specs::Reading::closed_at))]
+    #[tactic(auto, unfolding(core_grammar::specs::Reading::closed_at))]
     pub(crate) fn expressions(
         &mut self,
         own: &Atom,
         levels: u16,
         close: Mark,
     ) -> Result<Vec<Expr>, ReadFault>
-        ensures { Moves (λ v. map tree_of v.items) result (state_of self.new) (closed_at (expression_at own.now levels) close (state_of self.old)) }
+        ensures { Moves (λ v. map tree_of v.items) result (state_in self.new) (closed_at (expression_at own.now levels) close (state_in self.old)) }
     {
-        if self.skip_mark(close) {
-            return Ok(Vec::new(self.alloc));
+        if self.parser.skip_mark(close) {
+            return Ok(Vec::new(self.parser.alloc));
         }
         let items = self.expression_items(own, levels)?;
-        self.mark(close)?;
+        self.parser.mark(close)?;
         Ok(items)
     }
 
     /// Expressions with commas between them.
     #[cycle(expressions)]
     fn expression_items(&mut self, own: &Atom, levels: u16) -> Result<Vec<Expr>, ReadFault>
-        ensures { Moves (λ v. map tree_of v.items) result (state_of self.new) (items_at (expression_at own.now levels) (state_of self.old)) }
+        ensures { Moves (λ v. map tree_of v.items) result (state_in self.new) (items_at (expression_at own.now levels) (state_in self.old)) }
     {
-        let mut items = Vec::new(self.alloc);
-        let count = self.tokens.len();
+        let mut items = Vec::new(self.parser.alloc);
+        let count = self.parser.tokens.len();
         'items: for _taken in 0..count {
             items.push(self.expression(own, levels)?)?;
-            if !self.skip_mark(Mark::Comma) {
+            if !self.parser.skip_mark(Mark::Comma) {
                 return Ok(items);
             }
         }
-        Err(self.fault())
+        Err(self.parser.fault())
     }
 }

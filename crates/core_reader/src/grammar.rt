@@ -2,12 +2,12 @@
 ghost use Rattle.std.specs.Prelude.{map};
 ghost use Rattle.core_tokens.specs.declared.token.Mark.TheVariants.{RightBracket};
 ghost use Rattle.core_scopes.specs.Outcomes.{Gives};
-ghost use Rattle.core_reader.specs.Reading.{Moves, items_at, closed_at, rows_at, noted_at, function_name_at};
-ghost use Rattle.core_reader.specs.ReadingModules.{attribute_at, bare_fun_at, fun_at, behind_name_at, opened, opening_at, definition_at, front_at, bare_module_at, ended, module_at};
+ghost use Rattle.core_grammar.specs.Reading.{Moves, items_at, closed_at, rows_at, noted_at, function_name_at};
+ghost use Rattle.core_grammar.specs.ReadingModules.{attribute_at, bare_fun_at, fun_at, behind_name_at, opened, opening_at, definition_at, front_at, bare_module_at, ended, module_at};
 ghost use Rattle.core_scopes.specs.Drafts.{defined_of, draft_of};
-ghost use Rattle.core_reader.specs.Parsing.{state_of, fun_of, opening_of, front_of};
+ghost use Rattle.core_reader.specs.Parsing.{state_in, fun_of, opening_of, front_of};
 
-use crate::parser::Parser;
+use crate::form_reader::FormReader;
 use core_scopes::{Defined, Draft, Front};
 use core_tokens::{Keyword, Mark, ReadFault};
 use core_tree::{Attribute, Definition, Expr, NamedFunction, Variable};
@@ -32,84 +32,84 @@ pub(crate) enum Opening {
     Whole(Defined),
 }
 
-impl<'a> Parser<'a> {
+impl<'a> FormReader<'a> {
     /// `Atom = const`, of at most so many levels.
-    #[tactic(auto, unfolding(crate::specs::ReadingModules::attribute_at))]
+    #[tactic(auto, unfolding(core_grammar::specs::ReadingModules::attribute_at))]
     fn attribute(&mut self, levels: u16) -> Result<Attribute, ReadFault>
-        ensures { Moves (λ a. a) result (state_of self.new) (attribute_at levels (state_of self.old)) }
+        ensures { Moves (λ a. a) result (state_in self.new) (attribute_at levels (state_in self.old)) }
     {
-        let name = self.atom()?;
-        self.mark(Mark::Equals)?;
-        let value = self.constant(levels)?;
+        let name = self.parser.atom()?;
+        self.parser.mark(Mark::Equals)?;
+        let value = self.parser.constant(levels)?;
         Ok(Attribute { name, value })
     }
 
     /// Attributes with commas between them.
     fn attribute_items(&mut self, levels: u16) -> Result<Vec<Attribute>, ReadFault>
-        ensures { Moves (λ v. v.items) result (state_of self.new) (items_at (attribute_at levels) (state_of self.old)) }
+        ensures { Moves (λ v. v.items) result (state_in self.new) (items_at (attribute_at levels) (state_in self.old)) }
     {
-        let mut items = Vec::new(self.alloc);
-        let count = self.tokens.len();
+        let mut items = Vec::new(self.parser.alloc);
+        let count = self.parser.tokens.len();
         'items: for _taken in 0..count {
             items.push(self.attribute(levels)?)?;
-            if !self.skip_mark(Mark::Comma) {
+            if !self.parser.skip_mark(Mark::Comma) {
                 return Ok(items);
             }
         }
-        Err(self.fault())
+        Err(self.parser.fault())
     }
 
     /// Any number of attributes, and the closing bracket.
-    #[tactic(auto, unfolding(crate::specs::Reading::closed_at))]
+    #[tactic(auto, unfolding(core_grammar::specs::Reading::closed_at))]
     fn attributes(&mut self, levels: u16) -> Result<Vec<Attribute>, ReadFault>
-        ensures { Moves (λ v. v.items) result (state_of self.new) (closed_at (attribute_at levels) RightBracket (state_of self.old)) }
+        ensures { Moves (λ v. v.items) result (state_in self.new) (closed_at (attribute_at levels) RightBracket (state_in self.old)) }
     {
-        if self.skip_mark(Mark::RightBracket) {
-            return Ok(Vec::new(self.alloc));
+        if self.parser.skip_mark(Mark::RightBracket) {
+            return Ok(Vec::new(self.parser.alloc));
         }
         let items = self.attribute_items(levels)?;
-        self.mark(Mark::RightBracket)?;
+        self.parser.mark(Mark::RightBracket)?;
         Ok(items)
     }
 
     /// Names of functions with commas between them.
     fn export_items(&mut self, levels: u16) -> Result<Vec<NamedFunction>, ReadFault>
-        ensures { Moves (λ v. v.items) result (state_of self.new) (items_at (function_name_at levels) (state_of self.old)) }
+        ensures { Moves (λ v. v.items) result (state_in self.new) (items_at (function_name_at levels) (state_in self.old)) }
     {
-        let mut items = Vec::new(self.alloc);
-        let count = self.tokens.len();
+        let mut items = Vec::new(self.parser.alloc);
+        let count = self.parser.tokens.len();
         'items: for _taken in 0..count {
-            items.push(self.function_name(levels)?)?;
-            if !self.skip_mark(Mark::Comma) {
+            items.push(self.parser.function_name(levels)?)?;
+            if !self.parser.skip_mark(Mark::Comma) {
                 return Ok(items);
             }
         }
-        Err(self.fault())
+        Err(self.parser.fault())
     }
 
     /// Any number of names of functions, and the closing bracket.
-    #[tactic(auto, unfolding(crate::specs::Reading::closed_at))]
+    #[tactic(auto, unfolding(core_grammar::specs::Reading::closed_at))]
     fn exports(&mut self, levels: u16) -> Result<Vec<NamedFunction>, ReadFault>
-        ensures { Moves (λ v. v.items) result (state_of self.new) (closed_at (function_name_at levels) RightBracket (state_of self.old)) }
+        ensures { Moves (λ v. v.items) result (state_in self.new) (closed_at (function_name_at levels) RightBracket (state_in self.old)) }
     {
-        if self.skip_mark(Mark::RightBracket) {
-            return Ok(Vec::new(self.alloc));
+        if self.parser.skip_mark(Mark::RightBracket) {
+            return Ok(Vec::new(self.parser.alloc));
         }
         let items = self.export_items(levels)?;
-        self.mark(Mark::RightBracket)?;
+        self.parser.mark(Mark::RightBracket)?;
         Ok(items)
     }
 
     /// `fun (Var, ..) -> expr` in the module `own`, with so many variables, without annotations.
-    #[tactic(auto, unfolding(crate::specs::ReadingModules::bare_fun_at))]
+    #[tactic(auto, unfolding(core_grammar::specs::ReadingModules::bare_fun_at))]
     fn bare_fun(&mut self, own: &Atom, arity: u8, levels: u16) -> Result<Fun, ReadFault>
-        ensures { Moves fun_of result (state_of self.new) (bare_fun_at own.now arity levels (state_of self.old)) }
+        ensures { Moves fun_of result (state_in self.new) (bare_fun_at own.now arity levels (state_in self.old)) }
     {
-        self.word(Keyword::Fun)?;
-        self.mark(Mark::LeftParenthesis)?;
-        let parameters = self.parameters(arity, levels)?;
-        self.mark(Mark::RightParenthesis)?;
-        self.mark(Mark::Arrow)?;
+        self.parser.word(Keyword::Fun)?;
+        self.parser.mark(Mark::LeftParenthesis)?;
+        let parameters = self.parser.parameters(arity, levels)?;
+        self.parser.mark(Mark::RightParenthesis)?;
+        self.parser.mark(Mark::Arrow)?;
         let body = self.expression(own, levels)?;
         Ok(Fun { parameters, body })
     }
@@ -117,28 +117,28 @@ impl<'a> Parser<'a> {
     /// `fun (Var, ..) -> expr` in the module `own`, with so many variables, annotated in at most so many
     /// levels.
     fn fun(&mut self, own: &Atom, arity: u8, levels: u16) -> Result<Fun, ReadFault>
-        ensures { Moves fun_of result (state_of self.new) (fun_at own.now arity levels (state_of self.old)) }
+        ensures { Moves fun_of result (state_in self.new) (fun_at own.now arity levels (state_in self.old)) }
     {
-        if !self.opens_note(levels)? {
+        if !self.parser.opens_note(levels)? {
             return Ok(self.bare_fun(own, arity, levels)?);
         }
         let function = self.fun(own, arity, levels - 1)?;
-        self.note(levels - 1)?;
+        self.parser.note(levels - 1)?;
         Ok(function)
     }
 
     /// What stands behind the name of a definition.
-    #[tactic(auto, unfolding(crate::specs::ReadingModules::behind_name_at))]
+    #[tactic(auto, unfolding(core_grammar::specs::ReadingModules::behind_name_at))]
     fn behind_name(
         &mut self,
         own: &Atom,
         levels: u16,
         named: NamedFunction,
     ) -> Result<Defined, ReadFault>
-        ensures { Moves defined_of result (state_of self.new) (behind_name_at own.now levels named (state_of self.old)) }
+        ensures { Moves defined_of result (state_in self.new) (behind_name_at own.now levels named (state_in self.old)) }
     {
         let NamedFunction { at, function } = named;
-        self.mark(Mark::Equals)?;
+        self.parser.mark(Mark::Equals)?;
         let Fun { parameters, body } = self.fun(own, function.arity, levels)?;
         let definition = Definition {
             at,
@@ -153,12 +153,12 @@ impl<'a> Parser<'a> {
 
     /// The opening in the parentheses of an annotation: with `=` behind a name it is the whole definition.
     fn opened(&mut self, own: &Atom, levels: u16, opening: Opening) -> Result<Opening, ReadFault>
-        ensures { Moves opening_of result (state_of self.new) (opened own.now levels (opening_of opening) (state_of self.old)) }
+        ensures { Moves opening_of result (state_in self.new) (opened own.now levels (opening_of opening) (state_in self.old)) }
     {
         match opening {
             Opening::Whole(defined) => Ok(Opening::Whole(defined)),
             Opening::Name(named) => {
-                if !self.is_at_mark(Mark::Equals) {
+                if !self.parser.is_at_mark(Mark::Equals) {
                     return Ok(Opening::Name(named));
                 }
                 Ok(Opening::Whole(self.behind_name(own, levels, named)?))
@@ -168,21 +168,21 @@ impl<'a> Parser<'a> {
 
     /// What a definition of the module `own` begins with, annotated in at most so many levels.
     fn opening(&mut self, own: &Atom, levels: u16) -> Result<Opening, ReadFault>
-        ensures { Moves opening_of result (state_of self.new) (opening_at own.now levels (state_of self.old)) }
+        ensures { Moves opening_of result (state_in self.new) (opening_at own.now levels (state_in self.old)) }
     {
-        if !self.opens_note(levels)? {
-            return Ok(Opening::Name(self.bare_name()?));
+        if !self.parser.opens_note(levels)? {
+            return Ok(Opening::Name(self.parser.bare_name()?));
         }
         let opening = self.opening(own, levels - 1)?;
         let opened = self.opened(own, levels - 1, opening)?;
-        self.note(levels - 1)?;
+        self.parser.note(levels - 1)?;
         Ok(opened)
     }
 
     /// A definition of the module `own`, whose parts have at most so many levels.
-    #[tactic(auto, unfolding(crate::specs::ReadingModules::definition_at))]
+    #[tactic(auto, unfolding(core_grammar::specs::ReadingModules::definition_at))]
     fn definition(&mut self, own: &Atom, levels: u16) -> Result<Defined, ReadFault>
-        ensures { Moves defined_of result (state_of self.new) (definition_at own.now levels (state_of self.old)) }
+        ensures { Moves defined_of result (state_in self.new) (definition_at own.now levels (state_in self.old)) }
     {
         match self.opening(own, levels)? {
             Opening::Whole(defined) => Ok(defined),
@@ -192,30 +192,30 @@ impl<'a> Parser<'a> {
 
     /// The definitions of the module `own`, as far as the last `end`.
     fn definitions(&mut self, own: &Atom, levels: u16) -> Result<Vec<Defined>, ReadFault>
-        ensures { Moves (λ v. map defined_of v.items) result (state_of self.new) (rows_at (definition_at own.now levels) (state_of self.old)) }
+        ensures { Moves (λ v. map defined_of v.items) result (state_in self.new) (rows_at (definition_at own.now levels) (state_in self.old)) }
     {
-        let mut definitions = Vec::new(self.alloc);
-        let count = self.tokens.len();
+        let mut definitions = Vec::new(self.parser.alloc);
+        let count = self.parser.tokens.len();
         'definitions: for _taken in 0..count {
-            if self.is_at_word(Keyword::End) {
+            if self.parser.is_at_word(Keyword::End) {
                 return Ok(definitions);
             }
             definitions.push(self.definition(own, levels)?)?;
         }
-        Err(self.fault())
+        Err(self.parser.fault())
     }
 
     /// The name, the exports and the attributes.
-    #[tactic(auto, unfolding(crate::specs::ReadingModules::front_at))]
+    #[tactic(auto, unfolding(core_grammar::specs::ReadingModules::front_at))]
     fn front(&mut self, levels: u16) -> Result<Front, ReadFault>
-        ensures { Moves front_of result (state_of self.new) (front_at levels (state_of self.old)) }
+        ensures { Moves front_of result (state_in self.new) (front_at levels (state_in self.old)) }
     {
-        self.word(Keyword::Module)?;
-        let name = self.atom()?;
-        self.mark(Mark::LeftBracket)?;
+        self.parser.word(Keyword::Module)?;
+        let name = self.parser.atom()?;
+        self.parser.mark(Mark::LeftBracket)?;
         let exports = self.exports(levels)?;
-        self.word(Keyword::Attributes)?;
-        self.mark(Mark::LeftBracket)?;
+        self.parser.word(Keyword::Attributes)?;
+        self.parser.mark(Mark::LeftBracket)?;
         let attributes = self.attributes(levels)?;
         Ok(Front {
             name,
@@ -225,14 +225,14 @@ impl<'a> Parser<'a> {
     }
 
     /// A module without annotations round it.
-    #[tactic(auto, unfolding(crate::specs::ReadingModules::bare_module_at))]
+    #[tactic(auto, unfolding(core_grammar::specs::ReadingModules::bare_module_at))]
     fn bare_module(&mut self, levels: u16) -> Result<Draft, ReadFault>
-        ensures { Moves draft_of result (state_of self.new) (bare_module_at levels (state_of self.old)) }
+        ensures { Moves draft_of result (state_in self.new) (bare_module_at levels (state_in self.old)) }
     {
         let front = self.front(levels)?;
         let definitions = self.definitions(&front.name, levels)?;
-        let end = self.place();
-        self.word(Keyword::End)?;
+        let end = self.parser.place();
+        self.parser.word(Keyword::End)?;
         Ok(Draft {
             front,
             definitions,
@@ -242,31 +242,31 @@ impl<'a> Parser<'a> {
 
     /// A module, annotated in at most so many levels.
     fn noted_module(&mut self, levels: u16) -> Result<Draft, ReadFault>
-        ensures { Moves draft_of result (state_of self.new) (noted_at bare_module_at levels (state_of self.old)) }
+        ensures { Moves draft_of result (state_in self.new) (noted_at bare_module_at levels (state_in self.old)) }
     {
-        if !self.opens_note(levels)? {
+        if !self.parser.opens_note(levels)? {
             return Ok(self.bare_module(levels)?);
         }
         let draft = self.noted_module(levels - 1)?;
-        self.note(levels - 1)?;
+        self.parser.note(levels - 1)?;
         Ok(draft)
     }
 
     /// The draft, where nothing is left to read and all of it is served.
     fn ended(&self, draft: Draft) -> Result<Draft, ReadFault>
-        ensures { Gives draft_of result (ended (state_of self.now).pieces (state_of self.now).refused (draft_of draft) (state_of self.now)) }
+        ensures { Gives draft_of result (ended (state_in self.now).pieces (state_in self.now).refused (draft_of draft) (state_in self.now)) }
     {
-        match (self.tokens, self.refused) {
+        match (self.parser.tokens, self.parser.refused) {
             ([], None) => Ok(draft),
             ([], Some(unserved)) => Err(unserved.fault()),
-            ([_, ..], _) => Err(self.fault()),
+            ([_, ..], _) => Err(self.parser.fault()),
         }
     }
 
     /// A module, all of the tokens.
-    #[tactic(auto, unfolding(crate::specs::ReadingModules::module_at))]
+    #[tactic(auto, unfolding(core_grammar::specs::ReadingModules::module_at))]
     pub fn module(&mut self) -> Result<Draft, ReadFault>
-        ensures { Gives draft_of result (module_at (state_of self.old)) }
+        ensures { Gives draft_of result (module_at (state_in self.old)) }
     {
         let draft = self.noted_module(LEVEL_LIMIT)?;
         Ok(self.ended(draft)?)

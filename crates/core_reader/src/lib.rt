@@ -3,12 +3,9 @@
 
 mod calls;
 mod clauses;
-mod constants;
 mod expressions;
+mod form_reader;
 mod grammar;
-mod names;
-mod parser;
-mod patterns;
 pub mod reader;
 pub mod reading;
 

@@ -6,7 +6,7 @@ ghost use Rattle.core_tree.specs.Syntax.{ModuleTree};
 ghost use Rattle.core_tokens.specs.Within.{IsPlacedWithin};
 ghost use Rattle.core_reader.specs.Reader.{SpellsModule};
 ghost use Rattle.core_reader.specs.Refusal.{IsRefusalOf};
-ghost use Rattle.core_reader.specs.Whole.{IsReadAs};
+ghost use Rattle.core_grammar.specs.Whole.{IsReadAs};
 
 use crate::reading::read_tokens;
 use core_tokens::{ReadFault, TEXT_LIMIT, check_text, tokens};
@@ -39,4 +39,3 @@ pub fn read_module(alloc: Global, text: &[u8]) -> Result<Module, ReadFault>
     let tokens = tokens(alloc, text)?;
     read_tokens(alloc, &tokens, text.len())
 }
-

@@ -1,31 +1,36 @@
 // From the tokens of a module to its tree.
-ghost use Rattle.std.specs.Prelude.{◌≡◌, None, IfOk, IfErr};
-ghost use Rattle.core_reader.specs.Places.{IsFaultOf};
+ghost use Rattle.std.specs.Prelude.{IfOk, IfErr};
+ghost use Rattle.core_grammar.specs.Places.{IsFaultOf};
 ghost use Rattle.core_tokens.specs.Piece.{pieces};
 ghost use Rattle.core_tree.specs.Syntax.{ModuleTree};
-ghost use Rattle.core_reader.specs.Grammar.{Spells};
+ghost use Rattle.core_grammar.specs.Grammar.{Spells};
+ghost use Rattle.core_grammar.specs.ReadingModules.{module_at};
+ghost use Rattle.core_scopes.specs.Drafts.{draft_of};
 ghost use Rattle.core_scopes.specs.Scopes.{IsLawful};
 ghost use Rattle.core_scopes.specs.Outcomes.{Gives};
-ghost use Rattle.core_reader.specs.Whole.{whole_at, start, IsReadAs};
+ghost use Rattle.core_grammar.specs.Whole.{start, IsReadAs};
 
-use crate::parser::Parser;
-use core_scopes::closed_module;
+use crate::form_reader::FormReader;
+use core_grammar::laws;
+use core_parser::Parser;
+use core_scopes::{Draft, closed_module};
 use core_tokens::{ReadFault, Token};
 use core_tree::Module;
 use std::alloc::Global;
 
-#[tactic(auto, unfolding(crate::specs::Whole::whole_at))]
-fn whole(alloc: Global, tokens: &[Token], length: usize) -> Result<Module, ReadFault>
-    ensures { Gives (λ m. m) result (whole_at (start length (pieces tokens.now))) }
+/// What the tokens spell, before its names are looked at.
+fn drafted(alloc: Global, tokens: &[Token], length: usize) -> Result<Draft, ReadFault>
+    ensures { Gives draft_of result (module_at (start length (pieces tokens.now))) }
 {
-    let mut parser = Parser {
-        alloc,
-        tokens,
-        refused: None,
-        length,
+    let mut reader = FormReader {
+        parser: Parser {
+            alloc,
+            tokens,
+            refused: None,
+            length,
+        },
     };
-    let draft = parser.module()?;
-    Ok(closed_module(alloc, draft)?)
+    reader.module()
 }
 
 /// The module that the tokens, all of them, spell; `length` is the length of their text in bytes. The
@@ -49,5 +54,10 @@ pub fn read_tokens(alloc: Global, tokens: &[Token], length: usize) -> Result<Mod
     // A fault stands at one of the tokens or at the text's end, and is one that tokens can have.
     ensures fault { IfErr result (λ f. IsFaultOf (pieces tokens.now) length f) }
 {
-    whole(alloc, tokens, length)
+    laws::decoded_is_spelt();
+    laws::spelt_is_decoded();
+    laws::fault_of_decoding_stands();
+    laws::fault_of_scopes_stands();
+    let draft = drafted(alloc, tokens, length)?;
+    closed_module(alloc, draft)
 }

@@ -1,0 +1,711 @@
+-- What each fault of the grammar says: constants, names, patterns, expressions and clauses.
+use Rattle.std.proofs.Common.{◌≡◌, ℕ, zero, suc, Bool, true, false, cond, List, [], ◌∷◌, length, Option, Some, None, Result, Ok, refl, sym, ap, ◌∙◌, subst, inl, inr}
+use Rattle.std.specs.Prelude.{IfSome, ◌||◌}
+use Rattle.core_tokens.specs.declared.fault.ReadFault.{ReadFault}
+use Rattle.core_tokens.specs.declared.fault.ReadFault.TheVariants.{Expected, HigherOrder, UnsupportedCall, TooDeep, UnsupportedForm}
+use Rattle.core_tokens.specs.declared.token.Mark.{Mark}
+use Rattle.core_tokens.specs.declared.token.Mark.TheVariants as m
+use Rattle.core_tokens.specs.declared.token.Keyword.TheVariants as k
+use Rattle.core_tokens.specs.Piece.{Piece, Shape, A_word, A_mark, An_atom, A_variable, An_integer, A_character, A_text}
+use Rattle.core_tree.specs.Syntax.{Mention, NamedAt, Callee, OfWorld, OfItself, OfExport, OfDefinition, FailsMatch, RaisesAgain, Pattern, Patterns, NumberIn, CharacterIn, TextIn, NameIn, VariableIn, GroupIn, ListIn, JoinIn, AliasIn, NoneToMatch, AlsoMatch, patterns_of, Tree, Trees, Clauses, Number, Character, Text, Name, Mentioned, Grouped, Listed, Joined, Several, Bound, Chosen, Followed, Called, Tried, Caught, NoMore, Also, NoClause, Clause, trees_of, ClauseTree, clauses_of, Constant}
+use Rattle.core_grammar.specs.declared.unserved.Unserved.{Unserved}
+use Rattle.core_grammar.specs.declared.unserved.Unserved.TheVariants as unserved
+use Rattle.core_grammar.specs.Grammar.{word, mark, AtomIn, Calls, calls_world, calls_itself, calls_export, Operates, fails_match, raises_again}
+use Rattle.core_tree.specs.Calls.{Signature}
+use Rattle.core_grammar.specs.Arguments.{arguments}
+use Rattle.core_grammar.specs.UnservedCalls.{within, IsOwn, LacksName, IsNoCall, lacks_module, lacks_function, calls_nothing}
+use Rattle.core_grammar.specs.Places.{IsOne, Opens}
+use Rattle.core_scopes.specs.Outcomes.{◌>>=◌}
+use Rattle.core_grammar.specs.Reading.{State, Read, with_pieces, is_mark, is_word, after_mark, after_word, refusal, is_foreign, mark_at, word_at, taken_by, taken, atom_in, atom_at, named_by, bare_name_at, closed_at, brackets_at, exactly_at, rows_at, begins_constant, deep_constant_of, deep_constant, note_at, in_note_at, constant_tuple_at, constant_list_at, constant_by, constant_form_by, constant_form_at, constant_at, noted_last, noted_by, noted_at, function_name_at, bare_variable_at, variable_at, bare_variables_by, bare_variables_at, variables_at, third_by, bare_caught_at, caught_at, begins_pattern, deep_pattern_of, deep_pattern, pattern_list, pattern_tuple_at, pattern_list_at, pattern_by, pattern_form_by, pattern_form_at, alias_by, alias_at, pattern_at}
+use Rattle.core_grammar.specs.ReadingForms.{is_function, begins_expression, deep_expression_of, expression_fault_of, deep_expression, expression_fault, callee_fault_of, callee_fault, bare_callee_at, callee_at, applied_fault_of, applied_fault, applied_atom_at, behind_applied_by, bare_applied_at, applied_at, callee_named, operation_named, earlier, judged, tree_list, name_by, Start, OnePattern, ManyPatterns, WholeClause, tuple_at, list_at, values_at, let_at, do_at, apply_at, call_at, primop_at, try_at, catch_at, behind_patterns_at, clause_of, start_by, started, inside_start_at, aliased, noted_start_at, bare_start_by, bare_start_at, start_last, start_next, clause_at, case_at, form_by, form_of, form_at, expression_at, start_at}
+use Rattle.core_grammar.proofs.Steps.{after_mark_found, mark_steps}
+use Rattle.core_grammar.proofs.CallsByName.{signed, callee_found, callee_again, operation_found}
+use Rattle.core_grammar.proofs.SoundForms.{goes_to, callee_sound}
+use Rattle.core_grammar.proofs.BracketSteps.{Walks, closed_count}
+use Rattle.core_grammar.proofs.BracketForms.{expression_walks}
+use Rattle.core_grammar.proofs.FaultSteps.{piece_at, Place, Fault, Inside, IsUnservedAt, Good, Fine, fine_bind, fine_read, cond_fine, refusal_fine, front, here, behind, fault_fine, too_deep_fine, good_at, mark_inside, mark_fine, word_fine, taken_fine, Keeps, atom_fine, named_place, bare_variable_fine, behind_atom_fine, bare_name_fine, Each, closed_fine, Listing, brackets_fine, exactly_fine, rows_fine}
+
+module _ (all : List Piece) (end : ℕ) where
+  abbrev Place' : ℕ → Type 0
+  Place' at = Place all end at
+
+  abbrev Fault' : ReadFault → Type 0
+  Fault' f = Fault all end f
+
+  abbrev Good' : State → Type 0
+  Good' s = Good all end s
+
+  abbrev Fine' : {A : Type 0} → Result A ReadFault → (A → Type 0) → Type 0
+  Fine' r P = Fine all end r P
+
+  abbrev Keeps' : {X : Type 0} → (State → Read X) → (X → Type 0) → Type 0
+  Keeps' item Q = Keeps all end item Q
+
+  abbrev Any' : {X : Type 0} → X → Type 0
+  Any' x = Unit {0}
+
+  abbrev Each' : {X : Type 0} → (X → Type 0) → List X → Type 0
+  Each' Q xs = Each all end Q xs
+
+  abbrev bind : {A B : Type 0} (r : Result A ReadFault) (f : A → Result B ReadFault) (P : A → Type 0) (Q : B → Type 0) → Fine' r P → ((x : A) → P x → Fine' (f x) Q) → Fine' (r >>= f) Q
+  bind r f P Q h g = fine_bind all end r f P Q h g
+
+  abbrev read : {A B : Type 0} (r : Result A ReadFault) (f : A → Result B ReadFault) (P : A → Type 0) (Q : B → Type 0) → Fine' r P → ((x : A) → r ≡ Ok x → P x → Fine' (f x) Q) → Fine' (r >>= f) Q
+  read r f P Q h g = fine_read all end r f P Q h g
+
+  -- ---- tokens past the last level
+
+  begins_opens : (shape : Shape) → begins_constant shape ≡ true → Opens shape
+  begins_opens (An_integer n) e = tt
+  begins_opens (A_character c) e = tt
+  begins_opens (A_text cs) e = tt
+  begins_opens (An_atom t) e = tt
+  begins_opens (A_mark m.LeftBrace) e = tt
+  begins_opens (A_mark m.LeftBracket) e = tt
+  begins_opens (A_mark m.LeftParenthesis) e = tt
+  begins_opens shape e = absurd cc
+
+  pattern_opens : (shape : Shape) → begins_pattern shape ≡ true → Opens shape
+  pattern_opens (A_variable v) e = tt
+  pattern_opens (An_integer n) e = tt
+  pattern_opens (A_character c) e = tt
+  pattern_opens (A_text cs) e = tt
+  pattern_opens (An_atom t) e = tt
+  pattern_opens (A_mark m.LeftBrace) e = tt
+  pattern_opens (A_mark m.LeftBracket) e = tt
+  pattern_opens (A_mark m.LeftParenthesis) e = tt
+  pattern_opens shape e = absurd cc
+
+  expression_opens : (shape : Shape) → begins_expression shape ≡ true → Opens shape
+  expression_opens (A_word k.Let) e = tt
+  expression_opens (A_word k.Case) e = tt
+  expression_opens (A_word k.Apply) e = tt
+  expression_opens (A_word k.Call) e = tt
+  expression_opens (A_word k.Primop) e = tt
+  expression_opens (A_word k.Do) e = tt
+  expression_opens (A_word k.Try) e = tt
+  expression_opens (A_word k.Catch) e = tt
+  expression_opens (A_word k.Receive) e = tt
+  expression_opens (A_mark m.Less) e = tt
+  expression_opens (A_variable v) e = tt
+  expression_opens (An_integer n) e = tt
+  expression_opens (A_character c) e = tt
+  expression_opens (A_text cs) e = tt
+  expression_opens (An_atom t) e = tt
+  expression_opens (A_mark m.LeftBrace) e = tt
+  expression_opens (A_mark m.LeftBracket) e = tt
+  expression_opens (A_mark m.LeftParenthesis) e = tt
+  expression_opens shape e = absurd cc
+
+  -- a token past the last level, where it opens a construct; else another fault there
+  deep_by : (b : Bool) (p : Piece) (ps : List Piece) (f : ReadFault) → Inside all end (p ∷ ps) → (b ≡ true → Opens p.shape) → Fault' f → Fault' (cond b (TooDeep p.at) f)
+  deep_by true p ps f inside opens h = (p, front all end p ps inside, refl, opens refl)
+  deep_by false p ps f inside opens h = h
+
+  foreign_fine : (p : Piece) (ps : List Piece) → Inside all end (p ∷ ps) → Fault' (cond (is_foreign p.shape) (UnsupportedForm p.at) (Expected p.at))
+  foreign_fine p ps inside = cond_fine all end (is_foreign p.shape) (UnsupportedForm p.at) (Expected p.at) (here all end p ps inside) (here all end p ps inside)
+
+  deep_constant_of_fine : (stop : ℕ) (ps : List Piece) → stop ≡ end → Inside all end ps → Fault' (deep_constant_of stop ps)
+  deep_constant_of_fine stop [] e inside = inr e
+  deep_constant_of_fine stop (p ∷ ps) e inside = deep_by (begins_constant p.shape) p ps _ inside (begins_opens p.shape) (foreign_fine p ps inside)
+
+  deep_constant_fine : (s : State) → Good' s → Fault' (deep_constant s)
+  unfolding deep_constant
+  deep_constant_fine s g = refusal_fine all end s.refused (deep_constant_of s.stop s.pieces) g.refused (deep_constant_of_fine s.stop s.pieces g.stop g.inside)
+
+  deep_pattern_of_fine : (stop : ℕ) (ps : List Piece) → stop ≡ end → Inside all end ps → Fault' (deep_pattern_of stop ps)
+  deep_pattern_of_fine stop [] e inside = inr e
+  deep_pattern_of_fine stop (p ∷ ps) e inside = deep_by (begins_pattern p.shape) p ps _ inside (pattern_opens p.shape) (foreign_fine p ps inside)
+
+  deep_pattern_fine : (s : State) → Good' s → Fault' (deep_pattern s)
+  unfolding deep_pattern
+  deep_pattern_fine s g = refusal_fine all end s.refused (deep_pattern_of s.stop s.pieces) g.refused (deep_pattern_of_fine s.stop s.pieces g.stop g.inside)
+
+  deep_expression_of_fine : (stop : ℕ) (ps : List Piece) → stop ≡ end → Inside all end ps → Fault' (deep_expression_of stop ps)
+  deep_expression_of_fine stop [] e inside = inr e
+  deep_expression_of_fine stop (p ∷ ps) e inside =
+      cond_fine all end (is_function p.shape ps) (HigherOrder p.at) _ (here all end p ps inside) (deep_by (begins_expression p.shape) p ps _ inside (expression_opens p.shape) (foreign_fine p ps inside))
+
+  deep_expression_fine : (s : State) → Good' s → Fault' (deep_expression s)
+  unfolding deep_expression
+  deep_expression_fine s g = refusal_fine all end s.refused (deep_expression_of s.stop s.pieces) g.refused (deep_expression_of_fine s.stop s.pieces g.stop g.inside)
+
+  expression_fault_of_fine : (stop : ℕ) (ps : List Piece) → stop ≡ end → Inside all end ps → Fault' (expression_fault_of stop ps)
+  expression_fault_of_fine stop [] e inside = inr e
+  expression_fault_of_fine stop (p ∷ ps) e inside =
+      cond_fine all end (is_function p.shape ps) (HigherOrder p.at) _ (here all end p ps inside)
+      (cond_fine all end (is_word k.Receive p.shape || is_foreign p.shape) (UnsupportedForm p.at) (Expected p.at) (here all end p ps inside) (here all end p ps inside))
+
+  expression_fault_fine : (s : State) → Good' s → Fault' (expression_fault s)
+  unfolding expression_fault
+  expression_fault_fine s g = refusal_fine all end s.refused (expression_fault_of s.stop s.pieces) g.refused (expression_fault_of_fine s.stop s.pieces g.stop g.inside)
+
+  -- ---- annotations and constants
+
+  module _ (inner : State → Read Constant) (each : Keeps' inner Any') where
+    note_fine : (s : State) → Good' s → Fine' (note_at inner s) Good'
+    unfolding note_at
+    note_fine s g =
+        bind (mark_at m.Note s) _ Good' Good' (mark_fine all end m.Note s g) (λ s1 g1.
+        bind (mark_at m.LeftBracket s1) _ Good' Good' (mark_fine all end m.LeftBracket s1 g1) (λ s2 g2.
+        bind (closed_at inner m.RightBracket s2) _ (λ x. Each' Any' x.0 × Good' x.1) Good' (closed_fine all end inner Any' each m.RightBracket s2 g2) (λ cs gc.
+        mark_fine all end m.RightParenthesis cs.1 gc.1)))
+
+    in_note_here_fine : {X : Type 0} (item : State → Read X) (Q : X → Type 0) (s : State) → Fine' (item s) (λ x. Q x.0 × Good' x.1) → Fine' (in_note_at inner item s) (λ x. Q x.0 × Good' x.1)
+    unfolding in_note_at
+    in_note_here_fine item Q s h =
+        bind (item s) _ (λ x. Q x.0 × Good' x.1) (λ x. Q x.0 × Good' x.1) h (λ x gx.
+        bind (note_at inner x.1) _ Good' (λ x. Q x.0 × Good' x.1) (note_fine x.1 gx.1) (λ s1 g1. (gx.0, g1)))
+
+    pub in_note_fine : {X : Type 0} (item : State → Read X) (Q : X → Type 0) → Keeps' item Q → Keeps' (in_note_at inner item) Q
+    in_note_fine item Q every s g = in_note_here_fine item Q s (every s g)
+
+    constant_tuple_fine : Keeps' (constant_tuple_at inner) Any'
+    unfolding constant_tuple_at
+    constant_tuple_fine s g = bind (closed_at inner m.RightBrace s) _ (λ x. Each' Any' x.0 × Good' x.1) (λ x. Any' x.0 × Good' x.1) (closed_fine all end inner Any' each m.RightBrace s g) (λ x gx. (tt, gx.1))
+
+    constant_list_fine : Keeps' (constant_list_at inner) Any'
+    unfolding constant_list_at
+    constant_list_fine s g = bind (brackets_at inner s) _ (λ x. Listing all end inner Any' each x.0 × Good' x.1) (λ x. Any' x.0 × Good' x.1) (brackets_fine all end inner Any' each s g) (λ x gx. (tt, gx.1))
+
+  constant_by_fine : (inner : State → Read Constant) (each : Keeps' inner Any') (shape : Shape) (ps : List Piece) (s : State) → Good' s → Good' (with_pieces s ps) → Fine' (constant_by inner shape ps s) (λ x. Any' x.0 × Good' x.1)
+  constant_by_fine inner each (An_integer n) ps s g h = (tt, h)
+  constant_by_fine inner each (A_character n) ps s g h = (tt, h)
+  constant_by_fine inner each (A_text n) ps s g h = (tt, h)
+  constant_by_fine inner each (An_atom n) ps s g h = (tt, h)
+  constant_by_fine inner each (A_mark m.LeftBrace) ps s g h = constant_tuple_fine inner each (with_pieces s ps) h
+  constant_by_fine inner each (A_mark m.LeftBracket) ps s g h = constant_list_fine inner each (with_pieces s ps) h
+  constant_by_fine inner each (A_mark m.LeftParenthesis) ps s g h = in_note_fine inner each inner Any' each (with_pieces s ps) h
+  constant_by_fine inner each shape ps s g h = fault_fine all end s g
+
+  constant_form_by_fine : (inner : State → Read Constant) (each : Keeps' inner Any') (ps : List Piece) (s : State) → Good' s → Inside all end ps → Fine' (constant_form_by inner ps s) (λ x. Any' x.0 × Good' x.1)
+  constant_form_by_fine inner each [] s g inside = fault_fine all end s g
+  constant_form_by_fine inner each (p ∷ ps) s g inside = constant_by_fine inner each p.shape ps s g (good_at all end s ps g (behind all end p ps inside))
+
+  constant_form_fine : (inner : State → Read Constant) (each : Keeps' inner Any') → Keeps' (constant_form_at inner) Any'
+  unfolding constant_form_at
+  constant_form_fine inner each s g = constant_form_by_fine inner each s.pieces s g g.inside
+
+  pub constant_fine : (n : ℕ) → Keeps' (constant_at n) Any'
+  unfolding constant_at
+  constant_fine zero s g = deep_constant_fine s g
+  constant_fine (suc n) s g = constant_form_fine (constant_at n) (constant_fine n) s g
+
+  -- ---- what may be annotated
+
+  -- behind all the `(` of annotations stands this
+  module _ {X : Type 0} (bare : ℕ → State → Read X) (Q : X → Type 0) (start : List Piece)
+      (each : (n : ℕ) (s : State) → Good' s → after_mark m.LeftParenthesis s.pieces ≡ None → within s.pieces ≡ start → Fine' (bare n s) (λ x. Q x.0 × Good' x.1)) where
+    noted_last_fine : (o : Option (List Piece)) (s : State) → after_mark m.LeftParenthesis s.pieces ≡ o → within s.pieces ≡ start → Good' s → Fine' (noted_last bare o s) (λ x. Q x.0 × Good' x.1)
+    noted_last_fine (Some ps) s is w g = let f = after_mark_found m.LeftParenthesis s.pieces ps is in too_deep_fine all end s f.0 ps g f.1
+    noted_last_fine None s is w g = each 0 s g is w
+
+    noted_by_fine : (n : ℕ) → ((s : State) → within s.pieces ≡ start → Good' s → Fine' (noted_at bare n s) (λ x. Q x.0 × Good' x.1)) → (o : Option (List Piece)) (s : State) → after_mark m.LeftParenthesis s.pieces ≡ o → within s.pieces ≡ start → Good' s
+        → Fine' (noted_by bare n (noted_at bare n) o s) (λ x. Q x.0 × Good' x.1)
+    noted_by_fine n again (Some ps) s is w g =
+        let f = after_mark_found m.LeftParenthesis s.pieces ps is in
+        let deeper : within ps ≡ start = sym (ap within f.1) ∙ w in
+        in_note_here_fine (constant_at n) (constant_fine n) (noted_at bare n) Q (with_pieces s ps) (again (with_pieces s ps) deeper (good_at all end s ps g (mark_inside all end m.LeftParenthesis s.pieces ps g.inside is)))
+    noted_by_fine n again None s is w g = each (suc n) s g is w
+
+    pub noted_from_fine : (n : ℕ) (s : State) → within s.pieces ≡ start → Good' s → Fine' (noted_at bare n s) (λ x. Q x.0 × Good' x.1)
+    unfolding noted_at
+    noted_from_fine zero s w g = noted_last_fine (after_mark m.LeftParenthesis s.pieces) s refl w g
+    noted_from_fine (suc n) s w g = noted_by_fine n (noted_from_fine n) (after_mark m.LeftParenthesis s.pieces) s refl w g
+
+  pub noted_fine : {X : Type 0} (bare : ℕ → State → Read X) (Q : X → Type 0) → ((n : ℕ) → Keeps' (bare n) Q) → (n : ℕ) → Keeps' (noted_at bare n) Q
+  noted_fine bare Q each n s g = noted_from_fine bare Q (within s.pieces) (λ l s1 g1 none w. each l s1 g1) n s refl g
+
+  -- ---- names
+
+  abbrev pub NamePlaced' : NamedAt → Type 0
+  NamePlaced' x = Place' x.at
+
+  abbrev pub MentionAt' : Mention → Type 0
+  MentionAt' v = Place' v.at
+
+  pub function_name_fine : (n : ℕ) → Keeps' (function_name_at n) NamePlaced'
+  unfolding function_name_at
+  function_name_fine n s g = noted_fine (λ _. bare_name_at) NamePlaced' (λ _. bare_name_fine all end) n s g
+
+  pub variable_fine : (n : ℕ) → Keeps' (variable_at n) MentionAt'
+  unfolding variable_at
+  variable_fine n s g = noted_fine (λ _. bare_variable_at) MentionAt' (λ _. bare_variable_fine all end) n s g
+
+  bare_variables_by_fine : (n : ℕ) (o : Option (List Piece)) (s : State) → after_mark m.Less s.pieces ≡ o → Good' s → Fine' (bare_variables_by (variable_at n) o s) (λ x. Each' MentionAt' x.0 × Good' x.1)
+  bare_variables_by_fine n (Some ps) s is g = closed_fine all end (variable_at n) MentionAt' (variable_fine n) m.Greater (with_pieces s ps) (good_at all end s ps g (mark_inside all end m.Less s.pieces ps g.inside is))
+  bare_variables_by_fine n None s is g = bind (bare_variable_at s) _ (λ x. MentionAt' x.0 × Good' x.1) (λ x. Each' MentionAt' x.0 × Good' x.1) (bare_variable_fine all end s g) (λ v gv. ((gv.0, tt), gv.1))
+
+  bare_variables_fine : (n : ℕ) → Keeps' (bare_variables_at n) (Each' MentionAt')
+  unfolding bare_variables_at
+  bare_variables_fine n s g = bare_variables_by_fine n (after_mark m.Less s.pieces) s refl g
+
+  variables_fine : (n : ℕ) → Keeps' (variables_at n) (Each' MentionAt')
+  unfolding variables_at
+  variables_fine n s g = noted_fine bare_variables_at (Each' MentionAt') bare_variables_fine n s g
+
+  third_fine : (n : ℕ) (u v : Mention) (o : Option (List Piece)) (s : State) → MentionAt' u → MentionAt' v → after_mark m.Comma s.pieces ≡ o → Good' s → Fine' (third_by (variable_at n) u v o s) (λ x. Each' MentionAt' x.0 × Good' x.1)
+  third_fine n u v None s p q is g = bind (mark_at m.Greater s) _ Good' (λ x. Each' MentionAt' x.0 × Good' x.1) (mark_fine all end m.Greater s g) (λ s1 g1. ((p, (q, tt)), g1))
+  third_fine n u v (Some ps) s p q is g =
+      bind (variable_at n (with_pieces s ps)) _ (λ x. MentionAt' x.0 × Good' x.1) (λ x. Each' MentionAt' x.0 × Good' x.1) (variable_fine n (with_pieces s ps) (good_at all end s ps g (mark_inside all end m.Comma s.pieces ps g.inside is))) (λ w gw.
+      bind (mark_at m.Greater w.1) _ Good' (λ x. Each' MentionAt' x.0 × Good' x.1) (mark_fine all end m.Greater w.1 gw.1) (λ s1 g1. ((p, (q, (gw.0, tt))), g1)))
+
+  bare_caught_fine : (n : ℕ) → Keeps' (bare_caught_at n) (Each' MentionAt')
+  unfolding bare_caught_at
+  bare_caught_fine n s g =
+      bind (mark_at m.Less s) _ Good' (λ x. Each' MentionAt' x.0 × Good' x.1) (mark_fine all end m.Less s g) (λ s1 g1.
+      bind (variable_at n s1) _ (λ x. MentionAt' x.0 × Good' x.1) (λ x. Each' MentionAt' x.0 × Good' x.1) (variable_fine n s1 g1) (λ u gu.
+      bind (mark_at m.Comma u.1) _ Good' (λ x. Each' MentionAt' x.0 × Good' x.1) (mark_fine all end m.Comma u.1 gu.1) (λ s2 g2.
+      bind (variable_at n s2) _ (λ x. MentionAt' x.0 × Good' x.1) (λ x. Each' MentionAt' x.0 × Good' x.1) (variable_fine n s2 g2) (λ v gv.
+      third_fine n u.0 v.0 (after_mark m.Comma v.1.pieces) v.1 gu.0 gv.0 refl gv.1))))
+
+  caught_fine : (n : ℕ) → Keeps' (caught_at n) (Each' MentionAt')
+  unfolding caught_at
+  caught_fine n s g = noted_fine bare_caught_at (Each' MentionAt') bare_caught_fine n s g
+
+  -- ---- patterns
+
+  abbrev mutual
+    pub PatternAt : Pattern → Type 0
+    PatternAt (NumberIn n) = Unit {0}
+    PatternAt (CharacterIn c) = Unit {0}
+    PatternAt (TextIn cs) = Unit {0}
+    PatternAt (NameIn t) = Unit {0}
+    PatternAt (VariableIn v) = Place' v.at
+    PatternAt (GroupIn qs) = PatternsAt qs
+    PatternAt (ListIn qs) = PatternsAt qs
+    PatternAt (JoinIn qs q) = PatternsAt qs × PatternAt q
+    PatternAt (AliasIn v q) = Place' v.at × PatternAt q
+
+    pub PatternsAt : Patterns → Type 0
+    PatternsAt NoneToMatch = Unit {0}
+    PatternsAt (AlsoMatch q qs) = PatternAt q × PatternsAt qs
+
+  patterns_at : (qs : List Pattern) → Each' PatternAt qs → PatternsAt (patterns_of qs)
+  patterns_at [] h = tt
+  patterns_at (q ∷ qs) h = (h.0, patterns_at qs h.1)
+
+  module _ (n : ℕ) (inner : State → Read Pattern) (each : Keeps' inner PatternAt) where
+    pattern_tuple_fine : Keeps' (pattern_tuple_at inner (constant_at n)) PatternAt
+    unfolding pattern_tuple_at
+    pattern_tuple_fine s g = bind (closed_at inner m.RightBrace s) _ (λ x. Each' PatternAt x.0 × Good' x.1) (λ x. PatternAt x.0 × Good' x.1) (closed_fine all end inner PatternAt each m.RightBrace s g) (λ x gx. (patterns_at x.0 gx.0, gx.1))
+
+    pattern_listing : (b : List Pattern × Option Pattern) → Listing all end inner PatternAt each b → PatternAt (pattern_list b)
+    pattern_listing (qs, None) h = patterns_at qs h.0
+    pattern_listing (qs, Some q) h = (patterns_at qs h.0, h.1)
+
+    pattern_list_fine : Keeps' (pattern_list_at inner (constant_at n)) PatternAt
+    unfolding pattern_list_at
+    pattern_list_fine s g = bind (brackets_at inner s) _ (λ x. Listing all end inner PatternAt each x.0 × Good' x.1) (λ x. PatternAt x.0 × Good' x.1) (brackets_fine all end inner PatternAt each s g) (λ x gx. (pattern_listing x.0 gx.0, gx.1))
+
+    pattern_by_fine : (at : ℕ) (shape : Shape) (ps : List Piece) (s : State) → Place' at → Good' s → Good' (with_pieces s ps) → Fine' (pattern_by inner (constant_at n) at shape ps s) (λ x. PatternAt x.0 × Good' x.1)
+    pattern_by_fine at (An_integer i) ps s p g h = (tt, h)
+    pattern_by_fine at (A_character i) ps s p g h = (tt, h)
+    pattern_by_fine at (A_text i) ps s p g h = (tt, h)
+    pattern_by_fine at (An_atom i) ps s p g h = (tt, h)
+    pattern_by_fine at (A_variable v) ps s p g h = (p, h)
+    pattern_by_fine at (A_mark m.LeftBrace) ps s p g h = pattern_tuple_fine (with_pieces s ps) h
+    pattern_by_fine at (A_mark m.LeftBracket) ps s p g h = pattern_list_fine (with_pieces s ps) h
+    pattern_by_fine at (A_mark m.LeftParenthesis) ps s p g h = in_note_fine (constant_at n) (constant_fine n) inner PatternAt each (with_pieces s ps) h
+    pattern_by_fine at shape ps s p g h = fault_fine all end s g
+
+    pattern_form_by_fine : (ps : List Piece) (s : State) → Good' s → Inside all end ps → Fine' (pattern_form_by inner (constant_at n) ps s) (λ x. PatternAt x.0 × Good' x.1)
+    pattern_form_by_fine [] s g inside = fault_fine all end s g
+    pattern_form_by_fine (p ∷ ps) s g inside = pattern_by_fine p.at p.shape ps s (here all end p ps inside) g (good_at all end s ps g (behind all end p ps inside))
+
+    pattern_form_fine : Keeps' (pattern_form_at inner (constant_at n)) PatternAt
+    unfolding pattern_form_at
+    pattern_form_fine s g = pattern_form_by_fine s.pieces s g g.inside
+
+    alias_by_fine : (q : Pattern) (o : Option (List Piece)) (s : State) → PatternAt q → after_mark m.Equals s.pieces ≡ o → Good' s → Fine' (alias_by inner (constant_at n) q o s) (λ x. PatternAt x.0 × Good' x.1)
+    alias_by_fine (VariableIn v) (Some ps) s h is g =
+        bind (inner (with_pieces s ps)) _ (λ x. PatternAt x.0 × Good' x.1) (λ x. PatternAt x.0 × Good' x.1) (each (with_pieces s ps) (good_at all end s ps g (mark_inside all end m.Equals s.pieces ps g.inside is))) (λ q gq. ((h, gq.0), gq.1))
+    alias_by_fine (VariableIn v) None s h is g = (h, g)
+    alias_by_fine (NumberIn i) o s h is g = (h, g)
+    alias_by_fine (CharacterIn i) o s h is g = (h, g)
+    alias_by_fine (TextIn i) o s h is g = (h, g)
+    alias_by_fine (NameIn i) o s h is g = (h, g)
+    alias_by_fine (GroupIn i) o s h is g = (h, g)
+    alias_by_fine (ListIn i) o s h is g = (h, g)
+    alias_by_fine (JoinIn i j) o s h is g = (h, g)
+    alias_by_fine (AliasIn i j) o s h is g = (h, g)
+
+    alias_fine : (q : Pattern) → PatternAt q → Keeps' (alias_at inner (constant_at n) q) PatternAt
+    unfolding alias_at
+    alias_fine q h s g = alias_by_fine q (after_mark m.Equals s.pieces) s h refl g
+
+  pattern_fine : (n : ℕ) → Keeps' (pattern_at n) PatternAt
+  unfolding pattern_at
+  pattern_fine zero s g = deep_pattern_fine s g
+  pattern_fine (suc n) s g =
+      bind (pattern_form_at (pattern_at n) (constant_at n) s) _ (λ x. PatternAt x.0 × Good' x.1) (λ x. PatternAt x.0 × Good' x.1) (pattern_form_fine n (pattern_at n) (pattern_fine n) s g) (λ q gq.
+      alias_fine n (pattern_at n) (pattern_fine n) q.0 gq.0 q.1 gq.1)
+
+  -- ---- expressions
+
+  abbrev pub CalleeAt : ℕ → Callee → Type 0
+  CalleeAt at (OfWorld kind) = Place' at
+  CalleeAt at (OfItself kind) = Unit {0}
+  CalleeAt at (OfExport f) = Place' at × IsOne all (word at k.Call)
+  CalleeAt at (OfDefinition f) = Place' at × Place' f.at
+  CalleeAt at FailsMatch = Place' at
+  CalleeAt at RaisesAgain = Place' at
+
+  abbrev mutual
+    pub TreeAt : Tree → Type 0
+    TreeAt (Number n) = Unit {0}
+    TreeAt (Character c) = Unit {0}
+    TreeAt (Text cs) = Unit {0}
+    TreeAt (Name t) = Unit {0}
+    TreeAt (Mentioned v) = Place' v.at
+    TreeAt (Grouped ts) = TreesAt ts
+    TreeAt (Listed ts) = TreesAt ts
+    TreeAt (Joined ts t) = TreesAt ts × TreeAt t
+    TreeAt (Several ts) = TreesAt ts
+    TreeAt (Bound vs t u) = Each' MentionAt' vs × TreeAt t × TreeAt u
+    TreeAt (Chosen at t cs) = TreeAt t × ClausesAt cs
+    TreeAt (Followed t u) = TreeAt t × TreeAt u
+    TreeAt (Called at callee ts) = CalleeAt at callee × TreesAt ts
+    TreeAt (Tried at t vs u ws h) = TreeAt t × Each' MentionAt' vs × TreeAt u × Each' MentionAt' ws × TreeAt h
+    TreeAt (Caught at t) = TreeAt t
+
+    pub TreesAt : Trees → Type 0
+    TreesAt NoMore = Unit {0}
+    TreesAt (Also t ts) = TreeAt t × TreesAt ts
+
+    pub ClausesAt : Clauses → Type 0
+    ClausesAt NoClause = Unit {0}
+    ClausesAt (Clause qs g b cs) = Each' PatternAt qs × TreeAt g × TreeAt b × ClausesAt cs
+
+  abbrev ClauseAt : ClauseTree → Type 0
+  ClauseAt c = Each' PatternAt c.patterns × TreeAt c.guard × TreeAt c.body
+
+  trees_at : (ts : List Tree) → Each' TreeAt ts → TreesAt (trees_of ts)
+  trees_at [] h = tt
+  trees_at (t ∷ ts) h = (h.0, trees_at ts h.1)
+
+  clauses_at : (cs : List ClauseTree) → Each' ClauseAt cs → ClausesAt (clauses_of cs)
+  clauses_at [] h = tt
+  clauses_at (c ∷ cs) h = (h.0.0, h.0.1, h.0.2, clauses_at cs h.1)
+
+  -- ---- names of calls
+
+  -- where no atom and no `(` stands in front of what begins an expression, the name is missing
+  lacks_name : (shape : Shape) (at : ℕ) (ps : List Piece) → atom_in shape ≡ None → cond (is_mark m.LeftParenthesis shape) (Some ps) None ≡ None → (is_function shape [] || begins_expression shape) ≡ true → LacksName (within (record { at = at; shape = shape } ∷ ps))
+  lacks_name (An_integer n) at ps e none is = tt
+  lacks_name (A_character c) at ps e none is = tt
+  lacks_name (A_text cs) at ps e none is = tt
+  lacks_name (A_variable v) at ps e none is = tt
+  lacks_name (An_atom t) at ps e none is = absurd cc
+  lacks_name (A_mark m.LeftBrace) at ps e none is = tt
+  lacks_name (A_mark m.LeftBracket) at ps e none is = tt
+  lacks_name (A_mark m.LeftParenthesis) at ps e none is = absurd cc
+  lacks_name (A_mark m.Less) at ps e none is = tt
+  lacks_name (A_word k.Fun) at ps e none is = tt
+  lacks_name (A_word k.Letrec) at ps e none is = tt
+  lacks_name (A_word k.Let) at ps e none is = tt
+  lacks_name (A_word k.Case) at ps e none is = tt
+  lacks_name (A_word k.Apply) at ps e none is = tt
+  lacks_name (A_word k.Call) at ps e none is = tt
+  lacks_name (A_word k.Primop) at ps e none is = tt
+  lacks_name (A_word k.Do) at ps e none is = tt
+  lacks_name (A_word k.Try) at ps e none is = tt
+  lacks_name (A_word k.Catch) at ps e none is = tt
+  lacks_name (A_word k.Receive) at ps e none is = tt
+  lacks_name shape at ps e none is = absurd cc
+
+  -- an atom, or another token where its name is missing
+  callee_by_fine : (at : ℕ) (p : Piece) (ps : List Piece) (s : State) → Good' s → Inside all end (p ∷ ps) → after_mark m.LeftParenthesis (p ∷ ps) ≡ None → (LacksName (within (p ∷ ps)) → Fault' (UnsupportedCall at)) → (o : Option (List ℕ)) → atom_in p.shape ≡ o
+      → Fine' (taken_by o ps s (refusal s.refused (callee_fault_of at s.stop (p ∷ ps)))) (λ x. Any' x.0 × Good' x.1)
+  callee_by_fine at p ps s g inside none h (Some t) e = (tt, good_at all end s ps g (behind all end p ps inside))
+  callee_by_fine at p ps s g inside none h None e = refusal_fine all end s.refused (callee_fault_of at s.stop (p ∷ ps)) g.refused (by (is_function p.shape [] || begins_expression p.shape) refl)
+    where
+      by : (b : Bool) → (is_function p.shape [] || begins_expression p.shape) ≡ b → Fault' (cond b (UnsupportedCall at) (cond (is_foreign p.shape) (UnsupportedForm p.at) (Expected p.at)))
+      by true is = h (lacks_name p.shape p.at ps e none is)
+      by false is = foreign_fine p ps inside
+
+  callee_of_fine : (at : ℕ) (qs : List Piece) (s : State) → Good' s → Inside all end qs → after_mark m.LeftParenthesis qs ≡ None → (LacksName (within qs) → Fault' (UnsupportedCall at))
+      → Fine' (taken (λ p. atom_in p.shape) qs s (refusal s.refused (callee_fault_of at s.stop qs))) (λ x. Any' x.0 × Good' x.1)
+  callee_of_fine at [] s g inside none h = refusal_fine all end s.refused (Expected s.stop) g.refused (inr g.stop)
+  callee_of_fine at (p ∷ ps) s g inside none h = callee_by_fine at p ps s g inside none h (atom_in p.shape) refl
+
+  bare_callee_fine : (at : ℕ) (s : State) → Good' s → after_mark m.LeftParenthesis s.pieces ≡ None → (LacksName (within s.pieces) → Fault' (UnsupportedCall at)) → Fine' (bare_callee_at at s) (λ x. Any' x.0 × Good' x.1)
+  unfolding bare_callee_at callee_fault
+  bare_callee_fine at s g none h = callee_of_fine at s.pieces s g g.inside none h
+
+  -- where no name stands, the call is not served
+  callee_fine : (at n : ℕ) (s : State) → Good' s → (LacksName (within s.pieces) → Fault' (UnsupportedCall at)) → Fine' (callee_at at n s) (λ x. Any' x.0 × Good' x.1)
+  unfolding callee_at
+  callee_fine at n s g h =
+      noted_from_fine (λ _. bare_callee_at at) Any' (within s.pieces) (λ l s1 g1 none w. bare_callee_fine at s1 g1 none (λ lacks. h (subst (λ (qs : List Piece). LacksName qs) w lacks))) n s refl g
+
+  -- an atom of a call and the mark behind it
+  atom_then : (x : Mark) (at n : ℕ) (s : State) (a : List ℕ) (t u : State) → callee_at at n s ≡ Ok (a, t) → mark_at x t ≡ Ok u → (bt : ℕ) × AtomIn n s.pieces a (mark bt x ∷ u.pieces)
+  atom_then x at n s a t u e f =
+      let step = mark_steps x t u f in
+      let spelt = callee_sound {left = t.refused} at n s a t e refl in
+      (step.at, goes_to (AtomIn n) s.pieces t.pieces (mark step.at x ∷ u.pieces) a step.pieces spelt.1)
+
+  found_nowhere : (o : Option Callee) (callee : Callee) → o ≡ Some callee → o ≡ None → ⊥
+  found_nowhere o callee e f = cc
+
+  -- what is not found by names and the number of arguments is not called
+  nothing_called : (own a f : List ℕ) (count items : ℕ) → count ≡ items → callee_named own a f items ≡ None → (callee : Callee) → ¬ (Calls own (signed a f count) callee)
+  nothing_called own a f count items same none callee h = found_nowhere (callee_named own a f count) callee (callee_again own (signed a f count) callee h) (ap (λ (i : ℕ). callee_named own a f i) same ∙ none)
+
+  applied_fault_of_fine : (stop : ℕ) (ps : List Piece) → stop ≡ end → Inside all end ps → Fault' (applied_fault_of stop ps)
+  applied_fault_of_fine stop [] e inside = inr e
+  applied_fault_of_fine stop (p ∷ ps) e inside = cond_fine all end (is_function p.shape [] || begins_expression p.shape) (HigherOrder p.at) _ (here all end p ps inside) (foreign_fine p ps inside)
+
+  applied_fault_fine : (s : State) → Good' s → Fault' (applied_fault s)
+  unfolding applied_fault
+  applied_fault_fine s g = refusal_fine all end s.refused (applied_fault_of s.stop s.pieces) g.refused (applied_fault_of_fine s.stop s.pieces g.stop g.inside)
+
+  applied_atom_fine : Keeps' applied_atom_at (λ x. Place' x.0)
+  unfolding applied_atom_at
+  applied_atom_fine s g =
+      taken_fine all end (λ p. named_by p.at p.shape) (λ x. Place' x.0) (λ p x h e. subst (λ (at : ℕ). Place' at) (named_place all end p.at p.shape x e) (inl (piece_at all p h))) s.pieces s (applied_fault s) g g.inside (applied_fault_fine s g)
+
+  behind_applied_fine : (at : ℕ) (t : List ℕ) (o : Option (List Piece)) (s : State) → Place' at → Good' s → Fine' (behind_applied_by at t o s) (λ x. NamePlaced' x.0 × Good' x.1)
+  behind_applied_fine at t (Some ps) s h g = refusal_fine all end s.refused (HigherOrder at) g.refused h
+  behind_applied_fine at t None s h g = behind_atom_fine all end at t h s g
+
+  bare_applied_fine : Keeps' bare_applied_at NamePlaced'
+  unfolding bare_applied_at
+  bare_applied_fine s g =
+      bind (applied_atom_at s) _ (λ x. Place' x.0.0 × Good' x.1) (λ x. NamePlaced' x.0 × Good' x.1) (applied_atom_fine s g) (λ a ga.
+      behind_applied_fine a.0.0 a.0.1 (after_mark m.LeftParenthesis a.1.pieces) a.1 ga.0 ga.1)
+
+  applied_fine : (n : ℕ) → Keeps' (applied_at n) NamePlaced'
+  unfolding applied_at
+  applied_fine n s g = noted_fine (λ _. bare_applied_at) NamePlaced' (λ _. bare_applied_fine) n s g
+
+  -- ---- what is not served
+
+  earlier_fine : (u : Unserved) (o : Option Unserved) → IsUnservedAt all end u → IfSome o (IsUnservedAt all end) → IsUnservedAt all end (earlier u o)
+  earlier_fine u None h g = h
+  earlier_fine u (Some v) h g = by _
+    where
+      by : (b : Bool) → IsUnservedAt all end (cond b u v)
+      by true = h
+      by false = g
+
+  judged_fine : (at : ℕ) (u : Unserved) (o : Option Callee) (ts : List Tree) (s : State) → (o ≡ None → IsUnservedAt all end u) → ((c : Callee) → o ≡ Some c → CalleeAt at c) → Each' TreeAt ts → Good' s → Fine' (judged at u o ts s) (λ x. TreeAt x.0 × Good' x.1)
+  judged_fine at u (Some c) ts s h p q g = ((p c refl, trees_at ts q), g)
+  judged_fine at u None ts s h p q g = (tt, record { stop = g.stop; inside = g.inside; refused = earlier_fine u s.refused (h refl) g.refused })
+
+  called_at : (own : List ℕ) (at : ℕ) (s : Signature) (c : Callee) → Place' at → IsOne all (word at k.Call) → Calls own s c → CalleeAt at c
+  called_at own at s c p h (calls_world r) = p
+  called_at own at s c p h calls_itself = tt
+  called_at own at s c p h (calls_export small new) = (p, h)
+
+  operates_at : (at : ℕ) (t : List ℕ) (n : ℕ) (c : Callee) → Place' at → Operates t n c → CalleeAt at c
+  operates_at at t n c p fails_match = p
+  operates_at at t n c p raises_again = p
+
+  module _ (own : List ℕ) (owned : IsOwn all own) (n : ℕ) (inner : State → Read Tree) (each : Keeps' inner TreeAt) (walks : Walks inner) where
+    tuple_fine : Keeps' (tuple_at own n inner) TreeAt
+    unfolding tuple_at
+    tuple_fine s g = bind (closed_at inner m.RightBrace s) _ (λ x. Each' TreeAt x.0 × Good' x.1) (λ x. TreeAt x.0 × Good' x.1) (closed_fine all end inner TreeAt each m.RightBrace s g) (λ x gx. (trees_at x.0 gx.0, gx.1))
+
+    listing_at : (b : List Tree × Option Tree) → Listing all end inner TreeAt each b → TreeAt (tree_list b)
+    listing_at (ts, None) h = trees_at ts h.0
+    listing_at (ts, Some t) h = (trees_at ts h.0, h.1)
+
+    list_fine : Keeps' (list_at own n inner) TreeAt
+    unfolding list_at
+    list_fine s g = bind (brackets_at inner s) _ (λ x. Listing all end inner TreeAt each x.0 × Good' x.1) (λ x. TreeAt x.0 × Good' x.1) (brackets_fine all end inner TreeAt each s g) (λ x gx. (listing_at x.0 gx.0, gx.1))
+
+    values_fine : Keeps' (values_at own n inner) TreeAt
+    unfolding values_at
+    values_fine s g = bind (closed_at inner m.Greater s) _ (λ x. Each' TreeAt x.0 × Good' x.1) (λ x. TreeAt x.0 × Good' x.1) (closed_fine all end inner TreeAt each m.Greater s g) (λ x gx. (trees_at x.0 gx.0, gx.1))
+
+    let_fine : Keeps' (let_at own n inner) TreeAt
+    unfolding let_at
+    let_fine s g =
+        bind (variables_at n s) _ (λ x. Each' MentionAt' x.0 × Good' x.1) (λ x. TreeAt x.0 × Good' x.1) (variables_fine n s g) (λ v gv.
+        bind (mark_at m.Equals v.1) _ Good' (λ x. TreeAt x.0 × Good' x.1) (mark_fine all end m.Equals v.1 gv.1) (λ s1 g1.
+        bind (inner s1) _ (λ x. TreeAt x.0 × Good' x.1) (λ x. TreeAt x.0 × Good' x.1) (each s1 g1) (λ t gt.
+        bind (word_at k.In t.1) _ Good' (λ x. TreeAt x.0 × Good' x.1) (word_fine all end k.In t.1 gt.1) (λ s2 g2.
+        bind (inner s2) _ (λ x. TreeAt x.0 × Good' x.1) (λ x. TreeAt x.0 × Good' x.1) (each s2 g2) (λ u gu. ((gv.0, gt.0, gu.0), gu.1))))))
+
+    do_fine : Keeps' (do_at own n inner) TreeAt
+    unfolding do_at
+    do_fine s g =
+        bind (inner s) _ (λ x. TreeAt x.0 × Good' x.1) (λ x. TreeAt x.0 × Good' x.1) (each s g) (λ t gt.
+        bind (inner t.1) _ (λ x. TreeAt x.0 × Good' x.1) (λ x. TreeAt x.0 × Good' x.1) (each t.1 gt.1) (λ u gu. ((gt.0, gu.0), gu.1)))
+
+    apply_fine : (at : ℕ) → Place' at → Keeps' (apply_at own n inner at) TreeAt
+    unfolding apply_at
+    apply_fine at p s g =
+        bind (applied_at n s) _ (λ x. NamePlaced' x.0 × Good' x.1) (λ x. TreeAt x.0 × Good' x.1) (applied_fine n s g) (λ f gf.
+        bind (mark_at m.LeftParenthesis f.1) _ Good' (λ x. TreeAt x.0 × Good' x.1) (mark_fine all end m.LeftParenthesis f.1 gf.1) (λ s1 g1.
+        bind (exactly_at inner true f.0.function.arity s1) _ (λ x. Each' TreeAt x.0 × Good' x.1) (λ x. TreeAt x.0 × Good' x.1) (exactly_fine all end inner TreeAt each true f.0.function.arity s1 g1) (λ ts gt.
+        bind (mark_at m.RightParenthesis ts.1) _ Good' (λ x. TreeAt x.0 × Good' x.1) (mark_fine all end m.RightParenthesis ts.1 gt.1) (λ s2 g2. (((p, gf.0), trees_at ts.0 gt.0), g2)))))
+
+    call_fine : (at : ℕ) → Place' at → (s : State) → Inside all end (word at k.Call ∷ s.pieces) → Good' s → Fine' (call_at own n inner at s) (λ x. TreeAt x.0 × Good' x.1)
+    unfolding call_at
+    call_fine at p s o g =
+        let one = front all end (word at k.Call) s.pieces o in
+        let unserved_by : IsNoCall own s.pieces → Fault' (UnsupportedCall at) = λ h. (one, record { own = own; before = o.0; behind = s.pieces; named = owned; stands = o.1; unserved = h }) in
+        read (callee_at at n s) _ (λ x. Any' x.0 × Good' x.1) (λ x. TreeAt x.0 × Good' x.1) (callee_fine at n s g (λ l. unserved_by (lacks_module l))) (λ a ea ga.
+        read (mark_at m.Colon a.1) _ Good' (λ x. TreeAt x.0 × Good' x.1) (mark_fine all end m.Colon a.1 ga.1) (λ s1 e1 g1.
+        let first = atom_then m.Colon at n s a.0 a.1 s1 ea e1 in
+        read (callee_at at n s1) _ (λ x. Any' x.0 × Good' x.1) (λ x. TreeAt x.0 × Good' x.1) (callee_fine at n s1 g1 (λ l. unserved_by (lacks_function n first.1 l))) (λ f ef gf.
+        read (mark_at m.LeftParenthesis f.1) _ Good' (λ x. TreeAt x.0 × Good' x.1) (mark_fine all end m.LeftParenthesis f.1 gf.1) (λ s2 e2 g2.
+        let second = atom_then m.LeftParenthesis at n s1 f.0 f.1 s2 ef e2 in
+        read (closed_at inner m.RightParenthesis s2) _ (λ x. Each' TreeAt x.0 × Good' x.1) (λ x. TreeAt x.0 × Good' x.1) (closed_fine all end inner TreeAt each m.RightParenthesis s2 g2) (λ ts et gt.
+        let count : arguments s2.pieces ≡ length ts.0 = closed_count inner walks s2 ts.0 ts.1 et in
+        judged_fine at (unserved.Call at) (callee_named own a.0 f.0 (length ts.0)) ts.0 ts.1
+        (λ none. unserved_by (calls_nothing n first.1 second.1 (nothing_called own a.0 f.0 (arguments s2.pieces) (length ts.0) count none)))
+        (λ c is. called_at own at _ c p one (callee_found own a.0 f.0 (length ts.0) c is)) gt.0 gt.1)))))
+
+    primop_fine : (at : ℕ) → Place' at → IsOne all (word at k.Primop) → Keeps' (primop_at own n inner at) TreeAt
+    unfolding primop_at
+    primop_fine at p h s g =
+        bind (atom_at s) _ (λ x. Any' x.0 × Good' x.1) (λ x. TreeAt x.0 × Good' x.1) (atom_fine all end s g) (λ a ga.
+        bind (mark_at m.LeftParenthesis a.1) _ Good' (λ x. TreeAt x.0 × Good' x.1) (mark_fine all end m.LeftParenthesis a.1 ga.1) (λ s1 g1.
+        bind (closed_at inner m.RightParenthesis s1) _ (λ x. Each' TreeAt x.0 × Good' x.1) (λ x. TreeAt x.0 × Good' x.1) (closed_fine all end inner TreeAt each m.RightParenthesis s1 g1) (λ ts gt.
+        judged_fine at (unserved.Primop at) (operation_named a.0 (length ts.0)) ts.0 ts.1 (λ none. h) (λ c is. operates_at at a.0 (length ts.0) c p (operation_found a.0 (length ts.0) c is)) gt.0 gt.1)))
+
+    try_fine : (at : ℕ) → Keeps' (try_at own n inner at) TreeAt
+    unfolding try_at
+    try_fine at s g =
+        bind (inner s) _ (λ x. TreeAt x.0 × Good' x.1) (λ x. TreeAt x.0 × Good' x.1) (each s g) (λ t gt.
+        bind (word_at k.Of t.1) _ Good' (λ x. TreeAt x.0 × Good' x.1) (word_fine all end k.Of t.1 gt.1) (λ s1 g1.
+        bind (variables_at n s1) _ (λ x. Each' MentionAt' x.0 × Good' x.1) (λ x. TreeAt x.0 × Good' x.1) (variables_fine n s1 g1) (λ v gv.
+        bind (mark_at m.Arrow v.1) _ Good' (λ x. TreeAt x.0 × Good' x.1) (mark_fine all end m.Arrow v.1 gv.1) (λ s2 g2.
+        bind (inner s2) _ (λ x. TreeAt x.0 × Good' x.1) (λ x. TreeAt x.0 × Good' x.1) (each s2 g2) (λ u gu.
+        bind (word_at k.Catch u.1) _ Good' (λ x. TreeAt x.0 × Good' x.1) (word_fine all end k.Catch u.1 gu.1) (λ s3 g3.
+        bind (caught_at n s3) _ (λ x. Each' MentionAt' x.0 × Good' x.1) (λ x. TreeAt x.0 × Good' x.1) (caught_fine n s3 g3) (λ w gw.
+        bind (mark_at m.Arrow w.1) _ Good' (λ x. TreeAt x.0 × Good' x.1) (mark_fine all end m.Arrow w.1 gw.1) (λ s4 g4.
+        bind (inner s4) _ (λ x. TreeAt x.0 × Good' x.1) (λ x. TreeAt x.0 × Good' x.1) (each s4 g4) (λ z gz. ((gt.0, gv.0, gu.0, gw.0, gz.0), gz.1))))))))))
+
+    catch_fine : (at : ℕ) → Keeps' (catch_at own n inner at) TreeAt
+    unfolding catch_at
+    catch_fine at s g = bind (inner s) _ (λ x. TreeAt x.0 × Good' x.1) (λ x. TreeAt x.0 × Good' x.1) (each s g) (λ t gt. (gt.0, gt.1))
+
+    name_fine : (o : Option (List Piece)) (t : List ℕ) (ps : List Piece) (s : State) → Good' s → Good' (with_pieces s ps) → Fine' (name_by o t ps s) (λ x. TreeAt x.0 × Good' x.1)
+    name_fine (Some qs) t ps s g h = expression_fault_fine s g
+    name_fine None t ps s g h = (tt, h)
+
+    -- ---- clauses
+
+    behind_patterns_fine : (qs : List Pattern) → Each' PatternAt qs → Keeps' (behind_patterns_at own n inner qs) ClauseAt
+    unfolding behind_patterns_at
+    behind_patterns_fine qs h s g =
+        bind (word_at k.When s) _ Good' (λ x. ClauseAt x.0 × Good' x.1) (word_fine all end k.When s g) (λ s1 g1.
+        bind (inner s1) _ (λ x. TreeAt x.0 × Good' x.1) (λ x. ClauseAt x.0 × Good' x.1) (each s1 g1) (λ t gt.
+        bind (mark_at m.Arrow t.1) _ Good' (λ x. ClauseAt x.0 × Good' x.1) (mark_fine all end m.Arrow t.1 gt.1) (λ s2 g2.
+        bind (inner s2) _ (λ x. TreeAt x.0 × Good' x.1) (λ x. ClauseAt x.0 × Good' x.1) (each s2 g2) (λ u gu. ((h, gt.0, gu.0), gu.1)))))
+
+    abbrev StartAt : Start → Type 0
+    StartAt (OnePattern q) = PatternAt q
+    StartAt (ManyPatterns qs) = Each' PatternAt qs
+    StartAt (WholeClause c) = ClauseAt c
+
+    clause_of_fine : (x : Start) (s : State) → StartAt x → Good' s → Fine' (clause_of own n inner x s) (λ c. ClauseAt c.0 × Good' c.1)
+    clause_of_fine (OnePattern q) s h g = behind_patterns_fine (q ∷ []) (h, tt) s g
+    clause_of_fine (ManyPatterns qs) s h g = behind_patterns_fine qs h s g
+    clause_of_fine (WholeClause c) s h g = (h, g)
+
+    start_by_fine : (x : Start) (o : Option (List Piece)) (s : State) → StartAt x → Good' s → Fine' (start_by own n inner x o s) (λ y. StartAt y.0 × Good' y.1)
+    start_by_fine x None s h g = (h, g)
+    start_by_fine x (Some ps) s h g = bind (clause_of own n inner x s) _ (λ c. ClauseAt c.0 × Good' c.1) (λ y. StartAt y.0 × Good' y.1) (clause_of_fine x s h g) (λ c gc. (gc.0, gc.1))
+
+    started_fine : (x : Start) (o : Option (List Piece)) (s : State) → StartAt x → Good' s → Fine' (started own n inner x o s) (λ y. StartAt y.0 × Good' y.1)
+    started_fine (OnePattern q) o s h g = start_by_fine (OnePattern q) o s h g
+    started_fine (ManyPatterns qs) o s h g = start_by_fine (ManyPatterns qs) o s h g
+    started_fine (WholeClause c) o s h g = (h, g)
+
+    aliased_fine : (x : Start) (s : State) → StartAt x → Good' s → Fine' (aliased own n inner x s) (λ y. StartAt y.0 × Good' y.1)
+    aliased_fine (OnePattern q) s h g = bind (alias_at (pattern_at n) (constant_at n) q s) _ (λ p. PatternAt p.0 × Good' p.1) (λ y. StartAt y.0 × Good' y.1) (alias_fine n (pattern_at n) (pattern_fine n) q h s g) (λ p gp. (gp.0, gp.1))
+    aliased_fine (ManyPatterns qs) s h g = (h, g)
+    aliased_fine (WholeClause c) s h g = (h, g)
+
+    module _ (start : State → Read Start) (starts : Keeps' start StartAt) where
+      inside_start_fine : Keeps' (inside_start_at own n inner start) StartAt
+      unfolding inside_start_at
+      inside_start_fine s g = bind (start s) _ (λ x. StartAt x.0 × Good' x.1) (λ y. StartAt y.0 × Good' y.1) (starts s g) (λ x gx. started_fine x.0 (after_word k.When x.1.pieces) x.1 gx.0 gx.1)
+
+      noted_start_fine : Keeps' (noted_start_at own n inner start) StartAt
+      unfolding noted_start_at
+      noted_start_fine s g =
+          bind (in_note_at (constant_at n) (inside_start_at own n inner start) s) _ (λ x. StartAt x.0 × Good' x.1) (λ y. StartAt y.0 × Good' y.1)
+          (in_note_fine (constant_at n) (constant_fine n) (inside_start_at own n inner start) StartAt inside_start_fine s g) (λ x gx. aliased_fine x.0 x.1 gx.0 gx.1)
+
+      clause_fine : Keeps' (clause_at own n inner start) ClauseAt
+      unfolding clause_at
+      clause_fine s g = bind (start s) _ (λ x. StartAt x.0 × Good' x.1) (λ c. ClauseAt c.0 × Good' c.1) (starts s g) (λ x gx. clause_of_fine x.0 x.1 gx.0 gx.1)
+
+      case_fine : (at : ℕ) → Keeps' (case_at own n inner start at) TreeAt
+      unfolding case_at
+      case_fine at s g =
+          bind (inner s) _ (λ x. TreeAt x.0 × Good' x.1) (λ x. TreeAt x.0 × Good' x.1) (each s g) (λ t gt.
+          bind (word_at k.Of t.1) _ Good' (λ x. TreeAt x.0 × Good' x.1) (word_fine all end k.Of t.1 gt.1) (λ s1 g1.
+          bind (clause_at own n inner start s1) _ (λ x. ClauseAt x.0 × Good' x.1) (λ x. TreeAt x.0 × Good' x.1) (clause_fine s1 g1) (λ c gc.
+          bind (rows_at (clause_at own n inner start) c.1) _ (λ x. Each' ClauseAt x.0 × Good' x.1) (λ x. TreeAt x.0 × Good' x.1) (rows_fine all end (clause_at own n inner start) ClauseAt clause_fine c.1 gc.1) (λ cs gcs.
+          bind (word_at k.End cs.1) _ Good' (λ x. TreeAt x.0 × Good' x.1) (word_fine all end k.End cs.1 gcs.1) (λ s2 g2. ((gt.0, (gc.0.0, gc.0.1, gc.0.2, clauses_at cs.0 gcs.0)), g2))))))
+
+      form_by_fine : (at : ℕ) (shape : Shape) (ps : List Piece) (s : State) → Inside all end (record { at = at; shape = shape } ∷ ps) → Place' at → Good' s → Good' (with_pieces s ps) → Fine' (form_by own n inner start at shape ps s) (λ x. TreeAt x.0 × Good' x.1)
+      form_by_fine at (An_integer i) ps s o p g h = (tt, h)
+      form_by_fine at (A_character i) ps s o p g h = (tt, h)
+      form_by_fine at (A_text i) ps s o p g h = (tt, h)
+      form_by_fine at (An_atom t) ps s o p g h = name_fine (after_mark m.Slash ps) t ps s g h
+      form_by_fine at (A_variable v) ps s o p g h = (p, h)
+      form_by_fine at (A_mark m.LeftBrace) ps s o p g h = tuple_fine (with_pieces s ps) h
+      form_by_fine at (A_mark m.LeftBracket) ps s o p g h = list_fine (with_pieces s ps) h
+      form_by_fine at (A_mark m.Less) ps s o p g h = values_fine (with_pieces s ps) h
+      form_by_fine at (A_mark m.LeftParenthesis) ps s o p g h = in_note_fine (constant_at n) (constant_fine n) inner TreeAt each (with_pieces s ps) h
+      form_by_fine at (A_word k.Let) ps s o p g h = let_fine (with_pieces s ps) h
+      form_by_fine at (A_word k.Case) ps s o p g h = case_fine at (with_pieces s ps) h
+      form_by_fine at (A_word k.Do) ps s o p g h = do_fine (with_pieces s ps) h
+      form_by_fine at (A_word k.Apply) ps s o p g h = apply_fine at p (with_pieces s ps) h
+      form_by_fine at (A_word k.Call) ps s o p g h = call_fine at p (with_pieces s ps) o h
+      form_by_fine at (A_word k.Primop) ps s o p g h = primop_fine at p (front all end (word at k.Primop) ps o) (with_pieces s ps) h
+      form_by_fine at (A_word k.Try) ps s o p g h = try_fine at (with_pieces s ps) h
+      form_by_fine at (A_word k.Catch) ps s o p g h = catch_fine at (with_pieces s ps) h
+      form_by_fine at shape ps s o p g h = expression_fault_fine s g
+
+      form_of_fine : (ps : List Piece) (s : State) → Good' s → Inside all end ps → Fine' (form_of own n inner start ps s) (λ x. TreeAt x.0 × Good' x.1)
+      form_of_fine [] s g inside = expression_fault_fine s g
+      form_of_fine (p ∷ ps) s g inside = form_by_fine p.at p.shape ps s inside (here all end p ps inside) g (good_at all end s ps g (behind all end p ps inside))
+
+      form_fine : Keeps' (form_at own n inner start) TreeAt
+      unfolding form_at
+      form_fine s g = form_of_fine s.pieces s g g.inside
+
+  -- ---- all levels
+
+  abbrev Starting : Start → Type 0
+  Starting (OnePattern q) = PatternAt q
+  Starting (ManyPatterns qs) = Each' PatternAt qs
+  Starting (WholeClause c) = ClauseAt c
+
+  bare_start_by_fine : (n : ℕ) (o : Option (List Piece)) (s : State) → after_mark m.Less s.pieces ≡ o → Good' s → Fine' (bare_start_by n o s) (λ y. Starting y.0 × Good' y.1)
+  bare_start_by_fine n (Some ps) s is g =
+      bind (closed_at (pattern_at n) m.Greater (with_pieces s ps)) _ (λ x. Each' PatternAt x.0 × Good' x.1) (λ y. Starting y.0 × Good' y.1) (closed_fine all end (pattern_at n) PatternAt (pattern_fine n) m.Greater (with_pieces s ps) (good_at all end s ps g (mark_inside all end m.Less s.pieces ps g.inside is))) (λ x gx. (gx.0, gx.1))
+  bare_start_by_fine n None s is g = bind (pattern_at n s) _ (λ x. PatternAt x.0 × Good' x.1) (λ y. Starting y.0 × Good' y.1) (pattern_fine n s g) (λ x gx. (gx.0, gx.1))
+
+  bare_start_fine : (n : ℕ) → Keeps' (bare_start_at n) Starting
+  unfolding bare_start_at
+  bare_start_fine n s g = bare_start_by_fine n (after_mark m.Less s.pieces) s refl g
+
+  start_last_fine : (o : Option (List Piece)) (s : State) → after_mark m.LeftParenthesis s.pieces ≡ o → Good' s → Fine' (start_last o s) (λ y. Starting y.0 × Good' y.1)
+  start_last_fine (Some ps) s is g = let f = after_mark_found m.LeftParenthesis s.pieces ps is in too_deep_fine all end s f.0 ps g f.1
+  start_last_fine None s is g = bare_start_fine 0 s g
+
+  module _ (own : List ℕ) (owned : IsOwn all own) where
+    start_next_fine : (n : ℕ) → Keeps' (expression_at own n) TreeAt → Keeps' (start_at own n) Starting → (o : Option (List Piece)) (s : State) → after_mark m.LeftParenthesis s.pieces ≡ o → Good' s → Fine' (start_next own n (expression_at own n) (start_at own n) o s) (λ y. Starting y.0 × Good' y.1)
+    start_next_fine n each starts (Some ps) s is g = noted_start_fine own owned n (expression_at own n) each (expression_walks own n) (start_at own n) starts (with_pieces s ps) (good_at all end s ps g (mark_inside all end m.LeftParenthesis s.pieces ps g.inside is))
+    start_next_fine n each starts None s is g = bare_start_fine (suc n) s g
+
+    both_fine : (n : ℕ) → Keeps' (expression_at own n) TreeAt × Keeps' (start_at own n) Starting
+    unfolding expression_at start_at
+    both_fine zero = (λ s g. deep_expression_fine s g, λ s g. start_last_fine (after_mark m.LeftParenthesis s.pieces) s refl g)
+    both_fine (suc n) =
+        let h = both_fine n in
+        (λ s g. form_fine own owned n (expression_at own n) h.0 (expression_walks own n) (start_at own n) h.1 s g, λ s g. start_next_fine n h.0 h.1 (after_mark m.LeftParenthesis s.pieces) s refl g)
+
+    pub expression_fine : (n : ℕ) → Keeps' (expression_at own n) TreeAt
+    expression_fine n = (both_fine n).0

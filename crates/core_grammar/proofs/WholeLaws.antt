@@ -1,0 +1,15 @@
+-- What is decoded from all of the tokens is what they spell.
+use Rattle.std.proofs.Common.{◌≡◌, ℕ, List, Ok}
+use Rattle.core_tokens.specs.Piece.{Piece}
+use Rattle.core_tree.specs.Syntax.{ModuleTree}
+use Rattle.core_grammar.specs.Grammar.{Spells}
+use Rattle.core_grammar.specs.ReadingModules.{module_at}
+use Rattle.core_grammar.specs.Whole.{start}
+use Rattle.core_grammar.proofs.SoundModules.{module_sound}
+use Rattle.core_grammar.proofs.CompleteModules.{module_complete}
+
+pub decoded_spelt : (stop : ℕ) (ps : List Piece) (x : ModuleTree × ℕ) → module_at (start stop ps) ≡ Ok x → Spells ps x.0
+decoded_spelt stop ps x is = module_sound (start stop ps) x is
+
+pub spelt_decoded : (stop : ℕ) (ps : List Piece) (m : ModuleTree) → Spells ps m → (at : ℕ) × (module_at (start stop ps) ≡ Ok (m, at))
+spelt_decoded stop ps m h = module_complete stop ps m h

@@ -1,0 +1,37 @@
+use Rattle.std.proofs.lemmas.Result.{err_from_is_err_and}
+use Rattle.core_grammar.specs.Reading.{bare_variables_at, variables_at}
+use Rattle.core_parser.specs.Parsing.{state_of}
+use Rattle.core_grammar.specs.Notes.{is_deep, bare_fails, bare_reads, inside_fails, note_fails, note_reads}
+use Rattle.core_parser.proofs.parser.Parser.+variables.Goals as goal
+
+pub returns-in_err-opens_note : goal.returns-in_err-opens_note
+unfolding variables_at
+returns-in_err-opens_note t c =
+    let p = err_from_is_err_and c.from_residual.result c.from_residual.ensures.1 in
+    rw (p.1, p.2) (λ real. is_deep bare_variables_at _ c.args.levels (state_of c.args.self.now) (state_of c.opens_note.new.self) c.in_err-opens_note.ensures)
+
+pub returns-in_err-bare_variables : goal.returns-in_err-bare_variables
+unfolding variables_at
+returns-in_err-bare_variables t c =
+    let p = err_from_is_err_and c.from_residual-in_err-bare_variables.result c.from_residual-in_err-bare_variables.ensures.1 in
+    rw (p.1, p.2) (bare_fails bare_variables_at _ _ c.args.levels (state_of c.args.self.now) (state_of c.opens_note.new.self) c.if-not-branch.true c.in_ok-opens_note.ensures c.in_err-bare_variables.ensures)
+
+pub returns-then-not-branch : goal.returns-then-not-branch
+unfolding variables_at
+returns-then-not-branch t c = bare_reads bare_variables_at _ _ c.args.levels (state_of c.args.self.now) (state_of c.opens_note.new.self) c.if-not-branch.true c.in_ok-opens_note.ensures c.in_ok-bare_variables.ensures
+
+pub returns-in_err-variables : goal.returns-in_err-variables
+unfolding variables_at
+returns-in_err-variables t c =
+    let p = err_from_is_err_and c.from_residual-in_err-variables.result c.from_residual-in_err-variables.ensures.1 in
+    rw (p.1, p.2) (inside_fails bare_variables_at _ _ c.args.levels (state_of c.args.self.now) (state_of c.opens_note.new.self) c.if-not-branch.false c.in_ok-opens_note.ensures c.in_err-variables.ensures)
+
+pub returns-in_err-note : goal.returns-in_err-note
+unfolding variables_at
+returns-in_err-note t c =
+    let p = err_from_is_err_and c.from_residual-in_err-note.result c.from_residual-in_err-note.ensures.1 in
+    rw (p.1, p.2) (note_fails bare_variables_at _ _ c.args.levels (state_of c.args.self.now) (state_of c.opens_note.new.self) _ _ c.if-not-branch.false c.in_ok-opens_note.ensures c.in_ok-variables.ensures c.in_err-note.ensures)
+
+pub returns : goal.returns
+unfolding variables_at
+returns t c = note_reads bare_variables_at _ c.args.levels (state_of c.args.self.now) (state_of c.opens_note.new.self) _ _ _ c.if-not-branch.false c.in_ok-opens_note.ensures c.in_ok-variables.ensures c.in_ok-note.ensures

@@ -1,0 +1,12 @@
+// What reads the tokens of Core Erlang 1.0.3 one at a time: marks, words and names, and above them
+// constants and patterns.
+#![tactic(auto)]
+
+mod constants;
+mod names;
+mod parser;
+mod patterns;
+
+pub use core_grammar::Unserved;
+pub use names::variable_of;
+pub use parser::{Parser, atom_copy, is_foreign};

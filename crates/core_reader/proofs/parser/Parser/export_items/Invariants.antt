@@ -1,8 +1,0 @@
-use Rattle.std.proofs.Common.{◌≡◌, ◌-◌}
-use Rattle.core_reader.specs.Reading.{items_at, commas_at, function_name_at}
-use Rattle.core_reader.specs.Parsing.{state_of}
-use Rattle.core_reader.proofs.Loops.{with_front}
-use Rattle.core_reader.proofs.parser.Parser.export_items.Given as goal
-
-abbrev pub invariant-items : goal.invariant-items
-invariant-items l = with_front l.items.items (commas_at (function_name_at l.levels) (l.count - l._taken) (state_of l.self)) ≡ items_at (function_name_at l.fn.levels) (state_of l.fn.self)
