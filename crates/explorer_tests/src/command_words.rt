@@ -11,18 +11,20 @@ fn reads_the_words_of_a_replay(rt: HostRuntime) -> Result<(), Fail> {
     Ok(())
 }
 
+// Words of no command.
+const REFUSED: [&[&str]; 7] = [
+    &[NAME],
+    &[NAME, "replay"],
+    &[NAME, "replay", "P", "P"],
+    &[NAME, "explore", "--depth", "3"],
+    &[NAME, "help"],
+    &[NAME, "--help"],
+    &[NAME, "replay", "--help"],
+];
+
 #[test]
 fn refuses_other_words(rt: HostRuntime) {
-    let refused = [
-        [NAME].as_slice(),
-        [NAME, "replay"].as_slice(),
-        [NAME, "replay", "P", "P"].as_slice(),
-        [NAME, "explore", "--depth", "3"].as_slice(),
-        [NAME, "help"].as_slice(),
-        [NAME, "--help"].as_slice(),
-        [NAME, "replay", "--help"].as_slice(),
-    ];
-    for words in refused {
+    for words in REFUSED {
         assert!(rt; read_words(rt.alloc(), words).is_err(), "{words:?}");
     }
 }

@@ -13,228 +13,197 @@ fn reads(rt: &impl Abort, alloc: Global, table: &[&[u8]]) {
     }
 }
 
-#[test]
-fn reads_every_form(rt: HostRuntime) {
-    let table: [&[u8]; 8] = [
-        b"module 'm' [( 'main'/0 -| [] )] attributes ['a' = ( {1,( 'x' -| [] )} -| [2] )] ( ( 'main'/0 -| [] ) = ( fun () -> 'ok' -| [] ) -| [] ) end",
-        b"module 'm' ['main'/0] attributes [] 'main'/0 = fun () -> {5,-3,+3,-0} end",
-        b"( module 'm' ['main'/0] attributes [] 'main'/0 = fun () -> 'ok' end -| ['x'] )",
-        b"module 'm' ['main'/0] attributes [] 'main'/0 = fun () -> let <A1_@b,_X,_0,Zz> = <1,2,3,4> in {A1_@b,_X,_0,Zz} end",
-        b"module 'm' ['main'/0] attributes [] 'main'/0 = fun () -> letX = 1 in X end",
-        b"module 'm' ['main'/0] attributes [] 'main'/0 = fun () -> case {1,2} of <{X,Y}> when call 'erlang':'>'(X,Y) -> 'a' end end",
-        b"module 'm' ['main'/0] attributes [] 'main'/0 = fun () -> apply 'f'/1(10000) 'f'/1 = fun (N) -> case N of <0> when 'true' -> 'ok' <M> when 'true' -> apply 'f'/1(call 'erlang':'-'(M,1)) end end",
-        b"module 'm' ['main'/0] attributes [] 'main'/0 = fun () -> try call 'erlang':'throw'('t') of <X> -> X catch <K,R,S> -> primop 'raise'(S,R) end",
-    ];
-    reads(&rt, rt.alloc(), &table);
-}
+// Modules with every form.
+const FORMS: [&[u8]; 15] = [
+    b"module 'm' [( 'main'/0 -| [] )] attributes ['a' = ( {1,( 'x' -| [] )} -| [2] )] ( ( 'main'/0 -| [] ) = ( fun () -> 'ok' -| [] ) -| [] ) end",
+    b"module 'm' ['main'/0] attributes [] 'main'/0 = fun () -> {5,-3,+3,-0} end",
+    b"( module 'm' ['main'/0] attributes [] 'main'/0 = fun () -> 'ok' end -| ['x'] )",
+    b"module 'm' ['main'/0] attributes [] 'main'/0 = fun () -> let <A1_@b,_X,_0,Zz> = <1,2,3,4> in {A1_@b,_X,_0,Zz} end",
+    b"module 'm' ['main'/0] attributes [] 'main'/0 = fun () -> letX = 1 in X end",
+    b"module 'm' ['main'/0] attributes [] 'main'/0 = fun () -> case {1,2} of <{X,Y}> when call 'erlang':'>'(X,Y) -> 'a' end end",
+    b"module 'm' ['main'/0] attributes [] 'main'/0 = fun () -> apply 'f'/1(10000) 'f'/1 = fun (N) -> case N of <0> when 'true' -> 'ok' <M> when 'true' -> apply 'f'/1(call 'erlang':'-'(M,1)) end end",
+    b"module 'm' ['main'/0] attributes [] 'main'/0 = fun () -> try call 'erlang':'throw'('t') of <X> -> X catch <K,R,S> -> primop 'raise'(S,R) end",
+    b"module 'm' ['main'/0] attributes [] 'main'/0 = fun () -> call 'erlang':'exit'(catch call 'erlang':'hd'([])) end",
+    b"module 'm' ['main'/0] attributes [] 'main'/0 = fun () -> let <X,Y> = 'a' in X end",
+    b"module 'm' ['main'/0] attributes [] 'main'/0 = fun () -> {call 'erlang':'error'('a'),call 'erlang':'error'('b')} end",
+    b"module 'm' ['main'/0] attributes [] 'main'/0 = fun () -> apply 'f'/1(9999) 'f'/1 = fun (N) -> case N of <0> when 'true' -> 'ok' <M> when 'true' -> apply 'f'/1(call 'erlang':'-'(M,1)) end end",
+    b"module 'm' ['main'/0,'module_info'/0]\n    attributes ['file' = [{\"m.erl\",1}]]\n'main'/0 = ( fun () ->\n  case ( 3 -| [5] ) of\n    <X> when try let <A> = call 'erlang':'hd'(X)\n                 in call 'erlang':'=:='(A,1)\n             of <V> -> V catch <T,R> -> 'false' -> 'one'\n    ( <Y> when 'true' -> 'other' -| ['compiler_generated'] )\n  end -| [{'function',{'main',0}}] )\n'module_info'/0 = fun () -> call 'erlang':'get_module_info'('m')\nend\n",
+    b"module 'm' ['main'/0] attributes [] 'main'/0 = fun () -> call 'erlang':'+'(9223372036854775807,1) end",
+    b"module 'm' ['main'/0] attributes [] 'main'/0 = fun () -> apply 'main'/0() end",
+];
 
 #[test]
-fn reads_every_form_2(rt: HostRuntime) {
-    let table: [&[u8]; 7] = [
-        b"module 'm' ['main'/0] attributes [] 'main'/0 = fun () -> call 'erlang':'exit'(catch call 'erlang':'hd'([])) end",
-        b"module 'm' ['main'/0] attributes [] 'main'/0 = fun () -> let <X,Y> = 'a' in X end",
-        b"module 'm' ['main'/0] attributes [] 'main'/0 = fun () -> {call 'erlang':'error'('a'),call 'erlang':'error'('b')} end",
-        b"module 'm' ['main'/0] attributes [] 'main'/0 = fun () -> apply 'f'/1(9999) 'f'/1 = fun (N) -> case N of <0> when 'true' -> 'ok' <M> when 'true' -> apply 'f'/1(call 'erlang':'-'(M,1)) end end",
-        b"module 'm' ['main'/0,'module_info'/0]\n    attributes ['file' = [{\"m.erl\",1}]]\n'main'/0 = ( fun () ->\n  case ( 3 -| [5] ) of\n    <X> when try let <A> = call 'erlang':'hd'(X)\n                 in call 'erlang':'=:='(A,1)\n             of <V> -> V catch <T,R> -> 'false' -> 'one'\n    ( <Y> when 'true' -> 'other' -| ['compiler_generated'] )\n  end -| [{'function',{'main',0}}] )\n'module_info'/0 = fun () -> call 'erlang':'get_module_info'('m')\nend\n",
-        b"module 'm' ['main'/0] attributes [] 'main'/0 = fun () -> call 'erlang':'+'(9223372036854775807,1) end",
-        b"module 'm' ['main'/0] attributes [] 'main'/0 = fun () -> apply 'main'/0() end",
-    ];
-    reads(&rt, rt.alloc(), &table);
+fn reads_every_form(rt: HostRuntime) {
+    reads(&rt, rt.alloc(), FORMS.as_slice());
 }
+
+// Faults of forms.
+const FAULTS_OF_FORMS: [(&[u8], ReadFault); 40] = [
+    (
+        b"module 'm' ['main'/0] attributes [] 'main'/0 = fun () -> case 1 of <X = X> when 'true' -> 1 end end",
+        ReadFault::DuplicateVariable(72),
+    ),
+    (
+        b"module 'm' ['main'/0] attributes [] 'main'/0 = fun () -> apply ( X -| [] )(1) end",
+        ReadFault::HigherOrder(65),
+    ),
+    (
+        b"module 'm' ['main'/0] attributes [] 'main'/0 = fun () -> apply 'main'/2(1) end",
+        ReadFault::Expected(73),
+    ),
+    (
+        b"module 'm' ['main'/0] attributes [] 'main'/0 = fun () -> apply 'main'/0(1) end",
+        ReadFault::Expected(72),
+    ),
+    (
+        b"module 'm' ['main'/0] attributes [] 'main'/0 = fun () -> apply 'main'() end",
+        ReadFault::HigherOrder(63),
+    ),
+    (
+        b"module 'm' ['main'/0] attributes [] 'main'/0 = fun () -> apply 'f' 'g' end",
+        ReadFault::Expected(67),
+    ),
+    (
+        b"module 'm' ['main'/0] attributes [] 'main'/0 = fun () -> apply 'g'/1(1) end",
+        ReadFault::NoFunction(63),
+    ),
+    (
+        b"module 'm' ['main'/0] attributes [] 'main'/0 = fun () -> let X = 1 in apply X() end",
+        ReadFault::HigherOrder(76),
+    ),
+    (
+        b"module 'm' ['main'/0] attributes [] 'main'/0 = fun () -> call ( X -| [] ):'y'() end",
+        ReadFault::UnsupportedCall(57),
+    ),
+    (
+        b"module 'm' ['main'/0] attributes [] 'main'/0 = fun () -> call 'a':'b'(call 'c':'d'()) end",
+        ReadFault::UnsupportedCall(57),
+    ),
+    (
+        b"module 'm' ['main'/0] attributes [] 'main'/0 = fun () -> call 'other':'g'() end",
+        ReadFault::UnsupportedCall(57),
+    ),
+    (
+        b"module 'm' ['main'/0] attributes [] 'main'/0 = fun () -> call 'm':'g'() 'g'/0 = fun () -> 'x' end",
+        ReadFault::UnsupportedCall(57),
+    ),
+    (
+        b"module 'm' ['main'/0] attributes [] 'main'/0 = fun () -> call 'a':'b'(fun () -> 1) end",
+        ReadFault::HigherOrder(70),
+    ),
+    (
+        b"module 'm' ['main'/0] attributes [] 'main'/0 = fun () -> case 1 of end end",
+        ReadFault::Expected(67),
+    ),
+    (
+        b"module 'm' ['main'/0] attributes [] 'main'/0 = fun () -> try 1 of <A> -> A catch K -> K end",
+        ReadFault::Expected(81),
+    ),
+    (
+        b"module 'm' ['main'/0] attributes [] 'main'/0 = fun () -> try 1 of <A> -> A catch <K,R,S,T> -> K end",
+        ReadFault::Expected(87),
+    ),
+    (
+        b"module 'm' ['main'/0] attributes [] 'main'/0 = fun () -> try 1 of <A> -> A catch <K> -> K end",
+        ReadFault::Expected(83),
+    ),
+    (
+        b"module 'm' ['main'/0] attributes [] 'main'/0 = fun () -> try 1 of <A> -> A catch <K,K> -> K end",
+        ReadFault::DuplicateVariable(84),
+    ),
+    (
+        b"module 'm' ['main'/0] attributes [] 'main'/0 = fun () -> $\\q end",
+        ReadFault::BadToken(57),
+    ),
+    (
+        b"module 'm' ['main'/0] attributes [] 'main'/0 = fun () -> case 1 of <X> -> 1 end end",
+        ReadFault::Expected(71),
+    ),
+    (
+        b"module 'm' ['main'/0] attributes [] 'main'/0 = fun () -> 1. end",
+        ReadFault::BadToken(58),
+    ),
+    (
+        b"module 'm' ['main'/0] attributes [] 'main'/0 = fun () -> case 1 of <X> when apply 'main'/0() -> 1 end end",
+        ReadFault::EffectInGuard(76),
+    ),
+    (
+        b"module 'm' ['main'/0] attributes [] 'main'/0 = fun () -> case 1 of <X> when call 'm':'main'() -> 1 end end",
+        ReadFault::EffectInGuard(76),
+    ),
+    (
+        b"module 'm' ['main'/0] attributes [] 'main'/0 = fun () -> case 1 of <X> when primop 'match_fail'(1) -> 1 end end",
+        ReadFault::EffectInGuard(76),
+    ),
+    (
+        b"module 'm' ['main'/0] attributes [] 'main'/0 = fun () -> case 1 of <X> when call 'ets':'lookup'('t',1) -> 1 end end",
+        ReadFault::EffectInGuard(76),
+    ),
+    (
+        b"module 'm' ['main'/0] attributes [] 'main'/0 = fun () -> let X = 1 end",
+        ReadFault::Expected(67),
+    ),
+    (
+        b"module 'm' ['main'/0] attributes [] 'main'/0 = fun () -> let <_> = 1 in 1 end",
+        ReadFault::BadToken(62),
+    ),
+    (
+        b"module 'm' ['z'/9] attributes [] 'main'/0 = fun () -> {X,apply 'q'/0()} 'main'/0 = fun () -> 'ok' end",
+        ReadFault::NoFunction(12),
+    ),
+    (
+        b"module 'm' ['main'/0] attributes [] 'main'/0 = fun () -> {5 -3} end",
+        ReadFault::Expected(60),
+    ),
+    (
+        b"module 'm' ['main'/0] attributes [] 'main'/0 = fun () -> 12x end",
+        ReadFault::BadToken(59),
+    ),
+    (
+        b"module 'm' ['main'/0] attributes [] 'main'/0 = fun () -> case 1 of <{X,X}> when 'true' -> 1 end end",
+        ReadFault::DuplicateVariable(71),
+    ),
+    (
+        b"module 'm' ['main'/0] attributes [] 'main'/0 = fun () -> case <1,2> of <X,X> when 'true' -> 1 end end",
+        ReadFault::DuplicateVariable(74),
+    ),
+    (
+        b"module 'm' ['main'/0] attributes [] 'main'/0 = fun () -> primop 'raise'(1) end",
+        ReadFault::UnsupportedForm(57),
+    ),
+    (
+        b"module 'm' ['main'/0] attributes [] 'main'/0 = fun () -> primop 'x'(primop 'y'()) end",
+        ReadFault::UnsupportedForm(57),
+    ),
+    (
+        b"module 'm' ['main'/0] attributes [] 'main'/0 = fun () -> primop 'other'(1) end",
+        ReadFault::UnsupportedForm(57),
+    ),
+    (
+        b"module 'm' ['main'/0] attributes [] 'main'/0 = fun () -> {apply 'q'/0(),X} end",
+        ReadFault::NoFunction(64),
+    ),
+    (
+        b"module 'm' ['main'/0] attributes [] 'main'/0 = fun () -> \"abc end",
+        ReadFault::BadToken(57),
+    ),
+    (
+        b"module 'm' ['main'/0] attributes [] 'main'/0 = fun () -> case 1 of <X> when Y -> 1 end end",
+        ReadFault::Unbound(76),
+    ),
+    (
+        b"module 'm' ['main'/0] attributes [] 'main'/0 = fun () -> X end",
+        ReadFault::Unbound(57),
+    ),
+    (
+        b"module 'm' ['main'/0] attributes [] 'main'/0 = fun () -> let <X,X> = <1,2> in X end",
+        ReadFault::DuplicateVariable(64),
+    ),
+];
 
 #[test]
 fn names_faults_of_forms(rt: HostRuntime) {
-    let table: [(&[u8], ReadFault); 8] = [
-        (
-            b"module 'm' ['main'/0] attributes [] 'main'/0 = fun () -> case 1 of <X = X> when 'true' -> 1 end end",
-            ReadFault::DuplicateVariable(72),
-        ),
-        (
-            b"module 'm' ['main'/0] attributes [] 'main'/0 = fun () -> apply ( X -| [] )(1) end",
-            ReadFault::HigherOrder(65),
-        ),
-        (
-            b"module 'm' ['main'/0] attributes [] 'main'/0 = fun () -> apply 'main'/2(1) end",
-            ReadFault::Expected(73),
-        ),
-        (
-            b"module 'm' ['main'/0] attributes [] 'main'/0 = fun () -> apply 'main'/0(1) end",
-            ReadFault::Expected(72),
-        ),
-        (
-            b"module 'm' ['main'/0] attributes [] 'main'/0 = fun () -> apply 'main'() end",
-            ReadFault::HigherOrder(63),
-        ),
-        (
-            b"module 'm' ['main'/0] attributes [] 'main'/0 = fun () -> apply 'f' 'g' end",
-            ReadFault::Expected(67),
-        ),
-        (
-            b"module 'm' ['main'/0] attributes [] 'main'/0 = fun () -> apply 'g'/1(1) end",
-            ReadFault::NoFunction(63),
-        ),
-        (
-            b"module 'm' ['main'/0] attributes [] 'main'/0 = fun () -> let X = 1 in apply X() end",
-            ReadFault::HigherOrder(76),
-        ),
-    ];
-    answers(&rt, rt.alloc(), &table);
-}
-
-#[test]
-fn names_faults_of_forms_2(rt: HostRuntime) {
-    let table: [(&[u8], ReadFault); 8] = [
-        (
-            b"module 'm' ['main'/0] attributes [] 'main'/0 = fun () -> call ( X -| [] ):'y'() end",
-            ReadFault::UnsupportedCall(57),
-        ),
-        (
-            b"module 'm' ['main'/0] attributes [] 'main'/0 = fun () -> call 'a':'b'(call 'c':'d'()) end",
-            ReadFault::UnsupportedCall(57),
-        ),
-        (
-            b"module 'm' ['main'/0] attributes [] 'main'/0 = fun () -> call 'other':'g'() end",
-            ReadFault::UnsupportedCall(57),
-        ),
-        (
-            b"module 'm' ['main'/0] attributes [] 'main'/0 = fun () -> call 'm':'g'() 'g'/0 = fun () -> 'x' end",
-            ReadFault::UnsupportedCall(57),
-        ),
-        (
-            b"module 'm' ['main'/0] attributes [] 'main'/0 = fun () -> call 'a':'b'(fun () -> 1) end",
-            ReadFault::HigherOrder(70),
-        ),
-        (
-            b"module 'm' ['main'/0] attributes [] 'main'/0 = fun () -> case 1 of end end",
-            ReadFault::Expected(67),
-        ),
-        (
-            b"module 'm' ['main'/0] attributes [] 'main'/0 = fun () -> try 1 of <A> -> A catch K -> K end",
-            ReadFault::Expected(81),
-        ),
-        (
-            b"module 'm' ['main'/0] attributes [] 'main'/0 = fun () -> try 1 of <A> -> A catch <K,R,S,T> -> K end",
-            ReadFault::Expected(87),
-        ),
-    ];
-    answers(&rt, rt.alloc(), &table);
-}
-
-#[test]
-fn names_faults_of_forms_3(rt: HostRuntime) {
-    let table: [(&[u8], ReadFault); 8] = [
-        (
-            b"module 'm' ['main'/0] attributes [] 'main'/0 = fun () -> try 1 of <A> -> A catch <K> -> K end",
-            ReadFault::Expected(83),
-        ),
-        (
-            b"module 'm' ['main'/0] attributes [] 'main'/0 = fun () -> try 1 of <A> -> A catch <K,K> -> K end",
-            ReadFault::DuplicateVariable(84),
-        ),
-        (
-            b"module 'm' ['main'/0] attributes [] 'main'/0 = fun () -> $\\q end",
-            ReadFault::BadToken(57),
-        ),
-        (
-            b"module 'm' ['main'/0] attributes [] 'main'/0 = fun () -> case 1 of <X> -> 1 end end",
-            ReadFault::Expected(71),
-        ),
-        (
-            b"module 'm' ['main'/0] attributes [] 'main'/0 = fun () -> 1. end",
-            ReadFault::BadToken(58),
-        ),
-        (
-            b"module 'm' ['main'/0] attributes [] 'main'/0 = fun () -> case 1 of <X> when apply 'main'/0() -> 1 end end",
-            ReadFault::EffectInGuard(76),
-        ),
-        (
-            b"module 'm' ['main'/0] attributes [] 'main'/0 = fun () -> case 1 of <X> when call 'm':'main'() -> 1 end end",
-            ReadFault::EffectInGuard(76),
-        ),
-        (
-            b"module 'm' ['main'/0] attributes [] 'main'/0 = fun () -> case 1 of <X> when primop 'match_fail'(1) -> 1 end end",
-            ReadFault::EffectInGuard(76),
-        ),
-    ];
-    answers(&rt, rt.alloc(), &table);
-}
-
-#[test]
-fn names_faults_of_forms_4(rt: HostRuntime) {
-    let table: [(&[u8], ReadFault); 8] = [
-        (
-            b"module 'm' ['main'/0] attributes [] 'main'/0 = fun () -> case 1 of <X> when call 'ets':'lookup'('t',1) -> 1 end end",
-            ReadFault::EffectInGuard(76),
-        ),
-        (
-            b"module 'm' ['main'/0] attributes [] 'main'/0 = fun () -> let X = 1 end",
-            ReadFault::Expected(67),
-        ),
-        (
-            b"module 'm' ['main'/0] attributes [] 'main'/0 = fun () -> let <_> = 1 in 1 end",
-            ReadFault::BadToken(62),
-        ),
-        (
-            b"module 'm' ['z'/9] attributes [] 'main'/0 = fun () -> {X,apply 'q'/0()} 'main'/0 = fun () -> 'ok' end",
-            ReadFault::NoFunction(12),
-        ),
-        (
-            b"module 'm' ['main'/0] attributes [] 'main'/0 = fun () -> {5 -3} end",
-            ReadFault::Expected(60),
-        ),
-        (
-            b"module 'm' ['main'/0] attributes [] 'main'/0 = fun () -> 12x end",
-            ReadFault::BadToken(59),
-        ),
-        (
-            b"module 'm' ['main'/0] attributes [] 'main'/0 = fun () -> case 1 of <{X,X}> when 'true' -> 1 end end",
-            ReadFault::DuplicateVariable(71),
-        ),
-        (
-            b"module 'm' ['main'/0] attributes [] 'main'/0 = fun () -> case <1,2> of <X,X> when 'true' -> 1 end end",
-            ReadFault::DuplicateVariable(74),
-        ),
-    ];
-    answers(&rt, rt.alloc(), &table);
-}
-
-#[test]
-fn names_faults_of_forms_5(rt: HostRuntime) {
-    let table: [(&[u8], ReadFault); 8] = [
-        (
-            b"module 'm' ['main'/0] attributes [] 'main'/0 = fun () -> primop 'raise'(1) end",
-            ReadFault::UnsupportedForm(57),
-        ),
-        (
-            b"module 'm' ['main'/0] attributes [] 'main'/0 = fun () -> primop 'x'(primop 'y'()) end",
-            ReadFault::UnsupportedForm(57),
-        ),
-        (
-            b"module 'm' ['main'/0] attributes [] 'main'/0 = fun () -> primop 'other'(1) end",
-            ReadFault::UnsupportedForm(57),
-        ),
-        (
-            b"module 'm' ['main'/0] attributes [] 'main'/0 = fun () -> {apply 'q'/0(),X} end",
-            ReadFault::NoFunction(64),
-        ),
-        (
-            b"module 'm' ['main'/0] attributes [] 'main'/0 = fun () -> \"abc end",
-            ReadFault::BadToken(57),
-        ),
-        (
-            b"module 'm' ['main'/0] attributes [] 'main'/0 = fun () -> case 1 of <X> when Y -> 1 end end",
-            ReadFault::Unbound(76),
-        ),
-        (
-            b"module 'm' ['main'/0] attributes [] 'main'/0 = fun () -> X end",
-            ReadFault::Unbound(57),
-        ),
-        (
-            b"module 'm' ['main'/0] attributes [] 'main'/0 = fun () -> let <X,X> = <1,2> in X end",
-            ReadFault::DuplicateVariable(64),
-        ),
-    ];
-    answers(&rt, rt.alloc(), &table);
+    answers(&rt, rt.alloc(), FAULTS_OF_FORMS.as_slice());
 }
 
 // What a compiler writes of a small module, as Core Erlang 1.0.3.

@@ -12,236 +12,225 @@ pub(super) fn answers(rt: &impl Abort, alloc: Global, table: &[(&[u8], ReadFault
     }
 }
 
+// Texts of modules.
+const MODULES: [&[u8]; 7] = [
+    b"module 'm' ['main'/0] attributes ['a' = 1, 'b' = {'x',[1,2|'y']}, 'c' = []] 'main'/0 = fun () -> 'ok' end",
+    b" \t\r\n module'm'['main'/0]attributes[]'main'/0=fun()->'ok'end\n",
+    b"% a\nmodule % b\n 'm' ['main'/0] attributes [] 'main'/0 = fun () -> 'ok' end % c",
+    b"module 'm' ['main'/0] attributes [] 'main'/0 = fun () -> '' end",
+    b"module 'm' ['main'/0] attributes [] 'main'/0 = fun () -> 9223372036854775807 end",
+    b"module 'm' ['main'/0] attributes [] 'main'/0 = fun () -> -9223372036854775808 end",
+    b"module 'm' [] attributes [] 'main'/0 = fun () -> 'ok' end",
+];
+
 #[test]
 fn accepts_texts_of_modules(rt: HostRuntime) {
-    let table: [&[u8]; 7] = [
-        b"module 'm' ['main'/0] attributes ['a' = 1, 'b' = {'x',[1,2|'y']}, 'c' = []] 'main'/0 = fun () -> 'ok' end",
-        b" \t\r\n module'm'['main'/0]attributes[]'main'/0=fun()->'ok'end\n",
-        b"% a\nmodule % b\n 'm' ['main'/0] attributes [] 'main'/0 = fun () -> 'ok' end % c",
-        b"module 'm' ['main'/0] attributes [] 'main'/0 = fun () -> '' end",
-        b"module 'm' ['main'/0] attributes [] 'main'/0 = fun () -> 9223372036854775807 end",
-        b"module 'm' ['main'/0] attributes [] 'main'/0 = fun () -> -9223372036854775808 end",
-        b"module 'm' [] attributes [] 'main'/0 = fun () -> 'ok' end",
-    ];
-    for text in table {
+    for text in MODULES {
         let answer = read_module(rt.alloc(), text).err();
         assert_eq!(rt; answer, None);
     }
 }
 
-#[test]
-fn names_bad_tokens(rt: HostRuntime) {
-    let table: [(&[u8], ReadFault); 8] = [
-        (b"module 'm", ReadFault::BadToken(7)),
-        (b"module 'm' ['a'/256]", ReadFault::BadInteger(16)),
-        (b"module 'm' ['a'/-1]", ReadFault::BadInteger(16)),
-        (
-            b"module 'm' ['main'/0] attributes [] 'main'/0 = fun () -> '\\q' end",
-            ReadFault::BadToken(57),
-        ),
-        (
-            b"module 'm' ['main'/0] attributes [] 'main'/0 = fun () -> @ end",
-            ReadFault::BadToken(57),
-        ),
-        (
-            b"module 'm' ['main'/0] attributes [] 'main'/0 = fun () -> -9223372036854775809 end",
-            ReadFault::BadInteger(57),
-        ),
-        (
-            b"module 'm' ['main'/0] attributes [] 'main'/0 = fun () -> 9223372036854775808 end",
-            ReadFault::BadInteger(57),
-        ),
-        (
-            b"module 'm' ['main'/0] attributes [] 'main'/0 = fun () -> 'o\nk' end",
-            ReadFault::BadToken(57),
-        ),
-    ];
-    answers(&rt, rt.alloc(), &table);
-}
+// Faults of tokens and of the encoding.
+const BAD_TOKENS: [(&[u8], ReadFault); 13] = [
+    (b"module 'm", ReadFault::BadToken(7)),
+    (b"module 'm' ['a'/256]", ReadFault::BadInteger(16)),
+    (b"module 'm' ['a'/-1]", ReadFault::BadInteger(16)),
+    (
+        b"module 'm' ['main'/0] attributes [] 'main'/0 = fun () -> '\\q' end",
+        ReadFault::BadToken(57),
+    ),
+    (
+        b"module 'm' ['main'/0] attributes [] 'main'/0 = fun () -> @ end",
+        ReadFault::BadToken(57),
+    ),
+    (
+        b"module 'm' ['main'/0] attributes [] 'main'/0 = fun () -> -9223372036854775809 end",
+        ReadFault::BadInteger(57),
+    ),
+    (
+        b"module 'm' ['main'/0] attributes [] 'main'/0 = fun () -> 9223372036854775808 end",
+        ReadFault::BadInteger(57),
+    ),
+    (
+        b"module 'm' ['main'/0] attributes [] 'main'/0 = fun () -> 'o\nk' end",
+        ReadFault::BadToken(57),
+    ),
+    (
+        b"module 'm' ['main'/0] attributes [] 'main'/0 = fun () -> endx end",
+        ReadFault::BadToken(57),
+    ),
+    (
+        b"module 'm' ['main'/0] attributes [] 'main'/0 = fun () -> foo end",
+        ReadFault::BadToken(57),
+    ),
+    (b"module \xff", ReadFault::NotUtf8(7)),
+    (
+        b"module 'm' ['main'/0] attributes [] 'main'/0 = fun () -> { end @",
+        ReadFault::BadToken(63),
+    ),
+    (
+        b"module 'm' ['main'/0] attributes [] 'main'/0 = fun () -> 'ok end",
+        ReadFault::BadToken(57),
+    ),
+];
 
 #[test]
-fn names_bad_tokens_2(rt: HostRuntime) {
-    let table: [(&[u8], ReadFault); 5] = [
-        (
-            b"module 'm' ['main'/0] attributes [] 'main'/0 = fun () -> endx end",
-            ReadFault::BadToken(57),
-        ),
-        (
-            b"module 'm' ['main'/0] attributes [] 'main'/0 = fun () -> foo end",
-            ReadFault::BadToken(57),
-        ),
-        (b"module \xff", ReadFault::NotUtf8(7)),
-        (
-            b"module 'm' ['main'/0] attributes [] 'main'/0 = fun () -> { end @",
-            ReadFault::BadToken(63),
-        ),
-        (
-            b"module 'm' ['main'/0] attributes [] 'main'/0 = fun () -> 'ok end",
-            ReadFault::BadToken(57),
-        ),
-    ];
-    answers(&rt, rt.alloc(), &table);
+fn names_bad_tokens(rt: HostRuntime) {
+    answers(&rt, rt.alloc(), BAD_TOKENS.as_slice());
 }
+
+// Tokens with which the grammar cannot go on.
+const UNEXPECTED_TOKENS: [(&[u8], ReadFault); 8] = [
+    (
+        b"module 'm' ['main'/0] attributes [] 'main'/0 = fun () -> 'ok'",
+        ReadFault::Expected(61),
+    ),
+    (b"", ReadFault::Expected(0)),
+    (
+        b"module 'm' ['main'/0] attributes [] 'main'/0 = fun () -> [|1] end",
+        ReadFault::Expected(58),
+    ),
+    (
+        b"module 'm' ['main'/0] attributes [] 'main'/0 = fun (X) -> X end",
+        ReadFault::Expected(52),
+    ),
+    (
+        b"module 'm' ['main'/0] attributes [] 'main'/0 = fun () -> {1 2} end",
+        ReadFault::Expected(60),
+    ),
+    (
+        b"module 'm' ['main'/0] attributes [] 'main'/0 = fun () -> let <X> = 1 X end",
+        ReadFault::Expected(69),
+    ),
+    (
+        b"module 'm' ['main'/0] attributes [] 'main'/0 = fun () -> 'ok' end 'x'",
+        ReadFault::Expected(66),
+    ),
+    (
+        b"module 'm' ['main'/0] attributes [] 'main'/0 = fun () -> [1,] end",
+        ReadFault::Expected(60),
+    ),
+];
 
 #[test]
 fn names_unexpected_tokens(rt: HostRuntime) {
-    let table: [(&[u8], ReadFault); 8] = [
-        (
-            b"module 'm' ['main'/0] attributes [] 'main'/0 = fun () -> 'ok'",
-            ReadFault::Expected(61),
-        ),
-        (b"", ReadFault::Expected(0)),
-        (
-            b"module 'm' ['main'/0] attributes [] 'main'/0 = fun () -> [|1] end",
-            ReadFault::Expected(58),
-        ),
-        (
-            b"module 'm' ['main'/0] attributes [] 'main'/0 = fun (X) -> X end",
-            ReadFault::Expected(52),
-        ),
-        (
-            b"module 'm' ['main'/0] attributes [] 'main'/0 = fun () -> {1 2} end",
-            ReadFault::Expected(60),
-        ),
-        (
-            b"module 'm' ['main'/0] attributes [] 'main'/0 = fun () -> let <X> = 1 X end",
-            ReadFault::Expected(69),
-        ),
-        (
-            b"module 'm' ['main'/0] attributes [] 'main'/0 = fun () -> 'ok' end 'x'",
-            ReadFault::Expected(66),
-        ),
-        (
-            b"module 'm' ['main'/0] attributes [] 'main'/0 = fun () -> [1,] end",
-            ReadFault::Expected(60),
-        ),
-    ];
-    answers(&rt, rt.alloc(), &table);
+    answers(&rt, rt.alloc(), UNEXPECTED_TOKENS.as_slice());
 }
+
+// Forms and calls that are not read.
+const FORMS_NOT_READ: [(&[u8], ReadFault); 11] = [
+    (
+        b"module 'm' ['main'/0] attributes [] 'main'/0 = fun () -> fun (X) -> X end",
+        ReadFault::HigherOrder(57),
+    ),
+    (
+        b"module 'm' ['main'/0] attributes [] 'main'/0 = fun () -> let <X> = 'ets' in call X:'lookup'(1,2) end",
+        ReadFault::UnsupportedCall(76),
+    ),
+    (
+        b"module 'm' ['main'/0] attributes [] 'main'/0 = fun () -> 1.0e5 end",
+        ReadFault::UnsupportedForm(57),
+    ),
+    (
+        b"module 'm' ['main'/0] attributes [] 'main'/0 = fun () -> 1.5 end",
+        ReadFault::UnsupportedForm(57),
+    ),
+    (
+        b"module 'm' ['main'/0] attributes [] 'main'/0 = fun () -> {1,fun () -> 'x'} end",
+        ReadFault::HigherOrder(60),
+    ),
+    (
+        b"module 'm' ['main'/0] attributes [] 'main'/0 = fun () -> 'main'/0 end",
+        ReadFault::HigherOrder(57),
+    ),
+    (
+        b"module 'm' ['main'/0] attributes [] 'main'/0 = fun () -> # end",
+        ReadFault::UnsupportedForm(57),
+    ),
+    (
+        b"module 'm' ['main'/0] attributes [] 'main'/0 = fun () -> letrec 'f'/0 = fun () -> 'x' in 'y' end",
+        ReadFault::HigherOrder(57),
+    ),
+    (
+        b"module 'm' ['main'/0] attributes [] 'main'/0 = fun () -> ~ end",
+        ReadFault::UnsupportedForm(57),
+    ),
+    (
+        b"module 'm' ['main'/0] attributes [] 'main'/0 = fun () -> call 'ets':'lookup'(1) end",
+        ReadFault::UnsupportedCall(57),
+    ),
+    (
+        b"module 'm' ['main'/0] attributes [] 'main'/0 = fun () -> call 'ets':'nothing'(1) end",
+        ReadFault::UnsupportedCall(57),
+    ),
+];
 
 #[test]
 fn names_forms_that_are_not_read(rt: HostRuntime) {
-    let table: [(&[u8], ReadFault); 8] = [
-        (
-            b"module 'm' ['main'/0] attributes [] 'main'/0 = fun () -> fun (X) -> X end",
-            ReadFault::HigherOrder(57),
-        ),
-        (
-            b"module 'm' ['main'/0] attributes [] 'main'/0 = fun () -> let <X> = 'ets' in call X:'lookup'(1,2) end",
-            ReadFault::UnsupportedCall(76),
-        ),
-        (
-            b"module 'm' ['main'/0] attributes [] 'main'/0 = fun () -> 1.0e5 end",
-            ReadFault::UnsupportedForm(57),
-        ),
-        (
-            b"module 'm' ['main'/0] attributes [] 'main'/0 = fun () -> 1.5 end",
-            ReadFault::UnsupportedForm(57),
-        ),
-        (
-            b"module 'm' ['main'/0] attributes [] 'main'/0 = fun () -> {1,fun () -> 'x'} end",
-            ReadFault::HigherOrder(60),
-        ),
-        (
-            b"module 'm' ['main'/0] attributes [] 'main'/0 = fun () -> 'main'/0 end",
-            ReadFault::HigherOrder(57),
-        ),
-        (
-            b"module 'm' ['main'/0] attributes [] 'main'/0 = fun () -> # end",
-            ReadFault::UnsupportedForm(57),
-        ),
-        (
-            b"module 'm' ['main'/0] attributes [] 'main'/0 = fun () -> letrec 'f'/0 = fun () -> 'x' in 'y' end",
-            ReadFault::HigherOrder(57),
-        ),
-    ];
-    answers(&rt, rt.alloc(), &table);
+    answers(&rt, rt.alloc(), FORMS_NOT_READ.as_slice());
 }
 
-#[test]
-fn names_forms_that_are_not_read_2(rt: HostRuntime) {
-    let table: [(&[u8], ReadFault); 3] = [
-        (
-            b"module 'm' ['main'/0] attributes [] 'main'/0 = fun () -> ~ end",
-            ReadFault::UnsupportedForm(57),
-        ),
-        (
-            b"module 'm' ['main'/0] attributes [] 'main'/0 = fun () -> call 'ets':'lookup'(1) end",
-            ReadFault::UnsupportedCall(57),
-        ),
-        (
-            b"module 'm' ['main'/0] attributes [] 'main'/0 = fun () -> call 'ets':'nothing'(1) end",
-            ReadFault::UnsupportedCall(57),
-        ),
-    ];
-    answers(&rt, rt.alloc(), &table);
-}
+// Faults of the scopes.
+const FAULTS_OF_SCOPES: [(&[u8], ReadFault); 14] = [
+    (b"module 'm' [] attributes [] end", ReadFault::NoMain(28)),
+    (
+        b"module 'm' ['main'/0] attributes [] 'main'/0 = fun () -> 'ok' 'main'/0 = fun () -> 'ok' end",
+        ReadFault::DuplicateFunction(62),
+    ),
+    (
+        b"module 'm' ['main'/0] attributes [] 'main'/0 = fun () -> 'ok' 'f'/2 = fun (X,X) -> X end",
+        ReadFault::DuplicateVariable(77),
+    ),
+    (
+        b"module 'm' ['main'/0,'g'/1] attributes [] 'main'/0 = fun () -> 'ok' end",
+        ReadFault::NoFunction(21),
+    ),
+    (
+        b"module 'm' ['main'/1] attributes [] 'main'/1 = fun (X) -> X end",
+        ReadFault::NoMain(60),
+    ),
+    (
+        b"module 'm' ['f'/0] attributes [] 'f'/0 = fun () -> 'ok' end",
+        ReadFault::NoMain(56),
+    ),
+    (
+        b"module 'm' ['main'/0] attributes [] 'main'/0 = fun () -> {A,B} end",
+        ReadFault::Unbound(58),
+    ),
+    (
+        b"module 'm' ['main'/0] attributes [] 'main'/0 = fun () -> do let <X> = 1 in X X end",
+        ReadFault::Unbound(77),
+    ),
+    (
+        b"module 'm' ['main'/0] attributes [] 'main'/0 = fun () -> X 'main'/0 = fun () -> 'ok' end",
+        ReadFault::Unbound(57),
+    ),
+    (
+        b"module 'm' ['main'/0] attributes [] 'main'/0 = fun () -> let <X> = X in X end",
+        ReadFault::Unbound(67),
+    ),
+    (
+        b"module 'm' ['main'/0] attributes [] 'main'/0 = fun () -> X end",
+        ReadFault::Unbound(57),
+    ),
+    (
+        b"module 'm' ['f'/1] attributes [] 'f'/1 = fun (X) -> case X of <1> when 'true' -> 'ok' end end",
+        ReadFault::NoMain(90),
+    ),
+    (
+        b"module 'm' [] attributes [] 'f'/0 = fun () -> case <> of <> when 'true' -> 'ok' end 'main'/1 = fun (X) -> X end % end",
+        ReadFault::NoMain(108),
+    ),
+    (
+        b"( ( module 'm' ['f'/1] attributes [] 'f'/1 = fun (X) -> case X of <Y> when 'true' -> case Y of <Z> when 'true' -> Z end end end -| ['end',{'end',\"end\"}] ) -| [( 'end' -| [] )] )",
+        ReadFault::NoMain(124),
+    ),
+];
 
 #[test]
 fn names_faults_of_scopes(rt: HostRuntime) {
-    let table: [(&[u8], ReadFault); 8] = [
-        (b"module 'm' [] attributes [] end", ReadFault::NoMain(28)),
-        (
-            b"module 'm' ['main'/0] attributes [] 'main'/0 = fun () -> 'ok' 'main'/0 = fun () -> 'ok' end",
-            ReadFault::DuplicateFunction(62),
-        ),
-        (
-            b"module 'm' ['main'/0] attributes [] 'main'/0 = fun () -> 'ok' 'f'/2 = fun (X,X) -> X end",
-            ReadFault::DuplicateVariable(77),
-        ),
-        (
-            b"module 'm' ['main'/0,'g'/1] attributes [] 'main'/0 = fun () -> 'ok' end",
-            ReadFault::NoFunction(21),
-        ),
-        (
-            b"module 'm' ['main'/1] attributes [] 'main'/1 = fun (X) -> X end",
-            ReadFault::NoMain(60),
-        ),
-        (
-            b"module 'm' ['f'/0] attributes [] 'f'/0 = fun () -> 'ok' end",
-            ReadFault::NoMain(56),
-        ),
-        (
-            b"module 'm' ['main'/0] attributes [] 'main'/0 = fun () -> {A,B} end",
-            ReadFault::Unbound(58),
-        ),
-        (
-            b"module 'm' ['main'/0] attributes [] 'main'/0 = fun () -> do let <X> = 1 in X X end",
-            ReadFault::Unbound(77),
-        ),
-    ];
-    answers(&rt, rt.alloc(), &table);
-}
-
-#[test]
-fn names_faults_of_scopes_2(rt: HostRuntime) {
-    let table: [(&[u8], ReadFault); 6] = [
-        (
-            b"module 'm' ['main'/0] attributes [] 'main'/0 = fun () -> X 'main'/0 = fun () -> 'ok' end",
-            ReadFault::Unbound(57),
-        ),
-        (
-            b"module 'm' ['main'/0] attributes [] 'main'/0 = fun () -> let <X> = X in X end",
-            ReadFault::Unbound(67),
-        ),
-        (
-            b"module 'm' ['main'/0] attributes [] 'main'/0 = fun () -> X end",
-            ReadFault::Unbound(57),
-        ),
-        (
-            b"module 'm' ['f'/1] attributes [] 'f'/1 = fun (X) -> case X of <1> when 'true' -> 'ok' end end",
-            ReadFault::NoMain(90),
-        ),
-        (
-            b"module 'm' [] attributes [] 'f'/0 = fun () -> case <> of <> when 'true' -> 'ok' end 'main'/1 = fun (X) -> X end % end",
-            ReadFault::NoMain(108),
-        ),
-        (
-            b"( ( module 'm' ['f'/1] attributes [] 'f'/1 = fun (X) -> case X of <Y> when 'true' -> case Y of <Z> when 'true' -> Z end end end -| ['end',{'end',\"end\"}] ) -| [( 'end' -| [] )] )",
-            ReadFault::NoMain(124),
-        ),
-    ];
-    answers(&rt, rt.alloc(), &table);
+    answers(&rt, rt.alloc(), FAULTS_OF_SCOPES.as_slice());
 }
 
 #[test]

@@ -97,69 +97,71 @@ fn reads_a_module(rt: HostRuntime) -> Result<(), Fail> {
     Ok(())
 }
 
+// Words of texts that are no modules, and the first fault.
+const FAULTS: [(&str, ReadFault); 16] = [
+    ("module 'm' [ ] attributes [ ] end", ReadFault::NoMain(30)),
+    (
+        "module 'm' [ ] attributes [ ] end 'x'",
+        ReadFault::Expected(34),
+    ),
+    ("module 'm' [ ] attributes [ ]", ReadFault::Expected(29)),
+    (
+        "module 'm' [ 'f' / 1 ] attributes [ ] 'main' / 0 = fun ( ) -> 1 end",
+        ReadFault::NoFunction(13),
+    ),
+    (
+        "module 'm' [ ] attributes [ ] 'main' / 0 = fun ( X ) -> X end",
+        ReadFault::Expected(49),
+    ),
+    (
+        "module 'm' [ ] attributes [ ] 'main' / 0 = fun ( ) -> X end",
+        ReadFault::Unbound(54),
+    ),
+    (
+        "module 'm' [ ] attributes [ ] 'f' / 2 = fun ( X , X ) -> X end",
+        ReadFault::DuplicateVariable(50),
+    ),
+    (
+        "module 'm' [ ] attributes [ ] 'f' / 0 = fun ( ) -> 1 'f' / 0 = fun ( ) -> 1 end",
+        ReadFault::DuplicateFunction(53),
+    ),
+    (
+        "module 'm' [ ] attributes [ ] 'f' / 0 = fun ( ) -> fun end",
+        ReadFault::HigherOrder(51),
+    ),
+    (
+        "module 'm' [ ] attributes [ ] 'f' / 0 = fun ( ) -> 'f' / 0 end",
+        ReadFault::HigherOrder(51),
+    ),
+    (
+        "module 'm' [ ] attributes [ ] 'f' / 0 = fun ( ) -> case end",
+        ReadFault::Expected(56),
+    ),
+    (
+        "module 'm' [ ] attributes [ ] 'f' / 0 = fun ( ) -> { 1 , # } end",
+        ReadFault::UnsupportedForm(57),
+    ),
+    (
+        "module 'm' [ ] attributes [ ] 'f' / 0 = fun ( ) -> call X : 'b' ( ) end",
+        ReadFault::UnsupportedCall(51),
+    ),
+    (
+        "module 'm' [ ] attributes [ ] 'f' / 0 = fun ( ) -> call 'a' : 'b' ( call 'c' : 'd' ( ) ) end",
+        ReadFault::UnsupportedCall(51),
+    ),
+    (
+        "module 'm' [ ] attributes [ ] 'f' / 0 = fun ( ) -> call 'a' : 'b' ( fun ) end",
+        ReadFault::HigherOrder(68),
+    ),
+    (
+        "module 'm' [ ] attributes [ ] 'f' / 0 = fun ( ) -> { call 'a' : 'b' ( ) 2 } end",
+        ReadFault::UnsupportedCall(53),
+    ),
+];
+
 #[test]
 fn finds_the_first_fault(rt: HostRuntime) -> Result<(), Fail> {
-    let cases = [
-        ("module 'm' [ ] attributes [ ] end", ReadFault::NoMain(30)),
-        (
-            "module 'm' [ ] attributes [ ] end 'x'",
-            ReadFault::Expected(34),
-        ),
-        ("module 'm' [ ] attributes [ ]", ReadFault::Expected(29)),
-        (
-            "module 'm' [ 'f' / 1 ] attributes [ ] 'main' / 0 = fun ( ) -> 1 end",
-            ReadFault::NoFunction(13),
-        ),
-        (
-            "module 'm' [ ] attributes [ ] 'main' / 0 = fun ( X ) -> X end",
-            ReadFault::Expected(49),
-        ),
-        (
-            "module 'm' [ ] attributes [ ] 'main' / 0 = fun ( ) -> X end",
-            ReadFault::Unbound(54),
-        ),
-        (
-            "module 'm' [ ] attributes [ ] 'f' / 2 = fun ( X , X ) -> X end",
-            ReadFault::DuplicateVariable(50),
-        ),
-        (
-            "module 'm' [ ] attributes [ ] 'f' / 0 = fun ( ) -> 1 'f' / 0 = fun ( ) -> 1 end",
-            ReadFault::DuplicateFunction(53),
-        ),
-        (
-            "module 'm' [ ] attributes [ ] 'f' / 0 = fun ( ) -> fun end",
-            ReadFault::HigherOrder(51),
-        ),
-        (
-            "module 'm' [ ] attributes [ ] 'f' / 0 = fun ( ) -> 'f' / 0 end",
-            ReadFault::HigherOrder(51),
-        ),
-        (
-            "module 'm' [ ] attributes [ ] 'f' / 0 = fun ( ) -> case end",
-            ReadFault::Expected(56),
-        ),
-        (
-            "module 'm' [ ] attributes [ ] 'f' / 0 = fun ( ) -> { 1 , # } end",
-            ReadFault::UnsupportedForm(57),
-        ),
-        (
-            "module 'm' [ ] attributes [ ] 'f' / 0 = fun ( ) -> call X : 'b' ( ) end",
-            ReadFault::UnsupportedCall(51),
-        ),
-        (
-            "module 'm' [ ] attributes [ ] 'f' / 0 = fun ( ) -> call 'a' : 'b' ( call 'c' : 'd' ( ) ) end",
-            ReadFault::UnsupportedCall(51),
-        ),
-        (
-            "module 'm' [ ] attributes [ ] 'f' / 0 = fun ( ) -> call 'a' : 'b' ( fun ) end",
-            ReadFault::HigherOrder(68),
-        ),
-        (
-            "module 'm' [ ] attributes [ ] 'f' / 0 = fun ( ) -> { call 'a' : 'b' ( ) 2 } end",
-            ReadFault::UnsupportedCall(53),
-        ),
-    ];
-    for (text, fault) in cases {
+    for (text, fault) in FAULTS {
         let all = tokens(rt.alloc(), text)?;
         let found = read_tokens(rt.alloc(), &all, text.len()).err();
         assert_eq!(rt; found, Some(fault), "{text}");

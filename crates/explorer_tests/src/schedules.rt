@@ -16,18 +16,20 @@ fn described(alloc: Global, steps: &[Step]) -> Result<String, Fail> {
     Ok(text)
 }
 
+// Texts of schedules, and their steps in other words.
+const SCHEDULES: [(&[u8], &str); 7] = [
+    (b"", ""),
+    (b"P", "turn [];"),
+    (b"P P.1", "turn [];turn [1];"),
+    (b"P.2.1", "turn [2, 1];"),
+    (b"P>P.1 P.1>P", "from [] to [1];from [1] to [];"),
+    (b"P.10>P.9.10", "from [10] to [9, 10];"),
+    (b"P.18446744073709551615", "turn [18446744073709551615];"),
+];
+
 #[test]
 fn reads_schedules(rt: HostRuntime) -> Result<(), Fail> {
-    let rows: [(&[u8], &str); 7] = [
-        (b"", ""),
-        (b"P", "turn [];"),
-        (b"P P.1", "turn [];turn [1];"),
-        (b"P.2.1", "turn [2, 1];"),
-        (b"P>P.1 P.1>P", "from [] to [1];from [1] to [];"),
-        (b"P.10>P.9.10", "from [10] to [9, 10];"),
-        (b"P.18446744073709551615", "turn [18446744073709551615];"),
-    ];
-    for (text, wanted) in rows {
+    for (text, wanted) in SCHEDULES {
         let steps = read_schedule(rt.alloc(), text)?;
         let words = described(rt.alloc(), &steps)?;
         assert_eq!(rt; words.as_str(), wanted);
@@ -35,27 +37,29 @@ fn reads_schedules(rt: HostRuntime) -> Result<(), Fail> {
     Ok(())
 }
 
+// Texts of no schedule, and the place of the first bad step.
+const BAD_STEPS: [(&[u8], usize); 16] = [
+    (b"P  P", 2),
+    (b"P.0", 0),
+    (b"P.18446744073709551616", 0),
+    (b"P ", 2),
+    (b" P", 0),
+    (b" ", 0),
+    (b"P>P.1 x", 6),
+    (b"P x y", 2),
+    (b"P.01", 0),
+    (b"P.", 0),
+    (b"P.1.", 0),
+    (b"P.+1", 0),
+    (b"P>", 0),
+    (b">P", 0),
+    (b"P>P>P", 0),
+    (b"P\tP", 0),
+];
+
 #[test]
 fn names_the_first_bad_step(rt: HostRuntime) {
-    let rows: [(&[u8], usize); 16] = [
-        (b"P  P", 2),
-        (b"P.0", 0),
-        (b"P.18446744073709551616", 0),
-        (b"P ", 2),
-        (b" P", 0),
-        (b" ", 0),
-        (b"P>P.1 x", 6),
-        (b"P x y", 2),
-        (b"P.01", 0),
-        (b"P.", 0),
-        (b"P.1.", 0),
-        (b"P.+1", 0),
-        (b"P>", 0),
-        (b">P", 0),
-        (b"P>P>P", 0),
-        (b"P\tP", 0),
-    ];
-    for (text, at) in rows {
+    for (text, at) in BAD_STEPS {
         let fault = read_schedule(rt.alloc(), text).err();
         assert_eq!(rt; fault, Some(ScheduleFault::BadStep(at)));
     }

@@ -184,23 +184,25 @@ fn schedule(alloc: Global, turns: &[u64], delivers: bool) -> Result<Vec<Step>, A
     Ok(steps)
 }
 
+// Schedules by the last numbers of the pids whose turns they are, and whether a delivery follows.
+const SCHEDULES: [(&[u64], bool); 9] = [
+    (&[], false),
+    (&[0], false),
+    (&[9], false),
+    (&[], true),
+    (&[0, 0], false),
+    (&[0, 9], false),
+    (&[0], true),
+    (&[9, 0], false),
+    (&[0, 0, 0], false),
+];
+
 /// In ascending order: the empty schedule, `P`, `P.9`, `P>P.1`, `P P`, `P P.9`, `P P>P.1`, `P.9 P`, `P P P`.
 #[test]
 fn schedules_go_by_length_first(rt: HostRuntime) -> Result<(), Fail> {
-    let table: [(&[u64], bool); 9] = [
-        (&[], false),
-        (&[0], false),
-        (&[9], false),
-        (&[], true),
-        (&[0, 0], false),
-        (&[0, 9], false),
-        (&[0], true),
-        (&[9, 0], false),
-        (&[0, 0, 0], false),
-    ];
-    for (i, (turns, delivers)) in table.iter().enumerate() {
+    for (i, (turns, delivers)) in SCHEDULES.iter().enumerate() {
         let a = schedule(rt.alloc(), turns, *delivers)?;
-        for (j, (turns, delivers)) in table.iter().enumerate() {
+        for (j, (turns, delivers)) in SCHEDULES.iter().enumerate() {
             let b = schedule(rt.alloc(), turns, *delivers)?;
             assert_eq!(rt; compare_schedules(&a, &b), i.cmp(&j), "at {i} and {j}");
         }

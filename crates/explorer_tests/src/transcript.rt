@@ -83,42 +83,44 @@ fn prints(
     Ok(())
 }
 
+// Served calls with their arguments and answers, and their lines.
+const SERVED: [(CallKind, &[Word], Word, &[u8]); 5] = [
+    (
+        CallKind::New,
+        &[Word::Name("t"), Word::ListOf("named_table")],
+        Word::Name("t"),
+        b"3 P.2 ets:new('t',['named_table']) -> 't'\n",
+    ),
+    (
+        CallKind::Insert,
+        &[Word::Name("t"), Word::Object("a")],
+        Word::Name("true"),
+        b"3 P.2 ets:insert('t',{'a',1}) -> 'true'\n",
+    ),
+    (
+        CallKind::Lookup,
+        &[Word::Name("t"), Word::Name("a")],
+        Word::ListOfObject("a"),
+        b"3 P.2 ets:lookup('t','a') -> [{'a',1}]\n",
+    ),
+    (
+        CallKind::Bang,
+        &[Word::First, Word::Name("b")],
+        Word::Name("b"),
+        b"3 P.2 erlang:!(P,'b') -> 'b'\n",
+    ),
+    (
+        CallKind::MakeRef,
+        &[],
+        Word::Reference,
+        b"3 P.2 erlang:make_ref() -> #P.1\n",
+    ),
+];
+
 #[test]
 fn prints_served_calls(rt: HostRuntime) -> Result<(), Fail> {
     let alloc = rt.alloc();
-    let rows = [
-        (
-            CallKind::New,
-            [Word::Name("t"), Word::ListOf("named_table")].as_slice(),
-            Word::Name("t"),
-            b"3 P.2 ets:new('t',['named_table']) -> 't'\n".as_slice(),
-        ),
-        (
-            CallKind::Insert,
-            [Word::Name("t"), Word::Object("a")].as_slice(),
-            Word::Name("true"),
-            b"3 P.2 ets:insert('t',{'a',1}) -> 'true'\n".as_slice(),
-        ),
-        (
-            CallKind::Lookup,
-            [Word::Name("t"), Word::Name("a")].as_slice(),
-            Word::ListOfObject("a"),
-            b"3 P.2 ets:lookup('t','a') -> [{'a',1}]\n".as_slice(),
-        ),
-        (
-            CallKind::Bang,
-            [Word::First, Word::Name("b")].as_slice(),
-            Word::Name("b"),
-            b"3 P.2 erlang:!(P,'b') -> 'b'\n".as_slice(),
-        ),
-        (
-            CallKind::MakeRef,
-            [].as_slice(),
-            Word::Reference,
-            b"3 P.2 erlang:make_ref() -> #P.1\n".as_slice(),
-        ),
-    ];
-    for (kind, arguments, answer, line) in rows {
+    for (kind, arguments, answer, line) in SERVED {
         let deed = Deed::Served {
             kind,
             arguments: terms(alloc, arguments)?,
@@ -129,62 +131,64 @@ fn prints_served_calls(rt: HostRuntime) -> Result<(), Fail> {
     Ok(())
 }
 
+// Rules with the owner that is told, and the lines of their refusals.
+const REFUSED: [(Rule, Option<&[u64]>, &[u8]); 10] = [
+    (
+        Rule::BadTable,
+        None,
+        b"1 P ets:lookup('t','a') -> badarg (1 BadTable)\n",
+    ),
+    (
+        Rule::NoTable,
+        None,
+        b"1 P ets:lookup('t','a') -> badarg (2 NoTable)\n",
+    ),
+    (
+        Rule::PrivateRead,
+        Some(&[]),
+        b"1 P ets:lookup('t','a') -> badarg (3 PrivateRead, owner P)\n",
+    ),
+    (
+        Rule::PrivateWrite,
+        Some(&[]),
+        b"1 P ets:lookup('t','a') -> badarg (4 PrivateWrite, owner P)\n",
+    ),
+    (
+        Rule::ProtectedWrite,
+        Some(&[2]),
+        b"1 P ets:lookup('t','a') -> badarg (5 ProtectedWrite, owner P.2)\n",
+    ),
+    (
+        Rule::BadName,
+        None,
+        b"1 P ets:lookup('t','a') -> badarg (7 BadName)\n",
+    ),
+    (
+        Rule::BadOption,
+        None,
+        b"1 P ets:lookup('t','a') -> badarg (8 BadOption)\n",
+    ),
+    (
+        Rule::NameTaken,
+        None,
+        b"1 P ets:lookup('t','a') -> badarg (9 NameTaken)\n",
+    ),
+    (
+        Rule::NotObject,
+        Some(&[]),
+        b"1 P ets:lookup('t','a') -> badarg (10 NotObject, owner P)\n",
+    ),
+    (
+        Rule::ShortObject,
+        Some(&[]),
+        b"1 P ets:lookup('t','a') -> badarg (11 ShortObject, owner P)\n",
+    ),
+];
+
 #[test]
 fn prints_refused_calls(rt: HostRuntime) -> Result<(), Fail> {
     let alloc = rt.alloc();
-    let rows = [
-        (
-            Rule::BadTable,
-            None,
-            b"1 P ets:lookup('t','a') -> badarg (1 BadTable)\n".as_slice(),
-        ),
-        (
-            Rule::NoTable,
-            None,
-            b"1 P ets:lookup('t','a') -> badarg (2 NoTable)\n".as_slice(),
-        ),
-        (
-            Rule::PrivateRead,
-            Some([].as_slice()),
-            b"1 P ets:lookup('t','a') -> badarg (3 PrivateRead, owner P)\n".as_slice(),
-        ),
-        (
-            Rule::PrivateWrite,
-            Some([].as_slice()),
-            b"1 P ets:lookup('t','a') -> badarg (4 PrivateWrite, owner P)\n".as_slice(),
-        ),
-        (
-            Rule::ProtectedWrite,
-            Some([2].as_slice()),
-            b"1 P ets:lookup('t','a') -> badarg (5 ProtectedWrite, owner P.2)\n".as_slice(),
-        ),
-        (
-            Rule::BadName,
-            None,
-            b"1 P ets:lookup('t','a') -> badarg (7 BadName)\n".as_slice(),
-        ),
-        (
-            Rule::BadOption,
-            None,
-            b"1 P ets:lookup('t','a') -> badarg (8 BadOption)\n".as_slice(),
-        ),
-        (
-            Rule::NameTaken,
-            None,
-            b"1 P ets:lookup('t','a') -> badarg (9 NameTaken)\n".as_slice(),
-        ),
-        (
-            Rule::NotObject,
-            Some([].as_slice()),
-            b"1 P ets:lookup('t','a') -> badarg (10 NotObject, owner P)\n".as_slice(),
-        ),
-        (
-            Rule::ShortObject,
-            Some([].as_slice()),
-            b"1 P ets:lookup('t','a') -> badarg (11 ShortObject, owner P)\n".as_slice(),
-        ),
-    ];
-    for (rule, owner, line) in rows {
+    for (rule, owner, line) in REFUSED {
         let owner = match owner {
             Some(numbers) => Some(pid(alloc, numbers)?),
             None => None,
