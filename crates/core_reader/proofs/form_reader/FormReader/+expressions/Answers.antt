@@ -5,8 +5,8 @@ use Rattle.core_grammar.specs.ReadingForms.{expression_at, start_at, clause_at}
 use Rattle.core_parser.specs.Parsing.{state_of}
 use Rattle.core_reader.specs.Parsing.{state_in, start_of}
 use Rattle.core_tree.specs.Tree.{tree_of}
-use Rattle.core_grammar.specs.Loops.{begins, goes_on, ends, fails, is_out, pieces_length, exactly_begin, exactly_on, exactly_lack_comma, exactly_lack, exactly_done, rows_begin, rows_on, rows_end, rows_fail, rows_out}
-use Rattle.core_grammar.specs.Forms.{expression_zero, expression_more, start_is_deep, bare_start_fails, bare_start_reads, noted_start_fails, noted_start_reads, started_plain, started_fails, started_reads}
+use Rattle.core_grammar.specs.Loops.{begins, goes_on, ends, fails, is_out, pieces_length, exactly_begin, exactly_on, exactly_lack_comma, exactly_lack, exactly_done, rows_on, rows_end, rows_fail, rows_out}
+use Rattle.core_grammar.specs.Forms.{expression_zero, expression_more, start_is_deep, bare_start_fails, bare_start_reads, noted_start_fails, noted_start_reads, started_plain, started_fails, started_reads, let_fails, let_lacks, let_reads, try_fails, try_lacks_success, try_lacks_handler, try_reads, clauses_begin, case_fails, case_lacks, case_reads}
 use Rattle.core_reader.proofs.form_reader.FormReader.+expressions.Goals as goal
 
 -- ---- an expression
@@ -102,22 +102,72 @@ started-returns-in_err-clause_of t c =
 pub started-returns : goal.started-returns
 started-returns t c = started_reads c.args.own.now c.args.levels (expression_at c.args.own.now c.args.levels) _ (start_of c.args.start) (state_in c.args.self.now) _ (sym c.if-not-is_at_word.ensures) c.in_ok-clause_of.ensures
 
--- ---- the clauses behind the first
+-- ---- the clauses of a `case`
 
 pub clauses-clauses-init : goal.clauses-clauses-init
-clauses-clauses-init t c = rw c.new-clauses.ensures.items (rows_begin (clause_at c.args.own.now c.args.levels (expression_at c.args.own.now c.args.levels) (start_at c.args.own.now c.args.levels)) _ (state_in c.args.self.now) (sym (pieces_length c.args.self.now.parser.tokens.now)))
+clauses-clauses-init t c = rw (c.in_ok-push.ensures.items, c.new-clauses.ensures.items) (clauses_begin c.args.own.now c.args.levels (expression_at c.args.own.now c.args.levels) (start_at c.args.own.now c.args.levels) _ (state_in c.args.self.now) c.args.first (sym (pieces_length c.args.self.now.parser.tokens.now)))
 
 pub clauses-returns-then-is_at_word : goal.clauses-returns-then-is_at_word
 clauses-returns-then-is_at_word t c = rows_end (clause_at c.args.own.now c.args.levels (expression_at c.args.own.now c.args.levels) (start_at c.args.own.now c.args.levels)) c.clauses.clauses.items _ c.clauses._taken (state_in c.clauses.self) _ (omega arith) (sym c.if-is_at_word.ensures) c.clauses.invariant
 
 pub clauses-returns-in_err-clause : goal.clauses-returns-in_err-clause
 clauses-returns-in_err-clause t c =
-    let p = err_from_is_err_and c.from_residual.result c.from_residual.ensures.1 in
+    let p = err_from_is_err_and c.from_residual-in_err-clause.result c.from_residual-in_err-clause.ensures.1 in
     rw (p.1, p.2) (rows_fail (clause_at c.args.own.now c.args.levels (expression_at c.args.own.now c.args.levels) (start_at c.args.own.now c.args.levels)) _ c.clauses.clauses.items _ c.clauses._taken (state_in c.clauses.self) _ (omega arith) (sym c.if-is_at_word.ensures) c.in_err-clause.ensures c.clauses.invariant)
 
 pub clauses-clauses-preserved : goal.clauses-clauses-preserved
 clauses-clauses-preserved t c =
-    rw c.in_ok-push.ensures.items (rows_on (clause_at c.args.own.now c.args.levels (expression_at c.args.own.now c.args.levels) (start_at c.args.own.now c.args.levels)) c.clauses.clauses.items _ c.clauses._taken (state_in c.clauses.self) (state_in c.clause.new.self) _ _ (omega arith) (sym c.if-is_at_word.ensures) c.in_ok-clause.ensures c.clauses.invariant)
+    rw c.in_ok-push-2.ensures.items (rows_on (clause_at c.args.own.now c.args.levels (expression_at c.args.own.now c.args.levels) (start_at c.args.own.now c.args.levels)) c.clauses.clauses.items _ c.clauses._taken (state_in c.clauses.self) (state_in c.clause.new.self) _ _ (omega arith) (sym c.if-is_at_word.ensures) c.in_ok-clause.ensures c.clauses.invariant)
 
 pub clauses-returns : goal.clauses-returns
 clauses-returns t c = λ _. rows_out (clause_at c.args.own.now c.args.levels (expression_at c.args.own.now c.args.levels) (start_at c.args.own.now c.args.levels)) c.clauses.clauses.items _ c.clauses._taken (state_in c.clauses.self) _ (omega arith) c.clauses.invariant ∙ ap Err (sym c.fault.ensures)
+
+-- ---- `case`
+
+pub case-returns-in_err-value : goal.case-returns-in_err-value
+case-returns-in_err-value t c =
+    let p = err_from_is_err_and c.from_residual.result c.from_residual.ensures.1 in
+    rw (p.1, p.2) (case_fails c.args.own.now c.args.levels (expression_at c.args.own.now c.args.levels) (start_at c.args.own.now c.args.levels) _ c.args.at (state_in c.args.self.now) c.in_err-value.ensures)
+
+pub case-returns-in_err-clauses : goal.case-returns-in_err-clauses
+case-returns-in_err-clauses t c =
+    let p = err_from_is_err_and c.from_residual-in_err-clauses.result c.from_residual-in_err-clauses.ensures.1 in
+    rw (p.1, p.2) (case_lacks c.args.own.now c.args.levels (expression_at c.args.own.now c.args.levels) (start_at c.args.own.now c.args.levels) _ c.args.at (state_in c.args.self.now) _ _ c.in_ok-value.ensures c.in_err-clauses.ensures)
+
+pub case-returns : goal.case-returns
+case-returns t c = rw c.in_ok-case_of.ensures (case_reads c.args.own.now c.args.levels (expression_at c.args.own.now c.args.levels) (start_at c.args.own.now c.args.levels) c.args.at (state_in c.args.self.now) _ _ _ _ c.in_ok-value.ensures c.in_ok-clauses.ensures)
+
+-- ---- `let`
+
+pub let_in-returns-in_err-variables : goal.let_in-returns-in_err-variables
+let_in-returns-in_err-variables t c =
+    let p = err_from_is_err_and c.from_residual.result c.from_residual.ensures.1 in
+    rw (p.1, p.2) (let_fails c.args.own.now c.args.levels (expression_at c.args.own.now c.args.levels) _ (state_in c.args.self.now) c.in_err-variables.ensures)
+
+pub let_in-returns-in_err-value : goal.let_in-returns-in_err-value
+let_in-returns-in_err-value t c =
+    let p = err_from_is_err_and c.from_residual-in_err-value.result c.from_residual-in_err-value.ensures.1 in
+    rw (p.1, p.2) (let_lacks c.args.own.now c.args.levels (expression_at c.args.own.now c.args.levels) _ (state_in c.args.self.now) _ _ c.in_ok-variables.ensures c.in_err-value.ensures)
+
+pub let_in-returns : goal.let_in-returns
+let_in-returns t c = rw c.in_ok-let_of.ensures (let_reads c.args.own.now c.args.levels (expression_at c.args.own.now c.args.levels) (state_in c.args.self.now) _ _ _ _ _ c.in_ok-variables.ensures c.in_ok-value.ensures)
+
+-- ---- `try`
+
+pub try_in-returns-in_err-value : goal.try_in-returns-in_err-value
+try_in-returns-in_err-value t c =
+    let p = err_from_is_err_and c.from_residual.result c.from_residual.ensures.1 in
+    rw (p.1, p.2) (try_fails c.args.own.now c.args.levels (expression_at c.args.own.now c.args.levels) _ c.args.at (state_in c.args.self.now) c.in_err-value.ensures)
+
+pub try_in-returns-in_err-success : goal.try_in-returns-in_err-success
+try_in-returns-in_err-success t c =
+    let p = err_from_is_err_and c.from_residual-in_err-success.result c.from_residual-in_err-success.ensures.1 in
+    rw (p.1, p.2) (try_lacks_success c.args.own.now c.args.levels (expression_at c.args.own.now c.args.levels) _ c.args.at (state_in c.args.self.now) _ _ c.in_ok-value.ensures c.in_err-success.ensures)
+
+pub try_in-returns-in_err-handler : goal.try_in-returns-in_err-handler
+try_in-returns-in_err-handler t c =
+    let p = err_from_is_err_and c.from_residual-in_err-handler.result c.from_residual-in_err-handler.ensures.1 in
+    rw (p.1, p.2) (try_lacks_handler c.args.own.now c.args.levels (expression_at c.args.own.now c.args.levels) _ c.args.at (state_in c.args.self.now) _ _ _ _ c.in_ok-value.ensures c.in_ok-success.ensures c.in_err-handler.ensures)
+
+pub try_in-returns : goal.try_in-returns
+try_in-returns t c = rw c.in_ok-try_of.ensures (try_reads c.args.own.now c.args.levels (expression_at c.args.own.now c.args.levels) c.args.at (state_in c.args.self.now) _ _ _ _ _ _ c.in_ok-value.ensures c.in_ok-success.ensures c.in_ok-handler.ensures)
