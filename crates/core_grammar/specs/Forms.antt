@@ -5,10 +5,10 @@ use Rattle.core_tokens.specs.declared.fault.ReadFault.TheVariants.{Memory}
 use Rattle.core_tokens.specs.declared.token.Mark.TheVariants as m
 use Rattle.core_tokens.specs.declared.token.Keyword.TheVariants as k
 use Rattle.core_tokens.specs.Piece.{Piece}
-use Rattle.core_tree.specs.Syntax.{Mention, Tree, Bound, Tried, Chosen, ClauseTree, clauses_of}
+use Rattle.core_tree.specs.Syntax.{Mention, Pattern, Tree, Bound, Tried, Chosen, ClauseTree, clauses_of}
 use Rattle.core_scopes.specs.Outcomes.{◌>>=◌}
 use Rattle.core_grammar.specs.Reading.{State, Read, with_pieces, after_mark, after_word, too_deep, variables_at, row_at, rows_at}
-use Rattle.core_grammar.specs.ReadingForms.{Start, OnePattern, ManyPatterns, WholeClause, deep_expression, form_at, expression_at, clause_of, start_by, started, bare_start_at, noted_start_at, start_at, bound_at, let_at, success_at, handler_at, try_at, clause_at, clauses_at, choices_at, case_at}
+use Rattle.core_grammar.specs.ReadingForms.{Start, OnePattern, ManyPatterns, WholeClause, deep_expression, form_at, expression_at, clause_of, start_by, started, bare_start_at, noted_start_at, start_at, bound_at, let_at, success_at, handler_at, try_at, guarded_at, behind_patterns_at, clause_at, clauses_at, choices_at, case_at}
 use Rattle.core_grammar.specs.Reading.{Opens}
 use Rattle.core_grammar.specs.Notes.{opens_none, opens_some}
 use Rattle.core_grammar.specs.Loops.{with_front, rows_behind}
@@ -114,6 +114,9 @@ in_turn : {A B C : Type 0} (r : Result A ReadFault) (f : A → Result B ReadFaul
 in_turn (Ok x) f g = refl
 in_turn (Err e) f g = refl
 
+abbrev clause : List Pattern → Tree → Tree → ClauseTree
+clause qs g b = record { patterns = qs; guard = g; body = b }
+
 module _ (own : List ℕ) (n : ℕ) (inner : State → Read Tree) where
   let_parts : (s : State) → let_at own n inner s ≡ (variables_at n s >>= λ vs. bound_at own n inner vs.1 >>= λ b. Ok (Bound vs.0 b.0.0 b.0.1, b.1))
   unfolding let_at bound_at
@@ -165,6 +168,21 @@ module _ (own : List ℕ) (n : ℕ) (inner : State → Read Tree) where
   try_reads at s s1 s2 s3 t b h read success handler =
       let one : (inner s >>= λ t. success_at own n inner t.1 >>= λ b. handler_at own n inner b.1 >>= λ h. Ok (Tried at t.0 b.0.0 b.0.1 h.0.0 h.0.1, h.1)) ≡ Ok (Tried at t b.0 b.1 h.0 h.1, s3) = rw (read, success, handler) refl in
       try_parts at s ∙ one
+
+  clause_parts : (qs : List Pattern) (s : State) → behind_patterns_at own n inner qs s ≡ (guarded_at own n inner s >>= λ p. Ok (clause qs p.0.0 p.0.1, p.1))
+  unfolding behind_patterns_at guarded_at
+  clause_parts qs s = simp in_turn
+
+  pub clause_fails : (e : ReadFault) (qs : List Pattern) (s : State) → (e ≢ Memory → guarded_at own n inner s ≡ Err e) → e ≢ Memory → behind_patterns_at own n inner qs s ≡ Err e
+  clause_fails e qs s failed real =
+      let rest = failed real in
+      let one : (guarded_at own n inner s >>= λ p. Ok (clause qs p.0.0 p.0.1, p.1)) ≡ Err e = rw rest refl in
+      clause_parts qs s ∙ one
+
+  pub clause_reads : (qs : List Pattern) (s s1 : State) (g b : Tree) → guarded_at own n inner s ≡ Ok ((g, b), s1) → behind_patterns_at own n inner qs s ≡ Ok (clause qs g b, s1)
+  clause_reads qs s s1 g b rest =
+      let one : (guarded_at own n inner s >>= λ p. Ok (clause qs p.0.0 p.0.1, p.1)) ≡ Ok (clause qs g b, s1) = rw rest refl in
+      clause_parts qs s ∙ one
 
   module _ (start : State → Read Start) where
     pub clauses_begin : (count : ℕ) (s : State) (c : ClauseTree) → count ≡ length s.pieces

@@ -266,6 +266,15 @@ module _ (own : List ℕ) (n : ℕ) (inner : State → Read Tree) where
     t ← inner s
     Ok (Caught at t.0, t.1)
 
+  -- the guard of a clause and its body
+  unfoldable pub guarded_at : State → Read (Tree × Tree)
+  guarded_at s = do
+    s1 ← word_at k.When s
+    g ← inner s1
+    s2 ← mark_at m.Arrow g.1
+    b ← inner s2
+    Ok ((g.0, b.0), b.1)
+
   -- what stands behind the patterns of a clause
   unfoldable pub behind_patterns_at : List Pattern → State → Read ClauseTree
   behind_patterns_at qs s = do

@@ -4,8 +4,8 @@ ghost use Rattle.core_tokens.specs.declared.token.Keyword.TheVariants.{When};
 ghost use Rattle.core_tokens.specs.declared.token.Mark.TheVariants.{Less};
 ghost use Rattle.core_tree.specs.Syntax.{Chosen, clauses_of};
 ghost use Rattle.core_tree.specs.Tree.{pattern_of, tree_of};
-ghost use Rattle.core_grammar.specs.Reading.{Builds, Moves, after_word};
-ghost use Rattle.core_grammar.specs.ReadingForms.{behind_patterns_at, clause_of, started, inside_start_at, aliased, noted_start_at, bare_start_at, start_at, clause_at, clauses_at, choices_at, case_at, expression_at};
+ghost use Rattle.core_grammar.specs.Reading.{Builds, Moves, after_word, in_note_at, constant_at};
+ghost use Rattle.core_grammar.specs.ReadingForms.{guarded_at, behind_patterns_at, clause_of, started, inside_start_at, aliased, noted_start_at, bare_start_at, start_at, clause_at, clauses_at, choices_at, case_at, expression_at};
 ghost use Rattle.core_reader.specs.Parsing.{state_in, start_of};
 
 use crate::form_reader::FormReader;
@@ -41,9 +41,21 @@ fn case_of(alloc: Global, at: usize, value: Expr, clauses: Vec<Clause>) -> Resul
 }
 
 impl<'a> FormReader<'a> {
-    /// What stands behind the patterns of a clause: `when expr -> expr`.
+    /// The guard of a clause and its body: `when expr -> expr`.
     #[cycle(expressions)]
-    #[tactic(auto, unfolding(core_grammar::specs::ReadingForms::behind_patterns_at))]
+    #[tactic(auto, unfolding(core_grammar::specs::ReadingForms::guarded_at))]
+    fn guarded(&mut self, own: &Atom, levels: u16) -> Result<(Expr, Expr), ReadFault>
+        ensures { Moves (λ p. (tree_of p.0, tree_of p.1)) result (state_in self.new) (guarded_at own.now levels (expression_at own.now levels) (state_in self.old)) }
+    {
+        self.parser.word(Keyword::When)?;
+        let guard = self.expression(own, levels)?;
+        self.parser.mark(Mark::Arrow)?;
+        let body = self.expression(own, levels)?;
+        Ok((guard, body))
+    }
+
+    /// What stands behind the patterns of a clause.
+    #[cycle(expressions)]
     fn behind_patterns(
         &mut self,
         own: &Atom,
@@ -52,10 +64,7 @@ impl<'a> FormReader<'a> {
     ) -> Result<Clause, ReadFault>
         ensures { Moves (λ c. c) result (state_in self.new) (behind_patterns_at own.now levels (expression_at own.now levels) (map pattern_of patterns.items) (state_in self.old)) }
     {
-        self.parser.word(Keyword::When)?;
-        let guard = self.expression(own, levels)?;
-        self.parser.mark(Mark::Arrow)?;
-        let body = self.expression(own, levels)?;
+        let (guard, body) = self.guarded(own, levels)?;
         Ok(Clause {
             patterns: Patterns(patterns),
             guard,
@@ -111,14 +120,24 @@ impl<'a> FormReader<'a> {
         }
     }
 
-    /// A start of a clause in the parentheses of an annotation, whose parts stand at so many levels.
+    /// A start of a clause in the parentheses of an annotation, and the end of the annotation.
     #[cycle(expressions)]
-    #[tactic(auto, unfolding(core_grammar::specs::ReadingForms::noted_start_at, core_grammar::specs::Reading::in_note_at))]
-    fn noted_start(&mut self, own: &Atom, levels: u16) -> Result<Start, ReadFault>
-        ensures { Moves start_of result (state_in self.new) (noted_start_at own.now levels (expression_at own.now levels) (start_at own.now levels) (state_in self.old)) }
+    #[tactic(auto, unfolding(core_grammar::specs::Reading::in_note_at))]
+    fn start_in_note(&mut self, own: &Atom, levels: u16) -> Result<Start, ReadFault>
+        ensures { Moves start_of result (state_in self.new) (in_note_at (constant_at levels) (inside_start_at own.now levels (expression_at own.now levels) (start_at own.now levels)) (state_in self.old)) }
     {
         let start = self.inside_start(own, levels)?;
         self.parser.note(levels)?;
+        Ok(start)
+    }
+
+    /// A start of a clause in the parentheses of an annotation, whose parts stand at so many levels.
+    #[cycle(expressions)]
+    #[tactic(auto, unfolding(core_grammar::specs::ReadingForms::noted_start_at))]
+    fn noted_start(&mut self, own: &Atom, levels: u16) -> Result<Start, ReadFault>
+        ensures { Moves start_of result (state_in self.new) (noted_start_at own.now levels (expression_at own.now levels) (start_at own.now levels) (state_in self.old)) }
+    {
+        let start = self.start_in_note(own, levels)?;
         Ok(self.aliased(own, levels, start)?)
     }
 

@@ -4,9 +4,9 @@ use Rattle.std.proofs.lemmas.List.{map-append}
 use Rattle.core_grammar.specs.ReadingForms.{expression_at, start_at, clause_at}
 use Rattle.core_parser.specs.Parsing.{state_of}
 use Rattle.core_reader.specs.Parsing.{state_in, start_of}
-use Rattle.core_tree.specs.Tree.{tree_of}
+use Rattle.core_tree.specs.Tree.{tree_of, pattern_of}
 use Rattle.core_grammar.specs.Loops.{begins, goes_on, ends, fails, is_out, pieces_length, exactly_begin, exactly_on, exactly_lack_comma, exactly_lack, exactly_done, rows_on, rows_end, rows_fail, rows_out}
-use Rattle.core_grammar.specs.Forms.{expression_zero, expression_more, start_is_deep, bare_start_fails, bare_start_reads, noted_start_fails, noted_start_reads, started_plain, started_fails, started_reads, let_fails, let_lacks, let_reads, try_fails, try_lacks_success, try_lacks_handler, try_reads, clauses_begin, case_fails, case_lacks, case_reads}
+use Rattle.core_grammar.specs.Forms.{expression_zero, expression_more, start_is_deep, bare_start_fails, bare_start_reads, noted_start_fails, noted_start_reads, started_plain, started_fails, started_reads, let_fails, let_lacks, let_reads, try_fails, try_lacks_success, try_lacks_handler, try_reads, clause_fails, clause_reads, clauses_begin, case_fails, case_lacks, case_reads}
 use Rattle.core_reader.proofs.form_reader.FormReader.+expressions.Goals as goal
 
 -- ---- an expression
@@ -101,6 +101,16 @@ started-returns-in_err-clause_of t c =
 
 pub started-returns : goal.started-returns
 started-returns t c = started_reads c.args.own.now c.args.levels (expression_at c.args.own.now c.args.levels) _ (start_of c.args.start) (state_in c.args.self.now) _ (sym c.if-not-is_at_word.ensures) c.in_ok-clause_of.ensures
+
+-- ---- a clause behind its patterns
+
+pub behind_patterns-returns-in_err-guard : goal.behind_patterns-returns-in_err-guard
+behind_patterns-returns-in_err-guard t c =
+    let p = err_from_is_err_and c.from_residual.result c.from_residual.ensures.1 in
+    rw (p.1, p.2) (clause_fails c.args.own.now c.args.levels (expression_at c.args.own.now c.args.levels) _ (map pattern_of c.args.patterns.items) (state_in c.args.self.now) c.in_err-guard.ensures)
+
+pub behind_patterns-returns : goal.behind_patterns-returns
+behind_patterns-returns t c = clause_reads c.args.own.now c.args.levels (expression_at c.args.own.now c.args.levels) (map pattern_of c.args.patterns.items) (state_in c.args.self.now) _ _ _ c.in_ok-guard.ensures
 
 -- ---- the clauses of a `case`
 
