@@ -7,8 +7,8 @@ use Rattle.core_tokens.specs.declared.token.Keyword.TheVariants as k
 use Rattle.core_tokens.specs.Piece.{Piece}
 use Rattle.core_tree.specs.Syntax.{Mention, Pattern, Tree, Bound, Tried, Chosen, ClauseTree, clauses_of}
 use Rattle.core_scopes.specs.Outcomes.{◌>>=◌}
-use Rattle.core_grammar.specs.Reading.{State, Read, with_pieces, after_mark, after_word, too_deep, variables_at, row_at, rows_at}
-use Rattle.core_grammar.specs.ReadingForms.{Start, OnePattern, ManyPatterns, WholeClause, deep_expression, form_at, expression_at, clause_of, start_by, started, bare_start_at, noted_start_at, start_at, bound_at, let_at, success_at, handler_at, try_at, guarded_at, behind_patterns_at, clause_at, clauses_at, choices_at, case_at}
+use Rattle.core_grammar.specs.Reading.{State, Read, with_pieces, after_mark, after_word, too_deep, variables_at, row_at}
+use Rattle.core_grammar.specs.ReadingForms.{Start, OnePattern, ManyPatterns, WholeClause, deep_expression, form_at, expression_at, clause_of, start_by, started, bare_start_at, noted_start_at, start_at, body_at, in_at, bound_at, let_at, success_at, handler_at, branches_at, try_at, guarded_at, behind_patterns_at, clause_at, clauses_at, choices_at, case_at}
 use Rattle.core_grammar.specs.Reading.{Opens}
 use Rattle.core_grammar.specs.Notes.{opens_none, opens_some}
 use Rattle.core_grammar.specs.Loops.{with_front, rows_behind}
@@ -119,7 +119,7 @@ clause qs g b = record { patterns = qs; guard = g; body = b }
 
 module _ (own : List ℕ) (n : ℕ) (inner : State → Read Tree) where
   let_parts : (s : State) → let_at own n inner s ≡ (variables_at n s >>= λ vs. bound_at own n inner vs.1 >>= λ b. Ok (Bound vs.0 b.0.0 b.0.1, b.1))
-  unfolding let_at bound_at
+  unfolding let_at bound_at in_at
   let_parts s = simp in_turn
 
   pub let_fails : (e : ReadFault) (s : State) → (e ≢ Memory → variables_at n s ≡ Err e) → e ≢ Memory → let_at own n inner s ≡ Err e
@@ -139,9 +139,8 @@ module _ (own : List ℕ) (n : ℕ) (inner : State → Read Tree) where
       let one : (variables_at n s >>= λ vs. bound_at own n inner vs.1 >>= λ b. Ok (Bound vs.0 b.0.0 b.0.1, b.1)) ≡ Ok (Bound vs t u, s2) = rw (read, rest) refl in
       let_parts s ∙ one
 
-  try_parts : (at : ℕ) (s : State) → try_at own n inner at s
-      ≡ (inner s >>= λ t. success_at own n inner t.1 >>= λ b. handler_at own n inner b.1 >>= λ h. Ok (Tried at t.0 b.0.0 b.0.1 h.0.0 h.0.1, h.1))
-  unfolding try_at success_at handler_at
+  try_parts : (at : ℕ) (s : State) → try_at own n inner at s ≡ (inner s >>= λ t. branches_at own n inner t.1 >>= λ p. Ok (Tried at t.0 p.0.0.0 p.0.0.1 p.0.1.0 p.0.1.1, p.1))
+  unfolding try_at branches_at success_at handler_at body_at
   try_parts at s = simp in_turn
 
   pub try_fails : (e : ReadFault) (at : ℕ) (s : State) → (e ≢ Memory → inner s ≡ Err e) → e ≢ Memory → try_at own n inner at s ≡ Err e
@@ -150,27 +149,19 @@ module _ (own : List ℕ) (n : ℕ) (inner : State → Read Tree) where
       let read = failed real in
       rw read refl
 
-  pub try_lacks_success : (e : ReadFault) (at : ℕ) (s s1 : State) (t : Tree) → inner s ≡ Ok (t, s1) → (e ≢ Memory → success_at own n inner s1 ≡ Err e) → e ≢ Memory → try_at own n inner at s ≡ Err e
-  try_lacks_success e at s s1 t read failed real =
+  pub try_lacks : (e : ReadFault) (at : ℕ) (s s1 : State) (t : Tree) → inner s ≡ Ok (t, s1) → (e ≢ Memory → branches_at own n inner s1 ≡ Err e) → e ≢ Memory → try_at own n inner at s ≡ Err e
+  try_lacks e at s s1 t read failed real =
       let rest = failed real in
-      let one : (inner s >>= λ t. success_at own n inner t.1 >>= λ b. handler_at own n inner b.1 >>= λ h. Ok (Tried at t.0 b.0.0 b.0.1 h.0.0 h.0.1, h.1)) ≡ Err e = rw (read, rest) refl in
+      let one : (inner s >>= λ t. branches_at own n inner t.1 >>= λ p. Ok (Tried at t.0 p.0.0.0 p.0.0.1 p.0.1.0 p.0.1.1, p.1)) ≡ Err e = rw (read, rest) refl in
       try_parts at s ∙ one
 
-  pub try_lacks_handler : (e : ReadFault) (at : ℕ) (s s1 s2 : State) (t : Tree) (b : List Mention × Tree) → inner s ≡ Ok (t, s1) → success_at own n inner s1 ≡ Ok (b, s2)
-      → (e ≢ Memory → handler_at own n inner s2 ≡ Err e) → e ≢ Memory → try_at own n inner at s ≡ Err e
-  try_lacks_handler e at s s1 s2 t b read success failed real =
-      let rest = failed real in
-      let one : (inner s >>= λ t. success_at own n inner t.1 >>= λ b. handler_at own n inner b.1 >>= λ h. Ok (Tried at t.0 b.0.0 b.0.1 h.0.0 h.0.1, h.1)) ≡ Err e = rw (read, success, rest) refl in
-      try_parts at s ∙ one
-
-  pub try_reads : (at : ℕ) (s s1 s2 s3 : State) (t : Tree) (b h : List Mention × Tree) → inner s ≡ Ok (t, s1) → success_at own n inner s1 ≡ Ok (b, s2) → handler_at own n inner s2 ≡ Ok (h, s3)
-      → try_at own n inner at s ≡ Ok (Tried at t b.0 b.1 h.0 h.1, s3)
-  try_reads at s s1 s2 s3 t b h read success handler =
-      let one : (inner s >>= λ t. success_at own n inner t.1 >>= λ b. handler_at own n inner b.1 >>= λ h. Ok (Tried at t.0 b.0.0 b.0.1 h.0.0 h.0.1, h.1)) ≡ Ok (Tried at t b.0 b.1 h.0 h.1, s3) = rw (read, success, handler) refl in
+  pub try_reads : (at : ℕ) (s s1 s2 : State) (t : Tree) (b h : List Mention × Tree) → inner s ≡ Ok (t, s1) → branches_at own n inner s1 ≡ Ok ((b, h), s2) → try_at own n inner at s ≡ Ok (Tried at t b.0 b.1 h.0 h.1, s2)
+  try_reads at s s1 s2 t b h read rest =
+      let one : (inner s >>= λ t. branches_at own n inner t.1 >>= λ p. Ok (Tried at t.0 p.0.0.0 p.0.0.1 p.0.1.0 p.0.1.1, p.1)) ≡ Ok (Tried at t b.0 b.1 h.0 h.1, s2) = rw (read, rest) refl in
       try_parts at s ∙ one
 
   clause_parts : (qs : List Pattern) (s : State) → behind_patterns_at own n inner qs s ≡ (guarded_at own n inner s >>= λ p. Ok (clause qs p.0.0 p.0.1, p.1))
-  unfolding behind_patterns_at guarded_at
+  unfolding behind_patterns_at guarded_at body_at
   clause_parts qs s = simp in_turn
 
   pub clause_fails : (e : ReadFault) (qs : List Pattern) (s : State) → (e ≢ Memory → guarded_at own n inner s ≡ Err e) → e ≢ Memory → behind_patterns_at own n inner qs s ≡ Err e

@@ -6,7 +6,7 @@ use Rattle.core_tokens.specs.declared.token.Mark.TheVariants as m
 use Rattle.core_tokens.specs.Piece.{Piece}
 use Rattle.core_tree.specs.Syntax.{NamedAt}
 use Rattle.core_grammar.specs.Reading.{State, with_pieces, after_mark, too_deep, note_at, in_note_at, constant_at, bare_name_at}
-use Rattle.core_grammar.specs.ReadingModules.{Opening, TheName, bare_opening_at, inside_opening_at, opened, opening_at}
+use Rattle.core_grammar.specs.ReadingModules.{Opening, TheName, bare_opening_at, inside_opening_at, opening_at}
 use Rattle.core_grammar.specs.Reading.{Opens}
 use Rattle.core_grammar.specs.Notes.{opens_none, opens_some, in_note_fails, in_note_lacks, in_note_reads}
 
@@ -52,31 +52,13 @@ module _ (own : List ℕ) where
       let o = opens_some b n s s1 t h in
       opening_inside n s s1.pieces o.0 o.1.0 ∙ ap (in_note_at (constant_at (n - 1)) (inside_opening_at own (n - 1) (opening_at own (n - 1)))) (sym o.1.1)
 
-  pub opening_fails : (e : ReadFault) (b : Bool) (n : ℕ) (s s1 : State) → b ≡ true → Opens n (Ok b) s s1 → (e ≢ Memory → opening_at own (n - 1) s1 ≡ Err e) → e ≢ Memory → opening_at own n s ≡ Err e
-  unfolding inside_opening_at
-  opening_fails e b n s s1 t h failed real =
-      let read = failed real in
-      let one : inside_opening_at own (n - 1) (opening_at own (n - 1)) s1 ≡ Err e = rw read refl in
-      step_inside b n s s1 t h ∙ in_note_fails (constant_at (n - 1)) (inside_opening_at own (n - 1) (opening_at own (n - 1))) e s1 one
+  pub opening_fails : (e : ReadFault) (b : Bool) (n : ℕ) (s s1 : State) → b ≡ true → Opens n (Ok b) s s1 → (e ≢ Memory → inside_opening_at own (n - 1) (opening_at own (n - 1)) s1 ≡ Err e) → e ≢ Memory → opening_at own n s ≡ Err e
+  opening_fails e b n s s1 t h failed real = step_inside b n s s1 t h ∙ in_note_fails (constant_at (n - 1)) (inside_opening_at own (n - 1) (opening_at own (n - 1))) e s1 (failed real)
 
-  pub opened_fails : (e : ReadFault) (b : Bool) (n : ℕ) (s s1 s2 : State) (x : Opening) → b ≡ true → Opens n (Ok b) s s1 → opening_at own (n - 1) s1 ≡ Ok (x, s2)
-      → (e ≢ Memory → opened own (n - 1) x s2 ≡ Err e) → e ≢ Memory → opening_at own n s ≡ Err e
-  unfolding inside_opening_at
-  opened_fails e b n s s1 s2 x t h read failed real =
-      let more = failed real in
-      let one : inside_opening_at own (n - 1) (opening_at own (n - 1)) s1 ≡ Err e = rw read more in
-      step_inside b n s s1 t h ∙ in_note_fails (constant_at (n - 1)) (inside_opening_at own (n - 1) (opening_at own (n - 1))) e s1 one
+  pub opening_note_fails : (e : ReadFault) (b : Bool) (n : ℕ) (s s1 s2 : State) (x : Opening) → b ≡ true → Opens n (Ok b) s s1 → inside_opening_at own (n - 1) (opening_at own (n - 1)) s1 ≡ Ok (x, s2)
+      → (e ≢ Memory → note_at (constant_at (n - 1)) s2 ≡ Err e) → e ≢ Memory → opening_at own n s ≡ Err e
+  opening_note_fails e b n s s1 s2 x t h read failed real = step_inside b n s s1 t h ∙ in_note_lacks (constant_at (n - 1)) (inside_opening_at own (n - 1) (opening_at own (n - 1))) e s1 s2 x read (failed real)
 
-  pub opening_note_fails : (e : ReadFault) (b : Bool) (n : ℕ) (s s1 s2 s3 : State) (x y : Opening) → b ≡ true → Opens n (Ok b) s s1 → opening_at own (n - 1) s1 ≡ Ok (x, s2)
-      → opened own (n - 1) x s2 ≡ Ok (y, s3) → (e ≢ Memory → note_at (constant_at (n - 1)) s3 ≡ Err e) → e ≢ Memory → opening_at own n s ≡ Err e
-  unfolding inside_opening_at
-  opening_note_fails e b n s s1 s2 s3 x y t h read more failed real =
-      let one : inside_opening_at own (n - 1) (opening_at own (n - 1)) s1 ≡ Ok (y, s3) = rw read more in
-      step_inside b n s s1 t h ∙ in_note_lacks (constant_at (n - 1)) (inside_opening_at own (n - 1) (opening_at own (n - 1))) e s1 s3 y one (failed real)
-
-  pub opening_note_reads : (b : Bool) (n : ℕ) (s s1 s2 s3 s4 : State) (x y : Opening) → b ≡ true → Opens n (Ok b) s s1 → opening_at own (n - 1) s1 ≡ Ok (x, s2)
-      → opened own (n - 1) x s2 ≡ Ok (y, s3) → note_at (constant_at (n - 1)) s3 ≡ Ok s4 → opening_at own n s ≡ Ok (y, s4)
-  unfolding inside_opening_at
-  opening_note_reads b n s s1 s2 s3 s4 x y t h read more note =
-      let one : inside_opening_at own (n - 1) (opening_at own (n - 1)) s1 ≡ Ok (y, s3) = rw read more in
-      step_inside b n s s1 t h ∙ in_note_reads (constant_at (n - 1)) (inside_opening_at own (n - 1) (opening_at own (n - 1))) s1 s3 s4 y one note
+  pub opening_note_reads : (b : Bool) (n : ℕ) (s s1 s2 s3 : State) (x : Opening) → b ≡ true → Opens n (Ok b) s s1 → inside_opening_at own (n - 1) (opening_at own (n - 1)) s1 ≡ Ok (x, s2)
+      → note_at (constant_at (n - 1)) s2 ≡ Ok s3 → opening_at own n s ≡ Ok (x, s3)
+  opening_note_reads b n s s1 s2 s3 x t h read note = step_inside b n s s1 t h ∙ in_note_reads (constant_at (n - 1)) (inside_opening_at own (n - 1) (opening_at own (n - 1))) s1 s2 s3 x read note

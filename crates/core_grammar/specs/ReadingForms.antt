@@ -182,13 +182,24 @@ module _ (own : List ℕ) (n : ℕ) (inner : State → Read Tree) where
     ts ← closed_at inner m.Greater s
     Ok (Several (trees_of ts.0), ts.1)
 
+  -- an arrow, and the expression behind it
+  unfoldable pub body_at : State → Read Tree
+  body_at s = do
+    s1 ← mark_at m.Arrow s
+    inner s1
+
+  -- the body of a `let`, and the `in` before it
+  unfoldable pub in_at : State → Read Tree
+  in_at s = do
+    s1 ← word_at k.In s
+    inner s1
+
   -- the value of a `let` and its body, behind the variables
   unfoldable pub bound_at : State → Read (Tree × Tree)
   bound_at s = do
     s1 ← mark_at m.Equals s
     t ← inner s1
-    s2 ← word_at k.In t.1
-    u ← inner s2
+    u ← in_at t.1
     Ok ((t.0, u.0), u.1)
 
   unfoldable pub let_at : State → Read Tree
@@ -235,8 +246,7 @@ module _ (own : List ℕ) (n : ℕ) (inner : State → Read Tree) where
   success_at s = do
     s1 ← word_at k.Of s
     vs ← variables_at n s1
-    s2 ← mark_at m.Arrow vs.1
-    u ← inner s2
+    u ← body_at vs.1
     Ok ((vs.0, u.0), u.1)
 
   -- what a `try` does with an exception: its variables, and the handler
@@ -244,9 +254,15 @@ module _ (own : List ℕ) (n : ℕ) (inner : State → Read Tree) where
   handler_at s = do
     s1 ← word_at k.Catch s
     ws ← caught_at n s1
-    s2 ← mark_at m.Arrow ws.1
-    h ← inner s2
+    h ← body_at ws.1
     Ok ((ws.0, h.0), h.1)
+
+  -- what a `try` does with its value, and with an exception
+  unfoldable pub branches_at : State → Read ((List Mention × Tree) × (List Mention × Tree))
+  branches_at s = do
+    b ← success_at s
+    h ← handler_at b.1
+    Ok ((b.0, h.0), h.1)
 
   unfoldable pub try_at : ℕ → State → Read Tree
   try_at at s = do
@@ -271,8 +287,7 @@ module _ (own : List ℕ) (n : ℕ) (inner : State → Read Tree) where
   guarded_at s = do
     s1 ← word_at k.When s
     g ← inner s1
-    s2 ← mark_at m.Arrow g.1
-    b ← inner s2
+    b ← body_at g.1
     Ok ((g.0, b.0), b.1)
 
   -- what stands behind the patterns of a clause

@@ -49,8 +49,7 @@ impl<'a> FormReader<'a> {
     {
         self.parser.word(Keyword::When)?;
         let guard = self.expression(own, levels)?;
-        self.parser.mark(Mark::Arrow)?;
-        let body = self.expression(own, levels)?;
+        let body = self.body(own, levels)?;
         Ok((guard, body))
     }
 

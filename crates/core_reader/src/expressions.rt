@@ -5,7 +5,7 @@ ghost use Rattle.core_tokens.specs.declared.token.Mark.TheVariants.{Slash};
 ghost use Rattle.core_tree.specs.Syntax.{Joined, Bound, Followed, Tried, Caught, trees_of};
 ghost use Rattle.core_tree.specs.Tree.{tree_of};
 ghost use Rattle.core_grammar.specs.Reading.{Builds, Moves, items_at, closed_at, in_note_at, constant_at, after_mark, place_of};
-ghost use Rattle.core_grammar.specs.ReadingForms.{is_function, begins_expression, deep_expression_of, expression_fault_of, deep_expression, expression_fault, name_by, tuple_at, list_at, values_at, bound_at, let_at, do_at, success_at, handler_at, try_at, catch_at, form_by, form_at, expression_at, start_at};
+ghost use Rattle.core_grammar.specs.ReadingForms.{is_function, begins_expression, deep_expression_of, expression_fault_of, deep_expression, expression_fault, name_by, tuple_at, list_at, values_at, body_at, in_at, bound_at, let_at, do_at, success_at, handler_at, branches_at, try_at, catch_at, form_by, form_at, expression_at, start_at};
 ghost use Rattle.core_reader.specs.Parsing.{state_in, branch_of};
 
 use crate::form_reader::FormReader;
@@ -355,6 +355,26 @@ impl<'a> FormReader<'a> {
         Ok(Expr::Values(Exprs(values)))
     }
 
+    /// An arrow, and the expression behind it.
+    #[cycle(expressions)]
+    #[tactic(auto, unfolding(core_grammar::specs::ReadingForms::body_at))]
+    pub(crate) fn body(&mut self, own: &Atom, levels: u16) -> Result<Expr, ReadFault>
+        ensures { Moves tree_of result (state_in self.new) (body_at own.now levels (expression_at own.now levels) (state_in self.old)) }
+    {
+        self.parser.mark(Mark::Arrow)?;
+        Ok(self.expression(own, levels)?)
+    }
+
+    /// The body of a `let`, and the `in` before it.
+    #[cycle(expressions)]
+    #[tactic(auto, unfolding(core_grammar::specs::ReadingForms::in_at))]
+    fn behind_in(&mut self, own: &Atom, levels: u16) -> Result<Expr, ReadFault>
+        ensures { Moves tree_of result (state_in self.new) (in_at own.now levels (expression_at own.now levels) (state_in self.old)) }
+    {
+        self.parser.word(Keyword::In)?;
+        Ok(self.expression(own, levels)?)
+    }
+
     /// The value of a `let` and its body.
     #[cycle(expressions)]
     #[tactic(auto, unfolding(core_grammar::specs::ReadingForms::bound_at))]
@@ -363,8 +383,7 @@ impl<'a> FormReader<'a> {
     {
         self.parser.mark(Mark::Equals)?;
         let value = self.expression(own, levels)?;
-        self.parser.word(Keyword::In)?;
-        let body = self.expression(own, levels)?;
+        let body = self.behind_in(own, levels)?;
         Ok((value, body))
     }
 
@@ -397,8 +416,7 @@ impl<'a> FormReader<'a> {
     {
         self.parser.word(Keyword::Of)?;
         let variables = self.parser.variables(levels)?;
-        self.parser.mark(Mark::Arrow)?;
-        let body = self.expression(own, levels)?;
+        let body = self.body(own, levels)?;
         Ok(Branch { variables, body })
     }
 
@@ -410,9 +428,19 @@ impl<'a> FormReader<'a> {
     {
         self.parser.word(Keyword::Catch)?;
         let variables = self.parser.caught(levels)?;
-        self.parser.mark(Mark::Arrow)?;
-        let body = self.expression(own, levels)?;
+        let body = self.body(own, levels)?;
         Ok(Branch { variables, body })
+    }
+
+    /// What a `try` does with its value, and with an exception.
+    #[cycle(expressions)]
+    #[tactic(auto, unfolding(core_grammar::specs::ReadingForms::branches_at))]
+    fn branches(&mut self, own: &Atom, levels: u16) -> Result<(Branch, Branch), ReadFault>
+        ensures { Moves (λ p. (branch_of p.0, branch_of p.1)) result (state_in self.new) (branches_at own.now levels (expression_at own.now levels) (state_in self.old)) }
+    {
+        let success = self.success(own, levels)?;
+        let handler = self.handler(own, levels)?;
+        Ok((success, handler))
     }
 
     /// What stands behind the `try` at `at`.
@@ -421,8 +449,7 @@ impl<'a> FormReader<'a> {
         ensures { Moves tree_of result (state_in self.new) (try_at own.now levels (expression_at own.now levels) at (state_in self.old)) }
     {
         let value = self.expression(own, levels)?;
-        let success = self.success(own, levels)?;
-        let handler = self.handler(own, levels)?;
+        let (success, handler) = self.branches(own, levels)?;
         Ok(try_of(self.parser.alloc, at, value, success, handler)?)
     }
 

@@ -6,7 +6,7 @@ use Rattle.core_parser.specs.Parsing.{state_of}
 use Rattle.core_reader.specs.Parsing.{state_in, start_of}
 use Rattle.core_tree.specs.Tree.{tree_of, pattern_of}
 use Rattle.core_grammar.specs.Loops.{begins, goes_on, ends, fails, is_out, pieces_length, exactly_begin, exactly_on, exactly_lack_comma, exactly_lack, exactly_done, rows_on, rows_end, rows_fail, rows_out}
-use Rattle.core_grammar.specs.Forms.{expression_zero, expression_more, start_is_deep, bare_start_fails, bare_start_reads, noted_start_fails, noted_start_reads, started_plain, started_fails, started_reads, let_fails, let_lacks, let_reads, try_fails, try_lacks_success, try_lacks_handler, try_reads, clause_fails, clause_reads, clauses_begin, case_fails, case_lacks, case_reads}
+use Rattle.core_grammar.specs.Forms.{expression_zero, expression_more, start_is_deep, bare_start_fails, bare_start_reads, noted_start_fails, noted_start_reads, started_plain, started_fails, started_reads, let_fails, let_lacks, let_reads, try_fails, try_lacks, try_reads, clause_fails, clause_reads, clauses_begin, case_fails, case_lacks, case_reads}
 use Rattle.core_reader.proofs.form_reader.FormReader.+expressions.Goals as goal
 
 -- ---- an expression
@@ -172,12 +172,7 @@ try_in-returns-in_err-value t c =
 pub try_in-returns-in_err-success : goal.try_in-returns-in_err-success
 try_in-returns-in_err-success t c =
     let p = err_from_is_err_and c.from_residual-in_err-success.result c.from_residual-in_err-success.ensures.1 in
-    rw (p.1, p.2) (try_lacks_success c.args.own.now c.args.levels (expression_at c.args.own.now c.args.levels) _ c.args.at (state_in c.args.self.now) _ _ c.in_ok-value.ensures c.in_err-success.ensures)
-
-pub try_in-returns-in_err-handler : goal.try_in-returns-in_err-handler
-try_in-returns-in_err-handler t c =
-    let p = err_from_is_err_and c.from_residual-in_err-handler.result c.from_residual-in_err-handler.ensures.1 in
-    rw (p.1, p.2) (try_lacks_handler c.args.own.now c.args.levels (expression_at c.args.own.now c.args.levels) _ c.args.at (state_in c.args.self.now) _ _ _ _ c.in_ok-value.ensures c.in_ok-success.ensures c.in_err-handler.ensures)
+    rw (p.1, p.2) (try_lacks c.args.own.now c.args.levels (expression_at c.args.own.now c.args.levels) _ c.args.at (state_in c.args.self.now) _ _ c.in_ok-value.ensures c.in_err-success.ensures)
 
 pub try_in-returns : goal.try_in-returns
-try_in-returns t c = rw c.in_ok-try_of.ensures (try_reads c.args.own.now c.args.levels (expression_at c.args.own.now c.args.levels) c.args.at (state_in c.args.self.now) _ _ _ _ _ _ c.in_ok-value.ensures c.in_ok-success.ensures c.in_ok-handler.ensures)
+try_in-returns t c = rw c.in_ok-try_of.ensures (try_reads c.args.own.now c.args.levels (expression_at c.args.own.now c.args.levels) c.args.at (state_in c.args.self.now) _ _ _ _ _ c.in_ok-value.ensures c.in_ok-success.ensures)
