@@ -126,8 +126,7 @@ impl<'a> FormReader<'a> {
         ensures { Moves start_of result (state_in self.new) (in_note_at (constant_at levels) (inside_start_at own.now levels (expression_at own.now levels) (start_at own.now levels)) (state_in self.old)) }
     {
         let start = self.inside_start(own, levels)?;
-        self.parser.note(levels)?;
-        Ok(start)
+        self.parser.note(levels).and(Ok(start))
     }
 
     /// A start of a clause in the parentheses of an annotation, whose parts stand at so many levels.

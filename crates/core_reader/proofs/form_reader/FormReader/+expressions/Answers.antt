@@ -1,7 +1,9 @@
 use Rattle.std.proofs.Common.{map, sym, ap, ◌∙◌, arith, Err}
 use Rattle.std.proofs.lemmas.Result.{err_from_is_err_and}
 use Rattle.std.proofs.lemmas.List.{map-append}
-use Rattle.core_grammar.specs.ReadingForms.{expression_at, start_at, clause_at}
+use Rattle.core_grammar.specs.ReadingForms.{expression_at, start_at, clause_at, inside_start_at}
+use Rattle.core_grammar.specs.Reading.{constant_at}
+use Rattle.core_grammar.specs.Notes.{in_note_ends}
 use Rattle.core_parser.specs.Parsing.{state_of}
 use Rattle.core_reader.specs.Parsing.{state_in, start_of}
 use Rattle.core_tree.specs.Tree.{tree_of, pattern_of}
@@ -101,6 +103,10 @@ started-returns-in_err-clause_of t c =
 
 pub started-returns : goal.started-returns
 started-returns t c = started_reads c.args.own.now c.args.levels (expression_at c.args.own.now c.args.levels) _ (start_of c.args.start) (state_in c.args.self.now) _ (sym c.if-not-is_at_word.ensures) c.in_ok-clause_of.ensures
+
+pub start_in_note-returns : goal.start_in_note-returns
+start_in_note-returns t c =
+    rw c.and.ensures (in_note_ends (constant_at c.args.levels) (inside_start_at c.args.own.now c.args.levels (expression_at c.args.own.now c.args.levels) (start_at c.args.own.now c.args.levels)) start_of _ c.note.result (state_in c.args.self.now) (state_in c.inside_start.new.self) (state_of c.note.new.self) c.in_ok-start.ensures c.note.ensures)
 
 -- ---- a clause behind its patterns
 
