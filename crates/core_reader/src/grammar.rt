@@ -185,8 +185,7 @@ impl<'a> FormReader<'a> {
             return Ok(Opening::Name(self.parser.bare_name()?));
         }
         let opening = self.inside_opening(own, levels - 1)?;
-        self.parser.note(levels - 1)?;
-        Ok(opening)
+        self.parser.note(levels - 1).and(Ok(opening))
     }
 
     /// A definition of the module `own`, whose parts have at most so many levels.

@@ -1,7 +1,7 @@
 use Rattle.std.proofs.lemmas.Result.{err_from_is_err_and}
 use Rattle.core_parser.specs.Parsing.{state_of}
-use Rattle.core_reader.specs.Parsing.{state_in}
-use Rattle.core_grammar.specs.Openings.{opening_is_deep, name_fails, name_reads, opening_fails, opening_note_fails, opening_note_reads}
+use Rattle.core_reader.specs.Parsing.{state_in, opening_of}
+use Rattle.core_grammar.specs.Openings.{opening_is_deep, name_fails, name_reads, opening_fails, opening_ends}
 use Rattle.core_reader.proofs.form_reader.FormReader.+opening.Goals as goal
 
 pub opening-returns-in_err-opens_note : goal.opening-returns-in_err-opens_note
@@ -22,10 +22,6 @@ opening-returns-in_err-opening t c =
     let p = err_from_is_err_and c.from_residual-in_err-opening.result c.from_residual-in_err-opening.ensures.1 in
     rw (p.1, p.2) (opening_fails c.args.own.now _ _ c.args.levels (state_in c.args.self.now) (state_of c.opens_note.new.self) c.if-not-branch.false c.in_ok-opens_note.ensures c.in_err-opening.ensures)
 
-pub opening-returns-in_err-note : goal.opening-returns-in_err-note
-opening-returns-in_err-note t c =
-    let p = err_from_is_err_and c.from_residual-in_err-note.result c.from_residual-in_err-note.ensures.1 in
-    rw (p.1, p.2) (opening_note_fails c.args.own.now _ _ c.args.levels (state_in c.args.self.now) (state_of c.opens_note.new.self) _ _ c.if-not-branch.false c.in_ok-opens_note.ensures c.in_ok-opening.ensures c.in_err-note.ensures)
-
 pub opening-returns : goal.opening-returns
-opening-returns t c = opening_note_reads c.args.own.now _ c.args.levels (state_in c.args.self.now) (state_of c.opens_note.new.self) _ _ _ c.if-not-branch.false c.in_ok-opens_note.ensures c.in_ok-opening.ensures c.in_ok-note.ensures
+opening-returns t c =
+    rw c.and.ensures (opening_ends c.args.own.now opening_of _ c.note.result _ c.args.levels (state_in c.args.self.now) (state_of c.opens_note.new.self) (state_in c.inside_opening.new.self) (state_of c.note.new.self) c.if-not-branch.false c.in_ok-opens_note.ensures c.in_ok-opening.ensures c.note.ensures)
