@@ -124,6 +124,12 @@ ends_not None e = refl
 ends_not (Some x) e = absurd cc
 
 module _ {X : Type 0} (item : State → Read X) where
+  pub rows_behind : (front : List X) (count : ℕ) (s : State) → count ≡ length s.pieces → with_front front (row_at item (count - 0) s) ≡ with_front front (rows_at item s)
+  unfolding rows_at
+  rows_behind front count s e =
+      let n : count - 0 ≡ length s.pieces = omega arith in
+      rw n refl
+
   pub rows_begin : (count : ℕ) (s : State) → count ≡ length s.pieces → with_front [] (row_at item (count - 0) s) ≡ rows_at item s
   unfolding rows_at
   rows_begin count s e =

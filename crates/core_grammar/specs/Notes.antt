@@ -1,11 +1,12 @@
 -- Annotated rules, as the code reads them: a step over the parenthesis, the rule itself, and the end of the annotation.
-use Rattle.std.proofs.Common.{◌≡◌, ◌≢◌, ℕ, ◌-◌, ◌<◌, Bool, true, false, None, Ok, Err, refl, sym, ap, ◌∙◌}
+use Rattle.std.proofs.Common.{◌≡◌, ◌≢◌, ℕ, ◌-◌, ◌<◌, Bool, true, false, None, Result, Ok, Err, refl, sym, ap, ◌∙◌}
 use Rattle.core_tokens.specs.declared.fault.ReadFault.{ReadFault}
 use Rattle.core_tokens.specs.declared.fault.ReadFault.TheVariants.{Memory}
 use Rattle.core_tokens.specs.declared.token.Mark.TheVariants as m
 use Rattle.core_tree.specs.Syntax.{Constant}
 use Rattle.core_grammar.specs.Reading.{State, Read, after_mark, note_at, in_note_at, noted_at, constant_at}
-use Rattle.core_grammar.specs.Reading.{Skips, Opens}
+use Rattle.core_grammar.specs.Reading.{Skips, Opens, Passes, Moves}
+use Rattle.std.specs.Result.{result_and}
 use Rattle.core_grammar.specs.Levels.{noted_bare, noted_deep, noted_inside}
 
 pub opens_none : (b : Bool) (n : ℕ) (s s1 : State) → b ≡ false → Opens n (Ok b) s s1 → (after_mark m.LeftParenthesis s.pieces ≡ None) × (s1 ≡ s)
@@ -30,6 +31,11 @@ module _ {X : Type 0} (inner : State → Read Constant) (item : State → Read X
   pub in_note_reads : (s s1 s2 : State) (x : X) → item s ≡ Ok (x, s1) → note_at inner s1 ≡ Ok s2 → in_note_at inner item s ≡ Ok (x, s2)
   unfolding in_note_at
   in_note_reads s s1 s2 x read note = rw (read, note) refl
+
+  pub in_note_ends : {V : Type 0} (view : V → X) (x : V) (note : Result (Unit {0}) ReadFault) (s s1 s2 : State) → item s ≡ Ok (view x, s1) → Passes note s2 (note_at inner s1)
+      → Moves view (result_and note (Ok x)) s2 (in_note_at inner item s)
+  in_note_ends view x (Ok u) s s1 s2 read ends = in_note_reads s s1 s2 (view x) read ends
+  in_note_ends view x (Err e) s s1 s2 read fails = λ real. in_note_lacks e s s1 (view x) read (fails real)
 
 -- ---- a rule that is annotated any number of times
 

@@ -1,14 +1,15 @@
 -- What a definition begins with, as the code reads it.
-use Rattle.std.proofs.Common.{◌≡◌, ◌≢◌, ℕ, zero, suc, ◌-◌, ◌<◌, List, Bool, true, false, Some, None, Ok, Err, refl, sym, ap, ◌∙◌, arith}
+use Rattle.std.proofs.Common.{◌≡◌, ◌≢◌, ℕ, zero, suc, ◌-◌, ◌<◌, List, Bool, true, false, Some, None, Result, Ok, Err, refl, sym, ap, ◌∙◌, arith}
 use Rattle.core_tokens.specs.declared.fault.ReadFault.{ReadFault}
 use Rattle.core_tokens.specs.declared.fault.ReadFault.TheVariants.{Memory}
 use Rattle.core_tokens.specs.declared.token.Mark.TheVariants as m
 use Rattle.core_tokens.specs.Piece.{Piece}
 use Rattle.core_tree.specs.Syntax.{NamedAt}
 use Rattle.core_grammar.specs.Reading.{State, with_pieces, after_mark, too_deep, note_at, in_note_at, constant_at, bare_name_at}
-use Rattle.core_grammar.specs.ReadingModules.{Opening, TheName, bare_opening_at, inside_opening_at, opened, opening_at}
-use Rattle.core_grammar.specs.Reading.{Opens}
-use Rattle.core_grammar.specs.Notes.{opens_none, opens_some, in_note_fails, in_note_lacks, in_note_reads}
+use Rattle.core_grammar.specs.ReadingModules.{Opening, TheName, bare_opening_at, inside_opening_at, opening_at}
+use Rattle.core_grammar.specs.Reading.{Opens, Passes, Moves}
+use Rattle.std.specs.Result.{result_and}
+use Rattle.core_grammar.specs.Notes.{opens_none, opens_some, in_note_fails, in_note_ends}
 
 module _ (own : List ℕ) where
   opening_bare : (n : ℕ) (s : State) → after_mark m.LeftParenthesis s.pieces ≡ None → opening_at own n s ≡ bare_opening_at own s
@@ -52,31 +53,10 @@ module _ (own : List ℕ) where
       let o = opens_some b n s s1 t h in
       opening_inside n s s1.pieces o.0 o.1.0 ∙ ap (in_note_at (constant_at (n - 1)) (inside_opening_at own (n - 1) (opening_at own (n - 1)))) (sym o.1.1)
 
-  pub opening_fails : (e : ReadFault) (b : Bool) (n : ℕ) (s s1 : State) → b ≡ true → Opens n (Ok b) s s1 → (e ≢ Memory → opening_at own (n - 1) s1 ≡ Err e) → e ≢ Memory → opening_at own n s ≡ Err e
-  unfolding inside_opening_at
-  opening_fails e b n s s1 t h failed real =
-      let read = failed real in
-      let one : inside_opening_at own (n - 1) (opening_at own (n - 1)) s1 ≡ Err e = rw read refl in
-      step_inside b n s s1 t h ∙ in_note_fails (constant_at (n - 1)) (inside_opening_at own (n - 1) (opening_at own (n - 1))) e s1 one
+  pub opening_fails : (e : ReadFault) (b : Bool) (n : ℕ) (s s1 : State) → b ≡ true → Opens n (Ok b) s s1 → (e ≢ Memory → inside_opening_at own (n - 1) (opening_at own (n - 1)) s1 ≡ Err e) → e ≢ Memory → opening_at own n s ≡ Err e
+  opening_fails e b n s s1 t h failed real = step_inside b n s s1 t h ∙ in_note_fails (constant_at (n - 1)) (inside_opening_at own (n - 1) (opening_at own (n - 1))) e s1 (failed real)
 
-  pub opened_fails : (e : ReadFault) (b : Bool) (n : ℕ) (s s1 s2 : State) (x : Opening) → b ≡ true → Opens n (Ok b) s s1 → opening_at own (n - 1) s1 ≡ Ok (x, s2)
-      → (e ≢ Memory → opened own (n - 1) x s2 ≡ Err e) → e ≢ Memory → opening_at own n s ≡ Err e
-  unfolding inside_opening_at
-  opened_fails e b n s s1 s2 x t h read failed real =
-      let more = failed real in
-      let one : inside_opening_at own (n - 1) (opening_at own (n - 1)) s1 ≡ Err e = rw read more in
-      step_inside b n s s1 t h ∙ in_note_fails (constant_at (n - 1)) (inside_opening_at own (n - 1) (opening_at own (n - 1))) e s1 one
-
-  pub opening_note_fails : (e : ReadFault) (b : Bool) (n : ℕ) (s s1 s2 s3 : State) (x y : Opening) → b ≡ true → Opens n (Ok b) s s1 → opening_at own (n - 1) s1 ≡ Ok (x, s2)
-      → opened own (n - 1) x s2 ≡ Ok (y, s3) → (e ≢ Memory → note_at (constant_at (n - 1)) s3 ≡ Err e) → e ≢ Memory → opening_at own n s ≡ Err e
-  unfolding inside_opening_at
-  opening_note_fails e b n s s1 s2 s3 x y t h read more failed real =
-      let one : inside_opening_at own (n - 1) (opening_at own (n - 1)) s1 ≡ Ok (y, s3) = rw read more in
-      step_inside b n s s1 t h ∙ in_note_lacks (constant_at (n - 1)) (inside_opening_at own (n - 1) (opening_at own (n - 1))) e s1 s3 y one (failed real)
-
-  pub opening_note_reads : (b : Bool) (n : ℕ) (s s1 s2 s3 s4 : State) (x y : Opening) → b ≡ true → Opens n (Ok b) s s1 → opening_at own (n - 1) s1 ≡ Ok (x, s2)
-      → opened own (n - 1) x s2 ≡ Ok (y, s3) → note_at (constant_at (n - 1)) s3 ≡ Ok s4 → opening_at own n s ≡ Ok (y, s4)
-  unfolding inside_opening_at
-  opening_note_reads b n s s1 s2 s3 s4 x y t h read more note =
-      let one : inside_opening_at own (n - 1) (opening_at own (n - 1)) s1 ≡ Ok (y, s3) = rw read more in
-      step_inside b n s s1 t h ∙ in_note_reads (constant_at (n - 1)) (inside_opening_at own (n - 1) (opening_at own (n - 1))) s1 s3 s4 y one note
+  pub opening_ends : {V : Type 0} (view : V → Opening) (x : V) (note : Result (Unit {0}) ReadFault) (b : Bool) (n : ℕ) (s s1 s2 s3 : State) → b ≡ true → Opens n (Ok b) s s1
+      → inside_opening_at own (n - 1) (opening_at own (n - 1)) s1 ≡ Ok (view x, s2) → Passes note s3 (note_at (constant_at (n - 1)) s2) → Moves view (result_and note (Ok x)) s3 (opening_at own n s)
+  opening_ends view x note b n s s1 s2 s3 t h read ends =
+      rw (step_inside b n s s1 t h) (in_note_ends (constant_at (n - 1)) (inside_opening_at own (n - 1) (opening_at own (n - 1))) view x note s1 s2 s3 read ends)

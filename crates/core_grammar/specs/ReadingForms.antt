@@ -165,15 +165,6 @@ pub data Start : Type 0 where
   ManyPatterns : (patterns : List Pattern) → Start
   WholeClause : (clause : ClauseTree) → Start
 
--- what stands behind the body of a `try`
-abbrev pub handled_at : ℕ → (State → Read Tree) → ℕ → Tree → List Mention → Tree → State → Read Tree
-handled_at n inner at t vs u s = do
-  s1 ← word_at k.Catch s
-  ws ← caught_at n s1
-  s2 ← mark_at m.Arrow ws.1
-  h ← inner s2
-  Ok (Tried at t vs u ws.0 h.0, h.1)
-
 -- the forms of expressions in the module `own`, whose parts have at most n levels
 module _ (own : List ℕ) (n : ℕ) (inner : State → Read Tree) where
   unfoldable pub tuple_at : State → Read Tree
@@ -190,6 +181,26 @@ module _ (own : List ℕ) (n : ℕ) (inner : State → Read Tree) where
   values_at s = do
     ts ← closed_at inner m.Greater s
     Ok (Several (trees_of ts.0), ts.1)
+
+  -- an arrow, and the expression behind it
+  unfoldable pub body_at : State → Read Tree
+  body_at s = do
+    s1 ← mark_at m.Arrow s
+    inner s1
+
+  -- the body of a `let`, and the `in` before it
+  unfoldable pub in_at : State → Read Tree
+  in_at s = do
+    s1 ← word_at k.In s
+    inner s1
+
+  -- the value of a `let` and its body, behind the variables
+  unfoldable pub bound_at : State → Read (Tree × Tree)
+  bound_at s = do
+    s1 ← mark_at m.Equals s
+    t ← inner s1
+    u ← in_at t.1
+    Ok ((t.0, u.0), u.1)
 
   unfoldable pub let_at : State → Read Tree
   let_at s = do
@@ -230,6 +241,29 @@ module _ (own : List ℕ) (n : ℕ) (inner : State → Read Tree) where
     ts ← closed_at inner m.RightParenthesis s1
     judged at (unserved.Primop at) (operation_named a.0 (length ts.0)) ts.0 ts.1
 
+  -- what goes on with the value of a `try`: its variables, and the body
+  unfoldable pub success_at : State → Read (List Mention × Tree)
+  success_at s = do
+    s1 ← word_at k.Of s
+    vs ← variables_at n s1
+    u ← body_at vs.1
+    Ok ((vs.0, u.0), u.1)
+
+  -- what a `try` does with an exception: its variables, and the handler
+  unfoldable pub handler_at : State → Read (List Mention × Tree)
+  handler_at s = do
+    s1 ← word_at k.Catch s
+    ws ← caught_at n s1
+    h ← body_at ws.1
+    Ok ((ws.0, h.0), h.1)
+
+  -- what a `try` does with its value, and with an exception
+  unfoldable pub branches_at : State → Read ((List Mention × Tree) × (List Mention × Tree))
+  branches_at s = do
+    b ← success_at s
+    h ← handler_at b.1
+    Ok ((b.0, h.0), h.1)
+
   unfoldable pub try_at : ℕ → State → Read Tree
   try_at at s = do
     t ← inner s
@@ -247,6 +281,14 @@ module _ (own : List ℕ) (n : ℕ) (inner : State → Read Tree) where
   catch_at at s = do
     t ← inner s
     Ok (Caught at t.0, t.1)
+
+  -- the guard of a clause and its body
+  unfoldable pub guarded_at : State → Read (Tree × Tree)
+  guarded_at s = do
+    s1 ← word_at k.When s
+    g ← inner s1
+    b ← body_at g.1
+    Ok ((g.0, b.0), b.1)
 
   -- what stands behind the patterns of a clause
   unfoldable pub behind_patterns_at : List Pattern → State → Read ClauseTree
@@ -319,6 +361,21 @@ module _ (own : List ℕ) where
     clause_at s = do
       x ← start s
       clause_of own n inner x.0 x.1
+
+    -- the clauses of a `case` as far as the `end`, of which the first was read before
+    unfoldable pub clauses_at : ClauseTree → State → Read (List ClauseTree)
+    clauses_at c s = do
+      cs ← rows_at clause_at s
+      Ok (c ∷ cs.0, cs.1)
+
+    -- what stands behind the value of a `case`
+    unfoldable pub choices_at : State → Read (List ClauseTree)
+    choices_at s = do
+      s1 ← word_at k.Of s
+      c ← clause_at s1
+      cs ← clauses_at c.0 c.1
+      s2 ← word_at k.End cs.1
+      Ok (cs.0, s2)
 
     unfoldable pub case_at : ℕ → State → Read Tree
     case_at at s = do

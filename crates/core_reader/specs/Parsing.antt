@@ -1,5 +1,6 @@
 -- How the records of reading are seen.
 use Rattle.std.specs.Prelude.{ℕ, List, map}
+use Rattle.core_reader.specs.declared.expressions.Branch.{Branch}
 use Rattle.core_reader.specs.declared.form_reader.FormReader.{FormReader}
 use Rattle.core_reader.specs.declared.grammar.Fun.{Fun}
 use Rattle.core_reader.specs.declared.grammar.Opening.{Opening as Opened}
@@ -22,6 +23,10 @@ state_in r = state_of r.parser
 -- the parameters of a function, and its body
 abbrev pub fun_of : Fun → List Mention × Tree
 fun_of f = (f.parameters.items, tree_of f.body)
+
+-- the variables of a part of a `try`, and what is evaluated there
+abbrev pub branch_of : Branch → List Mention × Tree
+branch_of b = (b.variables.items, tree_of b.body)
 
 -- what a definition begins with
 abbrev pub opening_of : Opened → Opening

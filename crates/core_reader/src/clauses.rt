@@ -4,8 +4,8 @@ ghost use Rattle.core_tokens.specs.declared.token.Keyword.TheVariants.{When};
 ghost use Rattle.core_tokens.specs.declared.token.Mark.TheVariants.{Less};
 ghost use Rattle.core_tree.specs.Syntax.{Chosen, clauses_of};
 ghost use Rattle.core_tree.specs.Tree.{pattern_of, tree_of};
-ghost use Rattle.core_grammar.specs.Reading.{Builds, Moves, after_word, rows_at};
-ghost use Rattle.core_grammar.specs.ReadingForms.{behind_patterns_at, clause_of, started, inside_start_at, aliased, noted_start_at, bare_start_at, start_at, clause_at, case_at, expression_at};
+ghost use Rattle.core_grammar.specs.Reading.{Builds, Moves, after_word, in_note_at, constant_at};
+ghost use Rattle.core_grammar.specs.ReadingForms.{guarded_at, behind_patterns_at, clause_of, started, inside_start_at, aliased, noted_start_at, bare_start_at, start_at, clause_at, clauses_at, choices_at, case_at, expression_at};
 ghost use Rattle.core_reader.specs.Parsing.{state_in, start_of};
 
 use crate::form_reader::FormReader;
@@ -33,14 +33,6 @@ fn one_pattern(alloc: Global, pattern: Pattern) -> Result<Vec<Pattern>, ReadFaul
     Ok(patterns)
 }
 
-fn with_first(first: Clause, others: Vec<Clause>) -> Result<Vec<Clause>, ReadFault>
-    ensures { Builds (λ v. v.items) result (first ∷ others.items) }
-{
-    let mut clauses = others;
-    clauses.insert(0, first)?;
-    Ok(clauses)
-}
-
 fn case_of(alloc: Global, at: usize, value: Expr, clauses: Vec<Clause>) -> Result<Expr, ReadFault>
     ensures { Builds tree_of result (Chosen at (tree_of value) (clauses_of clauses.items)) }
 {
@@ -49,9 +41,20 @@ fn case_of(alloc: Global, at: usize, value: Expr, clauses: Vec<Clause>) -> Resul
 }
 
 impl<'a> FormReader<'a> {
-    /// What stands behind the patterns of a clause: `when expr -> expr`.
+    /// The guard of a clause and its body: `when expr -> expr`.
     #[cycle(expressions)]
-    #[tactic(auto, unfolding(core_grammar::specs::ReadingForms::behind_patterns_at))]
+    #[tactic(auto, unfolding(core_grammar::specs::ReadingForms::guarded_at))]
+    fn guarded(&mut self, own: &Atom, levels: u16) -> Result<(Expr, Expr), ReadFault>
+        ensures { Moves (λ p. (tree_of p.0, tree_of p.1)) result (state_in self.new) (guarded_at own.now levels (expression_at own.now levels) (state_in self.old)) }
+    {
+        self.parser.word(Keyword::When)?;
+        let guard = self.expression(own, levels)?;
+        let body = self.body(own, levels)?;
+        Ok((guard, body))
+    }
+
+    /// What stands behind the patterns of a clause.
+    #[cycle(expressions)]
     fn behind_patterns(
         &mut self,
         own: &Atom,
@@ -60,10 +63,7 @@ impl<'a> FormReader<'a> {
     ) -> Result<Clause, ReadFault>
         ensures { Moves (λ c. c) result (state_in self.new) (behind_patterns_at own.now levels (expression_at own.now levels) (map pattern_of patterns.items) (state_in self.old)) }
     {
-        self.parser.word(Keyword::When)?;
-        let guard = self.expression(own, levels)?;
-        self.parser.mark(Mark::Arrow)?;
-        let body = self.expression(own, levels)?;
+        let (guard, body) = self.guarded(own, levels)?;
         Ok(Clause {
             patterns: Patterns(patterns),
             guard,
@@ -119,14 +119,23 @@ impl<'a> FormReader<'a> {
         }
     }
 
+    /// A start of a clause in the parentheses of an annotation, and the end of the annotation.
+    #[cycle(expressions)]
+    #[tactic(auto, unfolding(core_grammar::specs::Reading::in_note_at))]
+    fn start_in_note(&mut self, own: &Atom, levels: u16) -> Result<Start, ReadFault>
+        ensures { Moves start_of result (state_in self.new) (in_note_at (constant_at levels) (inside_start_at own.now levels (expression_at own.now levels) (start_at own.now levels)) (state_in self.old)) }
+    {
+        let start = self.inside_start(own, levels)?;
+        self.parser.note(levels).and(Ok(start))
+    }
+
     /// A start of a clause in the parentheses of an annotation, whose parts stand at so many levels.
     #[cycle(expressions)]
-    #[tactic(auto, unfolding(core_grammar::specs::ReadingForms::noted_start_at, core_grammar::specs::Reading::in_note_at))]
+    #[tactic(auto, unfolding(core_grammar::specs::ReadingForms::noted_start_at))]
     fn noted_start(&mut self, own: &Atom, levels: u16) -> Result<Start, ReadFault>
         ensures { Moves start_of result (state_in self.new) (noted_start_at own.now levels (expression_at own.now levels) (start_at own.now levels) (state_in self.old)) }
     {
-        let start = self.inside_start(own, levels)?;
-        self.parser.note(levels)?;
+        let start = self.start_in_note(own, levels)?;
         Ok(self.aliased(own, levels, start)?)
     }
 
@@ -162,12 +171,13 @@ impl<'a> FormReader<'a> {
         Ok(self.clause_of(own, levels, start)?)
     }
 
-    /// The clauses behind the first, as far as the `end`.
+    /// The clauses as far as the `end`, of which the first was read before.
     #[cycle(expressions)]
-    fn clauses(&mut self, own: &Atom, levels: u16) -> Result<Vec<Clause>, ReadFault>
-        ensures { Moves (λ v. v.items) result (state_in self.new) (rows_at (clause_at own.now levels (expression_at own.now levels) (start_at own.now levels)) (state_in self.old)) }
+    fn clauses(&mut self, own: &Atom, levels: u16, first: Clause) -> Result<Vec<Clause>, ReadFault>
+        ensures { Moves (λ v. v.items) result (state_in self.new) (clauses_at own.now levels (expression_at own.now levels) (start_at own.now levels) first (state_in self.old)) }
     {
         let mut clauses = Vec::new(self.parser.alloc);
+        clauses.push(first)?;
         let count = self.parser.tokens.len();
         'clauses: for _taken in 0..count {
             if self.parser.is_at_word(Keyword::End) {
@@ -178,18 +188,26 @@ impl<'a> FormReader<'a> {
         Err(self.parser.fault())
     }
 
+    /// What stands behind the value of a `case`.
+    #[cycle(expressions)]
+    #[tactic(auto, unfolding(core_grammar::specs::ReadingForms::choices_at))]
+    fn choices(&mut self, own: &Atom, levels: u16) -> Result<Vec<Clause>, ReadFault>
+        ensures { Moves (λ v. v.items) result (state_in self.new) (choices_at own.now levels (expression_at own.now levels) (start_at own.now levels) (state_in self.old)) }
+    {
+        self.parser.word(Keyword::Of)?;
+        let first = self.clause(own, levels)?;
+        let clauses = self.clauses(own, levels, first)?;
+        self.parser.word(Keyword::End)?;
+        Ok(clauses)
+    }
+
     /// What stands behind the `case` at `at`.
     #[cycle(expressions)]
-    #[tactic(auto, unfolding(core_grammar::specs::ReadingForms::case_at))]
     pub(crate) fn case(&mut self, own: &Atom, levels: u16, at: usize) -> Result<Expr, ReadFault>
         ensures { Moves tree_of result (state_in self.new) (case_at own.now levels (expression_at own.now levels) (start_at own.now levels) at (state_in self.old)) }
     {
         let value = self.expression(own, levels)?;
-        self.parser.word(Keyword::Of)?;
-        let first = self.clause(own, levels)?;
-        let others = self.clauses(own, levels)?;
-        self.parser.word(Keyword::End)?;
-        let clauses = with_first(first, others)?;
+        let clauses = self.choices(own, levels)?;
         Ok(case_of(self.parser.alloc, at, value, clauses)?)
     }
 }

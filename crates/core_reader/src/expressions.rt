@@ -5,8 +5,8 @@ ghost use Rattle.core_tokens.specs.declared.token.Mark.TheVariants.{Slash};
 ghost use Rattle.core_tree.specs.Syntax.{Joined, Bound, Followed, Tried, Caught, trees_of};
 ghost use Rattle.core_tree.specs.Tree.{tree_of};
 ghost use Rattle.core_grammar.specs.Reading.{Builds, Moves, items_at, closed_at, in_note_at, constant_at, after_mark, place_of};
-ghost use Rattle.core_grammar.specs.ReadingForms.{is_function, begins_expression, deep_expression_of, expression_fault_of, deep_expression, expression_fault, name_by, tuple_at, list_at, values_at, let_at, do_at, try_at, handled_at, catch_at, form_by, form_at, expression_at, start_at};
-ghost use Rattle.core_reader.specs.Parsing.{state_in};
+ghost use Rattle.core_grammar.specs.ReadingForms.{is_function, begins_expression, deep_expression_of, expression_fault_of, deep_expression, expression_fault, name_by, tuple_at, list_at, values_at, body_at, in_at, bound_at, let_at, do_at, success_at, handler_at, branches_at, try_at, catch_at, form_by, form_at, expression_at, start_at};
+ghost use Rattle.core_reader.specs.Parsing.{state_in, branch_of};
 
 use crate::form_reader::FormReader;
 use core_parser::{atom_copy, is_foreign, variable_of};
@@ -131,29 +131,27 @@ fn do_both(alloc: Global, first: Expr, second: Expr) -> Result<Expr, ReadFault>
     Ok(Expr::Do(Box::new(alloc, Do { first, second })?))
 }
 
-/// What stands before the `catch` of the `try` at `at`.
+/// What a `try` does with a value or with an exception: the variables of its parts, and what is evaluated.
 #[derive(Drop)]
-struct Guarded {
-    at: usize,
-    value: Expr,
+struct Branch {
     variables: Vec<Variable>,
     body: Expr,
 }
 
 fn try_of(
     alloc: Global,
-    guarded: Guarded,
-    caught: Vec<Variable>,
-    handler: Expr,
+    at: usize,
+    value: Expr,
+    success: Branch,
+    handler: Branch,
 ) -> Result<Expr, ReadFault>
-    ensures { Builds tree_of result (Tried guarded.at (tree_of guarded.value) guarded.variables.items (tree_of guarded.body) caught.items (tree_of handler)) }
+    ensures { Builds tree_of result (Tried at (tree_of value) (branch_of success).0 (branch_of success).1 (branch_of handler).0 (branch_of handler).1) }
 {
-    let Guarded {
-        at,
-        value,
-        variables,
-        body,
-    } = guarded;
+    let Branch { variables, body } = success;
+    let Branch {
+        variables: caught,
+        body: handler,
+    } = handler;
     Ok(Expr::Try(Box::new(
         alloc,
         Try {
@@ -357,17 +355,45 @@ impl<'a> FormReader<'a> {
         Ok(Expr::Values(Exprs(values)))
     }
 
+    /// An arrow, and the expression behind it.
+    #[cycle(expressions)]
+    #[tactic(auto, unfolding(core_grammar::specs::ReadingForms::body_at))]
+    pub(crate) fn body(&mut self, own: &Atom, levels: u16) -> Result<Expr, ReadFault>
+        ensures { Moves tree_of result (state_in self.new) (body_at own.now levels (expression_at own.now levels) (state_in self.old)) }
+    {
+        self.parser.mark(Mark::Arrow)?;
+        Ok(self.expression(own, levels)?)
+    }
+
+    /// The body of a `let`, and the `in` before it.
+    #[cycle(expressions)]
+    #[tactic(auto, unfolding(core_grammar::specs::ReadingForms::in_at))]
+    fn behind_in(&mut self, own: &Atom, levels: u16) -> Result<Expr, ReadFault>
+        ensures { Moves tree_of result (state_in self.new) (in_at own.now levels (expression_at own.now levels) (state_in self.old)) }
+    {
+        self.parser.word(Keyword::In)?;
+        Ok(self.expression(own, levels)?)
+    }
+
+    /// The value of a `let` and its body.
+    #[cycle(expressions)]
+    #[tactic(auto, unfolding(core_grammar::specs::ReadingForms::bound_at))]
+    fn bound(&mut self, own: &Atom, levels: u16) -> Result<(Expr, Expr), ReadFault>
+        ensures { Moves (λ p. (tree_of p.0, tree_of p.1)) result (state_in self.new) (bound_at own.now levels (expression_at own.now levels) (state_in self.old)) }
+    {
+        self.parser.mark(Mark::Equals)?;
+        let value = self.expression(own, levels)?;
+        let body = self.behind_in(own, levels)?;
+        Ok((value, body))
+    }
+
     /// What stands behind a `let`.
     #[cycle(expressions)]
-    #[tactic(auto, unfolding(core_grammar::specs::ReadingForms::let_at))]
     fn let_in(&mut self, own: &Atom, levels: u16) -> Result<Expr, ReadFault>
         ensures { Moves tree_of result (state_in self.new) (let_at own.now levels (expression_at own.now levels) (state_in self.old)) }
     {
         let variables = self.parser.variables(levels)?;
-        self.parser.mark(Mark::Equals)?;
-        let value = self.expression(own, levels)?;
-        self.parser.word(Keyword::In)?;
-        let body = self.expression(own, levels)?;
+        let (value, body) = self.bound(own, levels)?;
         Ok(let_of(self.parser.alloc, variables, value, body)?)
     }
 
@@ -382,36 +408,49 @@ impl<'a> FormReader<'a> {
         Ok(do_both(self.parser.alloc, first, second)?)
     }
 
+    /// What a `try` does with its value.
+    #[cycle(expressions)]
+    #[tactic(auto, unfolding(core_grammar::specs::ReadingForms::success_at))]
+    fn success(&mut self, own: &Atom, levels: u16) -> Result<Branch, ReadFault>
+        ensures { Moves branch_of result (state_in self.new) (success_at own.now levels (expression_at own.now levels) (state_in self.old)) }
+    {
+        self.parser.word(Keyword::Of)?;
+        let variables = self.parser.variables(levels)?;
+        let body = self.body(own, levels)?;
+        Ok(Branch { variables, body })
+    }
+
+    /// What a `try` does with an exception.
+    #[cycle(expressions)]
+    #[tactic(auto, unfolding(core_grammar::specs::ReadingForms::handler_at))]
+    fn handler(&mut self, own: &Atom, levels: u16) -> Result<Branch, ReadFault>
+        ensures { Moves branch_of result (state_in self.new) (handler_at own.now levels (expression_at own.now levels) (state_in self.old)) }
+    {
+        self.parser.word(Keyword::Catch)?;
+        let variables = self.parser.caught(levels)?;
+        let body = self.body(own, levels)?;
+        Ok(Branch { variables, body })
+    }
+
+    /// What a `try` does with its value, and with an exception.
+    #[cycle(expressions)]
+    #[tactic(auto, unfolding(core_grammar::specs::ReadingForms::branches_at))]
+    fn branches(&mut self, own: &Atom, levels: u16) -> Result<(Branch, Branch), ReadFault>
+        ensures { Moves (λ p. (branch_of p.0, branch_of p.1)) result (state_in self.new) (branches_at own.now levels (expression_at own.now levels) (state_in self.old)) }
+    {
+        let success = self.success(own, levels)?;
+        let handler = self.handler(own, levels)?;
+        Ok((success, handler))
+    }
+
     /// What stands behind the `try` at `at`.
     #[cycle(expressions)]
-    #[tactic(auto, unfolding(core_grammar::specs::ReadingForms::try_at))]
     fn try_in(&mut self, own: &Atom, levels: u16, at: usize) -> Result<Expr, ReadFault>
         ensures { Moves tree_of result (state_in self.new) (try_at own.now levels (expression_at own.now levels) at (state_in self.old)) }
     {
         let value = self.expression(own, levels)?;
-        self.parser.word(Keyword::Of)?;
-        let variables = self.parser.variables(levels)?;
-        self.parser.mark(Mark::Arrow)?;
-        let body = self.expression(own, levels)?;
-        let guarded = Guarded {
-            at,
-            value,
-            variables,
-            body,
-        };
-        Ok(self.handled(own, levels, guarded)?)
-    }
-
-    /// What stands behind the body of a `try`.
-    #[cycle(expressions)]
-    fn handled(&mut self, own: &Atom, levels: u16, guarded: Guarded) -> Result<Expr, ReadFault>
-        ensures { Moves tree_of result (state_in self.new) (handled_at levels (expression_at own.now levels) guarded.at (tree_of guarded.value) guarded.variables.items (tree_of guarded.body) (state_in self.old)) }
-    {
-        self.parser.word(Keyword::Catch)?;
-        let caught = self.parser.caught(levels)?;
-        self.parser.mark(Mark::Arrow)?;
-        let handler = self.expression(own, levels)?;
-        Ok(try_of(self.parser.alloc, guarded, caught, handler)?)
+        let (success, handler) = self.branches(own, levels)?;
+        Ok(try_of(self.parser.alloc, at, value, success, handler)?)
     }
 
     /// What stands behind the `catch` at `at`.

@@ -3,7 +3,7 @@ ghost use Rattle.std.specs.Prelude.{map};
 ghost use Rattle.core_tokens.specs.declared.token.Mark.TheVariants.{RightBracket};
 ghost use Rattle.core_scopes.specs.Outcomes.{Gives};
 ghost use Rattle.core_grammar.specs.Reading.{Moves, items_at, closed_at, rows_at, noted_at, function_name_at};
-ghost use Rattle.core_grammar.specs.ReadingModules.{attribute_at, bare_fun_at, fun_at, behind_name_at, opened, opening_at, definition_at, front_at, bare_module_at, ended, module_at};
+ghost use Rattle.core_grammar.specs.ReadingModules.{attribute_at, bare_fun_at, fun_at, behind_name_at, opened, inside_opening_at, opening_at, definition_at, front_at, bare_module_at, ended, module_at};
 ghost use Rattle.core_scopes.specs.Drafts.{defined_of, draft_of};
 ghost use Rattle.core_reader.specs.Parsing.{state_in, fun_of, opening_of, front_of};
 
@@ -166,17 +166,26 @@ impl<'a> FormReader<'a> {
         }
     }
 
+    /// What stands in the parentheses of an annotation of a definition or of its name.
+    #[cycle(opening)]
+    #[tactic(auto, unfolding(core_grammar::specs::ReadingModules::inside_opening_at))]
+    fn inside_opening(&mut self, own: &Atom, levels: u16) -> Result<Opening, ReadFault>
+        ensures { Moves opening_of result (state_in self.new) (inside_opening_at own.now levels (opening_at own.now levels) (state_in self.old)) }
+    {
+        let opening = self.opening(own, levels)?;
+        Ok(self.opened(own, levels, opening)?)
+    }
+
     /// What a definition of the module `own` begins with, annotated in at most so many levels.
+    #[cycle(opening)]
     fn opening(&mut self, own: &Atom, levels: u16) -> Result<Opening, ReadFault>
         ensures { Moves opening_of result (state_in self.new) (opening_at own.now levels (state_in self.old)) }
     {
         if !self.parser.opens_note(levels)? {
             return Ok(Opening::Name(self.parser.bare_name()?));
         }
-        let opening = self.opening(own, levels - 1)?;
-        let opened = self.opened(own, levels - 1, opening)?;
-        self.parser.note(levels - 1)?;
-        Ok(opened)
+        let opening = self.inside_opening(own, levels - 1)?;
+        self.parser.note(levels - 1).and(Ok(opening))
     }
 
     /// A definition of the module `own`, whose parts have at most so many levels.
