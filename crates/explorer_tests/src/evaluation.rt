@@ -71,20 +71,24 @@ const LARGE_LIST: [Word; 2] = [Word::Ints(5_000), Word::List(5_000)];
 // the same, with nil as the tail
 const LARGE_ONTO: [Word; 3] = [Word::Ints(5_000), Word::List(0), Word::Onto(5_000)];
 
+// What a process asks whose body has a call in each place.
+const ORDER: &str =
+    "first 101\nfirst 102\nfirst 103\nfirst 104\nfirst 105\nfirst 106\nfirst 107\nfirst 108\ninsert {1,2} [3,4] [5|6] 8\ntake 9\n'normal'";
+
+// Expressions, and what a process with such a body asks.
+const IN_ORDER: [(&[Word], &str); 7] = [
+    (&EACH_PLACE, ORDER),
+    (&SHADOWS, "take 2\ntake 1\n'normal'"),
+    (&WHOLE_TUPLE, "'normal'"),
+    (&LARGE_TUPLE, "{'system_limit',[]}"),
+    (&WHOLE_LIST, "'normal'"),
+    (&LARGE_LIST, "{'system_limit',[]}"),
+    (&LARGE_ONTO, "{'system_limit',[]}"),
+];
+
 #[test]
 fn evaluates(rt: HostRuntime) -> Result<(), Fail> {
-    let order =
-        "first 101\nfirst 102\nfirst 103\nfirst 104\nfirst 105\nfirst 106\nfirst 107\nfirst 108\ninsert {1,2} [3,4] [5|6] 8\ntake 9\n'normal'";
-    let rows = [
-        (EACH_PLACE.as_slice(), order),
-        (SHADOWS.as_slice(), "take 2\ntake 1\n'normal'"),
-        (WHOLE_TUPLE.as_slice(), "'normal'"),
-        (LARGE_TUPLE.as_slice(), "{'system_limit',[]}"),
-        (WHOLE_LIST.as_slice(), "'normal'"),
-        (LARGE_LIST.as_slice(), "{'system_limit',[]}"),
-        (LARGE_ONTO.as_slice(), "{'system_limit',[]}"),
-    ];
-    for (words, want) in rows {
+    for (words, want) in IN_ORDER {
         let text = asked(rt.alloc(), words)?;
         assert_eq!(rt; text.as_slice(), want.as_bytes());
     }
@@ -153,23 +157,27 @@ const ONE_FOR_TWO: [Word; 3] = [Word::Int(1), Word::Read, Word::LetTwo];
 
 const DO_NONE: [Word; 3] = [Word::Values(0), Word::Int(7), Word::Do];
 
+// The end of a process that got another number of values than it wants.
+const WRONG_COUNT: &str = "{'value_count',[]}";
+
+// Strings and several values, and what is asked.
+const STRINGS_AND_VALUES: [(&[Word], &str); 11] = [
+    (&LETTERS, "take [97,97]\n'normal'"),
+    (&WHOLE_TEXT, "'normal'"),
+    (&LARGE_TEXT, "{'system_limit',[]}"),
+    (&TWO_VALUES, "insert 2 1\n'normal'"),
+    (&TWO, "'normal'"),
+    (&NONE, "'normal'"),
+    (&ONE, "take 1\n'normal'"),
+    (&TWO_ARGUMENTS, WRONG_COUNT),
+    (&TWO_FOR_ONE, WRONG_COUNT),
+    (&ONE_FOR_TWO, WRONG_COUNT),
+    (&DO_NONE, WRONG_COUNT),
+];
+
 #[test]
 fn evaluates_strings_and_values(rt: HostRuntime) -> Result<(), Fail> {
-    let wrong = "{'value_count',[]}";
-    let rows = [
-        (LETTERS.as_slice(), "take [97,97]\n'normal'"),
-        (WHOLE_TEXT.as_slice(), "'normal'"),
-        (LARGE_TEXT.as_slice(), "{'system_limit',[]}"),
-        (TWO_VALUES.as_slice(), "insert 2 1\n'normal'"),
-        (TWO.as_slice(), "'normal'"),
-        (NONE.as_slice(), "'normal'"),
-        (ONE.as_slice(), "take 1\n'normal'"),
-        (TWO_ARGUMENTS.as_slice(), wrong),
-        (TWO_FOR_ONE.as_slice(), wrong),
-        (ONE_FOR_TWO.as_slice(), wrong),
-        (DO_NONE.as_slice(), wrong),
-    ];
-    for (words, want) in rows {
+    for (words, want) in STRINGS_AND_VALUES {
         let text = asked(rt.alloc(), words)?;
         assert_eq!(rt; text.as_slice(), want.as_bytes());
     }

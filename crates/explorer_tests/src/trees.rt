@@ -9,37 +9,41 @@ use std::alloc::Global;
 use std::test::Fail;
 use term_core::Atom;
 
+// Calls with their names and numbers of arguments.
+const CALL_NAMES: [(CallKind, &str, &str, usize); 7] = [
+    (CallKind::Spawn, "erlang", "spawn", 3),
+    (CallKind::Bang, "erlang", "!", 2),
+    (CallKind::MakeRef, "erlang", "make_ref", 0),
+    (CallKind::TableToList, "ets", "tab2list", 1),
+    (CallKind::UpdateCounter, "ets", "update_counter", 3),
+    (CallKind::DeleteTable, "ets", "delete", 1),
+    (CallKind::DeleteKey, "ets", "delete", 2),
+];
+
 #[test]
 fn names_calls(rt: HostRuntime) {
-    let cases = [
-        (CallKind::Spawn, "erlang", "spawn", 3),
-        (CallKind::Bang, "erlang", "!", 2),
-        (CallKind::MakeRef, "erlang", "make_ref", 0),
-        (CallKind::TableToList, "ets", "tab2list", 1),
-        (CallKind::UpdateCounter, "ets", "update_counter", 3),
-        (CallKind::DeleteTable, "ets", "delete", 1),
-        (CallKind::DeleteKey, "ets", "delete", 2),
-    ];
-    for (kind, module_name, function_name, arity) in cases {
+    for (kind, module_name, function_name, arity) in CALL_NAMES {
         assert_eq!(rt; kind.module_name(), module_name);
         assert_eq!(rt; kind.function_name(), function_name);
         assert_eq!(rt; kind.arity(), arity);
     }
 }
 
+// Pure calls with their names and numbers of arguments.
+const PURE_CALL_NAMES: [(PureCall, &str, &str, usize); 8] = [
+    (PureCall::Add, "erlang", "+", 2),
+    (PureCall::Keep, "erlang", "+", 1),
+    (PureCall::AtMost, "erlang", "=<", 2),
+    (PureCall::SetElement, "erlang", "setelement", 3),
+    (PureCall::OwnPid, "erlang", "self", 0),
+    (PureCall::ErrorWith, "erlang", "error", 2),
+    (PureCall::Reverse, "lists", "reverse", 1),
+    (PureCall::AppendLists, "lists", "append", 2),
+];
+
 #[test]
 fn names_pure_calls(rt: HostRuntime) {
-    let cases = [
-        (PureCall::Add, "erlang", "+", 2),
-        (PureCall::Keep, "erlang", "+", 1),
-        (PureCall::AtMost, "erlang", "=<", 2),
-        (PureCall::SetElement, "erlang", "setelement", 3),
-        (PureCall::OwnPid, "erlang", "self", 0),
-        (PureCall::ErrorWith, "erlang", "error", 2),
-        (PureCall::Reverse, "lists", "reverse", 1),
-        (PureCall::AppendLists, "lists", "append", 2),
-    ];
-    for (call, module_name, function_name, arity) in cases {
+    for (call, module_name, function_name, arity) in PURE_CALL_NAMES {
         assert_eq!(rt; call.module_name(), module_name);
         assert_eq!(rt; call.function_name(), function_name);
         assert_eq!(rt; call.arity(), arity);

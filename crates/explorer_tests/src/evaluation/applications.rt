@@ -109,27 +109,26 @@ const UNDEFINED: [Word; 1] = [Word::Apply("none", 0)];
 
 const MISCOUNTED: [Word; 2] = [Word::Int(1), Word::Apply("swap", 1)];
 
+// Applications, and what is asked.
+const APPLICATIONS: [(&[Word], &str); 13] = [
+    (&APPLY, "take {2,1}\n'normal'"),
+    (&CALL, "take {2,1}\n'normal'"),
+    (&HIDES, "take 3\ntake 1\n'normal'"),
+    (&SEES, "{'unbound',[]}"),
+    (&PASSES, "insert 2 1\n'normal'"),
+    (&ENDS_WITH_TWO, "'normal'"),
+    (&WANTS_ONE, "{'value_count',[]}"),
+    (&UNCAUGHT, "{5,[]}"),
+    (&CAUGHT, "take {'EXIT',{5,[]}}\n'normal'"),
+    (&ANSWERED, "take [97,97]\ntake 1\n'normal'"),
+    (&RECURSION, "take 7\ntake 8\ntake 9\ntake 'done'\n'normal'"),
+    (&UNDEFINED, "{'undef',[]}"),
+    (&MISCOUNTED, "{'undef',[]}"),
+];
+
 #[test]
 fn functions_are_applied(rt: HostRuntime) -> Result<(), Fail> {
-    let rows = [
-        (APPLY.as_slice(), "take {2,1}\n'normal'"),
-        (CALL.as_slice(), "take {2,1}\n'normal'"),
-        (HIDES.as_slice(), "take 3\ntake 1\n'normal'"),
-        (SEES.as_slice(), "{'unbound',[]}"),
-        (PASSES.as_slice(), "insert 2 1\n'normal'"),
-        (ENDS_WITH_TWO.as_slice(), "'normal'"),
-        (WANTS_ONE.as_slice(), "{'value_count',[]}"),
-        (UNCAUGHT.as_slice(), "{5,[]}"),
-        (CAUGHT.as_slice(), "take {'EXIT',{5,[]}}\n'normal'"),
-        (ANSWERED.as_slice(), "take [97,97]\ntake 1\n'normal'"),
-        (
-            RECURSION.as_slice(),
-            "take 7\ntake 8\ntake 9\ntake 'done'\n'normal'",
-        ),
-        (UNDEFINED.as_slice(), "{'undef',[]}"),
-        (MISCOUNTED.as_slice(), "{'undef',[]}"),
-    ];
-    for (words, want) in rows {
+    for (words, want) in APPLICATIONS {
         let text = applied(rt.alloc(), words)?;
         assert_eq!(rt; text.as_slice(), want.as_bytes());
     }

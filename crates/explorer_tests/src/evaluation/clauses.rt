@@ -176,20 +176,22 @@ const LARGE_CASE: [Word; 5] = [
     Word::Case(&[&[Look::Int(4)]]),
 ];
 
+// Clauses, and what is asked.
+const CLAUSES: [(&[Word], &str); 9] = [
+    (&SECOND_CLAUSE, "take 2\n'normal'"),
+    (&GUARDS, "take 1\n'normal'"),
+    (&EVERY_PATTERN, "insert [3,4|5] 5\n'normal'"),
+    (&FAILED_CLAUSE, "take 1\ntake 1\n'normal'"),
+    (&LISTS, "take 2\n'normal'"),
+    (&TWO_PATTERNS, "take 2\n'normal'"),
+    (&NO_CLAUSE, "{{'case_clause',5},[]}"),
+    (&NO_CLAUSE_OF_TWO, "{{'case_clause',{5,6}},[]}"),
+    (&LARGE_CASE, "{'system_limit',[]}"),
+];
+
 #[test]
 fn takes_the_first_clause(rt: HostRuntime) -> Result<(), Fail> {
-    let rows = [
-        (SECOND_CLAUSE.as_slice(), "take 2\n'normal'"),
-        (GUARDS.as_slice(), "take 1\n'normal'"),
-        (EVERY_PATTERN.as_slice(), "insert [3,4|5] 5\n'normal'"),
-        (FAILED_CLAUSE.as_slice(), "take 1\ntake 1\n'normal'"),
-        (LISTS.as_slice(), "take 2\n'normal'"),
-        (TWO_PATTERNS.as_slice(), "take 2\n'normal'"),
-        (NO_CLAUSE.as_slice(), "{{'case_clause',5},[]}"),
-        (NO_CLAUSE_OF_TWO.as_slice(), "{{'case_clause',{5,6}},[]}"),
-        (LARGE_CASE.as_slice(), "{'system_limit',[]}"),
-    ];
-    for (words, want) in rows {
+    for (words, want) in CLAUSES {
         let text = asked(rt.alloc(), words)?;
         assert_eq!(rt; text.as_slice(), want.as_bytes());
     }

@@ -59,18 +59,20 @@ pub(crate) const BADMATCH: [Word; 4] = [
     Word::Fail(1),
 ];
 
+// Exceptions that nothing catches, and what is asked.
+const ENDS: [(&[Word], &str); 7] = [
+    (&AN_ERROR, "{5,[]}"),
+    (&AN_EXIT, "5"),
+    (&A_THROW, "{{'nocatch',5},[]}"),
+    (&NO_CLASS, "{'badarg',[]}"),
+    (&NO_TRACE, "{'badarg',[]}"),
+    (&FUNCTION_CLAUSE, "{'function_clause',[]}"),
+    (&BADMATCH, "{{'badmatch',1},[]}"),
+];
+
 #[test]
 fn ends_by_exceptions(rt: HostRuntime) -> Result<(), Fail> {
-    let rows = [
-        (AN_ERROR.as_slice(), "{5,[]}"),
-        (AN_EXIT.as_slice(), "5"),
-        (A_THROW.as_slice(), "{{'nocatch',5},[]}"),
-        (NO_CLASS.as_slice(), "{'badarg',[]}"),
-        (NO_TRACE.as_slice(), "{'badarg',[]}"),
-        (FUNCTION_CLAUSE.as_slice(), "{'function_clause',[]}"),
-        (BADMATCH.as_slice(), "{{'badmatch',1},[]}"),
-    ];
-    for (words, want) in rows {
+    for (words, want) in ENDS {
         let text = asked(rt.alloc(), words)?;
         assert_eq!(rt; text.as_slice(), want.as_bytes());
     }
@@ -123,17 +125,19 @@ const LARGE_ERROR: [Word; 6] = [
     Word::Raise(2),
 ];
 
+// What is caught, and what is asked with it.
+const CATCHES: [(&[Word], &str); 6] = [
+    (&AN_ERROR, "take {'EXIT',{5,[]}}\n'normal'"),
+    (&AN_EXIT, "take {'EXIT',5}\n'normal'"),
+    (&A_THROW, "take 5\n'normal'"),
+    (&LETTERS, "take [97,97]\ntake 1\n'normal'"),
+    (&LARGE_ERROR, "{'system_limit',[]}"),
+    (&TWO, "{'value_count',[]}"),
+];
+
 #[test]
 fn catches_exceptions(rt: HostRuntime) -> Result<(), Fail> {
-    let rows = [
-        (AN_ERROR.as_slice(), "take {'EXIT',{5,[]}}\n'normal'"),
-        (AN_EXIT.as_slice(), "take {'EXIT',5}\n'normal'"),
-        (A_THROW.as_slice(), "take 5\n'normal'"),
-        (LETTERS.as_slice(), "take [97,97]\ntake 1\n'normal'"),
-        (LARGE_ERROR.as_slice(), "{'system_limit',[]}"),
-        (TWO.as_slice(), "{'value_count',[]}"),
-    ];
-    for (words, want) in rows {
+    for (words, want) in CATCHES {
         let text = caught_of(rt.alloc(), words)?;
         assert_eq!(rt; text.as_slice(), want.as_bytes());
     }
@@ -142,35 +146,30 @@ fn catches_exceptions(rt: HostRuntime) -> Result<(), Fail> {
     Ok(())
 }
 
+// What a handler of two variables takes.
+const HANDLES_TWO: [(&[Word], &str); 5] = [
+    (&AN_ERROR, "take {'error',5}\n'normal'"),
+    (&AN_EXIT, "take {'exit',5}\n'normal'"),
+    (&A_THROW, "take {'throw',5}\n'normal'"),
+    (&LETTERS, "take [97,97]\ntake 1\n'normal'"),
+    // outside of what is protected
+    (&TWO, "{'value_count',[]}"),
+];
+
+// What a handler of three variables takes.
+const HANDLES_THREE: [(&[Word], &str); 3] = [
+    (&AN_ERROR, "take {'error',5,{'$trace','error'}}\n'normal'"),
+    (&AN_EXIT, "take {'exit',5,{'$trace','exit'}}\n'normal'"),
+    (&A_THROW, "take {'throw',5,{'$trace','throw'}}\n'normal'"),
+];
+
 #[test]
 fn handles_exceptions(rt: HostRuntime) -> Result<(), Fail> {
-    let two = [
-        (AN_ERROR.as_slice(), "take {'error',5}\n'normal'"),
-        (AN_EXIT.as_slice(), "take {'exit',5}\n'normal'"),
-        (A_THROW.as_slice(), "take {'throw',5}\n'normal'"),
-        (LETTERS.as_slice(), "take [97,97]\ntake 1\n'normal'"),
-        // outside of what is protected
-        (TWO.as_slice(), "{'value_count',[]}"),
-    ];
-    for (words, want) in two {
+    for (words, want) in HANDLES_TWO {
         let text = tried_of(rt.alloc(), words, 2)?;
         assert_eq!(rt; text.as_slice(), want.as_bytes());
     }
-    let three = [
-        (
-            AN_ERROR.as_slice(),
-            "take {'error',5,{'$trace','error'}}\n'normal'",
-        ),
-        (
-            AN_EXIT.as_slice(),
-            "take {'exit',5,{'$trace','exit'}}\n'normal'",
-        ),
-        (
-            A_THROW.as_slice(),
-            "take {'throw',5,{'$trace','throw'}}\n'normal'",
-        ),
-    ];
-    for (words, want) in three {
+    for (words, want) in HANDLES_THREE {
         let text = tried_of(rt.alloc(), words, 3)?;
         assert_eq!(rt; text.as_slice(), want.as_bytes());
     }

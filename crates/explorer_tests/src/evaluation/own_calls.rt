@@ -72,24 +72,23 @@ const LARGE_RESULT_IS_CAUGHT: [Word; 6] = [
     Word::Try(2),
 ];
 
+// Calls of the process itself, and what is asked.
+const OWN_CALLS: [(&[Word], &str); 10] = [
+    (&OWN_PID, "take P\n'normal'"),
+    (&DIFFERENCE, "first 101\nfirst 102\ntake -1\n'normal'"),
+    (&ERROR, "{'a',[]}"),
+    (&EXIT, "'a'"),
+    (&THROW, "{{'nocatch','a'},[]}"),
+    (&CAUGHT, "take {'EXIT',{'badarg',[]}}\n'normal'"),
+    (&GUARDS, "take 3\n'normal'"),
+    (&WHOLE_RESULT, "'normal'"),
+    (&LARGE_RESULT, "{'system_limit',[]}"),
+    (&LARGE_RESULT_IS_CAUGHT, "'normal'"),
+];
+
 #[test]
 fn a_process_answers_its_own_calls(rt: HostRuntime) -> Result<(), Fail> {
-    let rows = [
-        (OWN_PID.as_slice(), "take P\n'normal'"),
-        (
-            DIFFERENCE.as_slice(),
-            "first 101\nfirst 102\ntake -1\n'normal'",
-        ),
-        (ERROR.as_slice(), "{'a',[]}"),
-        (EXIT.as_slice(), "'a'"),
-        (THROW.as_slice(), "{{'nocatch','a'},[]}"),
-        (CAUGHT.as_slice(), "take {'EXIT',{'badarg',[]}}\n'normal'"),
-        (GUARDS.as_slice(), "take 3\n'normal'"),
-        (WHOLE_RESULT.as_slice(), "'normal'"),
-        (LARGE_RESULT.as_slice(), "{'system_limit',[]}"),
-        (LARGE_RESULT_IS_CAUGHT.as_slice(), "'normal'"),
-    ];
-    for (words, want) in rows {
+    for (words, want) in OWN_CALLS {
         let text = asked(rt.alloc(), words)?;
         assert_eq!(rt; text.as_slice(), want.as_bytes());
     }
