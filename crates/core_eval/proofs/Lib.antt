@@ -8,3 +8,4 @@ pub mod Binding
 pub mod Matches
 pub mod Choosing
 pub mod WorkedRows
+pub mod ReadRequests

@@ -4,6 +4,7 @@ pub mod Matching
 pub mod Evaluation
 pub mod Applications
 pub mod Ask
+pub mod Servable
 pub mod Holes
 pub mod HoleCodes
 pub mod Bindings

@@ -9,10 +9,10 @@ use Rattle.core_tree.specs.declared.call.CallKind.{CallKind}
 use Rattle.core_tree.specs.declared.call.CallKind.TheVariants as kinds
 use Rattle.core_tree.specs.declared.pure.PureCall.{PureCall}
 use Rattle.core_tree.specs.declared.pure.PureCall.TheVariants as pures
-use Rattle.core_tree.specs.Calls.{Signature, signature, calls, number_of_call, call_of_number-number_of_call, has_signature, first_with, call_with}
+use Rattle.core_tree.specs.Calls.{Signature, signature, calls, number_of_call, call_of_number-number_of_call, has_signature, first_with, call_with, IsRead}
 use Rattle.core_tree.specs.PureCalls.{pure_signature, pure_calls, number_of_pure, pure_of_number-number_of_pure, pure_call_with}
 use Rattle.core_tree.specs.Syntax.{Callee, OfWorld, OfItself, OfExport, FailsMatch, RaisesAgain}
-use Rattle.core_grammar.specs.Grammar.{IsRead, IsUnlisted, Calls, calls_world, calls_itself, calls_export, Operates, fails_match, raises_again}
+use Rattle.core_grammar.specs.Grammar.{IsUnlisted, Calls, calls_world, calls_itself, calls_export, Operates, fails_match, raises_again}
 use Rattle.core_scopes.specs.Names.{same_bytes}
 use Rattle.core_grammar.specs.ReadingForms.{is_read, export_called, unlisted_called, callee_by, callee_named, operation_named}
 

@@ -6,24 +6,26 @@ use Rattle.core_tokens.specs.declared.fault.ReadFault.TheVariants.{Expected, Hig
 use Rattle.core_tokens.specs.declared.token.Mark.{Mark}
 use Rattle.core_tokens.specs.declared.token.Mark.TheVariants as m
 use Rattle.core_tokens.specs.declared.token.Keyword.TheVariants as k
-use Rattle.core_tokens.specs.Piece.{Piece, Shape, A_word, A_mark, An_atom, A_variable, An_integer, A_character, A_text}
+use Rattle.core_tokens.specs.Piece.{Piece, Shape, A_word, A_mark, An_atom, A_variable, An_integer, A_float, A_character, A_text}
 use Rattle.core_tree.specs.Syntax.{Mention, NamedAt, Callee, OfWorld, OfItself, OfExport, OfDefinition, FailsMatch, RaisesAgain, Pattern, Patterns, NumberIn, CharacterIn, TextIn, NameIn, VariableIn, GroupIn, ListIn, JoinIn, AliasIn, NoneToMatch, AlsoMatch, patterns_of, Tree, Trees, Clauses, Number, Character, Text, Name, Mentioned, Grouped, Listed, Joined, Several, Bound, Chosen, Followed, Called, Tried, Caught, NoMore, Also, NoClause, Clause, trees_of, ClauseTree, clauses_of, Constant}
 use Rattle.core_grammar.specs.declared.unserved.Unserved.{Unserved}
 use Rattle.core_grammar.specs.declared.unserved.Unserved.TheVariants as unserved
-use Rattle.core_grammar.specs.Grammar.{word, mark, AtomIn, Calls, calls_world, calls_itself, calls_export, Operates, fails_match, raises_again}
+use Rattle.core_grammar.specs.Grammar.{word, mark, atom, AtomIn, Calls, calls_world, calls_itself, calls_export, Operates, fails_match, raises_again}
 use Rattle.core_tree.specs.Calls.{Signature}
 use Rattle.core_grammar.specs.Arguments.{arguments}
-use Rattle.core_grammar.specs.UnservedCalls.{within, IsOwn, LacksName, IsNoCall, lacks_module, lacks_function, calls_nothing}
+use Rattle.core_grammar.specs.Depth.{Front, passes_word}
+use Rattle.core_grammar.specs.Unread.{HasMark, BeginsFunction, BeginsApplied, HigherOrderAt, IsNoOperation, operates_nothing, BeginsUnread}
+use Rattle.core_grammar.specs.UnservedCalls.{within, IsOwn, IsNoName, LacksName, IsNoCall, lacks_module, lacks_function, calls_nothing}
 use Rattle.core_grammar.specs.Places.{IsOne, Opens}
 use Rattle.core_scopes.specs.Outcomes.{◌>>=◌}
 use Rattle.core_grammar.specs.Reading.{State, Read, with_pieces, is_mark, is_word, after_mark, after_word, refusal, is_foreign, mark_at, word_at, taken_by, taken, atom_in, atom_at, named_by, bare_name_at, closed_at, brackets_at, exactly_at, rows_at, begins_constant, deep_constant_of, deep_constant, note_at, in_note_at, constant_tuple_at, constant_list_at, constant_by, constant_form_by, constant_form_at, constant_at, noted_last, noted_by, noted_at, function_name_at, bare_variable_at, variable_at, bare_variables_by, bare_variables_at, variables_at, third_by, bare_caught_at, caught_at, begins_pattern, deep_pattern_of, deep_pattern, pattern_list, pattern_tuple_at, pattern_list_at, pattern_by, pattern_form_by, pattern_form_at, alias_by, alias_at, pattern_at}
 use Rattle.core_grammar.specs.ReadingForms.{is_function, begins_expression, deep_expression_of, expression_fault_of, deep_expression, expression_fault, callee_fault_of, callee_fault, bare_callee_at, callee_at, applied_fault_of, applied_fault, applied_atom_at, behind_applied_by, bare_applied_at, applied_at, callee_named, operation_named, earlier, judged, tree_list, name_by, Start, OnePattern, ManyPatterns, WholeClause, tuple_at, list_at, values_at, let_at, do_at, apply_at, call_at, primop_at, try_at, catch_at, behind_patterns_at, clause_of, start_by, started, inside_start_at, aliased, noted_start_at, bare_start_by, bare_start_at, start_last, start_next, clause_at, case_at, form_by, form_of, form_at, expression_at, start_at}
-use Rattle.core_grammar.proofs.Steps.{after_mark_found, mark_steps}
-use Rattle.core_grammar.proofs.CallsByName.{signed, callee_found, callee_again, operation_found}
+use Rattle.core_grammar.proofs.Steps.{is_mark_true, after_mark_found, mark_steps, atom_steps}
+use Rattle.core_grammar.proofs.CallsByName.{signed, callee_found, callee_again, operation_found, operation_again}
 use Rattle.core_grammar.proofs.SoundForms.{goes_to, callee_sound}
 use Rattle.core_grammar.proofs.BracketSteps.{Walks, closed_count}
 use Rattle.core_grammar.proofs.BracketForms.{expression_walks}
-use Rattle.core_grammar.proofs.FaultSteps.{piece_at, Place, Fault, Inside, IsUnservedAt, Good, Fine, fine_bind, fine_read, cond_fine, refusal_fine, front, here, behind, fault_fine, too_deep_fine, good_at, mark_inside, mark_fine, word_fine, taken_fine, Keeps, atom_fine, named_place, bare_variable_fine, behind_atom_fine, bare_name_fine, Each, closed_fine, Listing, brackets_fine, exactly_fine, rows_fine}
+use Rattle.core_grammar.proofs.FaultSteps.{Place, Fault, Inside, IsUnservedAt, Good, Fine, fine_bind, fine_read, refusal_fine, front, here, behind, unread_here, foreign_fine, fault_fine, too_deep_fine, good_at, mark_inside, mark_fine, word_fine, Keeps, atom_fine, named_place, bare_variable_fine, behind_atom_fine, bare_name_fine, Each, closed_fine, Listing, brackets_fine, exactly_fine, rows_fine}
 
 module _ (all : List Piece) (end : ℕ) where
   abbrev Place' : ℕ → Type 0
@@ -102,12 +104,9 @@ module _ (all : List Piece) (end : ℕ) where
   deep_by true p ps f inside opens h = (p, front all end p ps inside, refl, opens refl)
   deep_by false p ps f inside opens h = h
 
-  foreign_fine : (p : Piece) (ps : List Piece) → Inside all end (p ∷ ps) → Fault' (cond (is_foreign p.shape) (UnsupportedForm p.at) (Expected p.at))
-  foreign_fine p ps inside = cond_fine all end (is_foreign p.shape) (UnsupportedForm p.at) (Expected p.at) (here all end p ps inside) (here all end p ps inside)
-
   deep_constant_of_fine : (stop : ℕ) (ps : List Piece) → stop ≡ end → Inside all end ps → Fault' (deep_constant_of stop ps)
   deep_constant_of_fine stop [] e inside = inr e
-  deep_constant_of_fine stop (p ∷ ps) e inside = deep_by (begins_constant p.shape) p ps _ inside (begins_opens p.shape) (foreign_fine p ps inside)
+  deep_constant_of_fine stop (p ∷ ps) e inside = deep_by (begins_constant p.shape) p ps _ inside (begins_opens p.shape) (foreign_fine all end p ps inside)
 
   deep_constant_fine : (s : State) → Good' s → Fault' (deep_constant s)
   unfolding deep_constant
@@ -115,16 +114,40 @@ module _ (all : List Piece) (end : ℕ) where
 
   deep_pattern_of_fine : (stop : ℕ) (ps : List Piece) → stop ≡ end → Inside all end ps → Fault' (deep_pattern_of stop ps)
   deep_pattern_of_fine stop [] e inside = inr e
-  deep_pattern_of_fine stop (p ∷ ps) e inside = deep_by (begins_pattern p.shape) p ps _ inside (pattern_opens p.shape) (foreign_fine p ps inside)
+  deep_pattern_of_fine stop (p ∷ ps) e inside = deep_by (begins_pattern p.shape) p ps _ inside (pattern_opens p.shape) (foreign_fine all end p ps inside)
 
   deep_pattern_fine : (s : State) → Good' s → Fault' (deep_pattern s)
   unfolding deep_pattern
   deep_pattern_fine s g = refusal_fine all end s.refused (deep_pattern_of s.stop s.pieces) g.refused (deep_pattern_of_fine s.stop s.pieces g.stop g.inside)
 
+  -- a token that begins a function as a value; else another fault there
+  function_begins : (shape : Shape) (ps : List Piece) → is_function shape ps ≡ true → BeginsFunction shape ps
+  function_begins (A_word k.Fun) ps e = tt
+  function_begins (A_word k.Letrec) ps e = tt
+  function_begins (An_atom t) [] e = absurd cc
+  function_begins (An_atom t) (p ∷ ps) e = is_mark_true m.Slash p.shape e
+  function_begins shape ps e = absurd cc
+
+  function_by : (b : Bool) (p : Piece) (ps : List Piece) (f : ReadFault) → Inside all end (p ∷ ps) → is_function p.shape ps ≡ b → Fault' f → Fault' (cond b (HigherOrder p.at) f)
+  function_by true p ps f inside e h = inl (record { before = inside.0; here = p ∷ ps; stands = inside.1; said = (refl, function_begins p.shape ps e) })
+  function_by false p ps f inside e h = h
+
+  -- a token that begins a form that is not read, as `receive`
+  unread_begins : (shape : Shape) (ps : List Piece) → (is_word k.Receive shape || is_foreign shape) ≡ true → BeginsUnread shape ps
+  unread_begins (A_word k.Receive) ps e = tt
+  unread_begins (A_mark m.Hash) ps e = tt
+  unread_begins (A_mark m.Tilde) ps e = tt
+  unread_begins A_float ps e = tt
+  unread_begins shape ps e = absurd cc
+
+  unread_by : (b : Bool) (p : Piece) (ps : List Piece) → Inside all end (p ∷ ps) → (is_word k.Receive p.shape || is_foreign p.shape) ≡ b → Fault' (cond b (UnsupportedForm p.at) (Expected p.at))
+  unread_by true p ps inside e = unread_here all end p ps inside (unread_begins p.shape ps e)
+  unread_by false p ps inside e = here all end p ps inside
+
   deep_expression_of_fine : (stop : ℕ) (ps : List Piece) → stop ≡ end → Inside all end ps → Fault' (deep_expression_of stop ps)
   deep_expression_of_fine stop [] e inside = inr e
   deep_expression_of_fine stop (p ∷ ps) e inside =
-      cond_fine all end (is_function p.shape ps) (HigherOrder p.at) _ (here all end p ps inside) (deep_by (begins_expression p.shape) p ps _ inside (expression_opens p.shape) (foreign_fine p ps inside))
+      function_by (is_function p.shape ps) p ps _ inside refl (deep_by (begins_expression p.shape) p ps _ inside (expression_opens p.shape) (foreign_fine all end p ps inside))
 
   deep_expression_fine : (s : State) → Good' s → Fault' (deep_expression s)
   unfolding deep_expression
@@ -133,8 +156,7 @@ module _ (all : List Piece) (end : ℕ) where
   expression_fault_of_fine : (stop : ℕ) (ps : List Piece) → stop ≡ end → Inside all end ps → Fault' (expression_fault_of stop ps)
   expression_fault_of_fine stop [] e inside = inr e
   expression_fault_of_fine stop (p ∷ ps) e inside =
-      cond_fine all end (is_function p.shape ps) (HigherOrder p.at) _ (here all end p ps inside)
-      (cond_fine all end (is_word k.Receive p.shape || is_foreign p.shape) (UnsupportedForm p.at) (Expected p.at) (here all end p ps inside) (here all end p ps inside))
+      function_by (is_function p.shape ps) p ps _ inside refl (unread_by (is_word k.Receive p.shape || is_foreign p.shape) p ps inside refl)
 
   expression_fault_fine : (s : State) → Good' s → Fault' (expression_fault s)
   unfolding expression_fault
@@ -422,7 +444,7 @@ module _ (all : List Piece) (end : ℕ) where
     where
       by : (b : Bool) → (is_function p.shape [] || begins_expression p.shape) ≡ b → Fault' (cond b (UnsupportedCall at) (cond (is_foreign p.shape) (UnsupportedForm p.at) (Expected p.at)))
       by true is = h (lacks_name p.shape p.at ps e none is)
-      by false is = foreign_fine p ps inside
+      by false is = foreign_fine all end p ps inside
 
   callee_of_fine : (at : ℕ) (qs : List Piece) (s : State) → Good' s → Inside all end qs → after_mark m.LeftParenthesis qs ≡ None → (LacksName (within qs) → Fault' (UnsupportedCall at))
       → Fine' (taken (λ p. atom_in p.shape) qs s (refusal s.refused (callee_fault_of at s.stop qs))) (λ x. Any' x.0 × Good' x.1)
@@ -453,32 +475,80 @@ module _ (all : List Piece) (end : ℕ) where
   nothing_called : (own a f : List ℕ) (count items : ℕ) → count ≡ items → callee_named own a f items ≡ None → (callee : Callee) → ¬ (Calls own (signed a f count) callee)
   nothing_called own a f count items same none callee h = found_nowhere (callee_named own a f count) callee (callee_again own (signed a f count) callee h) (ap (λ (i : ℕ). callee_named own a f i) same ∙ none)
 
-  applied_fault_of_fine : (stop : ℕ) (ps : List Piece) → stop ≡ end → Inside all end ps → Fault' (applied_fault_of stop ps)
-  applied_fault_of_fine stop [] e inside = inr e
-  applied_fault_of_fine stop (p ∷ ps) e inside = cond_fine all end (is_function p.shape [] || begins_expression p.shape) (HigherOrder p.at) _ (here all end p ps inside) (foreign_fine p ps inside)
+  -- what is no operation by its name and the number of arguments is none
+  nothing_operates : (name : List ℕ) (count items : ℕ) → count ≡ items → operation_named name items ≡ None → (callee : Callee) → ¬ (Operates name count callee)
+  nothing_operates name count items same none callee h = found_nowhere (operation_named name count) callee (operation_again name count callee h) (ap (λ (i : ℕ). operation_named name i) same ∙ none)
 
-  applied_fault_fine : (s : State) → Good' s → Fault' (applied_fault s)
-  unfolding applied_fault
-  applied_fault_fine s g = refusal_fine all end s.refused (applied_fault_of s.stop s.pieces) g.refused (applied_fault_of_fine s.stop s.pieces g.stop g.inside)
+  -- ---- what is applied
 
-  applied_atom_fine : Keeps' applied_atom_at (λ x. Place' x.0)
-  unfolding applied_atom_at
-  applied_atom_fine s g =
-      taken_fine all end (λ p. named_by p.at p.shape) (λ x. Place' x.0) (λ p x h e. subst (λ (at : ℕ). Place' at) (named_place all end p.at p.shape x e) (inl (piece_at all p h))) s.pieces s (applied_fault s) g g.inside (applied_fault_fine s g)
+  -- a value that begins these tokens is one that is applied
+  abbrev IsApplied : List Piece → Type 0
+  IsApplied qs = (at : ℕ) → Front BeginsApplied at qs → HigherOrderAt all at
 
-  behind_applied_fine : (at : ℕ) (t : List ℕ) (o : Option (List Piece)) (s : State) → Place' at → Good' s → Fine' (behind_applied_by at t o s) (λ x. NamePlaced' x.0 × Good' x.1)
-  behind_applied_fine at t (Some ps) s h g = refusal_fine all end s.refused (HigherOrder at) g.refused h
-  behind_applied_fine at t None s h g = behind_atom_fine all end at t h s g
+  has_mark : (x : Mark) (qs rest : List Piece) → after_mark x qs ≡ Some rest → HasMark x qs
+  has_mark x qs rest e = let f = after_mark_found x qs rest e in subst (λ (ps : List Piece). HasMark x ps) (sym f.1) refl
 
-  bare_applied_fine : Keeps' bare_applied_at NamePlaced'
+  within_bare : (shape : Shape) (at : ℕ) (ps : List Piece) → cond (is_mark m.LeftParenthesis shape) (Some ps) None ≡ None → within (record { at = at; shape = shape } ∷ ps) ≡ record { at = at; shape = shape } ∷ ps
+  within_bare (A_mark m.LeftParenthesis) at ps e = absurd cc
+  within_bare shape at ps e = refl
+
+  no_name_applied : (shape : Shape) (ps : List Piece) → IsNoName shape → BeginsApplied shape ps
+  no_name_applied (An_atom t) ps h = absurd h
+  no_name_applied shape ps h = h
+
+  -- where no atom and no `(` stands in front of what begins an expression, a value is applied
+  value_applied : (p : Piece) (ps : List Piece) → after_mark m.LeftParenthesis (p ∷ ps) ≡ None → LacksName (within (p ∷ ps)) → Front BeginsApplied p.at (within (p ∷ ps))
+  value_applied p ps none lacks =
+      let bare = within_bare p.shape p.at ps none in
+      let nameless : IsNoName p.shape = subst (λ (qs : List Piece). LacksName qs) bare lacks in
+      subst (λ (qs : List Piece). Front BeginsApplied p.at qs) (sym bare) (refl, no_name_applied p.shape ps nameless)
+
+  -- so is an atom with its arguments behind it
+  atom_applied : (shape : Shape) (at : ℕ) (ps : List Piece) (x : ℕ × List ℕ) → named_by at shape ≡ Some x → HasMark m.LeftParenthesis ps → Front BeginsApplied x.0 (within (record { at = at; shape = shape } ∷ ps))
+  atom_applied (An_atom t) at ps x e h = let same : (at, t) ≡ x = cc in (ap (λ (y : ℕ × List ℕ). y.0) same, h)
+  atom_applied shape at ps x e h = absurd cc
+
+  no_atom : (at : ℕ) (shape : Shape) → named_by at shape ≡ None → atom_in shape ≡ None
+  no_atom at (An_atom t) e = absurd cc
+  no_atom at shape e = refl
+
+  -- an atom that stands at a place, and is a value where its arguments stand behind it
+  abbrev AtomApplied : (ℕ × List ℕ) × State → Type 0
+  AtomApplied x = Place' x.0.0 × Good' x.1 × (HasMark m.LeftParenthesis x.1.pieces → HigherOrderAt all x.0.0)
+
+  applied_by_fine : (p : Piece) (ps : List Piece) (s : State) → Good' s → Inside all end (p ∷ ps) → after_mark m.LeftParenthesis (p ∷ ps) ≡ None → IsApplied (within (p ∷ ps)) → (o : Option (ℕ × List ℕ)) → named_by p.at p.shape ≡ o
+      → Fine' (taken_by o ps s (refusal s.refused (applied_fault_of s.stop (p ∷ ps)))) AtomApplied
+  applied_by_fine p ps s g inside none h (Some x) e =
+      let place : Place' x.0 = subst (λ (at : ℕ). Place' at) (named_place all end p.at p.shape x e) (here all end p ps inside) in
+      (place, good_at all end s ps g (behind all end p ps inside), λ mark. h x.0 (atom_applied p.shape p.at ps x e mark))
+  applied_by_fine p ps s g inside none h None e = refusal_fine all end s.refused (applied_fault_of s.stop (p ∷ ps)) g.refused (by (is_function p.shape [] || begins_expression p.shape) refl)
+    where
+      by : (b : Bool) → (is_function p.shape [] || begins_expression p.shape) ≡ b → Fault' (cond b (HigherOrder p.at) (cond (is_foreign p.shape) (UnsupportedForm p.at) (Expected p.at)))
+      by true is = h p.at (value_applied p ps none (lacks_name p.shape p.at ps (no_atom p.at p.shape e) none is))
+      by false is = foreign_fine all end p ps inside
+
+  applied_of_fine : (qs : List Piece) (s : State) → Good' s → Inside all end qs → after_mark m.LeftParenthesis qs ≡ None → IsApplied (within qs) → Fine' (taken (λ p. named_by p.at p.shape) qs s (refusal s.refused (applied_fault_of s.stop qs))) AtomApplied
+  applied_of_fine [] s g inside none h = refusal_fine all end s.refused (Expected s.stop) g.refused (inr g.stop)
+  applied_of_fine (p ∷ ps) s g inside none h = applied_by_fine p ps s g inside none h (named_by p.at p.shape) refl
+
+  applied_atom_fine : (s : State) → Good' s → after_mark m.LeftParenthesis s.pieces ≡ None → IsApplied (within s.pieces) → Fine' (applied_atom_at s) AtomApplied
+  unfolding applied_atom_at applied_fault
+  applied_atom_fine s g none h = applied_of_fine s.pieces s g g.inside none h
+
+  behind_applied_fine : (at : ℕ) (t : List ℕ) (o : Option (List Piece)) (s : State) → after_mark m.LeftParenthesis s.pieces ≡ o → Place' at → Good' s → (HasMark m.LeftParenthesis s.pieces → HigherOrderAt all at) → Fine' (behind_applied_by at t o s) (λ x. NamePlaced' x.0 × Good' x.1)
+  behind_applied_fine at t (Some ps) s is p g h = refusal_fine all end s.refused (HigherOrder at) g.refused (h (has_mark m.LeftParenthesis s.pieces ps is))
+  behind_applied_fine at t None s is p g h = behind_atom_fine all end at t p s g
+
+  bare_applied_fine : (s : State) → Good' s → after_mark m.LeftParenthesis s.pieces ≡ None → IsApplied (within s.pieces) → Fine' (bare_applied_at s) (λ x. NamePlaced' x.0 × Good' x.1)
   unfolding bare_applied_at
-  bare_applied_fine s g =
-      bind (applied_atom_at s) _ (λ x. Place' x.0.0 × Good' x.1) (λ x. NamePlaced' x.0 × Good' x.1) (applied_atom_fine s g) (λ a ga.
-      behind_applied_fine a.0.0 a.0.1 (after_mark m.LeftParenthesis a.1.pieces) a.1 ga.0 ga.1)
+  bare_applied_fine s g none h =
+      bind (applied_atom_at s) _ AtomApplied (λ x. NamePlaced' x.0 × Good' x.1) (applied_atom_fine s g none h) (λ a ga.
+      behind_applied_fine a.0.0 a.0.1 (after_mark m.LeftParenthesis a.1.pieces) a.1 refl ga.0 ga.1 ga.2)
 
-  applied_fine : (n : ℕ) → Keeps' (applied_at n) NamePlaced'
+  applied_fine : (n : ℕ) (s : State) → Good' s → IsApplied (within s.pieces) → Fine' (applied_at n s) (λ x. NamePlaced' x.0 × Good' x.1)
   unfolding applied_at
-  applied_fine n s g = noted_fine (λ _. bare_applied_at) NamePlaced' (λ _. bare_applied_fine) n s g
+  applied_fine n s g h =
+      noted_from_fine (λ _. bare_applied_at) NamePlaced' (within s.pieces) (λ l s1 g1 none w. bare_applied_fine s1 g1 none (subst (λ (qs : List Piece). IsApplied qs) (sym w) h)) n s refl g
 
   -- ---- what is not served
 
@@ -535,10 +605,11 @@ module _ (all : List Piece) (end : ℕ) where
         bind (inner s) _ (λ x. TreeAt x.0 × Good' x.1) (λ x. TreeAt x.0 × Good' x.1) (each s g) (λ t gt.
         bind (inner t.1) _ (λ x. TreeAt x.0 × Good' x.1) (λ x. TreeAt x.0 × Good' x.1) (each t.1 gt.1) (λ u gu. ((gt.0, gu.0), gu.1)))
 
-    apply_fine : (at : ℕ) → Place' at → Keeps' (apply_at own n inner at) TreeAt
+    apply_fine : (at : ℕ) → Place' at → (s : State) → Inside all end (word at k.Apply ∷ s.pieces) → Good' s → Fine' (apply_at own n inner at s) (λ x. TreeAt x.0 × Good' x.1)
     unfolding apply_at
-    apply_fine at p s g =
-        bind (applied_at n s) _ (λ x. NamePlaced' x.0 × Good' x.1) (λ x. TreeAt x.0 × Good' x.1) (applied_fine n s g) (λ f gf.
+    apply_fine at p s o g =
+        let applied : IsApplied (within s.pieces) = λ bt value. inr (record { before = o.0; here = word at k.Apply ∷ s.pieces; stands = o.1; said = passes_word value }) in
+        bind (applied_at n s) _ (λ x. NamePlaced' x.0 × Good' x.1) (λ x. TreeAt x.0 × Good' x.1) (applied_fine n s g applied) (λ f gf.
         bind (mark_at m.LeftParenthesis f.1) _ Good' (λ x. TreeAt x.0 × Good' x.1) (mark_fine all end m.LeftParenthesis f.1 gf.1) (λ s1 g1.
         bind (exactly_at inner true f.0.function.arity s1) _ (λ x. Each' TreeAt x.0 × Good' x.1) (λ x. TreeAt x.0 × Good' x.1) (exactly_fine all end inner TreeAt each true f.0.function.arity s1 g1) (λ ts gt.
         bind (mark_at m.RightParenthesis ts.1) _ Good' (λ x. TreeAt x.0 × Good' x.1) (mark_fine all end m.RightParenthesis ts.1 gt.1) (λ s2 g2. (((p, gf.0), trees_at ts.0 gt.0), g2)))))
@@ -560,13 +631,20 @@ module _ (all : List Piece) (end : ℕ) where
         (λ none. unserved_by (calls_nothing n first.1 second.1 (nothing_called own a.0 f.0 (arguments s2.pieces) (length ts.0) count none)))
         (λ c is. called_at own at _ c p one (callee_found own a.0 f.0 (length ts.0) c is)) gt.0 gt.1)))))
 
-    primop_fine : (at : ℕ) → Place' at → IsOne all (word at k.Primop) → Keeps' (primop_at own n inner at) TreeAt
+    primop_fine : (at : ℕ) → Place' at → (s : State) → Inside all end (word at k.Primop ∷ s.pieces) → Good' s → Fine' (primop_at own n inner at s) (λ x. TreeAt x.0 × Good' x.1)
     unfolding primop_at
-    primop_fine at p h s g =
-        bind (atom_at s) _ (λ x. Any' x.0 × Good' x.1) (λ x. TreeAt x.0 × Good' x.1) (atom_fine all end s g) (λ a ga.
-        bind (mark_at m.LeftParenthesis a.1) _ Good' (λ x. TreeAt x.0 × Good' x.1) (mark_fine all end m.LeftParenthesis a.1 ga.1) (λ s1 g1.
-        bind (closed_at inner m.RightParenthesis s1) _ (λ x. Each' TreeAt x.0 × Good' x.1) (λ x. TreeAt x.0 × Good' x.1) (closed_fine all end inner TreeAt each m.RightParenthesis s1 g1) (λ ts gt.
-        judged_fine at (unserved.Primop at) (operation_named a.0 (length ts.0)) ts.0 ts.1 (λ none. h) (λ c is. operates_at at a.0 (length ts.0) c p (operation_found a.0 (length ts.0) c is)) gt.0 gt.1)))
+    primop_fine at p s o g =
+        read (atom_at s) _ (λ x. Any' x.0 × Good' x.1) (λ x. TreeAt x.0 × Good' x.1) (atom_fine all end s g) (λ a ea ga.
+        read (mark_at m.LeftParenthesis a.1) _ Good' (λ x. TreeAt x.0 × Good' x.1) (mark_fine all end m.LeftParenthesis a.1 ga.1) (λ s1 e1 g1.
+        let name = atom_steps s a.0 a.1 ea in
+        let opens = mark_steps m.LeftParenthesis a.1 s1 e1 in
+        let stands : s.pieces ≡ atom name.at a.0 ∷ mark opens.at m.LeftParenthesis ∷ s1.pieces = name.pieces ∙ ap (λ (qs : List Piece). atom name.at a.0 ∷ qs) opens.pieces in
+        read (closed_at inner m.RightParenthesis s1) _ (λ x. Each' TreeAt x.0 × Good' x.1) (λ x. TreeAt x.0 × Good' x.1) (closed_fine all end inner TreeAt each m.RightParenthesis s1 g1) (λ ts et gt.
+        let count : arguments s1.pieces ≡ length ts.0 = closed_count inner walks s1 ts.0 ts.1 et in
+        let unread_by_name : operation_named a.0 (length ts.0) ≡ None → IsNoOperation s.pieces = λ none. subst (λ (qs : List Piece). IsNoOperation qs) (sym stands) (operates_nothing (nothing_operates a.0 (arguments s1.pieces) (length ts.0) count none)) in
+        judged_fine at (unserved.Primop at) (operation_named a.0 (length ts.0)) ts.0 ts.1
+        (λ none. unread_here all end (word at k.Primop) s.pieces o (unread_by_name none))
+        (λ c is. operates_at at a.0 (length ts.0) c p (operation_found a.0 (length ts.0) c is)) gt.0 gt.1)))
 
     try_fine : (at : ℕ) → Keeps' (try_at own n inner at) TreeAt
     unfolding try_at
@@ -660,9 +738,9 @@ module _ (all : List Piece) (end : ℕ) where
       form_by_fine at (A_word k.Let) ps s o p g h = let_fine (with_pieces s ps) h
       form_by_fine at (A_word k.Case) ps s o p g h = case_fine at (with_pieces s ps) h
       form_by_fine at (A_word k.Do) ps s o p g h = do_fine (with_pieces s ps) h
-      form_by_fine at (A_word k.Apply) ps s o p g h = apply_fine at p (with_pieces s ps) h
+      form_by_fine at (A_word k.Apply) ps s o p g h = apply_fine at p (with_pieces s ps) o h
       form_by_fine at (A_word k.Call) ps s o p g h = call_fine at p (with_pieces s ps) o h
-      form_by_fine at (A_word k.Primop) ps s o p g h = primop_fine at p (front all end (word at k.Primop) ps o) (with_pieces s ps) h
+      form_by_fine at (A_word k.Primop) ps s o p g h = primop_fine at p (with_pieces s ps) o h
       form_by_fine at (A_word k.Try) ps s o p g h = try_fine at (with_pieces s ps) h
       form_by_fine at (A_word k.Catch) ps s o p g h = catch_fine at (with_pieces s ps) h
       form_by_fine at shape ps s o p g h = expression_fault_fine s g

@@ -7,12 +7,13 @@ use Rattle.core_tokens.specs.declared.token.Mark.{Mark}
 use Rattle.core_tokens.specs.declared.token.Mark.TheVariants as m
 use Rattle.core_tokens.specs.declared.token.Keyword.{Keyword}
 use Rattle.core_tokens.specs.declared.token.Keyword.TheVariants as k
-use Rattle.core_tokens.specs.Piece.{Piece, Shape, A_mark, An_atom, A_variable}
+use Rattle.core_tokens.specs.Piece.{Piece, Shape, A_mark, An_atom, A_variable, A_float}
 use Rattle.core_tree.specs.Syntax.{Mention, NamedAt}
 use Rattle.core_grammar.specs.declared.unserved.Unserved.{Unserved}
 use Rattle.core_grammar.specs.declared.unserved.Unserved.TheVariants as unserved
 use Rattle.core_grammar.specs.Grammar.{word}
 use Rattle.core_grammar.specs.UnservedCalls.{UnservedCallAt}
+use Rattle.core_grammar.specs.Unread.{BeginsUnread, HigherOrderAt, UnreadAt}
 use Rattle.core_grammar.specs.Places.{IsOne, IsAt, IsPlace, OpensAt}
 use Rattle.core_scopes.specs.Outcomes.{◌>>=◌}
 use Rattle.core_grammar.specs.Reading.{State, Read, with_pieces, is_mark, is_word, after_mark, after_word, fault_of_unserved, refusal, is_foreign, fault_of, fault, place_of, too_deep, passed, mark_at, word_at, taken_by, taken, atom_in, atom_at, named_by, placed_atom_at, arity_in, arity_at, mention_by, bare_variable_at, behind_atom_at, bare_name_at, comma_at, more_at, commas_at, items_at, closed_by, closed_at, tail_at, brackets_by, brackets_at, item_of, exactly_at, row_by, row_at, rows_at}
@@ -29,8 +30,8 @@ one_behind (q ∷ qs) ps p h = inr (one_behind qs ps p h)
 -- what a fault of the grammar says
 abbrev pub IsGrammarFault : List Piece → ℕ → ReadFault → Type 0
 IsGrammarFault ps length (Expected at) = IsPlace ps length at
-IsGrammarFault ps length (HigherOrder at) = IsPlace ps length at
-IsGrammarFault ps length (UnsupportedForm at) = IsPlace ps length at
+IsGrammarFault ps length (HigherOrder at) = HigherOrderAt ps at
+IsGrammarFault ps length (UnsupportedForm at) = UnreadAt ps at
 IsGrammarFault ps length (UnsupportedCall at) = IsOne ps (word at k.Call) × UnservedCallAt ps at
 IsGrammarFault ps length (TooDeep at) = OpensAt ps at
 IsGrammarFault ps length f = ⊥
@@ -53,7 +54,7 @@ module _ (all : List Piece) (end : ℕ) where
   -- what is not served begins with its word
   abbrev pub IsUnservedAt : Unserved → Type 0
   IsUnservedAt (unserved.Call at) = IsOne all (word at k.Call) × UnservedCallAt all at
-  IsUnservedAt (unserved.Primop at) = IsOne all (word at k.Primop)
+  IsUnservedAt (unserved.Primop at) = UnreadAt all at
 
   pub record Good (s : State) : Type 0 where
     pub stop : s.stop ≡ end
@@ -81,7 +82,7 @@ module _ (all : List Piece) (end : ℕ) where
 
   unserved_fault : (u : Unserved) → IsUnservedAt u → Fault (fault_of_unserved u)
   unserved_fault (unserved.Call at) h = h
-  unserved_fault (unserved.Primop at) h = inl (piece_at all (word at k.Primop) h)
+  unserved_fault (unserved.Primop at) h = h
 
   pub unserved_fine : (u : Unserved) → IsUnservedAt u → Fault (fault_of_unserved u)
   unserved_fine u h = unserved_fault u h
@@ -99,9 +100,27 @@ module _ (all : List Piece) (end : ℕ) where
   pub behind : (p : Piece) (ps : List Piece) → Inside (p ∷ ps) → Inside ps
   behind p ps inside = (inside.0 ++ p ∷ [], inside.1 ∙ sym (append_assoc inside.0 (p ∷ []) ps))
 
+  -- a token that begins a form that is not read
+  pub unread_here : (p : Piece) (ps : List Piece) → Inside (p ∷ ps) → BeginsUnread p.shape ps → UnreadAt all p.at
+  unread_here p ps inside begins = record { before = inside.0; here = p ∷ ps; stands = inside.1; said = (refl, begins) }
+
+  foreign_begins : (shape : Shape) (ps : List Piece) → is_foreign shape ≡ true → BeginsUnread shape ps
+  foreign_begins A_float ps e = tt
+  foreign_begins (A_mark m.Hash) ps e = tt
+  foreign_begins (A_mark m.Tilde) ps e = tt
+  foreign_begins shape ps e = absurd cc
+
+  foreign_by : (b : Bool) (p : Piece) (ps : List Piece) → Inside (p ∷ ps) → is_foreign p.shape ≡ b → Fault (cond b (UnsupportedForm p.at) (Expected p.at))
+  foreign_by true p ps inside e = unread_here p ps inside (foreign_begins p.shape ps e)
+  foreign_by false p ps inside e = here p ps inside
+
+  -- the fault at a token that cannot stand here
+  pub foreign_fine : (p : Piece) (ps : List Piece) → Inside (p ∷ ps) → Fault (cond (is_foreign p.shape) (UnsupportedForm p.at) (Expected p.at))
+  foreign_fine p ps inside = foreign_by (is_foreign p.shape) p ps inside refl
+
   pub fault_of_fine : (stop : ℕ) (ps : List Piece) → stop ≡ end → Inside ps → Fault (fault_of stop ps)
   fault_of_fine stop [] e inside = inr e
-  fault_of_fine stop (p ∷ ps) e inside = cond_fine (is_foreign p.shape) (UnsupportedForm p.at) (Expected p.at) (here p ps inside) (here p ps inside)
+  fault_of_fine stop (p ∷ ps) e inside = foreign_fine p ps inside
 
   pub fault_fine : (s : State) → Good s → Fault (fault s)
   unfolding fault

@@ -24,3 +24,4 @@ pub mod DeepClauses
 pub mod DeepModules
 pub mod FaultLaws
 pub mod WholeLaws
+pub mod ServableTrees

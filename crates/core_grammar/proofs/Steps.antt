@@ -81,7 +81,7 @@ word_back k.Letrec = refl
 pub same_word : (x y : Keyword) → word_number x ≡ word_number y → x ≡ y
 same_word x y e = sym (word_back x) ∙ ap (λ (n : ℕ). get_or words n k.End) e ∙ word_back y
 
-is_mark_true : (x : Mark) (shape : Shape) → is_mark x shape ≡ true → shape ≡ A_mark x
+pub is_mark_true : (x : Mark) (shape : Shape) → is_mark x shape ≡ true → shape ≡ A_mark x
 is_mark_true x (A_mark y) e = ap A_mark (same_mark y x (eqb-true _ _ e))
 is_mark_true x shape e = absurd cc
 

@@ -2,13 +2,12 @@
 -- Item ps x rest says: the front of the tokens ps spells x, and rest is what stands behind it.
 use Rattle.std.specs.Prelude.{◌≡◌, ◌≢◌, ℕ, zero, suc, ◌<◌, ℤ, pos, List, [], ◌∷◌, length, codes}
 use Rattle.core_tree.specs.declared.call.CallKind.{CallKind}
-use Rattle.core_tree.specs.declared.call.CallKind.TheVariants as calls
 use Rattle.core_tree.specs.declared.pure.PureCall.{PureCall}
 use Rattle.core_tokens.specs.declared.token.Keyword.{Keyword}
 use Rattle.core_tokens.specs.declared.token.Keyword.TheVariants as k
 use Rattle.core_tokens.specs.declared.token.Mark.{Mark}
 use Rattle.core_tokens.specs.declared.token.Mark.TheVariants as m
-use Rattle.core_tree.specs.Calls.{Signature, signature}
+use Rattle.core_tree.specs.Calls.{Signature, signature, IsRead}
 use Rattle.core_tree.specs.PureCalls.{pure_signature}
 use Rattle.core_tokens.specs.Piece.{Piece, Shape, A_word, A_mark, An_atom, A_variable, An_integer, A_character, A_text}
 use Rattle.core_tree.specs.Syntax.{Mention, NamedAt, Callee, OfWorld, OfItself, OfExport, OfDefinition, FailsMatch, RaisesAgain, Pattern, NumberIn, CharacterIn, TextIn, NameIn, VariableIn, GroupIn, ListIn, JoinIn, AliasIn, patterns_of, Tree, Number, Character, Text, Name, Mentioned, Grouped, Listed, Joined, Several, Bound, Chosen, Followed, Called, Tried, Caught, trees_of, ClauseTree, clauses_of, Constant, NumberOf, CharacterOf, TextOf, NameOf, GroupOf, ListOf, JoinOf, constants_of, AttributeTree, DefinitionTree, ModuleTree}
@@ -202,13 +201,6 @@ abbrev pub PatternsIn : ℕ → List Piece → List Pattern → List Piece → T
 PatternsIn n ps qs rest = ClausePatterns (PatternIn n) (Angles n) ps qs rest
 
 -- ---- calls
-
--- the calls of the world that are read so far
-abbrev pub IsRead : CallKind → Type 0
-IsRead calls.New = Unit {0}
-IsRead calls.Insert = Unit {0}
-IsRead calls.Lookup = Unit {0}
-IsRead kind = ⊥
 
 -- no call of the world and none that a process answers by itself has these names and so many arguments
 pub record IsUnlisted (called : Signature) : Type 0 where

@@ -6,6 +6,7 @@ pub mod Whole
 pub mod Arguments
 pub mod UnservedCalls
 pub mod Depth
+pub mod Unread
 pub mod Places
 pub mod Levels
 pub mod Loops

@@ -11,6 +11,7 @@ use Rattle.core_grammar.specs.Depth.{OpensPastLast}
 use Rattle.core_scopes.specs.Scopes.{functions, main_function}
 use Rattle.core_scopes.specs.ScopeFaults.{ModuleBreaks}
 use Rattle.core_grammar.specs.UnservedCalls.{UnservedCallAt}
+use Rattle.core_grammar.specs.Unread.{HigherOrderAt, UnreadAt}
 
 -- one of the tokens
 abbrev pub IsOne : List Piece → Piece → Type 0
@@ -72,11 +73,11 @@ Breaks ps fault = (tree : ModuleTree) × Spells ps tree × ModuleBreaks tree fau
 abbrev pub LacksMain : List Piece → Type 0
 LacksMain ps = (tree : ModuleTree) × Spells ps tree × ¬ (Contains (functions tree.definitions) main_function)
 
--- the faults that tokens can have, and what they say: of the grammar a place, at 8 that of the word `call` of a call that is not served, by its names and the number of its arguments or as one of the module's own functions that it does not export, at 10 that of a token that opens a construct, to which the grammar leads with no level left; of the scopes a place, and that they break a module there; at 13 the place of the last `end`, and that they spell a module without `main/0`
+-- the faults that tokens can have, and what they say: of the grammar at 2 a place, at 7 that of a function as a value or of a value that is applied, at 14 that of a form that is not read, at 8 that of the word `call` of a call that is not served, by its names and the number of its arguments or as one of the module's own functions that it does not export, at 10 that of a token that opens a construct, to which the grammar leads with no level left; of the scopes a place, and that they break a module there; at 13 the place of the last `end`, and that they spell a module without `main/0`
 abbrev pub IsFaultOf : List Piece → ℕ → ReadFault → Type 0
 IsFaultOf ps length (Expected at) = IsPlace ps length at
-IsFaultOf ps length (HigherOrder at) = IsPlace ps length at
-IsFaultOf ps length (UnsupportedForm at) = IsPlace ps length at
+IsFaultOf ps length (HigherOrder at) = HigherOrderAt ps at
+IsFaultOf ps length (UnsupportedForm at) = UnreadAt ps at
 IsFaultOf ps length (UnsupportedCall at) = IsOne ps (word at k.Call) × (UnservedCallAt ps at ⊎ Breaks ps (UnsupportedCall at))
 IsFaultOf ps length (TooDeep at) = OpensAt ps at × OpensPastLast ps at
 IsFaultOf ps length (Unbound at) = IsPlace ps length at × Breaks ps (Unbound at)

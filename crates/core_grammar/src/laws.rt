@@ -2,6 +2,7 @@
 ghost use Rattle.std.specs.Prelude.{◌≡◌, ℕ, List, Ok, Err};
 ghost use Rattle.core_tokens.specs.declared.fault.ReadFault.{ReadFault};
 ghost use Rattle.core_tokens.specs.Piece.{Piece};
+ghost use Rattle.core_tree.specs.Servable.{IsServableModule};
 ghost use Rattle.core_tree.specs.Syntax.{ModuleTree};
 ghost use Rattle.core_scopes.specs.ScopeFaults.{IsFaultOfModule};
 ghost use Rattle.core_grammar.specs.Grammar.{Spells};
@@ -19,6 +20,19 @@ pub fn decoded_is_spelt()
 #[tactic(auto, using(crate::proofs::WholeLaws::spelt_decoded))]
 pub fn spelt_is_decoded()
     ensures { (stop : ℕ) (ps : List Piece) (m : ModuleTree) → Spells ps m → (at : ℕ) × (module_at (start stop ps) ≡ Ok (m, at)) }
+{}
+
+/// The tokens spell at most one module.
+#[tactic(auto, using(crate::proofs::WholeLaws::spelt_once))]
+pub fn tokens_spell_one_module()
+    ensures { (ps : List Piece) (a b : ModuleTree) → Spells ps a → Spells ps b → a ≡ b }
+{}
+
+/// In a module that tokens spell each call of the world is one that is read, with as many arguments as it
+/// has.
+#[tactic(auto, using(crate::proofs::ServableTrees::module_servable))]
+pub fn spelt_calls_are_read()
+    ensures { (ps : List Piece) (m : ModuleTree) → Spells ps m → IsServableModule m }
 {}
 
 /// A fault of decoding is one that the tokens can have.

@@ -1,3 +1,4 @@
 pub mod ReadLaws
 pub mod WithinText
 pub mod Refusals
+pub mod TextLaws

@@ -4,13 +4,17 @@ use Rattle.std.specs.Prelude.{Result, Ok, Err, IfOk, IfErr}
 use Rattle.std.specs.Str.{IsUtf8}
 use Rattle.core_tokens.specs.declared.fault.ReadFault.{ReadFault}
 use Rattle.core_tokens.specs.declared.fault.ReadFault.TheVariants as fault
-use Rattle.core_tokens.specs.Piece.{Piece}
+use Rattle.core_tokens.specs.Piece.{Piece, Shape, A_mark}
 use Rattle.core_tree.specs.Syntax.{ModuleTree}
 use Rattle.core_scopes.specs.Scopes.{IsLawful}
 use Rattle.core_grammar.specs.Whole.{IsReadAs}
 use Rattle.core_tokens.specs.Tokens.{Spelt, none, blank, comment, token, AreTokens, IsTokenFault}
 use Rattle.core_tokens.specs.declared.token.Keyword.TheVariants as k
+use Rattle.core_tokens.specs.declared.token.Mark.TheVariants as m
 use Rattle.core_grammar.specs.Grammar.{word, Spells}
+use Rattle.core_grammar.specs.Depth.{Front, passes_word}
+use Rattle.core_grammar.specs.UnservedCalls.{within_by, within}
+use Rattle.core_grammar.specs.Unread.{SomeAre, BeginsFunction, BeginsApplied, AppliesValue, BeginsUnread}
 use Rattle.core_grammar.specs.Places.{IsOne, IsAt, IsPlace, IsLastEnd, IsFaultOf}
 use Rattle.core_tokens.specs.Within.{IsPlacedWithin, StandWithin}
 use Rattle.core_reader.specs.Reader.{SpellsModule, text_limit}
@@ -74,6 +78,29 @@ behind_stands (q ∷ qs) behind p = inr (behind_stands qs behind p)
 last_end_stands : (ps : List Piece) (at : ℕ) → IsLastEnd ps at → IsOne ps (word at k.End)
 last_end_stands ps at h = subst (λ (qs : List Piece). IsOne qs (word at k.End)) (sym h.stands) (behind_stands h.before h.behind (word at k.End))
 
+-- the last tokens stand in the text
+last_within : (stop : ℕ) (before here : List Piece) → StandWithin stop (before ++ here) → StandWithin stop here
+last_within stop [] here w = w
+last_within stop (p ∷ ps) here w = last_within stop ps here w.1
+
+some_within : (stop at : ℕ) (Said : List Piece → Type 0) (ps : List Piece) → ((qs : List Piece) → StandWithin stop qs → Said qs → at ≤ stop) → StandWithin stop ps → SomeAre Said ps → at ≤ stop
+some_within stop at Said ps each w h = each h.here (last_within stop h.before h.here (subst (λ (qs : List Piece). StandWithin stop qs) h.stands w)) h.said
+
+front_within : (stop at : ℕ) (Begins : Shape → List Piece → Type 0) (qs : List Piece) → StandWithin stop qs → Front Begins at qs → at ≤ stop
+front_within stop at Begins [] w h = absurd h
+front_within stop at Begins (p ∷ ps) w h = subst (λ (n : ℕ). n ≤ stop) h.0 w.0
+
+bare_within : (stop : ℕ) (shape : Shape) (here behind : List Piece) → StandWithin stop here → StandWithin stop behind → StandWithin stop (within_by shape here behind)
+bare_within stop (A_mark m.LeftParenthesis) here behind h g = g
+bare_within stop shape here behind h g = h
+
+parentheses_within : (stop : ℕ) (qs : List Piece) → StandWithin stop qs → StandWithin stop (within qs)
+parentheses_within stop [] w = w
+parentheses_within stop (p ∷ ps) w = bare_within stop p.shape (p ∷ ps) (within ps) w (parentheses_within stop ps w.1)
+
+value_within : (stop at : ℕ) (qs : List Piece) → StandWithin stop qs → AppliesValue at qs → at ≤ stop
+value_within stop at qs w (passes_word {ps = ps} h) = front_within stop at BeginsApplied (within ps) (parentheses_within stop ps w.1) h
+
 -- a fault of the grammar or of the scopes stands in the text
 pub fault_within : (stop : ℕ) (ps : List Piece) (e : ReadFault) → StandWithin stop ps → IsFaultOf ps stop e → IsPlacedWithin stop e
 fault_within stop ps (fault.Expected at) w f = place_within stop ps at w f
@@ -82,8 +109,9 @@ fault_within stop ps (fault.DuplicateVariable at) w f = place_within stop ps at 
 fault_within stop ps (fault.DuplicateFunction at) w f = place_within stop ps at w f.0
 fault_within stop ps (fault.NoFunction at) w f = place_within stop ps at w f.0
 fault_within stop ps (fault.EffectInGuard at) w f = place_within stop ps at w f.0
-fault_within stop ps (fault.HigherOrder at) w f = place_within stop ps at w f
-fault_within stop ps (fault.UnsupportedForm at) w f = place_within stop ps at w f
+fault_within stop ps (fault.HigherOrder at) w (inl f) = some_within stop at (Front BeginsFunction at) ps (front_within stop at BeginsFunction) w f
+fault_within stop ps (fault.HigherOrder at) w (inr f) = some_within stop at (AppliesValue at) ps (value_within stop at) w f
+fault_within stop ps (fault.UnsupportedForm at) w f = some_within stop at (Front BeginsUnread at) ps (front_within stop at BeginsUnread) w f
 fault_within stop ps (fault.UnsupportedCall at) w f = one_within stop ps (word at k.Call) w f.0
 fault_within stop ps (fault.NoMain at) w f = one_within stop ps (word at k.End) w (last_end_stands ps at f.0)
 fault_within stop ps (fault.TooDeep at) w f = subst (λ (x : ℕ). x ≤ stop) f.0.2 (one_within stop ps f.0.0 w f.0.1)

@@ -14,14 +14,14 @@ use Rattle.core_reader.specs.Reader.{SpellsModule, text_limit}
 abbrev pub IsLegible : List ℕ → Type 0
 IsLegible text = (length text ≤ text_limit) × IsUtf8 text
 
--- the text is legible and is tokens, and tokens can have this fault at its place
+-- the text is legible and is tokens, and what the fault says of them is so
 pub record IsFaultOfTokensOf (text : List ℕ) (f : ReadFault) : Type 0 where
   pub legible : IsLegible text
   pub pieces : List Piece
   pub tokens : AreTokens text pieces
   pub stands : IsFaultOf pieces (length text) f
 
--- what the fault says of the text is so; of a fault of the grammar or of the scopes, that the text is tokens and the place is one of theirs or the end
+-- what the fault says of the text is so; of a fault of the grammar or of the scopes, that the text is tokens, and what the fault says of them is so
 abbrev pub IsTrueOf : List ℕ → ReadFault → Type 0
 IsTrueOf text (fault.TooLong place) = (text_limit < length text) × (place ≡ text_limit)
 IsTrueOf text (fault.NotUtf8 place) = (length text ≤ text_limit) × ¬ (IsUtf8 text) × (place ≡ utf8_valid_len text)

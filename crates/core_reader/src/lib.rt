@@ -6,6 +6,7 @@ mod clauses;
 mod expressions;
 mod form_reader;
 mod grammar;
+pub mod laws;
 pub mod reader;
 pub mod reading;
 

@@ -51,7 +51,7 @@ pub fn read_tokens(alloc: Global, tokens: &[Token], length: usize) -> Result<Mod
     ensures lawful { IfOk result (λ m. IsLawful m) }
     // What is spelt so is read, unless memory runs out.
     ensures only { (m : ModuleTree) → Spells (pieces tokens.now) m → IsLawful m → IsReadAs m result }
-    // A fault stands at one of the tokens or at the text's end, and is one that tokens can have.
+    // What a fault says of the tokens is so.
     ensures fault { IfErr result (λ f. IsFaultOf (pieces tokens.now) length f) }
 {
     laws::decoded_is_spelt();

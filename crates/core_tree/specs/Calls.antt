@@ -58,6 +58,13 @@ signature GiveAway = table_call (codes "give_away") 3
 signature SetOptions = table_call (codes "setopts") 2
 signature Info = table_call (codes "info") 2
 
+-- the calls that are read so far, and served
+abbrev pub IsRead : CallKind → Type 0
+IsRead New = Unit {0}
+IsRead Insert = Unit {0}
+IsRead Lookup = Unit {0}
+IsRead kind = ⊥
+
 -- ---- the code of a call, by which proofs tell values apart
 abbrev pub number_of_call : CallKind → ℕ
 number_of_call Spawn = 0

@@ -4,6 +4,7 @@ pub mod Syntax
 pub mod SyntaxCodes
 pub mod Tree
 pub mod Depth
+pub mod Servable
 pub mod Functions
 pub mod Definitions
 pub mod Sameness

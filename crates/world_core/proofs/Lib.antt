@@ -8,6 +8,7 @@ pub mod RunLaws
 pub mod Refusals
 pub mod Judgements
 pub mod Puts
+pub mod ReadCalls
 pub mod Turning
 pub mod WorldLaws
 pub mod StoredRows

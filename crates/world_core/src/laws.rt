@@ -1,18 +1,23 @@
 // The laws of histories: what the definitions of turns and tables come to.
-ghost use Rattle.std.specs.Prelude.{◌≡◌, ◌≢◌, ℕ, ◌+◌, ◌≤◌, List, ◌∷◌, length, Some, None, if◌then◌else◌, false};
+ghost use Rattle.std.specs.Prelude.{◌≡◌, ◌≢◌, ℕ, ◌+◌, ◌≤◌, List, ◌∷◌, length, Some, None, if◌then◌else◌, true, false};
 ghost use Rattle.core_eval.specs.Ask.{is_first};
+ghost use Rattle.core_eval.specs.Asked.{Receives};
+ghost use Rattle.core_tree.specs.Calls.{signature, IsRead};
+ghost use Rattle.core_tree.specs.Servable.{IsServableModule};
 ghost use Rattle.core_tree.specs.Syntax.{ModuleTree};
 ghost use Rattle.core_tree.specs.declared.call.CallKind.{CallKind};
 ghost use Rattle.term_core.specs.Meaning.{Meaning, Reference};
 ghost use Rattle.term_core.specs.declared.step.Step.TheVariants.{Turn};
-ghost use Rattle.world_core.specs.Calls.{TableCall};
+ghost use Rattle.world_core.specs.Calls.{TableCall, table_call};
 ghost use Rattle.world_core.specs.Effects.{changed};
 ghost use Rattle.world_core.specs.Events.{Happening, History, Serves, Refuses};
 ghost use Rattle.world_core.specs.History.{alive, turns, found, owner, protection, rows, find, effect_of, rule_of, answer_of, owner_of};
 ghost use Rattle.world_core.specs.Laws.{IsRefusal, IsAsked, IsPut};
 ghost use Rattle.world_core.specs.Objects.{last_with, replaced};
-ghost use Rattle.world_core.specs.Run.{IsRun, run, schedule_of, next_event, happening, tells_owner};
+ghost use Rattle.world_core.specs.Run.{IsRun, run, schedule_of, asking, next_event, happening, tells_owner};
 ghost use Rattle.world_core.specs.declared.tables.rule.Rule.{Rule};
+
+use core_eval::laws::only_calls_that_are_read_are_asked;
 
 /// No two arguments find one table, what is found has an owner, and the next table of a process is not
 /// yet found.
@@ -46,6 +51,20 @@ pub fn refused_calls_change_nothing()
     ensures protections { (h : History) (e : Happening) → IsRefusal e.deed → (table : Meaning) → protection (e ∷ h) table ≡ protection h table }
     ensures objects { (h : History) (e : Happening) → IsRefusal e.deed → (table key : Meaning) → rows (e ∷ h) table key ≡ rows h table key }
 {}
+
+/// The calls that are read are those that the world serves: each with as many arguments as it has.
+pub fn read_calls_are_served()
+    ensures served { (kind : CallKind) (arguments : List Meaning) → IsRead kind → length arguments ≡ (signature kind).arity → (call : TableCall) × (table_call kind arguments ≡ Some call) }
+    ensures only { (kind : CallKind) (arguments : List Meaning) (call : TableCall) → table_call kind arguments ≡ Some call → IsRead kind × (length arguments ≡ (signature kind).arity) }
+{}
+
+/// Where each call of the world in a module is one that is read, as in every module that a text spells, a
+/// process that is alive always has a turn, unless it must wait.
+pub fn living_processes_have_turns()
+    ensures { (m : ModuleTree) (h : History) (p : List ℕ) → IsServableModule m → alive h p ≡ true → asking m h p ≢ Receives true → (e : Happening) × (next_event m h (Turn p) ≡ Some e) }
+{
+    only_calls_that_are_read_are_asked();
+}
 
 /// A call of a table that a living process asks is served, with its answer, where no rule fails, and
 /// else refused by the rule that does, with the owner then where that is told. So it is served exactly

@@ -1,0 +1,11 @@
+-- Requests that are read: what a process of a module that was read can ask.
+use Rattle.std.specs.Prelude.{◌≡◌, length}
+use Rattle.core_tree.specs.Calls.{signature, IsRead}
+use Rattle.core_eval.specs.Asked.{Asked, Asks, Receives, Ends, RunsAway}
+
+-- a call is one that is read, with as many arguments as it has
+abbrev pub IsReadRequest : Asked → Type 0
+IsReadRequest (Asks kind arguments) = IsRead kind × (length arguments ≡ (signature kind).arity)
+IsReadRequest (Receives waits) = Unit {0}
+IsReadRequest (Ends reason) = Unit {0}
+IsReadRequest RunsAway = Unit {0}

@@ -1,0 +1,64 @@
+-- What is never read: functions as values, and forms of other data. What the tokens say of each.
+use Rattle.std.specs.Prelude.{◌≡◌, ◌⊎◌, ℕ, List, [], ◌∷◌, ◌++◌}
+use Rattle.core_tokens.specs.declared.token.Keyword.TheVariants as k
+use Rattle.core_tokens.specs.declared.token.Mark.{Mark}
+use Rattle.core_tokens.specs.declared.token.Mark.TheVariants as m
+use Rattle.core_tokens.specs.Piece.{Piece, Shape, A_word, A_mark, An_atom, A_float}
+use Rattle.core_tree.specs.Syntax.{Callee}
+use Rattle.core_grammar.specs.Grammar.{mark, atom, Operates}
+use Rattle.core_grammar.specs.Arguments.{arguments}
+use Rattle.core_grammar.specs.Depth.{Front, PastWord}
+use Rattle.core_grammar.specs.UnservedCalls.{within, IsNoName}
+
+-- from one of the tokens on they are as said
+pub record SomeAre (Said : List Piece → Type 0) (ps : List Piece) : Type 0 where
+  pub before : List Piece
+  pub here : List Piece
+  pub stands : ps ≡ before ++ here
+  pub said : Said here
+
+-- this mark stands in front
+abbrev pub HasMark : Mark → List Piece → Type 0
+HasMark x [] = ⊥
+HasMark x (p ∷ ps) = p.shape ≡ A_mark x
+
+-- ---- functions as values
+
+-- a token that begins a function as a value: `fun`, `letrec`, or an atom with `/` behind it, a function's name
+abbrev pub BeginsFunction : Shape → List Piece → Type 0
+BeginsFunction (A_word k.Fun) ps = Unit {0}
+BeginsFunction (A_word k.Letrec) ps = Unit {0}
+BeginsFunction (An_atom t) ps = HasMark m.Slash ps
+BeginsFunction shape ps = ⊥
+
+-- a token that begins a value where a function's name should stand: an atom with the arguments behind it, or what begins an expression and is neither an atom nor `(`
+abbrev pub BeginsApplied : Shape → List Piece → Type 0
+BeginsApplied (An_atom t) ps = HasMark m.LeftParenthesis ps
+BeginsApplied shape ps = IsNoName shape
+
+-- `apply` of a value that begins at this place, perhaps in the parentheses of annotations
+abbrev pub AppliesValue : ℕ → List Piece → Type 0
+AppliesValue at ps = PastWord k.Apply (λ qs. Front BeginsApplied at (within qs)) ps
+
+-- at this place begins a function as a value, or a value that is applied
+abbrev pub HigherOrderAt : List Piece → ℕ → Type 0
+HigherOrderAt ps at = SomeAre (Front BeginsFunction at) ps ⊎ SomeAre (AppliesValue at) ps
+
+-- ---- other forms
+
+-- behind `primop` stand a name and arguments of no operation that is read
+pub data IsNoOperation : List Piece → Type 0 where
+  operates_nothing : {ps : List Piece} {at bt : ℕ} {name : List ℕ} → ((callee : Callee) → ¬ (Operates name (arguments ps) callee)) → IsNoOperation (atom at name ∷ mark bt m.LeftParenthesis ∷ ps)
+
+-- a token that begins a form that is not read: `#` of a binary, `~` of a map, a float, `receive`, or `primop` of another operation
+abbrev pub BeginsUnread : Shape → List Piece → Type 0
+BeginsUnread (A_mark m.Hash) ps = Unit {0}
+BeginsUnread (A_mark m.Tilde) ps = Unit {0}
+BeginsUnread A_float ps = Unit {0}
+BeginsUnread (A_word k.Receive) ps = Unit {0}
+BeginsUnread (A_word k.Primop) ps = IsNoOperation ps
+BeginsUnread shape ps = ⊥
+
+-- at this place begins a form that is not read
+abbrev pub UnreadAt : List Piece → ℕ → Type 0
+UnreadAt ps at = SomeAre (Front BeginsUnread at) ps

@@ -1,0 +1,24 @@
+// What is so of texts as modules. Each function here does nothing: its contract is the law.
+ghost use Rattle.std.specs.Prelude.{◌≡◌, ℕ, List};
+ghost use Rattle.core_tree.specs.Servable.{IsServableModule};
+ghost use Rattle.core_tree.specs.Syntax.{ModuleTree};
+ghost use Rattle.core_reader.specs.Reader.{SpellsModule};
+
+use core_grammar::laws::{spelt_calls_are_read, tokens_spell_one_module};
+use core_tokens::lexer::tokens_are_unique;
+
+/// A text says at most one module.
+pub fn texts_say_one_module()
+    ensures { (text : List ℕ) (a b : ModuleTree) → SpellsModule text a → SpellsModule text b → a ≡ b }
+{
+    tokens_are_unique();
+    tokens_spell_one_module();
+}
+
+/// In a module that a text says each call of the world is one that is read, with as many arguments as it
+/// has.
+pub fn said_calls_are_read()
+    ensures { (text : List ℕ) (m : ModuleTree) → SpellsModule text m → IsServableModule m }
+{
+    spelt_calls_are_read();
+}
