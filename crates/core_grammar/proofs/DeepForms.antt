@@ -5,19 +5,20 @@ use Rattle.core_tokens.specs.declared.fault.ReadFault.{ReadFault}
 use Rattle.core_tokens.specs.declared.fault.ReadFault.TheVariants.{Expected, HigherOrder, UnsupportedCall, TooDeep, UnsupportedForm}
 use Rattle.core_tokens.specs.declared.token.Mark.TheVariants as m
 use Rattle.core_tokens.specs.declared.token.Keyword.TheVariants as k
-use Rattle.core_tokens.specs.Piece.{Piece, Shape, A_word, A_mark, An_atom, A_variable, An_integer, A_character, A_text}
+use Rattle.core_tokens.specs.Piece.{Piece, Shape, A_mark}
 use Rattle.core_tree.specs.Syntax.{Callee, Pattern, Tree, Name, Called, Listed, NoMore, trees_of}
-use Rattle.core_grammar.specs.Grammar.{atom, BareName, FunctionName, BareAtom, is_the_atom, AtomIn, Variables, CaughtVariables, HasNoSlash, IsNoSlash}
-use Rattle.core_grammar.specs.Depth.{BeginsExpression, Front, Nowhere, PartOf, PastMark, PastWord, Part, Past, InItems, InCommas, InList, DeepName, DeepAtom, DeepVariables, DeepCaught}
+use Rattle.core_grammar.specs.Grammar.{atom, BareName, FunctionName, BareAtom, is_the_atom, AtomIn, Variables, CaughtVariables, IsNoSlash}
+use Rattle.core_grammar.specs.Beginnings.{Beginning, OfAtom, OfOtherForm, beginning}
+use Rattle.core_grammar.specs.Depth.{BeginsExpressionBy, BeginsExpression, Front, Nowhere, PartOf, PastMark, PastWord, Part, Past, InItems, InCommas, InList, DeepName, DeepAtom, DeepVariables, DeepCaught}
 use Rattle.core_grammar.specs.declared.unserved.Unserved.{Unserved}
 use Rattle.core_scopes.specs.Outcomes.{◌>>=◌}
 use Rattle.core_grammar.specs.Reading.{State, Read, with_pieces, is_mark, is_word, after_mark, is_foreign, refusal, mark_at, atom_in, named_by, atom_at, closed_at, brackets_at, exactly_at, variables_at, caught_at}
-use Rattle.core_grammar.specs.ReadingForms.{is_function, begins_expression, deep_expression_of, expression_fault_of, deep_expression, expression_fault, callee_fault_of, callee_fault, bare_callee_at, callee_at, applied_fault_of, applied_fault, applied_atom_at, behind_applied_by, bare_applied_at, applied_at, refuse, judged, name_by, tuple_at, list_at, values_at, let_at, do_at, apply_at, call_at, primop_at, try_at, catch_at, behind_patterns_at}
+use Rattle.core_grammar.specs.ReadingForms.{is_function_by, is_function, begins_expression_by, begins_expression, deep_expression_of, expression_fault_of, deep_expression, expression_fault, callee_fault_of, callee_fault, bare_callee_at, callee_at, applied_fault_of, applied_fault, applied_atom_at, behind_applied_by, bare_applied_at, applied_at, refuse, judged, name_by, tuple_at, list_at, values_at, let_at, do_at, apply_at, call_at, primop_at, try_at, catch_at, behind_patterns_at}
 use Rattle.core_grammar.proofs.Steps.{atom_steps, Sound}
 use Rattle.core_grammar.proofs.SoundNames.{at_front, variables_sound, caught_sound}
 use Rattle.core_grammar.proofs.SoundForms.{bare_callee_sound, callee_sound, bare_applied_sound, applied_sound}
 use Rattle.core_grammar.proofs.DeepLists.{failed, IsOther, cond_other, refusal_other, refusal_deep, Never, Fallen, Fall, Falls, never_other, ok_never, never_bind, mark_never, taken_never, atom_never, behind_atom_never, first_falls, part_falls, part_of_falls, mark_falls, word_falls, closed_falls, brackets_falls, exactly_falls}
-use Rattle.core_grammar.proofs.DeepNames.{front_is, noted_falls, variables_falls, caught_falls}
+use Rattle.core_grammar.proofs.DeepNames.{front_is, pattern_begins, noted_falls, variables_falls, caught_falls}
 
 -- ---- faults
 
@@ -54,30 +55,11 @@ no_slash_of : (shape : Shape) → is_mark m.Slash shape ≡ false → IsNoSlash 
 no_slash_of (A_mark m.Slash) e = absurd cc
 no_slash_of shape e = tt
 
-no_slash_in : (t : List ℕ) (ps : List Piece) → is_function (An_atom t) ps ≡ false → HasNoSlash ps
-no_slash_in t [] e = tt
-no_slash_in t (p ∷ ps) e = no_slash_of p.shape e
-
-begins_expression_true : (shape : Shape) (ps : List Piece) → is_function shape ps ≡ false → begins_expression shape ≡ true → BeginsExpression shape ps
-begins_expression_true (An_atom t) ps f e = no_slash_in t ps f
-begins_expression_true (An_integer n) ps f e = tt
-begins_expression_true (A_character c) ps f e = tt
-begins_expression_true (A_text cs) ps f e = tt
-begins_expression_true (A_variable v) ps f e = tt
-begins_expression_true (A_mark m.Less) ps f e = tt
-begins_expression_true (A_mark m.LeftBrace) ps f e = tt
-begins_expression_true (A_mark m.LeftBracket) ps f e = tt
-begins_expression_true (A_mark m.LeftParenthesis) ps f e = tt
-begins_expression_true (A_word k.Let) ps f e = tt
-begins_expression_true (A_word k.Case) ps f e = tt
-begins_expression_true (A_word k.Apply) ps f e = tt
-begins_expression_true (A_word k.Call) ps f e = tt
-begins_expression_true (A_word k.Primop) ps f e = tt
-begins_expression_true (A_word k.Do) ps f e = tt
-begins_expression_true (A_word k.Try) ps f e = tt
-begins_expression_true (A_word k.Catch) ps f e = tt
-begins_expression_true (A_word k.Receive) ps f e = tt
-begins_expression_true shape ps f e = absurd cc
+expression_begins : (b : Beginning) (ps : List Piece) → is_function_by b ps ≡ false → begins_expression_by b ≡ true → BeginsExpressionBy b ps
+expression_begins OfAtom [] f e = tt
+expression_begins OfAtom (p ∷ ps) f e = no_slash_of p.shape f
+expression_begins OfOtherForm ps f e = tt
+expression_begins b ps f e = pattern_begins b e
 
 no_function : (at bt : ℕ) (b : Bool) (other : ReadFault) → cond b (HigherOrder bt) other ≡ TooDeep at → (b ≡ false) × (other ≡ TooDeep at)
 no_function at bt true other e = absurd (subst IsOther e tt)
@@ -89,7 +71,7 @@ expression_front at stop (p ∷ ps) e =
     let other : ReadFault = cond (is_foreign p.shape) (UnsupportedForm p.at) (Expected p.at) in
     let f = no_function at p.at (is_function p.shape ps) (cond (begins_expression p.shape) (TooDeep p.at) other) e in
     let d = front_is at p.at (begins_expression p.shape) other (foreign_other p) f.1 in
-    (d.1, begins_expression_true p.shape ps f.0 d.0)
+    (d.1, expression_begins (beginning p.shape) ps f.0 d.0)
 
 pub atom_sound : Sound None atom_at BareAtom
 atom_sound s a t e done = let h = atom_steps s a t e in (h.back done, at_front BareAtom s.pieces (atom h.at a ∷ t.pieces) a t.pieces h.pieces is_the_atom)

@@ -6,8 +6,9 @@ use Rattle.core_tokens.specs.declared.token.Mark.TheVariants as m
 use Rattle.core_tokens.specs.Piece.{Piece, Shape, A_mark, An_atom, A_variable, An_integer, A_character, A_text}
 use Rattle.core_tree.specs.Syntax.{Mention, Constant, NumberOf, CharacterOf, TextOf, NameOf, Pattern, NumberIn, CharacterIn, TextIn, NameIn, VariableIn}
 use Rattle.core_grammar.specs.Grammar.{mark, Noted, ConstantIn, BareName, BareVariable, Variable, BareVariables, BareCaught, PatternForm, PatternIn}
-use Rattle.core_grammar.specs.Depth.{BeginsConstant, BeginsPattern, BeginsAnnotation, Front, Nowhere, PastMark, passes_mark, Part, InItems, InCommas, InList, InGroup, in_tuple, in_list, in_annotation, BehindVariable, DeepConstant, DeepNoted, DeepName, DeepVariable, DeepVariables, DeepCaught, DeepPattern}
-use Rattle.core_grammar.specs.Reading.{State, Read, with_pieces, after_mark, is_foreign, fault, place_of, too_deep, begins_constant, deep_constant_of, deep_constant, note_at, in_note_at, constant_tuple_at, constant_list_at, constant_by, constant_form_by, constant_form_at, constant_at, noted_last, noted_by, noted_at, mark_at, bare_name_at, function_name_at, bare_variable_at, variable_at, closed_at, brackets_at, bare_variables_by, bare_variables_at, variables_at, third_by, bare_caught_at, caught_at, begins_pattern, deep_pattern_of, deep_pattern, pattern_tuple_at, pattern_list_at, pattern_by, pattern_form_by, pattern_form_at, alias_by, alias_at, pattern_at}
+use Rattle.core_grammar.specs.Beginnings.{Beginning, OfValue, OfAtom, OfAnnotation, OfVariable, beginning}
+use Rattle.core_grammar.specs.Depth.{BeginsConstantBy, BeginsConstant, BeginsPatternBy, BeginsPattern, BeginsAnnotation, Front, Nowhere, PastMark, passes_mark, Part, InItems, InCommas, InList, InGroup, in_tuple, in_list, in_annotation, BehindVariable, DeepConstant, DeepNoted, DeepName, DeepVariable, DeepVariables, DeepCaught, DeepPattern}
+use Rattle.core_grammar.specs.Reading.{State, Read, with_pieces, after_mark, is_foreign, fault, place_of, too_deep, begins_constant_by, begins_constant, deep_constant_of, deep_constant, note_at, in_note_at, constant_tuple_at, constant_list_at, constant_by, constant_form_by, constant_form_at, constant_at, noted_last, noted_by, noted_at, mark_at, bare_name_at, function_name_at, bare_variable_at, variable_at, closed_at, brackets_at, bare_variables_by, bare_variables_at, variables_at, third_by, bare_caught_at, caught_at, begins_pattern_by, begins_pattern, deep_pattern_of, deep_pattern, pattern_tuple_at, pattern_list_at, pattern_by, pattern_form_by, pattern_form_at, alias_by, alias_at, pattern_at}
 use Rattle.core_grammar.proofs.Steps.{after_mark_found, Sound, bare_variable_sound, bare_name_sound}
 use Rattle.core_grammar.proofs.SoundNames.{constant_sound, noted_sound, variable_sound, bare_variables_sound, bare_caught_sound}
 use Rattle.core_grammar.proofs.SoundPatterns.{pattern_form_sound, pattern_sound}
@@ -26,31 +27,27 @@ pub front_is : (at bt : ℕ) (b : Bool) (other : ReadFault) → IsOther other �
 front_is at bt true other h e = (refl, place_is bt at e)
 front_is at bt false other h e = absurd (subst IsOther e h)
 
-begins_constant_true : (shape : Shape) (ps : List Piece) → begins_constant shape ≡ true → BeginsConstant shape ps
-begins_constant_true (An_integer n) ps e = tt
-begins_constant_true (A_character c) ps e = tt
-begins_constant_true (A_text cs) ps e = tt
-begins_constant_true (An_atom t) ps e = tt
-begins_constant_true (A_mark m.LeftBrace) ps e = tt
-begins_constant_true (A_mark m.LeftBracket) ps e = tt
-begins_constant_true (A_mark m.LeftParenthesis) ps e = tt
-begins_constant_true shape ps e = absurd cc
+constant_begins : (b : Beginning) → begins_constant_by b ≡ true → BeginsConstantBy b
+constant_begins OfValue e = tt
+constant_begins OfAtom e = tt
+constant_begins OfAnnotation e = tt
+constant_begins b e = absurd cc
 
-pub begins_pattern_true : (shape : Shape) (ps : List Piece) → begins_pattern shape ≡ true → BeginsPattern shape ps
-begins_pattern_true (A_variable v) ps e = tt
-begins_pattern_true shape ps e = begins_constant_true shape ps e
+pub pattern_begins : (b : Beginning) → begins_pattern_by b ≡ true → BeginsPatternBy b
+pattern_begins OfVariable e = tt
+pattern_begins b e = constant_begins b e
 
 constant_front : (at stop : ℕ) (ps : List Piece) → deep_constant_of stop ps ≡ TooDeep at → Front BeginsConstant at ps
 constant_front at stop [] e = absurd (subst IsOther e tt)
 constant_front at stop (p ∷ ps) e =
     let d = front_is at p.at (begins_constant p.shape) (cond (is_foreign p.shape) (UnsupportedForm p.at) (Expected p.at)) (cond_other (is_foreign p.shape) (UnsupportedForm p.at) (Expected p.at) tt tt) e in
-    (d.1, begins_constant_true p.shape ps d.0)
+    (d.1, constant_begins (beginning p.shape) d.0)
 
 pattern_front : (at stop : ℕ) (ps : List Piece) → deep_pattern_of stop ps ≡ TooDeep at → Front BeginsPattern at ps
 pattern_front at stop [] e = absurd (subst IsOther e tt)
 pattern_front at stop (p ∷ ps) e =
     let d = front_is at p.at (begins_pattern p.shape) (cond (is_foreign p.shape) (UnsupportedForm p.at) (Expected p.at)) (cond_other (is_foreign p.shape) (UnsupportedForm p.at) (Expected p.at) tt tt) e in
-    (d.1, begins_pattern_true p.shape ps d.0)
+    (d.1, pattern_begins (beginning p.shape) d.0)
 
 annotation_front : (at stop bt : ℕ) (ps qs : List Piece) → ps ≡ mark bt m.LeftParenthesis ∷ qs → place_of stop ps ≡ at → Front BeginsAnnotation at ps
 annotation_front at stop bt ps qs e = subst (λ (us : List Piece). place_of stop us ≡ at → Front BeginsAnnotation at us) (sym e) (λ h. (h, tt))

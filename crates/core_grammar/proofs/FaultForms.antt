@@ -14,12 +14,13 @@ use Rattle.core_grammar.specs.Grammar.{word, mark, atom, AtomIn, Calls, calls_wo
 use Rattle.core_tree.specs.Calls.{Signature}
 use Rattle.core_grammar.specs.Arguments.{arguments}
 use Rattle.core_grammar.specs.Depth.{Front, passes_word}
-use Rattle.core_grammar.specs.Unread.{HasMark, BeginsFunction, BeginsApplied, HigherOrderAt, IsNoOperation, operates_nothing, BeginsUnread}
-use Rattle.core_grammar.specs.UnservedCalls.{within, IsOwn, IsNoName, LacksName, IsNoCall, lacks_module, lacks_function, calls_nothing}
-use Rattle.core_grammar.specs.Places.{IsOne, Opens}
+use Rattle.core_grammar.specs.Unread.{HasMark, BeginsFunctionBy, BeginsAppliedBy, BeginsApplied, HigherOrderAt, IsNoOperation, operates_nothing, BeginsUnread}
+use Rattle.core_grammar.specs.UnservedCalls.{within, IsOwn, IsNoNameBy, IsNoName, LacksName, IsNoCall, lacks_module, lacks_function, calls_nothing}
+use Rattle.core_grammar.specs.Places.{IsOne, OpensBy, Opens}
+use Rattle.core_grammar.specs.Beginnings.{Beginning, OfValue, OfAtom, OfAnnotation, OfVariable, OfOtherForm, OfFunction, beginning}
 use Rattle.core_scopes.specs.Outcomes.{◌>>=◌}
-use Rattle.core_grammar.specs.Reading.{State, Read, with_pieces, is_mark, is_word, after_mark, after_word, refusal, is_foreign, mark_at, word_at, taken_by, taken, atom_in, atom_at, named_by, bare_name_at, closed_at, brackets_at, exactly_at, rows_at, begins_constant, deep_constant_of, deep_constant, note_at, in_note_at, constant_tuple_at, constant_list_at, constant_by, constant_form_by, constant_form_at, constant_at, noted_last, noted_by, noted_at, function_name_at, bare_variable_at, variable_at, bare_variables_by, bare_variables_at, variables_at, third_by, bare_caught_at, caught_at, begins_pattern, deep_pattern_of, deep_pattern, pattern_list, pattern_tuple_at, pattern_list_at, pattern_by, pattern_form_by, pattern_form_at, alias_by, alias_at, pattern_at}
-use Rattle.core_grammar.specs.ReadingForms.{is_function, begins_expression, deep_expression_of, expression_fault_of, deep_expression, expression_fault, callee_fault_of, callee_fault, bare_callee_at, callee_at, applied_fault_of, applied_fault, applied_atom_at, behind_applied_by, bare_applied_at, applied_at, callee_named, operation_named, earlier, judged, tree_list, name_by, Start, OnePattern, ManyPatterns, WholeClause, tuple_at, list_at, values_at, let_at, do_at, apply_at, call_at, primop_at, try_at, catch_at, behind_patterns_at, clause_of, start_by, started, inside_start_at, aliased, noted_start_at, bare_start_by, bare_start_at, start_last, start_next, clause_at, case_at, form_by, form_of, form_at, expression_at, start_at}
+use Rattle.core_grammar.specs.Reading.{State, Read, with_pieces, is_mark, is_word, after_mark, after_word, refusal, is_foreign, mark_at, word_at, taken_by, taken, atom_in, atom_at, named_by, bare_name_at, closed_at, brackets_at, exactly_at, rows_at, begins_constant_by, begins_constant, deep_constant_of, deep_constant, note_at, in_note_at, constant_tuple_at, constant_list_at, constant_by, constant_form_by, constant_form_at, constant_at, noted_last, noted_by, noted_at, function_name_at, bare_variable_at, variable_at, bare_variables_by, bare_variables_at, variables_at, third_by, bare_caught_at, caught_at, begins_pattern_by, begins_pattern, deep_pattern_of, deep_pattern, pattern_list, pattern_tuple_at, pattern_list_at, pattern_by, pattern_form_by, pattern_form_at, alias_by, alias_at, pattern_at}
+use Rattle.core_grammar.specs.ReadingForms.{is_function_by, is_function, begins_expression_by, begins_expression, deep_expression_of, expression_fault_of, deep_expression, expression_fault, callee_fault_of, callee_fault, bare_callee_at, callee_at, applied_fault_of, applied_fault, applied_atom_at, behind_applied_by, bare_applied_at, applied_at, callee_named, operation_named, earlier, judged, tree_list, name_by, Start, OnePattern, ManyPatterns, WholeClause, tuple_at, list_at, values_at, let_at, do_at, apply_at, call_at, primop_at, try_at, catch_at, behind_patterns_at, clause_of, start_by, started, inside_start_at, aliased, noted_start_at, bare_start_by, bare_start_at, start_last, start_next, clause_at, case_at, form_by, form_of, form_at, expression_at, start_at}
 use Rattle.core_grammar.proofs.Steps.{is_mark_true, after_mark_found, mark_steps, atom_steps}
 use Rattle.core_grammar.proofs.CallsByName.{signed, callee_found, callee_again, operation_found, operation_again}
 use Rattle.core_grammar.proofs.SoundForms.{goes_to, callee_sound}
@@ -57,47 +58,19 @@ module _ (all : List Piece) (end : ℕ) where
 
   -- ---- tokens past the last level
 
-  begins_opens : (shape : Shape) → begins_constant shape ≡ true → Opens shape
-  begins_opens (An_integer n) e = tt
-  begins_opens (A_character c) e = tt
-  begins_opens (A_text cs) e = tt
-  begins_opens (An_atom t) e = tt
-  begins_opens (A_mark m.LeftBrace) e = tt
-  begins_opens (A_mark m.LeftBracket) e = tt
-  begins_opens (A_mark m.LeftParenthesis) e = tt
-  begins_opens shape e = absurd cc
+  constant_opens : (b : Beginning) → begins_constant_by b ≡ true → OpensBy b
+  constant_opens OfValue e = tt
+  constant_opens OfAtom e = tt
+  constant_opens OfAnnotation e = tt
+  constant_opens b e = absurd cc
 
-  pattern_opens : (shape : Shape) → begins_pattern shape ≡ true → Opens shape
-  pattern_opens (A_variable v) e = tt
-  pattern_opens (An_integer n) e = tt
-  pattern_opens (A_character c) e = tt
-  pattern_opens (A_text cs) e = tt
-  pattern_opens (An_atom t) e = tt
-  pattern_opens (A_mark m.LeftBrace) e = tt
-  pattern_opens (A_mark m.LeftBracket) e = tt
-  pattern_opens (A_mark m.LeftParenthesis) e = tt
-  pattern_opens shape e = absurd cc
+  pattern_opens : (b : Beginning) → begins_pattern_by b ≡ true → OpensBy b
+  pattern_opens OfVariable e = tt
+  pattern_opens b e = constant_opens b e
 
-  expression_opens : (shape : Shape) → begins_expression shape ≡ true → Opens shape
-  expression_opens (A_word k.Let) e = tt
-  expression_opens (A_word k.Case) e = tt
-  expression_opens (A_word k.Apply) e = tt
-  expression_opens (A_word k.Call) e = tt
-  expression_opens (A_word k.Primop) e = tt
-  expression_opens (A_word k.Do) e = tt
-  expression_opens (A_word k.Try) e = tt
-  expression_opens (A_word k.Catch) e = tt
-  expression_opens (A_word k.Receive) e = tt
-  expression_opens (A_mark m.Less) e = tt
-  expression_opens (A_variable v) e = tt
-  expression_opens (An_integer n) e = tt
-  expression_opens (A_character c) e = tt
-  expression_opens (A_text cs) e = tt
-  expression_opens (An_atom t) e = tt
-  expression_opens (A_mark m.LeftBrace) e = tt
-  expression_opens (A_mark m.LeftBracket) e = tt
-  expression_opens (A_mark m.LeftParenthesis) e = tt
-  expression_opens shape e = absurd cc
+  expression_opens : (b : Beginning) → begins_expression_by b ≡ true → OpensBy b
+  expression_opens OfOtherForm e = tt
+  expression_opens b e = pattern_opens b e
 
   -- a token past the last level, where it opens a construct; else another fault there
   deep_by : (b : Bool) (p : Piece) (ps : List Piece) (f : ReadFault) → Inside all end (p ∷ ps) → (b ≡ true → Opens p.shape) → Fault' f → Fault' (cond b (TooDeep p.at) f)
@@ -106,7 +79,7 @@ module _ (all : List Piece) (end : ℕ) where
 
   deep_constant_of_fine : (stop : ℕ) (ps : List Piece) → stop ≡ end → Inside all end ps → Fault' (deep_constant_of stop ps)
   deep_constant_of_fine stop [] e inside = inr e
-  deep_constant_of_fine stop (p ∷ ps) e inside = deep_by (begins_constant p.shape) p ps _ inside (begins_opens p.shape) (foreign_fine all end p ps inside)
+  deep_constant_of_fine stop (p ∷ ps) e inside = deep_by (begins_constant p.shape) p ps _ inside (constant_opens (beginning p.shape)) (foreign_fine all end p ps inside)
 
   deep_constant_fine : (s : State) → Good' s → Fault' (deep_constant s)
   unfolding deep_constant
@@ -114,22 +87,21 @@ module _ (all : List Piece) (end : ℕ) where
 
   deep_pattern_of_fine : (stop : ℕ) (ps : List Piece) → stop ≡ end → Inside all end ps → Fault' (deep_pattern_of stop ps)
   deep_pattern_of_fine stop [] e inside = inr e
-  deep_pattern_of_fine stop (p ∷ ps) e inside = deep_by (begins_pattern p.shape) p ps _ inside (pattern_opens p.shape) (foreign_fine all end p ps inside)
+  deep_pattern_of_fine stop (p ∷ ps) e inside = deep_by (begins_pattern p.shape) p ps _ inside (pattern_opens (beginning p.shape)) (foreign_fine all end p ps inside)
 
   deep_pattern_fine : (s : State) → Good' s → Fault' (deep_pattern s)
   unfolding deep_pattern
   deep_pattern_fine s g = refusal_fine all end s.refused (deep_pattern_of s.stop s.pieces) g.refused (deep_pattern_of_fine s.stop s.pieces g.stop g.inside)
 
   -- a token that begins a function as a value; else another fault there
-  function_begins : (shape : Shape) (ps : List Piece) → is_function shape ps ≡ true → BeginsFunction shape ps
-  function_begins (A_word k.Fun) ps e = tt
-  function_begins (A_word k.Letrec) ps e = tt
-  function_begins (An_atom t) [] e = absurd cc
-  function_begins (An_atom t) (p ∷ ps) e = is_mark_true m.Slash p.shape e
-  function_begins shape ps e = absurd cc
+  function_begins : (b : Beginning) (ps : List Piece) → is_function_by b ps ≡ true → BeginsFunctionBy b ps
+  function_begins OfFunction ps e = tt
+  function_begins OfAtom [] e = absurd cc
+  function_begins OfAtom (p ∷ ps) e = is_mark_true m.Slash p.shape e
+  function_begins b ps e = absurd cc
 
   function_by : (b : Bool) (p : Piece) (ps : List Piece) (f : ReadFault) → Inside all end (p ∷ ps) → is_function p.shape ps ≡ b → Fault' f → Fault' (cond b (HigherOrder p.at) f)
-  function_by true p ps f inside e h = inl (record { before = inside.0; here = p ∷ ps; stands = inside.1; said = (refl, function_begins p.shape ps e) })
+  function_by true p ps f inside e h = inl (record { before = inside.0; here = p ∷ ps; stands = inside.1; said = (refl, function_begins (beginning p.shape) ps e) })
   function_by false p ps f inside e h = h
 
   -- a token that begins a form that is not read, as `receive`
@@ -147,7 +119,7 @@ module _ (all : List Piece) (end : ℕ) where
   deep_expression_of_fine : (stop : ℕ) (ps : List Piece) → stop ≡ end → Inside all end ps → Fault' (deep_expression_of stop ps)
   deep_expression_of_fine stop [] e inside = inr e
   deep_expression_of_fine stop (p ∷ ps) e inside =
-      function_by (is_function p.shape ps) p ps _ inside refl (deep_by (begins_expression p.shape) p ps _ inside (expression_opens p.shape) (foreign_fine all end p ps inside))
+      function_by (is_function p.shape ps) p ps _ inside refl (deep_by (begins_expression p.shape) p ps _ inside (expression_opens (beginning p.shape)) (foreign_fine all end p ps inside))
 
   deep_expression_fine : (s : State) → Good' s → Fault' (deep_expression s)
   unfolding deep_expression
@@ -492,16 +464,16 @@ module _ (all : List Piece) (end : ℕ) where
   within_bare (A_mark m.LeftParenthesis) at ps e = absurd cc
   within_bare shape at ps e = refl
 
-  no_name_applied : (shape : Shape) (ps : List Piece) → IsNoName shape → BeginsApplied shape ps
-  no_name_applied (An_atom t) ps h = absurd h
-  no_name_applied shape ps h = h
+  no_name_applied : (b : Beginning) (ps : List Piece) → IsNoNameBy b → BeginsAppliedBy b ps
+  no_name_applied OfAtom ps h = absurd h
+  no_name_applied b ps h = h
 
   -- where no atom and no `(` stands in front of what begins an expression, a value is applied
   value_applied : (p : Piece) (ps : List Piece) → after_mark m.LeftParenthesis (p ∷ ps) ≡ None → LacksName (within (p ∷ ps)) → Front BeginsApplied p.at (within (p ∷ ps))
   value_applied p ps none lacks =
       let bare = within_bare p.shape p.at ps none in
       let nameless : IsNoName p.shape = subst (λ (qs : List Piece). LacksName qs) bare lacks in
-      subst (λ (qs : List Piece). Front BeginsApplied p.at qs) (sym bare) (refl, no_name_applied p.shape ps nameless)
+      subst (λ (qs : List Piece). Front BeginsApplied p.at qs) (sym bare) (refl, no_name_applied (beginning p.shape) ps nameless)
 
   -- so is an atom with its arguments behind it
   atom_applied : (shape : Shape) (at : ℕ) (ps : List Piece) (x : ℕ × List ℕ) → named_by at shape ≡ Some x → HasMark m.LeftParenthesis ps → Front BeginsApplied x.0 (within (record { at = at; shape = shape } ∷ ps))

@@ -5,41 +5,38 @@ use Rattle.core_tokens.specs.declared.token.Keyword.{Keyword}
 use Rattle.core_tokens.specs.declared.token.Keyword.TheVariants as k
 use Rattle.core_tokens.specs.declared.token.Mark.{Mark}
 use Rattle.core_tokens.specs.declared.token.Mark.TheVariants as m
-use Rattle.core_tokens.specs.Piece.{Piece, Shape, A_word, A_mark, An_atom, A_variable, An_integer, A_character, A_text}
+use Rattle.core_tokens.specs.Piece.{Piece, Shape, A_mark}
 use Rattle.core_tree.specs.Syntax.{Mention, Pattern, VariableIn, Constant, Tree, ClauseTree}
+use Rattle.core_grammar.specs.Beginnings.{Beginning, OfValue, OfAtom, OfAnnotation, OfVariable, OfOtherForm, beginning}
 use Rattle.core_grammar.specs.Grammar.{word, mark, level_limit, Commas, Enclosed, Row, ConstantIn, Noted, BareName, FunctionName, BareAtom, AtomIn, BareVariable, Variable, BareVariables, Variables, BareCaught, CaughtVariables, PatternForm, PatternIn, BareAngles, PatternsIn, HasNoSlash, Expression, Clause, Attribute, BareFun, BareDefinition, Definition, BareModule}
 
 -- ---- tokens that take a level
 
 -- a token that begins a constant
+abbrev pub BeginsConstantBy : Beginning → Type 0
+BeginsConstantBy OfValue = Unit {0}
+BeginsConstantBy OfAtom = Unit {0}
+BeginsConstantBy OfAnnotation = Unit {0}
+BeginsConstantBy b = ⊥
+
 abbrev pub BeginsConstant : Shape → List Piece → Type 0
-BeginsConstant (An_integer n) ps = Unit {0}
-BeginsConstant (A_character c) ps = Unit {0}
-BeginsConstant (A_text cs) ps = Unit {0}
-BeginsConstant (An_atom t) ps = Unit {0}
-BeginsConstant (A_mark m.LeftBrace) ps = Unit {0}
-BeginsConstant (A_mark m.LeftBracket) ps = Unit {0}
-BeginsConstant (A_mark m.LeftParenthesis) ps = Unit {0}
-BeginsConstant shape ps = ⊥
+BeginsConstant shape ps = BeginsConstantBy (beginning shape)
+
+abbrev pub BeginsPatternBy : Beginning → Type 0
+BeginsPatternBy OfVariable = Unit {0}
+BeginsPatternBy b = BeginsConstantBy b
 
 abbrev pub BeginsPattern : Shape → List Piece → Type 0
-BeginsPattern (A_variable v) ps = Unit {0}
-BeginsPattern shape ps = BeginsConstant shape ps
+BeginsPattern shape ps = BeginsPatternBy (beginning shape)
 
 -- an atom with `/` behind it begins a function's name, and no expression
+abbrev pub BeginsExpressionBy : Beginning → List Piece → Type 0
+BeginsExpressionBy OfAtom ps = HasNoSlash ps
+BeginsExpressionBy OfOtherForm ps = Unit {0}
+BeginsExpressionBy b ps = BeginsPatternBy b
+
 abbrev pub BeginsExpression : Shape → List Piece → Type 0
-BeginsExpression (An_atom t) ps = HasNoSlash ps
-BeginsExpression (A_mark m.Less) ps = Unit {0}
-BeginsExpression (A_word k.Let) ps = Unit {0}
-BeginsExpression (A_word k.Case) ps = Unit {0}
-BeginsExpression (A_word k.Apply) ps = Unit {0}
-BeginsExpression (A_word k.Call) ps = Unit {0}
-BeginsExpression (A_word k.Primop) ps = Unit {0}
-BeginsExpression (A_word k.Do) ps = Unit {0}
-BeginsExpression (A_word k.Try) ps = Unit {0}
-BeginsExpression (A_word k.Catch) ps = Unit {0}
-BeginsExpression (A_word k.Receive) ps = Unit {0}
-BeginsExpression shape ps = BeginsPattern shape ps
+BeginsExpression shape ps = BeginsExpressionBy (beginning shape) ps
 
 abbrev pub BeginsAnnotation : Shape → List Piece → Type 0
 BeginsAnnotation (A_mark m.LeftParenthesis) ps = Unit {0}

@@ -1,4 +1,5 @@
 pub mod Grammar
+pub mod Beginnings
 pub mod Reading
 pub mod ReadingForms
 pub mod ReadingModules

@@ -3,10 +3,10 @@ use Rattle.std.specs.Prelude.{◌≡◌, ◌≢◌, ℕ, List, [], ◌∷◌, �
 use Rattle.core_tokens.specs.declared.fault.ReadFault.{ReadFault}
 use Rattle.core_tokens.specs.declared.fault.ReadFault.TheVariants.{Expected, Unbound, DuplicateVariable, DuplicateFunction, NoFunction, HigherOrder, UnsupportedCall, EffectInGuard, TooDeep, NoMain, UnsupportedForm, Memory}
 use Rattle.core_tokens.specs.declared.token.Keyword.TheVariants as k
-use Rattle.core_tokens.specs.declared.token.Mark.TheVariants as m
-use Rattle.core_tokens.specs.Piece.{Piece, Shape, A_word, A_mark, An_atom, A_variable, An_integer, A_character, A_text}
+use Rattle.core_tokens.specs.Piece.{Piece, Shape, A_word}
 use Rattle.core_tree.specs.Syntax.{ModuleTree}
 use Rattle.core_grammar.specs.Grammar.{word, Spells}
+use Rattle.core_grammar.specs.Beginnings.{Beginning, OfFunction, OfNothing, beginning}
 use Rattle.core_grammar.specs.Depth.{OpensPastLast}
 use Rattle.core_scopes.specs.Scopes.{functions, main_function}
 use Rattle.core_scopes.specs.ScopeFaults.{ModuleBreaks}
@@ -28,26 +28,13 @@ abbrev pub IsPlace : List Piece → ℕ → ℕ → Type 0
 IsPlace ps length at = IsAt ps at ⊎ (at ≡ length)
 
 -- a token that begins an expression, a pattern, a constant or an annotation
+abbrev pub OpensBy : Beginning → Type 0
+OpensBy OfFunction = ⊥
+OpensBy OfNothing = ⊥
+OpensBy b = Unit {0}
+
 abbrev pub Opens : Shape → Type 0
-Opens (An_integer n) = Unit {0}
-Opens (A_character c) = Unit {0}
-Opens (A_text cs) = Unit {0}
-Opens (An_atom t) = Unit {0}
-Opens (A_variable v) = Unit {0}
-Opens (A_mark m.LeftBrace) = Unit {0}
-Opens (A_mark m.LeftBracket) = Unit {0}
-Opens (A_mark m.LeftParenthesis) = Unit {0}
-Opens (A_mark m.Less) = Unit {0}
-Opens (A_word k.Let) = Unit {0}
-Opens (A_word k.Case) = Unit {0}
-Opens (A_word k.Apply) = Unit {0}
-Opens (A_word k.Call) = Unit {0}
-Opens (A_word k.Primop) = Unit {0}
-Opens (A_word k.Do) = Unit {0}
-Opens (A_word k.Try) = Unit {0}
-Opens (A_word k.Catch) = Unit {0}
-Opens (A_word k.Receive) = Unit {0}
-Opens shape = ⊥
+Opens shape = OpensBy (beginning shape)
 
 -- a token that opens a construct begins there
 abbrev pub OpensAt : List Piece → ℕ → Type 0

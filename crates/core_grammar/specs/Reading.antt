@@ -9,6 +9,7 @@ use Rattle.core_tokens.specs.declared.token.Mark.TheVariants as m
 use Rattle.core_tokens.specs.Piece.{Piece, Shape, A_word, A_mark, An_atom, A_variable, An_integer, A_float, A_character, A_text}
 use Rattle.core_tree.specs.Syntax.{Mention, NamedAt, Pattern, NumberIn, CharacterIn, TextIn, NameIn, VariableIn, GroupIn, ListIn, JoinIn, AliasIn, patterns_of, Constant, NumberOf, CharacterOf, TextOf, NameOf, GroupOf, ListOf, JoinOf, constants_of}
 use Rattle.core_scopes.specs.Outcomes.{◌>>=◌}
+use Rattle.core_grammar.specs.Beginnings.{Beginning, OfValue, OfAtom, OfAnnotation, OfVariable, beginning}
 use Rattle.core_grammar.specs.declared.unserved.Unserved.{Unserved}
 use Rattle.core_grammar.specs.declared.unserved.Unserved.TheVariants as unserved
 
@@ -301,15 +302,14 @@ module _ {X : Type 0} (item : State → Read X) where
 
 -- ---- constants
 
+abbrev pub begins_constant_by : Beginning → Bool
+begins_constant_by OfValue = true
+begins_constant_by OfAtom = true
+begins_constant_by OfAnnotation = true
+begins_constant_by b = false
+
 abbrev pub begins_constant : Shape → Bool
-begins_constant (An_integer n) = true
-begins_constant (A_character c) = true
-begins_constant (A_text cs) = true
-begins_constant (An_atom t) = true
-begins_constant (A_mark m.LeftBrace) = true
-begins_constant (A_mark m.LeftBracket) = true
-begins_constant (A_mark m.LeftParenthesis) = true
-begins_constant shape = false
+begins_constant shape = begins_constant_by (beginning shape)
 
 -- the fault at a token past the last level
 abbrev pub deep_constant_of : ℕ → List Piece → ReadFault
@@ -429,9 +429,12 @@ caught_at n s = noted_at bare_caught_at n s
 
 -- ---- patterns
 
+abbrev pub begins_pattern_by : Beginning → Bool
+begins_pattern_by OfVariable = true
+begins_pattern_by b = begins_constant_by b
+
 abbrev pub begins_pattern : Shape → Bool
-begins_pattern (A_variable v) = true
-begins_pattern shape = begins_constant shape
+begins_pattern shape = begins_pattern_by (beginning shape)
 
 -- the fault at a token past the last level
 abbrev pub deep_pattern_of : ℕ → List Piece → ReadFault

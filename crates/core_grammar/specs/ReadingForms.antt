@@ -15,33 +15,27 @@ use Rattle.core_grammar.specs.declared.unserved.Unserved.{Unserved}
 use Rattle.core_grammar.specs.declared.unserved.Unserved.TheVariants as unserved
 use Rattle.core_scopes.specs.Names.{same_bytes}
 use Rattle.core_scopes.specs.Outcomes.{◌>>=◌}
-use Rattle.core_grammar.specs.Reading.{place_of_unserved, State, Read, with_pieces, is_mark, is_word, after_mark, after_word, refusal, is_foreign, too_deep, mark_at, word_at, taken, atom_in, atom_at, named_by, behind_atom_at, closed_at, brackets_at, exactly_at, rows_at, begins_constant, in_note_at, constant_at, noted_at, variables_at, caught_at, alias_at, pattern_at}
+use Rattle.core_grammar.specs.Beginnings.{Beginning, OfAtom, OfOtherForm, OfFunction, beginning}
+use Rattle.core_grammar.specs.Reading.{place_of_unserved, State, Read, with_pieces, is_mark, is_word, after_mark, after_word, refusal, is_foreign, too_deep, mark_at, word_at, taken, atom_in, atom_at, named_by, behind_atom_at, closed_at, brackets_at, exactly_at, rows_at, begins_pattern_by, in_note_at, constant_at, noted_at, variables_at, caught_at, alias_at, pattern_at}
 
 -- ---- expressions
 
 -- a function as a value: `fun`, `letrec`, a function's name
+abbrev pub is_function_by : Beginning → List Piece → Bool
+is_function_by OfFunction ps = true
+is_function_by OfAtom [] = false
+is_function_by OfAtom (p ∷ ps) = is_mark m.Slash p.shape
+is_function_by b ps = false
+
 abbrev pub is_function : Shape → List Piece → Bool
-is_function (A_word k.Fun) ps = true
-is_function (A_word k.Letrec) ps = true
-is_function (An_atom t) [] = false
-is_function (An_atom t) (p ∷ ps) = is_mark m.Slash p.shape
-is_function shape ps = false
+is_function shape ps = is_function_by (beginning shape) ps
+
+abbrev pub begins_expression_by : Beginning → Bool
+begins_expression_by OfOtherForm = true
+begins_expression_by b = begins_pattern_by b
 
 abbrev pub begins_expression : Shape → Bool
-begins_expression (A_word k.Let) = true
-begins_expression (A_word k.Case) = true
-begins_expression (A_word k.Apply) = true
-begins_expression (A_word k.Call) = true
-begins_expression (A_word k.Primop) = true
-begins_expression (A_word k.Do) = true
-begins_expression (A_word k.Try) = true
-begins_expression (A_word k.Catch) = true
-begins_expression (A_word k.Receive) = true
-begins_expression (A_word x) = false
-begins_expression (A_mark m.Less) = true
-begins_expression (A_mark x) = begins_constant (A_mark x)
-begins_expression (A_variable v) = true
-begins_expression shape = begins_constant shape
+begins_expression shape = begins_expression_by (beginning shape)
 
 -- the fault at a token past the last level
 abbrev pub deep_expression_of : ℕ → List Piece → ReadFault

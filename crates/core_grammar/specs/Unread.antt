@@ -3,12 +3,13 @@ use Rattle.std.specs.Prelude.{◌≡◌, ◌⊎◌, ℕ, List, [], ◌∷◌, �
 use Rattle.core_tokens.specs.declared.token.Keyword.TheVariants as k
 use Rattle.core_tokens.specs.declared.token.Mark.{Mark}
 use Rattle.core_tokens.specs.declared.token.Mark.TheVariants as m
-use Rattle.core_tokens.specs.Piece.{Piece, Shape, A_word, A_mark, An_atom, A_float}
+use Rattle.core_tokens.specs.Piece.{Piece, Shape, A_word, A_mark, A_float}
 use Rattle.core_tree.specs.Syntax.{Callee}
 use Rattle.core_grammar.specs.Grammar.{mark, atom, Operates}
+use Rattle.core_grammar.specs.Beginnings.{Beginning, OfAtom, OfFunction, beginning}
 use Rattle.core_grammar.specs.Arguments.{arguments}
 use Rattle.core_grammar.specs.Depth.{Front, PastWord}
-use Rattle.core_grammar.specs.UnservedCalls.{within, IsNoName}
+use Rattle.core_grammar.specs.UnservedCalls.{within, IsNoNameBy}
 
 -- from one of the tokens on they are as said
 pub record SomeAre (Said : List Piece → Type 0) (ps : List Piece) : Type 0 where
@@ -25,16 +26,21 @@ HasMark x (p ∷ ps) = p.shape ≡ A_mark x
 -- ---- functions as values
 
 -- a token that begins a function as a value: `fun`, `letrec`, or an atom with `/` behind it, a function's name
+abbrev pub BeginsFunctionBy : Beginning → List Piece → Type 0
+BeginsFunctionBy OfFunction ps = Unit {0}
+BeginsFunctionBy OfAtom ps = HasMark m.Slash ps
+BeginsFunctionBy b ps = ⊥
+
 abbrev pub BeginsFunction : Shape → List Piece → Type 0
-BeginsFunction (A_word k.Fun) ps = Unit {0}
-BeginsFunction (A_word k.Letrec) ps = Unit {0}
-BeginsFunction (An_atom t) ps = HasMark m.Slash ps
-BeginsFunction shape ps = ⊥
+BeginsFunction shape ps = BeginsFunctionBy (beginning shape) ps
 
 -- a token that begins a value where a function's name should stand: an atom with the arguments behind it, or what begins an expression and is neither an atom nor `(`
+abbrev pub BeginsAppliedBy : Beginning → List Piece → Type 0
+BeginsAppliedBy OfAtom ps = HasMark m.LeftParenthesis ps
+BeginsAppliedBy b ps = IsNoNameBy b
+
 abbrev pub BeginsApplied : Shape → List Piece → Type 0
-BeginsApplied (An_atom t) ps = HasMark m.LeftParenthesis ps
-BeginsApplied shape ps = IsNoName shape
+BeginsApplied shape ps = BeginsAppliedBy (beginning shape) ps
 
 -- `apply` of a value that begins at this place, perhaps in the parentheses of annotations
 abbrev pub AppliesValue : ℕ → List Piece → Type 0

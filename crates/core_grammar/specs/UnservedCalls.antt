@@ -2,9 +2,10 @@
 use Rattle.std.specs.Prelude.{◌≡◌, ℕ, List, [], ◌∷◌, ◌++◌}
 use Rattle.core_tokens.specs.declared.token.Keyword.TheVariants as k
 use Rattle.core_tokens.specs.declared.token.Mark.TheVariants as m
-use Rattle.core_tokens.specs.Piece.{Piece, Shape, A_word, A_mark, A_variable, An_integer, A_character, A_text}
+use Rattle.core_tokens.specs.Piece.{Piece, Shape, A_mark}
 use Rattle.core_tree.specs.Syntax.{Callee}
 use Rattle.core_grammar.specs.Grammar.{word, mark, atom, AtomIn, Calls}
+use Rattle.core_grammar.specs.Beginnings.{Beginning, OfAtom, OfAnnotation, OfNothing, beginning}
 use Rattle.core_grammar.specs.Arguments.{arguments}
 
 -- ---- names
@@ -23,26 +24,14 @@ abbrev pub IsOwn : List Piece → List ℕ → Type 0
 IsOwn ps own = (at bt : ℕ) × (rest : List Piece) × (within ps ≡ word at k.Module ∷ atom bt own ∷ rest)
 
 -- a token that begins an expression or a function as a value, and is neither an atom nor `(`
+abbrev pub IsNoNameBy : Beginning → Type 0
+IsNoNameBy OfAtom = ⊥
+IsNoNameBy OfAnnotation = ⊥
+IsNoNameBy OfNothing = ⊥
+IsNoNameBy b = Unit {0}
+
 abbrev pub IsNoName : Shape → Type 0
-IsNoName (An_integer n) = Unit {0}
-IsNoName (A_character c) = Unit {0}
-IsNoName (A_text cs) = Unit {0}
-IsNoName (A_variable v) = Unit {0}
-IsNoName (A_mark m.LeftBrace) = Unit {0}
-IsNoName (A_mark m.LeftBracket) = Unit {0}
-IsNoName (A_mark m.Less) = Unit {0}
-IsNoName (A_word k.Fun) = Unit {0}
-IsNoName (A_word k.Letrec) = Unit {0}
-IsNoName (A_word k.Let) = Unit {0}
-IsNoName (A_word k.Case) = Unit {0}
-IsNoName (A_word k.Apply) = Unit {0}
-IsNoName (A_word k.Call) = Unit {0}
-IsNoName (A_word k.Primop) = Unit {0}
-IsNoName (A_word k.Do) = Unit {0}
-IsNoName (A_word k.Try) = Unit {0}
-IsNoName (A_word k.Catch) = Unit {0}
-IsNoName (A_word k.Receive) = Unit {0}
-IsNoName shape = ⊥
+IsNoName shape = IsNoNameBy (beginning shape)
 
 -- something else begins where a name should stand
 abbrev pub LacksName : List Piece → Type 0
