@@ -15,7 +15,7 @@ use Rattle.pure_calls.specs.Answers as answers
 use Rattle.pure_calls.specs.Calls.{answer_of}
 use Rattle.core_eval.specs.Asked.{Answered, Gives, Refuses, Brings, TimesOut}
 use Rattle.core_eval.specs.Matching.{Environment, lookup, bound, text_of, match_each}
-use Rattle.core_eval.specs.Evaluation.{State, before, name, Got, Yields, Raises, Stops, Setting, then_do, handled, one, node_limit, limited, served, caught, caught_values, told, class_in, raised_again, value_or_error, within, is_true, judged, taken, no_clause, applied_to, evaluate, evaluate_all, choose}
+use Rattle.core_eval.specs.Evaluation.{State, before, name, Got, Yields, Raises, Stops, Setting, then_do, handled, one, node_limit, limited, limited_error, served, caught, caught_values, told, class_in, raised_again, value_or_error, within, is_true, judged, taken, as_one, no_clause, applied_to, evaluate, evaluate_all, choose}
 use Rattle.core_eval.specs.Applications.{definition, body_with, limit, counted, applied, room, apply_of}
 use Rattle.core_eval.specs.Ask.{Entry, first_function, is_open, function_of, request_of, ask}
 use Rattle.core_eval.specs.Servable.{IsReadRequest}
@@ -92,8 +92,11 @@ judged_fine (Stops request) holds fails h p q = h
 limited_fine : (m : Meaning) (s : State) → Fine (limited m s)
 limited_fine m s = chosen (nat_le (node_count m) node_limit) _ _ tt tt
 
+limited_error_fine : (m : Meaning) (s : State) → Fine (limited_error m s)
+limited_error_fine m s = chosen (nat_le (node_count m) node_limit) _ _ tt tt
+
 no_clause_fine : (vs : List Meaning) (s : State) → Fine (no_clause vs s)
-no_clause_fine vs s = chosen _ _ _ tt tt
+no_clause_fine vs s = limited_error_fine (Group (group_of (name (codes "case_clause") ∷ as_one vs ∷ []))) s
 
 caught_fine : (class : Class) (reason : Meaning) (s : State) → Fine (caught class reason s)
 caught_fine Error reason s = limited_fine (Group (group_of (name (codes "EXIT") ∷ Group (group_of (reason ∷ Empty ∷ [])) ∷ []))) s
@@ -145,8 +148,11 @@ module _ (own : List ℕ) (apply : Function → List Meaning → State → Got) 
   applied_fine RaisesAgain (trace ∷ reason ∷ v ∷ vs) s h = tt
 
   one_more : (done : List Meaning) (v : Meaning) (n : ℕ) → length (done ++ v ∷ []) + n ≡ length done + suc n
-  one_more [] v n = refl
-  one_more (w ∷ done) v n = ap suc (one_more done v n)
+  one_more [] v n = omega arith
+  one_more (w ∷ done) v n = let less = one_more done v n in omega (arith, less)
+
+  none_before : (n count : ℕ) → count ≡ length {A = Meaning} [] + n → n ≡ count
+  none_before n count e = omega (arith, e)
 
   mutual
     evaluate_fine : (t : Tree) (env : Environment) (s : State) → IsServable t → Fine (evaluate here t env s)
@@ -163,7 +169,7 @@ module _ (own : List ℕ) (apply : Function → List Meaning → State → Got) 
     evaluate_fine (Bound variables t body) env s h = goes_on _ _ (evaluate_fine t env s h.0) (λ vs s'. within_fine (bound variables vs []) env _ (λ inner s''. evaluate_fine body inner s'' h.1) s')
     evaluate_fine (Followed t u) env s h = goes_on _ _ (evaluate_fine t env s h.0) (one_fine _ (λ v s'. evaluate_fine u env s' h.1))
     evaluate_fine (Called at callee ts) env s h =
-        goes_on_with _ (count_of ts) _ (all_fine ts env [] s h.1) (λ vs s' count. applied_fine callee vs s' (subst (λ (n : ℕ). MayBeCalled callee n) (sym count) h.0))
+        goes_on_with _ _ _ (all_fine ts env [] s h.1) (λ vs s' count. applied_fine callee vs s' (subst (λ (n : ℕ). MayBeCalled callee n) (none_before (count_of ts) (length vs) count) h.0))
     evaluate_fine (Chosen at t cs) env s h = goes_on _ _ (evaluate_fine t env s h.0) (λ vs s'. choose_fine cs vs env s' h.1)
     evaluate_fine (Tried at t variables body caught_variables handler) env s h =
         goes_on_handled _ _ _ (evaluate_fine t env s h.0)
@@ -191,20 +197,16 @@ module _ (own : List ℕ) (apply : Function → List Meaning → State → Got) 
 
 -- ---- the functions of a module
 
+either : (b : Bool) (o p : Option (List Mention × Tree)) → HasServableBody o → HasServableBody p → HasServableBody (if b then o else p)
+either true o p h g = h
+either false o p h g = g
+
 definition_servable : (f : Function) (ds : List DefinitionTree) → HaveServableBodies ds → HasServableBody (definition f ds)
 definition_servable f [] h = tt
-definition_servable f (d ∷ ds) h = by (same_function f d.named.function)
-  where
-    by : (b : Bool) → HasServableBody (if b then Some (d.parameters, d.body) else definition f ds)
-    by true = h.0
-    by false = definition_servable f ds h.1
+definition_servable f (d ∷ ds) h = either (same_function f d.named.function) (Some (d.parameters, d.body)) (definition f ds) h.0 (definition_servable f ds h.1)
 
 first_servable : (m : ModuleTree) (pid : List ℕ) (e : Entry) → IsServableModule m → HasServableBody (first_function m pid e)
-first_servable m pid e h = by (is_open m pid e)
-  where
-    by : (b : Bool) → HasServableBody (if b then definition (function_of e) m.definitions else None)
-    by true = definition_servable (function_of e) m.definitions h
-    by false = tt
+first_servable m pid e h = either (is_open m pid e) (definition (function_of e) m.definitions) None (definition_servable (function_of e) m.definitions h) tt
 
 applications_fine : (m : ModuleTree) (own : List ℕ) → IsServableModule m → (depth : ℕ) (f : Function) (vs : List Meaning) (s : State) → Fine (applied depth m own f vs s)
 applications_fine m own h zero f vs s = tt
