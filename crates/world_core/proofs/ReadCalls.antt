@@ -30,10 +30,10 @@ served_with kind a b r = absurd r
 
 -- a call that is read is served
 pub read_served : (kind : CallKind) (arguments : List Meaning) → IsRead kind → length arguments ≡ (signature kind).arity → (call : TableCall) × (table_call kind arguments ≡ Some call)
-read_served kind [] r e = let two : 0 ≡ 2 = e ∙ two_arguments kind r in absurd (omega arith)
-read_served kind (a ∷ []) r e = let two : 1 ≡ 2 = e ∙ two_arguments kind r in absurd (omega arith)
+read_served kind [] r e = let two : 0 ≡ 2 = e ∙ two_arguments kind r in absurd (omega (arith, two))
+read_served kind (a ∷ []) r e = let two : 1 ≡ 2 = e ∙ two_arguments kind r in absurd (omega (arith, two))
 read_served kind (a ∷ b ∷ []) r e = served_with kind a b r
-read_served kind (a ∷ b ∷ c ∷ more) r e = let two : suc (suc (suc (length more))) ≡ 2 = e ∙ two_arguments kind r in absurd (omega arith)
+read_served kind (a ∷ b ∷ c ∷ more) r e = let two : suc (suc (suc (length more))) ≡ 2 = e ∙ two_arguments kind r in absurd (omega (arith, two))
 
 read_with : (kind : CallKind) (a b : Meaning) (call : TableCall) → call_with kind a b ≡ Some call → IsRead kind × (2 ≡ (signature kind).arity)
 read_with kinds.New a b call e = (tt, refl)
