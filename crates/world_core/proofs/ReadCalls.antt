@@ -1,5 +1,5 @@
 -- Which calls are served, and what this says of a process that is alive.
-use Rattle.std.proofs.Common.{◌≡◌, ◌≢◌, ℕ, suc, Bool, true, false, List, [], ◌∷◌, length, Option, Some, None, refl, ap, ◌∙◌, option_map, if◌then◌else◌, arith}
+use Rattle.std.proofs.Common.{◌≡◌, ℕ, suc, Bool, true, false, List, [], ◌∷◌, length, Option, Some, None, refl, ap, ◌∙◌, option_map, if◌then◌else◌, arith}
 use Rattle.core_tree.specs.declared.call.CallKind.{CallKind}
 use Rattle.core_tree.specs.declared.call.CallKind.TheVariants as kinds
 use Rattle.core_tree.specs.Calls.{signature, IsRead}
@@ -14,6 +14,7 @@ use Rattle.core_eval.specs.Servable.{IsReadRequest}
 use Rattle.world_core.specs.Calls.{TableCall, New, Insert, Lookup, call_with, table_call}
 use Rattle.world_core.specs.Events.{Deed, Ends, RunsAway, TimesOut, Happening, History}
 use Rattle.world_core.specs.History.{alive, answers}
+use Rattle.world_core.specs.Laws.{Waits}
 use Rattle.world_core.specs.Run.{origin, asking, deed_of_call, deed_asked, happening, next_event}
 
 two_arguments : (kind : CallKind) → IsRead kind → (signature kind).arity ≡ 2
@@ -50,7 +51,7 @@ served_read kind (a ∷ b ∷ c ∷ more) call e = absurd cc
 
 -- ---- turns
 
-deed_is : (h : History) (p : List ℕ) (request : Asked) → IsReadRequest request → request ≢ Receives true → (d : Deed) × (deed_asked h p request ≡ Some d)
+deed_is : (h : History) (p : List ℕ) (request : Asked) → IsReadRequest request → ¬ (request ≡ Receives true) → (d : Deed) × (deed_asked h p request ≡ Some d)
 deed_is h p (Asks kind arguments) r n = let c = read_served kind arguments r.0 r.1 in (deed_of_call h p kind arguments c.0, ap (λ (o : Option TableCall). option_map (deed_of_call h p kind arguments) o) c.1)
 deed_is h p (Receives true) r n = absurd (n refl)
 deed_is h p (Receives false) r n = (TimesOut, refl)
@@ -59,7 +60,7 @@ deed_is h p asked.RunsAway r n = (RunsAway, refl)
 
 -- where only calls that are read are asked, a process that is alive and need not wait has a turn
 pub has_turn : ((m : ModuleTree) (pid : List ℕ) (e : Entry) (given : List Answered) → IsServableModule m → IsReadRequest (ask m pid e given))
-    → (m : ModuleTree) (h : History) (p : List ℕ) → IsServableModule m → alive h p ≡ true → asking m h p ≢ Receives true → (e : Happening) × (next_event m h (Turn p) ≡ Some e)
+    → (m : ModuleTree) (h : History) (p : List ℕ) → IsServableModule m → alive h p ≡ true → ¬ (Waits m h p) → (e : Happening) × (next_event m h (Turn p) ≡ Some e)
 has_turn asks m h p servable lives waits =
     let d = deed_is h p (asking m h p) (asks m p (origin m p) (answers h p) servable) waits in
     (happening (Turn p) d.0, ap (λ (b : Bool). option_map (happening (Turn p)) (if b then deed_asked h p (asking m h p) else None)) lives ∙ ap (λ (o : Option Deed). option_map (happening (Turn p)) o) d.1)

@@ -5,7 +5,7 @@ use Rattle.core_tree.specs.declared.call.CallKind.TheVariants as kinds
 use Rattle.core_tree.specs.Syntax.{ModuleTree}
 use Rattle.term_core.specs.Meaning.{Meaning}
 use Rattle.term_core.specs.declared.step.Step.TheVariants.{Turn}
-use Rattle.core_eval.specs.Asked.{Asks}
+use Rattle.core_eval.specs.Asked.{Asks, Receives}
 use Rattle.world_core.specs.Calls.{TableCall, table_call}
 use Rattle.world_core.specs.Objects.{objects_of}
 use Rattle.world_core.specs.Events.{Deed, Serves, Refuses, Ends, RunsAway, TimesOut, Happening, History}
@@ -25,6 +25,10 @@ pub record IsAsked (m : ModuleTree) (h : History) (p : List ℕ) (kind : CallKin
   pub lives : alive h p ≡ true
   pub asks : asking m h p ≡ Asks kind arguments
   pub is_served : table_call kind arguments ≡ Some call
+
+-- a process waits for a message, however long that takes
+abbrev pub Waits : ModuleTree → History → List ℕ → Type 0
+Waits m h p = asking m h p ≡ Receives true
 
 -- these objects are put into this table, which is found
 pub record IsPut (h : History) (e : Happening) (table : Meaning) (objects : List Meaning) : Type 0 where

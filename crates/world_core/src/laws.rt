@@ -1,7 +1,6 @@
 // The laws of histories: what the definitions of turns and tables come to.
 ghost use Rattle.std.specs.Prelude.{◌≡◌, ◌≢◌, ℕ, ◌+◌, ◌≤◌, List, ◌∷◌, length, Some, None, if◌then◌else◌, true, false};
 ghost use Rattle.core_eval.specs.Ask.{is_first};
-ghost use Rattle.core_eval.specs.Asked.{Receives};
 ghost use Rattle.core_tree.specs.Calls.{signature, IsRead};
 ghost use Rattle.core_tree.specs.Servable.{IsServableModule};
 ghost use Rattle.core_tree.specs.Syntax.{ModuleTree};
@@ -12,9 +11,9 @@ ghost use Rattle.world_core.specs.Calls.{TableCall, table_call};
 ghost use Rattle.world_core.specs.Effects.{changed};
 ghost use Rattle.world_core.specs.Events.{Happening, History, Serves, Refuses};
 ghost use Rattle.world_core.specs.History.{alive, turns, found, owner, protection, rows, find, effect_of, rule_of, answer_of, owner_of};
-ghost use Rattle.world_core.specs.Laws.{IsRefusal, IsAsked, IsPut};
+ghost use Rattle.world_core.specs.Laws.{IsRefusal, IsAsked, Waits, IsPut};
 ghost use Rattle.world_core.specs.Objects.{last_with, replaced};
-ghost use Rattle.world_core.specs.Run.{IsRun, run, schedule_of, asking, next_event, happening, tells_owner};
+ghost use Rattle.world_core.specs.Run.{IsRun, run, schedule_of, next_event, happening, tells_owner};
 ghost use Rattle.world_core.specs.declared.tables.rule.Rule.{Rule};
 
 use core_eval::laws::only_calls_that_are_read_are_asked;
@@ -61,7 +60,7 @@ pub fn read_calls_are_served()
 /// Where each call of the world in a module is one that is read, as in every module that a text spells, a
 /// process that is alive always has a turn, unless it must wait.
 pub fn living_processes_have_turns()
-    ensures { (m : ModuleTree) (h : History) (p : List ℕ) → IsServableModule m → alive h p ≡ true → asking m h p ≢ Receives true → (e : Happening) × (next_event m h (Turn p) ≡ Some e) }
+    ensures { (m : ModuleTree) (h : History) (p : List ℕ) → IsServableModule m → alive h p ≡ true → ¬ (Waits m h p) → (e : Happening) × (next_event m h (Turn p) ≡ Some e) }
 {
     only_calls_that_are_read_are_asked();
 }
