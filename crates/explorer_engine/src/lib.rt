@@ -5,6 +5,7 @@
 pub mod engine;
 pub mod fault_text;
 pub mod input;
+pub mod laws;
 pub mod replay;
 pub mod replay_fault;
 pub mod transcript;

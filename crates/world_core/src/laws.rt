@@ -57,8 +57,8 @@ pub fn read_calls_are_served()
     ensures only { (kind : CallKind) (arguments : List Meaning) (call : TableCall) → table_call kind arguments ≡ Some call → IsRead kind × (length arguments ≡ (signature kind).arity) }
 {}
 
-/// Where each call of the world in a module is one that is read, as in every module that a text spells, a
-/// process that is alive always has a turn, unless it must wait.
+/// Where each call of the world in a module is one that is read, as in every module that a text says, a
+/// process that is alive always has a turn, unless it waits for a message.
 pub fn living_processes_have_turns()
     ensures { (m : ModuleTree) (h : History) (p : List ℕ) → IsServableModule m → alive h p ≡ true → ¬ (Waits m h p) → (e : Happening) × (next_event m h (Turn p) ≡ Some e) }
 {
