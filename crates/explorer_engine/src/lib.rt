@@ -5,6 +5,7 @@
 pub mod engine;
 pub mod fault_text;
 pub mod input;
+pub mod program;
 pub mod replay;
 pub mod replay_fault;
 pub mod transcript;
@@ -14,6 +15,7 @@ pub mod words;
 pub use engine::run_replay;
 pub use fault_text::write_fault;
 pub use input::{INPUT_LIMIT, InputFault, PIECE_LIMIT, READ_LIMIT, read_input};
+pub use program::{WORDS_REFUSED, run};
 pub use replay_fault::ReplayFault;
 pub use transcript::write_event;
 pub use verdict::{RunFault, Verdict, status};
