@@ -8,7 +8,7 @@ ghost use Rattle.explorer_engine.specs.Status.{status_of};
 use crate::engine::run_replay;
 use crate::fault_text::write_fault;
 use crate::verdict::{RunFault, Verdict, status};
-use crate::words::{Words, read_words};
+use crate::words::read_words;
 use clap::Error;
 use clap::error::ErrorKind;
 use std::alloc::Global;
@@ -46,8 +46,8 @@ pub fn run<S: AsStr, R: Source, W: Sink, E: Sink>(
     ensures failed { W.has_failed output.new ≡ (result == 4) }
 {
     match read_words(alloc, words) {
-        Ok(Words::Replay(schedule)) => {
-            let outcome = run_replay(alloc, input, schedule.as_str(), output);
+        Ok(asked) => {
+            let outcome = run_replay(alloc, input, asked.schedule(), output);
             report(&outcome, errors)
         }
         Err(error) => {

@@ -3,7 +3,7 @@ ghost use Rattle.std.specs.Prelude.{◌≡◌, List, ℕ, codes, map, option_map
 ghost use Rattle.clap.specs.Values.{kind_of};
 ghost use Rattle.clap.specs.Words.{Row, app_of, first_of, subcommand_rows_of};
 ghost use Rattle.explorer_engine.specs.CommandLine.{command_line};
-ghost use Rattle.explorer_engine.specs.Words.{AreReadAs, IsReplay};
+ghost use Rattle.explorer_engine.specs.Words.{AreReadAs, IsReplay, schedule_of};
 
 use clap::error::ErrorKind;
 use clap::{Arg, ArgAction, ArgMatches, Command, Error};
@@ -17,6 +17,17 @@ pub enum Words {
     Replay(String),
 }
 
+impl Words {
+    /// The schedule that is to be replayed.
+    pub fn schedule(&self) -> &str
+        ensures { result.now ≡ schedule_of self.now }
+    {
+        match self {
+            Words::Replay(schedule) => schedule.as_str(),
+        }
+    }
+}
+
 /// Reads the words of a command line, of which the first is the program's name.
 ///
 /// # Errors
@@ -28,7 +39,7 @@ pub fn read_words<S: AsStr>(alloc: Global, words: &[S]) -> Result<Words, Error>
 {
     let command = command(alloc)?;
     let matches = command.try_get_matches_from(words)?;
-    let Some(schedule) = schedule_of(&matches) else {
+    let Some(schedule) = found_schedule(&matches) else {
         return Err(Command::new(alloc, NAME).error(ErrorKind::MissingSubcommand, "no command")?);
     };
     Ok(Words::Replay(String::from_str(alloc, schedule)?))
@@ -57,7 +68,7 @@ fn command<'a>(alloc: Global) -> Result<Command<'a>, Error>
 }
 
 // The schedule that is to be replayed.
-fn schedule_of<'a>(matches: &ArgMatches<'a>) -> Option<&'a str>
+fn found_schedule<'a>(matches: &ArgMatches<'a>) -> Option<&'a str>
     ensures { (rows : List Row) → subcommand_rows_of matches.now ≡ Some (codes "replay", rows)
         → option_map (λ word. word.now) result ≡ first_of (codes "SCHEDULE") rows }
 {
