@@ -1,5 +1,5 @@
 -- What a run of the program comes to, by the bytes that it is given.
-use Rattle.std.specs.Prelude.{◌≡◌, ℕ, Bool, false, List, Option, Result, Ok, Err}
+use Rattle.std.specs.Prelude.{◌≡◌, ℕ, Bool, true, false, List, Option, Result, Ok, Err}
 use Rattle.core_tree.specs.Syntax.{ModuleTree}
 use Rattle.core_reader.specs.Reader.{SpellsModule}
 use Rattle.core_reader.specs.Refusal.{IsRefusalOf}
@@ -10,6 +10,7 @@ use Rattle.term_core.specs.declared.schedule.ScheduleFault.{ScheduleFault}
 use Rattle.term_core.specs.declared.schedule.ScheduleFault.TheVariants as schedule
 use Rattle.term_core.specs.declared.step.Step.{Step}
 use Rattle.explorer_engine.specs.Replay.{Replays, transcript}
+use Rattle.explorer_engine.specs.declared.replay_fault.ReplayFault.TheVariants as replay
 use Rattle.explorer_engine.specs.declared.verdict.RunFault.{RunFault}
 use Rattle.explorer_engine.specs.declared.verdict.RunFault.TheVariants as run
 use Rattle.explorer_engine.specs.declared.verdict.Verdict.{Verdict}
@@ -45,12 +46,13 @@ pub record IsNoSchedule (input word : List ℕ) (old new : Option (List ℕ)) (f
   pub bad : IsBadSchedule word fault
   pub quiet : WritesNothing old new failed
 
--- a run replayed its schedule to the end; or the input was refused as a module, or could not be read, or the schedule was refused, and nothing was written; or the replay stopped at a step or for want of memory, or the output failed
+-- a run replayed its schedule to the end; or the input was refused as a module, or could not be read, or the schedule was refused, and nothing was written; or the replay stopped at a step or for want of memory; or the output failed, at a write or at the flush
 abbrev pub IsRunOf : (input word : List ℕ) → (old new : Option (List ℕ)) → Bool → Result Verdict RunFault → Type 0
 IsRunOf input word old new failed (Ok Done) = IsReplayed input word old new (λ m steps. Replays m steps old new failed (Ok tt))
 IsRunOf input word old new failed (Err (run.Input fault)) = IsRefusalOf input fault × WritesNothing old new failed
 IsRunOf input word old new failed (Err run.ReadFailed) = WritesNothing old new failed
 IsRunOf input word old new failed (Err (run.Schedule fault)) = IsNoSchedule input word old new failed fault
+IsRunOf input word old new failed (Err (run.Replay replay.Write)) = ⊥
 IsRunOf input word old new failed (Err (run.Replay fault)) = IsReplayed input word old new (λ m steps. Replays m steps old new failed (Err fault))
 IsRunOf input word old new failed (Err run.Output) = IsReplayed input word old new (λ m steps. BreaksOff old new failed (transcript m steps))
 
@@ -62,3 +64,12 @@ IsRefusedBefore (Err run.ReadFailed) = Unit {0}
 IsRefusedBefore (Err (run.Schedule fault)) = Unit {0}
 IsRefusedBefore (Err (run.Replay fault)) = ⊥
 IsRefusedBefore (Err run.Output) = ⊥
+
+-- what was replayed was handed on by a flush, unless the output has failed
+abbrev pub IsHandedOn : Result Verdict RunFault → Bool → Type 0
+IsHandedOn (Ok Done) flushed = flushed ≡ true
+IsHandedOn (Err (run.Input fault)) flushed = Unit {0}
+IsHandedOn (Err run.ReadFailed) flushed = Unit {0}
+IsHandedOn (Err (run.Schedule fault)) flushed = Unit {0}
+IsHandedOn (Err (run.Replay fault)) flushed = flushed ≡ true
+IsHandedOn (Err run.Output) flushed = Unit {0}

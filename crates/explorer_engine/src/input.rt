@@ -5,7 +5,6 @@ ghost use Rattle.explorer_engine.specs.Input.{ReadsMore, IsInputOf};
 
 use std::alloc::{AllocError, Global};
 use term_core::Source;
-use thiserror::Error;
 
 /// Once more bytes than this came, nothing more is read. No module is longer.
 pub const INPUT_LIMIT: usize = 1_048_576;
@@ -17,13 +16,11 @@ pub const PIECE_LIMIT: usize = 65_536;
 pub const READ_LIMIT: usize = 2_097_152;
 
 /// Why an input was not read.
-#[derive(Clone, Copy, Debug, PartialEq, Eq, Error)]
+#[derive(Clone, Copy, Debug, PartialEq, Eq)]
 pub enum InputFault {
     /// A read failed.
-    #[error("read failed")]
     ReadFailed,
     /// There was no memory.
-    #[error("15 Memory")]
     Memory,
 }
 
@@ -46,9 +43,9 @@ impl From<AllocError> for InputFault {
 pub fn read_input<R: Source>(alloc: Global, source: &mut R) -> Result<Vec<u8>, InputFault>
     requires { R.has_failed source.old ≡ false }
     // All that the source had, or where that is more than a module may have, a beginning that is too.
-    ensures input { IfOk result (λ read. IfSome (R.remaining source.old) (λ all. IsInputOf INPUT_LIMIT all read.items)) }
+    ensures input { IfOk result (λ read. IfSome (R.remaining source.old) (λ all. IsInputOf 1048576 all read.items)) }
     // However long the source is.
-    ensures bound { IfOk result (λ read. vec_len read ≤ INPUT_LIMIT + PIECE_LIMIT) }
+    ensures bound { IfOk result (λ read. vec_len read ≤ 1114112) }
     ensures sound { OnOk result (R.has_failed source.new ≡ false) }
     ensures read_failed { IsErrOf result InputFault.ReadFailed → R.has_failed source.new ≡ true }
     ensures memory { IsErrOf result InputFault.Memory → R.has_failed source.new ≡ false }
@@ -64,10 +61,10 @@ fn read_through<R: Source>(
     buffer: &mut [u8],
 ) -> Result<Vec<u8>, InputFault>
     requires sound { R.has_failed source.old ≡ false }
-    requires room { length buffer.old ≡ PIECE_LIMIT }
+    requires room { length buffer.old ≡ 65536 }
     ensures bytes { IfOk result (λ read. Consumes (R.remaining source.old) (R.remaining source.new) read.items) }
-    ensures end { IfOk result (λ read. length read.items ≤ INPUT_LIMIT → IsAtEnd (R.remaining source.new)) }
-    ensures bound { IfOk result (λ read. vec_len read ≤ INPUT_LIMIT + PIECE_LIMIT) }
+    ensures end { IfOk result (λ read. length read.items ≤ 1048576 → IsAtEnd (R.remaining source.new)) }
+    ensures bound { IfOk result (λ read. vec_len read ≤ 1114112) }
     ensures sound { OnOk result (R.has_failed source.new ≡ false) }
     ensures read_failed { IsErrOf result InputFault.ReadFailed → R.has_failed source.new ≡ true }
     ensures memory { IsErrOf result InputFault.Memory → R.has_failed source.new ≡ false }

@@ -1,5 +1,5 @@
 // The replay of one schedule.
-ghost use Rattle.std.specs.Prelude.{◌≡◌, ℕ, false, List, None, Some, OnOk};
+ghost use Rattle.std.specs.Prelude.{◌≡◌, ℕ, true, false, List, None, Some, OnOk};
 ghost use Rattle.core_tree.specs.Syntax.{ModuleTree};
 ghost use Rattle.term_core.specs.declared.step.Step.{Step};
 ghost use Rattle.world_core.specs.Run.{run};
@@ -43,6 +43,31 @@ pub fn replay<W: Sink>(
         replay_step(alloc, &mut world, index + 1, step, sink)?;
     }
     Ok(())
+}
+
+/// Replays as `replay` does, and then flushes the sink, so that no line that was written is held back.
+///
+/// # Errors
+///
+/// Those of `replay`, and `Write` also where the flush failed.
+pub fn replay_and_flush<W: Sink>(
+    alloc: Global,
+    program: &Module,
+    steps: &[Step],
+    sink: &mut W,
+) -> Result<(), ReplayFault>
+    requires { W.has_failed sink.old ≡ false }
+    ensures replay { Replays program.now steps.now (W.contents sink.old) (W.contents sink.new) (W.has_failed sink.new) result }
+    ensures flushed { W.has_failed sink.new ≡ false → W.is_flushed sink.new ≡ true }
+{
+    let outcome = replay(alloc, program, steps, sink);
+    if sink.failed() {
+        return outcome;
+    }
+    if sink.flush().is_err() {
+        return Err(ReplayFault::Write);
+    }
+    outcome
 }
 
 // Takes a step, the one of this place in the schedule, and writes the line of its event.

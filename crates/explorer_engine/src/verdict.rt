@@ -1,4 +1,4 @@
-// How a run ends: its verdict or its refusal, and the exit status and the line that tell it.
+// How a run ends: its verdict or its refusal, and the exit status that reports it.
 ghost use Rattle.std.specs.Prelude.{◌≡◌, false};
 ghost use Rattle.explorer_engine.specs.Status.{status_of, status_of_fault, status_of_read_fault, status_of_schedule_fault, status_of_replay_fault};
 
@@ -6,7 +6,6 @@ use crate::input::InputFault;
 use crate::replay_fault::ReplayFault;
 use core_reader::ReadFault;
 use term_core::{ScheduleFault, WriteFault};
-use thiserror::Error;
 
 /// What a run that was not refused came to.
 #[derive(Clone, Copy, Debug, PartialEq, Eq)]
@@ -16,22 +15,17 @@ pub enum Verdict {
 }
 
 /// Why a run was refused.
-#[derive(Clone, Copy, Debug, PartialEq, Eq, Error)]
+#[derive(Clone, Copy, Debug, PartialEq, Eq)]
 pub enum RunFault {
     /// The module was refused, or there was no memory to read it.
-    #[error("input: {0}")]
     Input(ReadFault),
     /// The input could not be read.
-    #[error("input: read failed")]
     ReadFailed,
     /// The schedule was refused.
-    #[error("schedule: {0}")]
     Schedule(ScheduleFault),
     /// The replay stopped.
-    #[error("replay: {0}")]
     Replay(ReplayFault),
-    /// The output could not be written.
-    #[error("output failed")]
+    /// The output could not be written or flushed.
     Output,
 }
 

@@ -1,5 +1,5 @@
 // Inputs from readers that behave badly.
-use explorer_engine::{INPUT_LIMIT, InputFault, PIECE_LIMIT, read_input};
+use explorer_engine::{InputFault, read_input};
 use std::test::Fail;
 use term_core::Source;
 use test_streams::{EndlessSource, MemorySource};
@@ -7,7 +7,7 @@ use test_streams::{EndlessSource, MemorySource};
 #[test]
 fn reads_to_the_end(rt: HostRuntime) -> Result<(), Fail> {
     let alloc = rt.alloc();
-    for length in [0, 1, PIECE_LIMIT, PIECE_LIMIT + 1, INPUT_LIMIT] {
+    for length in [0, 1, 65_536, 65_537, 1_048_576] {
         let bytes = vec![in alloc; b'x'; length]?;
         let mut source = MemorySource::new(&bytes);
         let read = read_input(alloc, &mut source)?;
@@ -42,7 +42,6 @@ fn tells_a_read_that_fails(rt: HostRuntime) -> Result<(), Fail> {
 fn stops_on_a_reader_that_never_ends(rt: HostRuntime) -> Result<(), Fail> {
     let mut source = EndlessSource { byte: b' ' };
     let read = read_input(rt.alloc(), &mut source)?;
-    assert!(rt; read.len() > INPUT_LIMIT);
-    assert!(rt; read.len() <= INPUT_LIMIT + PIECE_LIMIT);
+    assert_eq!(rt; read.len(), 1_114_112);
     Ok(())
 }

@@ -1,11 +1,13 @@
-// The status and the line of each refusal.
+// The status and the line of each refusal, alone and as the whole program reports it.
 use core_tokens::ReadFault;
-use explorer_engine::{InputFault, ReplayFault, RunFault, Verdict, status, write_fault};
+use explorer_engine::{
+    InputFault, NAME, ReplayFault, RunFault, Verdict, run, status, write_fault,
+};
 use std::alloc::Global;
 use std::process::Abort;
 use std::test::Fail;
 use term_core::ScheduleFault;
-use test_streams::MemorySink;
+use test_streams::{MemorySink, MemorySource};
 
 // Refusals with their status and their line.
 const REFUSALS: [(RunFault, u8, &[u8]); 9] = [
@@ -99,5 +101,92 @@ fn tells_each_refusal_by_its_status_and_its_line(rt: HostRuntime) -> Result<(), 
         4,
         b"output failed\n",
     )?;
+    Ok(())
+}
+
+// A table is made, and an object is written.
+const TABLE: &[u8] =
+    b"module 'm' ['main'/0] attributes [] 'main'/0 = fun () -> do call 'ets':'new'('t',['named_table']) call 'ets':'insert'('t',{'a',1}) end";
+
+const LINES: &[u8] =
+    b"1 P ets:new('t',['named_table']) -> 't'\n2 P ets:insert('t',{'a',1}) -> 'true'\n3 P ends 'normal'\n";
+
+const FIRST_LINE: &[u8] = b"1 P ets:new('t',['named_table']) -> 't'\n";
+
+// What the streams allow: how many reads, how many bytes of output, how many flushes of it.
+const SOUND: (u64, usize, u64) = (u64::MAX, 1000, u64::MAX);
+
+// A module, a schedule and what the streams allow; then the status, the output, and the line of a refusal.
+const RUNS: [(&[u8], &str, (u64, usize, u64), u8, &[u8], &[u8]); 11] = [
+    (TABLE, "P P P", SOUND, 0, LINES, b""),
+    (TABLE, "", SOUND, 0, b"", b""),
+    (b"module 'm", "P", SOUND, 2, b"", b"input: 1 BadToken at 7\n"),
+    (TABLE, " P", SOUND, 2, b"", b"schedule: 1 BadStep at 0\n"),
+    (TABLE, "P ", SOUND, 2, b"", b"schedule: 1 BadStep at 2\n"),
+    (
+        TABLE,
+        "P P.9",
+        SOUND,
+        2,
+        FIRST_LINE,
+        b"replay: 1 NotEnabled at step 2\n",
+    ),
+    // a read fails
+    (
+        TABLE,
+        "P P P",
+        (0, 1000, u64::MAX),
+        2,
+        b"",
+        b"input: read failed\n",
+    ),
+    // a write fails, and only the flush at the end, behind a whole replay and behind one that stopped
+    (
+        TABLE,
+        "P P P",
+        (u64::MAX, FIRST_LINE.len(), u64::MAX),
+        4,
+        FIRST_LINE,
+        b"output failed\n",
+    ),
+    (
+        TABLE,
+        "P P P",
+        (u64::MAX, 1000, 0),
+        4,
+        LINES,
+        b"output failed\n",
+    ),
+    (
+        TABLE,
+        "P P.9",
+        (u64::MAX, 1000, 0),
+        4,
+        FIRST_LINE,
+        b"output failed\n",
+    ),
+    // nothing was written, so nothing is flushed
+    (
+        b"module 'm",
+        "P",
+        (u64::MAX, 1000, 0),
+        2,
+        b"",
+        b"input: 1 BadToken at 7\n",
+    ),
+];
+
+#[test]
+fn reports_a_run_by_its_status_and_its_line(rt: HostRuntime) -> Result<(), Fail> {
+    for (module, schedule, (reads, room, flushes), number, lines, line) in RUNS {
+        let mut input = MemorySource::in_pieces(module, usize::MAX, reads);
+        let mut output = MemorySink::with_flushes(rt.alloc(), room, flushes)?;
+        let mut errors = MemorySink::with_room(rt.alloc(), 100)?;
+        let words = [NAME, "replay", schedule];
+        let found = run(rt.alloc(), &words, &mut input, &mut output, &mut errors);
+        assert_eq!(rt; found, number, "{schedule}");
+        assert_eq!(rt; output.bytes.as_slice(), lines);
+        assert_eq!(rt; errors.bytes.as_slice(), line);
+    }
     Ok(())
 }

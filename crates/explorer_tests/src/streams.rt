@@ -1,7 +1,9 @@
-// Sources that hand out few bytes a read, fail, or never end.
+// Sources that hand out few bytes a read, fail, or never end, and sinks that fail at a flush.
+use std::io;
+use std::io::{BufWriter, ErrorKind, Write};
 use std::test::Fail;
-use term_core::Source;
-use test_streams::{EndlessSource, MemorySource};
+use term_core::{Output, Sink, Source};
+use test_streams::{EndlessSource, MemorySink, MemorySource};
 
 #[test]
 fn reads_in_pieces(rt: HostRuntime) -> Result<(), Fail> {
@@ -20,5 +22,47 @@ fn reads_in_pieces(rt: HostRuntime) -> Result<(), Fail> {
     let mut whole = MemorySource::new(b"xyz");
     assert_eq!(rt; whole.read(&mut buffer)?, 3);
     assert_eq!(rt; whole.read(&mut buffer)?, 0);
+    Ok(())
+}
+
+#[test]
+fn flushes_as_often_as_it_may(rt: HostRuntime) -> Result<(), Fail> {
+    let mut sink = MemorySink::with_flushes(rt.alloc(), 8, 1)?;
+    assert_eq!(rt; sink.write(b"ab")?, 2);
+    assert!(rt; !sink.is_flushed);
+    assert!(rt; sink.flush().is_ok());
+    assert!(rt; sink.is_flushed && !sink.failed());
+    assert!(rt; sink.flush().is_err());
+    assert!(rt; !sink.is_flushed && sink.failed());
+    assert_eq!(rt; sink.bytes.as_slice(), b"ab".as_slice());
+    Ok(())
+}
+
+// A writer that takes all bytes and cannot be flushed.
+#[derive(Drop)]
+struct Unflushed;
+
+impl Write for Unflushed {
+    fn write(&mut self, bytes: &[u8]) -> io::Result<usize> {
+        Ok(bytes.len())
+    }
+
+    fn flush(&mut self) -> io::Result<()> {
+        Err(io::Error::from(ErrorKind::Other))
+    }
+}
+
+// A flush of an output is one of its writer, and of what that writes to.
+#[test]
+fn an_output_flushes_its_writer(rt: HostRuntime) -> Result<(), Fail> {
+    let mut output = Output::new(BufWriter::new(rt.alloc(), Vec::new(rt.alloc()))?);
+    assert_eq!(rt; output.write(b"ab")?, 2);
+    assert!(rt; output.writer.get_ref().is_empty());
+    assert!(rt; output.flush().is_ok());
+    assert_eq!(rt; output.writer.get_ref().as_slice(), b"ab".as_slice());
+    let mut stuck = Output::new(BufWriter::new(rt.alloc(), Unflushed)?);
+    assert_eq!(rt; stuck.write(b"ab")?, 2);
+    assert!(rt; stuck.flush().is_err());
+    assert!(rt; stuck.failed());
     Ok(())
 }

@@ -1,37 +1,11 @@
-// The program: reads a module, replays a schedule of it, and prints what happened.
+// The program: names the three streams and the words, and does the rest in `explorer_engine`.
 #![tactic(auto)]
 
-use explorer_engine::{RunFault, Verdict, Words, read_words, run_replay, status, write_fault};
+use explorer_engine::{WORDS_REFUSED, run};
 use std::env;
-use std::io::{BufWriter, Write};
+use std::io::BufWriter;
 use std::process::ExitCode;
 use term_core::{Input, Output};
-
-// The exit status where the words are not those of a command.
-const WORDS_REFUSED: u8 = 64;
-
-// Replays a schedule of the module on standard input to standard output, which is written in blocks.
-fn replay_to_output(rt: &HostRuntime, schedule: &str) -> Result<Verdict, RunFault> {
-    let mut source = Input::new(rt.stdin());
-    let Ok(writer) = BufWriter::new(rt.alloc(), rt.stdout()) else {
-        return Err(RunFault::Input(core_reader::ReadFault::Memory));
-    };
-    let mut sink = Output::new(writer);
-    let outcome = run_replay(rt.alloc(), &mut source, schedule, &mut sink);
-    if sink.writer.flush().is_err() {
-        return Err(RunFault::Output);
-    }
-    outcome
-}
-
-// Tells how a run ended: a refusal by its line on standard error, and each end by its status.
-fn tell(rt: &HostRuntime, outcome: &Result<Verdict, RunFault>) -> ExitCode {
-    if let Err(fault) = outcome {
-        let mut sink = Output::new(rt.stderr());
-        let _ = write_fault(&mut sink, fault);
-    }
-    ExitCode::from(status(outcome))
-}
 
 // The words, as far as there is memory for them.
 fn words_of(rt: &HostRuntime) -> Option<Vec<String>> {
@@ -39,15 +13,20 @@ fn words_of(rt: &HostRuntime) -> Option<Vec<String>> {
     words.collect(rt.alloc()).ok()
 }
 
+// Standard output is written in blocks, or where there is no memory for a block as each piece comes.
 fn main(rt: HostRuntime) -> ExitCode {
+    let alloc = rt.alloc();
     let Some(words) = words_of(&rt) else {
         return ExitCode::from(WORDS_REFUSED);
     };
-    match read_words(rt.alloc(), &words) {
-        Ok(Words::Replay(schedule)) => tell(&rt, &replay_to_output(&rt, schedule.as_str())),
-        Err(error) => {
-            let _ = eprint!(rt; "{error}");
-            ExitCode::from(WORDS_REFUSED)
+    let mut input = Input::new(rt.stdin());
+    let mut errors = Output::new(rt.stderr());
+    let status = match BufWriter::new(alloc, rt.stdout()) {
+        Ok(writer) => run(alloc, &words, &mut input, &mut Output::new(writer), &mut errors),
+        Err(_) => {
+            let mut output = Output::new(rt.stdout());
+            run(alloc, &words, &mut input, &mut output, &mut errors)
         }
-    }
+    };
+    ExitCode::from(status)
 }

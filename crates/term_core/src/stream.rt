@@ -1,17 +1,15 @@
 // The streams that every layer reads and writes.
-ghost use Rattle.std.specs.Prelude.{◌≡◌, ℕ, List, Bool, false, ◌||◌, Option, None, is_err};
+ghost use Rattle.std.specs.Prelude.{◌≡◌, ℕ, List, Bool, false, ◌||◌, Option, None, is_err, is_ok};
 ghost use Rattle.std.specs.Io.{ReadsAtMost, WritesAtMost};
-ghost use Rattle.std.specs.Io.KnownBytes.{ReadConsumes, WriteAppends};
+ghost use Rattle.std.specs.Io.KnownBytes.{Keeps, ReadConsumes, WriteAppends};
 ghost use Rattle.term_core.specs.Stream.{took_nothing, Writes};
 
 use std::io;
 use std::io::{Read, Write};
-use thiserror::Error;
 
 /// Writing failed: a call on the sink gave an error, or took no byte of some. What was written before
 /// stands.
-#[derive(Clone, Copy, Debug, PartialEq, Eq, Error)]
-#[error("output failed")]
+#[derive(Clone, Copy, Debug, PartialEq, Eq)]
 pub struct WriteFault;
 
 /// What bytes are read from, as `std::io::Read`, which also knows whether a read on it has failed.
@@ -34,21 +32,32 @@ pub trait Source {
         ensures { result ≡ has_failed self.now };
 }
 
-/// What bytes are written to, as `std::io::Write`, which also knows whether a write on it has failed.
+/// What bytes are written to, as `std::io::Write`, which also knows whether a call on it has failed.
 pub trait Sink {
     /// The bytes that the sink holds, where it tells them.
     ghost contents: { Self → Option (List ℕ) } = { λ _. None };
 
-    /// Whether a write on it has failed: gave an error, or took no byte of some.
+    /// Whether a call on it has failed: gave an error, or took no byte of some.
     ghost has_failed: { Self → Bool };
+
+    /// Whether the last write or flush was a flush that succeeded.
+    ghost is_flushed: { Self → Bool };
 
     /// Takes bytes from the front, and says how many. After an error none was taken.
     fn write(&mut self, bytes: &[u8]) -> io::Result<usize>
         ensures bound { WritesAtMost result bytes.now }
         ensures bytes { WriteAppends (contents self.old) (contents self.new) result bytes.now }
-        ensures failed { has_failed self.new ≡ (has_failed self.old || took_nothing result bytes.now) };
+        ensures failed { has_failed self.new ≡ (has_failed self.old || took_nothing result bytes.now) }
+        ensures flushed { is_flushed self.new ≡ false };
 
-    /// Whether a write on it has failed.
+    /// Hands on the bytes that it holds back, to where they are going. At an error some of them may not
+    /// have come there. The bytes that it holds, those held back among them, stay as they are.
+    fn flush(&mut self) -> io::Result<()>
+        ensures bytes { Keeps (contents self.old) (contents self.new) }
+        ensures failed { has_failed self.new ≡ (has_failed self.old || is_err result) }
+        ensures flushed { is_flushed self.new ≡ is_ok result };
+
+    /// Whether a call on it has failed.
     fn failed(&self) -> bool
         ensures { result ≡ has_failed self.now };
 }
@@ -98,17 +107,20 @@ impl<R: Read> Source for Input<R> {
 pub struct Output<W> {
     pub writer: W,
     pub has_failed: bool,
+    pub is_flushed: bool,
 }
 
 impl<W: Write> Output<W> {
-    /// A sink on which no write has failed yet.
+    /// A sink on which no call has failed yet.
     pub fn new(writer: W) -> Output<W>
         ensures writer { result.writer ≡ writer }
         ensures sound { result.has_failed ≡ false }
+        ensures flushed { result.is_flushed ≡ false }
     {
         Output {
             writer,
             has_failed: false,
+            is_flushed: false,
         }
     }
 }
@@ -118,9 +130,21 @@ impl<W: Write> Sink for Output<W> {
 
     ghost has_failed = { λ s. s.has_failed };
 
+    ghost is_flushed = { λ s. s.is_flushed };
+
     fn write(&mut self, bytes: &[u8]) -> io::Result<usize> {
+        self.is_flushed = false;
         let result = self.writer.write(bytes);
         if takes_nothing(&result, bytes) {
+            self.has_failed = true;
+        }
+        result
+    }
+
+    fn flush(&mut self) -> io::Result<()> {
+        let result = self.writer.flush();
+        self.is_flushed = result.is_ok();
+        if result.is_err() {
             self.has_failed = true;
         }
         result

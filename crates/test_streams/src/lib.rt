@@ -1,9 +1,10 @@
 // Streams in memory that behave as badly as streams may, for tests: no crate of the program lists this one.
 #![tactic(auto)]
 
-ghost use Rattle.std.specs.Prelude.{◌≡◌, [], IfOk, IsOkAnd, Some, None, false, is_err, length, EachIndex, slice_index};
-ghost use Rattle.std.specs.Io.{ReadsAtMost};
-ghost use Rattle.std.specs.Io.KnownBytes.{ReadConsumes};
+ghost use Rattle.std.specs.Prelude.{◌≡◌, [], ◌+◌, ◌==◌, ◌&&◌, ◌||◌, not, min, IfOk, IsOkAnd, OnErr, OnOk, Some, None, false, is_err, is_ok, length, EachIndex, slice_index};
+ghost use Rattle.std.specs.Io.{ReadsAtMost, WritesAtMost};
+ghost use Rattle.std.specs.Io.KnownBytes.{Keeps, ReadConsumes, WriteAppends};
+ghost use Rattle.term_core.specs.Stream.{took_nothing};
 
 use std::alloc::{AllocError, Global};
 use std::io;
@@ -50,7 +51,17 @@ impl Source for MemorySource<'_> {
 
     ghost has_failed = { λ s. s.has_failed };
 
-    fn read(&mut self, buffer: &mut [u8]) -> io::Result<usize> {
+    fn read(&mut self, buffer: &mut [u8]) -> io::Result<usize>
+        ensures bound { ReadsAtMost result buffer.new }
+        ensures bytes { ReadConsumes (Some self.old.rest.now) (Some self.new.rest.now) result buffer.new }
+        ensures failed { self.new.has_failed ≡ (self.old.has_failed || is_err result) }
+        // An error comes where no read is left, or where no byte may be given of some, and only there.
+        ensures error { is_err result ≡ (self.old.reads == 0 || (self.old.piece == 0 && not (length buffer.old == 0))) }
+        ensures count { IfOk result (λ count. count ≡ min (min self.old.piece (length buffer.old)) (length self.old.rest.now)) }
+        ensures reads { OnOk result (self.new.reads + 1 ≡ self.old.reads) }
+        ensures reads_kept { OnErr result (self.new.reads ≡ self.old.reads) }
+        ensures piece { self.new.piece ≡ self.old.piece }
+    {
         if self.reads == 0 || (self.piece == 0 && !buffer.is_empty()) {
             self.has_failed = true;
             return Err(io::Error::from(ErrorKind::Other));
@@ -80,6 +91,7 @@ impl Source for EndlessSource {
     fn read(&mut self, buffer: &mut [u8]) -> io::Result<usize>
         ensures full { IsOkAnd result (λ count. count ≡ length buffer.new) }
         ensures bytes_read { EachIndex buffer.new (λ k. slice_index buffer.new k ≡ self.old.byte) }
+        ensures byte { self.new.byte ≡ self.old.byte }
         ensures bound { ReadsAtMost result buffer.new }
         ensures bytes { ReadConsumes None None result buffer.new }
         ensures failed { false ≡ is_err result }
@@ -94,13 +106,16 @@ impl Source for EndlessSource {
 }
 
 /// A sink in memory, which tells its bytes. It takes at most `piece` bytes a write, and fails once it
-/// has no room for a byte more. Its memory is taken when it is made, and writes take none.
+/// has no room for a byte more. A flush of it fails once `flushes` flushes were made. Its memory is
+/// taken when it is made, and writes take none.
 #[derive(Drop)]
 pub struct MemorySink {
     pub bytes: Vec<u8>,
     pub piece: usize,
     pub room: usize,
+    pub flushes: u64,
     pub has_failed: bool,
+    pub is_flushed: bool,
 }
 
 impl MemorySink {
@@ -111,6 +126,19 @@ impl MemorySink {
         ensures sound { IfOk result (λ sink. sink.has_failed ≡ false) }
     {
         MemorySink::in_pieces(alloc, room, usize::MAX)
+    }
+
+    /// A sink with room for this many bytes, which fails at each flush once `flushes` flushes were made,
+    /// or `AllocError` where memory is wanting.
+    pub fn with_flushes(alloc: Global, room: usize, flushes: u64) -> Result<MemorySink, AllocError>
+        ensures empty { IfOk result (λ sink. sink.bytes.items ≡ []) }
+        ensures room { IfOk result (λ sink. sink.room ≡ room) }
+        ensures flushes { IfOk result (λ sink. sink.flushes ≡ flushes) }
+        ensures sound { IfOk result (λ sink. sink.has_failed ≡ false) }
+    {
+        let mut sink = MemorySink::with_room(alloc, room)?;
+        sink.flushes = flushes;
+        Ok(sink)
     }
 
     /// A sink with room for this many bytes, which takes at most `piece` of them a write, or
@@ -125,7 +153,9 @@ impl MemorySink {
             bytes: Vec::with_capacity(alloc, room)?,
             piece,
             room,
+            flushes: u64::MAX,
             has_failed: false,
+            is_flushed: false,
         })
     }
 }
@@ -135,7 +165,20 @@ impl Sink for MemorySink {
 
     ghost has_failed = { λ s. s.has_failed };
 
-    fn write(&mut self, bytes: &[u8]) -> io::Result<usize> {
+    ghost is_flushed = { λ s. s.is_flushed };
+
+    fn write(&mut self, bytes: &[u8]) -> io::Result<usize>
+        ensures bound { WritesAtMost result bytes.now }
+        ensures bytes { WriteAppends (Some self.old.bytes.items) (Some self.new.bytes.items) result bytes.now }
+        ensures failed { self.new.has_failed ≡ (self.old.has_failed || took_nothing result bytes.now) }
+        ensures flushed { self.new.is_flushed ≡ false }
+        ensures count { IfOk result (λ count. count ≡ min (min self.old.piece (length bytes.now)) self.old.room) }
+        ensures room { IfOk result (λ count. self.new.room + count ≡ self.old.room) }
+        ensures room_kept { OnErr result (self.new.room ≡ self.old.room) }
+        ensures piece { self.new.piece ≡ self.old.piece }
+        ensures flushes { self.new.flushes ≡ self.old.flushes }
+    {
+        self.is_flushed = false;
         let count = self.piece.min(bytes.len()).min(self.room);
         if count == 0 && !bytes.is_empty() {
             self.has_failed = true;
@@ -148,6 +191,26 @@ impl Sink for MemorySink {
         }
         self.room -= count;
         Ok(count)
+    }
+
+    fn flush(&mut self) -> io::Result<()>
+        ensures bytes { Keeps (Some self.old.bytes.items) (Some self.new.bytes.items) }
+        ensures failed { self.new.has_failed ≡ (self.old.has_failed || is_err result) }
+        ensures flushed { self.new.is_flushed ≡ is_ok result }
+        // An error comes where no flush is left, and only there.
+        ensures error { is_err result ≡ (self.old.flushes == 0) }
+        ensures flushes { OnOk result (self.new.flushes + 1 ≡ self.old.flushes) }
+        ensures flushes_kept { OnErr result (self.new.flushes ≡ self.old.flushes) }
+        ensures room { self.new.room ≡ self.old.room }
+        ensures piece { self.new.piece ≡ self.old.piece }
+    {
+        self.is_flushed = self.flushes > 0;
+        if self.flushes == 0 {
+            self.has_failed = true;
+            return Err(io::Error::from(ErrorKind::Other));
+        }
+        self.flushes -= 1;
+        Ok(())
     }
 
     fn failed(&self) -> bool {

@@ -1,0 +1,52 @@
+-- What the program does with its words and its three streams.
+use Rattle.std.specs.Prelude.{◌≡◌, ◌⊎◌, ◌==◌, ℕ, Bool, List, codes, Option, Result, Ok, Err, IfSome}
+use Rattle.term_core.specs.Stream.{WritesAll, BreaksOff}
+use Rattle.explorer_engine.specs.Engine.{IsRunOf, IsRefusedBefore, IsHandedOn, WritesNothing}
+use Rattle.explorer_engine.specs.FaultText.{text_of_fault}
+use Rattle.explorer_engine.specs.Status.{status_of}
+use Rattle.explorer_engine.specs.Words.{IsReplay}
+use Rattle.explorer_engine.specs.declared.verdict.RunFault.{RunFault}
+use Rattle.explorer_engine.specs.declared.verdict.Verdict.{Verdict}
+use Rattle.explorer_engine.specs.declared.verdict.Verdict.TheVariants.{Done}
+
+-- what was done to a stream: the bytes that it told before and after, whether a call on it has failed, and whether its last call was a flush that succeeded
+pub record Written : Type 0 where
+  pub old : Option (List ℕ)
+  pub new : Option (List ℕ)
+  pub failed : Bool
+  pub flushed : Bool
+
+-- the same of a stream before and after, by what it tells
+abbrev pub written : {S : Type 0} → (S → Option (List ℕ)) → (S → Bool) → (S → Bool) → S → S → Written
+written contents has_failed is_flushed old new = record { old = contents old; new = contents new; failed = has_failed new; flushed = is_flushed new }
+
+-- nothing was written to the stream
+abbrev pub IsUntouched : Written → Type 0
+IsUntouched w = WritesNothing w.old w.new w.failed
+
+-- the stream got this text and nothing more, or a beginning of it where it has failed
+abbrev pub Gets : Written → List ℕ → Type 0
+Gets w text = WritesAll w.old w.new w.failed text ⊎ BreaksOff w.old w.new w.failed text
+
+-- a refusal is reported by its line, and a run that was done by nothing
+abbrev pub IsReported : Written → Result Verdict RunFault → Type 0
+IsReported errors (Ok Done) = IsUntouched errors
+IsReported errors (Err fault) = Gets errors (text_of_fault fault)
+
+-- the schedule that the words ask for was run on the input: what the run wrote to the output was flushed, the third stream got the line of a refusal or nothing, and the status is that of the run
+pub record IsRun (words : List (List ℕ)) (input : Option (List ℕ)) (output errors : Written) (status : ℕ) : Type 0 where
+  pub schedule : List ℕ
+  pub asked : (word : List ℕ) → IsReplay words word → schedule ≡ word
+  pub outcome : Result Verdict RunFault
+  pub run : IfSome input (λ bytes. IsRunOf bytes schedule output.old output.new output.failed outcome)
+  pub silent : IsRefusedBefore outcome → IsUntouched output
+  pub flushed : IsHandedOn outcome output.flushed
+  pub reported : IsReported errors outcome
+  pub status_is : status ≡ status_of outcome
+
+-- the words were refused: the output got nothing, and the third stream a text, which is that of no memory where the words are a replay
+pub record AreRefused (words : List (List ℕ)) (output errors : Written) : Type 0 where
+  pub silent : IsUntouched output
+  pub text : List ℕ
+  pub told : Gets errors text
+  pub memory : (word : List ℕ) → IsReplay words word → text ≡ codes "error: out of memory\n"

@@ -1,0 +1,89 @@
+// The whole program over its three streams, from its words to its exit status.
+ghost use Rattle.std.specs.Prelude.{◌≡◌, ◌≢◌, ◌==◌, ℕ, List, Bool, false, codes, map};
+ghost use Rattle.clap.specs.Values.{kind_of};
+ghost use Rattle.term_core.specs.Stream.{Writes};
+ghost use Rattle.explorer_engine.specs.Program.{IsRun, IsReported, AreRefused, written};
+ghost use Rattle.explorer_engine.specs.Status.{status_of};
+
+use crate::engine::run_replay;
+use crate::fault_text::write_fault;
+use crate::verdict::{RunFault, Verdict, status};
+use crate::words::read_words;
+use clap::Error;
+use clap::error::ErrorKind;
+use std::alloc::Global;
+use std::convert::AsStr;
+use term_core::{Sink, Source, WriteFault, write_all};
+
+/// The exit status where the words are not those of a command, or there was no memory for them.
+pub const WORDS_REFUSED: u8 = 64;
+
+/// What is written where there was no memory for the words: the parser's own text.
+pub const NO_MEMORY_FOR_WORDS: &[u8] = b"error: out of memory\n";
+
+/// Does what the words of a command line ask for, of which the first is the program's name, and gives
+/// the exit status: replays a schedule in the module that the input has, writes the transcript to the
+/// output and flushes that, and reports a refusal by its line on the third stream, which it does not
+/// flush. Where the words are refused, with status 64, the third stream gets the parser's text, and the
+/// output nothing.
+pub fn run<S: AsStr, R: Source, W: Sink, E: Sink>(
+    alloc: Global,
+    words: &[S],
+    input: &mut R,
+    output: &mut W,
+    errors: &mut E,
+) -> u8
+    requires readable { R.has_failed input.old ≡ false }
+    requires writable { W.has_failed output.old ≡ false }
+    requires reportable { E.has_failed errors.old ≡ false }
+    ensures run { result ≢ 64 → IsRun (map S.text words.now) (R.remaining input.old)
+        (written W.contents W.has_failed W.is_flushed output.old output.new)
+        (written E.contents E.has_failed E.is_flushed errors.old errors.new) result }
+    ensures refused { result ≡ 64 → AreRefused (map S.text words.now)
+        (written W.contents W.has_failed W.is_flushed output.old output.new)
+        (written E.contents E.has_failed E.is_flushed errors.old errors.new) }
+    // Status 4 comes where the output has failed, at a write or at the flush, and only there.
+    ensures failed { W.has_failed output.new ≡ (result == 4) }
+{
+    match read_words(alloc, words) {
+        Ok(asked) => {
+            let outcome = run_replay(alloc, input, asked.schedule(), output);
+            report(&outcome, errors)
+        }
+        Err(error) => {
+            let _ = write_words_error(alloc, &error, errors);
+            WORDS_REFUSED
+        }
+    }
+}
+
+// Reports how a run ended: a refusal by its line, and each end by its status.
+fn report<E: Sink>(outcome: &Result<Verdict, RunFault>, errors: &mut E) -> u8
+    requires { E.has_failed errors.old ≡ false }
+    ensures line { IsReported (written E.contents E.has_failed E.is_flushed errors.old errors.new) outcome.now }
+    ensures status { result ≡ status_of outcome.now }
+{
+    if let Err(fault) = outcome {
+        let _ = write_fault(errors, fault);
+    }
+    status(outcome)
+}
+
+// Writes the parser's text of words that it refused.
+fn write_words_error<E: Sink>(
+    alloc: Global,
+    error: &Error,
+    errors: &mut E,
+) -> Result<(), WriteFault>
+    requires { E.has_failed errors.old ≡ false }
+    ensures { (text : List ℕ) × (kind_of error.now ≡ ErrorKind.OutOfMemory → text ≡ codes "error: out of memory\n")
+        × Writes (E.contents errors.old) (E.contents errors.new) (E.has_failed errors.new) result text }
+{
+    if matches!(error.kind(), ErrorKind::OutOfMemory) {
+        return write_all(errors, NO_MEMORY_FOR_WORDS);
+    }
+    match format!(in alloc; "{error}") {
+        Ok(text) => write_all(errors, text.as_bytes()),
+        Err(_) => write_all(errors, NO_MEMORY_FOR_WORDS),
+    }
+}
