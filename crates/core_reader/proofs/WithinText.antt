@@ -17,7 +17,8 @@ use Rattle.core_grammar.specs.UnservedCalls.{within_by, within}
 use Rattle.core_grammar.specs.Unread.{SomeAre, BeginsFunction, BeginsApplied, AppliesValue, BeginsUnread}
 use Rattle.core_grammar.specs.Places.{IsOne, IsAt, IsPlace, IsLastEnd, IsFaultOf}
 use Rattle.core_tokens.specs.Within.{IsPlacedWithin, StandWithin}
-use Rattle.core_reader.specs.Reader.{SpellsModule, text_limit}
+use Rattle.core_tokens.specs.Text.{text_limit}
+use Rattle.core_reader.specs.Reader.{SpellsModule}
 
 -- the tokens of a text stand in it
 pub tokens_within : {stop : ℕ} {behind last : Bool} {bytes rest : List ℕ} {ps : List Piece} → Spelt stop behind bytes ps last rest → StandWithin stop ps
