@@ -3,8 +3,8 @@ use Rattle.std.proofs.Common.{◌≡◌, ℕ, zero, suc, ◌+◌, ◌-◌, ◌<�
 use Rattle.std.proofs.lemmas.Bool.{ltb-true}
 use Rattle.core_tree.specs.Syntax.{Function, ModuleTree}
 use Rattle.term_core.specs.Meaning.{Meaning}
-use Rattle.core_eval.specs.Asked.{RunsAway}
-use Rattle.core_eval.specs.Evaluation.{State, Got, Stops}
+use Rattle.core_eval.specs.Asked.{Runaway}
+use Rattle.core_eval.specs.Evaluation.{State, Outcome, Stops}
 use Rattle.core_eval.specs.Applications.{definition, body_with, limit, counted, applied_once, applied, room, apply_of}
 use Rattle.core_eval.proofs.Rooms.{Both, alone, wider, both_bodies}
 
@@ -13,14 +13,14 @@ counted-room : (s : State) → s.made < limit → room (counted s) + 1 ≡ room 
 counted-room s lt = omega (arith, lt)
 
 -- two ways to apply that agree within the room behind an application
-once_by : (x : Bool) (m : ModuleTree) (own : List ℕ) (a b : Function → List Meaning → State → Got) (q : ℕ) (f : Function) (vs : List Meaning) (s : State) → nat_lt s.made limit ≡ x
+once_by : (x : Bool) (m : ModuleTree) (own : List ℕ) (a b : Function → List Meaning → State → Outcome) (q : ℕ) (f : Function) (vs : List Meaning) (s : State) → nat_lt s.made limit ≡ x
     → (s.made < limit → (room (counted s) ≤ q) × ((g : Function) (ws : List Meaning) (t : State) → room t ≤ q → Both q (a g ws t) (b g ws t)))
     → (r : ℕ) → q ≤ r
-    → Both r (if x then body_with (record { own = own; apply = a }) (definition f m.definitions) vs (counted s) else Stops RunsAway) (if x then body_with (record { own = own; apply = b }) (definition f m.definitions) vs (counted s) else Stops RunsAway)
+    → Both r (if x then body_with (record { own = own; apply = a }) (definition f m.definitions) vs (counted s) else Stops Runaway) (if x then body_with (record { own = own; apply = b }) (definition f m.definitions) vs (counted s) else Stops Runaway)
 once_by true m own a b q f vs s e h r le =
     let given = h (ltb-true s.made limit e) in
     wider q r _ _ le (both_bodies own a b q given.1 (definition f m.definitions) vs (counted s) given.0)
-once_by false m own a b q f vs s e h r le = alone r (Stops RunsAway) tt
+once_by false m own a b q f vs s e h r le = alone r (Stops Runaway) tt
 
 -- every nesting that is deeper than the room gives the same
 pub depths : (m : ModuleTree) (own : List ℕ) (c d r : ℕ) → r < c → r < d → (f : Function) (vs : List Meaning) (s : State) → room s ≤ r → Both r (applied c m own f vs s) (applied d m own f vs s)

@@ -2,13 +2,15 @@
 use Rattle.std.proofs.Common.{◌≡◌, ◌+◌, ◌*◌, ◌≤◌, List, [], ◌∷◌, ◌++◌, length, ap, ◌∙◌, sym, arith, IfOk, Result, Ok, Err}
 use Rattle.std.specs.Prelude.{Option, Some, None}
 use Rattle.std.specs.declared.alloc.AllocError.{AllocError}
-use Rattle.core_tree.specs.Syntax.{Tree, ClauseTree, patterns_of, clauses_of, size_of, size_of_clause_list}
+use Rattle.core_tree.specs.Syntax.{Tree, ClauseTree, patterns_of, clauses_of}
+use Rattle.core_tree.specs.inside.Sizes.{size_of, size_of_clause_list}
 use Rattle.term_core.specs.Meaning.{Meaning}
 use Rattle.core_eval.specs.declared.control.Control.{Control}
 use Rattle.core_eval.specs.Matching.{Environment, match_each}
-use Rattle.core_eval.specs.Evaluation.{State, Got, Setting, evaluate, choose, judged, no_clause, taken}
-use Rattle.core_eval.specs.Holes.{Hole, Guards, scope, through}
-use Rattle.core_eval.specs.Steps.{going, load, work, GoesOn}
+use Rattle.core_eval.specs.Evaluation.{State, Outcome, Setting, evaluate, choose, guarded, no_clause, taken}
+use Rattle.core_eval.specs.Holes.{Hole, scope, through}
+use Rattle.core_eval.specs.Holes as holes
+use Rattle.core_eval.specs.inside.Steps.{going, load, work, GoesOn}
 
 -- the clauses that are left choose as all of them do, in the same place and for the same values
 pub record IsLeft (old new : List Hole) (all left : List ClauseTree) (values kept : List Meaning) : Type 0 where
@@ -28,20 +30,20 @@ none_taken (Ok next) old new all (c ∷ cs) values kept h e same less = absurd (
 none_taken (Err e) old new all left values kept h f same less = tt
 
 -- with what it binds a clause that matches is taken
-picked : (o : Option Environment) (bindings env : Environment) (go : Environment → State → Got) (others : State → Got) (s : State) → o ≡ Some bindings → taken o env go others s ≡ go (bindings ++ env) s
+picked : (o : Option Environment) (bindings env : Environment) (go : Environment → State → Outcome) (others : State → Outcome) (s : State) → o ≡ Some bindings → taken o env go others s ≡ go (bindings ++ env) s
 picked o bindings env go others s e = ap (λ (p : Option Environment). taken p env go others s) e
 
-passed_over : (o : Option Environment) (env : Environment) (go : Environment → State → Got) (others : State → Got) (s : State) → o ≡ None → taken o env go others s ≡ others s
+passed_over : (o : Option Environment) (env : Environment) (go : Environment → State → Outcome) (others : State → Outcome) (s : State) → o ≡ None → taken o env go others s ≡ others s
 passed_over o env go others s e = ap (λ (p : Option Environment). taken p env go others s) e
 
 pub clause_taken : (next : Control) (old new top : List Hole) (all left others : List ClauseTree) (c : ClauseTree) (guard body : Tree) (values kept : List Meaning) (bindings : Environment)
     → IsLeft old new all left values kept → left ≡ c ∷ others → match_each (patterns_of c.patterns) kept [] ≡ Some bindings
-    → top ≡ Guards bindings body others kept ∷ new → guard ≡ c.guard → body ≡ c.body
+    → top ≡ holes.Guard bindings body others kept ∷ new → guard ≡ c.guard → body ≡ c.body
     → ((setting : Setting) (holes : List Hole) (s : State) → going setting holes next s ≡ through setting holes (evaluate setting guard (scope holes) s)) → load next ≡ 4 * size_of guard
     → GoesOn old top next (λ setting s. choose setting (clauses_of all) values (scope old) s) (2 + 4 * size_of_clause_list all)
 clause_taken next old new top all left others c guard body values kept bindings h el em et eg eb same less = record {
   same = λ setting s.
-      let chosen : choose setting (clauses_of left) values (scope old) s ≡ judged (evaluate setting c.guard (bindings ++ scope old) s) (λ s'. evaluate setting c.body (bindings ++ scope old) s') (λ s'. choose setting (clauses_of others) values (scope old) s') =
+      let chosen : choose setting (clauses_of left) values (scope old) s ≡ guarded (evaluate setting c.guard (bindings ++ scope old) s) (λ s'. evaluate setting c.body (bindings ++ scope old) s') (λ s'. choose setting (clauses_of others) values (scope old) s') =
       ap (λ (cs : List ClauseTree). choose setting (clauses_of cs) values (scope old) s) el
       ∙ picked (match_each (patterns_of c.patterns) values []) bindings (scope old) _ _ s (ap (λ vs. match_each (patterns_of c.patterns) vs []) (sym h.same) ∙ em) in
       same setting top s ∙ rw (et, h.stays, h.same, eg, eb) (ap (through setting old) (sym chosen ∙ h.picks setting s));

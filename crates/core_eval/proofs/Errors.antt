@@ -2,12 +2,13 @@
 use Rattle.std.proofs.Common.{◌≡◌, ℕ, ◌<◌, ◌≤◌, List, [], ◌∷◌, refl, ap, ◌∙◌, sym, subst, length, arith, IfOk, Result, Ok, Err}
 use Rattle.std.specs.Prelude.{codes, None}
 use Rattle.std.specs.declared.alloc.AllocError.{AllocError}
-use Rattle.term_core.specs.Meaning.{Meaning, Group, group_of, node_count}
+use Rattle.term_core.specs.Meaning.{Meaning, Tuple, meanings_of, node_count}
 use Rattle.core_eval.specs.declared.control.Control.{Control}
 use Rattle.core_eval.specs.Matching.{Environment}
-use Rattle.core_eval.specs.Evaluation.{State, Got, Setting, Yields, error, limited, limited_error, node_limit, one, class_in}
-use Rattle.core_eval.specs.Holes.{Hole, Gathers, EndsList, Binds, Discards, Chooses, Guards, Tries, Catches, Keeps, Applies, filled, through}
-use Rattle.core_eval.specs.Steps.{going, load, GoesOn}
+use Rattle.core_eval.specs.Evaluation.{State, Outcome, Setting, Yields, error, limited, limited_error, node_limit, one, class_in}
+use Rattle.core_eval.specs.Holes.{Hole, filled, through}
+use Rattle.core_eval.specs.Holes as holes
+use Rattle.core_eval.specs.inside.Steps.{going, load, GoesOn}
 
 -- a term with too many nodes is an error
 pub limited-over : (m : Meaning) (s : State) → node_limit < node_count m → limited m s ≡ error (codes "system_limit") s
@@ -17,46 +18,46 @@ pub limited_error-over : (m : Meaning) (s : State) → node_limit < node_count m
 limited_error-over m s h = grind arith
 
 -- what is an error means the same as the error
-pub same_error : (r : Result Control AllocError) (text : List ℕ) (got : State → Got) → IfOk r (λ next. (setting : Setting) (holes : List Hole) (s : State) → going setting holes next s ≡ through setting holes (error text s)) → ((s : State) → got s ≡ error text s) → IfOk r (λ next. (setting : Setting) (holes : List Hole) (s : State) → going setting holes next s ≡ through setting holes (got s))
+pub same_error : (r : Result Control AllocError) (text : List ℕ) (got : State → Outcome) → IfOk r (λ next. (setting : Setting) (holes : List Hole) (s : State) → going setting holes next s ≡ through setting holes (error text s)) → ((s : State) → got s ≡ error text s) → IfOk r (λ next. (setting : Setting) (holes : List Hole) (s : State) → going setting holes next s ≡ through setting holes (got s))
 same_error (Ok next) text got h e = λ setting holes s. h setting holes s ∙ ap (through setting holes) (sym (e s))
 same_error (Err e) text got h f = tt
 
 -- and so the machine goes on with it
-pub goes_on : (r : Result Control AllocError) (text : List ℕ) (got : Setting → State → Got) (old : List Hole) (left : ℕ) → IfOk r (λ next. (setting : Setting) (holes : List Hole) (s : State) → going setting holes next s ≡ through setting holes (error text s)) → IfOk r (λ next. load next ≡ 0) → ((setting : Setting) (s : State) → got setting s ≡ error text s) → 0 < left → IfOk r (λ next. GoesOn old old next got left)
+pub goes_on : (r : Result Control AllocError) (text : List ℕ) (got : Setting → State → Outcome) (old : List Hole) (left : ℕ) → IfOk r (λ next. (setting : Setting) (holes : List Hole) (s : State) → going setting holes next s ≡ through setting holes (error text s)) → IfOk r (λ next. load next ≡ 0) → ((setting : Setting) (s : State) → got setting s ≡ error text s) → 0 < left → IfOk r (λ next. GoesOn old old next got left)
 goes_on (Ok next) text got old left h l e p = record { same = λ setting s. h setting old s ∙ ap (through setting old) (sym (e setting s)); less = omega (arith, l) }
 goes_on (Err e) text got old left h l f p = tt
 
 -- where one value is wanted, any other number is an error
-miscounted : (go : Meaning → State → Got) (vs : List Meaning) (s : State) → (length vs ≡ 1 → ⊥) → one go vs s ≡ error (codes "value_count") s
+miscounted : (go : Meaning → State → Outcome) (vs : List Meaning) (s : State) → (length vs ≡ 1 → ⊥) → one go vs s ≡ error (codes "value_count") s
 miscounted go [] s h = refl
 miscounted go (v ∷ []) s h = absurd (h refl)
 miscounted go (v ∷ w ∷ vs) s h = refl
 
 -- holes that want one value
 abbrev pub WantsOne : Hole → Type 0
-WantsOne (Gathers purpose done later) = Unit {0}
-WantsOne (EndsList items) = Unit {0}
-WantsOne (Discards second) = Unit {0}
+WantsOne (holes.Parts purpose done later) = Unit {0}
+WantsOne (holes.Tail items) = Unit {0}
+WantsOne (holes.Second second) = Unit {0}
 WantsOne hole = ⊥
 
 pub filled-miscounted : (setting : Setting) (hole : Hole) (env : Environment) (vs : List Meaning) (s : State) → WantsOne hole → (length vs ≡ 1 → ⊥) → filled setting hole env (Yields vs s) ≡ error (codes "value_count") s
-filled-miscounted setting (Gathers purpose done later) env vs s w h = rw (miscounted _ vs s h) refl
-filled-miscounted setting (EndsList items) env vs s w h = miscounted _ vs s h
-filled-miscounted setting (Discards second) env vs s w h = miscounted _ vs s h
-filled-miscounted setting (Binds variables body) env vs s w h = absurd w
-filled-miscounted setting (Chooses clauses) env vs s w h = absurd w
-filled-miscounted setting (Guards bindings body others values) env vs s w h = absurd w
-filled-miscounted setting (Tries variables body caught handler) env vs s w h = absurd w
-filled-miscounted setting Catches env vs s w h = absurd w
-filled-miscounted setting (Keeps bindings) env vs s w h = absurd w
-filled-miscounted setting (Applies bindings) env vs s w h = absurd w
+filled-miscounted setting (holes.Parts purpose done later) env vs s w h = rw (miscounted _ vs s h) refl
+filled-miscounted setting (holes.Tail items) env vs s w h = miscounted _ vs s h
+filled-miscounted setting (holes.Second second) env vs s w h = miscounted _ vs s h
+filled-miscounted setting (holes.Body variables body) env vs s w h = absurd w
+filled-miscounted setting (holes.Clauses clauses) env vs s w h = absurd w
+filled-miscounted setting (holes.Guard bindings body others values) env vs s w h = absurd w
+filled-miscounted setting (holes.Try variables body caught handler) env vs s w h = absurd w
+filled-miscounted setting holes.Catch env vs s w h = absurd w
+filled-miscounted setting (holes.Kept bindings) env vs s w h = absurd w
+filled-miscounted setting (holes.Applied bindings) env vs s w h = absurd w
 
 -- a term in place of one that it is equal to
 pub same_limited : (r : Result Control AllocError) (m n : Meaning) → m ≡ n → IfOk r (λ next. (setting : Setting) (holes : List Hole) (s : State) → going setting holes next s ≡ through setting holes (limited m s)) → IfOk r (λ next. (setting : Setting) (holes : List Hole) (s : State) → going setting holes next s ≡ through setting holes (limited n s))
 same_limited r m n e h = subst (λ (x : Meaning). IfOk r (λ next. (setting : Setting) (holes : List Hole) (s : State) → going setting holes next s ≡ through setting holes (limited x s))) e h
 
 -- what means this on top of every stack goes on with it
-pub enters : (r : Result Control AllocError) (old : List Hole) (got : Setting → State → Got) (left : ℕ) → IfOk r (λ next. (setting : Setting) (holes : List Hole) (s : State) → going setting holes next s ≡ through setting holes (got setting s)) → IfOk r (λ next. load next ≤ 2) → 2 < left → IfOk r (λ next. GoesOn old old next got left)
+pub enters : (r : Result Control AllocError) (old : List Hole) (got : Setting → State → Outcome) (left : ℕ) → IfOk r (λ next. (setting : Setting) (holes : List Hole) (s : State) → going setting holes next s ≡ through setting holes (got setting s)) → IfOk r (λ next. load next ≤ 2) → 2 < left → IfOk r (λ next. GoesOn old old next got left)
 enters (Ok next) old got left h l p = record { same = λ setting s. h setting old s; less = omega (arith, l) }
 enters (Err e) old got left h l p = tt
 
@@ -65,7 +66,7 @@ pub same_limited_error : (r : Result Control AllocError) (m n : Meaning) → m �
 same_limited_error r m n e h = subst (λ (x : Meaning). IfOk r (λ next. (setting : Setting) (holes : List Hole) (s : State) → going setting holes next s ≡ through setting holes (limited_error x s))) e h
 
 -- a trace is a tuple of two
-pub no_trace : (ms : List Meaning) → (length ms ≡ 2 → ⊥) → class_in (Group (group_of ms)) ≡ None
+pub no_trace : (ms : List Meaning) → (length ms ≡ 2 → ⊥) → class_in (Tuple (meanings_of ms)) ≡ None
 no_trace [] h = refl
 no_trace (m ∷ []) h = refl
 no_trace (m ∷ n ∷ []) h = absurd (h refl)

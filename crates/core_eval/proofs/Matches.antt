@@ -2,21 +2,22 @@
 use Rattle.std.proofs.Common.{◌≡◌, ◌∙◌, ◌+◌, ◌<◌, ℕ, zero, suc, Bool, true, false, List, [], ◌∷◌, length, map, drop, get_or, ap, sym, subst, refl, arith, add-one, Result, IfOk, if◌then◌else◌}
 use Rattle.std.specs.Prelude.{Option, Some, None}
 use Rattle.std.specs.declared.alloc.AllocError.{AllocError}
-use Rattle.core_tree.specs.Syntax.{Pattern, GroupIn, patterns_of}
+use Rattle.core_tree.specs.Syntax.{Pattern, patterns_of}
+use Rattle.core_tree.specs.Pattern as patterns
 use Rattle.core_tree.specs.Tree.{pattern_of}
 use Rattle.core_tree.specs.declared.pattern.Pattern.{Pattern as Shape}
 use Rattle.term_core.specs.declared.term.Term.{Term}
 use Rattle.term_core.specs.Term.{meaning_of}
-use Rattle.term_core.specs.Meaning.{Meaning, Group, group_of, parts_of-group_of}
-use Rattle.core_eval.specs.Matched.{IsMatch}
+use Rattle.term_core.specs.Meaning.{Meaning, Tuple, meanings_of, parts_of-meanings_of}
+use Rattle.core_eval.specs.inside.Matched.{IsMatch}
 use Rattle.core_eval.specs.Matching.{Environment, and_then, match, match_each}
 
-group_same : (p : Pattern) (ps : List Pattern) (m : Meaning) (ms : List Meaning) (before : Environment) → p ≡ GroupIn (patterns_of ps) → m ≡ Group (group_of ms) → match p m before ≡ match_each (patterns_of ps) ms before
+group_same : (p : Pattern) (ps : List Pattern) (m : Meaning) (ms : List Meaning) (before : Environment) → p ≡ patterns.Tuple (patterns_of ps) → m ≡ Tuple (meanings_of ms) → match p m before ≡ match_each (patterns_of ps) ms before
 group_same p ps m ms before e f =
-    ap (λ (q : Pattern). match q m before) e ∙ ap (λ (n : Meaning). match (GroupIn (patterns_of ps)) n before) f ∙ ap (λ (ns : List Meaning). match_each (patterns_of ps) ns before) (parts_of-group_of ms)
+    ap (λ (q : Pattern). match q m before) e ∙ ap (λ (n : Meaning). match (patterns.Tuple (patterns_of ps)) n before) f ∙ ap (λ (ns : List Meaning). match_each (patterns_of ps) ns before) (parts_of-meanings_of ms)
 
 -- a tuple matches where its parts do
-pub group_matches : (r : Result Bool AllocError) (found : Environment) (p : Pattern) (ps : List Pattern) (m : Meaning) (ms : List Meaning) (before : Environment) → p ≡ GroupIn (patterns_of ps) → m ≡ Group (group_of ms)
+pub group_matches : (r : Result Bool AllocError) (found : Environment) (p : Pattern) (ps : List Pattern) (m : Meaning) (ms : List Meaning) (before : Environment) → p ≡ patterns.Tuple (patterns_of ps) → m ≡ Tuple (meanings_of ms)
     → IfOk r (λ b. IsMatch b found (match_each (patterns_of ps) ms before)) → IfOk r (λ b. IsMatch b found (match p m before))
 group_matches r found p ps m ms before e f h = subst (λ (o : Option Environment). IfOk r (λ b. IsMatch b found o)) (sym (group_same p ps m ms before e f)) h
 

@@ -4,12 +4,12 @@ use Rattle.std.specs.List.{list_any}
 use Rattle.std.specs.Cmp.Lexicographic.{pointwise}
 use Rattle.core_tree.specs.Syntax.{Mention, Tree, Function, NamedAt, ModuleTree}
 use Rattle.core_tree.specs.Functions.{same_function}
-use Rattle.term_core.specs.Meaning.{Meaning, Group, Empty, group_of}
+use Rattle.term_core.specs.Meaning.{Meaning, Tuple, Nil, meanings_of}
 use Rattle.term_core.specs.Meaning as terms
-use Rattle.core_eval.specs.Asked.{Asked, Ends, Answered}
+use Rattle.core_eval.specs.Asked.{Asked, End, Answered}
 use Rattle.pure_calls.specs.declared.outcome.Class.{Class}
 use Rattle.pure_calls.specs.declared.outcome.Class.TheVariants.{Error, Exit, Throw}
-use Rattle.core_eval.specs.Evaluation.{before, Got, Yields, Raises, Stops}
+use Rattle.core_eval.specs.Evaluation.{before, Outcome, Yields, Raises, Stops}
 use Rattle.core_eval.specs.Applications.{definition, body_with, setting_of}
 
 -- where a process begins: a function by module and name, and its arguments
@@ -48,14 +48,14 @@ first_function m pid e = if is_open m pid e then definition (function_of e) m.de
 
 -- the reason of the end of a process by an exception (Erlang reference manual, "Errors and Error Handling")
 abbrev pub reason_of : Class → Meaning → Meaning
-reason_of Error reason = Group (group_of (reason ∷ Empty ∷ []))
+reason_of Error reason = Tuple (meanings_of (reason ∷ Nil ∷ []))
 reason_of Exit reason = reason
-reason_of Throw value = Group (group_of (Group (group_of (terms.Name (codes "nocatch") ∷ value ∷ [])) ∷ Empty ∷ []))
+reason_of Throw value = Tuple (meanings_of (Tuple (meanings_of (terms.Atom (codes "nocatch") ∷ value ∷ [])) ∷ Nil ∷ []))
 
 -- what a process asks: values end it normally
-abbrev pub request_of : Got → Asked
-request_of (Yields values s) = Ends (terms.Name (codes "normal"))
-request_of (Raises class reason s) = Ends (reason_of class reason)
+abbrev pub request_of : Outcome → Asked
+request_of (Yields values s) = End (terms.Atom (codes "normal"))
+request_of (Raises class reason s) = End (reason_of class reason)
 request_of (Stops request) = request
 
 -- what the process of a module that began at an entry asks after these answers; its beginning is no application

@@ -5,14 +5,14 @@ use Rattle.term_core.specs.Meaning.{Meaning}
 
 -- a call with its arguments, a receive that waits for ever or not, an end with its reason, or too many applications in a row
 pub data Asked : Type 0 where
-  Asks : (kind : CallKind) (arguments : List Meaning) → Asked
-  Receives : (waits : Bool) → Asked
-  Ends : (reason : Meaning) → Asked
-  RunsAway : Asked
+  Call : (kind : CallKind) (arguments : List Meaning) → Asked
+  Receive : (waits : Bool) → Asked
+  End : (reason : Meaning) → Asked
+  Runaway : Asked
 
 -- to a call a value, or a reason that is raised as an error; to a receive a message, or that none came in time
 pub data Answered : Type 0 where
-  Gives : (value : Meaning) → Answered
-  Refuses : (reason : Meaning) → Answered
-  Brings : (message : Meaning) → Answered
-  TimesOut : Answered
+  Value : (value : Meaning) → Answered
+  Raise : (reason : Meaning) → Answered
+  Message : (message : Meaning) → Answered
+  TimedOut : Answered

@@ -1,9 +1,10 @@
 -- Evaluation (Core Erlang 1.0.3, "Expressions"): what an expression gives, from left to right, out of the answers to the calls that it makes.
 use Rattle.std.specs.Prelude.{ℕ, Bool, false, pos, List, [], ◌∷◌, ◌++◌, length, Option, Some, None, if◌then◌else◌, nat_le, codes}
 use Rattle.core_tree.specs.declared.call.CallKind.{CallKind}
-use Rattle.core_tree.specs.Syntax.{patterns_of, Function, Callee, OfWorld, OfItself, OfExport, OfDefinition, FailsMatch, RaisesAgain, Tree, Trees, Clauses, Number, Character, Text, Mentioned, Grouped, Listed, Joined, Several, Bound, Chosen, Followed, Called, Tried, Caught, NoClause, Clause}
-use Rattle.core_tree.specs.Syntax as syntax
-use Rattle.term_core.specs.Meaning.{Meaning, Meanings, Integer, Group, Empty, NoMore, Also, group_of, node_count}
+use Rattle.core_tree.specs.Syntax.{patterns_of, Function, Callee, Tree, Trees, Clauses}
+use Rattle.core_tree.specs.Callee as callees
+use Rattle.core_tree.specs.Expression as trees
+use Rattle.term_core.specs.Meaning.{Meaning, Meanings, Int, Tuple, Nil, NoMore, Also, meanings_of, node_count}
 use Rattle.term_core.specs.Meaning as terms
 use Rattle.term_core.specs.Term.{list_onto}
 use Rattle.pure_calls.specs.declared.outcome.Class.{Class}
@@ -11,7 +12,7 @@ use Rattle.pure_calls.specs.declared.outcome.Class.TheVariants.{Error, Exit, Thr
 use Rattle.pure_calls.specs.Answers.{Answer}
 use Rattle.pure_calls.specs.Answers as answers
 use Rattle.pure_calls.specs.Calls.{answer_of}
-use Rattle.core_eval.specs.Asked.{Asked, Asks, Answered, Gives, Refuses, Brings, TimesOut}
+use Rattle.core_eval.specs.Asked.{Asked, Call, Answered, Value, Raise, Message, TimedOut}
 use Rattle.core_eval.specs.Matching.{Environment, lookup, bound, text_of, is_name, match_each}
 
 -- the answers that are still to come, and the applications made since the last one
@@ -24,38 +25,38 @@ abbrev pub before : List Answered → State
 before answers = record { answers = answers; made = 0 }
 
 -- an evaluation yields values, raises an exception, or stops at a request that is not answered
-pub data Got : Type 0 where
-  Yields : (values : List Meaning) (state : State) → Got
-  Raises : (class : Class) (reason : Meaning) (state : State) → Got
-  Stops : (request : Asked) → Got
+pub data Outcome : Type 0 where
+  Yields : (values : List Meaning) (state : State) → Outcome
+  Raises : (class : Class) (reason : Meaning) (state : State) → Outcome
+  Stops : (request : Asked) → Outcome
 
 -- where an expression is evaluated: the process's own pid, and what the functions of its module give
 pub record Setting : Type 0 where
   pub own : List ℕ
-  pub apply : Function → List Meaning → State → Got
+  pub apply : Function → List Meaning → State → Outcome
 
 -- with the values, if there are any, the evaluation goes on
-abbrev pub then_do : Got → (List Meaning → State → Got) → Got
+abbrev pub then_do : Outcome → (List Meaning → State → Outcome) → Outcome
 then_do (Yields values s) go = go values s
 then_do (Raises class reason s) go = Raises class reason s
 then_do (Stops request) go = Stops request
 
 -- with the values or with the exception the evaluation goes on
-abbrev pub handled : Got → (List Meaning → State → Got) → (Class → Meaning → State → Got) → Got
+abbrev pub handled : Outcome → (List Meaning → State → Outcome) → (Class → Meaning → State → Outcome) → Outcome
 handled (Yields values s) go catch = go values s
 handled (Raises class reason s) go catch = catch class reason s
 handled (Stops request) go catch = Stops request
 
 -- an atom as a term
 abbrev pub name : List ℕ → Meaning
-name text = terms.Name text
+name text = terms.Atom text
 
 -- an error with this atom as its reason
-abbrev pub error : List ℕ → State → Got
+abbrev pub error : List ℕ → State → Outcome
 error reason s = Raises Error (name reason) s
 
 -- where one value is wanted, any other number of them is an error
-abbrev pub one : (Meaning → State → Got) → List Meaning → State → Got
+abbrev pub one : (Meaning → State → Outcome) → List Meaning → State → Outcome
 one go [] s = error (codes "value_count") s
 one go (v ∷ []) s = go v s
 one go (v ∷ w ∷ vs) s = error (codes "value_count") s
@@ -65,35 +66,35 @@ abbrev pub node_limit : ℕ
 node_limit = 10000
 
 -- what is done with a term that was built, or an error in its place where it is too large
-abbrev pub within_limit : Meaning → Got → State → Got
+abbrev pub within_limit : Meaning → Outcome → State → Outcome
 within_limit m got s = if nat_le (node_count m) node_limit then got else error (codes "system_limit") s
 
 -- a term that was built
-abbrev pub limited : Meaning → State → Got
+abbrev pub limited : Meaning → State → Outcome
 limited m s = within_limit m (Yields (m ∷ []) s) s
 
 -- an error whose reason was built
-abbrev pub limited_error : Meaning → State → Got
+abbrev pub limited_error : Meaning → State → Outcome
 limited_error m s = within_limit m (Raises Error m s) s
 
 -- an operation with another number of arguments than it has; no module that was read holds one
-abbrev pub undefined : State → Got
+abbrev pub undefined : State → Outcome
 undefined s = error (codes "undef") s
 
 -- the value of a call that the process answers by itself, within the limit, or the exception that it raises
-abbrev pub told : Answer → State → Got
-told (answers.Gives value) s = limited value s
-told (answers.Fails class reason) s = Raises class reason s
+abbrev pub limited_answer : Answer → State → Outcome
+limited_answer (answers.Value value) s = limited value s
+limited_answer (answers.Raised class reason) s = Raises class reason s
 
 -- a call with the answers that are left: the first that is one to a call is its value or its error; with none left the call is the request
-abbrev pub served : CallKind → List Meaning → List Answered → Got
-served kind arguments [] = Stops (Asks kind arguments)
-served kind arguments (Gives value ∷ later) = Yields (value ∷ []) (before later)
-served kind arguments (Refuses reason ∷ later) = Raises Error reason (before later)
-served kind arguments (Brings message ∷ later) = served kind arguments later
-served kind arguments (TimesOut ∷ later) = served kind arguments later
+abbrev pub served : CallKind → List Meaning → List Answered → Outcome
+served kind arguments [] = Stops (Call kind arguments)
+served kind arguments (Value value ∷ later) = Yields (value ∷ []) (before later)
+served kind arguments (Raise reason ∷ later) = Raises Error reason (before later)
+served kind arguments (Message message ∷ later) = served kind arguments later
+served kind arguments (TimedOut ∷ later) = served kind arguments later
 
-abbrev pub called : CallKind → List Meaning → State → Got
+abbrev pub called : CallKind → List Meaning → State → Outcome
 called kind arguments s = served kind arguments s.answers
 
 -- ---- exceptions
@@ -106,21 +107,21 @@ class_name Throw = name (codes "throw")
 
 -- the trace of an exception tells its class
 abbrev pub trace_of : Class → Meaning
-trace_of class = Group (group_of (name (codes "$trace") ∷ class_name class ∷ []))
+trace_of class = Tuple (meanings_of (name (codes "$trace") ∷ class_name class ∷ []))
 
 -- the values of the variables of a handler: the class, the reason, and the trace where there are more than two
 abbrev pub caught_values : ℕ → Class → Meaning → List Meaning
 caught_values count class reason = if nat_le count 2 then class_name class ∷ reason ∷ [] else class_name class ∷ reason ∷ trace_of class ∷ []
 
 -- the value that `catch` makes of an exception
-abbrev pub caught : Class → Meaning → State → Got
-caught Error reason s = limited (Group (group_of (name (codes "EXIT") ∷ Group (group_of (reason ∷ Empty ∷ [])) ∷ []))) s
-caught Exit reason s = limited (Group (group_of (name (codes "EXIT") ∷ reason ∷ []))) s
+abbrev pub caught : Class → Meaning → State → Outcome
+caught Error reason s = limited (Tuple (meanings_of (name (codes "EXIT") ∷ Tuple (meanings_of (reason ∷ Nil ∷ [])) ∷ []))) s
+caught Exit reason s = limited (Tuple (meanings_of (name (codes "EXIT") ∷ reason ∷ []))) s
 caught Throw value s = Yields (value ∷ []) s
 
 -- whether a term is a tuple that begins with this atom
 abbrev pub begins_with : List ℕ → Meaning → Bool
-begins_with text (Group (Also first others)) = is_name text first
+begins_with text (Tuple (Also first others)) = is_name text first
 begins_with text m = false
 
 -- the reason of a failed match: where the clauses of a function failed, their atom alone
@@ -136,23 +137,23 @@ class_named m =
 
 -- the class that a trace tells
 abbrev pub class_in : Meaning → Option Class
-class_in (Group (Also tag (Also class NoMore))) = if is_name (codes "$trace") tag then class_named class else None
+class_in (Tuple (Also tag (Also class NoMore))) = if is_name (codes "$trace") tag then class_named class else None
 class_in m = None
 
 -- an exception that was caught before is raised again, with the class that its trace tells
-abbrev pub raised_again : Option Class → Meaning → State → Got
+abbrev pub raised_again : Option Class → Meaning → State → Outcome
 raised_again None reason s = error (codes "badarg") s
 raised_again (Some class) reason s = Raises class reason s
 
 -- ---- variables and clauses
 
 -- the value of a variable; no module that was read has one that is not bound
-abbrev pub value_or_error : Option Meaning → State → Got
+abbrev pub value_or_error : Option Meaning → State → Outcome
 value_or_error None s = error (codes "unbound") s
 value_or_error (Some m) s = Yields (m ∷ []) s
 
 -- what is done with these variables in scope too; another number of values than variables is an error
-abbrev pub within : Option Environment → Environment → (Environment → State → Got) → State → Got
+abbrev pub within : Option Environment → Environment → (Environment → State → Outcome) → State → Outcome
 within None env go s = error (codes "value_count") s
 within (Some bindings) env go s = go (bindings ++ env) s
 
@@ -163,68 +164,68 @@ is_true (m ∷ []) = is_name (codes "true") m
 is_true (m ∷ n ∷ ms) = false
 
 -- a guard that gives `'true'` holds; one that gives anything else, or raises, fails
-abbrev pub judged : Got → (State → Got) → (State → Got) → Got
-judged (Yields values s) holds fails = if is_true values then holds s else fails s
-judged (Raises class reason s) holds fails = fails s
-judged (Stops request) holds fails = Stops request
+abbrev pub guarded : Outcome → (State → Outcome) → (State → Outcome) → Outcome
+guarded (Yields values s) holds fails = if is_true values then holds s else fails s
+guarded (Raises class reason s) holds fails = fails s
+guarded (Stops request) holds fails = Stops request
 
 -- with the variables of a clause that matches the evaluation goes on, and else by the others
-abbrev pub taken : Option Environment → Environment → (Environment → State → Got) → (State → Got) → State → Got
+abbrev pub taken : Option Environment → Environment → (Environment → State → Outcome) → (State → Outcome) → State → Outcome
 taken None env go others s = others s
 taken (Some bindings) env go others s = go (bindings ++ env) s
 
 -- several values as one: what is one already, else the tuple of them
 abbrev pub as_one : List Meaning → Meaning
-as_one [] = Group NoMore
+as_one [] = Tuple NoMore
 as_one (m ∷ []) = m
-as_one (m ∷ n ∷ ms) = Group (group_of (m ∷ n ∷ ms))
+as_one (m ∷ n ∷ ms) = Tuple (meanings_of (m ∷ n ∷ ms))
 
 -- no clause is taken
-abbrev pub no_clause : List Meaning → State → Got
-no_clause values s = limited_error (Group (group_of (name (codes "case_clause") ∷ as_one values ∷ []))) s
+abbrev pub no_clause : List Meaning → State → Outcome
+no_clause values s = limited_error (Tuple (meanings_of (name (codes "case_clause") ∷ as_one values ∷ []))) s
 
 -- ---- evaluation in a setting
 
 module _ (setting : Setting) where
   -- what is applied to arguments; a call that was read has as many of them as it wants
-  abbrev pub applied_to : Callee → List Meaning → State → Got
-  applied_to (OfWorld kind) arguments s = called kind arguments s
-  applied_to (OfItself kind) arguments s = told (answer_of setting.own kind arguments) s
-  applied_to (OfExport function) arguments s = setting.apply function arguments s
-  applied_to (OfDefinition named) arguments s = setting.apply named.function arguments s
-  applied_to FailsMatch (reason ∷ []) s = Raises Error (match_reason reason) s
-  applied_to RaisesAgain (trace ∷ reason ∷ []) s = raised_again (class_in trace) reason s
-  applied_to callee arguments s = undefined s
+  abbrev pub called_with : Callee → List Meaning → State → Outcome
+  called_with (callees.World kind) arguments s = called kind arguments s
+  called_with (callees.Pure kind) arguments s = limited_answer (answer_of setting.own kind arguments) s
+  called_with (callees.Exported function) arguments s = setting.apply function arguments s
+  called_with (callees.Defined named) arguments s = setting.apply named.function arguments s
+  called_with callees.MatchFail (reason ∷ []) s = Raises Error (match_reason reason) s
+  called_with callees.Raise (trace ∷ reason ∷ []) s = raised_again (class_in trace) reason s
+  called_with callee arguments s = undefined s
 
   abbrev mutual
     -- what an expression gives; its parts go from left to right
-    pub evaluate : Tree → Environment → State → Got
-    evaluate (Number n) env s = Yields (Integer n ∷ []) s
-    evaluate (Character c) env s = Yields (Integer (pos c) ∷ []) s
-    evaluate (Text cs) env s = limited (text_of cs) s
-    evaluate (syntax.Name text) env s = Yields (name text ∷ []) s
-    evaluate (Mentioned v) env s = value_or_error (lookup v.name env) s
-    evaluate (Grouped ts) env s = then_do (evaluate_all ts env [] s) (λ vs s'. limited (Group (group_of vs)) s')
-    evaluate (Listed ts) env s = then_do (evaluate_all ts env [] s) (λ vs s'. limited (list_onto vs Empty) s')
-    evaluate (Joined ts t) env s = then_do (evaluate_all ts env [] s) (λ vs s'. then_do (evaluate t env s') (one (λ v s''. limited (list_onto vs v) s'')))
-    evaluate (Several ts) env s = evaluate_all ts env [] s
-    evaluate (Bound variables t body) env s = then_do (evaluate t env s) (λ vs s'. within (bound variables vs []) env (λ inner s''. evaluate body inner s'') s')
-    evaluate (Followed t u) env s = then_do (evaluate t env s) (one (λ v s'. evaluate u env s'))
-    evaluate (Called at callee ts) env s = then_do (evaluate_all ts env [] s) (λ vs s'. applied_to callee vs s')
-    evaluate (Chosen at t cs) env s = then_do (evaluate t env s) (λ vs s'. choose cs vs env s')
-    evaluate (Tried at t variables body caught_variables handler) env s =
+    pub evaluate : Tree → Environment → State → Outcome
+    evaluate (trees.Integer n) env s = Yields (Int n ∷ []) s
+    evaluate (trees.Character c) env s = Yields (Int (pos c) ∷ []) s
+    evaluate (trees.Text cs) env s = limited (text_of cs) s
+    evaluate (trees.Atom text) env s = Yields (name text ∷ []) s
+    evaluate (trees.Variable v) env s = value_or_error (lookup v.name env) s
+    evaluate (trees.Tuple ts) env s = then_do (evaluate_all ts env [] s) (λ vs s'. limited (Tuple (meanings_of vs)) s')
+    evaluate (trees.List ts) env s = then_do (evaluate_all ts env [] s) (λ vs s'. limited (list_onto vs Nil) s')
+    evaluate (trees.Onto ts t) env s = then_do (evaluate_all ts env [] s) (λ vs s'. then_do (evaluate t env s') (one (λ v s''. limited (list_onto vs v) s'')))
+    evaluate (trees.Values ts) env s = evaluate_all ts env [] s
+    evaluate (trees.Let variables t body) env s = then_do (evaluate t env s) (λ vs s'. within (bound variables vs []) env (λ inner s''. evaluate body inner s'') s')
+    evaluate (trees.Do t u) env s = then_do (evaluate t env s) (one (λ v s'. evaluate u env s'))
+    evaluate (trees.Call at callee ts) env s = then_do (evaluate_all ts env [] s) (λ vs s'. called_with callee vs s')
+    evaluate (trees.Case at t cs) env s = then_do (evaluate t env s) (λ vs s'. choose cs vs env s')
+    evaluate (trees.Try at t variables body caught_variables handler) env s =
         handled (evaluate t env s)
         (λ vs s'. within (bound variables vs []) env (λ inner s''. evaluate body inner s'') s')
         (λ class reason s'. within (bound caught_variables (caught_values (length caught_variables) class reason) []) env (λ inner s''. evaluate handler inner s'') s')
-    evaluate (Caught at t) env s = handled (evaluate t env s) Yields caught
+    evaluate (trees.Catch at t) env s = handled (evaluate t env s) Yields caught
 
     -- the values of several expressions, each of which wants to be one, behind those that are there
-    pub evaluate_all : Trees → Environment → List Meaning → State → Got
-    evaluate_all syntax.NoMore env done s = Yields done s
-    evaluate_all (syntax.Also t ts) env done s = then_do (evaluate t env s) (one (λ v s'. evaluate_all ts env (done ++ v ∷ []) s'))
+    pub evaluate_all : Trees → Environment → List Meaning → State → Outcome
+    evaluate_all trees.NoMore env done s = Yields done s
+    evaluate_all (trees.Also t ts) env done s = then_do (evaluate t env s) (one (λ v s'. evaluate_all ts env (done ++ v ∷ []) s'))
 
     -- the first clause that the values match and whose guard holds; a clause with another number of patterns than values does not match
-    pub choose : Clauses → List Meaning → Environment → State → Got
-    choose NoClause values env s = no_clause values s
-    choose (Clause patterns guard body others) values env s =
-        taken (match_each (patterns_of patterns) values []) env (λ inner s'. judged (evaluate guard inner s') (λ s''. evaluate body inner s'') (λ s''. choose others values env s'')) (λ s'. choose others values env s') s
+    pub choose : Clauses → List Meaning → Environment → State → Outcome
+    choose trees.NoClause values env s = no_clause values s
+    choose (trees.Clause patterns guard body others) values env s =
+        taken (match_each (patterns_of patterns) values []) env (λ inner s'. guarded (evaluate guard inner s') (λ s''. evaluate body inner s'') (λ s''. choose others values env s'')) (λ s'. choose others values env s') s

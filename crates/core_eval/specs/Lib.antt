@@ -5,11 +5,7 @@ pub mod Evaluation
 pub mod Applications
 pub mod Ask
 pub mod Servable
+pub mod Purposes
 pub mod Holes
-pub mod HoleCodes
-pub mod Bindings
-pub mod Matched
-pub mod Frames
-pub mod Steps
 pub mod Standing
-pub mod Functions
+pub mod inside

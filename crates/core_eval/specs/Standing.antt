@@ -2,11 +2,11 @@
 use Rattle.std.specs.Prelude.{◌≡◌, ℕ, Bool, false, List, refl}
 use Rattle.std.specs.Coded.{Coded, code_by, coded×, coded_list, coded_ℕ, coded_bool}
 use Rattle.core_tree.specs.Syntax.{ModuleTree}
-use Rattle.core_tree.specs.SyntaxCodes.{coded_module}
+use Rattle.core_tree.specs.inside.SyntaxCodes.{coded_module}
 use Rattle.core_eval.specs.Applications.{setting_of}
 use Rattle.core_eval.specs.Asked.{Asked, Answered}
 use Rattle.core_eval.specs.Holes.{Hole, standing}
-use Rattle.core_eval.specs.HoleCodes.{coded_hole, coded_asked}
+use Rattle.core_eval.specs.inside.HoleCodes.{coded_hole, coded_asked}
 
 -- the module and the pid of the process, what is still to do, the request that is not answered yet, and whether memory was wanting once
 pub record Standing : Type 0 where

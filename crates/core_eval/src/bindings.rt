@@ -21,14 +21,14 @@ pub(crate) struct Bindings<'m>(Vec<Binding<'m>>);
 
 impl<'m> Model for Bindings<'m> {
     ghost use Rattle.core_eval.specs.Matching.{Environment};
-    ghost use Rattle.core_eval.specs.HoleCodes.{coded_environment};
+    ghost use Rattle.core_eval.specs.inside.HoleCodes.{coded_environment};
 
     ghost Value = { Environment };
 
     ghost coded = { coded_environment };
 
     ghost use Rattle.std.specs.Prelude.{map, reverse};
-    ghost use Rattle.core_eval.specs.Bindings.{binding_of};
+    ghost use Rattle.core_eval.specs.inside.Bindings.{binding_of};
 
     ghost view = { λ b. reverse (map binding_of b.0.items) };
 }

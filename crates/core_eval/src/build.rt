@@ -1,9 +1,9 @@
 // The terms that evaluation builds.
 ghost use Rattle.std.specs.Prelude.{◌≡◌, ◌≤◌, ◌++◌, ◌∷◌, [], IfOk};
-ghost use Rattle.term_core.specs.Meaning.{Group, group_of};
+ghost use Rattle.term_core.specs.Meaning.{Tuple, meanings_of};
 ghost use Rattle.term_core.specs.Term.{meaning_of};
 ghost use Rattle.core_eval.specs.Evaluation.{error, limited, limited_error, name};
-ghost use Rattle.core_eval.specs.Steps.{Means, load};
+ghost use Rattle.core_eval.specs.inside.Steps.{Means, load};
 
 use crate::control::Control;
 use pure_calls::Class;
@@ -30,7 +30,7 @@ pub(crate) fn error<'m>(alloc: Global, text: &str) -> Result<Control<'m>, AllocE
 
 /// The tuple of two terms.
 pub(crate) fn pair(alloc: Global, first: Term, second: Term) -> Result<Term, AllocError>
-    ensures { IfOk result (λ pair. meaning_of pair ≡ Group (group_of (meaning_of first ∷ meaning_of second ∷ []))) }
+    ensures { IfOk result (λ pair. meaning_of pair ≡ Tuple (meanings_of (meaning_of first ∷ meaning_of second ∷ []))) }
 {
     let mut parts = Terms::new(alloc);
     parts.push(first)?;

@@ -3,8 +3,8 @@ ghost use Rattle.std.specs.Prelude.{◌≡◌, true, false, IfOk, option_map, op
 ghost use Rattle.core_tree.specs.Tree.{tree_of};
 ghost use Rattle.core_eval.specs.Applications.{definition};
 ghost use Rattle.core_eval.specs.Ask.{entry, first_function, is_exported};
-ghost use Rattle.core_eval.specs.Functions.{function_in};
-ghost use Rattle.core_eval.specs.Steps.{Begins, EntersWith, keeps_on_top, keeps_once};
+ghost use Rattle.core_eval.specs.inside.Functions.{function_in};
+ghost use Rattle.core_eval.specs.inside.Steps.{Begins, EntersWith, keeps_on_top, keeps_once};
 
 use crate::bindings::Bindings;
 use crate::build::error;

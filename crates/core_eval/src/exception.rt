@@ -4,7 +4,7 @@ ghost use Rattle.std.specs.Prelude.{◌≡◌, ◌≤◌, IfOk};
 ghost use Rattle.term_core.specs.Term.{meaning_of};
 ghost use Rattle.core_eval.specs.Ask.{reason_of};
 ghost use Rattle.core_eval.specs.Evaluation.{caught, caught_values, class_in, class_name, class_named, match_reason, raised_again, trace_of};
-ghost use Rattle.core_eval.specs.Steps.{Means, load};
+ghost use Rattle.core_eval.specs.inside.Steps.{Means, load};
 
 use crate::build::{atom, error, limited, pair};
 use crate::control::Control;

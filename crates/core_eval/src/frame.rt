@@ -1,6 +1,6 @@
 // The frames of the stack: what is still to do with the values of an expression, or with what it raises.
 ghost use Rattle.std.specs.Prelude.{◌≡◌, IfOk, option_map};
-ghost use Rattle.core_eval.specs.Frames.{hole_of};
+ghost use Rattle.core_eval.specs.inside.Frames.{hole_of};
 ghost use Rattle.core_eval.specs.Holes.{hides, kept_in, only_keeps};
 ghost use Rattle.core_eval.specs.Matching.{lookup};
 ghost use Rattle.term_core.specs.Term.{meaning_of};

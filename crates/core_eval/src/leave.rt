@@ -1,13 +1,15 @@
 // The steps of the machine out of an expression, with its values or with what it raises, to what the frame
 // above it leaves to do.
 ghost use Rattle.std.specs.Prelude.{◌≡◌, ◌+◌, ◌*◌, ◌≤◌, ◌∷◌, [], IfOk, length};
-ghost use Rattle.core_tree.specs.Syntax.{clauses_of, size_of_clause_list};
+ghost use Rattle.core_tree.specs.Syntax.{clauses_of};
+ghost use Rattle.core_tree.specs.inside.Sizes.{size_of_clause_list};
 ghost use Rattle.core_tree.specs.Tree.{tree_of};
 ghost use Rattle.term_core.specs.Term.{meaning_of};
 ghost use Rattle.core_eval.specs.Evaluation.{Raises, Yields, as_one, choose, no_clause};
-ghost use Rattle.core_eval.specs.Frames.{hole_of};
-ghost use Rattle.core_eval.specs.Holes.{Guards, scope, filled};
-ghost use Rattle.core_eval.specs.Steps.{EntersWith, GoesOn, Means, load, work_in};
+ghost use Rattle.core_eval.specs.inside.Frames.{hole_of};
+ghost use Rattle.core_eval.specs.Holes.{scope, filled};
+ghost use Rattle.core_eval.specs.Holes as holes;
+ghost use Rattle.core_eval.specs.inside.Steps.{EntersWith, GoesOn, Means, load, work_in};
 
 use crate::bindings::Bindings;
 use crate::build::{atom, error, limited, limited_error, pair, single, with_last};
@@ -17,7 +19,7 @@ use crate::exception::{caught, caught_values};
 use crate::frame::Frame;
 use crate::matching::{is_atom, matches_each};
 use crate::stack::Stack;
-use crate::step::gather;
+use crate::enter::gather;
 use core_tree::{Clause, Try};
 use pure_calls::Class;
 use std::alloc::{AllocError, Global};

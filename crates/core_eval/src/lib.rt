@@ -15,7 +15,7 @@ mod pure;
 pub mod request;
 mod run;
 mod stack;
-mod step;
+mod enter;
 
 pub use machine::{Machine, start};
 pub use request::{Answer, Request};

@@ -6,7 +6,7 @@ ghost use Rattle.term_core.specs.Meaning.{Meaning};
 ghost use Rattle.term_core.specs.Term.{meaning_of};
 ghost use Rattle.core_eval.specs.Evaluation.{begins_with};
 ghost use Rattle.core_eval.specs.Matching.{Environment, is_name, is_number, is_text, match, match_each, match_items};
-ghost use Rattle.core_eval.specs.Matched.{IsMatch, behind_items};
+ghost use Rattle.core_eval.specs.inside.Matched.{IsMatch, behind_items};
 
 use crate::bindings::Bindings;
 use core_tree::{Alias, OntoPattern, Pattern, Patterns};

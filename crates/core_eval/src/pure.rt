@@ -1,8 +1,8 @@
 // The calls that a process answers by itself.
 ghost use Rattle.std.specs.Prelude.{◌≡◌, ◌≤◌, IfOk};
 ghost use Rattle.pure_calls.specs.Calls.{answer_of};
-ghost use Rattle.core_eval.specs.Evaluation.{told};
-ghost use Rattle.core_eval.specs.Steps.{Means, load};
+ghost use Rattle.core_eval.specs.Evaluation.{limited_answer};
+ghost use Rattle.core_eval.specs.inside.Steps.{Means, load};
 
 use crate::build::limited;
 use crate::control::Control;
@@ -19,7 +19,7 @@ pub(crate) fn answer_call<'m>(
     kind: PureCall,
     arguments: Terms,
 ) -> Result<Control<'m>, AllocError>
-    ensures same { IfOk result (λ next. Means next (told (answer_of own.now kind arguments))) }
+    ensures same { IfOk result (λ next. Means next (limited_answer (answer_of own.now kind arguments))) }
     ensures less { IfOk result (λ next. load next ≤ 2) }
 {
     match answer(alloc, own, kind, arguments)? {

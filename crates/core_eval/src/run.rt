@@ -6,7 +6,7 @@ ghost use Rattle.core_eval.specs.Ask.{request_of};
 ghost use Rattle.core_eval.specs.Evaluation.{Setting, State, before};
 ghost use Rattle.core_eval.specs.Holes.{standing};
 ghost use Rattle.core_eval.specs.Requests.{asked_of};
-ghost use Rattle.core_eval.specs.Steps.{going, paused};
+ghost use Rattle.core_eval.specs.inside.Steps.{going, paused};
 
 use crate::build::atom;
 use crate::control::{Control, Pause};
@@ -16,7 +16,7 @@ use crate::leave::{leave, leave_raised, leave_with};
 use crate::pure::answer_call;
 use crate::request::Request;
 use crate::stack::Stack;
-use crate::step::enter;
+use crate::enter::enter;
 use core_tree::Module;
 use std::alloc::{AllocError, Global};
 use term_core::Pid;

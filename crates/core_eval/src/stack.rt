@@ -1,9 +1,9 @@
 // The stack of a machine.
 ghost use Rattle.std.specs.Prelude.{◌≡◌, ◌∷◌, [], OnOk, IfOk, MatchOption, option_map};
-ghost use Rattle.core_eval.specs.Frames.{hole_of};
+ghost use Rattle.core_eval.specs.inside.Frames.{hole_of};
 ghost use Rattle.core_eval.specs.Holes.{scope};
 ghost use Rattle.core_eval.specs.Matching.{lookup};
-ghost use Rattle.core_eval.specs.Steps.{IsBared, keeps_on_top};
+ghost use Rattle.core_eval.specs.inside.Steps.{IsBared, keeps_on_top};
 ghost use Rattle.term_core.specs.Term.{meaning_of};
 
 use crate::frame::Frame;
@@ -19,13 +19,13 @@ impl<'m> Model for Stack<'m> {
     ghost use Rattle.std.specs.Prelude.{List};
     ghost use Rattle.std.specs.Coded.{coded_list};
     ghost use Rattle.core_eval.specs.Holes.{Hole};
-    ghost use Rattle.core_eval.specs.HoleCodes.{coded_hole};
+    ghost use Rattle.core_eval.specs.inside.HoleCodes.{coded_hole};
 
     ghost Value = { List Hole };
 
     ghost coded = { coded_list coded_hole };
 
-    ghost use Rattle.core_eval.specs.Frames.{holes_of};
+    ghost use Rattle.core_eval.specs.inside.Frames.{holes_of};
 
     ghost view = { λ s. holes_of s.0.items };
 }

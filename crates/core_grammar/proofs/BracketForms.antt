@@ -2,13 +2,15 @@
 use Rattle.std.proofs.Common.{◌≡◌, ℕ, zero, suc, true, List, [], ◌∷◌, length, Option, Some, None, Ok, refl, ap, ◌∙◌}
 use Rattle.core_tokens.specs.declared.token.Mark.TheVariants as m
 use Rattle.core_tokens.specs.declared.token.Keyword.TheVariants as k
-use Rattle.core_tokens.specs.Piece.{Piece, Shape, A_word, A_mark, An_atom, A_variable, An_integer, A_character, A_text}
-use Rattle.core_tree.specs.Syntax.{Callee, Pattern, NumberIn, CharacterIn, TextIn, NameIn, VariableIn, GroupIn, ListIn, JoinIn, AliasIn, Tree}
+use Rattle.core_tokens.specs.Piece.{Piece, Shape}
+use Rattle.core_tokens.specs.Piece as lexemes
+use Rattle.core_tree.specs.Syntax.{Callee, Pattern, Tree}
+use Rattle.core_tree.specs.Pattern as patterns
 use Rattle.core_grammar.specs.declared.unserved.Unserved.{Unserved}
 use Rattle.core_grammar.specs.declared.unserved.Unserved.TheVariants as unserved
 use Rattle.core_grammar.specs.Arguments.{commas}
-use Rattle.core_grammar.specs.Reading.{State, Read, with_pieces, after_mark, after_word, constant_at, alias_by, alias_at, pattern_at}
-use Rattle.core_grammar.specs.ReadingForms.{callee_named, operation_named, refuse, judged, name_by, Start, OnePattern, ManyPatterns, WholeClause, tuple_at, list_at, values_at, let_at, do_at, apply_at, call_at, primop_at, try_at, catch_at, behind_patterns_at, clause_of, start_by, started, inside_start_at, aliased, noted_start_at, bare_start_by, bare_start_at, start_last, start_next, clause_at, case_at, form_by, form_of, form_at, expression_at, start_at}
+use Rattle.core_grammar.specs.inside.Decoder.{State, Read, with_pieces, after_mark, after_word, constant_at, alias_by, alias_at, pattern_at}
+use Rattle.core_grammar.specs.inside.DecoderForms.{callee_named, operation_named, refuse, judged, name_by, Start, OnePattern, ManyPatterns, WholeClause, tuple_at, list_at, values_at, let_at, do_at, apply_at, call_at, primop_at, try_at, catch_at, behind_patterns_at, clause_of, start_by, started, inside_start_at, aliased, noted_start_at, bare_start_by, bare_start_at, start_last, start_next, clause_at, case_at, form_by, form_of, form_at, expression_at, start_at}
 use Rattle.core_grammar.proofs.Steps.{bind_ok, after_mark_found, mark_steps, word_steps, atom_steps}
 use Rattle.core_grammar.proofs.BracketSteps.{Walks, WalksOut, stepped, ends, variables_walk, caught_walks, pattern_walks, applied_walks, callee_walks, in_note_walks, closed_walks, brackets_walk, exactly_walks, rows_walk}
 
@@ -16,24 +18,24 @@ judged_walks : (at : ℕ) (u : Unserved) (o : Option Callee) (ts : List Tree) �
 judged_walks at u (Some callee) ts s c t e d = ends _ _ _ _ e d
 judged_walks at u None ts s c t e d = ends _ _ (refuse u s) _ e d
 
-name_walks : (at : ℕ) (x : List ℕ) (o : Option (List Piece)) (ps : List Piece) (s : State) (c : Tree) (t : State) → name_by o x ps s ≡ Ok (c, t) → (d : ℕ) → commas d (record { at = at; shape = An_atom x } ∷ ps) ≡ commas d t.pieces
+name_walks : (at : ℕ) (x : List ℕ) (o : Option (List Piece)) (ps : List Piece) (s : State) (c : Tree) (t : State) → name_by o x ps s ≡ Ok (c, t) → (d : ℕ) → commas d (record { at = at; shape = lexemes.Atom x } ∷ ps) ≡ commas d t.pieces
 name_walks at x (Some qs) ps s c t e d = absurd cc
 name_walks at x None ps s c t e d = ends _ _ (with_pieces s ps) _ e d
 
 alias_by_walks : (n : ℕ) (q : Pattern) (o : Option (List Piece)) (s : State) (p : Pattern) (t : State) → after_mark m.Equals s.pieces ≡ o → alias_by (pattern_at n) (constant_at n) q o s ≡ Ok (p, t) → (d : ℕ) → commas d s.pieces ≡ commas d t.pieces
-alias_by_walks n (VariableIn v) (Some ps) s p t is e d =
+alias_by_walks n (patterns.Variable v) (Some ps) s p t is e d =
     let f = after_mark_found m.Equals s.pieces ps is in
     let a = bind_ok _ _ _ e in
     ap (commas d) f.1 ∙ pattern_walks n (with_pieces s ps) a.0.0 a.0.1 a.1 d ∙ ends _ _ _ _ a.2 d
-alias_by_walks n (VariableIn v) None s p t is e d = ends _ _ _ _ e d
-alias_by_walks n (NumberIn i) o s p t is e d = ends _ _ _ _ e d
-alias_by_walks n (CharacterIn i) o s p t is e d = ends _ _ _ _ e d
-alias_by_walks n (TextIn i) o s p t is e d = ends _ _ _ _ e d
-alias_by_walks n (NameIn i) o s p t is e d = ends _ _ _ _ e d
-alias_by_walks n (GroupIn i) o s p t is e d = ends _ _ _ _ e d
-alias_by_walks n (ListIn i) o s p t is e d = ends _ _ _ _ e d
-alias_by_walks n (JoinIn i j) o s p t is e d = ends _ _ _ _ e d
-alias_by_walks n (AliasIn i j) o s p t is e d = ends _ _ _ _ e d
+alias_by_walks n (patterns.Variable v) None s p t is e d = ends _ _ _ _ e d
+alias_by_walks n (patterns.Integer i) o s p t is e d = ends _ _ _ _ e d
+alias_by_walks n (patterns.Character i) o s p t is e d = ends _ _ _ _ e d
+alias_by_walks n (patterns.Text i) o s p t is e d = ends _ _ _ _ e d
+alias_by_walks n (patterns.Atom i) o s p t is e d = ends _ _ _ _ e d
+alias_by_walks n (patterns.Tuple i) o s p t is e d = ends _ _ _ _ e d
+alias_by_walks n (patterns.List i) o s p t is e d = ends _ _ _ _ e d
+alias_by_walks n (patterns.Onto i j) o s p t is e d = ends _ _ _ _ e d
+alias_by_walks n (patterns.Alias i j) o s p t is e d = ends _ _ _ _ e d
 
 alias_walks : (n : ℕ) (q : Pattern) → Walks (alias_at (pattern_at n) (constant_at n) q)
 unfolding alias_at
@@ -191,23 +193,23 @@ module _ (own : List ℕ) (n : ℕ) (inner : State → Read Tree) (walks : Walks
         ∙ stepped (word_steps k.End g.0.1 b.0 b.1) d ∙ ends _ _ _ _ b.2 d
 
     form_by_walks : (at : ℕ) (shape : Shape) (ps : List Piece) (s : State) (c : Tree) (t : State) → form_by own n inner start at shape ps s ≡ Ok (c, t) → (d : ℕ) → commas d (record { at = at; shape = shape } ∷ ps) ≡ commas d t.pieces
-    form_by_walks at (An_integer i) ps s c t e d = ends _ _ (with_pieces s ps) _ e d
-    form_by_walks at (A_character i) ps s c t e d = ends _ _ (with_pieces s ps) _ e d
-    form_by_walks at (A_text i) ps s c t e d = ends _ _ (with_pieces s ps) _ e d
-    form_by_walks at (An_atom x) ps s c t e d = name_walks at x (after_mark m.Slash ps) ps s c t e d
-    form_by_walks at (A_variable v) ps s c t e d = ends _ _ (with_pieces s ps) _ e d
-    form_by_walks at (A_mark m.LeftBrace) ps s c t e d = tuple_walks (with_pieces s ps) c t e d
-    form_by_walks at (A_mark m.LeftBracket) ps s c t e d = list_walks (with_pieces s ps) c t e d
-    form_by_walks at (A_mark m.Less) ps s c t e d = values_walk (with_pieces s ps) c t e d
-    form_by_walks at (A_mark m.LeftParenthesis) ps s c t e d = in_note_walks n inner walks (with_pieces s ps) c t e d
-    form_by_walks at (A_word k.Let) ps s c t e d = let_walks (with_pieces s ps) c t e d
-    form_by_walks at (A_word k.Case) ps s c t e d = case_walks at (with_pieces s ps) c t e d
-    form_by_walks at (A_word k.Do) ps s c t e d = do_walks (with_pieces s ps) c t e d
-    form_by_walks at (A_word k.Apply) ps s c t e d = apply_walks at (with_pieces s ps) c t e d
-    form_by_walks at (A_word k.Call) ps s c t e d = call_walks at (with_pieces s ps) c t e d
-    form_by_walks at (A_word k.Primop) ps s c t e d = primop_walks at (with_pieces s ps) c t e d
-    form_by_walks at (A_word k.Try) ps s c t e d = try_walks at (with_pieces s ps) c t e d
-    form_by_walks at (A_word k.Catch) ps s c t e d = catch_walks at (with_pieces s ps) c t e d
+    form_by_walks at (lexemes.Integer i) ps s c t e d = ends _ _ (with_pieces s ps) _ e d
+    form_by_walks at (lexemes.Character i) ps s c t e d = ends _ _ (with_pieces s ps) _ e d
+    form_by_walks at (lexemes.Text i) ps s c t e d = ends _ _ (with_pieces s ps) _ e d
+    form_by_walks at (lexemes.Atom x) ps s c t e d = name_walks at x (after_mark m.Slash ps) ps s c t e d
+    form_by_walks at (lexemes.Variable v) ps s c t e d = ends _ _ (with_pieces s ps) _ e d
+    form_by_walks at (lexemes.Mark m.LeftBrace) ps s c t e d = tuple_walks (with_pieces s ps) c t e d
+    form_by_walks at (lexemes.Mark m.LeftBracket) ps s c t e d = list_walks (with_pieces s ps) c t e d
+    form_by_walks at (lexemes.Mark m.Less) ps s c t e d = values_walk (with_pieces s ps) c t e d
+    form_by_walks at (lexemes.Mark m.LeftParenthesis) ps s c t e d = in_note_walks n inner walks (with_pieces s ps) c t e d
+    form_by_walks at (lexemes.Word k.Let) ps s c t e d = let_walks (with_pieces s ps) c t e d
+    form_by_walks at (lexemes.Word k.Case) ps s c t e d = case_walks at (with_pieces s ps) c t e d
+    form_by_walks at (lexemes.Word k.Do) ps s c t e d = do_walks (with_pieces s ps) c t e d
+    form_by_walks at (lexemes.Word k.Apply) ps s c t e d = apply_walks at (with_pieces s ps) c t e d
+    form_by_walks at (lexemes.Word k.Call) ps s c t e d = call_walks at (with_pieces s ps) c t e d
+    form_by_walks at (lexemes.Word k.Primop) ps s c t e d = primop_walks at (with_pieces s ps) c t e d
+    form_by_walks at (lexemes.Word k.Try) ps s c t e d = try_walks at (with_pieces s ps) c t e d
+    form_by_walks at (lexemes.Word k.Catch) ps s c t e d = catch_walks at (with_pieces s ps) c t e d
     form_by_walks at shape ps s c t e d = absurd cc
 
     form_of_walks : (ps : List Piece) (s : State) (c : Tree) (t : State) → form_of own n inner start ps s ≡ Ok (c, t) → (d : ℕ) → commas d ps ≡ commas d t.pieces

@@ -3,13 +3,14 @@ use Rattle.std.proofs.Common.{◌≡◌, ℕ, zero, suc, Bool, true, false, cond
 use Rattle.core_tokens.specs.declared.token.Mark.{Mark}
 use Rattle.core_tokens.specs.declared.token.Mark.TheVariants as m
 use Rattle.core_tokens.specs.declared.token.Keyword.TheVariants as k
-use Rattle.core_tokens.specs.Piece.{Piece, Shape, A_mark}
+use Rattle.core_tokens.specs.Piece.{Piece, Shape}
+use Rattle.core_tokens.specs.Piece as lexemes
 use Rattle.core_tree.specs.Syntax.{Constant, Pattern}
 use Rattle.core_grammar.specs.declared.unserved.Unserved.{Unserved}
 use Rattle.core_grammar.specs.Grammar.{mark, Commas, spells_one, spells_next, Enclosed, spells_none, spells_some, Note, is_note, InNote, in_note, stands_bare, stands_noted, Noted, ConstantForm, is_integer, is_character, is_text, is_atom, is_tuple, is_list, is_join, is_noted, ConstantIn, BareName, names_function, FunctionName, BareAtom, is_the_atom, AtomIn, BareVariable, names_variable, Variable, BareVariables, one_variable, variables_in_angles, Variables, BareCaught, catches_two, catches_three, CaughtVariables, PatternForm, matches_integer, matches_character, matches_text, matches_atom, matches_any, matches_tuple, matches_list, matches_join, matches_noted, PatternOrAlias, no_alias, is_alias, PatternIn}
 use Rattle.core_grammar.specs.Arguments.{TurnsOut, turn, commas, arguments_by, arguments}
-use Rattle.core_grammar.specs.Reading.{State, Read, with_pieces, is_mark, after_mark, after_word, constant_at, in_note_at, variables_at, caught_at, pattern_at, comma_at, more_at, commas_at, items_at, closed_by, closed_at, tail_at, brackets_by, brackets_at, exactly_at, row_by, row_at, rows_at}
-use Rattle.core_grammar.specs.ReadingForms.{callee_at, applied_at}
+use Rattle.core_grammar.specs.inside.Decoder.{State, Read, with_pieces, is_mark, after_mark, after_word, constant_at, in_note_at, variables_at, caught_at, pattern_at, comma_at, more_at, commas_at, items_at, closed_by, closed_at, tail_at, brackets_by, brackets_at, exactly_at, row_by, row_at, rows_at}
+use Rattle.core_grammar.specs.inside.DecoderForms.{callee_at, applied_at}
 use Rattle.core_grammar.proofs.Steps.{done, ok_is, bind_ok, after_mark_found, Steps, mark_steps, Sound}
 use Rattle.core_grammar.proofs.SoundNames.{note_sound, constant_sound, variables_sound, caught_sound}
 use Rattle.core_grammar.proofs.SoundPatterns.{pattern_sound}
@@ -21,7 +22,7 @@ use Rattle.core_grammar.proofs.SoundForms.{callee_sound, applied_sound}
 abbrev pub Level : {X : Type 0} → (List Piece → X → List Piece → Type 0) → Type 0
 Level {X = X} Item = (ps : List Piece) (x : X) (rest : List Piece) → Item ps x rest → (d : ℕ) → commas d ps ≡ commas d rest
 
-pub closes : (close : Mark) → turn (A_mark close) ≡ TurnsOut → (at : ℕ) (ps : List Piece) (d : ℕ) → commas (suc d) (mark at close ∷ ps) ≡ commas d ps
+pub closes : (close : Mark) → turn (lexemes.Mark close) ≡ TurnsOut → (at : ℕ) (ps : List Piece) (d : ℕ) → commas (suc d) (mark at close ∷ ps) ≡ commas d ps
 closes close is at ps d = rw is refl
 
 module _ {X : Type 0} (Item : List Piece → X → List Piece → Type 0) (level : Level Item) where
@@ -29,7 +30,7 @@ module _ {X : Type 0} (Item : List Piece → X → List Piece → Type 0) (level
   commas_level ps xs rest (spells_one {x = x} h) d = level ps x rest h (suc d)
   commas_level ps xs rest (spells_next {more = more} {at = at} {x = x} {xs = ys} h g) d = level ps x (mark at m.Comma ∷ more) h (suc d) ∙ commas_level more ys rest g d
 
-  enclosed_level : (close : Mark) → turn (A_mark close) ≡ TurnsOut → (ps : List Piece) (xs : List X) (rest : List Piece) → Enclosed Item close ps xs rest → (d : ℕ) → commas (suc d) ps ≡ commas d rest
+  enclosed_level : (close : Mark) → turn (lexemes.Mark close) ≡ TurnsOut → (ps : List Piece) (xs : List X) (rest : List Piece) → Enclosed Item close ps xs rest → (d : ℕ) → commas (suc d) ps ≡ commas d rest
   enclosed_level close is ps xs rest (spells_none {at = at}) d = closes close is at rest d
   enclosed_level close is ps xs rest (spells_some {at = at} h) d = commas_level ps xs (mark at close ∷ rest) h d ∙ closes close is at rest d
 
@@ -146,7 +147,7 @@ in_note_walks n item walks s x t e d =
 -- ---- lists
 
 some_arguments_by : (shape : Shape) (ps : List Piece) (n : ℕ) → cond (is_mark m.RightParenthesis shape) (Some ps) None ≡ None → arguments_by shape n ≡ suc n
-some_arguments_by (A_mark m.RightParenthesis) ps n e = absurd cc
+some_arguments_by (lexemes.Mark m.RightParenthesis) ps n e = absurd cc
 some_arguments_by shape ps n e = refl
 
 module _ {X : Type 0} (item : State → Read X) (walks : Walks item) where
@@ -167,7 +168,7 @@ module _ {X : Type 0} (item : State → Read X) (walks : Walks item) where
   unfolding items_at
   items_walk s xs t e d = commas_walk (length s.pieces) s xs t e d
 
-  closed_by_walks : (close : Mark) → turn (A_mark close) ≡ TurnsOut → (o : Option (List Piece)) (s : State) (xs : List X) (t : State) → after_mark close s.pieces ≡ o → closed_by item close o s ≡ Ok (xs, t) → (d : ℕ) → commas (suc d) s.pieces ≡ commas d t.pieces
+  closed_by_walks : (close : Mark) → turn (lexemes.Mark close) ≡ TurnsOut → (o : Option (List Piece)) (s : State) (xs : List X) (t : State) → after_mark close s.pieces ≡ o → closed_by item close o s ≡ Ok (xs, t) → (d : ℕ) → commas (suc d) s.pieces ≡ commas d t.pieces
   closed_by_walks close out (Some ps) s xs t is e d = let f = after_mark_found close s.pieces ps is in ap (commas (suc d)) f.1 ∙ closes close out f.0 ps d ∙ ends _ _ _ _ e d
   closed_by_walks close out None s xs t is e d =
       let a = bind_ok _ _ _ e in
@@ -175,7 +176,7 @@ module _ {X : Type 0} (item : State → Read X) (walks : Walks item) where
       let step = mark_steps close a.0.1 b.0 b.1 in
       items_walk s a.0.0 a.0.1 a.1 d ∙ stepped step (suc d) ∙ closes close out step.at b.0.pieces d ∙ ends _ _ _ _ b.2 d
 
-  pub closed_walks : (close : Mark) → turn (A_mark close) ≡ TurnsOut → WalksOut (closed_at item close)
+  pub closed_walks : (close : Mark) → turn (lexemes.Mark close) ≡ TurnsOut → WalksOut (closed_at item close)
   unfolding closed_at
   closed_walks close out s xs t e d = closed_by_walks close out (after_mark close s.pieces) s xs t refl e d
 

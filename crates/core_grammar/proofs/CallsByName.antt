@@ -9,12 +9,15 @@ use Rattle.core_tree.specs.declared.call.CallKind.{CallKind}
 use Rattle.core_tree.specs.declared.call.CallKind.TheVariants as kinds
 use Rattle.core_tree.specs.declared.pure.PureCall.{PureCall}
 use Rattle.core_tree.specs.declared.pure.PureCall.TheVariants as pures
-use Rattle.core_tree.specs.Calls.{Signature, signature, calls, number_of_call, call_of_number-number_of_call, has_signature, first_with, call_with, IsRead}
-use Rattle.core_tree.specs.PureCalls.{pure_signature, pure_calls, number_of_pure, pure_of_number-number_of_pure, pure_call_with}
-use Rattle.core_tree.specs.Syntax.{Callee, OfWorld, OfItself, OfExport, FailsMatch, RaisesAgain}
+use Rattle.core_tree.specs.Calls.{Signature, signature, calls, has_signature, first_with, call_with, IsRead}
+use Rattle.core_tree.specs.CallCodes.{number_of_call, call_of_number-number_of_call}
+use Rattle.core_tree.specs.PureCalls.{pure_signature, pure_calls, pure_call_with}
+use Rattle.core_tree.specs.CallCodes.{number_of_pure, pure_of_number-number_of_pure}
+use Rattle.core_tree.specs.Syntax.{Callee}
+use Rattle.core_tree.specs.Callee as callees
 use Rattle.core_grammar.specs.Grammar.{IsUnlisted, Calls, calls_world, calls_itself, calls_export, Operates, fails_match, raises_again}
 use Rattle.core_scopes.specs.Names.{same_bytes}
-use Rattle.core_grammar.specs.ReadingForms.{is_read, export_called, unlisted_called, callee_by, callee_named, operation_named}
+use Rattle.core_grammar.specs.inside.DecoderForms.{is_read, export_called, unlisted_called, callee_by, callee_named, operation_named}
 
 -- ---- the first that passes a test
 
@@ -117,25 +120,25 @@ is_some_callee false x y e = absurd cc
 
 export_found : (own a f : List ℕ) (n : ℕ) (callee : Callee) → IsUnlisted (signed a f n) → export_called own a f n ≡ Some callee → Calls own (signed a f n) callee
 export_found own a f n callee new e =
-    let h = is_some_callee (same_bytes own a && nat_lt n 256) (OfExport (record { name = f; arity = n })) callee e in
+    let h = is_some_callee (same_bytes own a && nat_lt n 256) (callees.Exported (record { name = f; arity = n })) callee e in
     let g = both_true (same_bytes own a) (nat_lt n 256) h.0 in
     let same : own ≡ a = same_text own a (sym g.0) in
     let small : n < 256 = ltb-true _ _ g.1 in
-    let made : Calls a (signed a f n) (OfExport (record { name = f; arity = n })) = calls_export small new in
-    subst (λ (c : Callee). Calls own (signed a f n) c) h.1 (subst (λ (b : List ℕ). Calls b (signed a f n) (OfExport (record { name = f; arity = n }))) (sym same) made)
+    let made : Calls a (signed a f n) (callees.Exported (record { name = f; arity = n })) = calls_export small new in
+    subst (λ (c : Callee). Calls own (signed a f n) c) h.1 (subst (λ (b : List ℕ). Calls b (signed a f n) (callees.Exported (record { name = f; arity = n }))) (sym same) made)
 
 unlisted_found : (own a f : List ℕ) (n : ℕ) (o : Option PureCall) (callee : Callee) → call_with a f n ≡ None → pure_call_with a f n ≡ o → unlisted_called own a f n o ≡ Some callee → Calls own (signed a f n) callee
 unlisted_found own a f n (Some kind) callee none is e =
-    let same : OfItself kind ≡ callee = some_is (OfItself kind) callee e in
-    let made : Calls own (pure_signature kind) (OfItself kind) = calls_itself in
-    subst (λ (c : Callee). Calls own (signed a f n) c) same (subst (λ (s : Signature). Calls own s (OfItself kind)) (pure_is a f n kind is) made)
+    let same : callees.Pure kind ≡ callee = some_is (callees.Pure kind) callee e in
+    let made : Calls own (pure_signature kind) (callees.Pure kind) = calls_itself in
+    subst (λ (c : Callee). Calls own (signed a f n) c) same (subst (λ (s : Signature). Calls own s (callees.Pure kind)) (pure_is a f n kind is) made)
 unlisted_found own a f n None callee none is e = export_found own a f n callee (record { by_world = no_call_is a f n none; by_itself = no_pure_is a f n is }) e
 
 callee_by_found : (own a f : List ℕ) (n : ℕ) (o : Option CallKind) (callee : Callee) → call_with a f n ≡ o → callee_by own a f n o ≡ Some callee → Calls own (signed a f n) callee
 callee_by_found own a f n (Some kind) callee is e =
-    let h = is_some_callee (is_read kind) (OfWorld kind) callee e in
-    let made : Calls own (signature kind) (OfWorld kind) = calls_world (read_is kind h.0) in
-    subst (λ (c : Callee). Calls own (signed a f n) c) h.1 (subst (λ (s : Signature). Calls own s (OfWorld kind)) (call_is a f n kind is) made)
+    let h = is_some_callee (is_read kind) (callees.World kind) callee e in
+    let made : Calls own (signature kind) (callees.World kind) = calls_world (read_is kind h.0) in
+    subst (λ (c : Callee). Calls own (signed a f n) c) h.1 (subst (λ (s : Signature). Calls own s (callees.World kind)) (call_is a f n kind is) made)
 callee_by_found own a f n None callee is e = unlisted_found own a f n (pure_call_with a f n) callee is refl e
 
 pub callee_found : (own a f : List ℕ) (n : ℕ) (callee : Callee) → callee_named own a f n ≡ Some callee → Calls own (signed a f n) callee
@@ -153,24 +156,24 @@ operation_found t n callee e = by (same_bytes t (codes "match_fail") && n == 1) 
         let with_count : n ≡ k = eqb-true _ _ g.1 in
         rw (of_name, with_count) (subst (λ (x : Callee). Operates name k x) same h)
 
-    last : (b : Bool) → (same_bytes t (codes "raise") && n == 2) ≡ b → cond b (Some RaisesAgain) None ≡ Some callee → Operates t n callee
-    last true is f = operates t n RaisesAgain (codes "raise") 2 is raises_again (some_is RaisesAgain callee f)
+    last : (b : Bool) → (same_bytes t (codes "raise") && n == 2) ≡ b → cond b (Some callees.Raise) None ≡ Some callee → Operates t n callee
+    last true is f = operates t n callees.Raise (codes "raise") 2 is raises_again (some_is callees.Raise callee f)
     last false is f = absurd cc
 
-    by : (b : Bool) → (same_bytes t (codes "match_fail") && n == 1) ≡ b → cond b (Some FailsMatch) (cond (same_bytes t (codes "raise") && n == 2) (Some RaisesAgain) None) ≡ Some callee → Operates t n callee
-    by true is f = operates t n FailsMatch (codes "match_fail") 1 is fails_match (some_is FailsMatch callee f)
+    by : (b : Bool) → (same_bytes t (codes "match_fail") && n == 1) ≡ b → cond b (Some callees.MatchFail) (cond (same_bytes t (codes "raise") && n == 2) (Some callees.Raise) None) ≡ Some callee → Operates t n callee
+    by true is f = operates t n callees.MatchFail (codes "match_fail") 1 is fails_match (some_is callees.MatchFail callee f)
     by false is f = last (same_bytes t (codes "raise") && n == 2) refl f
 
 -- ---- what is called is found
 
-read_again : (kind : CallKind) → IsRead kind → (own : List ℕ) → callee_named own (signature kind).module_name (signature kind).function_name (signature kind).arity ≡ Some (OfWorld kind)
+read_again : (kind : CallKind) → IsRead kind → (own : List ℕ) → callee_named own (signature kind).module_name (signature kind).function_name (signature kind).arity ≡ Some (callees.World kind)
 unfolding callee_named call_with
 read_again kinds.New h own = refl
 read_again kinds.Insert h own = refl
 read_again kinds.Lookup h own = refl
 read_again kind h own = absurd h
 
-pure_again : (kind : PureCall) (own : List ℕ) → callee_named own (pure_signature kind).module_name (pure_signature kind).function_name (pure_signature kind).arity ≡ Some (OfItself kind)
+pure_again : (kind : PureCall) (own : List ℕ) → callee_named own (pure_signature kind).module_name (pure_signature kind).function_name (pure_signature kind).arity ≡ Some (callees.Pure kind)
 unfolding callee_named call_with pure_call_with
 pure_again pures.Add own = refl
 pure_again pures.Subtract own = refl
@@ -235,7 +238,7 @@ nothing_found (Some x) h = absurd (h x refl)
 less_again : (n m : ℕ) → n < m → nat_lt n m ≡ true
 less_again n m h = grind (arith, nat_tests)
 
-export_again : (own f : List ℕ) (n : ℕ) → n < 256 → IsUnlisted (signed own f n) → callee_named own own f n ≡ Some (OfExport (record { name = f; arity = n }))
+export_again : (own f : List ℕ) (n : ℕ) → n < 256 → IsUnlisted (signed own f n) → callee_named own own f n ≡ Some (callees.Exported (record { name = f; arity = n }))
 unfolding callee_named
 export_again own f n small new =
     let one : call_with own f n ≡ None = nothing_found (call_with own f n) (λ kind e. new.by_world kind (call_is own f n kind e)) in

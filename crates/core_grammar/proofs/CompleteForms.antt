@@ -2,11 +2,15 @@
 use Rattle.std.proofs.Common.{◌≡◌, ℕ, zero, suc, true, cond, List, [], ◌∷◌, length, Some, None, Ok, refl, sym, ap, ◌∙◌, arith, ◌⊎◌, inl, inr}
 use Rattle.core_tokens.specs.declared.token.Mark.TheVariants as m
 use Rattle.core_tokens.specs.declared.token.Keyword.TheVariants as k
-use Rattle.core_tokens.specs.Piece.{Piece, Shape, A_mark}
-use Rattle.core_tree.specs.Syntax.{NamedAt, Callee, OfDefinition, Pattern, VariableIn, Tree, Called, trees_of, ClauseTree}
+use Rattle.core_tokens.specs.Piece.{Piece, Shape}
+use Rattle.core_tokens.specs.Piece as lexemes
+use Rattle.core_tree.specs.Syntax.{NamedAt, Callee, Pattern, Tree, trees_of, ClauseTree}
+use Rattle.core_tree.specs.Callee as callees
+use Rattle.core_tree.specs.Pattern as patterns
+use Rattle.core_tree.specs.Expression as trees
 use Rattle.core_grammar.specs.Grammar.{mark, word, atom, InNote, in_note, Either, stands_bare, stands_noted, Enclosed, ConstantIn, BareName, names_function, FunctionName, BareAtom, is_the_atom, AtomIn, PatternForm, matches_integer, matches_character, matches_text, matches_atom, matches_any, matches_tuple, matches_list, matches_join, matches_noted, no_alias, is_alias, PatternIn, BareAngles, patterns_in_angles, Angles, one_pattern, many_patterns, PatternsIn, Calls, Operates, HasNoSlash, IsNoSlash, BareClause, is_clause, Form, a_number, a_character, a_text, a_name, a_variable, a_tuple, a_list, a_join, some_values, a_noted, a_let, a_case, a_do, an_apply, a_call, a_primop, a_try, a_catch, Expression, AnnotatedClause}
-use Rattle.core_grammar.specs.Reading.{State, Read, is_mark, after_mark, after_word, mark_at, word_at, atom_at, arity_at, behind_atom_at, constant_at, alias_at, pattern_at, exactly_at}
-use Rattle.core_grammar.specs.ReadingForms.{bare_callee_at, callee_at, applied_atom_at, bare_applied_at, applied_at, Start, OnePattern, ManyPatterns, WholeClause, tuple_at, list_at, values_at, let_at, do_at, apply_at, call_at, primop_at, try_at, catch_at, behind_patterns_at, inside_start_at, noted_start_at, bare_start_at, clause_at, case_at, form_at, expression_at, start_at}
+use Rattle.core_grammar.specs.inside.Decoder.{State, Read, is_mark, after_mark, after_word, mark_at, word_at, atom_at, arity_at, behind_atom_at, constant_at, alias_at, pattern_at, exactly_at}
+use Rattle.core_grammar.specs.inside.DecoderForms.{bare_callee_at, callee_at, applied_atom_at, bare_applied_at, applied_at, Start, OnePattern, ManyPatterns, WholeClause, tuple_at, list_at, values_at, let_at, do_at, apply_at, call_at, primop_at, try_at, catch_at, behind_patterns_at, inside_start_at, noted_start_at, bare_start_at, clause_at, case_at, form_at, expression_at, start_at}
 use Rattle.core_grammar.specs.Whole.{start}
 use Rattle.core_grammar.proofs.CallsByName.{callee_again, operation_again}
 use Rattle.core_grammar.proofs.SoundForms.{StartsAt}
@@ -139,7 +143,7 @@ pattern_form_begins_no_end n ps c rest (matches_noted h) = in_note_begins_no_end
 pattern_begins_no_end : (n : ℕ) → BeginsNoEnd (PatternIn n)
 pattern_begins_no_end zero ps q rest h = absurd h
 pattern_begins_no_end (suc n) ps q rest (no_alias h alone) = pattern_form_begins_no_end n ps q rest h
-pattern_begins_no_end (suc n) ps q rest (is_alias {more = more} {at = at} {v = v} h g) = pattern_form_begins_no_end n ps (VariableIn v) (mark at m.Equals ∷ more) h
+pattern_begins_no_end (suc n) ps q rest (is_alias {more = more} {at = at} {v = v} h g) = pattern_form_begins_no_end n ps (patterns.Variable v) (mark at m.Equals ∷ more) h
 
 angles_begin_no_end : (n : ℕ) → BeginsNoEnd (Angles n)
 angles_begin_no_end n ps qs rest (stands_bare (patterns_in_angles h)) = refl
@@ -162,7 +166,7 @@ no_slash_again [] h = refl
 no_slash_again (p ∷ ps) h = by p.shape h
   where
     by : (shape : Shape) → IsNoSlash shape → cond (is_mark m.Slash shape) (Some ps) None ≡ None
-    by (A_mark m.Slash) h = absurd h
+    by (lexemes.Mark m.Slash) h = absurd h
     by shape h = refl
 
 -- what stands behind an annotation's `-|` is no guard
@@ -240,9 +244,9 @@ module _ (own : List ℕ) (n : ℕ) (each : Complete (expression_at own n) (Expr
         | inr i ↦ noted_one stop ps q q rest rest rest i (alone_again n (pattern_complete n) stop q rest alone)
       ]
   one_complete stop ps q rest (is_alias {more = more} {at = at} {v = v} {q = u} h g) =
-      elim (form_front n ps (VariableIn v) (mark at m.Equals ∷ more) h) [
+      elim (form_front n ps (patterns.Variable v) (mark at m.Equals ∷ more) h) [
         | inl f ↦ bare_one stop ps q rest f.0 f.1 (is_alias h g)
-        | inr i ↦ noted_one stop ps (VariableIn v) q (mark at m.Equals ∷ more) rest rest i (alias_again n (pattern_complete n) stop at v more u rest g)
+        | inr i ↦ noted_one stop ps (patterns.Variable v) q (mark at m.Equals ∷ more) rest rest i (alias_again n (pattern_complete n) stop at v more u rest g)
       ]
 
   many_complete : (stop : ℕ) (ps : List Piece) (qs : List Pattern) (rest : List Piece) → Angles (suc n) ps qs rest → start_at own (suc n) (start stop ps) ≡ Ok (ManyPatterns qs, start stop rest)
@@ -278,7 +282,7 @@ module _ (own : List ℕ) (n : ℕ) (each : Complete (expression_at own n) (Expr
       in_note_complete (constant_at n) (ConstantIn n) (constant_complete n) (constant_takes n) (constant_begins n) (expression_at own n) stop qs t more rest (each stop qs t more h) g
 
   apply_complete : (stop at bt : ℕ) (ps p1 : List Piece) (f : NamedAt) (ts : List Tree) (rest : List Piece) → FunctionName n ps f (mark bt m.LeftParenthesis ∷ p1) → Enclosed (Expression own n) m.RightParenthesis p1 ts rest → length ts ≡ f.function.arity
-      → apply_at own n (expression_at own n) at (start stop ps) ≡ Ok (Called at (OfDefinition f) (trees_of ts), start stop rest)
+      → apply_at own n (expression_at own n) at (start stop ps) ≡ Ok (trees.Call at (callees.Defined f) (trees_of ts), start stop rest)
   unfolding apply_at mark_at
   apply_complete stop at bt ps p1 f ts rest h g count =
       let i = exactly_complete (expression_at own n) (Expression own n) each takes begins m.RightParenthesis stop p1 ts rest g in
@@ -286,7 +290,7 @@ module _ (own : List ℕ) (n : ℕ) (each : Complete (expression_at own n) (Expr
       rw (applied_complete n stop ps f (mark bt m.LeftParenthesis ∷ p1) h, j) refl
 
   call_complete : (stop at bt ct : ℕ) (ps p1 p2 : List Piece) (a f : List ℕ) (callee : Callee) (ts : List Tree) (rest : List Piece) → AtomIn n ps a (mark bt m.Colon ∷ p1) → AtomIn n p1 f (mark ct m.LeftParenthesis ∷ p2) → Enclosed (Expression own n) m.RightParenthesis p2 ts rest
-      → Calls own (record { module_name = a; function_name = f; arity = length ts }) callee → call_at own n (expression_at own n) at (start stop ps) ≡ Ok (Called at callee (trees_of ts), start stop rest)
+      → Calls own (record { module_name = a; function_name = f; arity = length ts }) callee → call_at own n (expression_at own n) at (start stop ps) ≡ Ok (trees.Call at callee (trees_of ts), start stop rest)
   unfolding call_at mark_at
   call_complete stop at bt ct ps p1 p2 a f callee ts rest h g i c =
       rw (
@@ -297,7 +301,7 @@ module _ (own : List ℕ) (n : ℕ) (each : Complete (expression_at own n) (Expr
       ) refl
 
   primop_complete : (stop at bt ct : ℕ) (ps : List Piece) (a : List ℕ) (callee : Callee) (ts : List Tree) (rest : List Piece) → Enclosed (Expression own n) m.RightParenthesis ps ts rest → Operates a (length ts) callee
-      → primop_at own n (expression_at own n) at (start stop (atom bt a ∷ mark ct m.LeftParenthesis ∷ ps)) ≡ Ok (Called at callee (trees_of ts), start stop rest)
+      → primop_at own n (expression_at own n) at (start stop (atom bt a ∷ mark ct m.LeftParenthesis ∷ ps)) ≡ Ok (trees.Call at callee (trees_of ts), start stop rest)
   unfolding primop_at mark_at atom_at
   primop_complete stop at bt ct ps a callee ts rest h c =
       rw (closed_complete (expression_at own n) (Expression own n) each takes begins m.RightParenthesis closing_parenthesis stop ps ts rest h, operation_again a (length ts) callee c) refl

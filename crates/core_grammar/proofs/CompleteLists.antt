@@ -8,7 +8,7 @@ use Rattle.core_tokens.specs.declared.token.Keyword.{Keyword}
 use Rattle.core_tokens.specs.declared.token.Keyword.TheVariants as k
 use Rattle.core_tokens.specs.Piece.{Piece}
 use Rattle.core_grammar.specs.Grammar.{mark, word, atom, Commas, spells_one, spells_next, Enclosed, spells_none, spells_some, Row, ends_here, goes_on}
-use Rattle.core_grammar.specs.Reading.{State, Read, mark_number, word_number, after_mark, after_word, mark_at, word_at, atom_at, commas_at, items_at, closed_at, brackets_at, exactly_at, row_at, rows_at}
+use Rattle.core_grammar.specs.inside.Decoder.{State, Read, mark_number, word_number, after_mark, after_word, mark_at, word_at, atom_at, commas_at, items_at, closed_at, brackets_at, exactly_at, row_at, rows_at}
 use Rattle.core_grammar.specs.Whole.{start}
 
 abbrev pub Complete : {X : Type 0} → (State → Read X) → (List Piece → X → List Piece → Type 0) → Type 0

@@ -5,8 +5,8 @@ use Rattle.core_tokens.specs.declared.token.Keyword.TheVariants as k
 use Rattle.core_tokens.specs.Piece.{Piece}
 use Rattle.core_tree.specs.Syntax.{Mention, Tree, NamedAt, AttributeTree, DefinitionTree, ModuleTree}
 use Rattle.core_grammar.specs.Grammar.{mark, word, atom, in_note, stands_bare, stands_noted, Annotated, Noted, Enclosed, Row, ConstantIn, BareName, FunctionName, Variable, Expression, level_limit, Attribute, an_attribute, BareFun, is_fun, Fun, BareDefinition, a_definition, Definition, BareModule, a_module, Spells}
-use Rattle.core_grammar.specs.Reading.{after_mark, mark_at, word_at, atom_at, constant_at, noted_at, function_name_at, variable_at}
-use Rattle.core_grammar.specs.ReadingModules.{attribute_at, bare_fun_at, fun_at, behind_name_at, TheName, WholeDefinition, inside_opening_at, bare_opening_at, opening_at, definition_at, front_at, bare_module_at, module_at}
+use Rattle.core_grammar.specs.inside.Decoder.{after_mark, mark_at, word_at, atom_at, constant_at, noted_at, function_name_at, variable_at}
+use Rattle.core_grammar.specs.inside.DecoderModules.{attribute_at, bare_fun_at, fun_at, behind_name_at, TheName, WholeDefinition, inside_opening_at, bare_opening_at, opening_at, definition_at, front_at, bare_module_at, module_at}
 use Rattle.core_grammar.specs.Whole.{start}
 use Rattle.core_grammar.proofs.CompleteLists.{Complete, TakesOne, closing_bracket, BeginsElse, BeginsNoEnd, enclosed_take, closed_complete, exactly_complete, rows_complete}
 use Rattle.core_grammar.proofs.CompleteNames.{in_note_complete, NoteFront, note_front, constant_takes, constant_begins, constant_complete, BeginsBare, noted_takes, noted_begins_no_end, noted_complete, bare_name_complete, bare_name_begins_bare, bare_name_begins_no_end, function_name_complete, function_name_takes, function_name_begins, variable_complete, variable_takes, variable_begins}

@@ -4,7 +4,7 @@ use Rattle.core_tokens.specs.declared.token.Mark.TheVariants as m
 use Rattle.core_tokens.specs.Piece.{Piece}
 use Rattle.core_tree.specs.Syntax.{Constant}
 use Rattle.core_grammar.specs.Grammar.{mark, Note, is_note, InNote, in_note, stands_bare, stands_noted, Noted, ConstantForm, is_integer, is_character, is_text, is_atom, is_tuple, is_list, is_join, is_noted, ConstantIn, BareName, names_function, FunctionName, BareVariable, names_variable, Variable, BareVariables, one_variable, variables_in_angles, Variables, BareCaught, catches_two, catches_three, CaughtVariables}
-use Rattle.core_grammar.specs.Reading.{State, Read, after_mark, mark_at, note_at, in_note_at, constant_tuple_at, constant_list_at, constant_form_at, constant_at, noted_at, placed_atom_at, arity_at, behind_atom_at, bare_name_at, function_name_at, bare_variable_at, variable_at, bare_variables_at, variables_at, bare_caught_at, caught_at}
+use Rattle.core_grammar.specs.inside.Decoder.{State, Read, after_mark, mark_at, note_at, in_note_at, constant_tuple_at, constant_list_at, constant_form_at, constant_at, noted_at, placed_atom_at, arity_at, behind_atom_at, bare_name_at, function_name_at, bare_variable_at, variable_at, bare_variables_at, variables_at, bare_caught_at, caught_at}
 use Rattle.core_grammar.specs.Whole.{start}
 use Rattle.core_grammar.proofs.CompleteLists.{Complete, TakesOne, less_again, closing_brace, closing_bracket, closing_greater, BeginsElse, BeginsNoEnd, commas_take, enclosed_take, closed_complete, brackets_complete, join_complete}
 

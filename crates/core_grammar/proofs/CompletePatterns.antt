@@ -1,10 +1,12 @@
 -- What is spelt as a pattern is read.
 use Rattle.std.proofs.Common.{◌≡◌, ℕ, zero, suc, cond, List, [], ◌∷◌, Some, None, Ok, refl, arith}
 use Rattle.core_tokens.specs.declared.token.Mark.TheVariants as m
-use Rattle.core_tokens.specs.Piece.{Piece, Shape, A_mark}
-use Rattle.core_tree.specs.Syntax.{Mention, Pattern, NumberIn, CharacterIn, TextIn, NameIn, VariableIn, GroupIn, ListIn, JoinIn, AliasIn, Constant}
+use Rattle.core_tokens.specs.Piece.{Piece, Shape}
+use Rattle.core_tokens.specs.Piece as lexemes
+use Rattle.core_tree.specs.Syntax.{Mention, Pattern, Constant}
+use Rattle.core_tree.specs.Pattern as patterns
 use Rattle.core_grammar.specs.Grammar.{mark, InNote, in_note, ConstantIn, PatternForm, matches_integer, matches_character, matches_text, matches_atom, matches_any, matches_tuple, matches_list, matches_join, matches_noted, IsNoEquals, HasNoEquals, StandsAlone, PatternOrAlias, no_alias, is_alias, PatternIn}
-use Rattle.core_grammar.specs.Reading.{is_mark, after_mark, constant_at, pattern_tuple_at, pattern_list_at, pattern_form_at, alias_at, pattern_at}
+use Rattle.core_grammar.specs.inside.Decoder.{is_mark, after_mark, constant_at, pattern_tuple_at, pattern_list_at, pattern_form_at, alias_at, pattern_at}
 use Rattle.core_grammar.specs.Whole.{start}
 use Rattle.core_grammar.proofs.CompleteLists.{Complete, TakesOne, closing_brace, BeginsElse, commas_take, enclosed_take, closed_complete, brackets_complete, join_complete}
 use Rattle.core_grammar.proofs.CompleteNames.{in_note_take, in_note_complete, in_note_begins, constant_takes, constant_begins, constant_complete}
@@ -14,7 +16,7 @@ no_equals_again [] h = refl
 no_equals_again (p ∷ ps) h = by p.shape h
   where
     by : (shape : Shape) → IsNoEquals shape → cond (is_mark m.Equals shape) (Some ps) None ≡ None
-    by (A_mark m.Equals) h = absurd h
+    by (lexemes.Mark m.Equals) h = absurd h
     by shape h = refl
 
 module _ (Inner : List Piece → Pattern → List Piece → Type 0) (Note : List Piece → Constant → List Piece → Type 0) (takes : TakesOne Inner) (notes : TakesOne Note) where
@@ -31,7 +33,7 @@ module _ (Inner : List Piece → Pattern → List Piece → Type 0) (Note : List
 
   alias_takes : TakesOne (PatternOrAlias (PatternForm Inner Note) Inner)
   alias_takes ps q rest (no_alias h alone) = pattern_form_takes ps q rest h
-  alias_takes ps q rest (is_alias {more = more} {at = at} {v = v} {q = u} h g) = omega (arith, pattern_form_takes ps (VariableIn v) (mark at m.Equals ∷ more) h, takes more u rest g)
+  alias_takes ps q rest (is_alias {more = more} {at = at} {v = v} {q = u} h g) = omega (arith, pattern_form_takes ps (patterns.Variable v) (mark at m.Equals ∷ more) h, takes more u rest g)
 
 module _ (Inner : List Piece → Pattern → List Piece → Type 0) (Note : List Piece → Constant → List Piece → Type 0) where
   pattern_form_begins : BeginsElse (PatternForm Inner Note)
@@ -47,7 +49,7 @@ module _ (Inner : List Piece → Pattern → List Piece → Type 0) (Note : List
 
   alias_begins : BeginsElse (PatternOrAlias (PatternForm Inner Note) Inner)
   alias_begins close is ps q rest (no_alias h alone) = pattern_form_begins close is ps q rest h
-  alias_begins close is ps q rest (is_alias {more = more} {at = at} {v = v} h g) = pattern_form_begins close is ps (VariableIn v) (mark at m.Equals ∷ more) h
+  alias_begins close is ps q rest (is_alias {more = more} {at = at} {v = v} h g) = pattern_form_begins close is ps (patterns.Variable v) (mark at m.Equals ∷ more) h
 
 pub pattern_takes : (n : ℕ) → TakesOne (PatternIn n)
 pattern_takes zero ps q rest h = absurd h
@@ -78,25 +80,25 @@ module _ (n : ℕ) (each : Complete (pattern_at n) (PatternIn n)) where
   -- a pattern that stands alone stays as it is
   pub alone_again : (stop : ℕ) (q : Pattern) (rest : List Piece) → StandsAlone q rest → alias_at (pattern_at n) (constant_at n) q (start stop rest) ≡ Ok (q, start stop rest)
   unfolding alias_at
-  alone_again stop (VariableIn v) rest h = rw (no_equals_again rest h) refl
-  alone_again stop (NumberIn i) rest h = refl
-  alone_again stop (CharacterIn i) rest h = refl
-  alone_again stop (TextIn i) rest h = refl
-  alone_again stop (NameIn i) rest h = refl
-  alone_again stop (GroupIn i) rest h = refl
-  alone_again stop (ListIn i) rest h = refl
-  alone_again stop (JoinIn i j) rest h = refl
-  alone_again stop (AliasIn i j) rest h = refl
+  alone_again stop (patterns.Variable v) rest h = rw (no_equals_again rest h) refl
+  alone_again stop (patterns.Integer i) rest h = refl
+  alone_again stop (patterns.Character i) rest h = refl
+  alone_again stop (patterns.Text i) rest h = refl
+  alone_again stop (patterns.Atom i) rest h = refl
+  alone_again stop (patterns.Tuple i) rest h = refl
+  alone_again stop (patterns.List i) rest h = refl
+  alone_again stop (patterns.Onto i j) rest h = refl
+  alone_again stop (patterns.Alias i j) rest h = refl
 
   -- a variable with `=` behind it names the pattern behind that
-  pub alias_again : (stop at : ℕ) (v : Mention) (more : List Piece) (q : Pattern) (rest : List Piece) → PatternIn n more q rest → alias_at (pattern_at n) (constant_at n) (VariableIn v) (start stop (mark at m.Equals ∷ more)) ≡ Ok (AliasIn v q, start stop rest)
+  pub alias_again : (stop at : ℕ) (v : Mention) (more : List Piece) (q : Pattern) (rest : List Piece) → PatternIn n more q rest → alias_at (pattern_at n) (constant_at n) (patterns.Variable v) (start stop (mark at m.Equals ∷ more)) ≡ Ok (patterns.Alias v q, start stop rest)
   unfolding alias_at
   alias_again stop at v more q rest h = rw (each stop more q rest h) refl
 
   alias_complete : (stop : ℕ) (ps : List Piece) (q : Pattern) (rest : List Piece) → PatternOrAlias (PatternForm (PatternIn n) (ConstantIn n)) (PatternIn n) ps q rest → pattern_at (suc n) (start stop ps) ≡ Ok (q, start stop rest)
   unfolding pattern_at
   alias_complete stop ps q rest (no_alias h alone) = rw (pattern_form_complete stop ps q rest h) (alone_again stop q rest alone)
-  alias_complete stop ps q rest (is_alias {more = more} {at = at} {v = v} {q = u} h g) = rw (pattern_form_complete stop ps (VariableIn v) (mark at m.Equals ∷ more) h) (alias_again stop at v more u rest g)
+  alias_complete stop ps q rest (is_alias {more = more} {at = at} {v = v} {q = u} h g) = rw (pattern_form_complete stop ps (patterns.Variable v) (mark at m.Equals ∷ more) h) (alias_again stop at v more u rest g)
 
 pub pattern_complete : (n : ℕ) → Complete (pattern_at n) (PatternIn n)
 unfolding pattern_at

@@ -3,12 +3,14 @@ use Rattle.std.proofs.Common.{◌≡◌, ℕ, zero, suc, List, [], ◌∷◌, Op
 use Rattle.core_tokens.specs.declared.fault.ReadFault.TheVariants.{TooDeep}
 use Rattle.core_tokens.specs.declared.token.Mark.TheVariants as m
 use Rattle.core_tokens.specs.declared.token.Keyword.TheVariants as k
-use Rattle.core_tokens.specs.Piece.{Piece, Shape, A_word, A_mark, An_atom, A_variable, An_integer, A_character, A_text}
-use Rattle.core_tree.specs.Syntax.{Pattern, Tree, Number, Character, Text, Mentioned, ClauseTree}
+use Rattle.core_tokens.specs.Piece.{Piece, Shape}
+use Rattle.core_tokens.specs.Piece as lexemes
+use Rattle.core_tree.specs.Syntax.{Pattern, Tree, ClauseTree}
+use Rattle.core_tree.specs.Expression as trees
 use Rattle.core_grammar.specs.Grammar.{mark, InNote, in_note, Either, ConstantIn, PatternForm, matches_noted, PatternIn, one_pattern, many_patterns, PatternsIn, BareClause, Expression, AnnotatedClause}
 use Rattle.core_grammar.specs.Depth.{goes_inside, goes_behind, PastMark, passes_mark, BehindVariable, PastWord, passes_word, Part, InCommas, InRow, InAnnotation, in_tuple, in_list, in_annotation, DeepConstant, DeepPattern, DeepAngles, InForm, in_group, in_values, in_let, in_case, in_do, in_apply, in_call, in_primop, in_try, in_catch, InClause, DeepExpression, DeepAnnotatedClause}
-use Rattle.core_grammar.specs.Reading.{State, Read, with_pieces, after_mark, after_word, too_deep, word_at, closed_at, rows_at, in_note_at, constant_at, alias_at, pattern_at}
-use Rattle.core_grammar.specs.ReadingForms.{deep_expression, Start, OnePattern, ManyPatterns, WholeClause, clause_of, start_by, started, inside_start_at, aliased, noted_start_at, bare_start_by, bare_start_at, start_last, start_next, clause_at, case_at, form_by, form_of, form_at, expression_at, start_at}
+use Rattle.core_grammar.specs.inside.Decoder.{State, Read, with_pieces, after_mark, after_word, too_deep, word_at, closed_at, rows_at, in_note_at, constant_at, alias_at, pattern_at}
+use Rattle.core_grammar.specs.inside.DecoderForms.{deep_expression, Start, OnePattern, ManyPatterns, WholeClause, clause_of, start_by, started, inside_start_at, aliased, noted_start_at, bare_start_by, bare_start_at, start_last, start_next, clause_at, case_at, form_by, form_of, form_at, expression_at, start_at}
 use Rattle.core_grammar.proofs.Steps.{after_mark_found, Sound}
 use Rattle.core_grammar.proofs.SoundNames.{in_note_sound, constant_sound}
 use Rattle.core_grammar.proofs.SoundPatterns.{pattern_sound}
@@ -139,25 +141,25 @@ module _ (at : ℕ) where
         Finds bt shape ps s = (s.refused ≡ None) × InForm at n Inner Deep AnyClause DeepAny (record { at = bt; shape = shape } ∷ ps)
 
         form_by_falls : (bt : ℕ) (shape : Shape) (ps : List Piece) (s : State) → form_by own n inner start bt shape ps s ≡ Err (TooDeep at) → Finds bt shape ps s
-        form_by_falls bt (An_integer i) ps s e = absurd (ok_never at (Number i, with_pieces s ps) e)
-        form_by_falls bt (A_character c) ps s e = absurd (ok_never at (Character c, with_pieces s ps) e)
-        form_by_falls bt (A_text cs) ps s e = absurd (ok_never at (Text cs, with_pieces s ps) e)
-        form_by_falls bt (An_atom t) ps s e = absurd (name_never at (after_mark m.Slash ps) t ps s e)
-        form_by_falls bt (A_variable v) ps s e = absurd (ok_never at (Mentioned (record { at = bt; name = v }), with_pieces s ps) e)
-        form_by_falls bt (A_mark m.LeftBrace) ps s e = let d = tuple_falls at own n inner Inner Deep each falls (with_pieces s ps) e in (d.0, in_group (in_tuple (passes_mark d.1)))
-        form_by_falls bt (A_mark m.LeftBracket) ps s e = let d = list_falls at own n inner Inner Deep each falls (with_pieces s ps) e in (d.0, in_group (in_list (passes_mark d.1)))
-        form_by_falls bt (A_mark m.Less) ps s e = let d = values_falls at own n inner Inner Deep each falls (with_pieces s ps) e in (d.0, in_values (passes_mark d.1))
-        form_by_falls bt (A_mark m.LeftParenthesis) ps s e =
+        form_by_falls bt (lexemes.Integer i) ps s e = absurd (ok_never at (trees.Integer i, with_pieces s ps) e)
+        form_by_falls bt (lexemes.Character c) ps s e = absurd (ok_never at (trees.Character c, with_pieces s ps) e)
+        form_by_falls bt (lexemes.Text cs) ps s e = absurd (ok_never at (trees.Text cs, with_pieces s ps) e)
+        form_by_falls bt (lexemes.Atom t) ps s e = absurd (name_never at (after_mark m.Slash ps) t ps s e)
+        form_by_falls bt (lexemes.Variable v) ps s e = absurd (ok_never at (trees.Variable (record { at = bt; name = v }), with_pieces s ps) e)
+        form_by_falls bt (lexemes.Mark m.LeftBrace) ps s e = let d = tuple_falls at own n inner Inner Deep each falls (with_pieces s ps) e in (d.0, in_group (in_tuple (passes_mark d.1)))
+        form_by_falls bt (lexemes.Mark m.LeftBracket) ps s e = let d = list_falls at own n inner Inner Deep each falls (with_pieces s ps) e in (d.0, in_group (in_list (passes_mark d.1)))
+        form_by_falls bt (lexemes.Mark m.Less) ps s e = let d = values_falls at own n inner Inner Deep each falls (with_pieces s ps) e in (d.0, in_values (passes_mark d.1))
+        form_by_falls bt (lexemes.Mark m.LeftParenthesis) ps s e =
             let d = in_note_falls at (constant_at n) (ConstantIn n) (DeepConstant at n) (constant_sound n) (constant_falls at n) inner Inner Deep each falls (with_pieces s ps) e in
             (d.0, in_group (in_annotation (passes_mark d.1)))
-        form_by_falls bt (A_word k.Let) ps s e = let d = let_falls at own n inner Inner Deep each falls (with_pieces s ps) e in (d.0, in_let (passes_word d.1))
-        form_by_falls bt (A_word k.Case) ps s e = let d = case_falls bt (with_pieces s ps) e in (d.0, in_case (passes_word d.1))
-        form_by_falls bt (A_word k.Do) ps s e = let d = do_falls at own n inner Inner Deep each falls (with_pieces s ps) e in (d.0, in_do (passes_word d.1))
-        form_by_falls bt (A_word k.Apply) ps s e = let d = apply_falls at own n inner Inner Deep each falls bt (with_pieces s ps) e in (d.0, in_apply (passes_word d.1))
-        form_by_falls bt (A_word k.Call) ps s e = let d = call_falls at own n inner Inner Deep each falls bt (with_pieces s ps) e in (d.0, in_call (passes_word d.1))
-        form_by_falls bt (A_word k.Primop) ps s e = let d = primop_falls at own n inner Inner Deep each falls bt (with_pieces s ps) e in (d.0, in_primop (passes_word d.1))
-        form_by_falls bt (A_word k.Try) ps s e = let d = try_falls at own n inner Inner Deep each falls bt (with_pieces s ps) e in (d.0, in_try (passes_word d.1))
-        form_by_falls bt (A_word k.Catch) ps s e = let d = catch_falls at own n inner Inner Deep each falls bt (with_pieces s ps) e in (d.0, in_catch (passes_word d.1))
+        form_by_falls bt (lexemes.Word k.Let) ps s e = let d = let_falls at own n inner Inner Deep each falls (with_pieces s ps) e in (d.0, in_let (passes_word d.1))
+        form_by_falls bt (lexemes.Word k.Case) ps s e = let d = case_falls bt (with_pieces s ps) e in (d.0, in_case (passes_word d.1))
+        form_by_falls bt (lexemes.Word k.Do) ps s e = let d = do_falls at own n inner Inner Deep each falls (with_pieces s ps) e in (d.0, in_do (passes_word d.1))
+        form_by_falls bt (lexemes.Word k.Apply) ps s e = let d = apply_falls at own n inner Inner Deep each falls bt (with_pieces s ps) e in (d.0, in_apply (passes_word d.1))
+        form_by_falls bt (lexemes.Word k.Call) ps s e = let d = call_falls at own n inner Inner Deep each falls bt (with_pieces s ps) e in (d.0, in_call (passes_word d.1))
+        form_by_falls bt (lexemes.Word k.Primop) ps s e = let d = primop_falls at own n inner Inner Deep each falls bt (with_pieces s ps) e in (d.0, in_primop (passes_word d.1))
+        form_by_falls bt (lexemes.Word k.Try) ps s e = let d = try_falls at own n inner Inner Deep each falls bt (with_pieces s ps) e in (d.0, in_try (passes_word d.1))
+        form_by_falls bt (lexemes.Word k.Catch) ps s e = let d = catch_falls at own n inner Inner Deep each falls bt (with_pieces s ps) e in (d.0, in_catch (passes_word d.1))
         form_by_falls bt shape ps s e = absurd (fault_never at s e)
 
         form_of_falls : (ps : List Piece) (s : State) → form_of own n inner start ps s ≡ Err (TooDeep at) → (s.refused ≡ None) × InForm at n Inner Deep AnyClause DeepAny ps

@@ -5,15 +5,17 @@ use Rattle.core_tokens.specs.declared.fault.ReadFault.{ReadFault}
 use Rattle.core_tokens.specs.declared.fault.ReadFault.TheVariants.{Expected, HigherOrder, UnsupportedCall, TooDeep, UnsupportedForm}
 use Rattle.core_tokens.specs.declared.token.Mark.TheVariants as m
 use Rattle.core_tokens.specs.declared.token.Keyword.TheVariants as k
-use Rattle.core_tokens.specs.Piece.{Piece, Shape, A_mark}
-use Rattle.core_tree.specs.Syntax.{Callee, Pattern, Tree, Name, Called, Listed, NoMore, trees_of}
+use Rattle.core_tokens.specs.Piece.{Piece, Shape}
+use Rattle.core_tokens.specs.Piece as lexemes
+use Rattle.core_tree.specs.Syntax.{Callee, Pattern, Tree, trees_of}
+use Rattle.core_tree.specs.Expression as trees
 use Rattle.core_grammar.specs.Grammar.{atom, BareName, FunctionName, BareAtom, is_the_atom, AtomIn, Variables, CaughtVariables, IsNoSlash}
 use Rattle.core_grammar.specs.Beginnings.{Beginning, OfAtom, OfOtherForm, beginning}
 use Rattle.core_grammar.specs.Depth.{BeginsExpressionBy, BeginsExpression, Front, Nowhere, PartOf, PastMark, PastWord, Part, Past, InItems, InCommas, InList, DeepName, DeepAtom, DeepVariables, DeepCaught}
 use Rattle.core_grammar.specs.declared.unserved.Unserved.{Unserved}
 use Rattle.core_scopes.specs.Outcomes.{◌>>=◌}
-use Rattle.core_grammar.specs.Reading.{State, Read, with_pieces, is_mark, is_word, after_mark, is_foreign, refusal, mark_at, atom_in, named_by, atom_at, closed_at, brackets_at, exactly_at, variables_at, caught_at}
-use Rattle.core_grammar.specs.ReadingForms.{is_function_by, is_function, begins_expression_by, begins_expression, deep_expression_of, expression_fault_of, deep_expression, expression_fault, callee_fault_of, callee_fault, bare_callee_at, callee_at, applied_fault_of, applied_fault, applied_atom_at, behind_applied_by, bare_applied_at, applied_at, refuse, judged, name_by, tuple_at, list_at, values_at, let_at, do_at, apply_at, call_at, primop_at, try_at, catch_at, behind_patterns_at}
+use Rattle.core_grammar.specs.inside.Decoder.{State, Read, with_pieces, is_mark, is_word, after_mark, is_foreign, refusal, mark_at, atom_in, named_by, atom_at, closed_at, brackets_at, exactly_at, variables_at, caught_at}
+use Rattle.core_grammar.specs.inside.DecoderForms.{is_function_by, is_function, begins_expression_by, begins_expression, deep_expression_of, expression_fault_of, deep_expression, expression_fault, callee_fault_of, callee_fault, bare_callee_at, callee_at, applied_fault_of, applied_fault, applied_atom_at, behind_applied_by, bare_applied_at, applied_at, refuse, judged, name_by, tuple_at, list_at, values_at, let_at, do_at, apply_at, call_at, primop_at, try_at, catch_at, behind_patterns_at}
 use Rattle.core_grammar.proofs.Steps.{atom_steps, Sound}
 use Rattle.core_grammar.proofs.SoundNames.{at_front, variables_sound, caught_sound}
 use Rattle.core_grammar.proofs.SoundForms.{bare_callee_sound, callee_sound, bare_applied_sound, applied_sound}
@@ -52,7 +54,7 @@ unfolding expression_fault
 expression_fault_other s = refusal_other s.refused (expression_fault_of s.stop s.pieces) (expression_fault_of_other s.stop s.pieces)
 
 no_slash_of : (shape : Shape) → is_mark m.Slash shape ≡ false → IsNoSlash shape
-no_slash_of (A_mark m.Slash) e = absurd cc
+no_slash_of (lexemes.Mark m.Slash) e = absurd cc
 no_slash_of shape e = tt
 
 expression_begins : (b : Beginning) (ps : List Piece) → is_function_by b ps ≡ false → begins_expression_by b ≡ true → BeginsExpressionBy b ps
@@ -113,12 +115,12 @@ module _ (at : ℕ) where
   -- ---- expressions
 
   judged_never : (bt : ℕ) (u : Unserved) (o : Option Callee) (ts : List Tree) (s : State) → Never at (judged bt u o ts s)
-  judged_never bt u (Some callee) ts s = ok_never at (Called bt callee (trees_of ts), s)
-  judged_never bt u None ts s = ok_never at (Listed NoMore, refuse u s)
+  judged_never bt u (Some callee) ts s = ok_never at (trees.Call bt callee (trees_of ts), s)
+  judged_never bt u None ts s = ok_never at (trees.List trees.NoMore, refuse u s)
 
   pub name_never : (o : Option (List Piece)) (t : List ℕ) (ps : List Piece) (s : State) → Never at (name_by o t ps s)
   name_never (Some qs) t ps s = fault_never s
-  name_never None t ps s = ok_never at (Name t, with_pieces s ps)
+  name_never None t ps s = ok_never at (trees.Atom t, with_pieces s ps)
 
   module _ (own : List ℕ) (n : ℕ) (inner : State → Read Tree) (Inner : List Piece → Tree → List Piece → Type 0) (Deep : List Piece → Type 0) (each : Sound None inner Inner) (falls : Falls at inner Deep) where
     -- the last part of a form

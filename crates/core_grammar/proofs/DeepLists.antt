@@ -12,7 +12,7 @@ use Rattle.core_grammar.specs.declared.unserved.Unserved.TheVariants as unserved
 use Rattle.core_grammar.specs.Grammar.{mark, word, Commas, ends_here, goes_on}
 use Rattle.core_grammar.specs.Depth.{PartOf, goes_inside, goes_behind, PastMark, passes_mark, PastWord, passes_word, Part, InItems, InCommas, InList, InRow, goes_in_row, Exactly}
 use Rattle.core_scopes.specs.Outcomes.{◌>>=◌}
-use Rattle.core_grammar.specs.Reading.{State, Read, with_pieces, after_mark, after_word, fault_of_unserved, refusal, is_foreign, fault_of, fault, passed, mark_at, word_at, taken_by, taken, atom_in, atom_at, named_by, placed_atom_at, arity_in, arity_at, mention_by, bare_variable_at, behind_atom_at, bare_name_at, more_at, commas_at, items_at, closed_by, closed_at, tail_at, brackets_by, brackets_at, exactly_at, row_by, row_at, rows_at}
+use Rattle.core_grammar.specs.inside.Decoder.{State, Read, with_pieces, after_mark, after_word, fault_of_unserved, refusal, is_foreign, fault_of, fault, passed, mark_at, word_at, taken_by, taken, atom_in, atom_at, named_by, placed_atom_at, arity_in, arity_at, mention_by, bare_variable_at, behind_atom_at, bare_name_at, more_at, commas_at, items_at, closed_by, closed_at, tail_at, brackets_by, brackets_at, exactly_at, row_by, row_at, rows_at}
 use Rattle.core_grammar.proofs.Steps.{after_mark_found, mark_steps, word_steps, Sound}
 use Rattle.core_grammar.proofs.SoundLists.{items_sound, exactly_sound}
 

@@ -8,9 +8,9 @@ use Rattle.core_tree.specs.Syntax.{NamedAt}
 use Rattle.core_grammar.specs.declared.unserved.Unserved.{Unserved}
 use Rattle.core_grammar.specs.Grammar.{mark, level_limit, Enclosed, ConstantIn, FunctionName, BareAtom, Variable, Attribute, BareDefinition, Definition, BareModule}
 use Rattle.core_grammar.specs.Depth.{Nowhere, PartOf, goes_inside, goes_behind, PastMark, passes_mark, Part, InItems, InCommas, InRow, Exactly, DeepConstant, DeepAnnotated, DeepName, DeepVariable, DeepExpression, FunOf, DeepBareFun, DeepFun, DeepBareDefinition, DeepDefinition, DeepAttribute, BehindExports, DeepBareModule, OpensPastLast}
-use Rattle.core_grammar.specs.Reading.{State, with_pieces, after_mark, fault_of_unserved, fault, too_deep, mark_at, word_at, atom_at, bare_name_at, closed_at, rows_at, constant_at, noted_at, function_name_at, variable_at}
-use Rattle.core_grammar.specs.ReadingForms.{expression_at}
-use Rattle.core_grammar.specs.ReadingModules.{attribute_at, bare_fun_at, fun_at, behind_name_at, Opening, TheName, WholeDefinition, opening_by, opened, inside_opening_at, bare_opening_at, opening_last, opening_next, opening_at, definition_of_opening, definition_at, front_at, bare_module_at, ended, module_at}
+use Rattle.core_grammar.specs.inside.Decoder.{State, with_pieces, after_mark, fault_of_unserved, fault, too_deep, mark_at, word_at, atom_at, bare_name_at, closed_at, rows_at, constant_at, noted_at, function_name_at, variable_at}
+use Rattle.core_grammar.specs.inside.DecoderForms.{expression_at}
+use Rattle.core_grammar.specs.inside.DecoderModules.{attribute_at, bare_fun_at, fun_at, behind_name_at, Opening, TheName, WholeDefinition, opening_by, opened, inside_opening_at, bare_opening_at, opening_last, opening_next, opening_at, definition_of_opening, definition_at, front_at, bare_module_at, ended, module_at}
 use Rattle.core_grammar.proofs.Steps.{after_mark_found}
 use Rattle.core_grammar.proofs.SoundLists.{closed_sound}
 use Rattle.core_grammar.proofs.SoundNames.{constant_sound, function_name_sound, variable_sound}

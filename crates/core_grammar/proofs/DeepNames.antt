@@ -3,12 +3,15 @@ use Rattle.std.proofs.Common.{◌≡◌, ℕ, zero, suc, Bool, true, false, cond
 use Rattle.core_tokens.specs.declared.fault.ReadFault.{ReadFault}
 use Rattle.core_tokens.specs.declared.fault.ReadFault.TheVariants.{Expected, TooDeep, UnsupportedForm}
 use Rattle.core_tokens.specs.declared.token.Mark.TheVariants as m
-use Rattle.core_tokens.specs.Piece.{Piece, Shape, A_mark, An_atom, A_variable, An_integer, A_character, A_text}
-use Rattle.core_tree.specs.Syntax.{Mention, Constant, NumberOf, CharacterOf, TextOf, NameOf, Pattern, NumberIn, CharacterIn, TextIn, NameIn, VariableIn}
+use Rattle.core_tokens.specs.Piece.{Piece, Shape}
+use Rattle.core_tokens.specs.Piece as lexemes
+use Rattle.core_tree.specs.Syntax.{Mention, Constant, Pattern}
+use Rattle.core_tree.specs.Constant as constants
+use Rattle.core_tree.specs.Pattern as patterns
 use Rattle.core_grammar.specs.Grammar.{mark, Noted, ConstantIn, BareName, BareVariable, Variable, BareVariables, BareCaught, PatternForm, PatternIn}
 use Rattle.core_grammar.specs.Beginnings.{Beginning, OfValue, OfAtom, OfAnnotation, OfVariable, beginning}
 use Rattle.core_grammar.specs.Depth.{BeginsConstantBy, BeginsConstant, BeginsPatternBy, BeginsPattern, BeginsAnnotation, Front, Nowhere, PastMark, passes_mark, Part, InItems, InCommas, InList, InGroup, in_tuple, in_list, in_annotation, BehindVariable, DeepConstant, DeepNoted, DeepName, DeepVariable, DeepVariables, DeepCaught, DeepPattern}
-use Rattle.core_grammar.specs.Reading.{State, Read, with_pieces, after_mark, is_foreign, fault, place_of, too_deep, begins_constant_by, begins_constant, deep_constant_of, deep_constant, note_at, in_note_at, constant_tuple_at, constant_list_at, constant_by, constant_form_by, constant_form_at, constant_at, noted_last, noted_by, noted_at, mark_at, bare_name_at, function_name_at, bare_variable_at, variable_at, closed_at, brackets_at, bare_variables_by, bare_variables_at, variables_at, third_by, bare_caught_at, caught_at, begins_pattern_by, begins_pattern, deep_pattern_of, deep_pattern, pattern_tuple_at, pattern_list_at, pattern_by, pattern_form_by, pattern_form_at, alias_by, alias_at, pattern_at}
+use Rattle.core_grammar.specs.inside.Decoder.{State, Read, with_pieces, after_mark, is_foreign, fault, place_of, too_deep, begins_constant_by, begins_constant, deep_constant_of, deep_constant, note_at, in_note_at, constant_tuple_at, constant_list_at, constant_by, constant_form_by, constant_form_at, constant_at, noted_last, noted_by, noted_at, mark_at, bare_name_at, function_name_at, bare_variable_at, variable_at, closed_at, brackets_at, bare_variables_by, bare_variables_at, variables_at, third_by, bare_caught_at, caught_at, begins_pattern_by, begins_pattern, deep_pattern_of, deep_pattern, pattern_tuple_at, pattern_list_at, pattern_by, pattern_form_by, pattern_form_at, alias_by, alias_at, pattern_at}
 use Rattle.core_grammar.proofs.Steps.{after_mark_found, Sound, bare_variable_sound, bare_name_sound}
 use Rattle.core_grammar.proofs.SoundNames.{constant_sound, noted_sound, variable_sound, bare_variables_sound, bare_caught_sound}
 use Rattle.core_grammar.proofs.SoundPatterns.{pattern_form_sound, pattern_sound}
@@ -99,13 +102,13 @@ module _ (at : ℕ) where
     constant_list_falls s = first_falls at (brackets_at inner s) _ s (InList Inner Deep) (brackets_falls at inner Inner Deep each falls s) (λ b. ok_never at _)
 
     constant_by_falls : (bt : ℕ) (shape : Shape) (ps : List Piece) (s : State) → constant_by inner shape ps s ≡ Err (TooDeep at) → (s.refused ≡ None) × InGroup Inner Deep Inner Deep (record { at = bt; shape = shape } ∷ ps)
-    constant_by_falls bt (An_integer n) ps s e = absurd (ok_never at (NumberOf n, with_pieces s ps) e)
-    constant_by_falls bt (A_character n) ps s e = absurd (ok_never at (CharacterOf n, with_pieces s ps) e)
-    constant_by_falls bt (A_text n) ps s e = absurd (ok_never at (TextOf n, with_pieces s ps) e)
-    constant_by_falls bt (An_atom n) ps s e = absurd (ok_never at (NameOf n, with_pieces s ps) e)
-    constant_by_falls bt (A_mark m.LeftBrace) ps s e = let d = constant_tuple_falls (with_pieces s ps) e in (d.0, in_tuple (passes_mark d.1))
-    constant_by_falls bt (A_mark m.LeftBracket) ps s e = let d = constant_list_falls (with_pieces s ps) e in (d.0, in_list (passes_mark d.1))
-    constant_by_falls bt (A_mark m.LeftParenthesis) ps s e = let d = in_note_falls inner Inner Deep each falls inner Inner Deep each falls (with_pieces s ps) e in (d.0, in_annotation (passes_mark d.1))
+    constant_by_falls bt (lexemes.Integer n) ps s e = absurd (ok_never at (constants.Integer n, with_pieces s ps) e)
+    constant_by_falls bt (lexemes.Character n) ps s e = absurd (ok_never at (constants.Character n, with_pieces s ps) e)
+    constant_by_falls bt (lexemes.Text n) ps s e = absurd (ok_never at (constants.Text n, with_pieces s ps) e)
+    constant_by_falls bt (lexemes.Atom n) ps s e = absurd (ok_never at (constants.Atom n, with_pieces s ps) e)
+    constant_by_falls bt (lexemes.Mark m.LeftBrace) ps s e = let d = constant_tuple_falls (with_pieces s ps) e in (d.0, in_tuple (passes_mark d.1))
+    constant_by_falls bt (lexemes.Mark m.LeftBracket) ps s e = let d = constant_list_falls (with_pieces s ps) e in (d.0, in_list (passes_mark d.1))
+    constant_by_falls bt (lexemes.Mark m.LeftParenthesis) ps s e = let d = in_note_falls inner Inner Deep each falls inner Inner Deep each falls (with_pieces s ps) e in (d.0, in_annotation (passes_mark d.1))
     constant_by_falls bt shape ps s e = absurd (never_other at (fault s) (fault_other s) e)
 
     constant_form_by_falls : (ps : List Piece) (s : State) → constant_form_by inner ps s ≡ Err (TooDeep at) → (s.refused ≡ None) × InGroup Inner Deep Inner Deep ps
@@ -201,14 +204,14 @@ module _ (at : ℕ) where
     pattern_list_falls s = first_falls at (brackets_at inner s) _ s (InList Inner Deep) (brackets_falls at inner Inner Deep each falls s) (λ b. ok_never at _)
 
     pattern_by_falls : (bt : ℕ) (shape : Shape) (ps : List Piece) (s : State) → pattern_by inner note bt shape ps s ≡ Err (TooDeep at) → (s.refused ≡ None) × InGroup Inner Deep Note DeepNote (record { at = bt; shape = shape } ∷ ps)
-    pattern_by_falls bt (An_integer n) ps s e = absurd (ok_never at (NumberIn n, with_pieces s ps) e)
-    pattern_by_falls bt (A_character n) ps s e = absurd (ok_never at (CharacterIn n, with_pieces s ps) e)
-    pattern_by_falls bt (A_text n) ps s e = absurd (ok_never at (TextIn n, with_pieces s ps) e)
-    pattern_by_falls bt (An_atom n) ps s e = absurd (ok_never at (NameIn n, with_pieces s ps) e)
-    pattern_by_falls bt (A_variable v) ps s e = absurd (ok_never at (VariableIn (record { at = bt; name = v }), with_pieces s ps) e)
-    pattern_by_falls bt (A_mark m.LeftBrace) ps s e = let d = pattern_tuple_falls (with_pieces s ps) e in (d.0, in_tuple (passes_mark d.1))
-    pattern_by_falls bt (A_mark m.LeftBracket) ps s e = let d = pattern_list_falls (with_pieces s ps) e in (d.0, in_list (passes_mark d.1))
-    pattern_by_falls bt (A_mark m.LeftParenthesis) ps s e = let d = in_note_falls note Note DeepNote noted note_falls' inner Inner Deep each falls (with_pieces s ps) e in (d.0, in_annotation (passes_mark d.1))
+    pattern_by_falls bt (lexemes.Integer n) ps s e = absurd (ok_never at (patterns.Integer n, with_pieces s ps) e)
+    pattern_by_falls bt (lexemes.Character n) ps s e = absurd (ok_never at (patterns.Character n, with_pieces s ps) e)
+    pattern_by_falls bt (lexemes.Text n) ps s e = absurd (ok_never at (patterns.Text n, with_pieces s ps) e)
+    pattern_by_falls bt (lexemes.Atom n) ps s e = absurd (ok_never at (patterns.Atom n, with_pieces s ps) e)
+    pattern_by_falls bt (lexemes.Variable v) ps s e = absurd (ok_never at (patterns.Variable (record { at = bt; name = v }), with_pieces s ps) e)
+    pattern_by_falls bt (lexemes.Mark m.LeftBrace) ps s e = let d = pattern_tuple_falls (with_pieces s ps) e in (d.0, in_tuple (passes_mark d.1))
+    pattern_by_falls bt (lexemes.Mark m.LeftBracket) ps s e = let d = pattern_list_falls (with_pieces s ps) e in (d.0, in_list (passes_mark d.1))
+    pattern_by_falls bt (lexemes.Mark m.LeftParenthesis) ps s e = let d = in_note_falls note Note DeepNote noted note_falls' inner Inner Deep each falls (with_pieces s ps) e in (d.0, in_annotation (passes_mark d.1))
     pattern_by_falls bt shape ps s e = absurd (never_other at (fault s) (fault_other s) e)
 
     pattern_form_by_falls : (ps : List Piece) (s : State) → pattern_form_by inner note ps s ≡ Err (TooDeep at) → (s.refused ≡ None) × InGroup Inner Deep Note DeepNote ps
@@ -220,10 +223,10 @@ module _ (at : ℕ) where
     pattern_form_falls s e = pattern_form_by_falls s.pieces s e
 
     alias_by_falls : (p : Pattern) (o : Option (List Piece)) (s : State) → after_mark m.Equals s.pieces ≡ o → Fall at (alias_by inner note p o s) s (BehindVariable (PastMark m.Equals Deep) p)
-    alias_by_falls (VariableIn v) (Some ps) s is e =
+    alias_by_falls (patterns.Variable v) (Some ps) s is e =
         let d = first_falls at (inner (with_pieces s ps)) _ (with_pieces s ps) Deep (falls (with_pieces s ps)) (λ q. ok_never at _) e in
         (d.0, past_found m.Equals Deep s.pieces ps is d.1)
-    alias_by_falls (VariableIn v) None s is e = absurd (ok_never at (VariableIn v, s) e)
+    alias_by_falls (patterns.Variable v) None s is e = absurd (ok_never at (patterns.Variable v, s) e)
     alias_by_falls q o s is e = absurd (ok_never at (q, s) e)
 
     pub alias_falls : (p : Pattern) → Falls at (alias_at inner note p) (BehindVariable (PastMark m.Equals Deep) p)

@@ -6,8 +6,12 @@ use Rattle.core_tokens.specs.declared.fault.ReadFault.TheVariants.{Expected, Hig
 use Rattle.core_tokens.specs.declared.token.Mark.{Mark}
 use Rattle.core_tokens.specs.declared.token.Mark.TheVariants as m
 use Rattle.core_tokens.specs.declared.token.Keyword.TheVariants as k
-use Rattle.core_tokens.specs.Piece.{Piece, Shape, A_word, A_mark, An_atom, A_variable, An_integer, A_float, A_character, A_text}
-use Rattle.core_tree.specs.Syntax.{Mention, NamedAt, Callee, OfWorld, OfItself, OfExport, OfDefinition, FailsMatch, RaisesAgain, Pattern, Patterns, NumberIn, CharacterIn, TextIn, NameIn, VariableIn, GroupIn, ListIn, JoinIn, AliasIn, NoneToMatch, AlsoMatch, patterns_of, Tree, Trees, Clauses, Number, Character, Text, Name, Mentioned, Grouped, Listed, Joined, Several, Bound, Chosen, Followed, Called, Tried, Caught, NoMore, Also, NoClause, Clause, trees_of, ClauseTree, clauses_of, Constant}
+use Rattle.core_tokens.specs.Piece.{Piece, Shape}
+use Rattle.core_tokens.specs.Piece as lexemes
+use Rattle.core_tree.specs.Syntax.{Mention, NamedAt, Callee, Pattern, Patterns, patterns_of, Tree, Trees, Clauses, trees_of, ClauseTree, clauses_of, Constant}
+use Rattle.core_tree.specs.Callee as callees
+use Rattle.core_tree.specs.Pattern as patterns
+use Rattle.core_tree.specs.Expression as trees
 use Rattle.core_grammar.specs.declared.unserved.Unserved.{Unserved}
 use Rattle.core_grammar.specs.declared.unserved.Unserved.TheVariants as unserved
 use Rattle.core_grammar.specs.Grammar.{word, mark, atom, AtomIn, Calls, calls_world, calls_itself, calls_export, Operates, fails_match, raises_again}
@@ -19,8 +23,8 @@ use Rattle.core_grammar.specs.UnservedCalls.{within, IsOwn, IsNoNameBy, IsNoName
 use Rattle.core_grammar.specs.Places.{IsOne, OpensBy, Opens}
 use Rattle.core_grammar.specs.Beginnings.{Beginning, OfValue, OfAtom, OfAnnotation, OfVariable, OfOtherForm, OfFunction, beginning}
 use Rattle.core_scopes.specs.Outcomes.{◌>>=◌}
-use Rattle.core_grammar.specs.Reading.{State, Read, with_pieces, is_mark, is_word, after_mark, after_word, refusal, is_foreign, mark_at, word_at, taken_by, taken, atom_in, atom_at, named_by, bare_name_at, closed_at, brackets_at, exactly_at, rows_at, begins_constant_by, begins_constant, deep_constant_of, deep_constant, note_at, in_note_at, constant_tuple_at, constant_list_at, constant_by, constant_form_by, constant_form_at, constant_at, noted_last, noted_by, noted_at, function_name_at, bare_variable_at, variable_at, bare_variables_by, bare_variables_at, variables_at, third_by, bare_caught_at, caught_at, begins_pattern_by, begins_pattern, deep_pattern_of, deep_pattern, pattern_list, pattern_tuple_at, pattern_list_at, pattern_by, pattern_form_by, pattern_form_at, alias_by, alias_at, pattern_at}
-use Rattle.core_grammar.specs.ReadingForms.{is_function_by, is_function, begins_expression_by, begins_expression, deep_expression_of, expression_fault_of, deep_expression, expression_fault, callee_fault_of, callee_fault, bare_callee_at, callee_at, applied_fault_of, applied_fault, applied_atom_at, behind_applied_by, bare_applied_at, applied_at, callee_named, operation_named, earlier, judged, tree_list, name_by, Start, OnePattern, ManyPatterns, WholeClause, tuple_at, list_at, values_at, let_at, do_at, apply_at, call_at, primop_at, try_at, catch_at, behind_patterns_at, clause_of, start_by, started, inside_start_at, aliased, noted_start_at, bare_start_by, bare_start_at, start_last, start_next, clause_at, case_at, form_by, form_of, form_at, expression_at, start_at}
+use Rattle.core_grammar.specs.inside.Decoder.{State, Read, with_pieces, is_mark, is_word, after_mark, after_word, refusal, is_foreign, mark_at, word_at, taken_by, taken, atom_in, atom_at, named_by, bare_name_at, closed_at, brackets_at, exactly_at, rows_at, begins_constant_by, begins_constant, deep_constant_of, deep_constant, note_at, in_note_at, constant_tuple_at, constant_list_at, constant_by, constant_form_by, constant_form_at, constant_at, noted_last, noted_by, noted_at, function_name_at, bare_variable_at, variable_at, bare_variables_by, bare_variables_at, variables_at, third_by, bare_caught_at, caught_at, begins_pattern_by, begins_pattern, deep_pattern_of, deep_pattern, pattern_list, pattern_tuple_at, pattern_list_at, pattern_by, pattern_form_by, pattern_form_at, alias_by, alias_at, pattern_at}
+use Rattle.core_grammar.specs.inside.DecoderForms.{is_function_by, is_function, begins_expression_by, begins_expression, deep_expression_of, expression_fault_of, deep_expression, expression_fault, callee_fault_of, callee_fault, bare_callee_at, callee_at, applied_fault_of, applied_fault, applied_atom_at, behind_applied_by, bare_applied_at, applied_at, callee_named, operation_named, earlier, judged, tree_list, name_by, Start, OnePattern, ManyPatterns, WholeClause, tuple_at, list_at, values_at, let_at, do_at, apply_at, call_at, primop_at, try_at, catch_at, behind_patterns_at, clause_of, start_by, started, inside_start_at, aliased, noted_start_at, bare_start_by, bare_start_at, start_last, start_next, clause_at, case_at, form_by, form_of, form_at, expression_at, start_at}
 use Rattle.core_grammar.proofs.Steps.{is_mark_true, after_mark_found, mark_steps, atom_steps}
 use Rattle.core_grammar.proofs.CallsByName.{signed, callee_found, callee_again, operation_found, operation_again}
 use Rattle.core_grammar.proofs.SoundForms.{goes_to, callee_sound}
@@ -106,10 +110,10 @@ module _ (all : List Piece) (end : ℕ) where
 
   -- a token that begins a form that is not read, as `receive`
   unread_begins : (shape : Shape) (ps : List Piece) → (is_word k.Receive shape || is_foreign shape) ≡ true → BeginsUnread shape ps
-  unread_begins (A_word k.Receive) ps e = tt
-  unread_begins (A_mark m.Hash) ps e = tt
-  unread_begins (A_mark m.Tilde) ps e = tt
-  unread_begins A_float ps e = tt
+  unread_begins (lexemes.Word k.Receive) ps e = tt
+  unread_begins (lexemes.Mark m.Hash) ps e = tt
+  unread_begins (lexemes.Mark m.Tilde) ps e = tt
+  unread_begins lexemes.Float ps e = tt
   unread_begins shape ps e = absurd cc
 
   unread_by : (b : Bool) (p : Piece) (ps : List Piece) → Inside all end (p ∷ ps) → (is_word k.Receive p.shape || is_foreign p.shape) ≡ b → Fault' (cond b (UnsupportedForm p.at) (Expected p.at))
@@ -163,13 +167,13 @@ module _ (all : List Piece) (end : ℕ) where
     constant_list_fine s g = bind (brackets_at inner s) _ (λ x. Listing all end inner Any' each x.0 × Good' x.1) (λ x. Any' x.0 × Good' x.1) (brackets_fine all end inner Any' each s g) (λ x gx. (tt, gx.1))
 
   constant_by_fine : (inner : State → Read Constant) (each : Keeps' inner Any') (shape : Shape) (ps : List Piece) (s : State) → Good' s → Good' (with_pieces s ps) → Fine' (constant_by inner shape ps s) (λ x. Any' x.0 × Good' x.1)
-  constant_by_fine inner each (An_integer n) ps s g h = (tt, h)
-  constant_by_fine inner each (A_character n) ps s g h = (tt, h)
-  constant_by_fine inner each (A_text n) ps s g h = (tt, h)
-  constant_by_fine inner each (An_atom n) ps s g h = (tt, h)
-  constant_by_fine inner each (A_mark m.LeftBrace) ps s g h = constant_tuple_fine inner each (with_pieces s ps) h
-  constant_by_fine inner each (A_mark m.LeftBracket) ps s g h = constant_list_fine inner each (with_pieces s ps) h
-  constant_by_fine inner each (A_mark m.LeftParenthesis) ps s g h = in_note_fine inner each inner Any' each (with_pieces s ps) h
+  constant_by_fine inner each (lexemes.Integer n) ps s g h = (tt, h)
+  constant_by_fine inner each (lexemes.Character n) ps s g h = (tt, h)
+  constant_by_fine inner each (lexemes.Text n) ps s g h = (tt, h)
+  constant_by_fine inner each (lexemes.Atom n) ps s g h = (tt, h)
+  constant_by_fine inner each (lexemes.Mark m.LeftBrace) ps s g h = constant_tuple_fine inner each (with_pieces s ps) h
+  constant_by_fine inner each (lexemes.Mark m.LeftBracket) ps s g h = constant_list_fine inner each (with_pieces s ps) h
+  constant_by_fine inner each (lexemes.Mark m.LeftParenthesis) ps s g h = in_note_fine inner each inner Any' each (with_pieces s ps) h
   constant_by_fine inner each shape ps s g h = fault_fine all end s g
 
   constant_form_by_fine : (inner : State → Read Constant) (each : Keeps' inner Any') (ps : List Piece) (s : State) → Good' s → Inside all end ps → Fine' (constant_form_by inner ps s) (λ x. Any' x.0 × Good' x.1)
@@ -261,19 +265,19 @@ module _ (all : List Piece) (end : ℕ) where
 
   abbrev mutual
     pub PatternAt : Pattern → Type 0
-    PatternAt (NumberIn n) = Unit {0}
-    PatternAt (CharacterIn c) = Unit {0}
-    PatternAt (TextIn cs) = Unit {0}
-    PatternAt (NameIn t) = Unit {0}
-    PatternAt (VariableIn v) = Place' v.at
-    PatternAt (GroupIn qs) = PatternsAt qs
-    PatternAt (ListIn qs) = PatternsAt qs
-    PatternAt (JoinIn qs q) = PatternsAt qs × PatternAt q
-    PatternAt (AliasIn v q) = Place' v.at × PatternAt q
+    PatternAt (patterns.Integer n) = Unit {0}
+    PatternAt (patterns.Character c) = Unit {0}
+    PatternAt (patterns.Text cs) = Unit {0}
+    PatternAt (patterns.Atom t) = Unit {0}
+    PatternAt (patterns.Variable v) = Place' v.at
+    PatternAt (patterns.Tuple qs) = PatternsAt qs
+    PatternAt (patterns.List qs) = PatternsAt qs
+    PatternAt (patterns.Onto qs q) = PatternsAt qs × PatternAt q
+    PatternAt (patterns.Alias v q) = Place' v.at × PatternAt q
 
     pub PatternsAt : Patterns → Type 0
-    PatternsAt NoneToMatch = Unit {0}
-    PatternsAt (AlsoMatch q qs) = PatternAt q × PatternsAt qs
+    PatternsAt patterns.NoMore = Unit {0}
+    PatternsAt (patterns.Also q qs) = PatternAt q × PatternsAt qs
 
   patterns_at : (qs : List Pattern) → Each' PatternAt qs → PatternsAt (patterns_of qs)
   patterns_at [] h = tt
@@ -293,14 +297,14 @@ module _ (all : List Piece) (end : ℕ) where
     pattern_list_fine s g = bind (brackets_at inner s) _ (λ x. Listing all end inner PatternAt each x.0 × Good' x.1) (λ x. PatternAt x.0 × Good' x.1) (brackets_fine all end inner PatternAt each s g) (λ x gx. (pattern_listing x.0 gx.0, gx.1))
 
     pattern_by_fine : (at : ℕ) (shape : Shape) (ps : List Piece) (s : State) → Place' at → Good' s → Good' (with_pieces s ps) → Fine' (pattern_by inner (constant_at n) at shape ps s) (λ x. PatternAt x.0 × Good' x.1)
-    pattern_by_fine at (An_integer i) ps s p g h = (tt, h)
-    pattern_by_fine at (A_character i) ps s p g h = (tt, h)
-    pattern_by_fine at (A_text i) ps s p g h = (tt, h)
-    pattern_by_fine at (An_atom i) ps s p g h = (tt, h)
-    pattern_by_fine at (A_variable v) ps s p g h = (p, h)
-    pattern_by_fine at (A_mark m.LeftBrace) ps s p g h = pattern_tuple_fine (with_pieces s ps) h
-    pattern_by_fine at (A_mark m.LeftBracket) ps s p g h = pattern_list_fine (with_pieces s ps) h
-    pattern_by_fine at (A_mark m.LeftParenthesis) ps s p g h = in_note_fine (constant_at n) (constant_fine n) inner PatternAt each (with_pieces s ps) h
+    pattern_by_fine at (lexemes.Integer i) ps s p g h = (tt, h)
+    pattern_by_fine at (lexemes.Character i) ps s p g h = (tt, h)
+    pattern_by_fine at (lexemes.Text i) ps s p g h = (tt, h)
+    pattern_by_fine at (lexemes.Atom i) ps s p g h = (tt, h)
+    pattern_by_fine at (lexemes.Variable v) ps s p g h = (p, h)
+    pattern_by_fine at (lexemes.Mark m.LeftBrace) ps s p g h = pattern_tuple_fine (with_pieces s ps) h
+    pattern_by_fine at (lexemes.Mark m.LeftBracket) ps s p g h = pattern_list_fine (with_pieces s ps) h
+    pattern_by_fine at (lexemes.Mark m.LeftParenthesis) ps s p g h = in_note_fine (constant_at n) (constant_fine n) inner PatternAt each (with_pieces s ps) h
     pattern_by_fine at shape ps s p g h = fault_fine all end s g
 
     pattern_form_by_fine : (ps : List Piece) (s : State) → Good' s → Inside all end ps → Fine' (pattern_form_by inner (constant_at n) ps s) (λ x. PatternAt x.0 × Good' x.1)
@@ -312,17 +316,17 @@ module _ (all : List Piece) (end : ℕ) where
     pattern_form_fine s g = pattern_form_by_fine s.pieces s g g.inside
 
     alias_by_fine : (q : Pattern) (o : Option (List Piece)) (s : State) → PatternAt q → after_mark m.Equals s.pieces ≡ o → Good' s → Fine' (alias_by inner (constant_at n) q o s) (λ x. PatternAt x.0 × Good' x.1)
-    alias_by_fine (VariableIn v) (Some ps) s h is g =
+    alias_by_fine (patterns.Variable v) (Some ps) s h is g =
         bind (inner (with_pieces s ps)) _ (λ x. PatternAt x.0 × Good' x.1) (λ x. PatternAt x.0 × Good' x.1) (each (with_pieces s ps) (good_at all end s ps g (mark_inside all end m.Equals s.pieces ps g.inside is))) (λ q gq. ((h, gq.0), gq.1))
-    alias_by_fine (VariableIn v) None s h is g = (h, g)
-    alias_by_fine (NumberIn i) o s h is g = (h, g)
-    alias_by_fine (CharacterIn i) o s h is g = (h, g)
-    alias_by_fine (TextIn i) o s h is g = (h, g)
-    alias_by_fine (NameIn i) o s h is g = (h, g)
-    alias_by_fine (GroupIn i) o s h is g = (h, g)
-    alias_by_fine (ListIn i) o s h is g = (h, g)
-    alias_by_fine (JoinIn i j) o s h is g = (h, g)
-    alias_by_fine (AliasIn i j) o s h is g = (h, g)
+    alias_by_fine (patterns.Variable v) None s h is g = (h, g)
+    alias_by_fine (patterns.Integer i) o s h is g = (h, g)
+    alias_by_fine (patterns.Character i) o s h is g = (h, g)
+    alias_by_fine (patterns.Text i) o s h is g = (h, g)
+    alias_by_fine (patterns.Atom i) o s h is g = (h, g)
+    alias_by_fine (patterns.Tuple i) o s h is g = (h, g)
+    alias_by_fine (patterns.List i) o s h is g = (h, g)
+    alias_by_fine (patterns.Onto i j) o s h is g = (h, g)
+    alias_by_fine (patterns.Alias i j) o s h is g = (h, g)
 
     alias_fine : (q : Pattern) → PatternAt q → Keeps' (alias_at inner (constant_at n) q) PatternAt
     unfolding alias_at
@@ -338,38 +342,38 @@ module _ (all : List Piece) (end : ℕ) where
   -- ---- expressions
 
   abbrev pub CalleeAt : ℕ → Callee → Type 0
-  CalleeAt at (OfWorld kind) = Place' at
-  CalleeAt at (OfItself kind) = Unit {0}
-  CalleeAt at (OfExport f) = Place' at × IsOne all (word at k.Call)
-  CalleeAt at (OfDefinition f) = Place' at × Place' f.at
-  CalleeAt at FailsMatch = Place' at
-  CalleeAt at RaisesAgain = Place' at
+  CalleeAt at (callees.World kind) = Place' at
+  CalleeAt at (callees.Pure kind) = Unit {0}
+  CalleeAt at (callees.Exported f) = Place' at × IsOne all (word at k.Call)
+  CalleeAt at (callees.Defined f) = Place' at × Place' f.at
+  CalleeAt at callees.MatchFail = Place' at
+  CalleeAt at callees.Raise = Place' at
 
   abbrev mutual
     pub TreeAt : Tree → Type 0
-    TreeAt (Number n) = Unit {0}
-    TreeAt (Character c) = Unit {0}
-    TreeAt (Text cs) = Unit {0}
-    TreeAt (Name t) = Unit {0}
-    TreeAt (Mentioned v) = Place' v.at
-    TreeAt (Grouped ts) = TreesAt ts
-    TreeAt (Listed ts) = TreesAt ts
-    TreeAt (Joined ts t) = TreesAt ts × TreeAt t
-    TreeAt (Several ts) = TreesAt ts
-    TreeAt (Bound vs t u) = Each' MentionAt' vs × TreeAt t × TreeAt u
-    TreeAt (Chosen at t cs) = TreeAt t × ClausesAt cs
-    TreeAt (Followed t u) = TreeAt t × TreeAt u
-    TreeAt (Called at callee ts) = CalleeAt at callee × TreesAt ts
-    TreeAt (Tried at t vs u ws h) = TreeAt t × Each' MentionAt' vs × TreeAt u × Each' MentionAt' ws × TreeAt h
-    TreeAt (Caught at t) = TreeAt t
+    TreeAt (trees.Integer n) = Unit {0}
+    TreeAt (trees.Character c) = Unit {0}
+    TreeAt (trees.Text cs) = Unit {0}
+    TreeAt (trees.Atom t) = Unit {0}
+    TreeAt (trees.Variable v) = Place' v.at
+    TreeAt (trees.Tuple ts) = TreesAt ts
+    TreeAt (trees.List ts) = TreesAt ts
+    TreeAt (trees.Onto ts t) = TreesAt ts × TreeAt t
+    TreeAt (trees.Values ts) = TreesAt ts
+    TreeAt (trees.Let vs t u) = Each' MentionAt' vs × TreeAt t × TreeAt u
+    TreeAt (trees.Case at t cs) = TreeAt t × ClausesAt cs
+    TreeAt (trees.Do t u) = TreeAt t × TreeAt u
+    TreeAt (trees.Call at callee ts) = CalleeAt at callee × TreesAt ts
+    TreeAt (trees.Try at t vs u ws h) = TreeAt t × Each' MentionAt' vs × TreeAt u × Each' MentionAt' ws × TreeAt h
+    TreeAt (trees.Catch at t) = TreeAt t
 
     pub TreesAt : Trees → Type 0
-    TreesAt NoMore = Unit {0}
-    TreesAt (Also t ts) = TreeAt t × TreesAt ts
+    TreesAt trees.NoMore = Unit {0}
+    TreesAt (trees.Also t ts) = TreeAt t × TreesAt ts
 
     pub ClausesAt : Clauses → Type 0
-    ClausesAt NoClause = Unit {0}
-    ClausesAt (Clause qs g b cs) = Each' PatternAt qs × TreeAt g × TreeAt b × ClausesAt cs
+    ClausesAt trees.NoClause = Unit {0}
+    ClausesAt (trees.Clause qs g b cs) = Each' PatternAt qs × TreeAt g × TreeAt b × ClausesAt cs
 
   abbrev ClauseAt : ClauseTree → Type 0
   ClauseAt c = Each' PatternAt c.patterns × TreeAt c.guard × TreeAt c.body
@@ -386,26 +390,26 @@ module _ (all : List Piece) (end : ℕ) where
 
   -- where no atom and no `(` stands in front of what begins an expression, the name is missing
   lacks_name : (shape : Shape) (at : ℕ) (ps : List Piece) → atom_in shape ≡ None → cond (is_mark m.LeftParenthesis shape) (Some ps) None ≡ None → (is_function shape [] || begins_expression shape) ≡ true → LacksName (within (record { at = at; shape = shape } ∷ ps))
-  lacks_name (An_integer n) at ps e none is = tt
-  lacks_name (A_character c) at ps e none is = tt
-  lacks_name (A_text cs) at ps e none is = tt
-  lacks_name (A_variable v) at ps e none is = tt
-  lacks_name (An_atom t) at ps e none is = absurd cc
-  lacks_name (A_mark m.LeftBrace) at ps e none is = tt
-  lacks_name (A_mark m.LeftBracket) at ps e none is = tt
-  lacks_name (A_mark m.LeftParenthesis) at ps e none is = absurd cc
-  lacks_name (A_mark m.Less) at ps e none is = tt
-  lacks_name (A_word k.Fun) at ps e none is = tt
-  lacks_name (A_word k.Letrec) at ps e none is = tt
-  lacks_name (A_word k.Let) at ps e none is = tt
-  lacks_name (A_word k.Case) at ps e none is = tt
-  lacks_name (A_word k.Apply) at ps e none is = tt
-  lacks_name (A_word k.Call) at ps e none is = tt
-  lacks_name (A_word k.Primop) at ps e none is = tt
-  lacks_name (A_word k.Do) at ps e none is = tt
-  lacks_name (A_word k.Try) at ps e none is = tt
-  lacks_name (A_word k.Catch) at ps e none is = tt
-  lacks_name (A_word k.Receive) at ps e none is = tt
+  lacks_name (lexemes.Integer n) at ps e none is = tt
+  lacks_name (lexemes.Character c) at ps e none is = tt
+  lacks_name (lexemes.Text cs) at ps e none is = tt
+  lacks_name (lexemes.Variable v) at ps e none is = tt
+  lacks_name (lexemes.Atom t) at ps e none is = absurd cc
+  lacks_name (lexemes.Mark m.LeftBrace) at ps e none is = tt
+  lacks_name (lexemes.Mark m.LeftBracket) at ps e none is = tt
+  lacks_name (lexemes.Mark m.LeftParenthesis) at ps e none is = absurd cc
+  lacks_name (lexemes.Mark m.Less) at ps e none is = tt
+  lacks_name (lexemes.Word k.Fun) at ps e none is = tt
+  lacks_name (lexemes.Word k.Letrec) at ps e none is = tt
+  lacks_name (lexemes.Word k.Let) at ps e none is = tt
+  lacks_name (lexemes.Word k.Case) at ps e none is = tt
+  lacks_name (lexemes.Word k.Apply) at ps e none is = tt
+  lacks_name (lexemes.Word k.Call) at ps e none is = tt
+  lacks_name (lexemes.Word k.Primop) at ps e none is = tt
+  lacks_name (lexemes.Word k.Do) at ps e none is = tt
+  lacks_name (lexemes.Word k.Try) at ps e none is = tt
+  lacks_name (lexemes.Word k.Catch) at ps e none is = tt
+  lacks_name (lexemes.Word k.Receive) at ps e none is = tt
   lacks_name shape at ps e none is = absurd cc
 
   -- an atom, or another token where its name is missing
@@ -461,7 +465,7 @@ module _ (all : List Piece) (end : ℕ) where
   has_mark x qs rest e = let f = after_mark_found x qs rest e in subst (λ (ps : List Piece). HasMark x ps) (sym f.1) refl
 
   within_bare : (shape : Shape) (at : ℕ) (ps : List Piece) → cond (is_mark m.LeftParenthesis shape) (Some ps) None ≡ None → within (record { at = at; shape = shape } ∷ ps) ≡ record { at = at; shape = shape } ∷ ps
-  within_bare (A_mark m.LeftParenthesis) at ps e = absurd cc
+  within_bare (lexemes.Mark m.LeftParenthesis) at ps e = absurd cc
   within_bare shape at ps e = refl
 
   no_name_applied : (b : Beginning) (ps : List Piece) → IsNoNameBy b → BeginsAppliedBy b ps
@@ -477,11 +481,11 @@ module _ (all : List Piece) (end : ℕ) where
 
   -- so is an atom with its arguments behind it
   atom_applied : (shape : Shape) (at : ℕ) (ps : List Piece) (x : ℕ × List ℕ) → named_by at shape ≡ Some x → HasMark m.LeftParenthesis ps → Front BeginsApplied x.0 (within (record { at = at; shape = shape } ∷ ps))
-  atom_applied (An_atom t) at ps x e h = let same : (at, t) ≡ x = cc in (ap (λ (y : ℕ × List ℕ). y.0) same, h)
+  atom_applied (lexemes.Atom t) at ps x e h = let same : (at, t) ≡ x = cc in (ap (λ (y : ℕ × List ℕ). y.0) same, h)
   atom_applied shape at ps x e h = absurd cc
 
   no_atom : (at : ℕ) (shape : Shape) → named_by at shape ≡ None → atom_in shape ≡ None
-  no_atom at (An_atom t) e = absurd cc
+  no_atom at (lexemes.Atom t) e = absurd cc
   no_atom at shape e = refl
 
   -- an atom that stands at a place, and is a value where its arguments stand behind it
@@ -698,23 +702,23 @@ module _ (all : List Piece) (end : ℕ) where
           bind (word_at k.End cs.1) _ Good' (λ x. TreeAt x.0 × Good' x.1) (word_fine all end k.End cs.1 gcs.1) (λ s2 g2. ((gt.0, (gc.0.0, gc.0.1, gc.0.2, clauses_at cs.0 gcs.0)), g2))))))
 
       form_by_fine : (at : ℕ) (shape : Shape) (ps : List Piece) (s : State) → Inside all end (record { at = at; shape = shape } ∷ ps) → Place' at → Good' s → Good' (with_pieces s ps) → Fine' (form_by own n inner start at shape ps s) (λ x. TreeAt x.0 × Good' x.1)
-      form_by_fine at (An_integer i) ps s o p g h = (tt, h)
-      form_by_fine at (A_character i) ps s o p g h = (tt, h)
-      form_by_fine at (A_text i) ps s o p g h = (tt, h)
-      form_by_fine at (An_atom t) ps s o p g h = name_fine (after_mark m.Slash ps) t ps s g h
-      form_by_fine at (A_variable v) ps s o p g h = (p, h)
-      form_by_fine at (A_mark m.LeftBrace) ps s o p g h = tuple_fine (with_pieces s ps) h
-      form_by_fine at (A_mark m.LeftBracket) ps s o p g h = list_fine (with_pieces s ps) h
-      form_by_fine at (A_mark m.Less) ps s o p g h = values_fine (with_pieces s ps) h
-      form_by_fine at (A_mark m.LeftParenthesis) ps s o p g h = in_note_fine (constant_at n) (constant_fine n) inner TreeAt each (with_pieces s ps) h
-      form_by_fine at (A_word k.Let) ps s o p g h = let_fine (with_pieces s ps) h
-      form_by_fine at (A_word k.Case) ps s o p g h = case_fine at (with_pieces s ps) h
-      form_by_fine at (A_word k.Do) ps s o p g h = do_fine (with_pieces s ps) h
-      form_by_fine at (A_word k.Apply) ps s o p g h = apply_fine at p (with_pieces s ps) o h
-      form_by_fine at (A_word k.Call) ps s o p g h = call_fine at p (with_pieces s ps) o h
-      form_by_fine at (A_word k.Primop) ps s o p g h = primop_fine at p (with_pieces s ps) o h
-      form_by_fine at (A_word k.Try) ps s o p g h = try_fine at (with_pieces s ps) h
-      form_by_fine at (A_word k.Catch) ps s o p g h = catch_fine at (with_pieces s ps) h
+      form_by_fine at (lexemes.Integer i) ps s o p g h = (tt, h)
+      form_by_fine at (lexemes.Character i) ps s o p g h = (tt, h)
+      form_by_fine at (lexemes.Text i) ps s o p g h = (tt, h)
+      form_by_fine at (lexemes.Atom t) ps s o p g h = name_fine (after_mark m.Slash ps) t ps s g h
+      form_by_fine at (lexemes.Variable v) ps s o p g h = (p, h)
+      form_by_fine at (lexemes.Mark m.LeftBrace) ps s o p g h = tuple_fine (with_pieces s ps) h
+      form_by_fine at (lexemes.Mark m.LeftBracket) ps s o p g h = list_fine (with_pieces s ps) h
+      form_by_fine at (lexemes.Mark m.Less) ps s o p g h = values_fine (with_pieces s ps) h
+      form_by_fine at (lexemes.Mark m.LeftParenthesis) ps s o p g h = in_note_fine (constant_at n) (constant_fine n) inner TreeAt each (with_pieces s ps) h
+      form_by_fine at (lexemes.Word k.Let) ps s o p g h = let_fine (with_pieces s ps) h
+      form_by_fine at (lexemes.Word k.Case) ps s o p g h = case_fine at (with_pieces s ps) h
+      form_by_fine at (lexemes.Word k.Do) ps s o p g h = do_fine (with_pieces s ps) h
+      form_by_fine at (lexemes.Word k.Apply) ps s o p g h = apply_fine at p (with_pieces s ps) o h
+      form_by_fine at (lexemes.Word k.Call) ps s o p g h = call_fine at p (with_pieces s ps) o h
+      form_by_fine at (lexemes.Word k.Primop) ps s o p g h = primop_fine at p (with_pieces s ps) o h
+      form_by_fine at (lexemes.Word k.Try) ps s o p g h = try_fine at (with_pieces s ps) h
+      form_by_fine at (lexemes.Word k.Catch) ps s o p g h = catch_fine at (with_pieces s ps) h
       form_by_fine at shape ps s o p g h = expression_fault_fine s g
 
       form_of_fine : (ps : List Piece) (s : State) → Good' s → Inside all end ps → Fine' (form_of own n inner start ps s) (λ x. TreeAt x.0 × Good' x.1)

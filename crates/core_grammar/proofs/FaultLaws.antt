@@ -5,7 +5,7 @@ use Rattle.core_tokens.specs.declared.fault.ReadFault.TheVariants as fault
 use Rattle.core_tokens.specs.Piece.{Piece}
 use Rattle.core_tree.specs.Syntax.{ModuleTree}
 use Rattle.core_scopes.specs.ScopeFaults.{IsFaultOfModule}
-use Rattle.core_grammar.specs.ReadingModules.{module_at}
+use Rattle.core_grammar.specs.inside.DecoderModules.{module_at}
 use Rattle.core_grammar.specs.Grammar.{Spells}
 use Rattle.core_grammar.specs.Whole.{start}
 use Rattle.core_grammar.specs.Places.{IsFaultOf}

@@ -10,9 +10,9 @@ use Rattle.core_grammar.specs.declared.unserved.Unserved.{Unserved}
 use Rattle.core_grammar.specs.Grammar.{word, atom, level_limit}
 use Rattle.core_grammar.specs.UnservedCalls.{within, IsOwn}
 use Rattle.core_scopes.specs.Outcomes.{◌>>=◌}
-use Rattle.core_grammar.specs.Reading.{State, Read, with_pieces, after_mark, place_of, mark_at, word_at, atom_at, bare_name_at, closed_at, exactly_at, rows_at, constant_at, noted_at, function_name_at, variable_at}
-use Rattle.core_grammar.specs.ReadingForms.{expression_at}
-use Rattle.core_grammar.specs.ReadingModules.{attribute_at, bare_fun_at, fun_at, behind_name_at, Opening, TheName, WholeDefinition, opening_by, opened, inside_opening_at, bare_opening_at, opening_last, opening_next, opening_at, definition_of_opening, definition_at, front_at, bare_module_at, ended, module_at}
+use Rattle.core_grammar.specs.inside.Decoder.{State, Read, with_pieces, after_mark, place_of, mark_at, word_at, atom_at, bare_name_at, closed_at, exactly_at, rows_at, constant_at, noted_at, function_name_at, variable_at}
+use Rattle.core_grammar.specs.inside.DecoderForms.{expression_at}
+use Rattle.core_grammar.specs.inside.DecoderModules.{attribute_at, bare_fun_at, fun_at, behind_name_at, Opening, TheName, WholeDefinition, opening_by, opened, inside_opening_at, bare_opening_at, opening_last, opening_next, opening_at, definition_of_opening, definition_at, front_at, bare_module_at, ended, module_at}
 use Rattle.core_grammar.proofs.Steps.{ok_is, bind_ok, after_mark_found, word_steps, atom_steps}
 use Rattle.core_grammar.proofs.FaultSteps.{IsUnservedAt, Good, Fine, fine_bind, fine_read, unserved_fine, fault_fine, too_deep_fine, good_at, mark_inside, mark_fine, word_fine, Keeps, atom_fine, bare_name_fine, Each, closed_fine, exactly_fine, rows_fine}
 use Rattle.core_grammar.proofs.FaultForms.{in_note_fine, constant_fine, noted_fine, noted_from_fine, NamePlaced', MentionAt', function_name_fine, variable_fine, TreeAt, expression_fine}

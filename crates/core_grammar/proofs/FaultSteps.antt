@@ -7,7 +7,8 @@ use Rattle.core_tokens.specs.declared.token.Mark.{Mark}
 use Rattle.core_tokens.specs.declared.token.Mark.TheVariants as m
 use Rattle.core_tokens.specs.declared.token.Keyword.{Keyword}
 use Rattle.core_tokens.specs.declared.token.Keyword.TheVariants as k
-use Rattle.core_tokens.specs.Piece.{Piece, Shape, A_mark, An_atom, A_variable, A_float}
+use Rattle.core_tokens.specs.Piece.{Piece, Shape}
+use Rattle.core_tokens.specs.Piece as lexemes
 use Rattle.core_tree.specs.Syntax.{Mention, NamedAt}
 use Rattle.core_grammar.specs.declared.unserved.Unserved.{Unserved}
 use Rattle.core_grammar.specs.declared.unserved.Unserved.TheVariants as unserved
@@ -16,7 +17,7 @@ use Rattle.core_grammar.specs.UnservedCalls.{UnservedCallAt}
 use Rattle.core_grammar.specs.Unread.{BeginsUnread, HigherOrderAt, UnreadAt}
 use Rattle.core_grammar.specs.Places.{IsOne, IsAt, IsPlace, OpensAt}
 use Rattle.core_scopes.specs.Outcomes.{◌>>=◌}
-use Rattle.core_grammar.specs.Reading.{State, Read, with_pieces, is_mark, is_word, after_mark, after_word, fault_of_unserved, refusal, is_foreign, fault_of, fault, place_of, too_deep, passed, mark_at, word_at, taken_by, taken, atom_in, atom_at, named_by, placed_atom_at, arity_in, arity_at, mention_by, bare_variable_at, behind_atom_at, bare_name_at, comma_at, more_at, commas_at, items_at, closed_by, closed_at, tail_at, brackets_by, brackets_at, item_of, exactly_at, row_by, row_at, rows_at}
+use Rattle.core_grammar.specs.inside.Decoder.{State, Read, with_pieces, is_mark, is_word, after_mark, after_word, fault_of_unserved, refusal, is_foreign, fault_of, fault, place_of, too_deep, passed, mark_at, word_at, taken_by, taken, atom_in, atom_at, named_by, placed_atom_at, arity_in, arity_at, mention_by, bare_variable_at, behind_atom_at, bare_name_at, comma_at, more_at, commas_at, items_at, closed_by, closed_at, tail_at, brackets_by, brackets_at, item_of, exactly_at, row_by, row_at, rows_at}
 
 pub piece_at : (ps : List Piece) (p : Piece) → IsOne ps p → IsAt ps p.at
 piece_at [] p h = absurd h
@@ -105,9 +106,9 @@ module _ (all : List Piece) (end : ℕ) where
   unread_here p ps inside begins = record { before = inside.0; here = p ∷ ps; stands = inside.1; said = (refl, begins) }
 
   foreign_begins : (shape : Shape) (ps : List Piece) → is_foreign shape ≡ true → BeginsUnread shape ps
-  foreign_begins A_float ps e = tt
-  foreign_begins (A_mark m.Hash) ps e = tt
-  foreign_begins (A_mark m.Tilde) ps e = tt
+  foreign_begins lexemes.Float ps e = tt
+  foreign_begins (lexemes.Mark m.Hash) ps e = tt
+  foreign_begins (lexemes.Mark m.Tilde) ps e = tt
   foreign_begins shape ps e = absurd cc
 
   foreign_by : (b : Bool) (p : Piece) (ps : List Piece) → Inside (p ∷ ps) → is_foreign p.shape ≡ b → Fault (cond b (UnsupportedForm p.at) (Expected p.at))
@@ -127,10 +128,10 @@ module _ (all : List Piece) (end : ℕ) where
   fault_fine s g = refusal_fine s.refused (fault_of s.stop s.pieces) g.refused (fault_of_fine s.stop s.pieces g.stop g.inside)
 
   -- a parenthesis that opens a level past the last
-  pub too_deep_fine : (s : State) (at : ℕ) (ps : List Piece) → Good s → s.pieces ≡ record { at = at; shape = A_mark m.LeftParenthesis } ∷ ps → Fault (too_deep s)
+  pub too_deep_fine : (s : State) (at : ℕ) (ps : List Piece) → Good s → s.pieces ≡ record { at = at; shape = lexemes.Mark m.LeftParenthesis } ∷ ps → Fault (too_deep s)
   unfolding too_deep
   too_deep_fine s at ps g e =
-      let p : Piece = record { at = at; shape = A_mark m.LeftParenthesis } in
+      let p : Piece = record { at = at; shape = lexemes.Mark m.LeftParenthesis } in
       let one : IsOne s.pieces p = subst (λ (qs : List Piece). IsOne qs p) (sym e) (inl refl) in
       let place : at ≡ place_of s.stop s.pieces = sym (ap (place_of s.stop) e) in
       refusal_fine s.refused (TooDeep (place_of s.stop s.pieces)) g.refused (p, holds s.pieces g.inside p one, place, tt)
@@ -184,7 +185,7 @@ module _ (all : List Piece) (end : ℕ) where
   atom_fine s g = taken_fine (λ p. atom_in p.shape) Any (λ p x h e. tt) s.pieces s (fault s) g g.inside (fault_fine s g)
 
   pub named_place : (at : ℕ) (shape : Shape) (x : ℕ × List ℕ) → named_by at shape ≡ Some x → at ≡ x.0
-  named_place at (An_atom t) x e = let same : (at, t) ≡ x = cc in ap (λ (y : ℕ × List ℕ). y.0) same
+  named_place at (lexemes.Atom t) x e = let same : (at, t) ≡ x = cc in ap (λ (y : ℕ × List ℕ). y.0) same
   named_place at shape x e = absurd cc
 
   pub placed_atom_fine : Keeps placed_atom_at (λ x. Place x.0)
@@ -196,7 +197,7 @@ module _ (all : List Piece) (end : ℕ) where
   arity_fine s g = taken_fine (λ p. arity_in p.shape) Any (λ p x h e. tt) s.pieces s (fault s) g g.inside (fault_fine s g)
 
   mention_place : (at : ℕ) (shape : Shape) (x : Mention) → mention_by at shape ≡ Some x → at ≡ x.at
-  mention_place at (A_variable v) x e =
+  mention_place at (lexemes.Variable v) x e =
       let made : Mention = record { at = at; name = v } in
       let same : made ≡ x = cc in
       ap (λ (y : Mention). y.at) same

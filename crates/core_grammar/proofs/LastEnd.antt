@@ -9,8 +9,8 @@ use Rattle.core_tree.specs.Syntax.{Constant, ModuleTree}
 use Rattle.core_grammar.specs.declared.unserved.Unserved.{Unserved}
 use Rattle.core_grammar.specs.Grammar.{word, mark, Commas, spells_one, spells_next, Enclosed, spells_none, spells_some, Note, is_note, InNote, in_note, stands_bare, stands_noted, Noted, ConstantForm, is_integer, is_character, is_text, is_atom, is_tuple, is_list, is_join, is_noted, ConstantIn, level_limit}
 use Rattle.core_grammar.specs.Places.{IsOne, LacksEnd, IsLastEnd}
-use Rattle.core_grammar.specs.Reading.{State}
-use Rattle.core_grammar.specs.ReadingModules.{bare_module_at, module_at}
+use Rattle.core_grammar.specs.inside.Decoder.{State}
+use Rattle.core_grammar.specs.inside.DecoderModules.{bare_module_at, module_at}
 use Rattle.core_grammar.proofs.Steps.{bind_ok, Sound}
 use Rattle.core_grammar.proofs.SoundNames.{noted_sound}
 use Rattle.core_grammar.proofs.SoundModules.{bare_module_sound, ended_ok}

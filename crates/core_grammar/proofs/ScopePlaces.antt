@@ -5,7 +5,10 @@ use Rattle.core_tokens.specs.declared.fault.ReadFault.{ReadFault}
 use Rattle.core_tokens.specs.declared.fault.ReadFault.TheVariants.{Unbound, DuplicateVariable, DuplicateFunction, NoFunction, UnsupportedCall, EffectInGuard, NoMain}
 use Rattle.core_tokens.specs.declared.token.Keyword.TheVariants as k
 use Rattle.core_tokens.specs.Piece.{Piece}
-use Rattle.core_tree.specs.Syntax.{Mention, Function, NamedAt, Callee, OfWorld, OfItself, OfExport, OfDefinition, FailsMatch, RaisesAgain, Pattern, Patterns, NumberIn, CharacterIn, TextIn, NameIn, VariableIn, GroupIn, ListIn, JoinIn, AliasIn, NoneToMatch, AlsoMatch, patterns_of, Tree, Trees, Clauses, Number, Character, Text, Name, Mentioned, Grouped, Listed, Joined, Several, Bound, Chosen, Followed, Called, Tried, Caught, NoMore, Also, NoClause, Clause, DefinitionTree, ModuleTree}
+use Rattle.core_tree.specs.Syntax.{Mention, Function, NamedAt, Callee, Pattern, Patterns, patterns_of, Tree, Trees, Clauses, DefinitionTree, ModuleTree}
+use Rattle.core_tree.specs.Callee as callees
+use Rattle.core_tree.specs.Pattern as patterns
+use Rattle.core_tree.specs.Expression as trees
 use Rattle.core_scopes.specs.Scopes.{names, variables_of, variables_of_all, bound_by, Setting, guard_of, functions, setting_of, main_function}
 use Rattle.core_scopes.specs.ScopeFaults.{Repeats, HasEffect, MayNotCall, Breaks, SomeBreaks, SomeClauseBreaks, SomeDefinitionBreaks, SomeExportBreaks, ModuleBreaks, IsFaultOfModule}
 use Rattle.core_grammar.specs.Grammar.{word}
@@ -40,19 +43,19 @@ module _ (all : List Piece) (end : ℕ) where
 
   mutual
     pattern_vars : (q : Pattern) → PatternAt all end q → Vars (variables_of q)
-    pattern_vars (NumberIn n) h = tt
-    pattern_vars (CharacterIn n) h = tt
-    pattern_vars (TextIn n) h = tt
-    pattern_vars (NameIn n) h = tt
-    pattern_vars (VariableIn v) h = (h, tt)
-    pattern_vars (GroupIn qs) h = patterns_vars qs h
-    pattern_vars (ListIn qs) h = patterns_vars qs h
-    pattern_vars (JoinIn qs q) h = vars_append (variables_of_all qs) (variables_of q) (patterns_vars qs h.0) (pattern_vars q h.1)
-    pattern_vars (AliasIn v q) h = (h.0, pattern_vars q h.1)
+    pattern_vars (patterns.Integer n) h = tt
+    pattern_vars (patterns.Character n) h = tt
+    pattern_vars (patterns.Text n) h = tt
+    pattern_vars (patterns.Atom n) h = tt
+    pattern_vars (patterns.Variable v) h = (h, tt)
+    pattern_vars (patterns.Tuple qs) h = patterns_vars qs h
+    pattern_vars (patterns.List qs) h = patterns_vars qs h
+    pattern_vars (patterns.Onto qs q) h = vars_append (variables_of_all qs) (variables_of q) (patterns_vars qs h.0) (pattern_vars q h.1)
+    pattern_vars (patterns.Alias v q) h = (h.0, pattern_vars q h.1)
 
     patterns_vars : (qs : Patterns) → PatternsAt all end qs → Vars (variables_of_all qs)
-    patterns_vars NoneToMatch h = tt
-    patterns_vars (AlsoMatch q qs) h = vars_append (variables_of q) (variables_of_all qs) (pattern_vars q h.0) (patterns_vars qs h.1)
+    patterns_vars patterns.NoMore h = tt
+    patterns_vars (patterns.Also q qs) h = vars_append (variables_of q) (variables_of_all qs) (pattern_vars q h.0) (patterns_vars qs h.1)
 
   placed_patterns : (qs : List Pattern) → Each all end (PatternAt all end) qs → PatternsAt all end (patterns_of qs)
   placed_patterns [] h = tt
@@ -70,54 +73,54 @@ module _ (all : List Piece) (end : ℕ) where
   effect x at f h r = moved f (EffectInGuard at) r.1 h
 
   calls : (x : Setting) (at : ℕ) (c : Callee) (f : ReadFault) → CalleeAt all end at c → MayNotCall x at c f → Stands f
-  calls x at (OfWorld kind) f h r = effect x at f h r
-  calls x at (OfItself kind) f h r = absurd r
-  calls x at (OfExport d) f h (inl r) = moved f (UnsupportedCall at) r.1 h.1
-  calls x at (OfExport d) f h (inr r) = effect x at f h.0 r
-  calls x at (OfDefinition n) f h (inl r) = effect x at f h.0 r
-  calls x at (OfDefinition n) f h (inr r) = moved f (NoFunction n.at) r.1 h.1
-  calls x at FailsMatch f h r = effect x at f h r
-  calls x at RaisesAgain f h r = effect x at f h r
+  calls x at (callees.World kind) f h r = effect x at f h r
+  calls x at (callees.Pure kind) f h r = absurd r
+  calls x at (callees.Exported d) f h (inl r) = moved f (UnsupportedCall at) r.1 h.1
+  calls x at (callees.Exported d) f h (inr r) = effect x at f h.0 r
+  calls x at (callees.Defined n) f h (inl r) = effect x at f h.0 r
+  calls x at (callees.Defined n) f h (inr r) = moved f (NoFunction n.at) r.1 h.1
+  calls x at callees.MatchFail f h r = effect x at f h r
+  calls x at callees.Raise f h r = effect x at f h r
 
   mutual
     tree_stands : (x : Setting) (bound : List (List ℕ)) (t : Tree) (f : ReadFault) → TreeAt all end t → Breaks x bound t f → Stands f
-    tree_stands x bound (Number n) f h r = absurd r
-    tree_stands x bound (Character c) f h r = absurd r
-    tree_stands x bound (Text cs) f h r = absurd r
-    tree_stands x bound (Name t) f h r = absurd r
-    tree_stands x bound (Mentioned v) f h r = moved f (Unbound v.at) r.1 h
-    tree_stands x bound (Grouped ts) f h r = trees_stand x bound ts f h r
-    tree_stands x bound (Listed ts) f h r = trees_stand x bound ts f h r
-    tree_stands x bound (Joined ts t) f h (inl r) = trees_stand x bound ts f h.0 r
-    tree_stands x bound (Joined ts t) f h (inr r) = tree_stands x bound t f h.1 r
-    tree_stands x bound (Several ts) f h r = trees_stand x bound ts f h r
-    tree_stands x bound (Bound vs t u) f h (inl r) = repeats [] vs f h.0 r
-    tree_stands x bound (Bound vs t u) f h (inr (inl r)) = tree_stands x bound t f h.1 r
-    tree_stands x bound (Bound vs t u) f h (inr (inr r)) = tree_stands x (names vs ++ bound) u f h.2 r
-    tree_stands x bound (Chosen at t cs) f h (inl r) = tree_stands x bound t f h.0 r
-    tree_stands x bound (Chosen at t cs) f h (inr r) = clauses_stand x bound cs f h.1 r
-    tree_stands x bound (Followed t u) f h (inl r) = tree_stands x bound t f h.0 r
-    tree_stands x bound (Followed t u) f h (inr r) = tree_stands x bound u f h.1 r
-    tree_stands x bound (Called at c ts) f h (inl r) = calls x at c f h.0 r
-    tree_stands x bound (Called at c ts) f h (inr r) = trees_stand x bound ts f h.1 r
-    tree_stands x bound (Tried at t vs u ws z) f h (inl r) = tree_stands x bound t f h.0 r
-    tree_stands x bound (Tried at t vs u ws z) f h (inr (inl r)) = repeats [] vs f h.1 r
-    tree_stands x bound (Tried at t vs u ws z) f h (inr (inr (inl r))) = tree_stands x (names vs ++ bound) u f h.2 r
-    tree_stands x bound (Tried at t vs u ws z) f h (inr (inr (inr (inl r)))) = repeats [] ws f h.3 r
-    tree_stands x bound (Tried at t vs u ws z) f h (inr (inr (inr (inr r)))) = tree_stands x (names ws ++ bound) z f h.4 r
-    tree_stands x bound (Caught at t) f h r = tree_stands x bound t f h r
+    tree_stands x bound (trees.Integer n) f h r = absurd r
+    tree_stands x bound (trees.Character c) f h r = absurd r
+    tree_stands x bound (trees.Text cs) f h r = absurd r
+    tree_stands x bound (trees.Atom t) f h r = absurd r
+    tree_stands x bound (trees.Variable v) f h r = moved f (Unbound v.at) r.1 h
+    tree_stands x bound (trees.Tuple ts) f h r = trees_stand x bound ts f h r
+    tree_stands x bound (trees.List ts) f h r = trees_stand x bound ts f h r
+    tree_stands x bound (trees.Onto ts t) f h (inl r) = trees_stand x bound ts f h.0 r
+    tree_stands x bound (trees.Onto ts t) f h (inr r) = tree_stands x bound t f h.1 r
+    tree_stands x bound (trees.Values ts) f h r = trees_stand x bound ts f h r
+    tree_stands x bound (trees.Let vs t u) f h (inl r) = repeats [] vs f h.0 r
+    tree_stands x bound (trees.Let vs t u) f h (inr (inl r)) = tree_stands x bound t f h.1 r
+    tree_stands x bound (trees.Let vs t u) f h (inr (inr r)) = tree_stands x (names vs ++ bound) u f h.2 r
+    tree_stands x bound (trees.Case at t cs) f h (inl r) = tree_stands x bound t f h.0 r
+    tree_stands x bound (trees.Case at t cs) f h (inr r) = clauses_stand x bound cs f h.1 r
+    tree_stands x bound (trees.Do t u) f h (inl r) = tree_stands x bound t f h.0 r
+    tree_stands x bound (trees.Do t u) f h (inr r) = tree_stands x bound u f h.1 r
+    tree_stands x bound (trees.Call at c ts) f h (inl r) = calls x at c f h.0 r
+    tree_stands x bound (trees.Call at c ts) f h (inr r) = trees_stand x bound ts f h.1 r
+    tree_stands x bound (trees.Try at t vs u ws z) f h (inl r) = tree_stands x bound t f h.0 r
+    tree_stands x bound (trees.Try at t vs u ws z) f h (inr (inl r)) = repeats [] vs f h.1 r
+    tree_stands x bound (trees.Try at t vs u ws z) f h (inr (inr (inl r))) = tree_stands x (names vs ++ bound) u f h.2 r
+    tree_stands x bound (trees.Try at t vs u ws z) f h (inr (inr (inr (inl r)))) = repeats [] ws f h.3 r
+    tree_stands x bound (trees.Try at t vs u ws z) f h (inr (inr (inr (inr r)))) = tree_stands x (names ws ++ bound) z f h.4 r
+    tree_stands x bound (trees.Catch at t) f h r = tree_stands x bound t f h r
 
     trees_stand : (x : Setting) (bound : List (List ℕ)) (ts : Trees) (f : ReadFault) → TreesAt all end ts → SomeBreaks x bound ts f → Stands f
-    trees_stand x bound NoMore f h r = absurd r
-    trees_stand x bound (Also t ts) f h (inl r) = tree_stands x bound t f h.0 r
-    trees_stand x bound (Also t ts) f h (inr r) = trees_stand x bound ts f h.1 r
+    trees_stand x bound trees.NoMore f h r = absurd r
+    trees_stand x bound (trees.Also t ts) f h (inl r) = tree_stands x bound t f h.0 r
+    trees_stand x bound (trees.Also t ts) f h (inr r) = trees_stand x bound ts f h.1 r
 
     clauses_stand : (x : Setting) (bound : List (List ℕ)) (cs : Clauses) (f : ReadFault) → ClausesAt all end cs → SomeClauseBreaks x bound cs f → Stands f
-    clauses_stand x bound NoClause f h r = absurd r
-    clauses_stand x bound (Clause qs g b cs) f h (inl r) = repeats [] (bound_by qs) f (bound_vars qs h.0) r
-    clauses_stand x bound (Clause qs g b cs) f h (inr (inl r)) = tree_stands (guard_of x) (names (bound_by qs) ++ bound) g f h.1 r
-    clauses_stand x bound (Clause qs g b cs) f h (inr (inr (inl r))) = tree_stands x (names (bound_by qs) ++ bound) b f h.2 r
-    clauses_stand x bound (Clause qs g b cs) f h (inr (inr (inr r))) = clauses_stand x bound cs f h.3 r
+    clauses_stand x bound trees.NoClause f h r = absurd r
+    clauses_stand x bound (trees.Clause qs g b cs) f h (inl r) = repeats [] (bound_by qs) f (bound_vars qs h.0) r
+    clauses_stand x bound (trees.Clause qs g b cs) f h (inr (inl r)) = tree_stands (guard_of x) (names (bound_by qs) ++ bound) g f h.1 r
+    clauses_stand x bound (trees.Clause qs g b cs) f h (inr (inr (inl r))) = tree_stands x (names (bound_by qs) ++ bound) b f h.2 r
+    clauses_stand x bound (trees.Clause qs g b cs) f h (inr (inr (inr r))) = clauses_stand x bound cs f h.3 r
 
   -- ---- definitions
 

@@ -2,13 +2,16 @@
 use Rattle.std.proofs.Common.{◌≡◌, ℕ, zero, suc, cond, List, [], ◌∷◌, length, Option, Some, None, Ok, refl, ap, ◌∙◌, subst}
 use Rattle.core_tokens.specs.declared.token.Mark.TheVariants as m
 use Rattle.core_tokens.specs.declared.token.Keyword.TheVariants as k
-use Rattle.core_tokens.specs.Piece.{Piece, Shape, A_word, A_mark, An_atom, A_variable, An_integer, A_character, A_text}
-use Rattle.core_tree.specs.Syntax.{Mention, NamedAt, Callee, OfDefinition, Pattern, Tree, Number, Character, Text, Name, Mentioned, Grouped, Listed, Several, Bound, Chosen, Followed, Called, Tried, Caught, NoMore, trees_of, ClauseTree, clauses_of}
+use Rattle.core_tokens.specs.Piece.{Piece, Shape}
+use Rattle.core_tokens.specs.Piece as lexemes
+use Rattle.core_tree.specs.Syntax.{Mention, NamedAt, Callee, Pattern, Tree, trees_of, ClauseTree, clauses_of}
+use Rattle.core_tree.specs.Callee as callees
+use Rattle.core_tree.specs.Expression as trees
 use Rattle.core_grammar.specs.Grammar.{mark, word, atom, InNote, in_note, Either, stands_bare, stands_noted, Enclosed, Row, ConstantIn, BareName, FunctionName, BareAtom, is_the_atom, AtomIn, Variables, CaughtVariables, PatternForm, matches_noted, PatternIn, patterns_in_angles, Angles, one_pattern, many_patterns, PatternsIn, Operates, HasNoSlash, IsNoSlash, BareClause, is_clause, Form, a_number, a_character, a_text, a_name, a_variable, a_tuple, a_list, a_join, some_values, a_noted, a_let, a_case, a_do, an_apply, a_call, a_primop, a_try, a_catch, Expression, AnnotatedClause}
 use Rattle.core_grammar.specs.declared.unserved.Unserved.{Unserved}
 use Rattle.core_grammar.specs.declared.unserved.Unserved.TheVariants as unserved
-use Rattle.core_grammar.specs.Reading.{State, Read, with_pieces, is_mark, after_mark, after_word, atom_in, named_by, constant_at, pattern_at}
-use Rattle.core_grammar.specs.ReadingForms.{callee_fault, bare_callee_at, callee_at, applied_fault, applied_atom_at, behind_applied_by, bare_applied_at, applied_at, callee_named, operation_named, earlier, refuse, judged, tree_list, name_by, Start, OnePattern, ManyPatterns, WholeClause, tuple_at, list_at, values_at, let_at, do_at, apply_at, call_at, primop_at, try_at, catch_at, behind_patterns_at, clause_of, start_by, started, inside_start_at, aliased, noted_start_at, bare_start_by, bare_start_at, start_last, start_next, clause_at, case_at, form_by, form_of, form_at, expression_at, start_at}
+use Rattle.core_grammar.specs.inside.Decoder.{State, Read, with_pieces, is_mark, after_mark, after_word, atom_in, named_by, constant_at, pattern_at}
+use Rattle.core_grammar.specs.inside.DecoderForms.{callee_fault, bare_callee_at, callee_at, applied_fault, applied_atom_at, behind_applied_by, bare_applied_at, applied_at, callee_named, operation_named, earlier, refuse, judged, tree_list, name_by, Start, OnePattern, ManyPatterns, WholeClause, tuple_at, list_at, values_at, let_at, do_at, apply_at, call_at, primop_at, try_at, catch_at, behind_patterns_at, clause_of, start_by, started, inside_start_at, aliased, noted_start_at, bare_start_by, bare_start_at, start_last, start_next, clause_at, case_at, form_by, form_of, form_at, expression_at, start_at}
 use Rattle.core_grammar.proofs.Steps.{ok_is, bind_ok, after_mark_found, mark_steps, word_steps, taken_ok, atom_of_front, atom_steps, named_by_some, behind_atom_sound, Sound}
 use Rattle.core_grammar.proofs.SoundLists.{closed_sound, Bracketed, brackets_sound, exactly_sound, rows_sound}
 use Rattle.core_grammar.proofs.SoundNames.{in_note_sound, constant_sound, at_front, noted_sound, variables_sound, caught_sound}
@@ -58,7 +61,7 @@ applied_sound n s x t e done = noted_sound (λ _. bare_applied_at) (λ _. BareNa
 -- ---- expressions
 
 no_slash_by : (shape : Shape) (ps : List Piece) → cond (is_mark m.Slash shape) (Some ps) None ≡ None → IsNoSlash shape
-no_slash_by (A_mark m.Slash) ps e = absurd cc
+no_slash_by (lexemes.Mark m.Slash) ps e = absurd cc
 no_slash_by shape ps e = tt
 
 no_slash : (ps : List Piece) → after_mark m.Slash ps ≡ None → HasNoSlash ps
@@ -71,12 +74,12 @@ one_unserved u = Some u
 something : (u : Unserved) → one_unserved u ≡ None → ⊥
 something u e = cc
 
-judged_sound : (at : ℕ) (u : Unserved) (o : Option Callee) (ts : List Tree) (s : State) (c : Tree) (t : State) → judged at u o ts s ≡ Ok (c, t) → t.refused ≡ None → (callee : Callee) × (o ≡ Some callee) × (Called at callee (trees_of ts) ≡ c) × (s ≡ t)
+judged_sound : (at : ℕ) (u : Unserved) (o : Option Callee) (ts : List Tree) (s : State) (c : Tree) (t : State) → judged at u o ts s ≡ Ok (c, t) → t.refused ≡ None → (callee : Callee) × (o ≡ Some callee) × (trees.Call at callee (trees_of ts) ≡ c) × (s ≡ t)
 judged_sound at u (Some callee) ts s c t e done =
-    let same : (Called at callee (trees_of ts), s) ≡ (c, t) = ok_is _ _ e in
+    let same : (trees.Call at callee (trees_of ts), s) ≡ (c, t) = ok_is _ _ e in
     (callee, refl, ap (λ (r : Tree × State). r.0) same, ap (λ (r : Tree × State). r.1) same)
 judged_sound at u None ts s c t e done =
-    let made : Tree × State = (Listed NoMore, refuse u s) in
+    let made : Tree × State = (trees.List trees.NoMore, refuse u s) in
     let same : made ≡ (c, t) = ok_is _ _ e in
     let none : (refuse u s).refused ≡ None = ap (λ (r : Tree × State). r.1.refused) same ∙ done in
     absurd (something (earlier u s.refused) none)
@@ -89,35 +92,35 @@ module _ (own : List ℕ) (n : ℕ) (inner : State → Read Tree) (Inner : List 
   abbrev Finds : Clause' → ℕ → Shape → List Piece → State → Tree → State → Type 0
   Finds C at shape ps s c t = t.refused ≡ None → (s.refused ≡ None) × Form own n Inner C (record { at = at; shape = shape } ∷ ps) c t.pieces
 
-  tuple_sound : (C : Clause') (at : ℕ) (ps : List Piece) (s : State) (c : Tree) (t : State) → tuple_at own n inner (with_pieces s ps) ≡ Ok (c, t) → Finds C at (A_mark m.LeftBrace) ps s c t
+  tuple_sound : (C : Clause') (at : ℕ) (ps : List Piece) (s : State) (c : Tree) (t : State) → tuple_at own n inner (with_pieces s ps) ≡ Ok (c, t) → Finds C at (lexemes.Mark m.LeftBrace) ps s c t
   unfolding tuple_at
   tuple_sound C at ps s c t e =
       let a = bind_ok _ _ _ e in
-      let same : (Grouped (trees_of a.0.0), a.0.1) ≡ (c, t) = ok_is _ _ a.2 in
-      subst (λ (y : Tree × State). Finds C at (A_mark m.LeftBrace) ps s y.0 y.1) same
+      let same : (trees.Tuple (trees_of a.0.0), a.0.1) ≡ (c, t) = ok_is _ _ a.2 in
+      subst (λ (y : Tree × State). Finds C at (lexemes.Mark m.LeftBrace) ps s y.0 y.1) same
       (λ d. let h = closed_sound inner Inner each m.RightBrace (with_pieces s ps) a.0.0 a.0.1 a.1 d in (h.0, a_tuple h.1))
 
   listed : (C : Clause') (ps rest : List Piece) (at : ℕ) (b : List Tree × Option Tree) → Bracketed inner Inner each ps b rest → Form own n Inner C (mark at m.LeftBracket ∷ ps) (tree_list b) rest
   listed C ps rest at (ts, None) h = a_list h
   listed C ps rest at (ts, Some t) h = a_join h.3 h.4
 
-  list_sound : (C : Clause') (at : ℕ) (ps : List Piece) (s : State) (c : Tree) (t : State) → list_at own n inner (with_pieces s ps) ≡ Ok (c, t) → Finds C at (A_mark m.LeftBracket) ps s c t
+  list_sound : (C : Clause') (at : ℕ) (ps : List Piece) (s : State) (c : Tree) (t : State) → list_at own n inner (with_pieces s ps) ≡ Ok (c, t) → Finds C at (lexemes.Mark m.LeftBracket) ps s c t
   unfolding list_at
   list_sound C at ps s c t e =
       let a = bind_ok _ _ _ e in
       let same : (tree_list a.0.0, a.0.1) ≡ (c, t) = ok_is _ _ a.2 in
-      subst (λ (y : Tree × State). Finds C at (A_mark m.LeftBracket) ps s y.0 y.1) same
+      subst (λ (y : Tree × State). Finds C at (lexemes.Mark m.LeftBracket) ps s y.0 y.1) same
       (λ d. let h = brackets_sound inner Inner each (with_pieces s ps) a.0.0 a.0.1 a.1 d in (h.0, listed C ps a.0.1.pieces at a.0.0 h.1))
 
-  values_sound : (C : Clause') (at : ℕ) (ps : List Piece) (s : State) (c : Tree) (t : State) → values_at own n inner (with_pieces s ps) ≡ Ok (c, t) → Finds C at (A_mark m.Less) ps s c t
+  values_sound : (C : Clause') (at : ℕ) (ps : List Piece) (s : State) (c : Tree) (t : State) → values_at own n inner (with_pieces s ps) ≡ Ok (c, t) → Finds C at (lexemes.Mark m.Less) ps s c t
   unfolding values_at
   values_sound C at ps s c t e =
       let a = bind_ok _ _ _ e in
-      let same : (Several (trees_of a.0.0), a.0.1) ≡ (c, t) = ok_is _ _ a.2 in
-      subst (λ (y : Tree × State). Finds C at (A_mark m.Less) ps s y.0 y.1) same
+      let same : (trees.Values (trees_of a.0.0), a.0.1) ≡ (c, t) = ok_is _ _ a.2 in
+      subst (λ (y : Tree × State). Finds C at (lexemes.Mark m.Less) ps s y.0 y.1) same
       (λ d. let h = closed_sound inner Inner each m.Greater (with_pieces s ps) a.0.0 a.0.1 a.1 d in (h.0, some_values h.1))
 
-  let_sound : (C : Clause') (at : ℕ) (ps : List Piece) (s : State) (c : Tree) (t : State) → let_at own n inner (with_pieces s ps) ≡ Ok (c, t) → Finds C at (A_word k.Let) ps s c t
+  let_sound : (C : Clause') (at : ℕ) (ps : List Piece) (s : State) (c : Tree) (t : State) → let_at own n inner (with_pieces s ps) ≡ Ok (c, t) → Finds C at (lexemes.Word k.Let) ps s c t
   unfolding let_at
   let_sound C at ps s c t e =
       let v = bind_ok _ _ _ e in
@@ -125,45 +128,45 @@ module _ (own : List ℕ) (n : ℕ) (inner : State → Read Tree) (Inner : List 
       let x = bind_ok _ _ _ q.2 in
       let w = bind_ok _ _ _ x.2 in
       let y = bind_ok _ _ _ w.2 in
-      let same : (Bound v.0.0 x.0.0 y.0.0, y.0.1) ≡ (c, t) = ok_is _ _ y.2 in
+      let same : (trees.Let v.0.0 x.0.0 y.0.0, y.0.1) ≡ (c, t) = ok_is _ _ y.2 in
       let step1 = mark_steps m.Equals v.0.1 q.0 q.1 in
       let step3 = word_steps k.In x.0.1 w.0 w.1 in
-      subst (λ (r : Tree × State). Finds C at (A_word k.Let) ps s r.0 r.1) same
+      subst (λ (r : Tree × State). Finds C at (lexemes.Word k.Let) ps s r.0 r.1) same
       (λ d.
       let body = each w.0 y.0.0 y.0.1 y.1 d in
       let value = each q.0 x.0.0 x.0.1 x.1 (step3.back body.0) in
       let vars = variables_sound n (with_pieces s ps) v.0.0 v.0.1 v.1 (step1.back value.0) in
       (vars.0, a_let (goes_to (Variables n) _ _ _ _ step1.pieces vars.1) (goes_to Inner _ _ _ _ step3.pieces value.1) body.1))
 
-  do_sound : (C : Clause') (at : ℕ) (ps : List Piece) (s : State) (c : Tree) (t : State) → do_at own n inner (with_pieces s ps) ≡ Ok (c, t) → Finds C at (A_word k.Do) ps s c t
+  do_sound : (C : Clause') (at : ℕ) (ps : List Piece) (s : State) (c : Tree) (t : State) → do_at own n inner (with_pieces s ps) ≡ Ok (c, t) → Finds C at (lexemes.Word k.Do) ps s c t
   unfolding do_at
   do_sound C at ps s c t e =
       let x = bind_ok _ _ _ e in
       let y = bind_ok _ _ _ x.2 in
-      let same : (Followed x.0.0 y.0.0, y.0.1) ≡ (c, t) = ok_is _ _ y.2 in
-      subst (λ (r : Tree × State). Finds C at (A_word k.Do) ps s r.0 r.1) same
+      let same : (trees.Do x.0.0 y.0.0, y.0.1) ≡ (c, t) = ok_is _ _ y.2 in
+      subst (λ (r : Tree × State). Finds C at (lexemes.Word k.Do) ps s r.0 r.1) same
       (λ d.
       let second = each x.0.1 y.0.0 y.0.1 y.1 d in
       let first = each (with_pieces s ps) x.0.0 x.0.1 x.1 second.0 in
       (first.0, a_do first.1 second.1))
 
-  apply_sound : (C : Clause') (at : ℕ) (ps : List Piece) (s : State) (c : Tree) (t : State) → apply_at own n inner at (with_pieces s ps) ≡ Ok (c, t) → Finds C at (A_word k.Apply) ps s c t
+  apply_sound : (C : Clause') (at : ℕ) (ps : List Piece) (s : State) (c : Tree) (t : State) → apply_at own n inner at (with_pieces s ps) ≡ Ok (c, t) → Finds C at (lexemes.Word k.Apply) ps s c t
   unfolding apply_at
   apply_sound C at ps s c t e =
       let f = bind_ok _ _ _ e in
       let a = bind_ok _ _ _ f.2 in
       let x = bind_ok _ _ _ a.2 in
       let b = bind_ok _ _ _ x.2 in
-      let same : (Called at (OfDefinition f.0.0) (trees_of x.0.0), b.0) ≡ (c, t) = ok_is _ _ b.2 in
+      let same : (trees.Call at (callees.Defined f.0.0) (trees_of x.0.0), b.0) ≡ (c, t) = ok_is _ _ b.2 in
       let s1 = mark_steps m.LeftParenthesis f.0.1 a.0 a.1 in
       let s2 = mark_steps m.RightParenthesis x.0.1 b.0 b.1 in
-      subst (λ (r : Tree × State). Finds C at (A_word k.Apply) ps s r.0 r.1) same
+      subst (λ (r : Tree × State). Finds C at (lexemes.Word k.Apply) ps s r.0 r.1) same
       (λ d.
       let args = exactly_sound inner Inner each m.RightParenthesis f.0.0.function.arity a.0 x.0.0 x.0.1 b.0 x.1 s2 d in
       let name = applied_sound n (with_pieces s ps) f.0.0 f.0.1 f.1 (s1.back args.0) in
       (name.0, an_apply (goes_to (FunctionName n) _ _ _ _ s1.pieces name.1) args.1 args.2))
 
-  call_sound : (C : Clause') (at : ℕ) (ps : List Piece) (s : State) (c : Tree) (t : State) → call_at own n inner at (with_pieces s ps) ≡ Ok (c, t) → Finds C at (A_word k.Call) ps s c t
+  call_sound : (C : Clause') (at : ℕ) (ps : List Piece) (s : State) (c : Tree) (t : State) → call_at own n inner at (with_pieces s ps) ≡ Ok (c, t) → Finds C at (lexemes.Word k.Call) ps s c t
   unfolding call_at
   call_sound C at ps s c t e done =
       let a = bind_ok _ _ _ e in
@@ -178,17 +181,17 @@ module _ (own : List ℕ) (n : ℕ) (inner : State → Read Tree) (Inner : List 
       let args = closed_sound inner Inner each m.RightParenthesis g.0 h.0.0 h.0.1 h.1 last in
       let second = callee_sound at n b.0 f.0.0 f.0.1 f.1 (s3.back args.0) in
       let first = callee_sound at n (with_pieces s ps) a.0.0 a.0.1 a.1 (s1.back second.0) in
-      let made : Form own n Inner C (word at k.Call ∷ ps) (Called at j.0 (trees_of h.0.0)) h.0.1.pieces =
+      let made : Form own n Inner C (word at k.Call ∷ ps) (trees.Call at j.0 (trees_of h.0.0)) h.0.1.pieces =
       a_call (goes_to (AtomIn n) _ _ _ _ s1.pieces first.1) (goes_to (AtomIn n) _ _ _ _ s3.pieces second.1) args.1 (callee_found own a.0.0 f.0.0 (length h.0.0) j.0 j.1) in (
         first.0,
-        subst (λ (x : Tree). Form own n Inner C (word at k.Call ∷ ps) x t.pieces) j.2 (subst (λ (u : State). Form own n Inner C (word at k.Call ∷ ps) (Called at j.0 (trees_of h.0.0)) u.pieces) j.3 made),
+        subst (λ (x : Tree). Form own n Inner C (word at k.Call ∷ ps) x t.pieces) j.2 (subst (λ (u : State). Form own n Inner C (word at k.Call ∷ ps) (trees.Call at j.0 (trees_of h.0.0)) u.pieces) j.3 made),
       )
 
   primop_form : (C : Clause') (at bt ct : ℕ) (ps p1 p2 rest : List Piece) (a : List ℕ) (callee : Callee) (ts : List Tree) → ps ≡ atom bt a ∷ p1 → p1 ≡ mark ct m.LeftParenthesis ∷ p2 → Enclosed Inner m.RightParenthesis p2 ts rest → Operates a (length ts) callee
-      → Form own n Inner C (word at k.Primop ∷ ps) (Called at callee (trees_of ts)) rest
+      → Form own n Inner C (word at k.Primop ∷ ps) (trees.Call at callee (trees_of ts)) rest
   primop_form C at bt ct ps p1 p2 rest a callee ts e0 e1 h is = rw (e0, e1) (a_primop h is)
 
-  primop_sound : (C : Clause') (at : ℕ) (ps : List Piece) (s : State) (c : Tree) (t : State) → primop_at own n inner at (with_pieces s ps) ≡ Ok (c, t) → Finds C at (A_word k.Primop) ps s c t
+  primop_sound : (C : Clause') (at : ℕ) (ps : List Piece) (s : State) (c : Tree) (t : State) → primop_at own n inner at (with_pieces s ps) ≡ Ok (c, t) → Finds C at (lexemes.Word k.Primop) ps s c t
   unfolding primop_at
   primop_sound C at ps s c t e done =
       let a = bind_ok _ _ _ e in
@@ -199,13 +202,13 @@ module _ (own : List ℕ) (n : ℕ) (inner : State → Read Tree) (Inner : List 
       let s1 = mark_steps m.LeftParenthesis a.0.1 g.0 g.1 in
       let last : h.0.1.refused ≡ None = ap (λ (u : State). u.refused) j.3 ∙ done in
       let args = closed_sound inner Inner each m.RightParenthesis g.0 h.0.0 h.0.1 h.1 last in
-      let made : Form own n Inner C (word at k.Primop ∷ ps) (Called at j.0 (trees_of h.0.0)) h.0.1.pieces =
+      let made : Form own n Inner C (word at k.Primop ∷ ps) (trees.Call at j.0 (trees_of h.0.0)) h.0.1.pieces =
       primop_form C at s0.at s1.at ps a.0.1.pieces g.0.pieces h.0.1.pieces a.0.0 j.0 h.0.0 s0.pieces s1.pieces args.1 (operation_found a.0.0 (length h.0.0) j.0 j.1) in (
         s0.back (s1.back args.0),
-        subst (λ (x : Tree). Form own n Inner C (word at k.Primop ∷ ps) x t.pieces) j.2 (subst (λ (u : State). Form own n Inner C (word at k.Primop ∷ ps) (Called at j.0 (trees_of h.0.0)) u.pieces) j.3 made),
+        subst (λ (x : Tree). Form own n Inner C (word at k.Primop ∷ ps) x t.pieces) j.2 (subst (λ (u : State). Form own n Inner C (word at k.Primop ∷ ps) (trees.Call at j.0 (trees_of h.0.0)) u.pieces) j.3 made),
       )
 
-  try_sound : (C : Clause') (at : ℕ) (ps : List Piece) (s : State) (c : Tree) (t : State) → try_at own n inner at (with_pieces s ps) ≡ Ok (c, t) → Finds C at (A_word k.Try) ps s c t
+  try_sound : (C : Clause') (at : ℕ) (ps : List Piece) (s : State) (c : Tree) (t : State) → try_at own n inner at (with_pieces s ps) ≡ Ok (c, t) → Finds C at (lexemes.Word k.Try) ps s c t
   unfolding try_at
   try_sound C at ps s c t e =
       let x = bind_ok _ _ _ e in
@@ -217,12 +220,12 @@ module _ (own : List ℕ) (n : ℕ) (inner : State → Read Tree) (Inner : List 
       let w = bind_ok _ _ _ q3.2 in
       let q4 = bind_ok _ _ _ w.2 in
       let z = bind_ok _ _ _ q4.2 in
-      let same : (Tried at x.0.0 v.0.0 y.0.0 w.0.0 z.0.0, z.0.1) ≡ (c, t) = ok_is _ _ z.2 in
+      let same : (trees.Try at x.0.0 v.0.0 y.0.0 w.0.0 z.0.0, z.0.1) ≡ (c, t) = ok_is _ _ z.2 in
       let s1 = word_steps k.Of x.0.1 q1.0 q1.1 in
       let s2 = mark_steps m.Arrow v.0.1 q2.0 q2.1 in
       let s3 = word_steps k.Catch y.0.1 q3.0 q3.1 in
       let s4 = mark_steps m.Arrow w.0.1 q4.0 q4.1 in
-      subst (λ (r : Tree × State). Finds C at (A_word k.Try) ps s r.0 r.1) same
+      subst (λ (r : Tree × State). Finds C at (lexemes.Word k.Try) ps s r.0 r.1) same
       (λ d.
       let handler = each q4.0 z.0.0 z.0.1 z.1 d in
       let caught = caught_sound n q3.0 w.0.0 w.0.1 w.1 (s4.back handler.0) in
@@ -231,19 +234,19 @@ module _ (own : List ℕ) (n : ℕ) (inner : State → Read Tree) (Inner : List 
       let value = each (with_pieces s ps) x.0.0 x.0.1 x.1 (s1.back vars.0) in
       (value.0, a_try (goes_to Inner _ _ _ _ s1.pieces value.1) (goes_to (Variables n) _ _ _ _ s2.pieces vars.1) (goes_to Inner _ _ _ _ s3.pieces body.1) (goes_to (CaughtVariables n) _ _ _ _ s4.pieces caught.1) handler.1))
 
-  catch_sound : (C : Clause') (at : ℕ) (ps : List Piece) (s : State) (c : Tree) (t : State) → catch_at own n inner at (with_pieces s ps) ≡ Ok (c, t) → Finds C at (A_word k.Catch) ps s c t
+  catch_sound : (C : Clause') (at : ℕ) (ps : List Piece) (s : State) (c : Tree) (t : State) → catch_at own n inner at (with_pieces s ps) ≡ Ok (c, t) → Finds C at (lexemes.Word k.Catch) ps s c t
   unfolding catch_at
   catch_sound C at ps s c t e =
       let x = bind_ok _ _ _ e in
-      let same : (Caught at x.0.0, x.0.1) ≡ (c, t) = ok_is _ _ x.2 in
-      subst (λ (r : Tree × State). Finds C at (A_word k.Catch) ps s r.0 r.1) same
+      let same : (trees.Catch at x.0.0, x.0.1) ≡ (c, t) = ok_is _ _ x.2 in
+      subst (λ (r : Tree × State). Finds C at (lexemes.Word k.Catch) ps s r.0 r.1) same
       (λ d. let h = each (with_pieces s ps) x.0.0 x.0.1 x.1 d in (h.0, a_catch h.1))
 
-  name_sound : (C : Clause') (at : ℕ) (o : Option (List Piece)) (x : List ℕ) (ps : List Piece) (s : State) (c : Tree) (t : State) → after_mark m.Slash ps ≡ o → name_by o x ps s ≡ Ok (c, t) → Finds C at (An_atom x) ps s c t
+  name_sound : (C : Clause') (at : ℕ) (o : Option (List Piece)) (x : List ℕ) (ps : List Piece) (s : State) (c : Tree) (t : State) → after_mark m.Slash ps ≡ o → name_by o x ps s ≡ Ok (c, t) → Finds C at (lexemes.Atom x) ps s c t
   name_sound C at (Some qs) x ps s c t is e = absurd cc
   name_sound C at None x ps s c t is e =
-      let same : (Name x, with_pieces s ps) ≡ (c, t) = ok_is _ _ e in
-      subst (λ (r : Tree × State). Finds C at (An_atom x) ps s r.0 r.1) same (λ d. (d, a_name (no_slash ps is)))
+      let same : (trees.Atom x, with_pieces s ps) ≡ (c, t) = ok_is _ _ e in
+      subst (λ (r : Tree × State). Finds C at (lexemes.Atom x) ps s r.0 r.1) same (λ d. (d, a_name (no_slash ps is)))
 
   -- ---- clauses
 
@@ -364,7 +367,7 @@ module _ (own : List ℕ) (n : ℕ) (inner : State → Read Tree) (Inner : List 
           let g = starts s x.0.0 x.0.1 x.1 h.0 in
           (g.0, h.1 g.1)
 
-      case_sound : (at : ℕ) (ps : List Piece) (s : State) (c : Tree) (t : State) → case_at own n inner start at (with_pieces s ps) ≡ Ok (c, t) → Finds AnyClause at (A_word k.Case) ps s c t
+      case_sound : (at : ℕ) (ps : List Piece) (s : State) (c : Tree) (t : State) → case_at own n inner start at (with_pieces s ps) ≡ Ok (c, t) → Finds AnyClause at (lexemes.Word k.Case) ps s c t
       unfolding case_at
       case_sound at ps s c t e =
           let x = bind_ok _ _ _ e in
@@ -372,10 +375,10 @@ module _ (own : List ℕ) (n : ℕ) (inner : State → Read Tree) (Inner : List 
           let f = bind_ok _ _ _ a.2 in
           let g = bind_ok _ _ _ f.2 in
           let b = bind_ok _ _ _ g.2 in
-          let same : (Chosen at x.0.0 (clauses_of (f.0.0 ∷ g.0.0)), b.0) ≡ (c, t) = ok_is _ _ b.2 in
+          let same : (trees.Case at x.0.0 (clauses_of (f.0.0 ∷ g.0.0)), b.0) ≡ (c, t) = ok_is _ _ b.2 in
           let s1 = word_steps k.Of x.0.1 a.0 a.1 in
           let s2 = word_steps k.End g.0.1 b.0 b.1 in
-          subst (λ (r : Tree × State). Finds AnyClause at (A_word k.Case) ps s r.0 r.1) same
+          subst (λ (r : Tree × State). Finds AnyClause at (lexemes.Word k.Case) ps s r.0 r.1) same
           (λ d.
           let others = rows_sound (clause_at own n inner start) AnyClause clause_sound f.0.1 g.0.0 g.0.1 g.1 (s2.back d) in
           let first = clause_sound a.0 f.0.0 f.0.1 f.1 others.0 in
@@ -383,32 +386,32 @@ module _ (own : List ℕ) (n : ℕ) (inner : State → Read Tree) (Inner : List 
           (value.0, a_case (goes_to Inner _ _ _ _ s1.pieces value.1) first.1 (goes_to (Row AnyClause) _ _ _ _ s2.pieces others.1)))
 
       form_by_sound : (at : ℕ) (shape : Shape) (ps : List Piece) (s : State) (c : Tree) (t : State) → form_by own n inner start at shape ps s ≡ Ok (c, t) → Finds AnyClause at shape ps s c t
-      form_by_sound at (An_integer i) ps s c t e =
-          let same : (Number i, with_pieces s ps) ≡ (c, t) = ok_is _ _ e in
-          subst (λ (r : Tree × State). Finds AnyClause at (An_integer i) ps s r.0 r.1) same (λ d. (d, a_number))
-      form_by_sound at (A_character i) ps s c t e =
-          let same : (Character i, with_pieces s ps) ≡ (c, t) = ok_is _ _ e in
-          subst (λ (r : Tree × State). Finds AnyClause at (A_character i) ps s r.0 r.1) same (λ d. (d, a_character))
-      form_by_sound at (A_text i) ps s c t e =
-          let same : (Text i, with_pieces s ps) ≡ (c, t) = ok_is _ _ e in
-          subst (λ (r : Tree × State). Finds AnyClause at (A_text i) ps s r.0 r.1) same (λ d. (d, a_text))
-      form_by_sound at (An_atom x) ps s c t e = name_sound AnyClause at (after_mark m.Slash ps) x ps s c t refl e
-      form_by_sound at (A_variable v) ps s c t e =
+      form_by_sound at (lexemes.Integer i) ps s c t e =
+          let same : (trees.Integer i, with_pieces s ps) ≡ (c, t) = ok_is _ _ e in
+          subst (λ (r : Tree × State). Finds AnyClause at (lexemes.Integer i) ps s r.0 r.1) same (λ d. (d, a_number))
+      form_by_sound at (lexemes.Character i) ps s c t e =
+          let same : (trees.Character i, with_pieces s ps) ≡ (c, t) = ok_is _ _ e in
+          subst (λ (r : Tree × State). Finds AnyClause at (lexemes.Character i) ps s r.0 r.1) same (λ d. (d, a_character))
+      form_by_sound at (lexemes.Text i) ps s c t e =
+          let same : (trees.Text i, with_pieces s ps) ≡ (c, t) = ok_is _ _ e in
+          subst (λ (r : Tree × State). Finds AnyClause at (lexemes.Text i) ps s r.0 r.1) same (λ d. (d, a_text))
+      form_by_sound at (lexemes.Atom x) ps s c t e = name_sound AnyClause at (after_mark m.Slash ps) x ps s c t refl e
+      form_by_sound at (lexemes.Variable v) ps s c t e =
           let here : Mention = record { at = at; name = v } in
-          let same : (Mentioned here, with_pieces s ps) ≡ (c, t) = ok_is _ _ e in
-          subst (λ (r : Tree × State). Finds AnyClause at (A_variable v) ps s r.0 r.1) same (λ d. (d, a_variable))
-      form_by_sound at (A_mark m.LeftBrace) ps s c t e = tuple_sound AnyClause at ps s c t e
-      form_by_sound at (A_mark m.LeftBracket) ps s c t e = list_sound AnyClause at ps s c t e
-      form_by_sound at (A_mark m.Less) ps s c t e = values_sound AnyClause at ps s c t e
-      form_by_sound at (A_mark m.LeftParenthesis) ps s c t e = λ d. let h = in_note_sound (constant_at n) (ConstantIn n) (constant_sound n) inner Inner each at ps s c t e d in (h.0, a_noted h.1)
-      form_by_sound at (A_word k.Let) ps s c t e = let_sound AnyClause at ps s c t e
-      form_by_sound at (A_word k.Case) ps s c t e = case_sound at ps s c t e
-      form_by_sound at (A_word k.Do) ps s c t e = do_sound AnyClause at ps s c t e
-      form_by_sound at (A_word k.Apply) ps s c t e = apply_sound AnyClause at ps s c t e
-      form_by_sound at (A_word k.Call) ps s c t e = call_sound AnyClause at ps s c t e
-      form_by_sound at (A_word k.Primop) ps s c t e = primop_sound AnyClause at ps s c t e
-      form_by_sound at (A_word k.Try) ps s c t e = try_sound AnyClause at ps s c t e
-      form_by_sound at (A_word k.Catch) ps s c t e = catch_sound AnyClause at ps s c t e
+          let same : (trees.Variable here, with_pieces s ps) ≡ (c, t) = ok_is _ _ e in
+          subst (λ (r : Tree × State). Finds AnyClause at (lexemes.Variable v) ps s r.0 r.1) same (λ d. (d, a_variable))
+      form_by_sound at (lexemes.Mark m.LeftBrace) ps s c t e = tuple_sound AnyClause at ps s c t e
+      form_by_sound at (lexemes.Mark m.LeftBracket) ps s c t e = list_sound AnyClause at ps s c t e
+      form_by_sound at (lexemes.Mark m.Less) ps s c t e = values_sound AnyClause at ps s c t e
+      form_by_sound at (lexemes.Mark m.LeftParenthesis) ps s c t e = λ d. let h = in_note_sound (constant_at n) (ConstantIn n) (constant_sound n) inner Inner each at ps s c t e d in (h.0, a_noted h.1)
+      form_by_sound at (lexemes.Word k.Let) ps s c t e = let_sound AnyClause at ps s c t e
+      form_by_sound at (lexemes.Word k.Case) ps s c t e = case_sound at ps s c t e
+      form_by_sound at (lexemes.Word k.Do) ps s c t e = do_sound AnyClause at ps s c t e
+      form_by_sound at (lexemes.Word k.Apply) ps s c t e = apply_sound AnyClause at ps s c t e
+      form_by_sound at (lexemes.Word k.Call) ps s c t e = call_sound AnyClause at ps s c t e
+      form_by_sound at (lexemes.Word k.Primop) ps s c t e = primop_sound AnyClause at ps s c t e
+      form_by_sound at (lexemes.Word k.Try) ps s c t e = try_sound AnyClause at ps s c t e
+      form_by_sound at (lexemes.Word k.Catch) ps s c t e = catch_sound AnyClause at ps s c t e
       form_by_sound at shape ps s c t e = absurd cc
 
       form_of_sound : (ps : List Piece) (s : State) (c : Tree) (t : State) → form_of own n inner start ps s ≡ Ok (c, t) → t.refused ≡ None → (s.refused ≡ None) × Form own n Inner AnyClause ps c t.pieces

@@ -7,8 +7,8 @@ use Rattle.core_tree.specs.Syntax.{Mention, Tree, Constant, NamedAt, AttributeTr
 use Rattle.core_grammar.specs.declared.unserved.Unserved.{Unserved}
 use Rattle.core_grammar.specs.Grammar.{mark, word, atom, InNote, in_note, stands_bare, stands_noted, Annotated, Noted, Enclosed, Row, FunctionName, Variable, ConstantIn, Expression, level_limit, Attribute, an_attribute, BareFun, is_fun, Fun, BareDefinition, a_definition, Definition, BareModule, a_module, Spells}
 use Rattle.core_grammar.specs.Depth.{FunOf}
-use Rattle.core_grammar.specs.Reading.{State, Read, after_mark, function_name_at, variable_at, constant_at, place_of}
-use Rattle.core_grammar.specs.ReadingModules.{attribute_at, bare_fun_at, fun_at, behind_name_at, Opening, TheName, WholeDefinition, opening_by, opened, inside_opening_at, bare_opening_at, opening_last, opening_next, opening_at, definition_of_opening, definition_at, front_at, bare_module_at, ended, module_at}
+use Rattle.core_grammar.specs.inside.Decoder.{State, Read, after_mark, function_name_at, variable_at, constant_at, place_of}
+use Rattle.core_grammar.specs.inside.DecoderModules.{attribute_at, bare_fun_at, fun_at, behind_name_at, Opening, TheName, WholeDefinition, opening_by, opened, inside_opening_at, bare_opening_at, opening_last, opening_next, opening_at, definition_of_opening, definition_at, front_at, bare_module_at, ended, module_at}
 use Rattle.core_grammar.proofs.Steps.{ok_is, bind_ok, after_mark_found, mark_steps, word_steps, atom_steps, bare_name_sound, Sound}
 use Rattle.core_grammar.proofs.SoundLists.{closed_sound, exactly_sound, rows_sound}
 use Rattle.core_grammar.proofs.SoundNames.{in_note_sound, constant_sound, at_front, noted_sound, function_name_sound, variable_sound}

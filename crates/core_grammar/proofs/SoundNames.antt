@@ -1,11 +1,13 @@
 -- Constants, annotations and names that are read are spelt.
 use Rattle.std.proofs.Common.{◌≡◌, ℕ, zero, suc, List, [], ◌∷◌, Option, Some, None, Ok, refl, sym, subst}
 use Rattle.core_tokens.specs.declared.token.Mark.TheVariants as m
-use Rattle.core_tokens.specs.Piece.{Piece, Shape, A_mark, An_atom, An_integer, A_character, A_text}
-use Rattle.core_tree.specs.Syntax.{Mention, Constant, NumberOf, CharacterOf, TextOf, NameOf, GroupOf, constants_of}
+use Rattle.core_tokens.specs.Piece.{Piece, Shape}
+use Rattle.core_tokens.specs.Piece as lexemes
+use Rattle.core_tree.specs.Syntax.{Mention, Constant, constants_of}
+use Rattle.core_tree.specs.Constant as constants
 use Rattle.core_grammar.specs.declared.unserved.Unserved.{Unserved}
 use Rattle.core_grammar.specs.Grammar.{mark, Note, is_note, InNote, in_note, stands_bare, stands_noted, Noted, Enclosed, ConstantForm, is_integer, is_character, is_text, is_atom, is_tuple, is_list, is_join, is_noted, ConstantIn, BareName, FunctionName, BareVariable, Variable, BareVariables, one_variable, variables_in_angles, Variables, BareCaught, catches_two, catches_three, CaughtVariables}
-use Rattle.core_grammar.specs.Reading.{State, Read, with_pieces, after_mark, constant_list, note_at, in_note_at, constant_tuple_at, constant_list_at, constant_by, constant_form_by, constant_form_at, constant_at, noted_last, noted_by, noted_at, bare_name_at, function_name_at, bare_variable_at, variable_at, bare_variables_by, bare_variables_at, variables_at, third_by, bare_caught_at, caught_at}
+use Rattle.core_grammar.specs.inside.Decoder.{State, Read, with_pieces, after_mark, constant_list, note_at, in_note_at, constant_tuple_at, constant_list_at, constant_by, constant_form_by, constant_form_at, constant_at, noted_last, noted_by, noted_at, bare_name_at, function_name_at, bare_variable_at, variable_at, bare_variables_by, bare_variables_at, variables_at, third_by, bare_caught_at, caught_at}
 use Rattle.core_grammar.proofs.Steps.{ok_is, bind_ok, after_mark_found, mark_steps, Sound, bare_variable_sound, bare_name_sound}
 use Rattle.core_grammar.proofs.SoundLists.{closed_sound, Bracketed, brackets_sound}
 
@@ -54,38 +56,38 @@ module _ {left : Option Unserved} (inner : State → Read Constant) (Inner : Lis
   abbrev Reads : ℕ → Shape → List Piece → State → Constant → State → Type 0
   Reads at shape ps s c t = t.refused ≡ left → (s.refused ≡ left) × ConstantForm Inner (record { at = at; shape = shape } ∷ ps) c t.pieces
 
-  constant_tuple_sound : (at : ℕ) (ps : List Piece) (s : State) (c : Constant) (t : State) → constant_tuple_at inner (with_pieces s ps) ≡ Ok (c, t) → Reads at (A_mark m.LeftBrace) ps s c t
+  constant_tuple_sound : (at : ℕ) (ps : List Piece) (s : State) (c : Constant) (t : State) → constant_tuple_at inner (with_pieces s ps) ≡ Ok (c, t) → Reads at (lexemes.Mark m.LeftBrace) ps s c t
   unfolding constant_tuple_at
   constant_tuple_sound at ps s c t e =
       let a = bind_ok _ _ _ e in
-      let same : (GroupOf (constants_of a.0.0), a.0.1) ≡ (c, t) = ok_is _ _ a.2 in
-      subst (λ (y : Constant × State). Reads at (A_mark m.LeftBrace) ps s y.0 y.1) same
+      let same : (constants.Tuple (constants_of a.0.0), a.0.1) ≡ (c, t) = ok_is _ _ a.2 in
+      subst (λ (y : Constant × State). Reads at (lexemes.Mark m.LeftBrace) ps s y.0 y.1) same
       (λ d. let h = closed_sound inner Inner each m.RightBrace (with_pieces s ps) a.0.0 a.0.1 a.1 d in (h.0, is_tuple h.1))
 
-  constant_list_sound : (at : ℕ) (ps : List Piece) (s : State) (c : Constant) (t : State) → constant_list_at inner (with_pieces s ps) ≡ Ok (c, t) → Reads at (A_mark m.LeftBracket) ps s c t
+  constant_list_sound : (at : ℕ) (ps : List Piece) (s : State) (c : Constant) (t : State) → constant_list_at inner (with_pieces s ps) ≡ Ok (c, t) → Reads at (lexemes.Mark m.LeftBracket) ps s c t
   unfolding constant_list_at
   constant_list_sound at ps s c t e =
       let a = bind_ok _ _ _ e in
       let same : (constant_list a.0.0, a.0.1) ≡ (c, t) = ok_is _ _ a.2 in
-      subst (λ (y : Constant × State). Reads at (A_mark m.LeftBracket) ps s y.0 y.1) same
+      subst (λ (y : Constant × State). Reads at (lexemes.Mark m.LeftBracket) ps s y.0 y.1) same
       (λ d. let h = brackets_sound inner Inner each (with_pieces s ps) a.0.0 a.0.1 a.1 d in (h.0, constant_listed ps a.0.1.pieces at a.0.0 h.1))
 
   constant_by_sound : (at : ℕ) (shape : Shape) (ps : List Piece) (s : State) (c : Constant) (t : State) → constant_by inner shape ps s ≡ Ok (c, t) → Reads at shape ps s c t
-  constant_by_sound at (An_integer n) ps s c t e =
-      let same : (NumberOf n, with_pieces s ps) ≡ (c, t) = ok_is _ _ e in
-      subst (λ (y : Constant × State). Reads at (An_integer n) ps s y.0 y.1) same (λ d. (d, is_integer))
-  constant_by_sound at (A_character n) ps s c t e =
-      let same : (CharacterOf n, with_pieces s ps) ≡ (c, t) = ok_is _ _ e in
-      subst (λ (y : Constant × State). Reads at (A_character n) ps s y.0 y.1) same (λ d. (d, is_character))
-  constant_by_sound at (A_text n) ps s c t e =
-      let same : (TextOf n, with_pieces s ps) ≡ (c, t) = ok_is _ _ e in
-      subst (λ (y : Constant × State). Reads at (A_text n) ps s y.0 y.1) same (λ d. (d, is_text))
-  constant_by_sound at (An_atom n) ps s c t e =
-      let same : (NameOf n, with_pieces s ps) ≡ (c, t) = ok_is _ _ e in
-      subst (λ (y : Constant × State). Reads at (An_atom n) ps s y.0 y.1) same (λ d. (d, is_atom))
-  constant_by_sound at (A_mark m.LeftBrace) ps s c t e = constant_tuple_sound at ps s c t e
-  constant_by_sound at (A_mark m.LeftBracket) ps s c t e = constant_list_sound at ps s c t e
-  constant_by_sound at (A_mark m.LeftParenthesis) ps s c t e = λ d. let h = in_note_sound inner Inner each inner Inner each at ps s c t e d in (h.0, is_noted h.1)
+  constant_by_sound at (lexemes.Integer n) ps s c t e =
+      let same : (constants.Integer n, with_pieces s ps) ≡ (c, t) = ok_is _ _ e in
+      subst (λ (y : Constant × State). Reads at (lexemes.Integer n) ps s y.0 y.1) same (λ d. (d, is_integer))
+  constant_by_sound at (lexemes.Character n) ps s c t e =
+      let same : (constants.Character n, with_pieces s ps) ≡ (c, t) = ok_is _ _ e in
+      subst (λ (y : Constant × State). Reads at (lexemes.Character n) ps s y.0 y.1) same (λ d. (d, is_character))
+  constant_by_sound at (lexemes.Text n) ps s c t e =
+      let same : (constants.Text n, with_pieces s ps) ≡ (c, t) = ok_is _ _ e in
+      subst (λ (y : Constant × State). Reads at (lexemes.Text n) ps s y.0 y.1) same (λ d. (d, is_text))
+  constant_by_sound at (lexemes.Atom n) ps s c t e =
+      let same : (constants.Atom n, with_pieces s ps) ≡ (c, t) = ok_is _ _ e in
+      subst (λ (y : Constant × State). Reads at (lexemes.Atom n) ps s y.0 y.1) same (λ d. (d, is_atom))
+  constant_by_sound at (lexemes.Mark m.LeftBrace) ps s c t e = constant_tuple_sound at ps s c t e
+  constant_by_sound at (lexemes.Mark m.LeftBracket) ps s c t e = constant_list_sound at ps s c t e
+  constant_by_sound at (lexemes.Mark m.LeftParenthesis) ps s c t e = λ d. let h = in_note_sound inner Inner each inner Inner each at ps s c t e d in (h.0, is_noted h.1)
   constant_by_sound at shape ps s c t e = absurd cc
 
   constant_form_by_sound : (ps : List Piece) (s : State) (c : Constant) (t : State) → constant_form_by inner ps s ≡ Ok (c, t) → t.refused ≡ left → (s.refused ≡ left) × ConstantForm Inner ps c t.pieces

@@ -8,12 +8,13 @@ use Rattle.core_tokens.specs.declared.token.Mark.{Mark}
 use Rattle.core_tokens.specs.declared.token.Mark.TheVariants as m
 use Rattle.core_tokens.specs.declared.token.Keyword.{Keyword}
 use Rattle.core_tokens.specs.declared.token.Keyword.TheVariants as k
-use Rattle.core_tokens.specs.Piece.{Piece, Shape, A_word, A_mark, An_atom, A_variable, An_integer}
+use Rattle.core_tokens.specs.Piece.{Piece, Shape}
+use Rattle.core_tokens.specs.Piece as lexemes
 use Rattle.core_tree.specs.Syntax.{Mention, NamedAt}
 use Rattle.core_grammar.specs.declared.unserved.Unserved.{Unserved}
 use Rattle.core_grammar.specs.Grammar.{mark, word, atom, variable, integer, BareName, names_function, BareVariable, names_variable}
 use Rattle.core_scopes.specs.Outcomes.{◌>>=◌}
-use Rattle.core_grammar.specs.Reading.{State, Read, with_pieces, mark_number, word_number, is_mark, is_word, after_mark, after_word, fault, passed, mark_at, word_at, taken_by, taken, atom_in, atom_at, named_by, placed_atom_at, arity_by, arity_in, arity_at, mention_by, bare_variable_at, behind_atom_at, bare_name_at}
+use Rattle.core_grammar.specs.inside.Decoder.{State, Read, with_pieces, mark_number, word_number, is_mark, is_word, after_mark, after_word, fault, passed, mark_at, word_at, taken_by, taken, atom_in, atom_at, named_by, placed_atom_at, arity_by, arity_in, arity_at, mention_by, bare_variable_at, behind_atom_at, bare_name_at}
 
 abbrev pub done : {A : Type 0} → A → Result A ReadFault
 done x = Ok x
@@ -81,12 +82,12 @@ word_back k.Letrec = refl
 pub same_word : (x y : Keyword) → word_number x ≡ word_number y → x ≡ y
 same_word x y e = sym (word_back x) ∙ ap (λ (n : ℕ). get_or words n k.End) e ∙ word_back y
 
-pub is_mark_true : (x : Mark) (shape : Shape) → is_mark x shape ≡ true → shape ≡ A_mark x
-is_mark_true x (A_mark y) e = ap A_mark (same_mark y x (eqb-true _ _ e))
+pub is_mark_true : (x : Mark) (shape : Shape) → is_mark x shape ≡ true → shape ≡ lexemes.Mark x
+is_mark_true x (lexemes.Mark y) e = ap lexemes.Mark (same_mark y x (eqb-true _ _ e))
 is_mark_true x shape e = absurd cc
 
-is_word_true : (x : Keyword) (shape : Shape) → is_word x shape ≡ true → shape ≡ A_word x
-is_word_true x (A_word y) e = ap A_word (same_word y x (eqb-true _ _ e))
+is_word_true : (x : Keyword) (shape : Shape) → is_word x shape ≡ true → shape ≡ lexemes.Word x
+is_word_true x (lexemes.Word y) e = ap lexemes.Word (same_word y x (eqb-true _ _ e))
 is_word_true x shape e = absurd cc
 
 chosen : {A : Type 0} (b : Bool) (x y : A) → cond b (Some x) None ≡ Some y → (b ≡ true) × (x ≡ y)
@@ -97,7 +98,7 @@ pub after_mark_found : (x : Mark) (ps rest : List Piece) → after_mark x ps ≡
 after_mark_found x [] rest e = absurd cc
 after_mark_found x (p ∷ ps) rest e =
     let c = chosen (is_mark x p.shape) ps rest e in
-    let shape : p.shape ≡ A_mark x = is_mark_true x p.shape c.0 in
+    let shape : p.shape ≡ lexemes.Mark x = is_mark_true x p.shape c.0 in
     let piece : p ≡ mark p.at x = ap (λ (s : Shape). record { at = p.at; shape = s }) shape in
     (p.at, ap (λ (q : Piece). q ∷ ps) piece ∙ ap (λ (qs : List Piece). mark p.at x ∷ qs) c.1)
 
@@ -105,7 +106,7 @@ pub after_word_found : (x : Keyword) (ps rest : List Piece) → after_word x ps 
 after_word_found x [] rest e = absurd cc
 after_word_found x (p ∷ ps) rest e =
     let c = chosen (is_word x p.shape) ps rest e in
-    let shape : p.shape ≡ A_word x = is_word_true x p.shape c.0 in
+    let shape : p.shape ≡ lexemes.Word x = is_word_true x p.shape c.0 in
     let piece : p ≡ word p.at x = ap (λ (s : Shape). record { at = p.at; shape = s }) shape in
     (p.at, ap (λ (q : Piece). q ∷ ps) piece ∙ ap (λ (qs : List Piece). word p.at x ∷ qs) c.1)
 
@@ -159,8 +160,8 @@ taken_of of (p ∷ ps) s f x t is e =
 pub taken_ok : {X : Type 0} (of : Piece → Option X) (s : State) (f : ReadFault) (x : X) (t : State) → taken of s.pieces s f ≡ Ok (x, t) → Takes of s x t
 taken_ok of s f x t e = taken_of of s.pieces s f x t refl e
 
-atom_in_some : (shape : Shape) (t : List ℕ) → atom_in shape ≡ Some t → shape ≡ An_atom t
-atom_in_some (An_atom u) t e = let same : u ≡ t = cc in ap An_atom same
+atom_in_some : (shape : Shape) (t : List ℕ) → atom_in shape ≡ Some t → shape ≡ lexemes.Atom t
+atom_in_some (lexemes.Atom u) t e = let same : u ≡ t = cc in ap lexemes.Atom same
 atom_in_some shape t e = absurd cc
 
 -- an atom in front
@@ -173,10 +174,10 @@ pub atom_steps : (s : State) (a : List ℕ) (t : State) → atom_at s ≡ Ok (a,
 unfolding atom_at
 atom_steps s a t e = atom_of_front s a t (taken_ok (λ p. atom_in p.shape) s (fault s) a t e)
 
-pub named_by_some : (at : ℕ) (shape : Shape) (a : ℕ × List ℕ) → named_by at shape ≡ Some a → (shape ≡ An_atom a.1) × (at ≡ a.0)
-named_by_some at (An_atom u) a e =
+pub named_by_some : (at : ℕ) (shape : Shape) (a : ℕ × List ℕ) → named_by at shape ≡ Some a → (shape ≡ lexemes.Atom a.1) × (at ≡ a.0)
+named_by_some at (lexemes.Atom u) a e =
     let same : (at, u) ≡ a = cc in
-    (ap (λ (b : ℕ × List ℕ). An_atom b.1) same, ap (λ (b : ℕ × List ℕ). b.0) same)
+    (ap (λ (b : ℕ × List ℕ). lexemes.Atom b.1) same, ap (λ (b : ℕ × List ℕ). b.0) same)
 named_by_some at shape a e = absurd cc
 
 pub placed_atom_steps : (s : State) (a : ℕ × List ℕ) (t : State) → placed_atom_at s ≡ Ok (a, t) → (s.pieces ≡ atom a.0 a.1 ∷ t.pieces) × (s.refused ≡ t.refused)
@@ -194,8 +195,8 @@ arity_by_some (pos x) n e =
     (ap pos c.1, subst (λ (y : ℕ). y < 256) c.1 small)
 arity_by_some (negsuc x) n e = absurd cc
 
-arity_in_some : (shape : Shape) (n : ℕ) → arity_in shape ≡ Some n → (shape ≡ An_integer (pos n)) × (n < 256)
-arity_in_some (An_integer z) n e = let a = arity_by_some z n e in (ap An_integer a.0, a.1)
+arity_in_some : (shape : Shape) (n : ℕ) → arity_in shape ≡ Some n → (shape ≡ lexemes.Integer (pos n)) × (n < 256)
+arity_in_some (lexemes.Integer z) n e = let a = arity_by_some z n e in (ap lexemes.Integer a.0, a.1)
 arity_in_some shape n e = absurd cc
 
 arity_steps : (s : State) (n : ℕ) (t : State) → arity_at s ≡ Ok (n, t) → Steps (λ at. integer at (pos n)) s t × (n < 256)
@@ -206,11 +207,11 @@ arity_steps s n t e =
     let piece : h.front ≡ integer h.front.at (pos n) = ap (λ (x : Shape). record { at = h.front.at; shape = x }) a.0 in
     (record { at = h.front.at; pieces = h.pieces ∙ ap (λ (q : Piece). q ∷ t.pieces) piece; back = h.back }, a.1)
 
-mention_by_some : (at : ℕ) (shape : Shape) (v : Mention) → mention_by at shape ≡ Some v → (shape ≡ A_variable v.name) × (at ≡ v.at)
-mention_by_some at (A_variable u) v e =
+mention_by_some : (at : ℕ) (shape : Shape) (v : Mention) → mention_by at shape ≡ Some v → (shape ≡ lexemes.Variable v.name) × (at ≡ v.at)
+mention_by_some at (lexemes.Variable u) v e =
     let here : Mention = record { at = at; name = u } in
     let same : here ≡ v = cc in
-    (ap (λ (w : Mention). A_variable w.name) same, ap (λ (w : Mention). w.at) same)
+    (ap (λ (w : Mention). lexemes.Variable w.name) same, ap (λ (w : Mention). w.at) same)
 mention_by_some at shape v e = absurd cc
 
 pub variable_steps : (s : State) (v : Mention) (t : State) → bare_variable_at s ≡ Ok (v, t) → (s.pieces ≡ variable v.at v.name ∷ t.pieces) × (s.refused ≡ t.refused)

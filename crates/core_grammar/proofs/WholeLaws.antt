@@ -4,7 +4,7 @@ use Rattle.core_tokens.specs.declared.fault.ReadFault.{ReadFault}
 use Rattle.core_tokens.specs.Piece.{Piece}
 use Rattle.core_tree.specs.Syntax.{ModuleTree}
 use Rattle.core_grammar.specs.Grammar.{Spells}
-use Rattle.core_grammar.specs.ReadingModules.{module_at}
+use Rattle.core_grammar.specs.inside.DecoderModules.{module_at}
 use Rattle.core_grammar.specs.Whole.{start}
 use Rattle.core_grammar.proofs.SoundModules.{module_sound}
 use Rattle.core_grammar.proofs.CompleteModules.{module_complete}

@@ -1,7 +1,8 @@
 -- How many arguments stand in front, by the commas that stand in no further bracket.
 use Rattle.std.specs.Prelude.{ℕ, zero, suc, List, [], ◌∷◌}
 use Rattle.core_tokens.specs.declared.token.Mark.TheVariants as m
-use Rattle.core_tokens.specs.Piece.{Piece, Shape, A_mark}
+use Rattle.core_tokens.specs.Piece.{Piece, Shape}
+use Rattle.core_tokens.specs.Piece as lexemes
 
 -- what a token does to the depth of brackets
 pub data Turn : Type 0 where
@@ -11,15 +12,15 @@ pub data Turn : Type 0 where
   GoesBy : Turn
 
 abbrev pub turn : Shape → Turn
-turn (A_mark m.LeftParenthesis) = TurnsIn
-turn (A_mark m.LeftBracket) = TurnsIn
-turn (A_mark m.LeftBrace) = TurnsIn
-turn (A_mark m.Less) = TurnsIn
-turn (A_mark m.RightParenthesis) = TurnsOut
-turn (A_mark m.RightBracket) = TurnsOut
-turn (A_mark m.RightBrace) = TurnsOut
-turn (A_mark m.Greater) = TurnsOut
-turn (A_mark m.Comma) = Separates
+turn (lexemes.Mark m.LeftParenthesis) = TurnsIn
+turn (lexemes.Mark m.LeftBracket) = TurnsIn
+turn (lexemes.Mark m.LeftBrace) = TurnsIn
+turn (lexemes.Mark m.Less) = TurnsIn
+turn (lexemes.Mark m.RightParenthesis) = TurnsOut
+turn (lexemes.Mark m.RightBracket) = TurnsOut
+turn (lexemes.Mark m.RightBrace) = TurnsOut
+turn (lexemes.Mark m.Greater) = TurnsOut
+turn (lexemes.Mark m.Comma) = Separates
 turn shape = GoesBy
 
 -- a token at this depth, where what stands behind it has so many commas by the depth that it stands at
@@ -37,7 +38,7 @@ commas depth [] = 0
 commas depth (p ∷ ps) = counted (turn p.shape) depth (λ d. commas d ps)
 
 abbrev pub arguments_by : Shape → ℕ → ℕ
-arguments_by (A_mark m.RightParenthesis) n = 0
+arguments_by (lexemes.Mark m.RightParenthesis) n = 0
 arguments_by shape n = suc n
 
 -- the number of arguments behind the parenthesis of a call: none where `)` stands in front, else one more than the commas between them, as three in `X, {Y, Z}, []) ..`

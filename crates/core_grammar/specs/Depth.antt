@@ -5,8 +5,10 @@ use Rattle.core_tokens.specs.declared.token.Keyword.{Keyword}
 use Rattle.core_tokens.specs.declared.token.Keyword.TheVariants as k
 use Rattle.core_tokens.specs.declared.token.Mark.{Mark}
 use Rattle.core_tokens.specs.declared.token.Mark.TheVariants as m
-use Rattle.core_tokens.specs.Piece.{Piece, Shape, A_mark}
-use Rattle.core_tree.specs.Syntax.{Mention, Pattern, VariableIn, Constant, Tree, ClauseTree}
+use Rattle.core_tokens.specs.Piece.{Piece, Shape}
+use Rattle.core_tokens.specs.Piece as lexemes
+use Rattle.core_tree.specs.Syntax.{Mention, Pattern, Constant, Tree, ClauseTree}
+use Rattle.core_tree.specs.Pattern as patterns
 use Rattle.core_grammar.specs.Beginnings.{Beginning, OfValue, OfAtom, OfAnnotation, OfVariable, OfOtherForm, beginning}
 use Rattle.core_grammar.specs.Grammar.{word, mark, level_limit, Commas, Enclosed, Row, ConstantIn, Noted, BareName, FunctionName, BareAtom, AtomIn, BareVariable, Variable, BareVariables, Variables, BareCaught, CaughtVariables, PatternForm, PatternIn, BareAngles, PatternsIn, HasNoSlash, Expression, Clause, Attribute, BareFun, BareDefinition, Definition, BareModule}
 
@@ -39,7 +41,7 @@ abbrev pub BeginsExpression : Shape → List Piece → Type 0
 BeginsExpression shape ps = BeginsExpressionBy (beginning shape) ps
 
 abbrev pub BeginsAnnotation : Shape → List Piece → Type 0
-BeginsAnnotation (A_mark m.LeftParenthesis) ps = Unit {0}
+BeginsAnnotation (lexemes.Mark m.LeftParenthesis) ps = Unit {0}
 BeginsAnnotation shape ps = ⊥
 
 -- the front token stands at the place, and begins what is meant
@@ -103,7 +105,7 @@ pub data InGroup {X : Type 0} (Inner : List Piece → X → List Piece → Type 
 
 -- behind a pattern that is a variable
 abbrev pub BehindVariable : (List Piece → Type 0) → Pattern → List Piece → Type 0
-BehindVariable Rest (VariableIn v) ps = Rest ps
+BehindVariable Rest (patterns.Variable v) ps = Rest ps
 BehindVariable Rest q ps = ⊥
 
 -- so many items with commas between them, and the closing mark

@@ -9,31 +9,36 @@ use Rattle.core_tokens.specs.declared.token.Mark.{Mark}
 use Rattle.core_tokens.specs.declared.token.Mark.TheVariants as m
 use Rattle.core_tree.specs.Calls.{Signature, signature, IsRead}
 use Rattle.core_tree.specs.PureCalls.{pure_signature}
-use Rattle.core_tokens.specs.Piece.{Piece, Shape, A_word, A_mark, An_atom, A_variable, An_integer, A_character, A_text}
-use Rattle.core_tree.specs.Syntax.{Mention, NamedAt, Callee, OfWorld, OfItself, OfExport, OfDefinition, FailsMatch, RaisesAgain, Pattern, NumberIn, CharacterIn, TextIn, NameIn, VariableIn, GroupIn, ListIn, JoinIn, AliasIn, patterns_of, Tree, Number, Character, Text, Name, Mentioned, Grouped, Listed, Joined, Several, Bound, Chosen, Followed, Called, Tried, Caught, trees_of, ClauseTree, clauses_of, Constant, NumberOf, CharacterOf, TextOf, NameOf, GroupOf, ListOf, JoinOf, constants_of, AttributeTree, DefinitionTree, ModuleTree}
+use Rattle.core_tokens.specs.Piece.{Piece, Shape}
+use Rattle.core_tokens.specs.Piece as lexemes
+use Rattle.core_tree.specs.Syntax.{Mention, NamedAt, Callee, Pattern, patterns_of, Tree, trees_of, ClauseTree, clauses_of, Constant, constants_of, AttributeTree, DefinitionTree, ModuleTree}
+use Rattle.core_tree.specs.Callee as callees
+use Rattle.core_tree.specs.Pattern as patterns
+use Rattle.core_tree.specs.Expression as trees
+use Rattle.core_tree.specs.Constant as constants
 
 -- ---- tokens with their places
 
 abbrev pub word : ℕ → Keyword → Piece
-word at w = record { at = at; shape = A_word w }
+word at w = record { at = at; shape = lexemes.Word w }
 
 abbrev pub mark : ℕ → Mark → Piece
-mark at x = record { at = at; shape = A_mark x }
+mark at x = record { at = at; shape = lexemes.Mark x }
 
 abbrev pub atom : ℕ → List ℕ → Piece
-atom at t = record { at = at; shape = An_atom t }
+atom at t = record { at = at; shape = lexemes.Atom t }
 
 abbrev pub variable : ℕ → List ℕ → Piece
-variable at v = record { at = at; shape = A_variable v }
+variable at v = record { at = at; shape = lexemes.Variable v }
 
 abbrev pub integer : ℕ → ℤ → Piece
-integer at n = record { at = at; shape = An_integer n }
+integer at n = record { at = at; shape = lexemes.Integer n }
 
 abbrev pub character : ℕ → ℕ → Piece
-character at c = record { at = at; shape = A_character c }
+character at c = record { at = at; shape = lexemes.Character c }
 
 abbrev pub text : ℕ → List ℕ → Piece
-text at cs = record { at = at; shape = A_text cs }
+text at cs = record { at = at; shape = lexemes.Text cs }
 
 -- what spells an X
 abbrev pub Spelling : Type 0 → Type 1
@@ -73,14 +78,14 @@ pub data InNote {X : Type 0} (Inner : List Piece → X → List Piece → Type 0
 -- ---- constants
 
 pub data ConstantForm (Inner : List Piece → Constant → List Piece → Type 0) : List Piece → Constant → List Piece → Type 0 where
-  is_integer : {rest : List Piece} {at : ℕ} {n : ℤ} → ConstantForm Inner (integer at n ∷ rest) (NumberOf n) rest
-  is_character : {rest : List Piece} {at c : ℕ} → ConstantForm Inner (character at c ∷ rest) (CharacterOf c) rest
-  is_text : {rest : List Piece} {at : ℕ} {cs : List ℕ} → ConstantForm Inner (text at cs ∷ rest) (TextOf cs) rest
-  is_atom : {rest : List Piece} {at : ℕ} {t : List ℕ} → ConstantForm Inner (atom at t ∷ rest) (NameOf t) rest
-  is_tuple : {ps rest : List Piece} {at : ℕ} {cs : List Constant} → Enclosed Inner m.RightBrace ps cs rest → ConstantForm Inner (mark at m.LeftBrace ∷ ps) (GroupOf (constants_of cs)) rest
-  is_list : {ps rest : List Piece} {at : ℕ} {cs : List Constant} → Enclosed Inner m.RightBracket ps cs rest → ConstantForm Inner (mark at m.LeftBracket ∷ ps) (ListOf (constants_of cs)) rest
+  is_integer : {rest : List Piece} {at : ℕ} {n : ℤ} → ConstantForm Inner (integer at n ∷ rest) (constants.Integer n) rest
+  is_character : {rest : List Piece} {at c : ℕ} → ConstantForm Inner (character at c ∷ rest) (constants.Character c) rest
+  is_text : {rest : List Piece} {at : ℕ} {cs : List ℕ} → ConstantForm Inner (text at cs ∷ rest) (constants.Text cs) rest
+  is_atom : {rest : List Piece} {at : ℕ} {t : List ℕ} → ConstantForm Inner (atom at t ∷ rest) (constants.Atom t) rest
+  is_tuple : {ps rest : List Piece} {at : ℕ} {cs : List Constant} → Enclosed Inner m.RightBrace ps cs rest → ConstantForm Inner (mark at m.LeftBrace ∷ ps) (constants.Tuple (constants_of cs)) rest
+  is_list : {ps rest : List Piece} {at : ℕ} {cs : List Constant} → Enclosed Inner m.RightBracket ps cs rest → ConstantForm Inner (mark at m.LeftBracket ∷ ps) (constants.List (constants_of cs)) rest
   is_join : {ps more rest : List Piece} {at bt ct : ℕ} {cs : List Constant} {c : Constant} → Commas Inner ps cs (mark bt m.Bar ∷ more) → Inner more c (mark ct m.RightBracket ∷ rest)
-      → ConstantForm Inner (mark at m.LeftBracket ∷ ps) (JoinOf (constants_of cs) c) rest
+      → ConstantForm Inner (mark at m.LeftBracket ∷ ps) (constants.Onto (constants_of cs) c) rest
   is_noted : {ps rest : List Piece} {c : Constant} → InNote Inner Inner ps c rest → ConstantForm Inner ps c rest
 
 -- a constant of at most so many levels of construct within construct
@@ -150,20 +155,20 @@ CaughtVariables n ps vs rest = Noted (λ l. BareCaught (Variable l)) n ps vs res
 -- ---- patterns
 
 pub data PatternForm (Inner : List Piece → Pattern → List Piece → Type 0) (Item : List Piece → Constant → List Piece → Type 0) : List Piece → Pattern → List Piece → Type 0 where
-  matches_integer : {rest : List Piece} {at : ℕ} {n : ℤ} → PatternForm Inner Item (integer at n ∷ rest) (NumberIn n) rest
-  matches_character : {rest : List Piece} {at c : ℕ} → PatternForm Inner Item (character at c ∷ rest) (CharacterIn c) rest
-  matches_text : {rest : List Piece} {at : ℕ} {cs : List ℕ} → PatternForm Inner Item (text at cs ∷ rest) (TextIn cs) rest
-  matches_atom : {rest : List Piece} {at : ℕ} {t : List ℕ} → PatternForm Inner Item (atom at t ∷ rest) (NameIn t) rest
-  matches_any : {rest : List Piece} {at : ℕ} {v : List ℕ} → PatternForm Inner Item (variable at v ∷ rest) (VariableIn (record { at = at; name = v })) rest
-  matches_tuple : {ps rest : List Piece} {at : ℕ} {qs : List Pattern} → Enclosed Inner m.RightBrace ps qs rest → PatternForm Inner Item (mark at m.LeftBrace ∷ ps) (GroupIn (patterns_of qs)) rest
-  matches_list : {ps rest : List Piece} {at : ℕ} {qs : List Pattern} → Enclosed Inner m.RightBracket ps qs rest → PatternForm Inner Item (mark at m.LeftBracket ∷ ps) (ListIn (patterns_of qs)) rest
+  matches_integer : {rest : List Piece} {at : ℕ} {n : ℤ} → PatternForm Inner Item (integer at n ∷ rest) (patterns.Integer n) rest
+  matches_character : {rest : List Piece} {at c : ℕ} → PatternForm Inner Item (character at c ∷ rest) (patterns.Character c) rest
+  matches_text : {rest : List Piece} {at : ℕ} {cs : List ℕ} → PatternForm Inner Item (text at cs ∷ rest) (patterns.Text cs) rest
+  matches_atom : {rest : List Piece} {at : ℕ} {t : List ℕ} → PatternForm Inner Item (atom at t ∷ rest) (patterns.Atom t) rest
+  matches_any : {rest : List Piece} {at : ℕ} {v : List ℕ} → PatternForm Inner Item (variable at v ∷ rest) (patterns.Variable (record { at = at; name = v })) rest
+  matches_tuple : {ps rest : List Piece} {at : ℕ} {qs : List Pattern} → Enclosed Inner m.RightBrace ps qs rest → PatternForm Inner Item (mark at m.LeftBrace ∷ ps) (patterns.Tuple (patterns_of qs)) rest
+  matches_list : {ps rest : List Piece} {at : ℕ} {qs : List Pattern} → Enclosed Inner m.RightBracket ps qs rest → PatternForm Inner Item (mark at m.LeftBracket ∷ ps) (patterns.List (patterns_of qs)) rest
   matches_join : {ps more rest : List Piece} {at bt ct : ℕ} {qs : List Pattern} {q : Pattern} → Commas Inner ps qs (mark bt m.Bar ∷ more) → Inner more q (mark ct m.RightBracket ∷ rest)
-      → PatternForm Inner Item (mark at m.LeftBracket ∷ ps) (JoinIn (patterns_of qs) q) rest
+      → PatternForm Inner Item (mark at m.LeftBracket ∷ ps) (patterns.Onto (patterns_of qs) q) rest
   matches_noted : {ps rest : List Piece} {q : Pattern} → InNote Inner Item ps q rest → PatternForm Inner Item ps q rest
 
 -- no `=` stands in front
 abbrev pub IsNoEquals : Shape → Type 0
-IsNoEquals (A_mark m.Equals) = ⊥
+IsNoEquals (lexemes.Mark m.Equals) = ⊥
 IsNoEquals shape = Unit {0}
 
 abbrev pub HasNoEquals : List Piece → Type 0
@@ -172,13 +177,13 @@ HasNoEquals (p ∷ ps) = IsNoEquals p.shape
 
 -- a variable with `=` behind it names what a pattern matches: it does not stand alone
 abbrev pub StandsAlone : Pattern → List Piece → Type 0
-StandsAlone (VariableIn v) rest = HasNoEquals rest
+StandsAlone (patterns.Variable v) rest = HasNoEquals rest
 StandsAlone q rest = Unit {0}
 
 -- a pattern, or `Var = pat`, which stands at the level of its variable or of the parenthesis before that
 pub data PatternOrAlias (Form Inner : List Piece → Pattern → List Piece → Type 0) : List Piece → Pattern → List Piece → Type 0 where
   no_alias : {ps rest : List Piece} {q : Pattern} → Form ps q rest → StandsAlone q rest → PatternOrAlias Form Inner ps q rest
-  is_alias : {ps more rest : List Piece} {at : ℕ} {v : Mention} {q : Pattern} → Form ps (VariableIn v) (mark at m.Equals ∷ more) → Inner more q rest → PatternOrAlias Form Inner ps (AliasIn v q) rest
+  is_alias : {ps more rest : List Piece} {at : ℕ} {v : Mention} {q : Pattern} → Form ps (patterns.Variable v) (mark at m.Equals ∷ more) → Inner more q rest → PatternOrAlias Form Inner ps (patterns.Alias v q) rest
 
 -- a pattern of at most so many levels of construct within construct
 abbrev pub PatternIn : ℕ → List Piece → Pattern → List Piece → Type 0
@@ -209,21 +214,21 @@ pub record IsUnlisted (called : Signature) : Type 0 where
 
 -- what a call in the module `own` calls, by its two names and the number of its arguments
 pub data Calls (own : List ℕ) : Signature → Callee → Type 0 where
-  calls_world : {kind : CallKind} → IsRead kind → Calls own (signature kind) (OfWorld kind)
-  calls_itself : {kind : PureCall} → Calls own (pure_signature kind) (OfItself kind)
+  calls_world : {kind : CallKind} → IsRead kind → Calls own (signature kind) (callees.World kind)
+  calls_itself : {kind : PureCall} → Calls own (pure_signature kind) (callees.Pure kind)
   calls_export : {function_name : List ℕ} {arity : ℕ} → arity < 256 → IsUnlisted (record { module_name = own; function_name = function_name; arity = arity })
-      → Calls own (record { module_name = own; function_name = function_name; arity = arity }) (OfExport (record { name = function_name; arity = arity }))
+      → Calls own (record { module_name = own; function_name = function_name; arity = arity }) (callees.Exported (record { name = function_name; arity = arity }))
 
 -- the operations of `primop`, by name and number of arguments
 pub data Operates : List ℕ → ℕ → Callee → Type 0 where
-  fails_match : Operates (codes "match_fail") 1 FailsMatch
-  raises_again : Operates (codes "raise") 2 RaisesAgain
+  fails_match : Operates (codes "match_fail") 1 callees.MatchFail
+  raises_again : Operates (codes "raise") 2 callees.Raise
 
 -- ---- expressions
 
 -- no `/` stands in front: an atom with one behind it begins a function's name
 abbrev pub IsNoSlash : Shape → Type 0
-IsNoSlash (A_mark m.Slash) = ⊥
+IsNoSlash (lexemes.Mark m.Slash) = ⊥
 IsNoSlash shape = Unit {0}
 
 abbrev pub HasNoSlash : List Piece → Type 0
@@ -237,32 +242,32 @@ pub data BareClause (Patterns : List Piece → List Pattern → List Piece → T
 
 -- the forms of expressions in the module `own`, whose parts have at most n levels
 pub data Form (own : List ℕ) (n : ℕ) (Inner : List Piece → Tree → List Piece → Type 0) (Clause : List Piece → ClauseTree → List Piece → Type 0) : List Piece → Tree → List Piece → Type 0 where
-  a_number : {rest : List Piece} {at : ℕ} {i : ℤ} → Form own n Inner Clause (integer at i ∷ rest) (Number i) rest
-  a_character : {rest : List Piece} {at c : ℕ} → Form own n Inner Clause (character at c ∷ rest) (Character c) rest
-  a_text : {rest : List Piece} {at : ℕ} {cs : List ℕ} → Form own n Inner Clause (text at cs ∷ rest) (Text cs) rest
-  a_name : {rest : List Piece} {at : ℕ} {t : List ℕ} → HasNoSlash rest → Form own n Inner Clause (atom at t ∷ rest) (Name t) rest
-  a_variable : {rest : List Piece} {at : ℕ} {v : List ℕ} → Form own n Inner Clause (variable at v ∷ rest) (Mentioned (record { at = at; name = v })) rest
-  a_tuple : {ps rest : List Piece} {at : ℕ} {ts : List Tree} → Enclosed Inner m.RightBrace ps ts rest → Form own n Inner Clause (mark at m.LeftBrace ∷ ps) (Grouped (trees_of ts)) rest
-  a_list : {ps rest : List Piece} {at : ℕ} {ts : List Tree} → Enclosed Inner m.RightBracket ps ts rest → Form own n Inner Clause (mark at m.LeftBracket ∷ ps) (Listed (trees_of ts)) rest
+  a_number : {rest : List Piece} {at : ℕ} {i : ℤ} → Form own n Inner Clause (integer at i ∷ rest) (trees.Integer i) rest
+  a_character : {rest : List Piece} {at c : ℕ} → Form own n Inner Clause (character at c ∷ rest) (trees.Character c) rest
+  a_text : {rest : List Piece} {at : ℕ} {cs : List ℕ} → Form own n Inner Clause (text at cs ∷ rest) (trees.Text cs) rest
+  a_name : {rest : List Piece} {at : ℕ} {t : List ℕ} → HasNoSlash rest → Form own n Inner Clause (atom at t ∷ rest) (trees.Atom t) rest
+  a_variable : {rest : List Piece} {at : ℕ} {v : List ℕ} → Form own n Inner Clause (variable at v ∷ rest) (trees.Variable (record { at = at; name = v })) rest
+  a_tuple : {ps rest : List Piece} {at : ℕ} {ts : List Tree} → Enclosed Inner m.RightBrace ps ts rest → Form own n Inner Clause (mark at m.LeftBrace ∷ ps) (trees.Tuple (trees_of ts)) rest
+  a_list : {ps rest : List Piece} {at : ℕ} {ts : List Tree} → Enclosed Inner m.RightBracket ps ts rest → Form own n Inner Clause (mark at m.LeftBracket ∷ ps) (trees.List (trees_of ts)) rest
   a_join : {ps more rest : List Piece} {at bt ct : ℕ} {ts : List Tree} {t : Tree} → Commas Inner ps ts (mark bt m.Bar ∷ more) → Inner more t (mark ct m.RightBracket ∷ rest)
-      → Form own n Inner Clause (mark at m.LeftBracket ∷ ps) (Joined (trees_of ts) t) rest
-  some_values : {ps rest : List Piece} {at : ℕ} {ts : List Tree} → Enclosed Inner m.Greater ps ts rest → Form own n Inner Clause (mark at m.Less ∷ ps) (Several (trees_of ts)) rest
+      → Form own n Inner Clause (mark at m.LeftBracket ∷ ps) (trees.Onto (trees_of ts) t) rest
+  some_values : {ps rest : List Piece} {at : ℕ} {ts : List Tree} → Enclosed Inner m.Greater ps ts rest → Form own n Inner Clause (mark at m.Less ∷ ps) (trees.Values (trees_of ts)) rest
   a_noted : {ps rest : List Piece} {t : Tree} → InNote Inner (ConstantIn n) ps t rest → Form own n Inner Clause ps t rest
   a_let : {ps p1 p2 rest : List Piece} {at bt ct : ℕ} {vs : List Mention} {t u : Tree} → Variables n ps vs (mark bt m.Equals ∷ p1) → Inner p1 t (word ct k.In ∷ p2) → Inner p2 u rest
-      → Form own n Inner Clause (word at k.Let ∷ ps) (Bound vs t u) rest
+      → Form own n Inner Clause (word at k.Let ∷ ps) (trees.Let vs t u) rest
   a_case : {ps p1 p2 rest : List Piece} {at bt ct : ℕ} {t : Tree} {c : ClauseTree} {cs : List ClauseTree} → Inner ps t (word bt k.Of ∷ p1) → Clause p1 c p2 → Row Clause p2 cs (word ct k.End ∷ rest)
-      → Form own n Inner Clause (word at k.Case ∷ ps) (Chosen at t (clauses_of (c ∷ cs))) rest
-  a_do : {ps more rest : List Piece} {at : ℕ} {t u : Tree} → Inner ps t more → Inner more u rest → Form own n Inner Clause (word at k.Do ∷ ps) (Followed t u) rest
+      → Form own n Inner Clause (word at k.Case ∷ ps) (trees.Case at t (clauses_of (c ∷ cs))) rest
+  a_do : {ps more rest : List Piece} {at : ℕ} {t u : Tree} → Inner ps t more → Inner more u rest → Form own n Inner Clause (word at k.Do ∷ ps) (trees.Do t u) rest
   an_apply : {ps p1 rest : List Piece} {at bt : ℕ} {named : NamedAt} {ts : List Tree} → FunctionName n ps named (mark bt m.LeftParenthesis ∷ p1) → Enclosed Inner m.RightParenthesis p1 ts rest → length ts ≡ named.function.arity
-      → Form own n Inner Clause (word at k.Apply ∷ ps) (Called at (OfDefinition named) (trees_of ts)) rest
+      → Form own n Inner Clause (word at k.Apply ∷ ps) (trees.Call at (callees.Defined named) (trees_of ts)) rest
   a_call : {ps p1 p2 rest : List Piece} {at bt ct : ℕ} {module_name function_name : List ℕ} {callee : Callee} {ts : List Tree} → AtomIn n ps module_name (mark bt m.Colon ∷ p1) → AtomIn n p1 function_name (mark ct m.LeftParenthesis ∷ p2) → Enclosed Inner m.RightParenthesis p2 ts rest
       → Calls own (record { module_name = module_name; function_name = function_name; arity = length ts }) callee
-      → Form own n Inner Clause (word at k.Call ∷ ps) (Called at callee (trees_of ts)) rest
+      → Form own n Inner Clause (word at k.Call ∷ ps) (trees.Call at callee (trees_of ts)) rest
   a_primop : {ps rest : List Piece} {at bt ct : ℕ} {t : List ℕ} {callee : Callee} {ts : List Tree} → Enclosed Inner m.RightParenthesis ps ts rest → Operates t (length ts) callee
-      → Form own n Inner Clause (word at k.Primop ∷ atom bt t ∷ mark ct m.LeftParenthesis ∷ ps) (Called at callee (trees_of ts)) rest
+      → Form own n Inner Clause (word at k.Primop ∷ atom bt t ∷ mark ct m.LeftParenthesis ∷ ps) (trees.Call at callee (trees_of ts)) rest
   a_try : {ps p1 p2 p3 p4 rest : List Piece} {at bt ct dt et : ℕ} {vs ws : List Mention} {t u h : Tree} → Inner ps t (word bt k.Of ∷ p1) → Variables n p1 vs (mark ct m.Arrow ∷ p2) → Inner p2 u (word dt k.Catch ∷ p3) → CaughtVariables n p3 ws (mark et m.Arrow ∷ p4) → Inner p4 h rest
-      → Form own n Inner Clause (word at k.Try ∷ ps) (Tried at t vs u ws h) rest
-  a_catch : {ps rest : List Piece} {at : ℕ} {t : Tree} → Inner ps t rest → Form own n Inner Clause (word at k.Catch ∷ ps) (Caught at t) rest
+      → Form own n Inner Clause (word at k.Try ∷ ps) (trees.Try at t vs u ws h) rest
+  a_catch : {ps rest : List Piece} {at : ℕ} {t : Tree} → Inner ps t rest → Form own n Inner Clause (word at k.Catch ∷ ps) (trees.Catch at t) rest
 
 module _ (own : List ℕ) where
   abbrev mutual

@@ -1,16 +1,9 @@
 pub mod Grammar
 pub mod Beginnings
-pub mod Reading
-pub mod ReadingForms
-pub mod ReadingModules
 pub mod Whole
 pub mod Arguments
 pub mod UnservedCalls
 pub mod Depth
 pub mod Unread
 pub mod Places
-pub mod Levels
-pub mod Loops
-pub mod Notes
-pub mod Forms
-pub mod Openings
+pub mod inside

@@ -3,7 +3,8 @@ use Rattle.std.specs.Prelude.{◌≡◌, ◌≢◌, ℕ, List, [], ◌∷◌, �
 use Rattle.core_tokens.specs.declared.fault.ReadFault.{ReadFault}
 use Rattle.core_tokens.specs.declared.fault.ReadFault.TheVariants.{Expected, Unbound, DuplicateVariable, DuplicateFunction, NoFunction, HigherOrder, UnsupportedCall, EffectInGuard, TooDeep, NoMain, UnsupportedForm, Memory}
 use Rattle.core_tokens.specs.declared.token.Keyword.TheVariants as k
-use Rattle.core_tokens.specs.Piece.{Piece, Shape, A_word}
+use Rattle.core_tokens.specs.Piece.{Piece, Shape}
+use Rattle.core_tokens.specs.Piece as lexemes
 use Rattle.core_tree.specs.Syntax.{ModuleTree}
 use Rattle.core_grammar.specs.Grammar.{word, Spells}
 use Rattle.core_grammar.specs.Beginnings.{Beginning, OfFunction, OfNothing, beginning}
@@ -43,7 +44,7 @@ OpensAt ps at = (p : Piece) × IsOne ps p × (p.at ≡ at) × Opens p.shape
 -- none of the tokens is the word `end`
 abbrev pub LacksEnd : List Piece → Type 0
 LacksEnd [] = Unit {0}
-LacksEnd (p ∷ ps) = (p.shape ≢ A_word k.End) × LacksEnd ps
+LacksEnd (p ∷ ps) = (p.shape ≢ lexemes.Word k.End) × LacksEnd ps
 
 -- the last word `end` of the tokens begins there: behind it stands no other
 pub record IsLastEnd (ps : List Piece) (at : ℕ) : Type 0 where

@@ -3,7 +3,8 @@ use Rattle.std.specs.Prelude.{◌≡◌, ◌⊎◌, ℕ, List, [], ◌∷◌, �
 use Rattle.core_tokens.specs.declared.token.Keyword.TheVariants as k
 use Rattle.core_tokens.specs.declared.token.Mark.{Mark}
 use Rattle.core_tokens.specs.declared.token.Mark.TheVariants as m
-use Rattle.core_tokens.specs.Piece.{Piece, Shape, A_word, A_mark, A_float}
+use Rattle.core_tokens.specs.Piece.{Piece, Shape}
+use Rattle.core_tokens.specs.Piece as lexemes
 use Rattle.core_tree.specs.Syntax.{Callee}
 use Rattle.core_grammar.specs.Grammar.{mark, atom, Operates}
 use Rattle.core_grammar.specs.Beginnings.{Beginning, OfAtom, OfFunction, beginning}
@@ -21,7 +22,7 @@ pub record SomeAre (Said : List Piece → Type 0) (ps : List Piece) : Type 0 whe
 -- this mark stands in front
 abbrev pub HasMark : Mark → List Piece → Type 0
 HasMark x [] = ⊥
-HasMark x (p ∷ ps) = p.shape ≡ A_mark x
+HasMark x (p ∷ ps) = p.shape ≡ lexemes.Mark x
 
 -- ---- functions as values
 
@@ -58,11 +59,11 @@ pub data IsNoOperation : List Piece → Type 0 where
 
 -- a token that begins a form that is not read: `#` of a binary, `~` of a map, a float, `receive`, or `primop` of another operation
 abbrev pub BeginsUnread : Shape → List Piece → Type 0
-BeginsUnread (A_mark m.Hash) ps = Unit {0}
-BeginsUnread (A_mark m.Tilde) ps = Unit {0}
-BeginsUnread A_float ps = Unit {0}
-BeginsUnread (A_word k.Receive) ps = Unit {0}
-BeginsUnread (A_word k.Primop) ps = IsNoOperation ps
+BeginsUnread (lexemes.Mark m.Hash) ps = Unit {0}
+BeginsUnread (lexemes.Mark m.Tilde) ps = Unit {0}
+BeginsUnread lexemes.Float ps = Unit {0}
+BeginsUnread (lexemes.Word k.Receive) ps = Unit {0}
+BeginsUnread (lexemes.Word k.Primop) ps = IsNoOperation ps
 BeginsUnread shape ps = ⊥
 
 -- at this place begins a form that is not read

@@ -2,7 +2,8 @@
 use Rattle.std.specs.Prelude.{◌≡◌, ℕ, List, [], ◌∷◌, ◌++◌}
 use Rattle.core_tokens.specs.declared.token.Keyword.TheVariants as k
 use Rattle.core_tokens.specs.declared.token.Mark.TheVariants as m
-use Rattle.core_tokens.specs.Piece.{Piece, Shape, A_mark}
+use Rattle.core_tokens.specs.Piece.{Piece, Shape}
+use Rattle.core_tokens.specs.Piece as lexemes
 use Rattle.core_tree.specs.Syntax.{Callee}
 use Rattle.core_grammar.specs.Grammar.{word, mark, atom, AtomIn, Calls}
 use Rattle.core_grammar.specs.Beginnings.{Beginning, OfAtom, OfAnnotation, OfNothing, beginning}
@@ -11,7 +12,7 @@ use Rattle.core_grammar.specs.Arguments.{arguments}
 -- ---- names
 
 abbrev pub within_by : Shape → List Piece → List Piece → List Piece
-within_by (A_mark m.LeftParenthesis) here behind = behind
+within_by (lexemes.Mark m.LeftParenthesis) here behind = behind
 within_by shape here behind = here
 
 -- the tokens from the first on that is no `(`: an atom of a call, and a module, may stand in the parentheses of annotations

@@ -4,7 +4,7 @@ use Rattle.core_tokens.specs.declared.fault.ReadFault.{ReadFault}
 use Rattle.core_tokens.specs.declared.fault.ReadFault.TheVariants.{Memory}
 use Rattle.core_tokens.specs.Piece.{Piece}
 use Rattle.core_tree.specs.Syntax.{ModuleTree}
-use Rattle.core_grammar.specs.Reading.{State}
+use Rattle.core_grammar.specs.inside.Decoder.{State}
 
 abbrev pub start : ℕ → List Piece → State
 start length ps = record { pieces = ps; refused = None; stop = length }

@@ -7,7 +7,7 @@ ghost use Rattle.core_tree.specs.Syntax.{ModuleTree};
 ghost use Rattle.core_scopes.specs.ScopeFaults.{IsFaultOfModule};
 ghost use Rattle.core_grammar.specs.Grammar.{Spells};
 ghost use Rattle.core_grammar.specs.Places.{IsFaultOf};
-ghost use Rattle.core_grammar.specs.ReadingModules.{module_at};
+ghost use Rattle.core_grammar.specs.inside.DecoderModules.{module_at};
 ghost use Rattle.core_grammar.specs.Whole.{start};
 
 /// What is decoded is spelt by the tokens.

@@ -1,6 +1,6 @@
 // What reading keeps in mind where it goes on past something that nothing serves.
 ghost use Rattle.std.specs.Prelude.{◌≡◌};
-ghost use Rattle.core_grammar.specs.Reading.{fault_of_unserved, place_of_unserved};
+ghost use Rattle.core_grammar.specs.inside.Decoder.{fault_of_unserved, place_of_unserved};
 
 use core_tokens::ReadFault;
 

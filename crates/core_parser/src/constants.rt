@@ -1,9 +1,10 @@
 // The constants of attributes and annotations (Core Erlang 1.0.3, "Constant literals").
 ghost use Rattle.std.specs.Prelude.{◌≡◌, map};
 ghost use Rattle.core_tokens.specs.Piece.{shape_of, pieces};
-ghost use Rattle.core_tree.specs.Syntax.{JoinOf, constants_of};
-ghost use Rattle.core_grammar.specs.Reading.{Builds, Moves, Passes, begins_constant, deep_constant_of, deep_constant, items_at, closed_at, brackets_at, note_at, in_note_at, constant_tuple_at, constant_list_at, constant_form_at, constant_at};
-ghost use Rattle.core_parser.specs.Parsing.{state_of};
+ghost use Rattle.core_tree.specs.Syntax.{constants_of};
+ghost use Rattle.core_tree.specs.Constant as constants;
+ghost use Rattle.core_grammar.specs.inside.Decoder.{BuildsUnlessMemory, MovesUnlessMemory, PassesUnlessMemory, begins_constant, deep_constant_of, deep_constant, items_at, closed_at, brackets_at, note_at, in_note_at, constant_tuple_at, constant_list_at, constant_form_at, constant_at};
+ghost use Rattle.core_parser.specs.inside.ParserView.{state_of};
 ghost use Rattle.core_tree.specs.Tree.{constant_of};
 
 use crate::parser::{Parser, atom_copy, is_foreign};
@@ -45,7 +46,7 @@ fn deep_constant_of(length: usize, tokens: &[Token]) -> ReadFault
 }
 
 fn onto(alloc: Global, items: Vec<Const>, tail: Const) -> Result<Const, ReadFault>
-    ensures { Builds constant_of result (JoinOf (constants_of (map constant_of items.items)) (constant_of tail)) }
+    ensures { BuildsUnlessMemory constant_of result (constants.Onto (constants_of (map constant_of items.items)) (constant_of tail)) }
 {
     let items = Consts(items);
     Ok(Const::Onto(Box::new(alloc, OntoConst { items, tail })?))
@@ -53,7 +54,7 @@ fn onto(alloc: Global, items: Vec<Const>, tail: Const) -> Result<Const, ReadFaul
 
 impl<'a> Parser<'a> {
     /// The fault at a token past the last level.
-    #[tactic(auto, unfolding(core_grammar::specs::Reading::deep_constant))]
+    #[tactic(auto, unfolding(core_grammar::specs::inside::Decoder::deep_constant))]
     fn deep_constant(&self) -> ReadFault
         ensures { result ≡ deep_constant (state_of self.now) }
     {
@@ -63,7 +64,7 @@ impl<'a> Parser<'a> {
     /// A constant of at most so many levels.
     #[cycle(constants)]
     pub fn constant(&mut self, levels: u16) -> Result<Const, ReadFault>
-        ensures { Moves constant_of result (state_of self.new) (constant_at levels (state_of self.old)) }
+        ensures { MovesUnlessMemory constant_of result (state_of self.new) (constant_at levels (state_of self.old)) }
     {
         if levels == 0 {
             Err(self.deep_constant())
@@ -74,9 +75,9 @@ impl<'a> Parser<'a> {
 
     /// A constant whose parts have at most so many levels.
     #[cycle(constants)]
-    #[tactic(auto, unfolding(core_grammar::specs::Reading::constant_form_at))]
+    #[tactic(auto, unfolding(core_grammar::specs::inside::Decoder::constant_form_at))]
     fn constant_form(&mut self, levels: u16) -> Result<Const, ReadFault>
-        ensures { Moves constant_of result (state_of self.new) (constant_form_at (constant_at levels) (state_of self.old)) }
+        ensures { MovesUnlessMemory constant_of result (state_of self.new) (constant_form_at (constant_at levels) (state_of self.old)) }
     {
         let fault = self.fault();
         let tokens = self.tokens;
@@ -100,9 +101,9 @@ impl<'a> Parser<'a> {
 
     /// What stands in the parentheses of an annotated constant, and the end of the annotation.
     #[cycle(constants)]
-    #[tactic(auto, unfolding(core_grammar::specs::Reading::in_note_at))]
+    #[tactic(auto, unfolding(core_grammar::specs::inside::Decoder::in_note_at))]
     fn constant_in_note(&mut self, levels: u16) -> Result<Const, ReadFault>
-        ensures { Moves constant_of result (state_of self.new) (in_note_at (constant_at levels) (constant_at levels) (state_of self.old)) }
+        ensures { MovesUnlessMemory constant_of result (state_of self.new) (in_note_at (constant_at levels) (constant_at levels) (state_of self.old)) }
     {
         let constant = self.constant(levels)?;
         self.note(levels)?;
@@ -111,9 +112,9 @@ impl<'a> Parser<'a> {
 
     /// The end of an annotation: `-| [const, ..] )`.
     #[cycle(constants)]
-    #[tactic(auto, unfolding(core_grammar::specs::Reading::note_at))]
+    #[tactic(auto, unfolding(core_grammar::specs::inside::Decoder::note_at))]
     pub fn note(&mut self, levels: u16) -> Result<(), ReadFault>
-        ensures { Passes result (state_of self.new) (note_at (constant_at levels) (state_of self.old)) }
+        ensures { PassesUnlessMemory result (state_of self.new) (note_at (constant_at levels) (state_of self.old)) }
     {
         self.mark(Mark::Note)?;
         self.mark(Mark::LeftBracket)?;
@@ -124,9 +125,9 @@ impl<'a> Parser<'a> {
 
     /// What stands behind the brace of a tuple.
     #[cycle(constants)]
-    #[tactic(auto, unfolding(core_grammar::specs::Reading::constant_tuple_at))]
+    #[tactic(auto, unfolding(core_grammar::specs::inside::Decoder::constant_tuple_at))]
     fn constant_tuple(&mut self, levels: u16) -> Result<Const, ReadFault>
-        ensures { Moves constant_of result (state_of self.new) (constant_tuple_at (constant_at levels) (state_of self.old)) }
+        ensures { MovesUnlessMemory constant_of result (state_of self.new) (constant_tuple_at (constant_at levels) (state_of self.old)) }
     {
         let items = self.constants(levels, Mark::RightBrace)?;
         Ok(Const::Tuple(Consts(items)))
@@ -134,9 +135,9 @@ impl<'a> Parser<'a> {
 
     /// Any number of constants, and the closing mark.
     #[cycle(constants)]
-    #[tactic(auto, unfolding(core_grammar::specs::Reading::closed_at))]
+    #[tactic(auto, unfolding(core_grammar::specs::inside::Decoder::closed_at))]
     fn constants(&mut self, levels: u16, close: Mark) -> Result<Vec<Const>, ReadFault>
-        ensures { Moves (λ v. map constant_of v.items) result (state_of self.new) (closed_at (constant_at levels) close (state_of self.old)) }
+        ensures { MovesUnlessMemory (λ v. map constant_of v.items) result (state_of self.new) (closed_at (constant_at levels) close (state_of self.old)) }
     {
         if self.skip_mark(close) {
             return Ok(Vec::new(self.alloc));
@@ -148,9 +149,9 @@ impl<'a> Parser<'a> {
 
     /// What stands behind the bracket of a list.
     #[cycle(constants)]
-    #[tactic(auto, unfolding(core_grammar::specs::Reading::constant_list_at, core_grammar::specs::Reading::brackets_at))]
+    #[tactic(auto, unfolding(core_grammar::specs::inside::Decoder::constant_list_at, core_grammar::specs::inside::Decoder::brackets_at))]
     fn constant_list(&mut self, levels: u16) -> Result<Const, ReadFault>
-        ensures { Moves constant_of result (state_of self.new) (constant_list_at (constant_at levels) (state_of self.old)) }
+        ensures { MovesUnlessMemory constant_of result (state_of self.new) (constant_list_at (constant_at levels) (state_of self.old)) }
     {
         if self.skip_mark(Mark::RightBracket) {
             return Ok(Const::List(Consts(Vec::new(self.alloc))));
@@ -168,7 +169,7 @@ impl<'a> Parser<'a> {
     /// Constants with commas between them.
     #[cycle(constants)]
     fn constant_items(&mut self, levels: u16) -> Result<Vec<Const>, ReadFault>
-        ensures { Moves (λ v. map constant_of v.items) result (state_of self.new) (items_at (constant_at levels) (state_of self.old)) }
+        ensures { MovesUnlessMemory (λ v. map constant_of v.items) result (state_of self.new) (items_at (constant_at levels) (state_of self.old)) }
     {
         let mut items = Vec::new(self.alloc);
         let count = self.tokens.len();

@@ -1,8 +1,8 @@
 // Names of functions and variables, each annotated any number of times (Core Erlang 1.0.3, "Annotations").
 ghost use Rattle.std.specs.Prelude.{◌≡◌, IfOk, true};
 ghost use Rattle.core_tokens.specs.declared.token.Mark.TheVariants.{Greater};
-ghost use Rattle.core_grammar.specs.Reading.{Moves, Opens, behind_atom_at, bare_name_at, bare_variable_at, function_name_at, variable_at, items_at, closed_at, exactly_at, bare_variables_at, variables_at, bare_caught_at, caught_at};
-ghost use Rattle.core_parser.specs.Parsing.{state_of};
+ghost use Rattle.core_grammar.specs.inside.Decoder.{MovesUnlessMemory, Opens, behind_atom_at, bare_name_at, bare_variable_at, function_name_at, variable_at, items_at, closed_at, exactly_at, bare_variables_at, variables_at, bare_caught_at, caught_at};
+ghost use Rattle.core_parser.specs.inside.ParserView.{state_of};
 
 use crate::parser::Parser;
 use core_tokens::{Lexeme, Mark, ReadFault, Token};
@@ -36,9 +36,9 @@ impl<'a> Parser<'a> {
     }
 
     /// What stands behind the atom of a function's name: `/ Integer`.
-    #[tactic(auto, unfolding(core_grammar::specs::Reading::behind_atom_at))]
+    #[tactic(auto, unfolding(core_grammar::specs::inside::Decoder::behind_atom_at))]
     pub fn behind_atom(&mut self, at: usize, name: Atom) -> Result<NamedFunction, ReadFault>
-        ensures { Moves (λ e. e) result (state_of self.new) (behind_atom_at at name (state_of self.old)) }
+        ensures { MovesUnlessMemory (λ e. e) result (state_of self.new) (behind_atom_at at name (state_of self.old)) }
     {
         self.mark(Mark::Slash)?;
         let arity = self.arity()?;
@@ -49,18 +49,18 @@ impl<'a> Parser<'a> {
     }
 
     /// A function's name without annotations: `Atom / Integer`.
-    #[tactic(auto, unfolding(core_grammar::specs::Reading::bare_name_at))]
+    #[tactic(auto, unfolding(core_grammar::specs::inside::Decoder::bare_name_at))]
     pub fn bare_name(&mut self) -> Result<NamedFunction, ReadFault>
-        ensures { Moves (λ e. e) result (state_of self.new) (bare_name_at (state_of self.old)) }
+        ensures { MovesUnlessMemory (λ e. e) result (state_of self.new) (bare_name_at (state_of self.old)) }
     {
         let (at, name) = self.placed_atom()?;
         Ok(self.behind_atom(at, name)?)
     }
 
     /// A variable without annotations.
-    #[tactic(auto, unfolding(core_grammar::specs::Reading::bare_variable_at))]
+    #[tactic(auto, unfolding(core_grammar::specs::inside::Decoder::bare_variable_at))]
     pub fn bare_variable(&mut self) -> Result<Variable, ReadFault>
-        ensures { Moves (λ v. v) result (state_of self.new) (bare_variable_at (state_of self.old)) }
+        ensures { MovesUnlessMemory (λ v. v) result (state_of self.new) (bare_variable_at (state_of self.old)) }
     {
         let tokens = self.tokens;
         match tokens {
@@ -80,7 +80,7 @@ impl<'a> Parser<'a> {
 
     /// A function's name, annotated in at most so many levels.
     pub fn function_name(&mut self, levels: u16) -> Result<NamedFunction, ReadFault>
-        ensures { Moves (λ e. e) result (state_of self.new) (function_name_at levels (state_of self.old)) }
+        ensures { MovesUnlessMemory (λ e. e) result (state_of self.new) (function_name_at levels (state_of self.old)) }
     {
         if !self.opens_note(levels)? {
             return Ok(self.bare_name()?);
@@ -92,7 +92,7 @@ impl<'a> Parser<'a> {
 
     /// A variable, annotated in at most so many levels.
     pub fn variable(&mut self, levels: u16) -> Result<Variable, ReadFault>
-        ensures { Moves (λ v. v) result (state_of self.new) (variable_at levels (state_of self.old)) }
+        ensures { MovesUnlessMemory (λ v. v) result (state_of self.new) (variable_at levels (state_of self.old)) }
     {
         if !self.opens_note(levels)? {
             return Ok(self.bare_variable()?);
@@ -104,7 +104,7 @@ impl<'a> Parser<'a> {
 
     /// Variables with commas between them.
     fn variable_items(&mut self, levels: u16) -> Result<Vec<Variable>, ReadFault>
-        ensures { Moves (λ v. v.items) result (state_of self.new) (items_at (variable_at levels) (state_of self.old)) }
+        ensures { MovesUnlessMemory (λ v. v.items) result (state_of self.new) (items_at (variable_at levels) (state_of self.old)) }
     {
         let mut items = Vec::new(self.alloc);
         let count = self.tokens.len();
@@ -118,9 +118,9 @@ impl<'a> Parser<'a> {
     }
 
     /// Any number of variables, and the closing angle.
-    #[tactic(auto, unfolding(core_grammar::specs::Reading::closed_at))]
+    #[tactic(auto, unfolding(core_grammar::specs::inside::Decoder::closed_at))]
     fn variables_in_angles(&mut self, levels: u16) -> Result<Vec<Variable>, ReadFault>
-        ensures { Moves (λ v. v.items) result (state_of self.new) (closed_at (variable_at levels) Greater (state_of self.old)) }
+        ensures { MovesUnlessMemory (λ v. v.items) result (state_of self.new) (closed_at (variable_at levels) Greater (state_of self.old)) }
     {
         if self.skip_mark(Mark::Greater) {
             return Ok(Vec::new(self.alloc));
@@ -132,7 +132,7 @@ impl<'a> Parser<'a> {
 
     /// So many variables, with commas between them.
     pub fn parameters(&mut self, arity: u8, levels: u16) -> Result<Vec<Variable>, ReadFault>
-        ensures { Moves (λ v. v.items) result (state_of self.new) (exactly_at (variable_at levels) true arity (state_of self.old)) }
+        ensures { MovesUnlessMemory (λ v. v.items) result (state_of self.new) (exactly_at (variable_at levels) true arity (state_of self.old)) }
     {
         let mut parameters = Vec::new(self.alloc);
         'parameters: for taken in 0..arity {
@@ -143,9 +143,9 @@ impl<'a> Parser<'a> {
     }
 
     /// A variable, or variables in angles, without annotations round them.
-    #[tactic(auto, unfolding(core_grammar::specs::Reading::bare_variables_at))]
+    #[tactic(auto, unfolding(core_grammar::specs::inside::Decoder::bare_variables_at))]
     fn bare_variables(&mut self, levels: u16) -> Result<Vec<Variable>, ReadFault>
-        ensures { Moves (λ v. v.items) result (state_of self.new) (bare_variables_at levels (state_of self.old)) }
+        ensures { MovesUnlessMemory (λ v. v.items) result (state_of self.new) (bare_variables_at levels (state_of self.old)) }
     {
         if self.skip_mark(Mark::Less) {
             return Ok(self.variables_in_angles(levels)?);
@@ -157,7 +157,7 @@ impl<'a> Parser<'a> {
 
     /// A variable, or variables in angles, annotated in at most so many levels.
     pub fn variables(&mut self, levels: u16) -> Result<Vec<Variable>, ReadFault>
-        ensures { Moves (λ v. v.items) result (state_of self.new) (variables_at levels (state_of self.old)) }
+        ensures { MovesUnlessMemory (λ v. v.items) result (state_of self.new) (variables_at levels (state_of self.old)) }
     {
         if !self.opens_note(levels)? {
             return Ok(self.bare_variables(levels)?);
@@ -168,9 +168,9 @@ impl<'a> Parser<'a> {
     }
 
     /// Two or three variables in angles, without annotations round them.
-    #[tactic(auto, unfolding(core_grammar::specs::Reading::bare_caught_at))]
+    #[tactic(auto, unfolding(core_grammar::specs::inside::Decoder::bare_caught_at))]
     fn bare_caught(&mut self, levels: u16) -> Result<Vec<Variable>, ReadFault>
-        ensures { Moves (λ v. v.items) result (state_of self.new) (bare_caught_at levels (state_of self.old)) }
+        ensures { MovesUnlessMemory (λ v. v.items) result (state_of self.new) (bare_caught_at levels (state_of self.old)) }
     {
         self.mark(Mark::Less)?;
         let mut variables = Vec::new(self.alloc);
@@ -186,7 +186,7 @@ impl<'a> Parser<'a> {
 
     /// Two or three variables in angles, annotated in at most so many levels.
     pub fn caught(&mut self, levels: u16) -> Result<Vec<Variable>, ReadFault>
-        ensures { Moves (λ v. v.items) result (state_of self.new) (caught_at levels (state_of self.old)) }
+        ensures { MovesUnlessMemory (λ v. v.items) result (state_of self.new) (caught_at levels (state_of self.old)) }
     {
         if !self.opens_note(levels)? {
             return Ok(self.bare_caught(levels)?);

@@ -1,8 +1,8 @@
 // What the grammar reads tokens with: one token at a time, with the fault where it cannot stand.
 ghost use Rattle.std.specs.Prelude.{◌≡◌, ◌≢◌, IfOk, is_some};
 ghost use Rattle.core_tokens.specs.Piece.{shape_of, pieces};
-ghost use Rattle.core_grammar.specs.Reading.{Moves, Passes, mark_number, word_number, is_foreign, after_mark, after_word, Skips, fault_of, refusal, place_of, fault, too_deep, mark_at, word_at, comma_at, atom_at, placed_atom_at, arity_at};
-ghost use Rattle.core_parser.specs.Parsing.{state_of};
+ghost use Rattle.core_grammar.specs.inside.Decoder.{MovesUnlessMemory, PassesUnlessMemory, mark_number, word_number, is_foreign, after_mark, after_word, Skips, fault_of, refusal, place_of, fault, too_deep, mark_at, word_at, comma_at, atom_at, placed_atom_at, arity_at};
+ghost use Rattle.core_parser.specs.inside.ParserView.{state_of};
 
 use core_grammar::Unserved;
 use core_tokens::{Keyword, Lexeme, Mark, ReadFault, Token};
@@ -88,7 +88,7 @@ impl<'a> Parser<'a> {
     }
 
     /// The fault at a token that cannot stand here.
-    #[tactic(auto, unfolding(core_grammar::specs::Reading::fault))]
+    #[tactic(auto, unfolding(core_grammar::specs::inside::Decoder::fault))]
     pub fn fault(&self) -> ReadFault
         ensures { result ≡ fault (state_of self.now) }
     {
@@ -96,7 +96,7 @@ impl<'a> Parser<'a> {
     }
 
     /// The fault at a token that opens a level past the last.
-    #[tactic(auto, unfolding(core_grammar::specs::Reading::too_deep))]
+    #[tactic(auto, unfolding(core_grammar::specs::inside::Decoder::too_deep))]
     pub fn too_deep(&self) -> ReadFault
         ensures { result ≡ too_deep (state_of self.now) }
     {
@@ -178,9 +178,9 @@ impl<'a> Parser<'a> {
     }
 
     /// Steps over the mark.
-    #[tactic(auto, unfolding(core_grammar::specs::Reading::mark_at))]
+    #[tactic(auto, unfolding(core_grammar::specs::inside::Decoder::mark_at))]
     pub fn mark(&mut self, mark: Mark) -> Result<(), ReadFault>
-        ensures { Passes result (state_of self.new) (mark_at mark (state_of self.old)) }
+        ensures { PassesUnlessMemory result (state_of self.new) (mark_at mark (state_of self.old)) }
     {
         if self.skip_mark(mark) {
             Ok(())
@@ -190,9 +190,9 @@ impl<'a> Parser<'a> {
     }
 
     /// Steps over the keyword.
-    #[tactic(auto, unfolding(core_grammar::specs::Reading::word_at))]
+    #[tactic(auto, unfolding(core_grammar::specs::inside::Decoder::word_at))]
     pub fn word(&mut self, word: Keyword) -> Result<(), ReadFault>
-        ensures { Passes result (state_of self.new) (word_at word (state_of self.old)) }
+        ensures { PassesUnlessMemory result (state_of self.new) (word_at word (state_of self.old)) }
     {
         if self.skip_word(word) {
             Ok(())
@@ -203,7 +203,7 @@ impl<'a> Parser<'a> {
 
     /// Steps over a comma, but before the first of several.
     pub fn comma(&mut self, is_first: bool) -> Result<(), ReadFault>
-        ensures { Passes result (state_of self.new) (comma_at is_first (state_of self.old)) }
+        ensures { PassesUnlessMemory result (state_of self.new) (comma_at is_first (state_of self.old)) }
     {
         if is_first {
             Ok(())
@@ -213,9 +213,9 @@ impl<'a> Parser<'a> {
     }
 
     /// An atom.
-    #[tactic(auto, unfolding(core_grammar::specs::Reading::atom_at))]
+    #[tactic(auto, unfolding(core_grammar::specs::inside::Decoder::atom_at))]
     pub fn atom(&mut self) -> Result<Atom, ReadFault>
-        ensures { Moves (λ a. a) result (state_of self.new) (atom_at (state_of self.old)) }
+        ensures { MovesUnlessMemory (λ a. a) result (state_of self.new) (atom_at (state_of self.old)) }
     {
         let tokens = self.tokens;
         match tokens {
@@ -234,9 +234,9 @@ impl<'a> Parser<'a> {
     }
 
     /// The atom of a function's name, with its place.
-    #[tactic(auto, unfolding(core_grammar::specs::Reading::placed_atom_at))]
+    #[tactic(auto, unfolding(core_grammar::specs::inside::Decoder::placed_atom_at))]
     pub fn placed_atom(&mut self) -> Result<(usize, Atom), ReadFault>
-        ensures { Moves (λ a. a) result (state_of self.new) (placed_atom_at (state_of self.old)) }
+        ensures { MovesUnlessMemory (λ a. a) result (state_of self.new) (placed_atom_at (state_of self.old)) }
     {
         let tokens = self.tokens;
         match tokens {
@@ -255,9 +255,9 @@ impl<'a> Parser<'a> {
     }
 
     /// The number of a function's arguments, 0 to 255.
-    #[tactic(auto, unfolding(core_grammar::specs::Reading::arity_at))]
+    #[tactic(auto, unfolding(core_grammar::specs::inside::Decoder::arity_at))]
     pub fn arity(&mut self) -> Result<u8, ReadFault>
-        ensures { Moves (λ n. n) result (state_of self.new) (arity_at (state_of self.old)) }
+        ensures { MovesUnlessMemory (λ n. n) result (state_of self.new) (arity_at (state_of self.old)) }
     {
         let tokens = self.tokens;
         match tokens {

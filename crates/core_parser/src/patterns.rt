@@ -1,10 +1,11 @@
 // Patterns (Core Erlang 1.0.3, "Patterns").
 ghost use Rattle.std.specs.Prelude.{◌≡◌, map};
 ghost use Rattle.core_tokens.specs.Piece.{shape_of, pieces};
-ghost use Rattle.core_tree.specs.Syntax.{JoinIn, AliasIn, patterns_of};
+ghost use Rattle.core_tree.specs.Syntax.{patterns_of};
+ghost use Rattle.core_tree.specs.Pattern as patterns;
 ghost use Rattle.core_tree.specs.Tree.{pattern_of};
-ghost use Rattle.core_grammar.specs.Reading.{Builds, Moves, begins_pattern, deep_pattern_of, deep_pattern, items_at, closed_at, brackets_at, constant_at, in_note_at, pattern_tuple_at, pattern_list_at, pattern_form_at, alias_at, pattern_at};
-ghost use Rattle.core_parser.specs.Parsing.{state_of};
+ghost use Rattle.core_grammar.specs.inside.Decoder.{BuildsUnlessMemory, MovesUnlessMemory, begins_pattern, deep_pattern_of, deep_pattern, items_at, closed_at, brackets_at, constant_at, in_note_at, pattern_tuple_at, pattern_list_at, pattern_form_at, alias_at, pattern_at};
+ghost use Rattle.core_parser.specs.inside.ParserView.{state_of};
 
 use crate::constants::begins_constant;
 use crate::names::variable_of;
@@ -37,21 +38,21 @@ fn deep_pattern_of(length: usize, tokens: &[Token]) -> ReadFault
 }
 
 fn onto(alloc: Global, items: Vec<Pattern>, tail: Pattern) -> Result<Pattern, ReadFault>
-    ensures { Builds pattern_of result (JoinIn (patterns_of (map pattern_of items.items)) (pattern_of tail)) }
+    ensures { BuildsUnlessMemory pattern_of result (patterns.Onto (patterns_of (map pattern_of items.items)) (pattern_of tail)) }
 {
     let items = Patterns(items);
     Ok(Pattern::Onto(Box::new(alloc, OntoPattern { items, tail })?))
 }
 
 fn alias_of(alloc: Global, variable: Variable, whole: Pattern) -> Result<Pattern, ReadFault>
-    ensures { Builds pattern_of result (AliasIn variable (pattern_of whole)) }
+    ensures { BuildsUnlessMemory pattern_of result (patterns.Alias variable (pattern_of whole)) }
 {
     Ok(Pattern::Alias(Box::new(alloc, Alias { variable, whole })?))
 }
 
 impl<'a> Parser<'a> {
     /// The fault at a token past the last level.
-    #[tactic(auto, unfolding(core_grammar::specs::Reading::deep_pattern))]
+    #[tactic(auto, unfolding(core_grammar::specs::inside::Decoder::deep_pattern))]
     fn deep_pattern(&self) -> ReadFault
         ensures { result ≡ deep_pattern (state_of self.now) }
     {
@@ -61,7 +62,7 @@ impl<'a> Parser<'a> {
     /// A pattern of at most so many levels.
     #[cycle(patterns)]
     pub fn pattern(&mut self, levels: u16) -> Result<Pattern, ReadFault>
-        ensures { Moves pattern_of result (state_of self.new) (pattern_at levels (state_of self.old)) }
+        ensures { MovesUnlessMemory pattern_of result (state_of self.new) (pattern_at levels (state_of self.old)) }
     {
         if levels == 0 {
             return Err(self.deep_pattern());
@@ -72,9 +73,9 @@ impl<'a> Parser<'a> {
 
     /// The pattern that was read, or the alias that its variable begins.
     #[cycle(patterns)]
-    #[tactic(auto, unfolding(core_grammar::specs::Reading::alias_at))]
+    #[tactic(auto, unfolding(core_grammar::specs::inside::Decoder::alias_at))]
     pub fn alias(&mut self, pattern: Pattern, levels: u16) -> Result<Pattern, ReadFault>
-        ensures { Moves pattern_of result (state_of self.new) (alias_at (pattern_at levels) (constant_at levels) (pattern_of pattern) (state_of self.old)) }
+        ensures { MovesUnlessMemory pattern_of result (state_of self.new) (alias_at (pattern_at levels) (constant_at levels) (pattern_of pattern) (state_of self.old)) }
     {
         match pattern {
             Pattern::Variable(variable) => {
@@ -90,9 +91,9 @@ impl<'a> Parser<'a> {
 
     /// A pattern that is no alias, whose parts have at most so many levels.
     #[cycle(patterns)]
-    #[tactic(auto, unfolding(core_grammar::specs::Reading::pattern_form_at))]
+    #[tactic(auto, unfolding(core_grammar::specs::inside::Decoder::pattern_form_at))]
     fn pattern_form(&mut self, levels: u16) -> Result<Pattern, ReadFault>
-        ensures { Moves pattern_of result (state_of self.new) (pattern_form_at (pattern_at levels) (constant_at levels) (state_of self.old)) }
+        ensures { MovesUnlessMemory pattern_of result (state_of self.new) (pattern_form_at (pattern_at levels) (constant_at levels) (state_of self.old)) }
     {
         let fault = self.fault();
         let tokens = self.tokens;
@@ -119,9 +120,9 @@ impl<'a> Parser<'a> {
 
     /// What stands in the parentheses of an annotated pattern, and the end of the annotation.
     #[cycle(patterns)]
-    #[tactic(auto, unfolding(core_grammar::specs::Reading::in_note_at))]
+    #[tactic(auto, unfolding(core_grammar::specs::inside::Decoder::in_note_at))]
     fn pattern_in_note(&mut self, levels: u16) -> Result<Pattern, ReadFault>
-        ensures { Moves pattern_of result (state_of self.new) (in_note_at (constant_at levels) (pattern_at levels) (state_of self.old)) }
+        ensures { MovesUnlessMemory pattern_of result (state_of self.new) (in_note_at (constant_at levels) (pattern_at levels) (state_of self.old)) }
     {
         let pattern = self.pattern(levels)?;
         self.note(levels)?;
@@ -130,9 +131,9 @@ impl<'a> Parser<'a> {
 
     /// What stands behind the brace of a tuple.
     #[cycle(patterns)]
-    #[tactic(auto, unfolding(core_grammar::specs::Reading::pattern_tuple_at))]
+    #[tactic(auto, unfolding(core_grammar::specs::inside::Decoder::pattern_tuple_at))]
     fn pattern_tuple(&mut self, levels: u16) -> Result<Pattern, ReadFault>
-        ensures { Moves pattern_of result (state_of self.new) (pattern_tuple_at (pattern_at levels) (constant_at levels) (state_of self.old)) }
+        ensures { MovesUnlessMemory pattern_of result (state_of self.new) (pattern_tuple_at (pattern_at levels) (constant_at levels) (state_of self.old)) }
     {
         let items = self.patterns(levels, Mark::RightBrace)?;
         Ok(Pattern::Tuple(Patterns(items)))
@@ -140,9 +141,9 @@ impl<'a> Parser<'a> {
 
     /// What stands behind the bracket of a list.
     #[cycle(patterns)]
-    #[tactic(auto, unfolding(core_grammar::specs::Reading::pattern_list_at, core_grammar::specs::Reading::brackets_at))]
+    #[tactic(auto, unfolding(core_grammar::specs::inside::Decoder::pattern_list_at, core_grammar::specs::inside::Decoder::brackets_at))]
     fn pattern_list(&mut self, levels: u16) -> Result<Pattern, ReadFault>
-        ensures { Moves pattern_of result (state_of self.new) (pattern_list_at (pattern_at levels) (constant_at levels) (state_of self.old)) }
+        ensures { MovesUnlessMemory pattern_of result (state_of self.new) (pattern_list_at (pattern_at levels) (constant_at levels) (state_of self.old)) }
     {
         if self.skip_mark(Mark::RightBracket) {
             return Ok(Pattern::List(Patterns(Vec::new(self.alloc))));
@@ -159,9 +160,9 @@ impl<'a> Parser<'a> {
 
     /// Any number of patterns, and the closing mark.
     #[cycle(patterns)]
-    #[tactic(auto, unfolding(core_grammar::specs::Reading::closed_at))]
+    #[tactic(auto, unfolding(core_grammar::specs::inside::Decoder::closed_at))]
     pub fn patterns(&mut self, levels: u16, close: Mark) -> Result<Vec<Pattern>, ReadFault>
-        ensures { Moves (λ v. map pattern_of v.items) result (state_of self.new) (closed_at (pattern_at levels) close (state_of self.old)) }
+        ensures { MovesUnlessMemory (λ v. map pattern_of v.items) result (state_of self.new) (closed_at (pattern_at levels) close (state_of self.old)) }
     {
         if self.skip_mark(close) {
             return Ok(Vec::new(self.alloc));
@@ -174,7 +175,7 @@ impl<'a> Parser<'a> {
     /// Patterns with commas between them.
     #[cycle(patterns)]
     fn pattern_items(&mut self, levels: u16) -> Result<Vec<Pattern>, ReadFault>
-        ensures { Moves (λ v. map pattern_of v.items) result (state_of self.new) (items_at (pattern_at levels) (state_of self.old)) }
+        ensures { MovesUnlessMemory (λ v. map pattern_of v.items) result (state_of self.new) (items_at (pattern_at levels) (state_of self.old)) }
     {
         let mut items = Vec::new(self.alloc);
         let count = self.tokens.len();

@@ -9,7 +9,7 @@ use Rattle.core_scopes.specs.Scopes.{IsLawful}
 use Rattle.core_scopes.specs.ScopeFaults.{IsFaultOfModule}
 use Rattle.core_grammar.specs.Grammar.{Spells}
 use Rattle.core_grammar.specs.Places.{IsFaultOf}
-use Rattle.core_grammar.specs.ReadingModules.{module_at}
+use Rattle.core_grammar.specs.inside.DecoderModules.{module_at}
 use Rattle.core_grammar.specs.Whole.{start, IsReadAs}
 
 abbrev read_as : ModuleTree × ℕ → Result (ModuleTree × ℕ) ReadFault

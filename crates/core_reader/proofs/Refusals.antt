@@ -8,7 +8,7 @@ use Rattle.core_tree.specs.Syntax.{ModuleTree}
 use Rattle.core_grammar.specs.Whole.{IsReadAs}
 use Rattle.core_tokens.specs.Tokens.{AreTokens, IsTokenFault}
 use Rattle.core_grammar.specs.Places.{IsFaultOf}
-use Rattle.core_reader.specs.Reader.{SpellsModule}
+use Rattle.core_reader.specs.ModuleText.{SpellsModule}
 use Rattle.core_reader.specs.Refusal.{IsLegible, IsTrueOf, IsRefusalOf}
 
 -- ---- the tokens

@@ -4,7 +4,8 @@ use Rattle.std.specs.Prelude.{Result, Ok, Err, IfOk, IfErr}
 use Rattle.std.specs.Str.{IsUtf8}
 use Rattle.core_tokens.specs.declared.fault.ReadFault.{ReadFault}
 use Rattle.core_tokens.specs.declared.fault.ReadFault.TheVariants as fault
-use Rattle.core_tokens.specs.Piece.{Piece, Shape, A_mark}
+use Rattle.core_tokens.specs.Piece.{Piece, Shape}
+use Rattle.core_tokens.specs.Piece as lexemes
 use Rattle.core_tree.specs.Syntax.{ModuleTree}
 use Rattle.core_scopes.specs.Scopes.{IsLawful}
 use Rattle.core_grammar.specs.Whole.{IsReadAs}
@@ -18,7 +19,7 @@ use Rattle.core_grammar.specs.Unread.{SomeAre, BeginsFunction, BeginsApplied, Ap
 use Rattle.core_grammar.specs.Places.{IsOne, IsAt, IsPlace, IsLastEnd, IsFaultOf}
 use Rattle.core_tokens.specs.Within.{IsPlacedWithin, StandWithin}
 use Rattle.core_tokens.specs.Text.{text_limit}
-use Rattle.core_reader.specs.Reader.{SpellsModule}
+use Rattle.core_reader.specs.ModuleText.{SpellsModule}
 
 -- the tokens of a text stand in it
 pub tokens_within : {stop : ℕ} {behind last : Bool} {bytes rest : List ℕ} {ps : List Piece} → Spelt stop behind bytes ps last rest → StandWithin stop ps
@@ -92,7 +93,7 @@ front_within stop at Begins [] w h = absurd h
 front_within stop at Begins (p ∷ ps) w h = subst (λ (n : ℕ). n ≤ stop) h.0 w.0
 
 bare_within : (stop : ℕ) (shape : Shape) (here behind : List Piece) → StandWithin stop here → StandWithin stop behind → StandWithin stop (within_by shape here behind)
-bare_within stop (A_mark m.LeftParenthesis) here behind h g = g
+bare_within stop (lexemes.Mark m.LeftParenthesis) here behind h g = g
 bare_within stop shape here behind h g = h
 
 parentheses_within : (stop : ℕ) (qs : List Piece) → StandWithin stop qs → StandWithin stop (within qs)

@@ -1,3 +1,3 @@
-pub mod Parsing
-pub mod Reader
+pub mod ModuleText
 pub mod Refusal
+pub mod inside

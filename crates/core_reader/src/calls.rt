@@ -2,11 +2,11 @@
 ghost use Rattle.std.specs.Prelude.{◌≡◌, map, length, true, option_map};
 ghost use Rattle.core_tokens.specs.Piece.{pieces};
 ghost use Rattle.core_tokens.specs.declared.token.Mark.TheVariants.{LeftParenthesis};
-ghost use Rattle.core_tree.specs.Syntax.{OfItself};
+ghost use Rattle.core_tree.specs.Callee as callees;
 ghost use Rattle.core_tree.specs.Tree.{tree_of, callee_of};
-ghost use Rattle.core_grammar.specs.Reading.{Moves, after_mark, exactly_at};
-ghost use Rattle.core_grammar.specs.ReadingForms.{callee_fault_of, callee_fault, bare_callee_at, callee_at, applied_fault_of, applied_fault, applied_atom_at, behind_applied_by, bare_applied_at, applied_at, is_read, export_called, unlisted_called, callee_named, operation_named, earlier, refuse, judged, apply_at, call_at, primop_at, expression_at};
-ghost use Rattle.core_reader.specs.Parsing.{state_in};
+ghost use Rattle.core_grammar.specs.inside.Decoder.{MovesUnlessMemory, after_mark, exactly_at};
+ghost use Rattle.core_grammar.specs.inside.DecoderForms.{callee_fault_of, callee_fault, bare_callee_at, callee_at, applied_fault_of, applied_fault, applied_atom_at, behind_applied_by, bare_applied_at, applied_at, is_read, export_called, unlisted_called, callee_named, operation_named, earlier, refuse, judged, apply_at, call_at, primop_at, expression_at};
+ghost use Rattle.core_reader.specs.inside.ReaderView.{state_in};
 
 use crate::expressions::{begins_expression, is_function};
 use crate::form_reader::FormReader;
@@ -93,7 +93,7 @@ fn unlisted_called(
 }
 
 /// What a call in the module `own` calls, by its two names and the number of its arguments.
-#[tactic(auto, unfolding(core_grammar::specs::ReadingForms::callee_named))]
+#[tactic(auto, unfolding(core_grammar::specs::inside::DecoderForms::callee_named))]
 fn callee_named(own: &Atom, module_name: &Atom, function_name: Atom, arity: usize) -> Option<Callee>
     ensures { option_map callee_of result ≡ callee_named own.now module_name.now function_name arity }
 {
@@ -114,7 +114,7 @@ fn callee_named(own: &Atom, module_name: &Atom, function_name: Atom, arity: usiz
 }
 
 /// The operation of a `primop`, by its name and the number of its arguments.
-#[tactic(auto, unfolding(core_grammar::specs::ReadingForms::operation_named))]
+#[tactic(auto, unfolding(core_grammar::specs::inside::DecoderForms::operation_named))]
 fn operation_named(name: &Atom, arity: usize) -> Option<Callee>
     ensures { option_map callee_of result ≡ operation_named name.now arity }
 {
@@ -145,7 +145,7 @@ fn earlier(unserved: Unserved, before: Option<Unserved>) -> Unserved
 
 impl<'a> FormReader<'a> {
     /// The fault where an atom of the call at `at` should stand.
-    #[tactic(auto, unfolding(core_grammar::specs::ReadingForms::callee_fault))]
+    #[tactic(auto, unfolding(core_grammar::specs::inside::DecoderForms::callee_fault))]
     fn callee_fault(&self, at: usize) -> ReadFault
         ensures { result ≡ callee_fault at (state_in self.now) }
     {
@@ -153,9 +153,9 @@ impl<'a> FormReader<'a> {
     }
 
     /// One of the two atoms of the call at `at`, without annotations.
-    #[tactic(auto, unfolding(core_grammar::specs::ReadingForms::bare_callee_at))]
+    #[tactic(auto, unfolding(core_grammar::specs::inside::DecoderForms::bare_callee_at))]
     fn bare_callee(&mut self, at: usize) -> Result<Atom, ReadFault>
-        ensures { Moves (λ a. a) result (state_in self.new) (bare_callee_at at (state_in self.old)) }
+        ensures { MovesUnlessMemory (λ a. a) result (state_in self.new) (bare_callee_at at (state_in self.old)) }
     {
         let tokens = self.parser.tokens;
         match tokens {
@@ -175,7 +175,7 @@ impl<'a> FormReader<'a> {
 
     /// One of the two atoms of the call at `at`, annotated in at most so many levels.
     fn callee(&mut self, at: usize, levels: u16) -> Result<Atom, ReadFault>
-        ensures { Moves (λ a. a) result (state_in self.new) (callee_at at levels (state_in self.old)) }
+        ensures { MovesUnlessMemory (λ a. a) result (state_in self.new) (callee_at at levels (state_in self.old)) }
     {
         if !self.parser.opens_note(levels)? {
             return Ok(self.bare_callee(at)?);
@@ -186,7 +186,7 @@ impl<'a> FormReader<'a> {
     }
 
     /// The fault where the name of the function of an `apply` should stand.
-    #[tactic(auto, unfolding(core_grammar::specs::ReadingForms::applied_fault))]
+    #[tactic(auto, unfolding(core_grammar::specs::inside::DecoderForms::applied_fault))]
     fn applied_fault(&self) -> ReadFault
         ensures { result ≡ applied_fault (state_in self.now) }
     {
@@ -195,9 +195,9 @@ impl<'a> FormReader<'a> {
     }
 
     /// The atom of the function of an `apply`, with its place.
-    #[tactic(auto, unfolding(core_grammar::specs::ReadingForms::applied_atom_at))]
+    #[tactic(auto, unfolding(core_grammar::specs::inside::DecoderForms::applied_atom_at))]
     fn applied_atom(&mut self) -> Result<(usize, Atom), ReadFault>
-        ensures { Moves (λ a. a) result (state_in self.new) (applied_atom_at (state_in self.old)) }
+        ensures { MovesUnlessMemory (λ a. a) result (state_in self.new) (applied_atom_at (state_in self.old)) }
     {
         let tokens = self.parser.tokens;
         match tokens {
@@ -217,7 +217,7 @@ impl<'a> FormReader<'a> {
 
     /// What stands behind the atom of an `apply`: with arguments there the atom is a value that is applied.
     fn behind_applied(&mut self, at: usize, name: Atom) -> Result<NamedFunction, ReadFault>
-        ensures { Moves (λ e. e) result (state_in self.new) (behind_applied_by at name (after_mark LeftParenthesis (state_in self.old).pieces) (state_in self.old)) }
+        ensures { MovesUnlessMemory (λ e. e) result (state_in self.new) (behind_applied_by at name (after_mark LeftParenthesis (state_in self.old).pieces) (state_in self.old)) }
     {
         if self.parser.is_at_mark(Mark::LeftParenthesis) {
             return Err(self.parser.refusal(ReadFault::HigherOrder(at)));
@@ -226,9 +226,9 @@ impl<'a> FormReader<'a> {
     }
 
     /// The name of the function of an `apply`, without annotations.
-    #[tactic(auto, unfolding(core_grammar::specs::ReadingForms::bare_applied_at))]
+    #[tactic(auto, unfolding(core_grammar::specs::inside::DecoderForms::bare_applied_at))]
     fn bare_applied(&mut self) -> Result<NamedFunction, ReadFault>
-        ensures { Moves (λ e. e) result (state_in self.new) (bare_applied_at (state_in self.old)) }
+        ensures { MovesUnlessMemory (λ e. e) result (state_in self.new) (bare_applied_at (state_in self.old)) }
     {
         let (at, name) = self.applied_atom()?;
         Ok(self.behind_applied(at, name)?)
@@ -236,7 +236,7 @@ impl<'a> FormReader<'a> {
 
     /// The name of the function of an `apply`, annotated in at most so many levels.
     fn applied(&mut self, levels: u16) -> Result<NamedFunction, ReadFault>
-        ensures { Moves (λ e. e) result (state_in self.new) (applied_at levels (state_in self.old)) }
+        ensures { MovesUnlessMemory (λ e. e) result (state_in self.new) (applied_at levels (state_in self.old)) }
     {
         if !self.parser.opens_note(levels)? {
             return Ok(self.bare_applied()?);
@@ -280,9 +280,9 @@ impl<'a> FormReader<'a> {
 
     /// What stands behind the `apply` at `at`.
     #[cycle(expressions)]
-    #[tactic(auto, unfolding(core_grammar::specs::ReadingForms::apply_at))]
+    #[tactic(auto, unfolding(core_grammar::specs::inside::DecoderForms::apply_at))]
     pub(crate) fn apply(&mut self, own: &Atom, levels: u16, at: usize) -> Result<Expr, ReadFault>
-        ensures { Moves tree_of result (state_in self.new) (apply_at own.now levels (expression_at own.now levels) at (state_in self.old)) }
+        ensures { MovesUnlessMemory tree_of result (state_in self.new) (apply_at own.now levels (expression_at own.now levels) at (state_in self.old)) }
     {
         let named = self.applied(levels)?;
         self.parser.mark(Mark::LeftParenthesis)?;
@@ -298,7 +298,7 @@ impl<'a> FormReader<'a> {
     /// So many expressions, with commas between them.
     #[cycle(expressions)]
     fn arguments(&mut self, own: &Atom, levels: u16, arity: u8) -> Result<Vec<Expr>, ReadFault>
-        ensures { Moves (λ v. map tree_of v.items) result (state_in self.new) (exactly_at (expression_at own.now levels) true arity (state_in self.old)) }
+        ensures { MovesUnlessMemory (λ v. map tree_of v.items) result (state_in self.new) (exactly_at (expression_at own.now levels) true arity (state_in self.old)) }
     {
         let mut arguments = Vec::new(self.parser.alloc);
         'arguments: for taken in 0..arity {
@@ -310,9 +310,9 @@ impl<'a> FormReader<'a> {
 
     /// What stands behind the `call` at `at`.
     #[cycle(expressions)]
-    #[tactic(auto, unfolding(core_grammar::specs::ReadingForms::call_at))]
+    #[tactic(auto, unfolding(core_grammar::specs::inside::DecoderForms::call_at))]
     pub(crate) fn call(&mut self, own: &Atom, levels: u16, at: usize) -> Result<Expr, ReadFault>
-        ensures { Moves tree_of result (state_in self.new) (call_at own.now levels (expression_at own.now levels) at (state_in self.old)) }
+        ensures { MovesUnlessMemory tree_of result (state_in self.new) (call_at own.now levels (expression_at own.now levels) at (state_in self.old)) }
     {
         let module_name = self.callee(at, levels)?;
         self.parser.mark(Mark::Colon)?;
@@ -325,9 +325,9 @@ impl<'a> FormReader<'a> {
 
     /// What stands behind the `primop` at `at`.
     #[cycle(expressions)]
-    #[tactic(auto, unfolding(core_grammar::specs::ReadingForms::primop_at))]
+    #[tactic(auto, unfolding(core_grammar::specs::inside::DecoderForms::primop_at))]
     pub(crate) fn primop(&mut self, own: &Atom, levels: u16, at: usize) -> Result<Expr, ReadFault>
-        ensures { Moves tree_of result (state_in self.new) (primop_at own.now levels (expression_at own.now levels) at (state_in self.old)) }
+        ensures { MovesUnlessMemory tree_of result (state_in self.new) (primop_at own.now levels (expression_at own.now levels) at (state_in self.old)) }
     {
         let name = self.parser.atom()?;
         self.parser.mark(Mark::LeftParenthesis)?;

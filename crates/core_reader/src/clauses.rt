@@ -2,11 +2,12 @@
 ghost use Rattle.std.specs.Prelude.{◌≡◌, map, ◌∷◌, []};
 ghost use Rattle.core_tokens.specs.declared.token.Keyword.TheVariants.{When};
 ghost use Rattle.core_tokens.specs.declared.token.Mark.TheVariants.{Less};
-ghost use Rattle.core_tree.specs.Syntax.{Chosen, clauses_of};
+ghost use Rattle.core_tree.specs.Syntax.{clauses_of};
+ghost use Rattle.core_tree.specs.Expression as trees;
 ghost use Rattle.core_tree.specs.Tree.{pattern_of, tree_of};
-ghost use Rattle.core_grammar.specs.Reading.{Builds, Moves, after_word, in_note_at, constant_at};
-ghost use Rattle.core_grammar.specs.ReadingForms.{guarded_at, behind_patterns_at, clause_of, started, inside_start_at, aliased, noted_start_at, bare_start_at, start_at, clause_at, clauses_at, choices_at, case_at, expression_at};
-ghost use Rattle.core_reader.specs.Parsing.{state_in, start_of};
+ghost use Rattle.core_grammar.specs.inside.Decoder.{BuildsUnlessMemory, MovesUnlessMemory, after_word, in_note_at, constant_at};
+ghost use Rattle.core_grammar.specs.inside.DecoderForms.{guarded_at, behind_patterns_at, clause_of, started, inside_start_at, aliased, noted_start_at, bare_start_at, start_at, clause_at, clauses_at, choices_at, case_at, expression_at};
+ghost use Rattle.core_reader.specs.inside.ReaderView.{state_in, start_of};
 
 use crate::form_reader::FormReader;
 use core_tokens::{Keyword, Mark, ReadFault};
@@ -26,7 +27,7 @@ pub(crate) enum Start {
 }
 
 fn one_pattern(alloc: Global, pattern: Pattern) -> Result<Vec<Pattern>, ReadFault>
-    ensures { Builds (λ v. map pattern_of v.items) result (pattern_of pattern ∷ []) }
+    ensures { BuildsUnlessMemory (λ v. map pattern_of v.items) result (pattern_of pattern ∷ []) }
 {
     let mut patterns = Vec::new(alloc);
     patterns.push(pattern)?;
@@ -34,7 +35,7 @@ fn one_pattern(alloc: Global, pattern: Pattern) -> Result<Vec<Pattern>, ReadFaul
 }
 
 fn case_of(alloc: Global, at: usize, value: Expr, clauses: Vec<Clause>) -> Result<Expr, ReadFault>
-    ensures { Builds tree_of result (Chosen at (tree_of value) (clauses_of clauses.items)) }
+    ensures { BuildsUnlessMemory tree_of result (trees.Case at (tree_of value) (clauses_of clauses.items)) }
 {
     let clauses = Clauses(clauses);
     Ok(Expr::Case(Box::new(alloc, Case { at, value, clauses })?))
@@ -43,9 +44,9 @@ fn case_of(alloc: Global, at: usize, value: Expr, clauses: Vec<Clause>) -> Resul
 impl<'a> FormReader<'a> {
     /// The guard of a clause and its body: `when expr -> expr`.
     #[cycle(expressions)]
-    #[tactic(auto, unfolding(core_grammar::specs::ReadingForms::guarded_at))]
+    #[tactic(auto, unfolding(core_grammar::specs::inside::DecoderForms::guarded_at))]
     fn guarded(&mut self, own: &Atom, levels: u16) -> Result<(Expr, Expr), ReadFault>
-        ensures { Moves (λ p. (tree_of p.0, tree_of p.1)) result (state_in self.new) (guarded_at own.now levels (expression_at own.now levels) (state_in self.old)) }
+        ensures { MovesUnlessMemory (λ p. (tree_of p.0, tree_of p.1)) result (state_in self.new) (guarded_at own.now levels (expression_at own.now levels) (state_in self.old)) }
     {
         self.parser.word(Keyword::When)?;
         let guard = self.expression(own, levels)?;
@@ -61,7 +62,7 @@ impl<'a> FormReader<'a> {
         levels: u16,
         patterns: Vec<Pattern>,
     ) -> Result<Clause, ReadFault>
-        ensures { Moves (λ c. c) result (state_in self.new) (behind_patterns_at own.now levels (expression_at own.now levels) (map pattern_of patterns.items) (state_in self.old)) }
+        ensures { MovesUnlessMemory (λ c. c) result (state_in self.new) (behind_patterns_at own.now levels (expression_at own.now levels) (map pattern_of patterns.items) (state_in self.old)) }
     {
         let (guard, body) = self.guarded(own, levels)?;
         Ok(Clause {
@@ -74,7 +75,7 @@ impl<'a> FormReader<'a> {
     /// The start of a clause as a clause.
     #[cycle(expressions)]
     fn clause_of(&mut self, own: &Atom, levels: u16, start: Start) -> Result<Clause, ReadFault>
-        ensures { Moves (λ c. c) result (state_in self.new) (clause_of own.now levels (expression_at own.now levels) (start_of start) (state_in self.old)) }
+        ensures { MovesUnlessMemory (λ c. c) result (state_in self.new) (clause_of own.now levels (expression_at own.now levels) (start_of start) (state_in self.old)) }
     {
         match start {
             Start::One(pattern) => {
@@ -90,7 +91,7 @@ impl<'a> FormReader<'a> {
     /// whole clause.
     #[cycle(expressions)]
     fn started(&mut self, own: &Atom, levels: u16, start: Start) -> Result<Start, ReadFault>
-        ensures { Moves start_of result (state_in self.new) (started own.now levels (expression_at own.now levels) (start_of start) (after_word When (state_in self.old).pieces) (state_in self.old)) }
+        ensures { MovesUnlessMemory start_of result (state_in self.new) (started own.now levels (expression_at own.now levels) (start_of start) (after_word When (state_in self.old).pieces) (state_in self.old)) }
     {
         if !self.parser.is_at_word(Keyword::When) {
             return Ok(start);
@@ -100,9 +101,9 @@ impl<'a> FormReader<'a> {
 
     /// What stands in the parentheses of an annotation of a clause or of its patterns.
     #[cycle(expressions)]
-    #[tactic(auto, unfolding(core_grammar::specs::ReadingForms::inside_start_at))]
+    #[tactic(auto, unfolding(core_grammar::specs::inside::DecoderForms::inside_start_at))]
     fn inside_start(&mut self, own: &Atom, levels: u16) -> Result<Start, ReadFault>
-        ensures { Moves start_of result (state_in self.new) (inside_start_at own.now levels (expression_at own.now levels) (start_at own.now levels) (state_in self.old)) }
+        ensures { MovesUnlessMemory start_of result (state_in self.new) (inside_start_at own.now levels (expression_at own.now levels) (start_at own.now levels) (state_in self.old)) }
     {
         let start = self.start(own, levels)?;
         Ok(self.started(own, levels, start)?)
@@ -110,7 +111,7 @@ impl<'a> FormReader<'a> {
 
     /// The start of a clause behind the parentheses of an annotation: a variable may be that of an alias.
     fn aliased(&mut self, own: &Atom, levels: u16, start: Start) -> Result<Start, ReadFault>
-        ensures { Moves start_of result (state_in self.new) (aliased own.now levels (expression_at own.now levels) (start_of start) (state_in self.old)) }
+        ensures { MovesUnlessMemory start_of result (state_in self.new) (aliased own.now levels (expression_at own.now levels) (start_of start) (state_in self.old)) }
     {
         match start {
             Start::One(pattern) => Ok(Start::One(self.parser.alias(pattern, levels)?)),
@@ -121,9 +122,9 @@ impl<'a> FormReader<'a> {
 
     /// A start of a clause in the parentheses of an annotation, and the end of the annotation.
     #[cycle(expressions)]
-    #[tactic(auto, unfolding(core_grammar::specs::Reading::in_note_at))]
+    #[tactic(auto, unfolding(core_grammar::specs::inside::Decoder::in_note_at))]
     fn start_in_note(&mut self, own: &Atom, levels: u16) -> Result<Start, ReadFault>
-        ensures { Moves start_of result (state_in self.new) (in_note_at (constant_at levels) (inside_start_at own.now levels (expression_at own.now levels) (start_at own.now levels)) (state_in self.old)) }
+        ensures { MovesUnlessMemory start_of result (state_in self.new) (in_note_at (constant_at levels) (inside_start_at own.now levels (expression_at own.now levels) (start_at own.now levels)) (state_in self.old)) }
     {
         let start = self.inside_start(own, levels)?;
         self.parser.note(levels).and(Ok(start))
@@ -131,18 +132,18 @@ impl<'a> FormReader<'a> {
 
     /// A start of a clause in the parentheses of an annotation, whose parts stand at so many levels.
     #[cycle(expressions)]
-    #[tactic(auto, unfolding(core_grammar::specs::ReadingForms::noted_start_at))]
+    #[tactic(auto, unfolding(core_grammar::specs::inside::DecoderForms::noted_start_at))]
     fn noted_start(&mut self, own: &Atom, levels: u16) -> Result<Start, ReadFault>
-        ensures { Moves start_of result (state_in self.new) (noted_start_at own.now levels (expression_at own.now levels) (start_at own.now levels) (state_in self.old)) }
+        ensures { MovesUnlessMemory start_of result (state_in self.new) (noted_start_at own.now levels (expression_at own.now levels) (start_at own.now levels) (state_in self.old)) }
     {
         let start = self.start_in_note(own, levels)?;
         Ok(self.aliased(own, levels, start)?)
     }
 
     /// Patterns that no parenthesis stands before.
-    #[tactic(auto, unfolding(core_grammar::specs::ReadingForms::bare_start_at))]
+    #[tactic(auto, unfolding(core_grammar::specs::inside::DecoderForms::bare_start_at))]
     fn bare_start(&mut self, levels: u16) -> Result<Start, ReadFault>
-        ensures { Moves start_of result (state_in self.new) (bare_start_at levels (state_in self.old)) }
+        ensures { MovesUnlessMemory start_of result (state_in self.new) (bare_start_at levels (state_in self.old)) }
     {
         if self.parser.skip_mark(Mark::Less) {
             return Ok(Start::Many(self.parser.patterns(levels, Mark::Greater)?));
@@ -153,7 +154,7 @@ impl<'a> FormReader<'a> {
     /// What a clause begins with, annotated in at most so many levels.
     #[cycle(expressions)]
     fn start(&mut self, own: &Atom, levels: u16) -> Result<Start, ReadFault>
-        ensures { Moves start_of result (state_in self.new) (start_at own.now levels (state_in self.old)) }
+        ensures { MovesUnlessMemory start_of result (state_in self.new) (start_at own.now levels (state_in self.old)) }
     {
         if !self.parser.opens_note(levels)? {
             return Ok(self.bare_start(levels)?);
@@ -163,9 +164,9 @@ impl<'a> FormReader<'a> {
 
     /// A clause whose parts have at most so many levels.
     #[cycle(expressions)]
-    #[tactic(auto, unfolding(core_grammar::specs::ReadingForms::clause_at))]
+    #[tactic(auto, unfolding(core_grammar::specs::inside::DecoderForms::clause_at))]
     fn clause(&mut self, own: &Atom, levels: u16) -> Result<Clause, ReadFault>
-        ensures { Moves (λ c. c) result (state_in self.new) (clause_at own.now levels (expression_at own.now levels) (start_at own.now levels) (state_in self.old)) }
+        ensures { MovesUnlessMemory (λ c. c) result (state_in self.new) (clause_at own.now levels (expression_at own.now levels) (start_at own.now levels) (state_in self.old)) }
     {
         let start = self.start(own, levels)?;
         Ok(self.clause_of(own, levels, start)?)
@@ -174,7 +175,7 @@ impl<'a> FormReader<'a> {
     /// The clauses as far as the `end`, of which the first was read before.
     #[cycle(expressions)]
     fn clauses(&mut self, own: &Atom, levels: u16, first: Clause) -> Result<Vec<Clause>, ReadFault>
-        ensures { Moves (λ v. v.items) result (state_in self.new) (clauses_at own.now levels (expression_at own.now levels) (start_at own.now levels) first (state_in self.old)) }
+        ensures { MovesUnlessMemory (λ v. v.items) result (state_in self.new) (clauses_at own.now levels (expression_at own.now levels) (start_at own.now levels) first (state_in self.old)) }
     {
         let mut clauses = Vec::new(self.parser.alloc);
         clauses.push(first)?;
@@ -190,9 +191,9 @@ impl<'a> FormReader<'a> {
 
     /// What stands behind the value of a `case`.
     #[cycle(expressions)]
-    #[tactic(auto, unfolding(core_grammar::specs::ReadingForms::choices_at))]
+    #[tactic(auto, unfolding(core_grammar::specs::inside::DecoderForms::choices_at))]
     fn choices(&mut self, own: &Atom, levels: u16) -> Result<Vec<Clause>, ReadFault>
-        ensures { Moves (λ v. v.items) result (state_in self.new) (choices_at own.now levels (expression_at own.now levels) (start_at own.now levels) (state_in self.old)) }
+        ensures { MovesUnlessMemory (λ v. v.items) result (state_in self.new) (choices_at own.now levels (expression_at own.now levels) (start_at own.now levels) (state_in self.old)) }
     {
         self.parser.word(Keyword::Of)?;
         let first = self.clause(own, levels)?;
@@ -204,7 +205,7 @@ impl<'a> FormReader<'a> {
     /// What stands behind the `case` at `at`.
     #[cycle(expressions)]
     pub(crate) fn case(&mut self, own: &Atom, levels: u16, at: usize) -> Result<Expr, ReadFault>
-        ensures { Moves tree_of result (state_in self.new) (case_at own.now levels (expression_at own.now levels) (start_at own.now levels) at (state_in self.old)) }
+        ensures { MovesUnlessMemory tree_of result (state_in self.new) (case_at own.now levels (expression_at own.now levels) (start_at own.now levels) at (state_in self.old)) }
     {
         let value = self.expression(own, levels)?;
         let clauses = self.choices(own, levels)?;

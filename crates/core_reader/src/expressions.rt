@@ -1,12 +1,14 @@
 // Expressions (Core Erlang 1.0.3, "Expressions"), but for calls and clauses.
 ghost use Rattle.std.specs.Prelude.{◌≡◌, map};
-ghost use Rattle.core_tokens.specs.Piece.{shape_of, pieces, A_mark, A_word};
+ghost use Rattle.core_tokens.specs.Piece.{shape_of, pieces};
+ghost use Rattle.core_tokens.specs.Piece as lexemes;
 ghost use Rattle.core_tokens.specs.declared.token.Mark.TheVariants.{Slash};
-ghost use Rattle.core_tree.specs.Syntax.{Joined, Bound, Followed, Tried, Caught, trees_of};
+ghost use Rattle.core_tree.specs.Syntax.{trees_of};
+ghost use Rattle.core_tree.specs.Expression as trees;
 ghost use Rattle.core_tree.specs.Tree.{tree_of};
-ghost use Rattle.core_grammar.specs.Reading.{Builds, Moves, items_at, closed_at, in_note_at, constant_at, after_mark, place_of};
-ghost use Rattle.core_grammar.specs.ReadingForms.{is_function, begins_expression, deep_expression_of, expression_fault_of, deep_expression, expression_fault, name_by, tuple_at, list_at, values_at, body_at, in_at, bound_at, let_at, do_at, success_at, handler_at, branches_at, try_at, catch_at, form_by, form_at, expression_at, start_at};
-ghost use Rattle.core_reader.specs.Parsing.{state_in, branch_of};
+ghost use Rattle.core_grammar.specs.inside.Decoder.{BuildsUnlessMemory, MovesUnlessMemory, items_at, closed_at, in_note_at, constant_at, after_mark, place_of};
+ghost use Rattle.core_grammar.specs.inside.DecoderForms.{is_function, begins_expression, deep_expression_of, expression_fault_of, deep_expression, expression_fault, name_by, tuple_at, list_at, values_at, body_at, in_at, bound_at, let_at, do_at, success_at, handler_at, branches_at, try_at, catch_at, form_by, form_at, expression_at, start_at};
+ghost use Rattle.core_reader.specs.inside.ReaderView.{state_in, branch_of};
 
 use crate::form_reader::FormReader;
 use core_parser::{atom_copy, is_foreign, variable_of};
@@ -101,7 +103,7 @@ fn expression_fault_of(length: usize, tokens: &[Token]) -> ReadFault
 }
 
 fn onto(alloc: Global, items: Vec<Expr>, tail: Expr) -> Result<Expr, ReadFault>
-    ensures { Builds tree_of result (Joined (trees_of (map tree_of items.items)) (tree_of tail)) }
+    ensures { BuildsUnlessMemory tree_of result (trees.Onto (trees_of (map tree_of items.items)) (tree_of tail)) }
 {
     let items = Exprs(items);
     Ok(Expr::Onto(Box::new(alloc, Onto { items, tail })?))
@@ -113,7 +115,7 @@ fn let_of(
     value: Expr,
     body: Expr,
 ) -> Result<Expr, ReadFault>
-    ensures { Builds tree_of result (Bound variables.items (tree_of value) (tree_of body)) }
+    ensures { BuildsUnlessMemory tree_of result (trees.Let variables.items (tree_of value) (tree_of body)) }
 {
     Ok(Expr::Let(Box::new(
         alloc,
@@ -126,7 +128,7 @@ fn let_of(
 }
 
 fn do_both(alloc: Global, first: Expr, second: Expr) -> Result<Expr, ReadFault>
-    ensures { Builds tree_of result (Followed (tree_of first) (tree_of second)) }
+    ensures { BuildsUnlessMemory tree_of result (trees.Do (tree_of first) (tree_of second)) }
 {
     Ok(Expr::Do(Box::new(alloc, Do { first, second })?))
 }
@@ -145,7 +147,7 @@ fn try_of(
     success: Branch,
     handler: Branch,
 ) -> Result<Expr, ReadFault>
-    ensures { Builds tree_of result (Tried at (tree_of value) (branch_of success).0 (branch_of success).1 (branch_of handler).0 (branch_of handler).1) }
+    ensures { BuildsUnlessMemory tree_of result (trees.Try at (tree_of value) (branch_of success).0 (branch_of success).1 (branch_of handler).0 (branch_of handler).1) }
 {
     let Branch { variables, body } = success;
     let Branch {
@@ -166,14 +168,14 @@ fn try_of(
 }
 
 fn catch_of(alloc: Global, at: usize, value: Expr) -> Result<Expr, ReadFault>
-    ensures { Builds tree_of result (Caught at (tree_of value)) }
+    ensures { BuildsUnlessMemory tree_of result (trees.Catch at (tree_of value)) }
 {
     Ok(Expr::Catch(Box::new(alloc, Catch { at, value })?))
 }
 
 impl<'a> FormReader<'a> {
     /// The fault at a token past the last level.
-    #[tactic(auto, unfolding(core_grammar::specs::ReadingForms::deep_expression))]
+    #[tactic(auto, unfolding(core_grammar::specs::inside::DecoderForms::deep_expression))]
     fn deep_expression(&self) -> ReadFault
         ensures { result ≡ deep_expression (state_in self.now) }
     {
@@ -182,7 +184,7 @@ impl<'a> FormReader<'a> {
     }
 
     /// The fault at a token that begins no expression that is read.
-    #[tactic(auto, unfolding(core_grammar::specs::ReadingForms::expression_fault))]
+    #[tactic(auto, unfolding(core_grammar::specs::inside::DecoderForms::expression_fault))]
     fn expression_fault(&self) -> ReadFault
         ensures { result ≡ expression_fault (state_in self.now) }
     {
@@ -192,7 +194,7 @@ impl<'a> FormReader<'a> {
     /// An expression of the module `own`, of at most so many levels.
     #[cycle(expressions)]
     pub fn expression(&mut self, own: &Atom, levels: u16) -> Result<Expr, ReadFault>
-        ensures { Moves tree_of result (state_in self.new) (expression_at own.now levels (state_in self.old)) }
+        ensures { MovesUnlessMemory tree_of result (state_in self.new) (expression_at own.now levels (state_in self.old)) }
     {
         if levels == 0 {
             Err(self.deep_expression())
@@ -203,9 +205,9 @@ impl<'a> FormReader<'a> {
 
     /// An expression whose parts have at most so many levels.
     #[cycle(expressions)]
-    #[tactic(auto, unfolding(core_grammar::specs::ReadingForms::form_at))]
+    #[tactic(auto, unfolding(core_grammar::specs::inside::DecoderForms::form_at))]
     fn form(&mut self, own: &Atom, levels: u16) -> Result<Expr, ReadFault>
-        ensures { Moves tree_of result (state_in self.new) (form_at own.now levels (expression_at own.now levels) (start_at own.now levels) (state_in self.old)) }
+        ensures { MovesUnlessMemory tree_of result (state_in self.new) (form_at own.now levels (expression_at own.now levels) (start_at own.now levels) (state_in self.old)) }
     {
         let fault = self.expression_fault();
         let tokens = self.parser.tokens;
@@ -245,7 +247,7 @@ impl<'a> FormReader<'a> {
         mark: Mark,
         rest: &'a [Token],
     ) -> Result<Expr, ReadFault>
-        ensures { Moves tree_of result (state_in self.new) (form_by own.now levels (expression_at own.now levels) (start_at own.now levels) (place_of (state_in self.old).stop (state_in self.old).pieces) (A_mark mark) (pieces rest.now) (state_in self.old)) }
+        ensures { MovesUnlessMemory tree_of result (state_in self.new) (form_by own.now levels (expression_at own.now levels) (start_at own.now levels) (place_of (state_in self.old).stop (state_in self.old).pieces) (lexemes.Mark mark) (pieces rest.now) (state_in self.old)) }
     {
         let fault = self.expression_fault();
         self.parser.tokens = rest;
@@ -268,7 +270,7 @@ impl<'a> FormReader<'a> {
         word: Keyword,
         rest: &'a [Token],
     ) -> Result<Expr, ReadFault>
-        ensures { Moves tree_of result (state_in self.new) (form_by own.now levels (expression_at own.now levels) (start_at own.now levels) at (A_word word) (pieces rest.now) (state_in self.old)) }
+        ensures { MovesUnlessMemory tree_of result (state_in self.new) (form_by own.now levels (expression_at own.now levels) (start_at own.now levels) at (lexemes.Word word) (pieces rest.now) (state_in self.old)) }
     {
         let fault = self.expression_fault();
         self.parser.tokens = rest;
@@ -287,7 +289,7 @@ impl<'a> FormReader<'a> {
 
     /// An atom with these tokens behind it, if it begins no function's name.
     fn name(&mut self, atom: &Atom, rest: &'a [Token]) -> Result<Expr, ReadFault>
-        ensures { Moves tree_of result (state_in self.new) (name_by (after_mark Slash (pieces rest.now)) atom.now (pieces rest.now) (state_in self.old)) }
+        ensures { MovesUnlessMemory tree_of result (state_in self.new) (name_by (after_mark Slash (pieces rest.now)) atom.now (pieces rest.now) (state_in self.old)) }
     {
         if matches!(
             rest,
@@ -307,9 +309,9 @@ impl<'a> FormReader<'a> {
 
     /// What stands in the parentheses of an annotated expression, and the end of the annotation.
     #[cycle(expressions)]
-    #[tactic(auto, unfolding(core_grammar::specs::Reading::in_note_at))]
+    #[tactic(auto, unfolding(core_grammar::specs::inside::Decoder::in_note_at))]
     fn expression_in_note(&mut self, own: &Atom, levels: u16) -> Result<Expr, ReadFault>
-        ensures { Moves tree_of result (state_in self.new) (in_note_at (constant_at levels) (expression_at own.now levels) (state_in self.old)) }
+        ensures { MovesUnlessMemory tree_of result (state_in self.new) (in_note_at (constant_at levels) (expression_at own.now levels) (state_in self.old)) }
     {
         let expression = self.expression(own, levels)?;
         self.parser.note(levels)?;
@@ -318,9 +320,9 @@ impl<'a> FormReader<'a> {
 
     /// What stands behind the brace of a tuple.
     #[cycle(expressions)]
-    #[tactic(auto, unfolding(core_grammar::specs::ReadingForms::tuple_at))]
+    #[tactic(auto, unfolding(core_grammar::specs::inside::DecoderForms::tuple_at))]
     fn tuple(&mut self, own: &Atom, levels: u16) -> Result<Expr, ReadFault>
-        ensures { Moves tree_of result (state_in self.new) (tuple_at own.now levels (expression_at own.now levels) (state_in self.old)) }
+        ensures { MovesUnlessMemory tree_of result (state_in self.new) (tuple_at own.now levels (expression_at own.now levels) (state_in self.old)) }
     {
         let items = self.expressions(own, levels, Mark::RightBrace)?;
         Ok(Expr::Tuple(Exprs(items)))
@@ -328,9 +330,9 @@ impl<'a> FormReader<'a> {
 
     /// What stands behind the bracket of a list.
     #[cycle(expressions)]
-    #[tactic(auto, unfolding(core_grammar::specs::ReadingForms::list_at, core_grammar::specs::Reading::brackets_at))]
+    #[tactic(auto, unfolding(core_grammar::specs::inside::DecoderForms::list_at, core_grammar::specs::inside::Decoder::brackets_at))]
     fn list(&mut self, own: &Atom, levels: u16) -> Result<Expr, ReadFault>
-        ensures { Moves tree_of result (state_in self.new) (list_at own.now levels (expression_at own.now levels) (state_in self.old)) }
+        ensures { MovesUnlessMemory tree_of result (state_in self.new) (list_at own.now levels (expression_at own.now levels) (state_in self.old)) }
     {
         if self.parser.skip_mark(Mark::RightBracket) {
             return Ok(Expr::List(Exprs(Vec::new(self.parser.alloc))));
@@ -347,9 +349,9 @@ impl<'a> FormReader<'a> {
 
     /// What stands behind the angle of a list of values.
     #[cycle(expressions)]
-    #[tactic(auto, unfolding(core_grammar::specs::ReadingForms::values_at))]
+    #[tactic(auto, unfolding(core_grammar::specs::inside::DecoderForms::values_at))]
     fn values(&mut self, own: &Atom, levels: u16) -> Result<Expr, ReadFault>
-        ensures { Moves tree_of result (state_in self.new) (values_at own.now levels (expression_at own.now levels) (state_in self.old)) }
+        ensures { MovesUnlessMemory tree_of result (state_in self.new) (values_at own.now levels (expression_at own.now levels) (state_in self.old)) }
     {
         let values = self.expressions(own, levels, Mark::Greater)?;
         Ok(Expr::Values(Exprs(values)))
@@ -357,9 +359,9 @@ impl<'a> FormReader<'a> {
 
     /// An arrow, and the expression behind it.
     #[cycle(expressions)]
-    #[tactic(auto, unfolding(core_grammar::specs::ReadingForms::body_at))]
+    #[tactic(auto, unfolding(core_grammar::specs::inside::DecoderForms::body_at))]
     pub(crate) fn body(&mut self, own: &Atom, levels: u16) -> Result<Expr, ReadFault>
-        ensures { Moves tree_of result (state_in self.new) (body_at own.now levels (expression_at own.now levels) (state_in self.old)) }
+        ensures { MovesUnlessMemory tree_of result (state_in self.new) (body_at own.now levels (expression_at own.now levels) (state_in self.old)) }
     {
         self.parser.mark(Mark::Arrow)?;
         Ok(self.expression(own, levels)?)
@@ -367,9 +369,9 @@ impl<'a> FormReader<'a> {
 
     /// The body of a `let`, and the `in` before it.
     #[cycle(expressions)]
-    #[tactic(auto, unfolding(core_grammar::specs::ReadingForms::in_at))]
+    #[tactic(auto, unfolding(core_grammar::specs::inside::DecoderForms::in_at))]
     fn behind_in(&mut self, own: &Atom, levels: u16) -> Result<Expr, ReadFault>
-        ensures { Moves tree_of result (state_in self.new) (in_at own.now levels (expression_at own.now levels) (state_in self.old)) }
+        ensures { MovesUnlessMemory tree_of result (state_in self.new) (in_at own.now levels (expression_at own.now levels) (state_in self.old)) }
     {
         self.parser.word(Keyword::In)?;
         Ok(self.expression(own, levels)?)
@@ -377,9 +379,9 @@ impl<'a> FormReader<'a> {
 
     /// The value of a `let` and its body.
     #[cycle(expressions)]
-    #[tactic(auto, unfolding(core_grammar::specs::ReadingForms::bound_at))]
+    #[tactic(auto, unfolding(core_grammar::specs::inside::DecoderForms::bound_at))]
     fn bound(&mut self, own: &Atom, levels: u16) -> Result<(Expr, Expr), ReadFault>
-        ensures { Moves (λ p. (tree_of p.0, tree_of p.1)) result (state_in self.new) (bound_at own.now levels (expression_at own.now levels) (state_in self.old)) }
+        ensures { MovesUnlessMemory (λ p. (tree_of p.0, tree_of p.1)) result (state_in self.new) (bound_at own.now levels (expression_at own.now levels) (state_in self.old)) }
     {
         self.parser.mark(Mark::Equals)?;
         let value = self.expression(own, levels)?;
@@ -390,7 +392,7 @@ impl<'a> FormReader<'a> {
     /// What stands behind a `let`.
     #[cycle(expressions)]
     fn let_in(&mut self, own: &Atom, levels: u16) -> Result<Expr, ReadFault>
-        ensures { Moves tree_of result (state_in self.new) (let_at own.now levels (expression_at own.now levels) (state_in self.old)) }
+        ensures { MovesUnlessMemory tree_of result (state_in self.new) (let_at own.now levels (expression_at own.now levels) (state_in self.old)) }
     {
         let variables = self.parser.variables(levels)?;
         let (value, body) = self.bound(own, levels)?;
@@ -399,9 +401,9 @@ impl<'a> FormReader<'a> {
 
     /// What stands behind a `do`.
     #[cycle(expressions)]
-    #[tactic(auto, unfolding(core_grammar::specs::ReadingForms::do_at))]
+    #[tactic(auto, unfolding(core_grammar::specs::inside::DecoderForms::do_at))]
     fn do_then(&mut self, own: &Atom, levels: u16) -> Result<Expr, ReadFault>
-        ensures { Moves tree_of result (state_in self.new) (do_at own.now levels (expression_at own.now levels) (state_in self.old)) }
+        ensures { MovesUnlessMemory tree_of result (state_in self.new) (do_at own.now levels (expression_at own.now levels) (state_in self.old)) }
     {
         let first = self.expression(own, levels)?;
         let second = self.expression(own, levels)?;
@@ -410,9 +412,9 @@ impl<'a> FormReader<'a> {
 
     /// What a `try` does with its value.
     #[cycle(expressions)]
-    #[tactic(auto, unfolding(core_grammar::specs::ReadingForms::success_at))]
+    #[tactic(auto, unfolding(core_grammar::specs::inside::DecoderForms::success_at))]
     fn success(&mut self, own: &Atom, levels: u16) -> Result<Branch, ReadFault>
-        ensures { Moves branch_of result (state_in self.new) (success_at own.now levels (expression_at own.now levels) (state_in self.old)) }
+        ensures { MovesUnlessMemory branch_of result (state_in self.new) (success_at own.now levels (expression_at own.now levels) (state_in self.old)) }
     {
         self.parser.word(Keyword::Of)?;
         let variables = self.parser.variables(levels)?;
@@ -422,9 +424,9 @@ impl<'a> FormReader<'a> {
 
     /// What a `try` does with an exception.
     #[cycle(expressions)]
-    #[tactic(auto, unfolding(core_grammar::specs::ReadingForms::handler_at))]
+    #[tactic(auto, unfolding(core_grammar::specs::inside::DecoderForms::handler_at))]
     fn handler(&mut self, own: &Atom, levels: u16) -> Result<Branch, ReadFault>
-        ensures { Moves branch_of result (state_in self.new) (handler_at own.now levels (expression_at own.now levels) (state_in self.old)) }
+        ensures { MovesUnlessMemory branch_of result (state_in self.new) (handler_at own.now levels (expression_at own.now levels) (state_in self.old)) }
     {
         self.parser.word(Keyword::Catch)?;
         let variables = self.parser.caught(levels)?;
@@ -434,9 +436,9 @@ impl<'a> FormReader<'a> {
 
     /// What a `try` does with its value, and with an exception.
     #[cycle(expressions)]
-    #[tactic(auto, unfolding(core_grammar::specs::ReadingForms::branches_at))]
+    #[tactic(auto, unfolding(core_grammar::specs::inside::DecoderForms::branches_at))]
     fn branches(&mut self, own: &Atom, levels: u16) -> Result<(Branch, Branch), ReadFault>
-        ensures { Moves (λ p. (branch_of p.0, branch_of p.1)) result (state_in self.new) (branches_at own.now levels (expression_at own.now levels) (state_in self.old)) }
+        ensures { MovesUnlessMemory (λ p. (branch_of p.0, branch_of p.1)) result (state_in self.new) (branches_at own.now levels (expression_at own.now levels) (state_in self.old)) }
     {
         let success = self.success(own, levels)?;
         let handler = self.handler(own, levels)?;
@@ -446,7 +448,7 @@ impl<'a> FormReader<'a> {
     /// What stands behind the `try` at `at`.
     #[cycle(expressions)]
     fn try_in(&mut self, own: &Atom, levels: u16, at: usize) -> Result<Expr, ReadFault>
-        ensures { Moves tree_of result (state_in self.new) (try_at own.now levels (expression_at own.now levels) at (state_in self.old)) }
+        ensures { MovesUnlessMemory tree_of result (state_in self.new) (try_at own.now levels (expression_at own.now levels) at (state_in self.old)) }
     {
         let value = self.expression(own, levels)?;
         let (success, handler) = self.branches(own, levels)?;
@@ -455,9 +457,9 @@ impl<'a> FormReader<'a> {
 
     /// What stands behind the `catch` at `at`.
     #[cycle(expressions)]
-    #[tactic(auto, unfolding(core_grammar::specs::ReadingForms::catch_at))]
+    #[tactic(auto, unfolding(core_grammar::specs::inside::DecoderForms::catch_at))]
     fn catch(&mut self, own: &Atom, levels: u16, at: usize) -> Result<Expr, ReadFault>
-        ensures { Moves tree_of result (state_in self.new) (catch_at own.now levels (expression_at own.now levels) at (state_in self.old)) }
+        ensures { MovesUnlessMemory tree_of result (state_in self.new) (catch_at own.now levels (expression_at own.now levels) at (state_in self.old)) }
     {
         let value = self.expression(own, levels)?;
         Ok(catch_of(self.parser.alloc, at, value)?)
@@ -465,14 +467,14 @@ impl<'a> FormReader<'a> {
 
     /// Any number of expressions, and the closing mark.
     #[cycle(expressions)]
-    #[tactic(auto, unfolding(core_grammar::specs::Reading::closed_at))]
+    #[tactic(auto, unfolding(core_grammar::specs::inside::Decoder::closed_at))]
     pub(crate) fn expressions(
         &mut self,
         own: &Atom,
         levels: u16,
         close: Mark,
     ) -> Result<Vec<Expr>, ReadFault>
-        ensures { Moves (λ v. map tree_of v.items) result (state_in self.new) (closed_at (expression_at own.now levels) close (state_in self.old)) }
+        ensures { MovesUnlessMemory (λ v. map tree_of v.items) result (state_in self.new) (closed_at (expression_at own.now levels) close (state_in self.old)) }
     {
         if self.parser.skip_mark(close) {
             return Ok(Vec::new(self.parser.alloc));
@@ -485,7 +487,7 @@ impl<'a> FormReader<'a> {
     /// Expressions with commas between them.
     #[cycle(expressions)]
     fn expression_items(&mut self, own: &Atom, levels: u16) -> Result<Vec<Expr>, ReadFault>
-        ensures { Moves (λ v. map tree_of v.items) result (state_in self.new) (items_at (expression_at own.now levels) (state_in self.old)) }
+        ensures { MovesUnlessMemory (λ v. map tree_of v.items) result (state_in self.new) (items_at (expression_at own.now levels) (state_in self.old)) }
     {
         let mut items = Vec::new(self.parser.alloc);
         let count = self.parser.tokens.len();

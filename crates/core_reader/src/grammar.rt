@@ -1,11 +1,11 @@
 // Definitions and modules (Core Erlang 1.0.3, "Module definitions").
 ghost use Rattle.std.specs.Prelude.{map};
 ghost use Rattle.core_tokens.specs.declared.token.Mark.TheVariants.{RightBracket};
-ghost use Rattle.core_scopes.specs.Outcomes.{Gives};
-ghost use Rattle.core_grammar.specs.Reading.{Moves, items_at, closed_at, rows_at, noted_at, function_name_at};
-ghost use Rattle.core_grammar.specs.ReadingModules.{attribute_at, bare_fun_at, fun_at, behind_name_at, opened, inside_opening_at, opening_at, definition_at, front_at, bare_module_at, ended, module_at};
+ghost use Rattle.core_scopes.specs.Outcomes.{GivesUnlessMemory};
+ghost use Rattle.core_grammar.specs.inside.Decoder.{MovesUnlessMemory, items_at, closed_at, rows_at, noted_at, function_name_at};
+ghost use Rattle.core_grammar.specs.inside.DecoderModules.{attribute_at, bare_fun_at, fun_at, behind_name_at, opened, inside_opening_at, opening_at, definition_at, front_at, bare_module_at, ended, module_at};
 ghost use Rattle.core_scopes.specs.Drafts.{defined_of, draft_of};
-ghost use Rattle.core_reader.specs.Parsing.{state_in, fun_of, opening_of, front_of};
+ghost use Rattle.core_reader.specs.inside.ReaderView.{state_in, fun_of, opening_of, front_of};
 
 use crate::form_reader::FormReader;
 use core_scopes::{Defined, Draft, Front};
@@ -34,9 +34,9 @@ pub(crate) enum Opening {
 
 impl<'a> FormReader<'a> {
     /// `Atom = const`, of at most so many levels.
-    #[tactic(auto, unfolding(core_grammar::specs::ReadingModules::attribute_at))]
+    #[tactic(auto, unfolding(core_grammar::specs::inside::DecoderModules::attribute_at))]
     fn attribute(&mut self, levels: u16) -> Result<Attribute, ReadFault>
-        ensures { Moves (λ a. a) result (state_in self.new) (attribute_at levels (state_in self.old)) }
+        ensures { MovesUnlessMemory (λ a. a) result (state_in self.new) (attribute_at levels (state_in self.old)) }
     {
         let name = self.parser.atom()?;
         self.parser.mark(Mark::Equals)?;
@@ -46,7 +46,7 @@ impl<'a> FormReader<'a> {
 
     /// Attributes with commas between them.
     fn attribute_items(&mut self, levels: u16) -> Result<Vec<Attribute>, ReadFault>
-        ensures { Moves (λ v. v.items) result (state_in self.new) (items_at (attribute_at levels) (state_in self.old)) }
+        ensures { MovesUnlessMemory (λ v. v.items) result (state_in self.new) (items_at (attribute_at levels) (state_in self.old)) }
     {
         let mut items = Vec::new(self.parser.alloc);
         let count = self.parser.tokens.len();
@@ -60,9 +60,9 @@ impl<'a> FormReader<'a> {
     }
 
     /// Any number of attributes, and the closing bracket.
-    #[tactic(auto, unfolding(core_grammar::specs::Reading::closed_at))]
+    #[tactic(auto, unfolding(core_grammar::specs::inside::Decoder::closed_at))]
     fn attributes(&mut self, levels: u16) -> Result<Vec<Attribute>, ReadFault>
-        ensures { Moves (λ v. v.items) result (state_in self.new) (closed_at (attribute_at levels) RightBracket (state_in self.old)) }
+        ensures { MovesUnlessMemory (λ v. v.items) result (state_in self.new) (closed_at (attribute_at levels) RightBracket (state_in self.old)) }
     {
         if self.parser.skip_mark(Mark::RightBracket) {
             return Ok(Vec::new(self.parser.alloc));
@@ -74,7 +74,7 @@ impl<'a> FormReader<'a> {
 
     /// Names of functions with commas between them.
     fn export_items(&mut self, levels: u16) -> Result<Vec<NamedFunction>, ReadFault>
-        ensures { Moves (λ v. v.items) result (state_in self.new) (items_at (function_name_at levels) (state_in self.old)) }
+        ensures { MovesUnlessMemory (λ v. v.items) result (state_in self.new) (items_at (function_name_at levels) (state_in self.old)) }
     {
         let mut items = Vec::new(self.parser.alloc);
         let count = self.parser.tokens.len();
@@ -88,9 +88,9 @@ impl<'a> FormReader<'a> {
     }
 
     /// Any number of names of functions, and the closing bracket.
-    #[tactic(auto, unfolding(core_grammar::specs::Reading::closed_at))]
+    #[tactic(auto, unfolding(core_grammar::specs::inside::Decoder::closed_at))]
     fn exports(&mut self, levels: u16) -> Result<Vec<NamedFunction>, ReadFault>
-        ensures { Moves (λ v. v.items) result (state_in self.new) (closed_at (function_name_at levels) RightBracket (state_in self.old)) }
+        ensures { MovesUnlessMemory (λ v. v.items) result (state_in self.new) (closed_at (function_name_at levels) RightBracket (state_in self.old)) }
     {
         if self.parser.skip_mark(Mark::RightBracket) {
             return Ok(Vec::new(self.parser.alloc));
@@ -101,9 +101,9 @@ impl<'a> FormReader<'a> {
     }
 
     /// `fun (Var, ..) -> expr` in the module `own`, with so many variables, without annotations.
-    #[tactic(auto, unfolding(core_grammar::specs::ReadingModules::bare_fun_at))]
+    #[tactic(auto, unfolding(core_grammar::specs::inside::DecoderModules::bare_fun_at))]
     fn bare_fun(&mut self, own: &Atom, arity: u8, levels: u16) -> Result<Fun, ReadFault>
-        ensures { Moves fun_of result (state_in self.new) (bare_fun_at own.now arity levels (state_in self.old)) }
+        ensures { MovesUnlessMemory fun_of result (state_in self.new) (bare_fun_at own.now arity levels (state_in self.old)) }
     {
         self.parser.word(Keyword::Fun)?;
         self.parser.mark(Mark::LeftParenthesis)?;
@@ -117,7 +117,7 @@ impl<'a> FormReader<'a> {
     /// `fun (Var, ..) -> expr` in the module `own`, with so many variables, annotated in at most so many
     /// levels.
     fn fun(&mut self, own: &Atom, arity: u8, levels: u16) -> Result<Fun, ReadFault>
-        ensures { Moves fun_of result (state_in self.new) (fun_at own.now arity levels (state_in self.old)) }
+        ensures { MovesUnlessMemory fun_of result (state_in self.new) (fun_at own.now arity levels (state_in self.old)) }
     {
         if !self.parser.opens_note(levels)? {
             return Ok(self.bare_fun(own, arity, levels)?);
@@ -128,14 +128,14 @@ impl<'a> FormReader<'a> {
     }
 
     /// What stands behind the name of a definition.
-    #[tactic(auto, unfolding(core_grammar::specs::ReadingModules::behind_name_at))]
+    #[tactic(auto, unfolding(core_grammar::specs::inside::DecoderModules::behind_name_at))]
     fn behind_name(
         &mut self,
         own: &Atom,
         levels: u16,
         named: NamedFunction,
     ) -> Result<Defined, ReadFault>
-        ensures { Moves defined_of result (state_in self.new) (behind_name_at own.now levels named (state_in self.old)) }
+        ensures { MovesUnlessMemory defined_of result (state_in self.new) (behind_name_at own.now levels named (state_in self.old)) }
     {
         let NamedFunction { at, function } = named;
         self.parser.mark(Mark::Equals)?;
@@ -153,7 +153,7 @@ impl<'a> FormReader<'a> {
 
     /// The opening in the parentheses of an annotation: with `=` behind a name it is the whole definition.
     fn opened(&mut self, own: &Atom, levels: u16, opening: Opening) -> Result<Opening, ReadFault>
-        ensures { Moves opening_of result (state_in self.new) (opened own.now levels (opening_of opening) (state_in self.old)) }
+        ensures { MovesUnlessMemory opening_of result (state_in self.new) (opened own.now levels (opening_of opening) (state_in self.old)) }
     {
         match opening {
             Opening::Whole(defined) => Ok(Opening::Whole(defined)),
@@ -168,9 +168,9 @@ impl<'a> FormReader<'a> {
 
     /// What stands in the parentheses of an annotation of a definition or of its name.
     #[cycle(opening)]
-    #[tactic(auto, unfolding(core_grammar::specs::ReadingModules::inside_opening_at))]
+    #[tactic(auto, unfolding(core_grammar::specs::inside::DecoderModules::inside_opening_at))]
     fn inside_opening(&mut self, own: &Atom, levels: u16) -> Result<Opening, ReadFault>
-        ensures { Moves opening_of result (state_in self.new) (inside_opening_at own.now levels (opening_at own.now levels) (state_in self.old)) }
+        ensures { MovesUnlessMemory opening_of result (state_in self.new) (inside_opening_at own.now levels (opening_at own.now levels) (state_in self.old)) }
     {
         let opening = self.opening(own, levels)?;
         Ok(self.opened(own, levels, opening)?)
@@ -179,7 +179,7 @@ impl<'a> FormReader<'a> {
     /// What a definition of the module `own` begins with, annotated in at most so many levels.
     #[cycle(opening)]
     fn opening(&mut self, own: &Atom, levels: u16) -> Result<Opening, ReadFault>
-        ensures { Moves opening_of result (state_in self.new) (opening_at own.now levels (state_in self.old)) }
+        ensures { MovesUnlessMemory opening_of result (state_in self.new) (opening_at own.now levels (state_in self.old)) }
     {
         if !self.parser.opens_note(levels)? {
             return Ok(Opening::Name(self.parser.bare_name()?));
@@ -189,9 +189,9 @@ impl<'a> FormReader<'a> {
     }
 
     /// A definition of the module `own`, whose parts have at most so many levels.
-    #[tactic(auto, unfolding(core_grammar::specs::ReadingModules::definition_at))]
+    #[tactic(auto, unfolding(core_grammar::specs::inside::DecoderModules::definition_at))]
     fn definition(&mut self, own: &Atom, levels: u16) -> Result<Defined, ReadFault>
-        ensures { Moves defined_of result (state_in self.new) (definition_at own.now levels (state_in self.old)) }
+        ensures { MovesUnlessMemory defined_of result (state_in self.new) (definition_at own.now levels (state_in self.old)) }
     {
         match self.opening(own, levels)? {
             Opening::Whole(defined) => Ok(defined),
@@ -201,7 +201,7 @@ impl<'a> FormReader<'a> {
 
     /// The definitions of the module `own`, as far as the last `end`.
     fn definitions(&mut self, own: &Atom, levels: u16) -> Result<Vec<Defined>, ReadFault>
-        ensures { Moves (λ v. map defined_of v.items) result (state_in self.new) (rows_at (definition_at own.now levels) (state_in self.old)) }
+        ensures { MovesUnlessMemory (λ v. map defined_of v.items) result (state_in self.new) (rows_at (definition_at own.now levels) (state_in self.old)) }
     {
         let mut definitions = Vec::new(self.parser.alloc);
         let count = self.parser.tokens.len();
@@ -215,9 +215,9 @@ impl<'a> FormReader<'a> {
     }
 
     /// The name, the exports and the attributes.
-    #[tactic(auto, unfolding(core_grammar::specs::ReadingModules::front_at))]
+    #[tactic(auto, unfolding(core_grammar::specs::inside::DecoderModules::front_at))]
     fn front(&mut self, levels: u16) -> Result<Front, ReadFault>
-        ensures { Moves front_of result (state_in self.new) (front_at levels (state_in self.old)) }
+        ensures { MovesUnlessMemory front_of result (state_in self.new) (front_at levels (state_in self.old)) }
     {
         self.parser.word(Keyword::Module)?;
         let name = self.parser.atom()?;
@@ -234,9 +234,9 @@ impl<'a> FormReader<'a> {
     }
 
     /// A module without annotations round it.
-    #[tactic(auto, unfolding(core_grammar::specs::ReadingModules::bare_module_at))]
+    #[tactic(auto, unfolding(core_grammar::specs::inside::DecoderModules::bare_module_at))]
     fn bare_module(&mut self, levels: u16) -> Result<Draft, ReadFault>
-        ensures { Moves draft_of result (state_in self.new) (bare_module_at levels (state_in self.old)) }
+        ensures { MovesUnlessMemory draft_of result (state_in self.new) (bare_module_at levels (state_in self.old)) }
     {
         let front = self.front(levels)?;
         let definitions = self.definitions(&front.name, levels)?;
@@ -251,7 +251,7 @@ impl<'a> FormReader<'a> {
 
     /// A module, annotated in at most so many levels.
     fn noted_module(&mut self, levels: u16) -> Result<Draft, ReadFault>
-        ensures { Moves draft_of result (state_in self.new) (noted_at bare_module_at levels (state_in self.old)) }
+        ensures { MovesUnlessMemory draft_of result (state_in self.new) (noted_at bare_module_at levels (state_in self.old)) }
     {
         if !self.parser.opens_note(levels)? {
             return Ok(self.bare_module(levels)?);
@@ -263,7 +263,7 @@ impl<'a> FormReader<'a> {
 
     /// The draft, where nothing is left to read and all of it is served.
     fn ended(&self, draft: Draft) -> Result<Draft, ReadFault>
-        ensures { Gives draft_of result (ended (state_in self.now).pieces (state_in self.now).refused (draft_of draft) (state_in self.now)) }
+        ensures { GivesUnlessMemory draft_of result (ended (state_in self.now).pieces (state_in self.now).refused (draft_of draft) (state_in self.now)) }
     {
         match (self.parser.tokens, self.parser.refused) {
             ([], None) => Ok(draft),
@@ -273,9 +273,9 @@ impl<'a> FormReader<'a> {
     }
 
     /// A module, all of the tokens.
-    #[tactic(auto, unfolding(core_grammar::specs::ReadingModules::module_at))]
+    #[tactic(auto, unfolding(core_grammar::specs::inside::DecoderModules::module_at))]
     pub fn module(&mut self) -> Result<Draft, ReadFault>
-        ensures { Gives draft_of result (module_at (state_in self.old)) }
+        ensures { GivesUnlessMemory draft_of result (module_at (state_in self.old)) }
     {
         let draft = self.noted_module(LEVEL_LIMIT)?;
         Ok(self.ended(draft)?)

@@ -2,7 +2,7 @@
 ghost use Rattle.std.specs.Prelude.{◌≡◌, ℕ, List};
 ghost use Rattle.core_tree.specs.Servable.{IsServableModule};
 ghost use Rattle.core_tree.specs.Syntax.{ModuleTree};
-ghost use Rattle.core_reader.specs.Reader.{SpellsModule};
+ghost use Rattle.core_reader.specs.ModuleText.{SpellsModule};
 
 use core_grammar::laws::{spelt_calls_are_read, tokens_spell_one_module};
 use core_tokens::lexer::tokens_are_unique;

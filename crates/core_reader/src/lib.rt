@@ -7,8 +7,8 @@ mod expressions;
 mod form_reader;
 mod grammar;
 pub mod laws;
-pub mod reader;
-pub mod reading;
+pub mod read_module;
+pub mod read_tokens;
 
 pub use core_tokens::{ReadFault, check_text, tokens};
 pub use core_tree::{
@@ -16,5 +16,5 @@ pub use core_tree::{
     Definition, Do, Expr, Exprs, FunctionName, Let, Module, NamedFunction, Onto, OntoConst,
     OntoPattern, Pattern, Patterns, PureCall, Try, Variable,
 };
-pub use reader::read_module;
-pub use reading::read_tokens;
+pub use read_module::read_module;
+pub use read_tokens::read_tokens;

@@ -15,7 +15,7 @@ use Rattle.core_scopes.specs.Scopes.{names, variables_of}
 use Rattle.core_scopes.specs.Outcomes.{◌>>=◌}
 use Rattle.core_scopes.specs.Names.{same_bytes}
 use Rattle.core_scopes.specs.ScopeChecks.{Checked, is_among, check_distinct}
-use Rattle.core_scopes.specs.Environment.{shown, Adds}
+use Rattle.core_scopes.specs.inside.Environment.{shown, AddsUnlessMemory}
 
 -- ---- names, by a set of borrowed names
 
@@ -43,7 +43,7 @@ module _ (ks new : List (Bor (List ℕ))) (k : Bor (List ℕ)) (r : Bool) (v w :
   bound_before : list_any (same_name k) ks ≡ is_among (shown ks) v.name
   bound_before = among_shown ks k.now ∙ ap (is_among (shown ks)) (named ∙ ap (λ (x : Mention). x.name) is)
 
-  pub binds_new : r ≡ true → new ≡ (if list_any (same_name k) ks then ks else ks ++ k ∷ []) → Adds (v ∷ []) (Ok tt) (shown ks) (shown new)
+  pub binds_new : r ≡ true → new ≡ (if list_any (same_name k) ks then ks else ks ++ k ∷ []) → AddsUnlessMemory (v ∷ []) (Ok tt) (shown ks) (shown new)
   unfolding check_distinct
   binds_new e keys =
       let fresh : list_any (same_name k) ks ≡ false = opposite r _ added e in
@@ -70,20 +70,20 @@ distinct_append before (v ∷ vs) ws = by (is_among before v.name) (distinct_app
     by true rest = refl
     by false rest = rest
 
-pub adds_nothing : (old : List (List ℕ)) → Adds [] (Ok tt) old old
+pub adds_nothing : (old : List (List ℕ)) → AddsUnlessMemory [] (Ok tt) old old
 unfolding check_distinct
 adds_nothing old = (refl, sym (append-nil old))
 
 -- a pattern without variables
 pub leaf_adds : (p : Shape) (old : List (List ℕ))
     → ((n : ℤ) × (p ≡ shapes.Integer n)) ⊎ (((c : ℕ) × (p ≡ shapes.Character c)) ⊎ (((t : Vec ℕ Global) × (p ≡ shapes.Text t)) ⊎ ((a : Atom) × (p ≡ shapes.Atom a))))
-    → Adds (variables_of (pattern_of p)) (Ok tt) old old
+    → AddsUnlessMemory (variables_of (pattern_of p)) (Ok tt) old old
 leaf_adds p old (inl w) = rw w.1 (adds_nothing old)
 leaf_adds p old (inr (inl w)) = rw w.1 (adds_nothing old)
 leaf_adds p old (inr (inr (inl w))) = rw w.1 (adds_nothing old)
 leaf_adds p old (inr (inr (inr w))) = rw w.1 (adds_nothing old)
 
-pub adds_both : (vs ws : List Mention) (r : Result (Unit {0}) ReadFault) (old mid new : List (List ℕ)) → Adds vs (Ok tt) old mid → Adds ws r mid new → Adds (vs ++ ws) r old new
+pub adds_both : (vs ws : List Mention) (r : Result (Unit {0}) ReadFault) (old mid new : List (List ℕ)) → AddsUnlessMemory vs (Ok tt) old mid → AddsUnlessMemory ws r mid new → AddsUnlessMemory (vs ++ ws) r old new
 adds_both vs ws (Ok u) old mid new first second =
     let rest : check_distinct (old ++ names vs) ws ≡ Ok tt = ap (λ (ns : List (List ℕ)). check_distinct ns ws) (sym first.1) ∙ second.0 in
     let all : check_distinct old (vs ++ ws) ≡ Ok tt = distinct_append old vs ws ∙ ap (λ (c : Checked). c >>= λ _. check_distinct (old ++ names vs) ws) first.0 ∙ rest in
@@ -101,7 +101,7 @@ adds_fails vs ws e old failed real = distinct_append old vs ws ∙ ap (λ (c : C
 abbrev pub Adding : List (List ℕ) → List Mention → List (List ℕ) → List Mention → Type 0
 Adding old vs now rest = (check_distinct now rest ≡ check_distinct old vs) × (now ++ names rest ≡ old ++ names vs)
 
-pub adding_next : (old : List (List ℕ)) (vs ws rest : List Mention) (now new : List (List ℕ)) → Adding old vs now (ws ++ rest) → Adds ws (Ok tt) now new → Adding old vs new rest
+pub adding_next : (old : List (List ℕ)) (vs ws rest : List Mention) (now new : List (List ℕ)) → Adding old vs now (ws ++ rest) → AddsUnlessMemory ws (Ok tt) now new → Adding old vs new rest
 adding_next old vs ws rest now new so_far one =
     let here : check_distinct now (ws ++ rest) ≡ check_distinct (now ++ names ws) rest = distinct_append now ws rest ∙ ap (λ (c : Checked). c >>= λ _. check_distinct (now ++ names ws) rest) one.0 in (
       ap (λ (ns : List (List ℕ)). check_distinct ns rest) one.1 ∙ sym here ∙ so_far.0,
@@ -111,6 +111,6 @@ adding_next old vs ws rest now new so_far one =
 pub adding_fails : (old : List (List ℕ)) (vs ws rest : List Mention) (now : List (List ℕ)) (e : ReadFault) → Adding old vs now (ws ++ rest) → (e ≢ Memory → check_distinct now ws ≡ Err e) → e ≢ Memory → check_distinct old vs ≡ Err e
 adding_fails old vs ws rest now e so_far failed real = sym so_far.0 ∙ adds_fails ws rest e now failed real
 
-pub adding_done : (old : List (List ℕ)) (vs : List Mention) (now : List (List ℕ)) → Adding old vs now [] → Adds vs (Ok tt) old now
+pub adding_done : (old : List (List ℕ)) (vs : List Mention) (now : List (List ℕ)) → Adding old vs now [] → AddsUnlessMemory vs (Ok tt) old now
 unfolding check_distinct
 adding_done old vs now so_far = (sym so_far.0, sym (append-nil now) ∙ so_far.1)

@@ -8,14 +8,16 @@ use Rattle.std.proofs.lemmas.Option.{get_or_from_slice_get}
 use Rattle.core_tokens.specs.declared.fault.ReadFault.{ReadFault}
 use Rattle.core_tokens.specs.declared.fault.ReadFault.TheVariants.{DuplicateFunction, NoFunction, NoMain, EffectInGuard, Memory}
 use Rattle.core_tree.specs.declared.module.Definition.{Definition}
-use Rattle.core_tree.specs.Syntax.{Function, NamedAt, Callee, OfWorld, OfItself, OfExport, OfDefinition, FailsMatch, RaisesAgain, Tree, Trees, Clauses, Number, Character, Text, Name, Mentioned, Grouped, Listed, Joined, Several, Bound, Chosen, Followed, Called, Tried, Caught, NoMore, Also, NoClause, Clause, DefinitionTree, ModuleTree}
+use Rattle.core_tree.specs.Syntax.{Function, NamedAt, Callee, Tree, Trees, Clauses, DefinitionTree, ModuleTree}
+use Rattle.core_tree.specs.Callee as callees
+use Rattle.core_tree.specs.Expression as trees
 use Rattle.core_tree.specs.Functions.{same_function}
 use Rattle.core_tree.specs.Definitions.{definition_of, keys_in}
-use Rattle.core_scopes.specs.declared.functions.Second.{Second}
+use Rattle.core_scopes.specs.declared.functions.Duplicate.{Duplicate}
 use Rattle.core_scopes.specs.Scopes.{names, bound_by, Setting, guard_of, functions, exported_by, setting_of, main_function}
-use Rattle.core_scopes.specs.Outcomes.{◌>>=◌, Gives}
+use Rattle.core_scopes.specs.Outcomes.{◌>>=◌, GivesUnlessMemory}
 use Rattle.core_scopes.specs.ScopeChecks.{Checked, is_defined, check_callee, check_tree, check_trees, check_clauses, check_definition, check_definitions, check_exports, check_module}
-use Rattle.core_scopes.specs.Environment.{shown, check_bodies, check_kept, before_second, fault_of_second, next_second, check_functions}
+use Rattle.core_scopes.specs.inside.Environment.{shown, check_bodies, check_kept, before_duplicate, fault_of_duplicate, first_duplicate, check_functions}
 use Rattle.core_scopes.proofs.SameFunctions.{same_function_is}
 use Rattle.core_scopes.proofs.ScopeLoops.{drop_item, drop_all}
 
@@ -57,42 +59,42 @@ guard_agrees : (x y : Setting) → Agrees x y → Agrees (guard_of x) (guard_of 
 guard_agrees x y same = (same.0, same.1, refl)
 
 callee_agrees : (x y : Setting) → Agrees x y → (at : ℕ) (c : Callee) → check_callee x at c ≡ check_callee y at c
-callee_agrees x y same at (OfWorld kind) = ap (λ (b : Bool). if b then Err (EffectInGuard at) else Ok tt) same.2
-callee_agrees x y same at (OfItself kind) = refl
-callee_agrees x y same at (OfExport f) = rw (same.1 f, same.2) refl
-callee_agrees x y same at (OfDefinition n) = rw (same.0 n.function, same.2) refl
-callee_agrees x y same at FailsMatch = ap (λ (b : Bool). if b then Err (EffectInGuard at) else Ok tt) same.2
-callee_agrees x y same at RaisesAgain = ap (λ (b : Bool). if b then Err (EffectInGuard at) else Ok tt) same.2
+callee_agrees x y same at (callees.World kind) = ap (λ (b : Bool). if b then Err (EffectInGuard at) else Ok tt) same.2
+callee_agrees x y same at (callees.Pure kind) = refl
+callee_agrees x y same at (callees.Exported f) = rw (same.1 f, same.2) refl
+callee_agrees x y same at (callees.Defined n) = rw (same.0 n.function, same.2) refl
+callee_agrees x y same at callees.MatchFail = ap (λ (b : Bool). if b then Err (EffectInGuard at) else Ok tt) same.2
+callee_agrees x y same at callees.Raise = ap (λ (b : Bool). if b then Err (EffectInGuard at) else Ok tt) same.2
 
 then_same : (a b c d : Checked) → a ≡ b → c ≡ d → (a >>= λ _. c) ≡ (b >>= λ _. d)
 then_same a b c d e f = rw (e, f) refl
 
 mutual
   tree_agrees : (x y : Setting) → Agrees x y → (bound : List (List ℕ)) (t : Tree) → check_tree x bound t ≡ check_tree y bound t
-  tree_agrees x y same bound (Number n) = refl
-  tree_agrees x y same bound (Character c) = refl
-  tree_agrees x y same bound (Text cs) = refl
-  tree_agrees x y same bound (Name t) = refl
-  tree_agrees x y same bound (Mentioned v) = refl
-  tree_agrees x y same bound (Grouped ts) = trees_agree x y same bound ts
-  tree_agrees x y same bound (Listed ts) = trees_agree x y same bound ts
-  tree_agrees x y same bound (Joined ts t) = then_same _ _ _ _ (trees_agree x y same bound ts) (tree_agrees x y same bound t)
-  tree_agrees x y same bound (Several ts) = trees_agree x y same bound ts
-  tree_agrees x y same bound (Bound vs t u) = then_same _ _ _ _ refl (then_same _ _ _ _ (tree_agrees x y same bound t) (tree_agrees x y same (names vs ++ bound) u))
-  tree_agrees x y same bound (Chosen at t cs) = then_same _ _ _ _ (tree_agrees x y same bound t) (clauses_agree x y same bound cs)
-  tree_agrees x y same bound (Followed t u) = then_same _ _ _ _ (tree_agrees x y same bound t) (tree_agrees x y same bound u)
-  tree_agrees x y same bound (Called at callee ts) = then_same _ _ _ _ (callee_agrees x y same at callee) (trees_agree x y same bound ts)
-  tree_agrees x y same bound (Tried at t vs u ws h) =
+  tree_agrees x y same bound (trees.Integer n) = refl
+  tree_agrees x y same bound (trees.Character c) = refl
+  tree_agrees x y same bound (trees.Text cs) = refl
+  tree_agrees x y same bound (trees.Atom t) = refl
+  tree_agrees x y same bound (trees.Variable v) = refl
+  tree_agrees x y same bound (trees.Tuple ts) = trees_agree x y same bound ts
+  tree_agrees x y same bound (trees.List ts) = trees_agree x y same bound ts
+  tree_agrees x y same bound (trees.Onto ts t) = then_same _ _ _ _ (trees_agree x y same bound ts) (tree_agrees x y same bound t)
+  tree_agrees x y same bound (trees.Values ts) = trees_agree x y same bound ts
+  tree_agrees x y same bound (trees.Let vs t u) = then_same _ _ _ _ refl (then_same _ _ _ _ (tree_agrees x y same bound t) (tree_agrees x y same (names vs ++ bound) u))
+  tree_agrees x y same bound (trees.Case at t cs) = then_same _ _ _ _ (tree_agrees x y same bound t) (clauses_agree x y same bound cs)
+  tree_agrees x y same bound (trees.Do t u) = then_same _ _ _ _ (tree_agrees x y same bound t) (tree_agrees x y same bound u)
+  tree_agrees x y same bound (trees.Call at callee ts) = then_same _ _ _ _ (callee_agrees x y same at callee) (trees_agree x y same bound ts)
+  tree_agrees x y same bound (trees.Try at t vs u ws h) =
       then_same _ _ _ _ (tree_agrees x y same bound t) (then_same _ _ _ _ refl (then_same _ _ _ _ (tree_agrees x y same (names vs ++ bound) u) (then_same _ _ _ _ refl (tree_agrees x y same (names ws ++ bound) h))))
-  tree_agrees x y same bound (Caught at t) = tree_agrees x y same bound t
+  tree_agrees x y same bound (trees.Catch at t) = tree_agrees x y same bound t
 
   trees_agree : (x y : Setting) → Agrees x y → (bound : List (List ℕ)) (ts : Trees) → check_trees x bound ts ≡ check_trees y bound ts
-  trees_agree x y same bound NoMore = refl
-  trees_agree x y same bound (Also t ts) = then_same _ _ _ _ (tree_agrees x y same bound t) (trees_agree x y same bound ts)
+  trees_agree x y same bound trees.NoMore = refl
+  trees_agree x y same bound (trees.Also t ts) = then_same _ _ _ _ (tree_agrees x y same bound t) (trees_agree x y same bound ts)
 
   clauses_agree : (x y : Setting) → Agrees x y → (bound : List (List ℕ)) (cs : Clauses) → check_clauses x bound cs ≡ check_clauses y bound cs
-  clauses_agree x y same bound NoClause = refl
-  clauses_agree x y same bound (Clause qs g b cs) =
+  clauses_agree x y same bound trees.NoClause = refl
+  clauses_agree x y same bound (trees.Clause qs g b cs) =
       then_same _ _ _ _ refl (then_same _ _ _ _ (tree_agrees (guard_of x) (guard_of y) (guard_agrees x y same) (names (bound_by qs) ++ bound) g) (then_same _ _ _ _ (tree_agrees x y same (names (bound_by qs) ++ bound) b) (clauses_agree x y same bound cs)))
 
 definition_agrees : (x y : Setting) → Agrees x y → (d : DefinitionTree) → check_definition x d ≡ check_definition y d
@@ -104,8 +106,8 @@ unfolding check_bodies
 bodies_agree x y same [] = refl
 bodies_agree x y same (d ∷ ds) = then_same _ _ _ _ (definition_agrees x y same d) (bodies_agree x y same ds)
 
-pub kept_agree : (x y : Setting) → Agrees x y → (second : Option Second) (es : List (Function × Definition)) → check_kept x second es ≡ check_kept y second es
-kept_agree x y same second es = then_same _ _ _ _ (bodies_agree x y same (before_second second (map definition_of es))) refl
+pub kept_agree : (x y : Setting) → Agrees x y → (second : Option Duplicate) (es : List (Function × Definition)) → check_kept x second es ≡ check_kept y second es
+kept_agree x y same second es = then_same _ _ _ _ (bodies_agree x y same (before_duplicate second (map definition_of es))) refl
 
 -- ---- bodies one after the other
 
@@ -133,16 +135,16 @@ bodies_append x (b ∷ bs) d rest = more (check_definition x b) (bodies_append x
 
 -- ---- what is gathered so far, and what is left
 
-abbrev pub left : Setting → Option Second → List (Function × Definition) → List DefinitionTree → Checked
+abbrev pub left : Setting → Option Duplicate → List (Function × Definition) → List DefinitionTree → Checked
 left x None es rest = check_definitions x (keys_in es) rest
 left x (Some s) es rest = Err (DuplicateFunction s.at)
 
-abbrev pub IsBehind : Option Second → ℕ → Type 0
+abbrev pub IsBehind : Option Duplicate → ℕ → Type 0
 IsBehind None n = Unit {0}
 IsBehind (Some s) n = s.before ≤ n
 
-pub record Gathering (all : List DefinitionTree) (second : Option Second) (es : List (Function × Definition)) (rest : List DefinitionTree) : Type 0 where
-  pub checked : (x : Setting) → (check_bodies x (before_second second (map definition_of es)) >>= λ _. left x second es rest) ≡ check_definitions x [] all
+pub record Gathering (all : List DefinitionTree) (second : Option Duplicate) (es : List (Function × Definition)) (rest : List DefinitionTree) : Type 0 where
+  pub checked : (x : Setting) → (check_bodies x (before_duplicate second (map definition_of es)) >>= λ _. left x second es rest) ≡ check_definitions x [] all
   pub names : (f : Function) → (is_defined (keys_in es) f || is_defined (functions rest) f) ≡ is_defined (functions all) f
   pub kept : second ≡ None → map definition_of es ++ rest ≡ all
   pub behind : IsBehind second (length es)
@@ -155,15 +157,15 @@ or_false : (b : Bool) → (b || false) ≡ b
 or_false true = refl
 or_false false = refl
 
-left_none : (x : Setting) (second : Option Second) (es : List (Function × Definition)) → left x second es [] ≡ fault_of_second second
+left_none : (x : Setting) (second : Option Duplicate) (es : List (Function × Definition)) → left x second es [] ≡ fault_of_duplicate second
 unfolding check_definitions
 left_none x None es = refl
 left_none x (Some s) es = refl
 
-pub gathering_ends : (all : List DefinitionTree) (second : Option Second) (es : List (Function × Definition)) → Gathering all second es []
+pub gathering_ends : (all : List DefinitionTree) (second : Option Duplicate) (es : List (Function × Definition)) → Gathering all second es []
     → ((x : Setting) → check_kept x second es ≡ check_definitions x [] all) × ((f : Function) → is_defined (keys_in es) f ≡ is_defined (functions all) f) × (second ≡ None → map definition_of es ≡ all)
 gathering_ends all second es g = (
-  λ x. ap (λ (c : Checked). check_bodies x (before_second second (map definition_of es)) >>= λ _. c) (sym (left_none x second es)) ∙ g.checked x,
+  λ x. ap (λ (c : Checked). check_bodies x (before_duplicate second (map definition_of es)) >>= λ _. c) (sym (left_none x second es)) ∙ g.checked x,
   λ f. sym (or_false (is_defined (keys_in es) f)) ∙ g.names f,
   λ e. sym (append-nil (map definition_of es)) ∙ g.kept e,
 )
@@ -186,7 +188,7 @@ module _ (all ds : List DefinitionTree) (es fs : List (Function × Definition)) 
   trees_more : fs ≡ es ++ e ∷ [] → map definition_of fs ≡ map definition_of es ++ d ∷ []
   trees_more is = ap (map definition_of) is ∙ map-append definition_of es (e ∷ [])
 
-  new_names : (second : Option Second) → fs ≡ es ++ e ∷ [] → Gathering all second es (d ∷ ds) → (f : Function) → (is_defined (keys_in fs) f || is_defined (functions ds) f) ≡ is_defined (functions all) f
+  new_names : (second : Option Duplicate) → fs ≡ es ++ e ∷ [] → Gathering all second es (d ∷ ds) → (f : Function) → (is_defined (keys_in fs) f || is_defined (functions ds) f) ≡ is_defined (functions all) f
   new_names second is g f =
       let more : is_defined (keys_in fs) f ≡ (is_defined (keys_in es) f || (same_function f e.0 || false)) = ap (λ (ks : List Function). is_defined ks f) (keys_more is) ∙ any_append (keys_in es) (e.0 ∷ []) f in
       ap (λ (b : Bool). b || is_defined (functions ds) f) more ∙ turn (is_defined (keys_in es) f) (same_function f e.0) (is_defined (functions ds) f) ∙ g.names f
@@ -196,8 +198,8 @@ module _ (all ds : List DefinitionTree) (es fs : List (Function × Definition)) 
       turn false true c = refl
       turn false false c = refl
 
-  new_checked : (second : Option Second) → is_defined (keys_in es) e.0 ≡ false → fs ≡ es ++ e ∷ [] → Gathering all second es (d ∷ ds)
-      → (x : Setting) → (check_bodies x (before_second second (map definition_of fs)) >>= λ _. left x second fs ds) ≡ check_definitions x [] all
+  new_checked : (second : Option Duplicate) → is_defined (keys_in es) e.0 ≡ false → fs ≡ es ++ e ∷ [] → Gathering all second es (d ∷ ds)
+      → (x : Setting) → (check_bodies x (before_duplicate second (map definition_of fs)) >>= λ _. left x second fs ds) ≡ check_definitions x [] all
   unfolding check_definitions
   new_checked None is_new is g x =
       let one : check_definitions x (keys_in es) (d ∷ ds) ≡ (check_definition x d >>= λ _. check_definitions x (keys_in es ++ e.0 ∷ []) ds) = rw is_new refl in
@@ -208,24 +210,24 @@ module _ (all ds : List DefinitionTree) (es fs : List (Function × Definition)) 
       ap (take s.before) (trees_more is) ∙ take_front s.before (map definition_of es) (d ∷ []) (subst (λ (n : ℕ). s.before ≤ n) (sym (length-map es definition_of)) g.behind) in
       ap (λ (xs : List DefinitionTree). check_bodies x xs >>= λ _. Err (DuplicateFunction s.at)) front ∙ g.checked x
 
-  new_behind : (second : Option Second) → fs ≡ es ++ e ∷ [] → IsBehind second (length es) → IsBehind second (length fs)
+  new_behind : (second : Option Duplicate) → fs ≡ es ++ e ∷ [] → IsBehind second (length es) → IsBehind second (length fs)
   new_behind None is h = tt
   new_behind (Some s) is h = let n = ap length is ∙ length-append es (e ∷ []) in omega (arith, n, h)
 
-  still : (second : Option Second) → is_defined (keys_in es) e.0 ≡ false → next_second es second d ≡ second
-  unfolding next_second
+  still : (second : Option Duplicate) → is_defined (keys_in es) e.0 ≡ false → first_duplicate es second d ≡ second
+  unfolding first_duplicate
   still None is_new = rw is_new refl
   still (Some s) is_new = refl
 
-  pub gathering_new : (second : Option Second) → is_defined (keys_in es) e.0 ≡ false → fs ≡ es ++ e ∷ [] → Gathering all second es (d ∷ ds) → Gathering all (next_second es second d) fs ds
-  gathering_new second is_new is g = subst (λ (s : Option Second). Gathering all s fs ds) (sym (still second is_new)) (record {
+  pub gathering_new : (second : Option Duplicate) → is_defined (keys_in es) e.0 ≡ false → fs ≡ es ++ e ∷ [] → Gathering all second es (d ∷ ds) → Gathering all (first_duplicate es second d) fs ds
+  gathering_new second is_new is g = subst (λ (s : Option Duplicate). Gathering all s fs ds) (sym (still second is_new)) (record {
     checked = new_checked second is_new is g;
     names = new_names second is g;
     kept = λ none. ap (λ (xs : List DefinitionTree). xs ++ ds) (trees_more is) ∙ append_assoc (map definition_of es) (d ∷ []) ds ∙ g.kept none;
     behind = new_behind second is g.behind;
   })
 
-  old_names : (second : Option Second) → is_defined (keys_in es) e.0 ≡ true → Gathering all second es (d ∷ ds) → (f : Function) → (is_defined (keys_in es) f || is_defined (functions ds) f) ≡ is_defined (functions all) f
+  old_names : (second : Option Duplicate) → is_defined (keys_in es) e.0 ≡ true → Gathering all second es (d ∷ ds) → (f : Function) → (is_defined (keys_in es) f || is_defined (functions ds) f) ≡ is_defined (functions all) f
   old_names second is_old g f = absorb (same_function f e.0) (is_defined (keys_in es) f) (is_defined (functions ds) f) same_known ∙ g.names f
     where
       same_known : same_function f e.0 ≡ true → is_defined (keys_in es) f ≡ true
@@ -236,7 +238,7 @@ module _ (all ds : List DefinitionTree) (es fs : List (Function × Definition)) 
       absorb true false c h = absurd (cc (h refl))
       absorb false false c h = refl
 
-  abbrev here : Second
+  abbrev here : Duplicate
   here = record { before = length es; at = d.named.at }
 
   first_checked : is_defined (keys_in es) e.0 ≡ true → Gathering all None es (d ∷ ds) → (x : Setting) → (check_bodies x (take (length es) (map definition_of es)) >>= λ _. Err (DuplicateFunction d.named.at)) ≡ check_definitions x [] all
@@ -249,11 +251,11 @@ module _ (all ds : List DefinitionTree) (es fs : List (Function × Definition)) 
   not_none : {X : Type 0} (x : X) → Some x ≡ None → ⊥
   not_none x e = absurd cc
 
-  pub gathering_old : (second : Option Second) → is_defined (keys_in es) e.0 ≡ true → fs ≡ es → Gathering all second es (d ∷ ds) → Gathering all (next_second es second d) fs ds
-  unfolding next_second
+  pub gathering_old : (second : Option Duplicate) → is_defined (keys_in es) e.0 ≡ true → fs ≡ es → Gathering all second es (d ∷ ds) → Gathering all (first_duplicate es second d) fs ds
+  unfolding first_duplicate
   gathering_old None is_old is g =
-      let next : next_second es None d ≡ Some here = rw is_old refl in
-      subst (λ (s : Option Second). Gathering all s fs ds) (sym next) (subst (λ (xs : List (Function × Definition)). Gathering all (Some here) xs ds) (sym is) (record {
+      let next : first_duplicate es None d ≡ Some here = rw is_old refl in
+      subst (λ (s : Option Duplicate). Gathering all s fs ds) (sym next) (subst (λ (xs : List (Function × Definition)). Gathering all (Some here) xs ds) (sym is) (record {
         checked = first_checked is_old g;
         names = old_names None is_old g;
         kept = λ none. absurd (not_none here none);
@@ -268,11 +270,11 @@ module _ (all ds : List DefinitionTree) (es fs : List (Function × Definition)) 
       })
 
 -- one more definition, kept where its name has none
-pub gathering_on : (all ds : List DefinitionTree) (es fs : List (Function × Definition)) (e : Function × Definition) (second : Option Second) → (is_defined (keys_in es) e.0 ≡ false → fs ≡ es ++ e ∷ []) → (is_defined (keys_in es) e.0 ≡ true → fs ≡ es)
-    → Gathering all second es (definition_of e ∷ ds) → Gathering all (next_second es second (definition_of e)) fs ds
+pub gathering_on : (all ds : List DefinitionTree) (es fs : List (Function × Definition)) (e : Function × Definition) (second : Option Duplicate) → (is_defined (keys_in es) e.0 ≡ false → fs ≡ es ++ e ∷ []) → (is_defined (keys_in es) e.0 ≡ true → fs ≡ es)
+    → Gathering all second es (definition_of e ∷ ds) → Gathering all (first_duplicate es second (definition_of e)) fs ds
 gathering_on all ds es fs e second new old g = by (is_defined (keys_in es) e.0) refl
   where
-    by : (b : Bool) → is_defined (keys_in es) e.0 ≡ b → Gathering all (next_second es second (definition_of e)) fs ds
+    by : (b : Bool) → is_defined (keys_in es) e.0 ≡ b → Gathering all (first_duplicate es second (definition_of e)) fs ds
     by true is = gathering_old all ds es fs e second is (old is) g
     by false is = gathering_new all ds es fs e second is (new is) g
 
@@ -303,7 +305,7 @@ exports_agree xs ys (e ∷ es) same = rw (same e.function, exports_agree xs ys e
 
 -- ---- the whole module
 
-module _ (m : ModuleTree) (at : ℕ) (second : Option Second) (es : List (Function × Definition)) (known : (f : Function) → is_defined (keys_in es) f ≡ is_defined (functions m.definitions) f)
+module _ (m : ModuleTree) (at : ℕ) (second : Option Duplicate) (es : List (Function × Definition)) (known : (f : Function) → is_defined (keys_in es) f ≡ is_defined (functions m.definitions) f)
     (checked : (x : Setting) → check_kept x second es ≡ check_definitions x [] m.definitions) where
   setting_here : Setting
   setting_here = record { defined = keys_in es; exported = exported_by m.exports; in_guard = false }
@@ -335,9 +337,9 @@ module _ (m : ModuleTree) (at : ℕ) (second : Option Second) (es : List (Functi
     main_lacks none = main_is ∙ ap (λ (b : Bool). if b then Ok m else Err (NoMain at)) none
 
     -- a fault comes where a name has two definitions
-    no_second : (s : Option Second) → check_functions m.exports s es ≡ Ok tt → s ≡ None
+    no_second : (s : Option Duplicate) → check_functions m.exports s es ≡ Ok tt → s ≡ None
     no_second None e = refl
-    no_second (Some s) e = absurd (never (check_exports (keys_in es) m.exports) (check_bodies (record { defined = keys_in es; exported = exported_by m.exports; in_guard = false }) (before_second (Some s) (map definition_of es))) (DuplicateFunction s.at) e)
+    no_second (Some s) e = absurd (never (check_exports (keys_in es) m.exports) (check_bodies (record { defined = keys_in es; exported = exported_by m.exports; in_guard = false }) (before_duplicate (Some s) (map definition_of es))) (DuplicateFunction s.at) e)
 
     pub module_closed : (second ≡ None → map definition_of es ≡ m.definitions) → is_defined (keys_in es) main_function ≡ true
         → check_module (m, at) ≡ Ok (record { name = m.name; exports = m.exports; attributes = m.attributes; definitions = map definition_of es })
@@ -346,28 +348,28 @@ module _ (m : ModuleTree) (at : ℕ) (second : Option Second) (es : List (Functi
 
 -- ---- the first definition of a name that has one
 
-module _ (es : List (Function × Definition)) (second : Option Second) (d : DefinitionTree) where
-  pub second_stays : is_some second ≡ true → second ≡ next_second es second d
-  unfolding next_second
+module _ (es : List (Function × Definition)) (second : Option Duplicate) (d : DefinitionTree) where
+  pub second_stays : is_some second ≡ true → second ≡ first_duplicate es second d
+  unfolding first_duplicate
   second_stays e = by second e
     where
-      by : (s : Option Second) → is_some s ≡ true → s ≡ next_second es s d
+      by : (s : Option Duplicate) → is_some s ≡ true → s ≡ first_duplicate es s d
       by None h = absurd cc
       by (Some s) h = refl
 
-  pub second_comes : is_some second ≡ false → is_defined (keys_in es) d.named.function ≡ true → Some (record { before = length es; at = d.named.at }) ≡ next_second es second d
-  unfolding next_second
+  pub second_comes : is_some second ≡ false → is_defined (keys_in es) d.named.function ≡ true → Some (record { before = length es; at = d.named.at }) ≡ first_duplicate es second d
+  unfolding first_duplicate
   second_comes e h = by second e
     where
-      by : (s : Option Second) → is_some s ≡ false → Some (record { before = length es; at = d.named.at }) ≡ next_second es s d
+      by : (s : Option Duplicate) → is_some s ≡ false → Some (record { before = length es; at = d.named.at }) ≡ first_duplicate es s d
       by None g = rw h refl
       by (Some s) g = absurd cc
 
-  pub second_lacks : is_some second ≡ false → is_defined (keys_in es) d.named.function ≡ false → None ≡ next_second es second d
-  unfolding next_second
+  pub second_lacks : is_some second ≡ false → is_defined (keys_in es) d.named.function ≡ false → None ≡ first_duplicate es second d
+  unfolding first_duplicate
   second_lacks e h = by second e
     where
-      by : (s : Option Second) → is_some s ≡ false → None ≡ next_second es s d
+      by : (s : Option Duplicate) → is_some s ≡ false → None ≡ first_duplicate es s d
       by None g = rw h refl
       by (Some s) g = absurd cc
 
@@ -465,11 +467,11 @@ module _ (x : Setting) (es : List (Function × Definition)) (i count : ℕ) (tot
 
 -- ---- the exported names, and then the definitions
 
-pub functions_give : (exports : List NamedAt) (second : Option Second) (es : List (Function × Definition)) (ks : List (Bor Function)) (r : Checked) → Ok tt ≡ check_exports (keys_in es) exports
-    → ((f : Function) → is_defined (shown ks) f ≡ is_defined (exported_by exports) f) → Gives (λ u. u) r (check_kept (record { defined = keys_in es; exported = shown ks; in_guard = false }) second es) → Gives (λ u. u) r (check_functions exports second es)
+pub functions_give : (exports : List NamedAt) (second : Option Duplicate) (es : List (Function × Definition)) (ks : List (Bor Function)) (r : Checked) → Ok tt ≡ check_exports (keys_in es) exports
+    → ((f : Function) → is_defined (shown ks) f ≡ is_defined (exported_by exports) f) → GivesUnlessMemory (λ u. u) r (check_kept (record { defined = keys_in es; exported = shown ks; in_guard = false }) second es) → GivesUnlessMemory (λ u. u) r (check_functions exports second es)
 functions_give exports second es ks r fine same given =
     let y : Setting = record { defined = keys_in es; exported = exported_by exports; in_guard = false } in
     let x : Setting = record { defined = keys_in es; exported = shown ks; in_guard = false } in
     let one : check_kept x second es ≡ check_functions exports second es =
     kept_agree x y ((λ f. refl), same, refl) second es ∙ ap (λ (c : Checked). c >>= λ _. check_kept y second es) fine in
-    subst (λ (c : Checked). Gives (λ (u : Unit {0}). u) r c) one given
+    subst (λ (c : Checked). GivesUnlessMemory (λ (u : Unit {0}). u) r c) one given

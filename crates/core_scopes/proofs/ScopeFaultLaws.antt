@@ -3,7 +3,9 @@ use Rattle.std.proofs.Common.{◌≡◌, ℕ, Bool, true, false, cond, List, [],
 use Rattle.std.specs.Prelude.{Contains}
 use Rattle.core_tokens.specs.declared.fault.ReadFault.{ReadFault}
 use Rattle.core_tokens.specs.declared.fault.ReadFault.TheVariants.{Unbound, DuplicateVariable, DuplicateFunction, NoFunction, UnsupportedCall, EffectInGuard, NoMain}
-use Rattle.core_tree.specs.Syntax.{Mention, Function, NamedAt, Callee, OfWorld, OfItself, OfExport, OfDefinition, FailsMatch, RaisesAgain, Tree, Trees, Clauses, Number, Character, Text, Name, Mentioned, Grouped, Listed, Joined, Several, Bound, Chosen, Followed, Called, Tried, Caught, NoMore, Also, NoClause, Clause, DefinitionTree, ModuleTree}
+use Rattle.core_tree.specs.Syntax.{Mention, Function, NamedAt, Callee, Tree, Trees, Clauses, DefinitionTree, ModuleTree}
+use Rattle.core_tree.specs.Callee as callees
+use Rattle.core_tree.specs.Expression as trees
 use Rattle.core_tree.specs.Functions.{same_function}
 use Rattle.core_scopes.specs.Outcomes.{◌>>=◌}
 use Rattle.core_scopes.specs.Scopes.{names, bound_by, Setting, guard_of, functions, setting_of, main_function}
@@ -70,25 +72,25 @@ effect x at f e =
     ]
 
 calls : (x : Setting) (at : ℕ) (c : Callee) (f : ReadFault) → check_callee x at c ≡ Err f → MayNotCall x at c f
-calls x at (OfWorld kind) f e = effect x at f e
-calls x at (OfItself kind) f e = absurd cc
-calls x at (OfExport d) f e =
+calls x at (callees.World kind) f e = effect x at f e
+calls x at (callees.Pure kind) f e = absurd cc
+calls x at (callees.Exported d) f e =
     elim (unless_err (is_defined x.exported d) (UnsupportedCall at) (check_effect x at) f e) [
       | inl g ↦ inl (not_defined x.exported d g.0, g.1)
       | inr g ↦ inr (effect x at f g)
     ]
-calls x at (OfDefinition n) f e =
+calls x at (callees.Defined n) f e =
     let rest : Checked = cond (is_defined x.defined n.function) (Ok tt) (Err (NoFunction n.at)) in
     elim (then_err (check_effect x at) rest f e) [
       | inl g ↦ inl (effect x at f g)
       | inr g ↦ missing (unless_err (is_defined x.defined n.function) (NoFunction n.at) (Ok tt) f g)
     ]
   where
-    missing : ((is_defined x.defined n.function ≡ false) × (f ≡ NoFunction n.at)) ⊎ (passed ≡ Err f) → MayNotCall x at (OfDefinition n) f
+    missing : ((is_defined x.defined n.function ≡ false) × (f ≡ NoFunction n.at)) ⊎ (passed ≡ Err f) → MayNotCall x at (callees.Defined n) f
     missing (inl g) = inr (not_defined x.defined n.function g.0, g.1)
     missing (inr g) = absurd cc
-calls x at FailsMatch f e = effect x at f e
-calls x at RaisesAgain f e = effect x at f e
+calls x at callees.MatchFail f e = effect x at f e
+calls x at callees.Raise f e = effect x at f e
 
 variable : (bound : List (List ℕ)) (v : Mention) (f : ReadFault) → check_variable bound v ≡ Err f → ¬ (Contains bound v.name) × (f ≡ Unbound v.at)
 variable bound v f e =
@@ -99,20 +101,20 @@ variable bound v f e =
 
 mutual
   tree_breaks : (x : Setting) (bound : List (List ℕ)) (t : Tree) (f : ReadFault) → check_tree x bound t ≡ Err f → Breaks x bound t f
-  tree_breaks x bound (Number n) f e = absurd cc
-  tree_breaks x bound (Character c) f e = absurd cc
-  tree_breaks x bound (Text cs) f e = absurd cc
-  tree_breaks x bound (Name t) f e = absurd cc
-  tree_breaks x bound (Mentioned v) f e = variable bound v f e
-  tree_breaks x bound (Grouped ts) f e = trees_break x bound ts f e
-  tree_breaks x bound (Listed ts) f e = trees_break x bound ts f e
-  tree_breaks x bound (Joined ts t) f e =
+  tree_breaks x bound (trees.Integer n) f e = absurd cc
+  tree_breaks x bound (trees.Character c) f e = absurd cc
+  tree_breaks x bound (trees.Text cs) f e = absurd cc
+  tree_breaks x bound (trees.Atom t) f e = absurd cc
+  tree_breaks x bound (trees.Variable v) f e = variable bound v f e
+  tree_breaks x bound (trees.Tuple ts) f e = trees_break x bound ts f e
+  tree_breaks x bound (trees.List ts) f e = trees_break x bound ts f e
+  tree_breaks x bound (trees.Onto ts t) f e =
       elim (then_err (check_trees x bound ts) (check_tree x bound t) f e) [
         | inl g ↦ inl (trees_break x bound ts f g)
         | inr g ↦ inr (tree_breaks x bound t f g)
       ]
-  tree_breaks x bound (Several ts) f e = trees_break x bound ts f e
-  tree_breaks x bound (Bound vs t u) f e =
+  tree_breaks x bound (trees.Values ts) f e = trees_break x bound ts f e
+  tree_breaks x bound (trees.Let vs t u) f e =
       elim (then_err (check_distinct [] vs) (check_tree x bound t >>= λ _. check_tree x (names vs ++ bound) u) f e) [
         | inl g ↦ inl (repeats [] vs f g)
         | inr g ↦ inr (elim (then_err (check_tree x bound t) (check_tree x (names vs ++ bound) u) f g) [
@@ -120,22 +122,22 @@ mutual
           | inr i ↦ inr (tree_breaks x (names vs ++ bound) u f i)
         ])
       ]
-  tree_breaks x bound (Chosen at t cs) f e =
+  tree_breaks x bound (trees.Case at t cs) f e =
       elim (then_err (check_tree x bound t) (check_clauses x bound cs) f e) [
         | inl g ↦ inl (tree_breaks x bound t f g)
         | inr g ↦ inr (clauses_break x bound cs f g)
       ]
-  tree_breaks x bound (Followed t u) f e =
+  tree_breaks x bound (trees.Do t u) f e =
       elim (then_err (check_tree x bound t) (check_tree x bound u) f e) [
         | inl g ↦ inl (tree_breaks x bound t f g)
         | inr g ↦ inr (tree_breaks x bound u f g)
       ]
-  tree_breaks x bound (Called at c ts) f e =
+  tree_breaks x bound (trees.Call at c ts) f e =
       elim (then_err (check_callee x at c) (check_trees x bound ts) f e) [
         | inl g ↦ inl (calls x at c f g)
         | inr g ↦ inr (trees_break x bound ts f g)
       ]
-  tree_breaks x bound (Tried at t vs u ws z) f e =
+  tree_breaks x bound (trees.Try at t vs u ws z) f e =
       elim (then_err (check_tree x bound t) (check_distinct [] vs >>= λ _. check_tree x (names vs ++ bound) u >>= λ _. check_distinct [] ws >>= λ _. check_tree x (names ws ++ bound) z) f e) [
         | inl g ↦ inl (tree_breaks x bound t f g)
         | inr g ↦ inr (elim (then_err (check_distinct [] vs) (check_tree x (names vs ++ bound) u >>= λ _. check_distinct [] ws >>= λ _. check_tree x (names ws ++ bound) z) f g) [
@@ -149,19 +151,19 @@ mutual
           ])
         ])
       ]
-  tree_breaks x bound (Caught at t) f e = tree_breaks x bound t f e
+  tree_breaks x bound (trees.Catch at t) f e = tree_breaks x bound t f e
 
   trees_break : (x : Setting) (bound : List (List ℕ)) (ts : Trees) (f : ReadFault) → check_trees x bound ts ≡ Err f → SomeBreaks x bound ts f
-  trees_break x bound NoMore f e = absurd cc
-  trees_break x bound (Also t ts) f e =
+  trees_break x bound trees.NoMore f e = absurd cc
+  trees_break x bound (trees.Also t ts) f e =
       elim (then_err (check_tree x bound t) (check_trees x bound ts) f e) [
         | inl g ↦ inl (tree_breaks x bound t f g)
         | inr g ↦ inr (trees_break x bound ts f g)
       ]
 
   clauses_break : (x : Setting) (bound : List (List ℕ)) (cs : Clauses) (f : ReadFault) → check_clauses x bound cs ≡ Err f → SomeClauseBreaks x bound cs f
-  clauses_break x bound NoClause f e = absurd cc
-  clauses_break x bound (Clause qs g b cs) f e =
+  clauses_break x bound trees.NoClause f e = absurd cc
+  clauses_break x bound (trees.Clause qs g b cs) f e =
       elim (then_err (check_distinct [] (bound_by qs)) (check_tree (guard_of x) (names (bound_by qs) ++ bound) g >>= λ _. check_tree x (names (bound_by qs) ++ bound) b >>= λ _. check_clauses x bound cs) f e) [
         | inl i ↦ inl (repeats [] (bound_by qs) f i)
         | inr i ↦ inr (elim (then_err (check_tree (guard_of x) (names (bound_by qs) ++ bound) g) (check_tree x (names (bound_by qs) ++ bound) b >>= λ _. check_clauses x bound cs) f i) [

@@ -3,7 +3,9 @@ use Rattle.std.proofs.Common.{◌≡◌, ℕ, Bool, true, false, cond, List, [],
 use Rattle.std.specs.Prelude.{Contains}
 use Rattle.core_tokens.specs.declared.fault.ReadFault.{ReadFault}
 use Rattle.core_tokens.specs.declared.fault.ReadFault.TheVariants.{Unbound, DuplicateVariable, DuplicateFunction, NoFunction, UnsupportedCall, EffectInGuard, NoMain}
-use Rattle.core_tree.specs.Syntax.{Mention, Function, NamedAt, Callee, OfWorld, OfItself, OfExport, OfDefinition, FailsMatch, RaisesAgain, Tree, Trees, Clauses, Number, Character, Text, Name, Mentioned, Grouped, Listed, Joined, Several, Bound, Chosen, Followed, Called, Tried, Caught, NoMore, Also, NoClause, Clause, DefinitionTree, ModuleTree}
+use Rattle.core_tree.specs.Syntax.{Mention, Function, NamedAt, Callee, Tree, Trees, Clauses, DefinitionTree, ModuleTree}
+use Rattle.core_tree.specs.Callee as callees
+use Rattle.core_tree.specs.Expression as trees
 use Rattle.core_tree.specs.Functions.{same_function}
 use Rattle.core_scopes.specs.Outcomes.{◌>>=◌}
 use Rattle.core_scopes.specs.Scopes.{names, bound_by, AreDistinct, Setting, guard_of, MayCall, IsClosed, AreClosed, AreClosedClauses, functions, setting_of, IsClosedDefinition, AreClosedDefinitions, AreDefined, main_function, IsLawful}
@@ -74,62 +76,62 @@ found_defined : (defined : List Function) (f : Function) → Contains defined f 
 found_defined defined f h = contains_any same_function same_function_is function_own defined f h
 
 callee_found : (x : Setting) (at : ℕ) (c : Callee) → check_callee x at c ≡ Ok tt → MayCall x c
-callee_found x at (OfWorld kind) e = effect_found x at e
-callee_found x at (OfItself kind) e = tt
-callee_found x at (OfExport f) e =
+callee_found x at (callees.World kind) e = effect_found x at e
+callee_found x at (callees.Pure kind) e = tt
+callee_found x at (callees.Exported f) e =
     let h = if_fine (is_defined x.exported f) (UnsupportedCall at) (check_effect x at) e in
     (defined_found x.exported f h.0, effect_found x at h.1)
-callee_found x at (OfDefinition n) e =
+callee_found x at (callees.Defined n) e =
     let rest : Checked = cond (is_defined x.defined n.function) (Ok tt) (Err (NoFunction n.at)) in
     let h = then_ok (check_effect x at) rest e in
     (effect_found x at h.0, defined_found x.defined n.function (if_fine (is_defined x.defined n.function) (NoFunction n.at) (Ok tt) h.1).0)
-callee_found x at FailsMatch e = effect_found x at e
-callee_found x at RaisesAgain e = effect_found x at e
+callee_found x at callees.MatchFail e = effect_found x at e
+callee_found x at callees.Raise e = effect_found x at e
 
 found_callee : (x : Setting) (at : ℕ) (c : Callee) → MayCall x c → check_callee x at c ≡ Ok tt
-found_callee x at (OfWorld kind) h = found_effect x at h
-found_callee x at (OfItself kind) h = refl
-found_callee x at (OfExport f) h = rw (found_defined x.exported f h.0) (found_effect x at h.1)
-found_callee x at (OfDefinition n) h =
+found_callee x at (callees.World kind) h = found_effect x at h
+found_callee x at (callees.Pure kind) h = refl
+found_callee x at (callees.Exported f) h = rw (found_defined x.exported f h.0) (found_effect x at h.1)
+found_callee x at (callees.Defined n) h =
     let rest : Checked = cond (is_defined x.defined n.function) (Ok tt) (Err (NoFunction n.at)) in
     let there : rest ≡ Ok tt = rw (found_defined x.defined n.function h.1) refl in
     both_ok (check_effect x at) rest (found_effect x at h.0) there
-found_callee x at FailsMatch h = found_effect x at h
-found_callee x at RaisesAgain h = found_effect x at h
+found_callee x at callees.MatchFail h = found_effect x at h
+found_callee x at callees.Raise h = found_effect x at h
 
 mutual
   tree_closed : (x : Setting) (bound : List (List ℕ)) (t : Tree) → check_tree x bound t ≡ Ok tt → IsClosed x bound t
-  tree_closed x bound (Number n) e = tt
-  tree_closed x bound (Character c) e = tt
-  tree_closed x bound (Text cs) e = tt
-  tree_closed x bound (Name t) e = tt
-  tree_closed x bound (Mentioned v) e = variable_found bound v e
-  tree_closed x bound (Grouped ts) e = trees_closed x bound ts e
-  tree_closed x bound (Listed ts) e = trees_closed x bound ts e
-  tree_closed x bound (Joined ts t) e = let h = then_ok (check_trees x bound ts) (check_tree x bound t) e in (trees_closed x bound ts h.0, tree_closed x bound t h.1)
-  tree_closed x bound (Several ts) e = trees_closed x bound ts e
-  tree_closed x bound (Bound vs t u) e =
+  tree_closed x bound (trees.Integer n) e = tt
+  tree_closed x bound (trees.Character c) e = tt
+  tree_closed x bound (trees.Text cs) e = tt
+  tree_closed x bound (trees.Atom t) e = tt
+  tree_closed x bound (trees.Variable v) e = variable_found bound v e
+  tree_closed x bound (trees.Tuple ts) e = trees_closed x bound ts e
+  tree_closed x bound (trees.List ts) e = trees_closed x bound ts e
+  tree_closed x bound (trees.Onto ts t) e = let h = then_ok (check_trees x bound ts) (check_tree x bound t) e in (trees_closed x bound ts h.0, tree_closed x bound t h.1)
+  tree_closed x bound (trees.Values ts) e = trees_closed x bound ts e
+  tree_closed x bound (trees.Let vs t u) e =
       let h = then_ok (check_distinct [] vs) (check_tree x bound t >>= λ _. check_tree x (names vs ++ bound) u) e in
       let g = then_ok (check_tree x bound t) (check_tree x (names vs ++ bound) u) h.1 in
       ((distinct_found [] vs h.0).1, tree_closed x bound t g.0, tree_closed x (names vs ++ bound) u g.1)
-  tree_closed x bound (Chosen at t cs) e = let h = then_ok (check_tree x bound t) (check_clauses x bound cs) e in (tree_closed x bound t h.0, clauses_closed x bound cs h.1)
-  tree_closed x bound (Followed t u) e = let h = then_ok (check_tree x bound t) (check_tree x bound u) e in (tree_closed x bound t h.0, tree_closed x bound u h.1)
-  tree_closed x bound (Called at c ts) e = let h = then_ok (check_callee x at c) (check_trees x bound ts) e in (callee_found x at c h.0, trees_closed x bound ts h.1)
-  tree_closed x bound (Tried at t vs u ws z) e =
+  tree_closed x bound (trees.Case at t cs) e = let h = then_ok (check_tree x bound t) (check_clauses x bound cs) e in (tree_closed x bound t h.0, clauses_closed x bound cs h.1)
+  tree_closed x bound (trees.Do t u) e = let h = then_ok (check_tree x bound t) (check_tree x bound u) e in (tree_closed x bound t h.0, tree_closed x bound u h.1)
+  tree_closed x bound (trees.Call at c ts) e = let h = then_ok (check_callee x at c) (check_trees x bound ts) e in (callee_found x at c h.0, trees_closed x bound ts h.1)
+  tree_closed x bound (trees.Try at t vs u ws z) e =
       let h = then_ok (check_tree x bound t) (check_distinct [] vs >>= λ _. check_tree x (names vs ++ bound) u >>= λ _. check_distinct [] ws >>= λ _. check_tree x (names ws ++ bound) z) e in
       let g = then_ok (check_distinct [] vs) (check_tree x (names vs ++ bound) u >>= λ _. check_distinct [] ws >>= λ _. check_tree x (names ws ++ bound) z) h.1 in
       let i = then_ok (check_tree x (names vs ++ bound) u) (check_distinct [] ws >>= λ _. check_tree x (names ws ++ bound) z) g.1 in
       let j = then_ok (check_distinct [] ws) (check_tree x (names ws ++ bound) z) i.1 in
       (tree_closed x bound t h.0, (distinct_found [] vs g.0).1, tree_closed x (names vs ++ bound) u i.0, (distinct_found [] ws j.0).1, tree_closed x (names ws ++ bound) z j.1)
-  tree_closed x bound (Caught at t) e = tree_closed x bound t e
+  tree_closed x bound (trees.Catch at t) e = tree_closed x bound t e
 
   trees_closed : (x : Setting) (bound : List (List ℕ)) (ts : Trees) → check_trees x bound ts ≡ Ok tt → AreClosed x bound ts
-  trees_closed x bound NoMore e = tt
-  trees_closed x bound (Also t ts) e = let h = then_ok (check_tree x bound t) (check_trees x bound ts) e in (tree_closed x bound t h.0, trees_closed x bound ts h.1)
+  trees_closed x bound trees.NoMore e = tt
+  trees_closed x bound (trees.Also t ts) e = let h = then_ok (check_tree x bound t) (check_trees x bound ts) e in (tree_closed x bound t h.0, trees_closed x bound ts h.1)
 
   clauses_closed : (x : Setting) (bound : List (List ℕ)) (cs : Clauses) → check_clauses x bound cs ≡ Ok tt → AreClosedClauses x bound cs
-  clauses_closed x bound NoClause e = tt
-  clauses_closed x bound (Clause qs g b cs) e =
+  clauses_closed x bound trees.NoClause e = tt
+  clauses_closed x bound (trees.Clause qs g b cs) e =
       let h = then_ok (check_distinct [] (bound_by qs)) (check_tree (guard_of x) (names (bound_by qs) ++ bound) g >>= λ _. check_tree x (names (bound_by qs) ++ bound) b >>= λ _. check_clauses x bound cs) e in
       let i = then_ok (check_tree (guard_of x) (names (bound_by qs) ++ bound) g) (check_tree x (names (bound_by qs) ++ bound) b >>= λ _. check_clauses x bound cs) h.1 in
       let j = then_ok (check_tree x (names (bound_by qs) ++ bound) b) (check_clauses x bound cs) i.1 in
@@ -140,35 +142,35 @@ found_names vs h = found_distinct [] vs (nothing_before turned turned_same bytes
 
 mutual
   closed_tree : (x : Setting) (bound : List (List ℕ)) (t : Tree) → IsClosed x bound t → check_tree x bound t ≡ Ok tt
-  closed_tree x bound (Number n) h = refl
-  closed_tree x bound (Character c) h = refl
-  closed_tree x bound (Text cs) h = refl
-  closed_tree x bound (Name t) h = refl
-  closed_tree x bound (Mentioned v) h = found_variable bound v h
-  closed_tree x bound (Grouped ts) h = closed_trees x bound ts h
-  closed_tree x bound (Listed ts) h = closed_trees x bound ts h
-  closed_tree x bound (Joined ts t) h = both_ok (check_trees x bound ts) (check_tree x bound t) (closed_trees x bound ts h.0) (closed_tree x bound t h.1)
-  closed_tree x bound (Several ts) h = closed_trees x bound ts h
-  closed_tree x bound (Bound vs t u) h =
+  closed_tree x bound (trees.Integer n) h = refl
+  closed_tree x bound (trees.Character c) h = refl
+  closed_tree x bound (trees.Text cs) h = refl
+  closed_tree x bound (trees.Atom t) h = refl
+  closed_tree x bound (trees.Variable v) h = found_variable bound v h
+  closed_tree x bound (trees.Tuple ts) h = closed_trees x bound ts h
+  closed_tree x bound (trees.List ts) h = closed_trees x bound ts h
+  closed_tree x bound (trees.Onto ts t) h = both_ok (check_trees x bound ts) (check_tree x bound t) (closed_trees x bound ts h.0) (closed_tree x bound t h.1)
+  closed_tree x bound (trees.Values ts) h = closed_trees x bound ts h
+  closed_tree x bound (trees.Let vs t u) h =
       both_ok (check_distinct [] vs) (check_tree x bound t >>= λ _. check_tree x (names vs ++ bound) u) (found_names vs h.0)
       (both_ok (check_tree x bound t) (check_tree x (names vs ++ bound) u) (closed_tree x bound t h.1) (closed_tree x (names vs ++ bound) u h.2))
-  closed_tree x bound (Chosen at t cs) h = both_ok (check_tree x bound t) (check_clauses x bound cs) (closed_tree x bound t h.0) (closed_clauses x bound cs h.1)
-  closed_tree x bound (Followed t u) h = both_ok (check_tree x bound t) (check_tree x bound u) (closed_tree x bound t h.0) (closed_tree x bound u h.1)
-  closed_tree x bound (Called at c ts) h = both_ok (check_callee x at c) (check_trees x bound ts) (found_callee x at c h.0) (closed_trees x bound ts h.1)
-  closed_tree x bound (Tried at t vs u ws z) h =
+  closed_tree x bound (trees.Case at t cs) h = both_ok (check_tree x bound t) (check_clauses x bound cs) (closed_tree x bound t h.0) (closed_clauses x bound cs h.1)
+  closed_tree x bound (trees.Do t u) h = both_ok (check_tree x bound t) (check_tree x bound u) (closed_tree x bound t h.0) (closed_tree x bound u h.1)
+  closed_tree x bound (trees.Call at c ts) h = both_ok (check_callee x at c) (check_trees x bound ts) (found_callee x at c h.0) (closed_trees x bound ts h.1)
+  closed_tree x bound (trees.Try at t vs u ws z) h =
       both_ok (check_tree x bound t) (check_distinct [] vs >>= λ _. check_tree x (names vs ++ bound) u >>= λ _. check_distinct [] ws >>= λ _. check_tree x (names ws ++ bound) z) (closed_tree x bound t h.0)
       (both_ok (check_distinct [] vs) (check_tree x (names vs ++ bound) u >>= λ _. check_distinct [] ws >>= λ _. check_tree x (names ws ++ bound) z) (found_names vs h.1)
       (both_ok (check_tree x (names vs ++ bound) u) (check_distinct [] ws >>= λ _. check_tree x (names ws ++ bound) z) (closed_tree x (names vs ++ bound) u h.2)
       (both_ok (check_distinct [] ws) (check_tree x (names ws ++ bound) z) (found_names ws h.3) (closed_tree x (names ws ++ bound) z h.4))))
-  closed_tree x bound (Caught at t) h = closed_tree x bound t h
+  closed_tree x bound (trees.Catch at t) h = closed_tree x bound t h
 
   closed_trees : (x : Setting) (bound : List (List ℕ)) (ts : Trees) → AreClosed x bound ts → check_trees x bound ts ≡ Ok tt
-  closed_trees x bound NoMore h = refl
-  closed_trees x bound (Also t ts) h = both_ok (check_tree x bound t) (check_trees x bound ts) (closed_tree x bound t h.0) (closed_trees x bound ts h.1)
+  closed_trees x bound trees.NoMore h = refl
+  closed_trees x bound (trees.Also t ts) h = both_ok (check_tree x bound t) (check_trees x bound ts) (closed_tree x bound t h.0) (closed_trees x bound ts h.1)
 
   closed_clauses : (x : Setting) (bound : List (List ℕ)) (cs : Clauses) → AreClosedClauses x bound cs → check_clauses x bound cs ≡ Ok tt
-  closed_clauses x bound NoClause h = refl
-  closed_clauses x bound (Clause qs g b cs) h =
+  closed_clauses x bound trees.NoClause h = refl
+  closed_clauses x bound (trees.Clause qs g b cs) h =
       both_ok (check_distinct [] (bound_by qs)) (check_tree (guard_of x) (names (bound_by qs) ++ bound) g >>= λ _. check_tree x (names (bound_by qs) ++ bound) b >>= λ _. check_clauses x bound cs) (found_names (bound_by qs) h.0)
       (both_ok (check_tree (guard_of x) (names (bound_by qs) ++ bound) g) (check_tree x (names (bound_by qs) ++ bound) b >>= λ _. check_clauses x bound cs) (closed_tree (guard_of x) (names (bound_by qs) ++ bound) g h.1)
       (both_ok (check_tree x (names (bound_by qs) ++ bound) b) (check_clauses x bound cs) (closed_tree x (names (bound_by qs) ++ bound) b h.2) (closed_clauses x bound cs h.3)))

@@ -7,7 +7,7 @@ use Rattle.core_tree.specs.Syntax.{ClauseTree, clauses_of}
 use Rattle.core_scopes.specs.Scopes.{names, bound_by, Setting, guard_of}
 use Rattle.core_scopes.specs.Outcomes.{◌>>=◌}
 use Rattle.core_scopes.specs.ScopeChecks.{Checked, check_distinct, check_tree, check_clauses}
-use Rattle.core_scopes.specs.Environment.{check_clause}
+use Rattle.core_scopes.specs.inside.Environment.{check_clause}
 
 pub drop_item : {X : Type 0} (xs : List X) (i : ℕ) (x : X) → i < length xs → x ≡ get_or xs i x → drop i xs ≡ x ∷ drop (i + 1) xs
 drop_item {X = X} xs i x lt is = at_drop_more (λ (ys : List X). ys) xs i x lt ∙ ap (λ (y : X). y ∷ drop (i + 1) xs) (sym is)

@@ -4,4 +4,4 @@ pub mod Scopes
 pub mod ScopeFaults
 pub mod ScopeChecks
 pub mod Drafts
-pub mod Environment
+pub mod inside

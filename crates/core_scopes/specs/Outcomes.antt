@@ -10,6 +10,6 @@ abbrev pub ◌>>=◌ : {A B : Type 0} → Result A ReadFault → (A → Result B
 (Err e) >>= f = Err e
 
 -- what a function returned, seen by view, is this outcome, unless memory ran out
-abbrev pub Gives : {X Y : Type 0} → (X → Y) → Result X ReadFault → Result Y ReadFault → Type 0
-Gives view (Ok x) outcome = outcome ≡ Ok (view x)
-Gives view (Err e) outcome = e ≢ Memory → outcome ≡ Err e
+abbrev pub GivesUnlessMemory : {X Y : Type 0} → (X → Y) → Result X ReadFault → Result Y ReadFault → Type 0
+GivesUnlessMemory view (Ok x) outcome = outcome ≡ Ok (view x)
+GivesUnlessMemory view (Err e) outcome = e ≢ Memory → outcome ≡ Err e

@@ -3,7 +3,9 @@ use Rattle.std.specs.Prelude.{ℕ, List, [], ◌∷◌, ◌++◌, Bool, Result, 
 use Rattle.std.specs.List.{list_any}
 use Rattle.core_tokens.specs.declared.fault.ReadFault.{ReadFault}
 use Rattle.core_tokens.specs.declared.fault.ReadFault.TheVariants.{Unbound, DuplicateVariable, DuplicateFunction, NoFunction, UnsupportedCall, EffectInGuard, NoMain}
-use Rattle.core_tree.specs.Syntax.{Mention, Function, NamedAt, Callee, OfWorld, OfItself, OfExport, OfDefinition, FailsMatch, RaisesAgain, Tree, Trees, Clauses, Number, Character, Text, Name, Mentioned, Grouped, Listed, Joined, Several, Bound, Chosen, Followed, Called, Tried, Caught, NoMore, Also, NoClause, Clause, DefinitionTree, ModuleTree}
+use Rattle.core_tree.specs.Syntax.{Mention, Function, NamedAt, Callee, Tree, Trees, Clauses, DefinitionTree, ModuleTree}
+use Rattle.core_tree.specs.Callee as callees
+use Rattle.core_tree.specs.Expression as trees
 use Rattle.core_tree.specs.Functions.{same_function}
 use Rattle.core_scopes.specs.Scopes.{names, bound_by, Setting, guard_of, functions, setting_of, main_function}
 use Rattle.core_scopes.specs.Outcomes.{◌>>=◌}
@@ -33,43 +35,43 @@ check_effect x at = if x.in_guard then Err (EffectInGuard at) else Ok tt
 
 -- what the call at this place calls may be called there
 abbrev pub check_callee : Setting → ℕ → Callee → Checked
-check_callee x at (OfWorld kind) = check_effect x at
-check_callee x at (OfItself kind) = Ok tt
-check_callee x at (OfExport f) = if is_defined x.exported f then check_effect x at else Err (UnsupportedCall at)
-check_callee x at (OfDefinition n) = check_effect x at >>= λ _. (if is_defined x.defined n.function then Ok tt else Err (NoFunction n.at))
-check_callee x at FailsMatch = check_effect x at
-check_callee x at RaisesAgain = check_effect x at
+check_callee x at (callees.World kind) = check_effect x at
+check_callee x at (callees.Pure kind) = Ok tt
+check_callee x at (callees.Exported f) = if is_defined x.exported f then check_effect x at else Err (UnsupportedCall at)
+check_callee x at (callees.Defined n) = check_effect x at >>= λ _. (if is_defined x.defined n.function then Ok tt else Err (NoFunction n.at))
+check_callee x at callees.MatchFail = check_effect x at
+check_callee x at callees.Raise = check_effect x at
 
 abbrev mutual
   pub check_tree : Setting → List (List ℕ) → Tree → Checked
-  check_tree x bound (Number n) = Ok tt
-  check_tree x bound (Character c) = Ok tt
-  check_tree x bound (Text cs) = Ok tt
-  check_tree x bound (Name t) = Ok tt
-  check_tree x bound (Mentioned v) = check_variable bound v
-  check_tree x bound (Grouped ts) = check_trees x bound ts
-  check_tree x bound (Listed ts) = check_trees x bound ts
-  check_tree x bound (Joined ts t) = check_trees x bound ts >>= λ _. check_tree x bound t
-  check_tree x bound (Several ts) = check_trees x bound ts
-  check_tree x bound (Bound vs t u) = check_distinct [] vs >>= λ _. check_tree x bound t >>= λ _. check_tree x (names vs ++ bound) u
-  check_tree x bound (Chosen at t cs) = check_tree x bound t >>= λ _. check_clauses x bound cs
-  check_tree x bound (Followed t u) = check_tree x bound t >>= λ _. check_tree x bound u
-  check_tree x bound (Called at callee ts) = check_callee x at callee >>= λ _. check_trees x bound ts
-  check_tree x bound (Tried at t vs u ws h) =
+  check_tree x bound (trees.Integer n) = Ok tt
+  check_tree x bound (trees.Character c) = Ok tt
+  check_tree x bound (trees.Text cs) = Ok tt
+  check_tree x bound (trees.Atom t) = Ok tt
+  check_tree x bound (trees.Variable v) = check_variable bound v
+  check_tree x bound (trees.Tuple ts) = check_trees x bound ts
+  check_tree x bound (trees.List ts) = check_trees x bound ts
+  check_tree x bound (trees.Onto ts t) = check_trees x bound ts >>= λ _. check_tree x bound t
+  check_tree x bound (trees.Values ts) = check_trees x bound ts
+  check_tree x bound (trees.Let vs t u) = check_distinct [] vs >>= λ _. check_tree x bound t >>= λ _. check_tree x (names vs ++ bound) u
+  check_tree x bound (trees.Case at t cs) = check_tree x bound t >>= λ _. check_clauses x bound cs
+  check_tree x bound (trees.Do t u) = check_tree x bound t >>= λ _. check_tree x bound u
+  check_tree x bound (trees.Call at callee ts) = check_callee x at callee >>= λ _. check_trees x bound ts
+  check_tree x bound (trees.Try at t vs u ws h) =
       check_tree x bound t >>= λ _.
       check_distinct [] vs >>= λ _.
       check_tree x (names vs ++ bound) u >>= λ _.
       check_distinct [] ws >>= λ _.
       check_tree x (names ws ++ bound) h
-  check_tree x bound (Caught at t) = check_tree x bound t
+  check_tree x bound (trees.Catch at t) = check_tree x bound t
 
   pub check_trees : Setting → List (List ℕ) → Trees → Checked
-  check_trees x bound NoMore = Ok tt
-  check_trees x bound (Also t ts) = check_tree x bound t >>= λ _. check_trees x bound ts
+  check_trees x bound trees.NoMore = Ok tt
+  check_trees x bound (trees.Also t ts) = check_tree x bound t >>= λ _. check_trees x bound ts
 
   pub check_clauses : Setting → List (List ℕ) → Clauses → Checked
-  check_clauses x bound NoClause = Ok tt
-  check_clauses x bound (Clause qs g b cs) =
+  check_clauses x bound trees.NoClause = Ok tt
+  check_clauses x bound (trees.Clause qs g b cs) =
       check_distinct [] (bound_by qs) >>= λ _.
       check_tree (guard_of x) (names (bound_by qs) ++ bound) g >>= λ _.
       check_tree x (names (bound_by qs) ++ bound) b >>= λ _.

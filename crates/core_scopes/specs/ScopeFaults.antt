@@ -2,7 +2,9 @@
 use Rattle.std.specs.Prelude.{◌≡◌, ◌⊎◌, ℕ, true, List, [], ◌∷◌, ◌++◌, Contains}
 use Rattle.core_tokens.specs.declared.fault.ReadFault.{ReadFault}
 use Rattle.core_tokens.specs.declared.fault.ReadFault.TheVariants.{Unbound, DuplicateVariable, DuplicateFunction, NoFunction, UnsupportedCall, EffectInGuard, NoMain}
-use Rattle.core_tree.specs.Syntax.{Mention, Function, NamedAt, Callee, OfWorld, OfItself, OfExport, OfDefinition, FailsMatch, RaisesAgain, Tree, Trees, Clauses, Number, Character, Text, Name, Mentioned, Grouped, Listed, Joined, Several, Bound, Chosen, Followed, Called, Tried, Caught, NoMore, Also, NoClause, Clause, DefinitionTree, ModuleTree}
+use Rattle.core_tree.specs.Syntax.{Mention, Function, NamedAt, Callee, Tree, Trees, Clauses, DefinitionTree, ModuleTree}
+use Rattle.core_tree.specs.Callee as callees
+use Rattle.core_tree.specs.Expression as trees
 use Rattle.core_scopes.specs.Scopes.{names, bound_by, Setting, guard_of, functions, setting_of, main_function}
 
 -- a variable has the name of one before it, and the fault names the second
@@ -16,39 +18,39 @@ HasEffect x at fault = (x.in_guard ≡ true) × (fault ≡ EffectInGuard at)
 
 -- the call at this place may not be made there: it stands in a guard, or calls what is not exported or not defined
 abbrev pub MayNotCall : Setting → ℕ → Callee → ReadFault → Type 0
-MayNotCall x at (OfWorld kind) fault = HasEffect x at fault
-MayNotCall x at (OfItself kind) fault = ⊥
-MayNotCall x at (OfExport f) fault = (¬ (Contains x.exported f) × (fault ≡ UnsupportedCall at)) ⊎ HasEffect x at fault
-MayNotCall x at (OfDefinition n) fault = HasEffect x at fault ⊎ (¬ (Contains x.defined n.function) × (fault ≡ NoFunction n.at))
-MayNotCall x at FailsMatch fault = HasEffect x at fault
-MayNotCall x at RaisesAgain fault = HasEffect x at fault
+MayNotCall x at (callees.World kind) fault = HasEffect x at fault
+MayNotCall x at (callees.Pure kind) fault = ⊥
+MayNotCall x at (callees.Exported f) fault = (¬ (Contains x.exported f) × (fault ≡ UnsupportedCall at)) ⊎ HasEffect x at fault
+MayNotCall x at (callees.Defined n) fault = HasEffect x at fault ⊎ (¬ (Contains x.defined n.function) × (fault ≡ NoFunction n.at))
+MayNotCall x at callees.MatchFail fault = HasEffect x at fault
+MayNotCall x at callees.Raise fault = HasEffect x at fault
 
 -- somewhere in an expression a variable is not bound, or bound twice, or a call may not be made
 abbrev mutual
   pub Breaks : Setting → List (List ℕ) → Tree → ReadFault → Type 0
-  Breaks x bound (Number n) fault = ⊥
-  Breaks x bound (Character c) fault = ⊥
-  Breaks x bound (Text cs) fault = ⊥
-  Breaks x bound (Name t) fault = ⊥
-  Breaks x bound (Mentioned v) fault = ¬ (Contains bound v.name) × (fault ≡ Unbound v.at)
-  Breaks x bound (Grouped ts) fault = SomeBreaks x bound ts fault
-  Breaks x bound (Listed ts) fault = SomeBreaks x bound ts fault
-  Breaks x bound (Joined ts t) fault = SomeBreaks x bound ts fault ⊎ Breaks x bound t fault
-  Breaks x bound (Several ts) fault = SomeBreaks x bound ts fault
-  Breaks x bound (Bound vs t u) fault = Repeats [] vs fault ⊎ (Breaks x bound t fault ⊎ Breaks x (names vs ++ bound) u fault)
-  Breaks x bound (Chosen at t cs) fault = Breaks x bound t fault ⊎ SomeClauseBreaks x bound cs fault
-  Breaks x bound (Followed t u) fault = Breaks x bound t fault ⊎ Breaks x bound u fault
-  Breaks x bound (Called at callee ts) fault = MayNotCall x at callee fault ⊎ SomeBreaks x bound ts fault
-  Breaks x bound (Tried at t vs u ws h) fault = Breaks x bound t fault ⊎ (Repeats [] vs fault ⊎ (Breaks x (names vs ++ bound) u fault ⊎ (Repeats [] ws fault ⊎ Breaks x (names ws ++ bound) h fault)))
-  Breaks x bound (Caught at t) fault = Breaks x bound t fault
+  Breaks x bound (trees.Integer n) fault = ⊥
+  Breaks x bound (trees.Character c) fault = ⊥
+  Breaks x bound (trees.Text cs) fault = ⊥
+  Breaks x bound (trees.Atom t) fault = ⊥
+  Breaks x bound (trees.Variable v) fault = ¬ (Contains bound v.name) × (fault ≡ Unbound v.at)
+  Breaks x bound (trees.Tuple ts) fault = SomeBreaks x bound ts fault
+  Breaks x bound (trees.List ts) fault = SomeBreaks x bound ts fault
+  Breaks x bound (trees.Onto ts t) fault = SomeBreaks x bound ts fault ⊎ Breaks x bound t fault
+  Breaks x bound (trees.Values ts) fault = SomeBreaks x bound ts fault
+  Breaks x bound (trees.Let vs t u) fault = Repeats [] vs fault ⊎ (Breaks x bound t fault ⊎ Breaks x (names vs ++ bound) u fault)
+  Breaks x bound (trees.Case at t cs) fault = Breaks x bound t fault ⊎ SomeClauseBreaks x bound cs fault
+  Breaks x bound (trees.Do t u) fault = Breaks x bound t fault ⊎ Breaks x bound u fault
+  Breaks x bound (trees.Call at callee ts) fault = MayNotCall x at callee fault ⊎ SomeBreaks x bound ts fault
+  Breaks x bound (trees.Try at t vs u ws h) fault = Breaks x bound t fault ⊎ (Repeats [] vs fault ⊎ (Breaks x (names vs ++ bound) u fault ⊎ (Repeats [] ws fault ⊎ Breaks x (names ws ++ bound) h fault)))
+  Breaks x bound (trees.Catch at t) fault = Breaks x bound t fault
 
   pub SomeBreaks : Setting → List (List ℕ) → Trees → ReadFault → Type 0
-  SomeBreaks x bound NoMore fault = ⊥
-  SomeBreaks x bound (Also t ts) fault = Breaks x bound t fault ⊎ SomeBreaks x bound ts fault
+  SomeBreaks x bound trees.NoMore fault = ⊥
+  SomeBreaks x bound (trees.Also t ts) fault = Breaks x bound t fault ⊎ SomeBreaks x bound ts fault
 
   pub SomeClauseBreaks : Setting → List (List ℕ) → Clauses → ReadFault → Type 0
-  SomeClauseBreaks x bound NoClause fault = ⊥
-  SomeClauseBreaks x bound (Clause qs g b cs) fault = Repeats [] (bound_by qs) fault ⊎ (Breaks (guard_of x) (names (bound_by qs) ++ bound) g fault ⊎ (Breaks x (names (bound_by qs) ++ bound) b fault ⊎ SomeClauseBreaks x bound cs fault))
+  SomeClauseBreaks x bound trees.NoClause fault = ⊥
+  SomeClauseBreaks x bound (trees.Clause qs g b cs) fault = Repeats [] (bound_by qs) fault ⊎ (Breaks (guard_of x) (names (bound_by qs) ++ bound) g fault ⊎ (Breaks x (names (bound_by qs) ++ bound) b fault ⊎ SomeClauseBreaks x bound cs fault))
 
 -- a definition has the name of one before it, or one is not closed
 abbrev pub SomeDefinitionBreaks : Setting → List Function → List DefinitionTree → ReadFault → Type 0

@@ -1,6 +1,9 @@
 -- Which modules are closed: each variable has a binding, each function that is exported, applied or called a definition or an export, none is bound or defined twice in one place, and a guard has no effect (Core Erlang 1.0.3, "Lexical scoping" and "Static constraints").
 use Rattle.std.specs.Prelude.{◌≡◌, ℕ, Bool, true, false, List, [], ◌∷◌, ◌++◌, map, Contains, codes}
-use Rattle.core_tree.specs.Syntax.{Mention, Function, NamedAt, Callee, OfWorld, OfItself, OfExport, OfDefinition, FailsMatch, RaisesAgain, Pattern, Patterns, NumberIn, CharacterIn, TextIn, NameIn, VariableIn, GroupIn, ListIn, JoinIn, AliasIn, NoneToMatch, AlsoMatch, patterns_of, Tree, Trees, Clauses, Number, Character, Text, Name, Mentioned, Grouped, Listed, Joined, Several, Bound, Chosen, Followed, Called, Tried, Caught, NoMore, Also, NoClause, Clause, DefinitionTree, ModuleTree}
+use Rattle.core_tree.specs.Syntax.{Mention, Function, NamedAt, Callee, Pattern, Patterns, patterns_of, Tree, Trees, Clauses, DefinitionTree, ModuleTree}
+use Rattle.core_tree.specs.Callee as callees
+use Rattle.core_tree.specs.Pattern as patterns
+use Rattle.core_tree.specs.Expression as trees
 
 -- the names of variables
 abbrev pub names : List Mention → List (List ℕ)
@@ -14,19 +17,19 @@ AreDistinct (x ∷ xs) = ¬ (Contains xs x) × AreDistinct xs
 -- the variables of patterns, from left to right
 abbrev mutual
   pub variables_of : Pattern → List Mention
-  variables_of (NumberIn n) = []
-  variables_of (CharacterIn c) = []
-  variables_of (TextIn cs) = []
-  variables_of (NameIn t) = []
-  variables_of (VariableIn v) = v ∷ []
-  variables_of (GroupIn qs) = variables_of_all qs
-  variables_of (ListIn qs) = variables_of_all qs
-  variables_of (JoinIn qs q) = variables_of_all qs ++ variables_of q
-  variables_of (AliasIn v q) = v ∷ variables_of q
+  variables_of (patterns.Integer n) = []
+  variables_of (patterns.Character c) = []
+  variables_of (patterns.Text cs) = []
+  variables_of (patterns.Atom t) = []
+  variables_of (patterns.Variable v) = v ∷ []
+  variables_of (patterns.Tuple qs) = variables_of_all qs
+  variables_of (patterns.List qs) = variables_of_all qs
+  variables_of (patterns.Onto qs q) = variables_of_all qs ++ variables_of q
+  variables_of (patterns.Alias v q) = v ∷ variables_of q
 
   pub variables_of_all : Patterns → List Mention
-  variables_of_all NoneToMatch = []
-  variables_of_all (AlsoMatch q qs) = variables_of q ++ variables_of_all qs
+  variables_of_all patterns.NoMore = []
+  variables_of_all (patterns.Also q qs) = variables_of q ++ variables_of_all qs
 
 -- the variables that a clause binds
 abbrev pub bound_by : List Pattern → List Mention
@@ -43,39 +46,39 @@ guard_of x = record { defined = x.defined; exported = x.exported; in_guard = tru
 
 -- what may be called there: outside of guards anything that is defined or exported, in a guard what the process answers by itself
 abbrev pub MayCall : Setting → Callee → Type 0
-MayCall x (OfWorld kind) = x.in_guard ≡ false
-MayCall x (OfItself kind) = Unit {0}
-MayCall x (OfExport function) = Contains x.exported function × (x.in_guard ≡ false)
-MayCall x (OfDefinition named) = (x.in_guard ≡ false) × Contains x.defined named.function
-MayCall x FailsMatch = x.in_guard ≡ false
-MayCall x RaisesAgain = x.in_guard ≡ false
+MayCall x (callees.World kind) = x.in_guard ≡ false
+MayCall x (callees.Pure kind) = Unit {0}
+MayCall x (callees.Exported function) = Contains x.exported function × (x.in_guard ≡ false)
+MayCall x (callees.Defined named) = (x.in_guard ≡ false) × Contains x.defined named.function
+MayCall x callees.MatchFail = x.in_guard ≡ false
+MayCall x callees.Raise = x.in_guard ≡ false
 
 -- each variable is one of those around it that are bound, and each call one that may be made; `let`, `try` and clauses bind variables in their parts
 abbrev mutual
   pub IsClosed : Setting → List (List ℕ) → Tree → Type 0
-  IsClosed x bound (Number n) = Unit {0}
-  IsClosed x bound (Character c) = Unit {0}
-  IsClosed x bound (Text cs) = Unit {0}
-  IsClosed x bound (Name t) = Unit {0}
-  IsClosed x bound (Mentioned v) = Contains bound v.name
-  IsClosed x bound (Grouped ts) = AreClosed x bound ts
-  IsClosed x bound (Listed ts) = AreClosed x bound ts
-  IsClosed x bound (Joined ts t) = AreClosed x bound ts × IsClosed x bound t
-  IsClosed x bound (Several ts) = AreClosed x bound ts
-  IsClosed x bound (Bound vs t u) = AreDistinct (names vs) × IsClosed x bound t × IsClosed x (names vs ++ bound) u
-  IsClosed x bound (Chosen at t cs) = IsClosed x bound t × AreClosedClauses x bound cs
-  IsClosed x bound (Followed t u) = IsClosed x bound t × IsClosed x bound u
-  IsClosed x bound (Called at callee ts) = MayCall x callee × AreClosed x bound ts
-  IsClosed x bound (Tried at t vs u ws h) = IsClosed x bound t × AreDistinct (names vs) × IsClosed x (names vs ++ bound) u × AreDistinct (names ws) × IsClosed x (names ws ++ bound) h
-  IsClosed x bound (Caught at t) = IsClosed x bound t
+  IsClosed x bound (trees.Integer n) = Unit {0}
+  IsClosed x bound (trees.Character c) = Unit {0}
+  IsClosed x bound (trees.Text cs) = Unit {0}
+  IsClosed x bound (trees.Atom t) = Unit {0}
+  IsClosed x bound (trees.Variable v) = Contains bound v.name
+  IsClosed x bound (trees.Tuple ts) = AreClosed x bound ts
+  IsClosed x bound (trees.List ts) = AreClosed x bound ts
+  IsClosed x bound (trees.Onto ts t) = AreClosed x bound ts × IsClosed x bound t
+  IsClosed x bound (trees.Values ts) = AreClosed x bound ts
+  IsClosed x bound (trees.Let vs t u) = AreDistinct (names vs) × IsClosed x bound t × IsClosed x (names vs ++ bound) u
+  IsClosed x bound (trees.Case at t cs) = IsClosed x bound t × AreClosedClauses x bound cs
+  IsClosed x bound (trees.Do t u) = IsClosed x bound t × IsClosed x bound u
+  IsClosed x bound (trees.Call at callee ts) = MayCall x callee × AreClosed x bound ts
+  IsClosed x bound (trees.Try at t vs u ws h) = IsClosed x bound t × AreDistinct (names vs) × IsClosed x (names vs ++ bound) u × AreDistinct (names ws) × IsClosed x (names ws ++ bound) h
+  IsClosed x bound (trees.Catch at t) = IsClosed x bound t
 
   pub AreClosed : Setting → List (List ℕ) → Trees → Type 0
-  AreClosed x bound NoMore = Unit {0}
-  AreClosed x bound (Also t ts) = IsClosed x bound t × AreClosed x bound ts
+  AreClosed x bound trees.NoMore = Unit {0}
+  AreClosed x bound (trees.Also t ts) = IsClosed x bound t × AreClosed x bound ts
 
   pub AreClosedClauses : Setting → List (List ℕ) → Clauses → Type 0
-  AreClosedClauses x bound NoClause = Unit {0}
-  AreClosedClauses x bound (Clause qs g b cs) = AreDistinct (names (bound_by qs)) × IsClosed (guard_of x) (names (bound_by qs) ++ bound) g × IsClosed x (names (bound_by qs) ++ bound) b × AreClosedClauses x bound cs
+  AreClosedClauses x bound trees.NoClause = Unit {0}
+  AreClosedClauses x bound (trees.Clause qs g b cs) = AreDistinct (names (bound_by qs)) × IsClosed (guard_of x) (names (bound_by qs) ++ bound) g × IsClosed x (names (bound_by qs) ++ bound) b × AreClosedClauses x bound cs
 
 -- the names of the functions that are defined, and of those that are exported
 abbrev pub functions : List DefinitionTree → List Function

@@ -6,9 +6,9 @@ ghost use Rattle.core_tree.specs.Definitions.{definition_of, keys_in};
 ghost use Rattle.core_scopes.specs.Scopes.{Setting as Place, functions, exported_by, main_function, IsLawful};
 ghost use Rattle.core_scopes.specs.ScopeFaults.{IsFaultOfModule};
 ghost use Rattle.core_scopes.specs.ScopeChecks.{is_defined, check_definition, check_definitions, check_exports, check_module};
-ghost use Rattle.core_scopes.specs.Environment.{shown, setting_in, check_bodies, check_kept, before_second, next_second, check_functions};
+ghost use Rattle.core_scopes.specs.inside.Environment.{shown, setting_in, check_bodies, check_kept, before_duplicate, first_duplicate, check_functions};
 ghost use Rattle.core_scopes.specs.Drafts.{defined_of, draft_of};
-ghost use Rattle.core_scopes.specs.Outcomes.{Gives};
+ghost use Rattle.core_scopes.specs.Outcomes.{GivesUnlessMemory};
 
 use crate::draft::{Defined, Draft, Front};
 use crate::scopes::{Scope, Setting, check_expr, distinct, is_defined};
@@ -21,7 +21,7 @@ use term_core::Atom;
 /// The first definition of a name that has one: the number of the definitions that were kept before it, and the
 /// place of its name.
 #[derive(Clone, Copy)]
-pub(crate) struct Second {
+pub(crate) struct Duplicate {
     pub before: usize,
     pub at: usize,
 }
@@ -30,22 +30,22 @@ pub(crate) struct Second {
 #[derive(Drop)]
 struct Gathered {
     definitions: IndexMap<FunctionName, Definition>,
-    second: Option<Second>,
+    second: Option<Duplicate>,
 }
 
 /// The first definition of a name that has one, where `second` is that of the definitions before.
-fn next_second(
+fn first_duplicate(
     definitions: &IndexMap<FunctionName, Definition>,
-    second: Option<Second>,
+    second: Option<Duplicate>,
     defined: &Defined,
-) -> Option<Second>
-    ensures { result ≡ next_second definitions.now.entries second (defined_of defined.now) }
+) -> Option<Duplicate>
+    ensures { result ≡ first_duplicate definitions.now.entries second (defined_of defined.now) }
 {
     if second.is_some() {
         return second;
     }
     if is_defined(definitions, &defined.function) {
-        return Some(Second {
+        return Some(Duplicate {
             before: definitions.len(),
             at: defined.definition.at,
         });
@@ -74,7 +74,7 @@ fn keep(
 }
 
 /// The definitions by name. All of them are known before a body is looked at, since it may apply any.
-#[tactic(auto, unfolding(crate::specs::Environment::check_bodies))]
+#[tactic(auto, unfolding(crate::specs::inside::Environment::check_bodies))]
 fn gather(alloc: Global, all: Vec<Defined>) -> Result<Gathered, ReadFault>
     ensures checked { IfOk result (λ g. (x : Place) → check_kept x g.second g.definitions.entries ≡ check_definitions x [] (map defined_of all.items)) }
     ensures names { IfOk result (λ g. (f : Function) → is_defined (keys_in g.definitions.entries) f ≡ is_defined (functions (map defined_of all.items)) f) }
@@ -84,7 +84,7 @@ fn gather(alloc: Global, all: Vec<Defined>) -> Result<Gathered, ReadFault>
     let mut definitions = IndexMap::new(alloc);
     let mut second = None;
     'definitions: for defined in all {
-        second = next_second(&definitions, second, &defined);
+        second = first_duplicate(&definitions, second, &defined);
         keep(&mut definitions, defined)?;
     }
     Ok(Gathered {
@@ -130,7 +130,7 @@ fn check_definition(
     function: &FunctionName,
     definition: &Definition,
 ) -> Result<(), ReadFault>
-    ensures { Gives (λ u. u) result (check_definition (setting_in setting.now) (definition_of (function.now, definition.now))) }
+    ensures { GivesUnlessMemory (λ u. u) result (check_definition (setting_in setting.now) (definition_of (function.now, definition.now))) }
 {
     let names = distinct(setting.alloc, &definition.parameters)?;
     check_expr(
@@ -142,7 +142,7 @@ fn check_definition(
 
 /// So many of the definitions, one after the other.
 fn check_bodies(setting: &Setting, count: usize) -> Result<(), ReadFault>
-    ensures { Gives (λ u. u) result (check_bodies (setting_in setting.now) (take count (map definition_of setting.now.definitions.now.entries))) }
+    ensures { GivesUnlessMemory (λ u. u) result (check_bodies (setting_in setting.now) (take count (map definition_of setting.now.definitions.now.entries))) }
 {
     'bodies: for i in 0..count {
         let Some((function, definition)) = setting.definitions.get_index(i) else {
@@ -155,8 +155,8 @@ fn check_bodies(setting: &Setting, count: usize) -> Result<(), ReadFault>
 
 /// The definitions from the first to the last, or to the first whose name has one. Faults are those of the
 /// bodies, and `DuplicateFunction` at that name.
-fn check_kept(setting: &Setting, second: Option<Second>) -> Result<(), ReadFault>
-    ensures { Gives (λ u. u) result (check_kept (setting_in setting.now) second setting.now.definitions.now.entries) }
+fn check_kept(setting: &Setting, second: Option<Duplicate>) -> Result<(), ReadFault>
+    ensures { GivesUnlessMemory (λ u. u) result (check_kept (setting_in setting.now) second setting.now.definitions.now.entries) }
 {
     match second {
         None => check_bodies(setting, setting.definitions.len()),
@@ -173,7 +173,7 @@ fn check_functions(
     exports: &[NamedFunction],
     gathered: &Gathered,
 ) -> Result<(), ReadFault>
-    ensures { Gives (λ u. u) result (check_functions exports.now gathered.now.second gathered.now.definitions.entries) }
+    ensures { GivesUnlessMemory (λ u. u) result (check_functions exports.now gathered.now.second gathered.now.definitions.entries) }
 {
     check_exports(exports, &gathered.definitions)?;
     let exported = exported_names(alloc, exports)?;
@@ -203,7 +203,7 @@ fn has_main(
 
 /// The module, if it is closed: the exported names first, then the definitions, then `main/0`.
 fn checked_module(alloc: Global, draft: Draft) -> Result<Module, ReadFault>
-    ensures { Gives (λ m. m) result (check_module (draft_of draft)) }
+    ensures { GivesUnlessMemory (λ m. m) result (check_module (draft_of draft)) }
 {
     let Draft {
         front,
@@ -245,7 +245,7 @@ fn checked_module(alloc: Global, draft: Draft) -> Result<Module, ReadFault>
 /// refused, at any moment.
 pub fn closed_module(alloc: Global, draft: Draft) -> Result<Module, ReadFault>
     // The outcome is the module or its first fault, unless memory runs out.
-    ensures checked { Gives (λ m. m) result (check_module (draft_of draft)) }
+    ensures checked { GivesUnlessMemory (λ m. m) result (check_module (draft_of draft)) }
     // What is handed out is the module of the draft, and it is closed.
     ensures lawful { IfOk result (λ m. IsLawful m × (m ≡ (draft_of draft).0)) }
     // A closed module is handed out, unless memory runs out.

@@ -1,12 +1,14 @@
 // Scopes: each variable has a binding, each function that is called a definition or an export, and a guard
 // no effect (Core Erlang 1.0.3, "Lexical scoping" and "Static constraints").
 ghost use Rattle.std.specs.Prelude.{◌≡◌, [], ◌∷◌, ◌++◌};
-ghost use Rattle.core_tree.specs.Syntax.{OfExport, OfDefinition, patterns_of, trees_of, clauses_of, Bound, Chosen, Tried, Joined, Followed, Called, Caught};
+ghost use Rattle.core_tree.specs.Syntax.{patterns_of, trees_of, clauses_of};
+ghost use Rattle.core_tree.specs.Callee as callees;
+ghost use Rattle.core_tree.specs.Expression as trees;
 ghost use Rattle.core_tree.specs.Tree.{callee_of, pattern_of, tree_of};
 ghost use Rattle.core_tree.specs.Definitions.{keys_in};
 ghost use Rattle.core_scopes.specs.Scopes.{bound_by, variables_of, variables_of_all};
-ghost use Rattle.core_scopes.specs.Environment.{shown, bound_in, setting_in, Adds, Binds, check_clause};
-ghost use Rattle.core_scopes.specs.Outcomes.{Gives};
+ghost use Rattle.core_scopes.specs.inside.Environment.{shown, bound_in, setting_in, AddsUnlessMemory, BindsUnlessMemory, check_clause};
+ghost use Rattle.core_scopes.specs.Outcomes.{GivesUnlessMemory};
 ghost use Rattle.core_scopes.specs.ScopeChecks.{is_among, is_defined, check_variable, check_effect, check_callee, check_tree, check_trees, check_clauses};
 
 use core_tokens::ReadFault;
@@ -68,7 +70,7 @@ fn check_variable(scope: &Scope, variable: &Variable) -> Result<(), ReadFault>
 /// Puts a variable behind those that are bound with it. The fault is `DuplicateVariable`, if one of them has
 /// its name.
 fn bind<'a>(names: &mut IndexSet<&'a [u8]>, variable: &'a Variable) -> Result<(), ReadFault>
-    ensures { Adds (variable.now ∷ []) result (shown names.old.keys) (shown names.new.keys) }
+    ensures { AddsUnlessMemory (variable.now ∷ []) result (shown names.old.keys) (shown names.new.keys) }
 {
     if names.insert(variable.name.as_slice())? {
         Ok(())
@@ -83,7 +85,7 @@ pub(crate) fn distinct<'a>(
     alloc: Global,
     variables: &'a [Variable],
 ) -> Result<IndexSet<&'a [u8]>, ReadFault>
-    ensures { Binds variables.now result }
+    ensures { BindsUnlessMemory variables.now result }
 {
     let mut names = IndexSet::new(alloc);
     'variables: for variable in variables {
@@ -95,7 +97,7 @@ pub(crate) fn distinct<'a>(
 /// Binds the variables of a pattern, from left to right.
 #[cycle(patterns)]
 fn bind_pattern<'a>(names: &mut IndexSet<&'a [u8]>, pattern: &'a Pattern) -> Result<(), ReadFault>
-    ensures { Adds (variables_of (pattern_of pattern.now)) result (shown names.old.keys) (shown names.new.keys) }
+    ensures { AddsUnlessMemory (variables_of (pattern_of pattern.now)) result (shown names.old.keys) (shown names.new.keys) }
 {
     match pattern {
         Pattern::Integer(_) | Pattern::Character(_) | Pattern::Text(_) | Pattern::Atom(_) => Ok(()),
@@ -108,7 +110,7 @@ fn bind_pattern<'a>(names: &mut IndexSet<&'a [u8]>, pattern: &'a Pattern) -> Res
 
 #[cycle(patterns)]
 fn bind_onto<'a>(names: &mut IndexSet<&'a [u8]>, onto: &'a OntoPattern) -> Result<(), ReadFault>
-    ensures { Adds (variables_of_all (patterns_of onto.now.0) ++ variables_of onto.now.1) result (shown names.old.keys) (shown names.new.keys) }
+    ensures { AddsUnlessMemory (variables_of_all (patterns_of onto.now.0) ++ variables_of onto.now.1) result (shown names.old.keys) (shown names.new.keys) }
 {
     bind_patterns(names, &onto.items)?;
     bind_pattern(names, &onto.tail)
@@ -117,7 +119,7 @@ fn bind_onto<'a>(names: &mut IndexSet<&'a [u8]>, onto: &'a OntoPattern) -> Resul
 /// The variable for the whole comes before those of its pattern.
 #[cycle(patterns)]
 fn bind_alias<'a>(names: &mut IndexSet<&'a [u8]>, alias: &'a Alias) -> Result<(), ReadFault>
-    ensures { Adds (alias.now.0 ∷ variables_of alias.now.1) result (shown names.old.keys) (shown names.new.keys) }
+    ensures { AddsUnlessMemory (alias.now.0 ∷ variables_of alias.now.1) result (shown names.old.keys) (shown names.new.keys) }
 {
     bind(names, &alias.variable)?;
     bind_pattern(names, &alias.whole)
@@ -128,7 +130,7 @@ fn bind_patterns<'a>(
     names: &mut IndexSet<&'a [u8]>,
     patterns: &'a Patterns,
 ) -> Result<(), ReadFault>
-    ensures { Adds (variables_of_all (patterns_of patterns.now)) result (shown names.old.keys) (shown names.new.keys) }
+    ensures { AddsUnlessMemory (variables_of_all (patterns_of patterns.now)) result (shown names.old.keys) (shown names.new.keys) }
 {
     'patterns: for pattern in &patterns.0 {
         bind_pattern(names, pattern)?;
@@ -139,7 +141,7 @@ fn bind_patterns<'a>(
 /// The names of the variables of a clause's patterns, which differ from each other (Core Erlang 1.0.3,
 /// "Patterns"). The fault is `DuplicateVariable` at the first variable that has the name of one before it.
 fn bound_by<'a>(alloc: Global, patterns: &'a Patterns) -> Result<IndexSet<&'a [u8]>, ReadFault>
-    ensures { Binds (bound_by patterns.now) result }
+    ensures { BindsUnlessMemory (bound_by patterns.now) result }
 {
     let mut names = IndexSet::new(alloc);
     bind_patterns(&mut names, patterns)?;
@@ -176,7 +178,7 @@ pub(crate) fn is_defined(
 /// An exported function of this module is called outside of guards. Faults: `UnsupportedCall` where it is not
 /// exported, `EffectInGuard`.
 fn check_exported(setting: &Setting, at: usize, function: &FunctionName) -> Result<(), ReadFault>
-    ensures { result ≡ check_callee (setting_in setting.now) at (OfExport function.now) }
+    ensures { result ≡ check_callee (setting_in setting.now) at (callees.Exported function.now) }
 {
     if is_exported(setting, function) {
         check_effect(setting, at)
@@ -187,7 +189,7 @@ fn check_exported(setting: &Setting, at: usize, function: &FunctionName) -> Resu
 
 /// A defined function is applied outside of guards. Faults: `EffectInGuard`, `NoFunction` at its name.
 fn check_defined(setting: &Setting, at: usize, named: &NamedFunction) -> Result<(), ReadFault>
-    ensures { result ≡ check_callee (setting_in setting.now) at (OfDefinition named.now) }
+    ensures { result ≡ check_callee (setting_in setting.now) at (callees.Defined named.now) }
 {
     check_effect(setting, at)?;
     if is_defined(setting.definitions, &named.function) {
@@ -217,7 +219,7 @@ pub(crate) fn check_expr<'n>(
     scope: &Scope<'_, 'n>,
     expr: &'n Expr,
 ) -> Result<(), ReadFault>
-    ensures { Gives (λ u. u) result (check_tree (setting_in setting.now) (bound_in scope.now) (tree_of expr.now)) }
+    ensures { GivesUnlessMemory (λ u. u) result (check_tree (setting_in setting.now) (bound_in scope.now) (tree_of expr.now)) }
 {
     match expr {
         Expr::Integer(_) | Expr::Character(_) | Expr::Text(_) | Expr::Atom(_) => Ok(()),
@@ -243,14 +245,14 @@ fn check_within<'a, 's, 'n>(
     names: &'a IndexSet<&'n [u8]>,
     expr: &'n Expr,
 ) -> Result<(), ReadFault>
-    ensures { Gives (λ u. u) result (check_tree (setting_in setting.now) (shown names.now.keys ++ bound_in scope.now) (tree_of expr.now)) }
+    ensures { GivesUnlessMemory (λ u. u) result (check_tree (setting_in setting.now) (shown names.now.keys ++ bound_in scope.now) (tree_of expr.now)) }
 {
     check_expr(setting, &Scope::Within(&*names, &*scope), expr)
 }
 
 #[cycle(scopes)]
 fn check_onto<'n>(setting: &Setting, scope: &Scope<'_, 'n>, onto: &'n Onto) -> Result<(), ReadFault>
-    ensures { Gives (λ u. u) result (check_tree (setting_in setting.now) (bound_in scope.now) (Joined (trees_of onto.now.0) onto.now.1)) }
+    ensures { GivesUnlessMemory (λ u. u) result (check_tree (setting_in setting.now) (bound_in scope.now) (trees.Onto (trees_of onto.now.0) onto.now.1)) }
 {
     check_exprs(setting, scope, &onto.items)?;
     check_expr(setting, scope, &onto.tail)
@@ -263,7 +265,7 @@ fn check_let<'n>(
     scope: &Scope<'_, 'n>,
     binding: &'n Let,
 ) -> Result<(), ReadFault>
-    ensures { Gives (λ u. u) result (check_tree (setting_in setting.now) (bound_in scope.now) (Bound binding.now.0 binding.now.1 binding.now.2)) }
+    ensures { GivesUnlessMemory (λ u. u) result (check_tree (setting_in setting.now) (bound_in scope.now) (trees.Let binding.now.0 binding.now.1 binding.now.2)) }
 {
     let names = distinct(setting.alloc, &binding.variables)?;
     check_expr(setting, scope, &binding.value)?;
@@ -272,7 +274,7 @@ fn check_let<'n>(
 
 #[cycle(scopes)]
 fn check_case<'n>(setting: &Setting, scope: &Scope<'_, 'n>, case: &'n Case) -> Result<(), ReadFault>
-    ensures { Gives (λ u. u) result (check_tree (setting_in setting.now) (bound_in scope.now) (Chosen case.now.0 case.now.1 (clauses_of case.now.2))) }
+    ensures { GivesUnlessMemory (λ u. u) result (check_tree (setting_in setting.now) (bound_in scope.now) (trees.Case case.now.0 case.now.1 (clauses_of case.now.2))) }
 {
     check_expr(setting, scope, &case.value)?;
     check_clauses(setting, scope, &case.clauses)
@@ -280,7 +282,7 @@ fn check_case<'n>(setting: &Setting, scope: &Scope<'_, 'n>, case: &'n Case) -> R
 
 #[cycle(scopes)]
 fn check_do<'n>(setting: &Setting, scope: &Scope<'_, 'n>, both: &'n Do) -> Result<(), ReadFault>
-    ensures { Gives (λ u. u) result (check_tree (setting_in setting.now) (bound_in scope.now) (Followed both.now.0 both.now.1)) }
+    ensures { GivesUnlessMemory (λ u. u) result (check_tree (setting_in setting.now) (bound_in scope.now) (trees.Do both.now.0 both.now.1)) }
 {
     check_expr(setting, scope, &both.first)?;
     check_expr(setting, scope, &both.second)
@@ -288,7 +290,7 @@ fn check_do<'n>(setting: &Setting, scope: &Scope<'_, 'n>, both: &'n Do) -> Resul
 
 #[cycle(scopes)]
 fn check_call<'n>(setting: &Setting, scope: &Scope<'_, 'n>, call: &'n Call) -> Result<(), ReadFault>
-    ensures { Gives (λ u. u) result (check_tree (setting_in setting.now) (bound_in scope.now) (Called call.now.0 call.now.1 (trees_of call.now.2))) }
+    ensures { GivesUnlessMemory (λ u. u) result (check_tree (setting_in setting.now) (bound_in scope.now) (trees.Call call.now.0 call.now.1 (trees_of call.now.2))) }
 {
     check_callee(setting, call.at, &call.callee)?;
     check_exprs(setting, scope, &call.arguments)
@@ -302,7 +304,7 @@ fn check_try<'n>(
     scope: &Scope<'_, 'n>,
     handled: &'n Try,
 ) -> Result<(), ReadFault>
-    ensures { Gives (λ u. u) result (check_tree (setting_in setting.now) (bound_in scope.now) (Tried handled.now.0 handled.now.1 handled.now.2 handled.now.3 handled.now.4 handled.now.5)) }
+    ensures { GivesUnlessMemory (λ u. u) result (check_tree (setting_in setting.now) (bound_in scope.now) (trees.Try handled.now.0 handled.now.1 handled.now.2 handled.now.3 handled.now.4 handled.now.5)) }
 {
     check_expr(setting, scope, &handled.value)?;
     let names = distinct(setting.alloc, &handled.variables)?;
@@ -317,7 +319,7 @@ fn check_catch<'n>(
     scope: &Scope<'_, 'n>,
     caught: &'n Catch,
 ) -> Result<(), ReadFault>
-    ensures { Gives (λ u. u) result (check_tree (setting_in setting.now) (bound_in scope.now) (Caught caught.now.0 caught.now.1)) }
+    ensures { GivesUnlessMemory (λ u. u) result (check_tree (setting_in setting.now) (bound_in scope.now) (trees.Catch caught.now.0 caught.now.1)) }
 {
     check_expr(setting, scope, &caught.value)
 }
@@ -329,7 +331,7 @@ fn check_clause<'n>(
     scope: &Scope<'_, 'n>,
     clause: &'n Clause,
 ) -> Result<(), ReadFault>
-    ensures { Gives (λ u. u) result (check_clause (setting_in setting.now) (bound_in scope.now) clause.now) }
+    ensures { GivesUnlessMemory (λ u. u) result (check_clause (setting_in setting.now) (bound_in scope.now) clause.now) }
 {
     let names = bound_by(setting.alloc, &clause.patterns)?;
     let guard = Setting {
@@ -346,7 +348,7 @@ fn check_clauses<'n>(
     scope: &Scope<'_, 'n>,
     clauses: &'n Clauses,
 ) -> Result<(), ReadFault>
-    ensures { Gives (λ u. u) result (check_clauses (setting_in setting.now) (bound_in scope.now) (clauses_of clauses.now)) }
+    ensures { GivesUnlessMemory (λ u. u) result (check_clauses (setting_in setting.now) (bound_in scope.now) (clauses_of clauses.now)) }
 {
     'clauses: for clause in &clauses.0 {
         check_clause(setting, scope, clause)?;
@@ -360,7 +362,7 @@ fn check_exprs<'n>(
     scope: &Scope<'_, 'n>,
     exprs: &'n Exprs,
 ) -> Result<(), ReadFault>
-    ensures { Gives (λ u. u) result (check_trees (setting_in setting.now) (bound_in scope.now) (trees_of exprs.now)) }
+    ensures { GivesUnlessMemory (λ u. u) result (check_trees (setting_in setting.now) (bound_in scope.now) (trees_of exprs.now)) }
 {
     'exprs: for expr in &exprs.0 {
         check_expr(setting, scope, expr)?;

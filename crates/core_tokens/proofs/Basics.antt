@@ -3,7 +3,7 @@ use Rattle.std.proofs.Common.{◌≡◌, ℕ, Bool, true, false, cond, ◌⊎◌
 use Rattle.std.specs.Option.{option_map, ok_or}
 use Rattle.core_tokens.specs.declared.lexer.trouble.TokenError.{TokenError}
 use Rattle.core_tokens.specs.declared.lexer.trouble.TokenError.TheVariants as errors
-use Rattle.core_tokens.specs.Lexing.{◌>>=◌}
+use Rattle.core_tokens.specs.inside.Lexing.{◌>>=◌}
 
 -- the value of a step that did not fail
 pub bind_ok : {A B : Type 0} (r : Result A TokenError) (f : A → Result B TokenError) (y : B) → (r >>= f) ≡ Ok y → (x : A) × (r ≡ Ok x) × (f x ≡ Ok y)

@@ -3,7 +3,7 @@ use Rattle.std.proofs.Common.{◌≡◌, ℕ, ◌<◌, cond, inl, inr, List, [],
 use Rattle.std.proofs.lemmas.Bool.{eqb-true, eqb-false}
 use Rattle.core_tokens.specs.TokenText.{is_blank, is_in_line}
 use Rattle.core_tokens.specs.Tokens.{blank, comment}
-use Rattle.core_tokens.specs.Lexing.{behind_run, behind_blank_at, Skips, BeginsNoBlank}
+use Rattle.core_tokens.specs.inside.Lexing.{behind_run, behind_blank_at, Skips, BeginsNoBlank}
 use Rattle.core_tokens.proofs.Basics.{chosen, some_is, guard_some}
 use Rattle.core_tokens.proofs.Runs.{run_sound, run_length}
 

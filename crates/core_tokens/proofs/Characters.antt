@@ -5,7 +5,7 @@ use Rattle.std.specs.Str.{IsUtf8, is_utf8, chars}
 use Rattle.std.proofs.lemmas.Bool.{false_from_ne_true}
 use Rattle.std.proofs.lemmas.List.{take_more, append-nil, nil_from_length}
 use Rattle.std.proofs.lemmas.Str.{encodes-append, chars-nil, chars_past_char, IsUtf8-past_char, encodes-chars, is_utf8-from_IsUtf8, IsUtf8-from_is_utf8}
-use Rattle.core_tokens.specs.Lexing.{only_of, only_character}
+use Rattle.core_tokens.specs.inside.Lexing.{only_of, only_character}
 
 -- the bytes of one more character
 pub encode_more : (cs : List ℕ) (i d : ℕ) → i < length cs → encode_utf8_all (take (i + 1) cs) ≡ encode_utf8_all (take i cs) ++ encode_utf8 (get_or cs i d)

@@ -7,10 +7,11 @@ use Rattle.std.proofs.lemmas.Bool.{eqb-true, ne_eqb}
 use Rattle.std.proofs.lemmas.Bool.Decides.{nat_tests}
 use Rattle.core_tokens.specs.declared.lexer.trouble.TokenError.{TokenError}
 use Rattle.core_tokens.specs.declared.lexer.trouble.TokenError.TheVariants as errors
-use Rattle.core_tokens.specs.Piece.{Shape, An_integer, A_float}
+use Rattle.core_tokens.specs.Piece.{Shape}
+use Rattle.core_tokens.specs.Piece as lexemes
 use Rattle.core_tokens.specs.TokenText.{decimal_value, signed, Run, Sign, bare, plus, minus, Fraction, point, Exponent, power, PerhapsExponent, scaled, unscaled, TokenAt, spells_integer, spells_float}
 use Rattle.core_tokens.specs.Tokens.{fits_word, in_range}
-use Rattle.core_tokens.specs.Lexing.{◌>>=◌, run_of, behind_run, some_digits, digits_at, sign_at, fraction_at, exponent_at, integer_of, number_by, number_from, number_at}
+use Rattle.core_tokens.specs.inside.Lexing.{◌>>=◌, run_of, behind_run, some_digits, digits_at, sign_at, fraction_at, exponent_at, integer_of, number_by, number_from, number_at}
 use Rattle.core_tokens.proofs.Basics.{some_is, map_some, chosen, cases_Option}
 use Rattle.core_tokens.proofs.Runs.{run_sound, run_complete, run_head}
 
@@ -131,25 +132,25 @@ perhaps_complete bytes rest (unscaled {bytes = same} none) =
 
 -- what number_at gives at an integer
 pub integer_complete : (bytes unsigned digits rest : List ℕ) (d : ℕ) (negative : Bool) → Sign bytes negative unsigned → Run is_ascii_digit unsigned (d ∷ digits) rest → ((r : List ℕ) → Fraction rest r → ⊥)
-    → number_at bytes ≡ (integer_of negative (decimal_value (d ∷ digits)) >>= λ n. Ok (An_integer n, rest))
+    → number_at bytes ≡ (integer_of negative (decimal_value (d ∷ digits)) >>= λ n. Ok (lexemes.Integer n, rest))
 unfolding number_at
 integer_complete bytes unsigned digits rest d negative s r none =
     rw (sign_complete bytes unsigned digits rest d negative s r, digits_complete unsigned digits rest d r, no_fraction rest none) refl
 
 pub float_complete : (bytes unsigned digits behind_digits behind_fraction rest : List ℕ) (d : ℕ) (negative : Bool) → Sign bytes negative unsigned → Run is_ascii_digit unsigned (d ∷ digits) behind_digits → Fraction behind_digits behind_fraction → PerhapsExponent behind_fraction rest
-    → number_at bytes ≡ Ok (A_float, rest)
+    → number_at bytes ≡ Ok (lexemes.Float, rest)
 unfolding number_at
 float_complete bytes unsigned digits behind_digits behind_fraction rest d negative s r f x =
-    rw (sign_complete bytes unsigned digits behind_digits d negative s r, digits_complete unsigned digits behind_digits d r, fraction_complete behind_digits behind_fraction f) (ap (λ (t : List ℕ). Ok (A_float, t)) (perhaps_complete behind_fraction rest x))
+    rw (sign_complete bytes unsigned digits behind_digits d negative s r, digits_complete unsigned digits behind_digits d r, fraction_complete behind_digits behind_fraction f) (ap (λ (t : List ℕ). Ok (lexemes.Float, t)) (perhaps_complete behind_fraction rest x))
 
 -- What was read stands there: a token in range; or an integer of more bits.
 abbrev pub IsRead : List ℕ → Result (Shape × List ℕ) TokenError → Type 0
 IsRead bytes (Ok x) = TokenAt bytes x.0 x.1 × (in_range false x.0 ≡ true)
-IsRead bytes (Err errors.OutOfRange) = (n : ℤ) × (rest : List ℕ) × TokenAt bytes (An_integer n) rest × (fits_word n ≡ false)
+IsRead bytes (Err errors.OutOfRange) = (n : ℤ) × (rest : List ℕ) × TokenAt bytes (lexemes.Integer n) rest × (fits_word n ≡ false)
 IsRead bytes (Err errors.NoToken) = Unit {0}
 IsRead bytes (Err errors.Memory) = Unit {0}
 
-integer_by : (bytes rest : List ℕ) (n : ℤ) (b : Bool) → fits_word n ≡ b → TokenAt bytes (An_integer n) rest → IsRead bytes (cond b (Ok n) (Err errors.OutOfRange) >>= λ m. Ok (An_integer m, rest))
+integer_by : (bytes rest : List ℕ) (n : ℤ) (b : Bool) → fits_word n ≡ b → TokenAt bytes (lexemes.Integer n) rest → IsRead bytes (cond b (Ok n) (Err errors.OutOfRange) >>= λ m. Ok (lexemes.Integer m, rest))
 integer_by bytes rest n true e t = (t, e)
 integer_by bytes rest n false e t = (n, rest, t, e)
 

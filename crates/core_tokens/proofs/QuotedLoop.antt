@@ -3,7 +3,7 @@ use Rattle.std.proofs.Common.{◌≡◌, ℕ, suc, ◌-◌, ◌+◌, ◌≤◌, 
 use Rattle.std.proofs.lemmas.List.{append-nil}
 use Rattle.core_tokens.specs.declared.lexer.trouble.TokenError.{TokenError}
 use Rattle.core_tokens.specs.declared.lexer.trouble.TokenError.TheVariants as errors
-use Rattle.core_tokens.specs.Lexing.{◌>>=◌, unit_at, behind_quote_at, quoted_in}
+use Rattle.core_tokens.specs.inside.Lexing.{◌>>=◌, unit_at, behind_quote_at, quoted_in}
 
 -- what was read before, and what is still read
 abbrev pub with_front : List ℕ → Result (List ℕ × List ℕ) TokenError → Result (List ℕ × List ℕ) TokenError

@@ -12,7 +12,7 @@ use lib.Utf8.{encode}
 use Rattle.core_tokens.specs.declared.lexer.trouble.TokenError.{TokenError}
 use Rattle.core_tokens.specs.declared.lexer.trouble.TokenError.TheVariants as errors
 use Rattle.core_tokens.specs.TokenText.{is_octal, StopsAt, FirstCharacter, escape_of, Octal, one_digit, two_digits, three_digits, Escape, lettered, numbered, stands_raw, Quoted, closes, stands, escapes}
-use Rattle.core_tokens.specs.Lexing.{◌>>=◌, only_of, only_character, character_at, octal_digit_at, with_digit, longer_octal, octal_at, escape_by, escape_at, raw_only, unit_at, behind_quote_at, quoted_by, quoted_in}
+use Rattle.core_tokens.specs.inside.Lexing.{◌>>=◌, only_of, only_character, character_at, octal_digit_at, with_digit, longer_octal, octal_at, escape_by, escape_at, raw_only, unit_at, behind_quote_at, quoted_by, quoted_in}
 use Rattle.core_tokens.proofs.Basics.{bind_ok, ok_is, ok_or_ok, some_is, map_some, chosen, guard_some}
 
 -- ---- characters

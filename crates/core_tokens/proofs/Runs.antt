@@ -2,7 +2,7 @@
 use Rattle.std.proofs.Common.{◌≡◌, ℕ, suc, ◌+◌, ◌≤◌, Bool, true, false, cond, List, [], ◌∷◌, length, take, drop, refl, ap, arith}
 use Rattle.std.specs.List.{prefix_len}
 use Rattle.core_tokens.specs.TokenText.{StopsAt, Run, halts, takes}
-use Rattle.core_tokens.specs.Lexing.{run_of, behind_run}
+use Rattle.core_tokens.specs.inside.Lexing.{run_of, behind_run}
 
 sound_by : (test : ℕ → Bool) (c : ℕ) (bytes : List ℕ) (b : Bool) → test c ≡ b → Run test bytes (run_of test bytes) (behind_run test bytes)
     → Run test (c ∷ bytes) (take (cond b (1 + prefix_len test bytes) 0) (c ∷ bytes)) (drop (cond b (1 + prefix_len test bytes) 0) (c ∷ bytes))

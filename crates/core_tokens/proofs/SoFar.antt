@@ -7,10 +7,11 @@ use Rattle.core_tokens.specs.declared.lexer.trouble.TokenError.{TokenError}
 use Rattle.core_tokens.specs.declared.lexer.trouble.TokenError.TheVariants as errors
 use Rattle.core_tokens.specs.declared.token.Token.{Token}
 use Rattle.core_tokens.specs.declared.token.Lexeme.{Lexeme}
-use Rattle.core_tokens.specs.Piece.{Shape, An_integer, Piece, piece, pieces, shape_of}
+use Rattle.core_tokens.specs.Piece.{Shape, Piece, piece, pieces, shape_of}
+use Rattle.core_tokens.specs.Piece as lexemes
 use Rattle.core_tokens.specs.TokenText.{is_blank, TokenAt}
 use Rattle.core_tokens.specs.Tokens.{is_slash, in_range, Spelt, none, token, AreTokens, BeginsNoToken, BeginsBadInteger, TokensUpTo, IsTokenFault}
-use Rattle.core_tokens.specs.Lexing.{Fails, ranged_token_at, fault_at, Skips, BeginsNoBlank}
+use Rattle.core_tokens.specs.inside.Lexing.{Fails, ranged_token_at, fault_at, Skips, BeginsNoBlank}
 use Rattle.core_tokens.proofs.TokenLaws.{IsRanged, ranged_sound, bad_is_no_token}
 use Rattle.core_tokens.proofs.Shorter.{token_takes}
 use Rattle.core_tokens.proofs.Streams.{Stuck, stuck_not_empty, one_reading}
@@ -84,7 +85,7 @@ stuck_at b (d ∷ bytes) c others e no_blank no_comment nothing =
 
 stuck_bad_integer : (b : Bool) (bytes : List ℕ) → BeginsBadInteger b bytes → Stuck b bytes
 stuck_bad_integer b bytes h =
-    let v = token_takes bytes h.1 (An_integer h.0) h.2 in
+    let v = token_takes bytes h.1 (lexemes.Integer h.0) h.2 in
     stuck_at b bytes v.first v.others v.whole v.no_blank v.no_comment (λ s rest t g. bad_is_no_token b bytes rest s h t g)
 
 not_stuck : (text : List ℕ) (place : ℕ) (Fact : Bool → List ℕ → Type 0) → ((b : Bool) (bytes : List ℕ) → Fact b bytes → Stuck b bytes) → TokensUpTo text place Fact → (qs : List Piece) → AreTokens text qs → ⊥

@@ -3,7 +3,7 @@ use Rattle.std.proofs.Common.{◌≡◌, ◌≢◌, ℕ, ◌-◌, Bool, true, fa
 use Rattle.core_tokens.specs.Piece.{Shape, Piece}
 use Rattle.core_tokens.specs.TokenText.{is_blank, is_in_line, Run, TokenAt}
 use Rattle.core_tokens.specs.Tokens.{is_slash, in_range, Spelt, none, blank, comment, token}
-use Rattle.core_tokens.specs.Lexing.{behind_run}
+use Rattle.core_tokens.specs.inside.Lexing.{behind_run}
 use Rattle.core_tokens.proofs.Runs.{run_complete}
 use Rattle.core_tokens.proofs.TokenLaws.{token_unique}
 use Rattle.core_tokens.proofs.Shorter.{token_takes}

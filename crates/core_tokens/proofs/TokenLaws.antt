@@ -12,10 +12,11 @@ use Rattle.core_tokens.specs.declared.token.Keyword.{Keyword}
 use Rattle.core_tokens.specs.declared.token.Keyword.TheVariants as keyword
 use Rattle.core_tokens.specs.declared.token.Mark.{Mark}
 use Rattle.core_tokens.specs.declared.token.Mark.TheVariants as mark
-use Rattle.core_tokens.specs.Piece.{Shape, A_word, A_mark, An_atom, A_variable, An_integer, A_float, A_character, A_text}
+use Rattle.core_tokens.specs.Piece.{Shape}
+use Rattle.core_tokens.specs.Piece as lexemes
 use Rattle.core_tokens.specs.TokenText.{keyword_text, mark_text, is_in_name, is_variable_name, decimal_value, signed, Run, Sign, bare, plus, minus, FirstCharacter, Escape, Quoted, TokenAt, spells_word, spells_mark, spells_atom, spells_variable, spells_integer, spells_float, spells_character, spells_escape, spells_text}
 use Rattle.core_tokens.specs.Tokens.{fits_word, fits_arity, in_range, BeginsBadInteger}
-use Rattle.core_tokens.specs.Lexing.{◌>>=◌, word_at, name_at, mark_of, mark_behind_minus, mark_at, escape_at, character_at, integer_of, number_at, unit_at, behind_quote_at, quoted_by, quoted_in, quoted_at, dollar_at, word_token_at, variable_token_at, atom_token_at, text_token_at, dollar_token_at, mark_or_number, token_at, ranged_token_at}
+use Rattle.core_tokens.specs.inside.Lexing.{◌>>=◌, word_at, name_at, mark_of, mark_behind_minus, mark_at, escape_at, character_at, integer_of, number_at, unit_at, behind_quote_at, quoted_by, quoted_in, quoted_at, dollar_at, word_token_at, variable_token_at, atom_token_at, text_token_at, dollar_token_at, mark_or_number, token_at, ranged_token_at}
 use Rattle.core_tokens.proofs.Basics.{apart, kind_of, error_is, ok_is}
 use Rattle.core_tokens.proofs.Runs.{run_head}
 use Rattle.core_tokens.proofs.Words.{word_sound, word_complete, name_sound, name_complete, mark_sound}
@@ -24,11 +25,11 @@ use Rattle.core_tokens.proofs.Quotes.{character_sound, character_complete, escap
 
 -- ---- what is read stands there
 
-word_token_by : (bytes : List ℕ) (o : Option (Keyword × List ℕ)) → word_at bytes ≡ o → IsRead bytes (ok_or o errors.NoToken >>= λ w. Ok (A_word w.0, w.1))
+word_token_by : (bytes : List ℕ) (o : Option (Keyword × List ℕ)) → word_at bytes ≡ o → IsRead bytes (ok_or o errors.NoToken >>= λ w. Ok (lexemes.Word w.0, w.1))
 word_token_by bytes (Some w) e = (spells_word (word_sound bytes w e), refl)
 word_token_by bytes None e = tt
 
-variable_token_by : (bytes : List ℕ) (o : Option (List ℕ × List ℕ)) → name_at bytes ≡ o → IsRead bytes (ok_or o errors.NoToken >>= λ v. Ok (A_variable v.0, v.1))
+variable_token_by : (bytes : List ℕ) (o : Option (List ℕ × List ℕ)) → name_at bytes ≡ o → IsRead bytes (ok_or o errors.NoToken >>= λ v. Ok (lexemes.Variable v.0, v.1))
 variable_token_by bytes (Some v) e = let n = name_sound bytes v e in (spells_variable n.0 n.1, refl)
 variable_token_by bytes None e = tt
 
@@ -52,13 +53,13 @@ quoted_never (suc n) quote bytes e h = never_by n quote (unit_at quote bytes) (b
 no_trouble : (n quote : ℕ) (bytes : List ℕ) → quoted_in n quote bytes ≡ Err errors.OutOfRange → ⊥
 no_trouble n quote bytes e = apart (kind_of errors.OutOfRange) 1 (quoted_never n quote bytes errors.OutOfRange e) refl refl
 
-atom_token_by : (bytes : List ℕ) (r : Result (List ℕ × List ℕ) TokenError) → quoted_at 39 bytes ≡ r → IsRead (39 ∷ bytes) (r >>= λ q. Ok (An_atom (encode_utf8_all q.0), q.1))
+atom_token_by : (bytes : List ℕ) (r : Result (List ℕ × List ℕ) TokenError) → quoted_at 39 bytes ≡ r → IsRead (39 ∷ bytes) (r >>= λ q. Ok (lexemes.Atom (encode_utf8_all q.0), q.1))
 atom_token_by bytes (Ok q) e = (spells_atom (quoted_sound (length bytes) 39 bytes q e), refl)
 atom_token_by bytes (Err errors.NoToken) e = tt
 atom_token_by bytes (Err errors.Memory) e = tt
 atom_token_by bytes (Err errors.OutOfRange) e = absurd (no_trouble (length bytes) 39 bytes e)
 
-text_token_by : (bytes : List ℕ) (r : Result (List ℕ × List ℕ) TokenError) → quoted_at 34 bytes ≡ r → IsRead (34 ∷ bytes) (r >>= λ q. Ok (A_text q.0, q.1))
+text_token_by : (bytes : List ℕ) (r : Result (List ℕ × List ℕ) TokenError) → quoted_at 34 bytes ≡ r → IsRead (34 ∷ bytes) (r >>= λ q. Ok (lexemes.Text q.0, q.1))
 text_token_by bytes (Ok q) e = (spells_text (quoted_sound (length bytes) 34 bytes q e), refl)
 text_token_by bytes (Err errors.NoToken) e = tt
 text_token_by bytes (Err errors.Memory) e = tt
@@ -67,7 +68,7 @@ text_token_by bytes (Err errors.OutOfRange) e = absurd (no_trouble (length bytes
 -- a character or an escape behind `$`
 abbrev IsDollar : List ℕ → Option (ℕ × List ℕ) → Type 0
 IsDollar bytes None = Unit {0}
-IsDollar bytes (Some d) = TokenAt (36 ∷ bytes) (A_character d.0) d.1
+IsDollar bytes (Some d) = TokenAt (36 ∷ bytes) (lexemes.Character d.0) d.1
 
 dollar_escape : (bytes : List ℕ) (o : Option (ℕ × List ℕ)) → escape_at bytes ≡ o → IsDollar (92 ∷ bytes) o
 dollar_escape bytes (Some d) e = spells_escape (escape_sound bytes d e)
@@ -88,7 +89,7 @@ unfolding dollar_at
 dollar_sound [] = tt
 dollar_sound (c ∷ bytes) = dollar_by c bytes (eqb c 92) refl
 
-dollar_token_by : (bytes : List ℕ) (o : Option (ℕ × List ℕ)) → IsDollar bytes o → IsRead (36 ∷ bytes) (ok_or o errors.NoToken >>= λ d. Ok (A_character d.0, d.1))
+dollar_token_by : (bytes : List ℕ) (o : Option (ℕ × List ℕ)) → IsDollar bytes o → IsRead (36 ∷ bytes) (ok_or o errors.NoToken >>= λ d. Ok (lexemes.Character d.0, d.1))
 dollar_token_by bytes (Some d) h = (h, refl)
 dollar_token_by bytes None h = tt
 
@@ -217,7 +218,7 @@ signed_is_number bytes unsigned digits rest d negative (minus {bytes = same}) r 
     let h = run_head is_ascii_digit same (d ∷ digits) rest r d digits refl in
     rw h.1 (at_number 45 (d ∷ h.0) (record { no_lower = refl; no_upper = refl; no_atom = refl; no_text = refl; no_dollar = refl }) (minus_no_mark d h.0 h.2))
 
-at_mark : (m : Mark) (rest : List ℕ) → token_at (mark_text m ++ rest) ≡ Ok (A_mark m, rest)
+at_mark : (m : Mark) (rest : List ℕ) → token_at (mark_text m ++ rest) ≡ Ok (lexemes.Mark m, rest)
 unfolding token_at mark_at mark_of mark_behind_minus
 at_mark mark.LeftParenthesis rest = refl
 at_mark mark.RightParenthesis rest = refl
@@ -237,45 +238,45 @@ at_mark mark.Note rest = refl
 at_mark mark.Hash rest = refl
 at_mark mark.Tilde rest = refl
 
-word_complete_at : (bytes rest : List ℕ) (k : Keyword) → Run is_ascii_lowercase bytes (keyword_text k) rest → token_at bytes ≡ Ok (A_word k, rest)
+word_complete_at : (bytes rest : List ℕ) (k : Keyword) → Run is_ascii_lowercase bytes (keyword_text k) rest → token_at bytes ≡ Ok (lexemes.Word k, rest)
 unfolding word_token_at
 word_complete_at bytes rest k r =
     let head = keyword_head k in
     let h = run_head is_ascii_lowercase bytes (keyword_text k) rest r head.first head.others head.whole in
-    let found : word_token_at bytes ≡ Ok (A_word k, rest) = rw (word_complete bytes rest k r) refl in
+    let found : word_token_at bytes ≡ Ok (lexemes.Word k, rest) = rw (word_complete bytes rest k r) refl in
     ap token_at h.1 ∙ at_word head.first h.0 h.2 ∙ ap word_token_at (sym h.1) ∙ found
 
-variable_complete_at : (bytes name rest : List ℕ) → Run is_in_name bytes name rest → is_variable_name name ≡ true → token_at bytes ≡ Ok (A_variable name, rest)
+variable_complete_at : (bytes name rest : List ℕ) → Run is_in_name bytes name rest → is_variable_name name ≡ true → token_at bytes ≡ Ok (lexemes.Variable name, rest)
 unfolding variable_token_at
 variable_complete_at bytes name rest r n =
     let head = name_head name n in
     let h = run_head is_in_name bytes name rest r head.first head.others head.whole in
-    let found : variable_token_at bytes ≡ Ok (A_variable name, rest) = rw (name_complete bytes name rest r n) refl in
+    let found : variable_token_at bytes ≡ Ok (lexemes.Variable name, rest) = rw (name_complete bytes name rest r n) refl in
     ap token_at h.1 ∙ at_variable head.first h.0 head.has ∙ ap variable_token_at (sym h.1) ∙ found
 
-atom_complete_at : (bytes characters rest : List ℕ) → Quoted 39 bytes characters rest → token_at (39 ∷ bytes) ≡ Ok (An_atom (encode_utf8_all characters), rest)
+atom_complete_at : (bytes characters rest : List ℕ) → Quoted 39 bytes characters rest → token_at (39 ∷ bytes) ≡ Ok (lexemes.Atom (encode_utf8_all characters), rest)
 unfolding token_at atom_token_at
 atom_complete_at bytes characters rest q = rw (quoted_complete 39 (omega arith) (λ e. omega arith) bytes characters rest q (length bytes) (omega arith)) refl
 
-text_complete_at : (bytes characters rest : List ℕ) → Quoted 34 bytes characters rest → token_at (34 ∷ bytes) ≡ Ok (A_text characters, rest)
+text_complete_at : (bytes characters rest : List ℕ) → Quoted 34 bytes characters rest → token_at (34 ∷ bytes) ≡ Ok (lexemes.Text characters, rest)
 unfolding token_at text_token_at
 text_complete_at bytes characters rest q = rw (quoted_complete 34 (omega arith) (λ e. omega arith) bytes characters rest q (length bytes) (omega arith)) refl
 
-escape_complete_at : (bytes rest : List ℕ) (c : ℕ) → Escape bytes c rest → token_at (36 ∷ 92 ∷ bytes) ≡ Ok (A_character c, rest)
+escape_complete_at : (bytes rest : List ℕ) (c : ℕ) → Escape bytes c rest → token_at (36 ∷ 92 ∷ bytes) ≡ Ok (lexemes.Character c, rest)
 unfolding token_at dollar_token_at dollar_at
 escape_complete_at bytes rest c x = rw (escape_complete bytes rest c x) refl
 
-raw_dollar : (b : ℕ) (bytes rest : List ℕ) (c : ℕ) → b ≢ 92 → character_at (b ∷ bytes) ≡ Some (c, rest) → token_at (36 ∷ b ∷ bytes) ≡ Ok (A_character c, rest)
+raw_dollar : (b : ℕ) (bytes rest : List ℕ) (c : ℕ) → b ≢ 92 → character_at (b ∷ bytes) ≡ Some (c, rest) → token_at (36 ∷ b ∷ bytes) ≡ Ok (lexemes.Character c, rest)
 unfolding token_at dollar_token_at dollar_at
 raw_dollar b bytes rest c other e = rw (ne_eqb b 92 other, e) refl
 
-character_complete_at : (bytes rest : List ℕ) (c : ℕ) → FirstCharacter bytes c rest → c ≢ 92 → token_at (36 ∷ bytes) ≡ Ok (A_character c, rest)
+character_complete_at : (bytes rest : List ℕ) (c : ℕ) → FirstCharacter bytes c rest → c ≢ 92 → token_at (36 ∷ bytes) ≡ Ok (lexemes.Character c, rest)
 character_complete_at bytes rest c f differs =
     let d = begins_other bytes rest c 92 f differs (omega arith) in
     rw d.whole (raw_dollar d.first d.others rest c d.other (ap character_at (sym d.whole) ∙ character_complete bytes rest c f))
 
 abbrev integer_read : ℤ → List ℕ → Result (Shape × List ℕ) TokenError
-integer_read n rest = Ok (An_integer n, rest)
+integer_read n rest = Ok (lexemes.Integer n, rest)
 
 integer_ranged : (n : ℤ) (rest : List ℕ) (b : Bool) → (cond b (Ok n) (Err errors.OutOfRange) >>= λ m. integer_read m rest) ≡ cond b (integer_read n rest) (Err errors.OutOfRange)
 integer_ranged n rest true = refl
@@ -306,25 +307,25 @@ no_word_no_arity : (n : ℤ) → fits_word n ≡ false → fits_arity n ≡ fals
 no_word_no_arity n h = false_from_ne_true (fits_arity n) (λ e. let f = arity_is_word n e in cc)
 
 in_range_is_word : (s : Shape) → in_range true s ≡ true → in_range false s ≡ true
-in_range_is_word (A_word k) h = refl
-in_range_is_word (A_mark m) h = refl
-in_range_is_word (An_atom t) h = refl
-in_range_is_word (A_variable v) h = refl
-in_range_is_word (An_integer n) h = arity_is_word n h
-in_range_is_word A_float h = refl
-in_range_is_word (A_character c) h = refl
-in_range_is_word (A_text cs) h = refl
+in_range_is_word (lexemes.Word k) h = refl
+in_range_is_word (lexemes.Mark m) h = refl
+in_range_is_word (lexemes.Atom t) h = refl
+in_range_is_word (lexemes.Variable v) h = refl
+in_range_is_word (lexemes.Integer n) h = arity_is_word n h
+in_range_is_word lexemes.Float h = refl
+in_range_is_word (lexemes.Character c) h = refl
+in_range_is_word (lexemes.Text cs) h = refl
 
 -- only an integer is out of range
 bad_integer : (bytes rest : List ℕ) (s : Shape) → TokenAt bytes s rest → in_range true s ≡ false → BeginsBadInteger true bytes
-bad_integer bytes rest (A_word k) t h = absurd cc
-bad_integer bytes rest (A_mark m) t h = absurd cc
-bad_integer bytes rest (An_atom x) t h = absurd cc
-bad_integer bytes rest (A_variable v) t h = absurd cc
-bad_integer bytes rest (An_integer n) t h = (n, rest, t, h)
-bad_integer bytes rest A_float t h = absurd cc
-bad_integer bytes rest (A_character c) t h = absurd cc
-bad_integer bytes rest (A_text cs) t h = absurd cc
+bad_integer bytes rest (lexemes.Word k) t h = absurd cc
+bad_integer bytes rest (lexemes.Mark m) t h = absurd cc
+bad_integer bytes rest (lexemes.Atom x) t h = absurd cc
+bad_integer bytes rest (lexemes.Variable v) t h = absurd cc
+bad_integer bytes rest (lexemes.Integer n) t h = (n, rest, t, h)
+bad_integer bytes rest lexemes.Float t h = absurd cc
+bad_integer bytes rest (lexemes.Character c) t h = absurd cc
+bad_integer bytes rest (lexemes.Text cs) t h = absurd cc
 
 -- What was read stands there: a token in range, an integer out of range, or no token.
 abbrev pub IsRanged : Bool → List ℕ → Result (Shape × List ℕ) TokenError → Type 0
@@ -379,15 +380,15 @@ token_unique behind_slash bytes rest rest' s s' t t' h h' =
     (ap (λ (x : Shape × List ℕ). x.0) both, ap (λ (x : Shape × List ℕ). x.1) both)
 
 -- an integer out of range is read as one
-out_by : (bytes rest : List ℕ) (n : ℤ) (b : Bool) → fits_word n ≡ b → fits_arity n ≡ false → token_at bytes ≡ ranged false (An_integer n) rest → ranged_token_at true bytes ≡ Err errors.OutOfRange
+out_by : (bytes rest : List ℕ) (n : ℤ) (b : Bool) → fits_word n ≡ b → fits_arity n ≡ false → token_at bytes ≡ ranged false (lexemes.Integer n) rest → ranged_token_at true bytes ≡ Err errors.OutOfRange
 unfolding ranged_token_at ranged
 out_by bytes rest n true w a e = rw (e, w, a) refl
 out_by bytes rest n false w a e = rw (e, w) refl
 
 pub ranged_out : (behind_slash : Bool) (bytes : List ℕ) → BeginsBadInteger behind_slash bytes → ranged_token_at behind_slash bytes ≡ Err errors.OutOfRange
 unfolding ranged_token_at ranged
-ranged_out false bytes h = token_complete bytes h.1 (An_integer h.0) h.2 ∙ rw h.3 refl
-ranged_out true bytes h = out_by bytes h.1 h.0 (fits_word h.0) refl h.3 (token_complete bytes h.1 (An_integer h.0) h.2)
+ranged_out false bytes h = token_complete bytes h.1 (lexemes.Integer h.0) h.2 ∙ rw h.3 refl
+ranged_out true bytes h = out_by bytes h.1 h.0 (fits_word h.0) refl h.3 (token_complete bytes h.1 (lexemes.Integer h.0) h.2)
 
 pub bad_is_no_token : (behind_slash : Bool) (bytes rest : List ℕ) (s : Shape) → BeginsBadInteger behind_slash bytes → TokenAt bytes s rest → in_range behind_slash s ≡ true → ⊥
 bad_is_no_token behind_slash bytes rest s h t g =

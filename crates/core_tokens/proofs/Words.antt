@@ -10,7 +10,7 @@ use Rattle.core_tokens.specs.declared.token.Keyword.TheVariants as keyword
 use Rattle.core_tokens.specs.declared.token.Mark.{Mark}
 use Rattle.core_tokens.specs.declared.token.Mark.TheVariants as mark
 use Rattle.core_tokens.specs.TokenText.{keyword_text, mark_text, is_in_name, is_variable_name, Run}
-use Rattle.core_tokens.specs.Lexing.{run_of, behind_run, keyword_by, keywords, keyword_of, word_at, name_at, is_alone, mark_by, short_marks, mark_of, mark_behind_minus, mark_at}
+use Rattle.core_tokens.specs.inside.Lexing.{run_of, behind_run, keyword_by, keywords, keyword_of, word_at, name_at, is_alone, mark_by, short_marks, mark_of, mark_behind_minus, mark_at}
 use Rattle.core_tokens.proofs.Basics.{map_some, some_is, chosen, guard_some}
 use Rattle.core_tokens.proofs.Runs.{run_sound, run_complete}
 

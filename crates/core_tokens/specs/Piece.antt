@@ -4,18 +4,18 @@ use Rattle.core_tokens.specs.declared.token.Token.{Token}
 use Rattle.core_tokens.specs.declared.token.Lexeme.{Lexeme}
 use Rattle.core_tokens.specs.declared.token.Lexeme.TheVariants as lexeme
 use Rattle.core_tokens.specs.declared.token.Keyword.{Keyword}
-use Rattle.core_tokens.specs.declared.token.Mark.{Mark}
+use Rattle.core_tokens.specs.declared.token.Mark as marks
 
 -- what a token is: an atom is the UTF-8 bytes of its text, a variable the bytes of its name, a string its characters
 pub data Shape : Type 0 where
-  A_word : (keyword : Keyword) → Shape
-  A_mark : (mark : Mark) → Shape
-  An_atom : (text : List ℕ) → Shape
-  A_variable : (name : List ℕ) → Shape
-  An_integer : (number : ℤ) → Shape
-  A_float : Shape
-  A_character : (character : ℕ) → Shape
-  A_text : (characters : List ℕ) → Shape
+  Word : (keyword : Keyword) → Shape
+  Mark : (mark : marks.Mark) → Shape
+  Atom : (text : List ℕ) → Shape
+  Variable : (name : List ℕ) → Shape
+  Integer : (number : ℤ) → Shape
+  Float : Shape
+  Character : (character : ℕ) → Shape
+  Text : (characters : List ℕ) → Shape
 
 -- a token with the place of its first byte
 pub record Piece : Type 0 where
@@ -24,14 +24,14 @@ pub record Piece : Type 0 where
 
 -- what a token of the program is
 abbrev pub shape_of : Lexeme → Shape
-shape_of (lexeme.Word k) = A_word k
-shape_of (lexeme.Mark m) = A_mark m
-shape_of (lexeme.Atom a) = An_atom a
-shape_of (lexeme.Variable v) = A_variable v.items
-shape_of (lexeme.Integer n) = An_integer n
-shape_of lexeme.Float = A_float
-shape_of (lexeme.Character c) = A_character c
-shape_of (lexeme.Text cs) = A_text cs.items
+shape_of (lexeme.Word k) = Word k
+shape_of (lexeme.Mark m) = Mark m
+shape_of (lexeme.Atom a) = Atom a
+shape_of (lexeme.Variable v) = Variable v.items
+shape_of (lexeme.Integer n) = Integer n
+shape_of lexeme.Float = Float
+shape_of (lexeme.Character c) = Character c
+shape_of (lexeme.Text cs) = Text cs.items
 
 abbrev pub piece : Token → Piece
 piece t = record { at = t.at; shape = shape_of t.lexeme }

@@ -7,7 +7,8 @@ use Rattle.core_tokens.specs.declared.token.Keyword.{Keyword}
 use Rattle.core_tokens.specs.declared.token.Keyword.TheVariants as keyword
 use Rattle.core_tokens.specs.declared.token.Mark.{Mark}
 use Rattle.core_tokens.specs.declared.token.Mark.TheVariants as mark
-use Rattle.core_tokens.specs.Piece.{Shape, A_word, A_mark, An_atom, A_variable, An_integer, A_float, A_character, A_text}
+use Rattle.core_tokens.specs.Piece.{Shape}
+use Rattle.core_tokens.specs.Piece as lexemes
 
 -- ---- classes of bytes
 
@@ -171,12 +172,12 @@ pub data Quoted (quote : ℕ) : List ℕ → List ℕ → List ℕ → Type 0 wh
 -- The bytes begin with a token of this shape, as long as it can be. 39 is the single quote, 34 the
 -- double quote, 36 `$` and 92 the backslash. The range of an integer is no part of its spelling.
 pub data TokenAt : List ℕ → Shape → List ℕ → Type 0 where
-  spells_word : {bytes rest : List ℕ} {k : Keyword} → Run is_ascii_lowercase bytes (keyword_text k) rest → TokenAt bytes (A_word k) rest
-  spells_mark : {bytes rest : List ℕ} {m : Mark} → bytes ≡ mark_text m ++ rest → TokenAt bytes (A_mark m) rest
-  spells_atom : {bytes characters rest : List ℕ} → Quoted 39 bytes characters rest → TokenAt (39 ∷ bytes) (An_atom (encode_utf8_all characters)) rest
-  spells_variable : {bytes name rest : List ℕ} → Run is_in_name bytes name rest → is_variable_name name ≡ true → TokenAt bytes (A_variable name) rest
-  spells_integer : {bytes unsigned digits rest : List ℕ} {d : ℕ} {negative : Bool} → Sign bytes negative unsigned → Run is_ascii_digit unsigned (d ∷ digits) rest → ((r : List ℕ) → Fraction rest r → ⊥) → TokenAt bytes (An_integer (signed negative (decimal_value (d ∷ digits)))) rest
-  spells_float : {bytes unsigned digits behind_digits behind_fraction rest : List ℕ} {d : ℕ} {negative : Bool} → Sign bytes negative unsigned → Run is_ascii_digit unsigned (d ∷ digits) behind_digits → Fraction behind_digits behind_fraction → PerhapsExponent behind_fraction rest → TokenAt bytes A_float rest
-  spells_character : {bytes rest : List ℕ} {c : ℕ} → FirstCharacter bytes c rest → c ≢ 92 → TokenAt (36 ∷ bytes) (A_character c) rest
-  spells_escape : {bytes rest : List ℕ} {c : ℕ} → Escape bytes c rest → TokenAt (36 ∷ 92 ∷ bytes) (A_character c) rest
-  spells_text : {bytes characters rest : List ℕ} → Quoted 34 bytes characters rest → TokenAt (34 ∷ bytes) (A_text characters) rest
+  spells_word : {bytes rest : List ℕ} {k : Keyword} → Run is_ascii_lowercase bytes (keyword_text k) rest → TokenAt bytes (lexemes.Word k) rest
+  spells_mark : {bytes rest : List ℕ} {m : Mark} → bytes ≡ mark_text m ++ rest → TokenAt bytes (lexemes.Mark m) rest
+  spells_atom : {bytes characters rest : List ℕ} → Quoted 39 bytes characters rest → TokenAt (39 ∷ bytes) (lexemes.Atom (encode_utf8_all characters)) rest
+  spells_variable : {bytes name rest : List ℕ} → Run is_in_name bytes name rest → is_variable_name name ≡ true → TokenAt bytes (lexemes.Variable name) rest
+  spells_integer : {bytes unsigned digits rest : List ℕ} {d : ℕ} {negative : Bool} → Sign bytes negative unsigned → Run is_ascii_digit unsigned (d ∷ digits) rest → ((r : List ℕ) → Fraction rest r → ⊥) → TokenAt bytes (lexemes.Integer (signed negative (decimal_value (d ∷ digits)))) rest
+  spells_float : {bytes unsigned digits behind_digits behind_fraction rest : List ℕ} {d : ℕ} {negative : Bool} → Sign bytes negative unsigned → Run is_ascii_digit unsigned (d ∷ digits) behind_digits → Fraction behind_digits behind_fraction → PerhapsExponent behind_fraction rest → TokenAt bytes lexemes.Float rest
+  spells_character : {bytes rest : List ℕ} {c : ℕ} → FirstCharacter bytes c rest → c ≢ 92 → TokenAt (36 ∷ bytes) (lexemes.Character c) rest
+  spells_escape : {bytes rest : List ℕ} {c : ℕ} → Escape bytes c rest → TokenAt (36 ∷ 92 ∷ bytes) (lexemes.Character c) rest
+  spells_text : {bytes characters rest : List ℕ} → Quoted 34 bytes characters rest → TokenAt (34 ∷ bytes) (lexemes.Text characters) rest

@@ -3,12 +3,13 @@ use Rattle.std.specs.Prelude.{◌≡◌, ◌≢◌, ℕ, ◌-◌, ◌^◌, ◌<�
 use Rattle.core_tokens.specs.declared.fault.ReadFault.{ReadFault}
 use Rattle.core_tokens.specs.declared.fault.ReadFault.TheVariants as fault
 use Rattle.core_tokens.specs.declared.token.Mark.TheVariants as mark
-use Rattle.core_tokens.specs.Piece.{Shape, A_mark, An_integer, Piece}
+use Rattle.core_tokens.specs.Piece.{Shape, Piece}
+use Rattle.core_tokens.specs.Piece as lexemes
 use Rattle.core_tokens.specs.TokenText.{is_blank, is_in_line, Run, TokenAt}
 
 -- the token is the mark `/`, behind which an integer is an arity
 abbrev pub is_slash : Shape → Bool
-is_slash (A_mark mark.Slash) = true
+is_slash (lexemes.Mark mark.Slash) = true
 is_slash _ = false
 
 -- the integer fits 64 bits
@@ -28,7 +29,7 @@ integer_in_range false n = fits_word n
 
 -- a token is in range where it is no integer, or one in range
 abbrev pub in_range : Bool → Shape → Bool
-in_range behind_slash (An_integer n) = integer_in_range behind_slash n
+in_range behind_slash (lexemes.Integer n) = integer_in_range behind_slash n
 in_range behind_slash _ = true
 
 -- The front of the bytes is these tokens, and rest follows them. The bytes are the end of a text that
@@ -50,7 +51,7 @@ BeginsNoToken (c ∷ bytes) = (is_blank c ≡ false) × (c ≢ 37) × ((s : Shap
 
 -- an integer out of range stands here
 abbrev pub BeginsBadInteger : Bool → List ℕ → Type 0
-BeginsBadInteger behind_slash bytes = (n : ℤ) × (rest : List ℕ) × TokenAt bytes (An_integer n) rest × (integer_in_range behind_slash n ≡ false)
+BeginsBadInteger behind_slash bytes = (n : ℤ) × (rest : List ℕ) × TokenAt bytes (lexemes.Integer n) rest × (integer_in_range behind_slash n ≡ false)
 
 -- the text is tokens up to a place within it, and there the fact holds
 abbrev pub TokensUpTo : List ℕ → ℕ → (Bool → List ℕ → Type 0) → Type 0

@@ -2,7 +2,7 @@
 ghost use Rattle.std.specs.Prelude.{◌≡◌, ℕ, List, IfOk, IfErr, MatchResult, true};
 ghost use Rattle.core_tokens.specs.Piece.{Piece, shape_of, pieces};
 ghost use Rattle.core_tokens.specs.Tokens.{AreTokens, IsTokenFault, is_slash, in_range};
-ghost use Rattle.core_tokens.specs.Lexing.{Gives, word_token_at, variable_token_at, atom_token_at, text_token_at, dollar_token_at, token_at, ranged_token_at};
+ghost use Rattle.core_tokens.specs.inside.Lexing.{GivesUnlessMemory, word_token_at, variable_token_at, atom_token_at, text_token_at, dollar_token_at, token_at, ranged_token_at};
 
 mod blanks;
 mod number;
@@ -16,9 +16,9 @@ use crate::token::{Lexeme, Mark, Token};
 use std::alloc::Global;
 use term_core::Atom;
 
-#[tactic(auto, unfolding(crate::specs::Lexing::word_token_at))]
+#[tactic(auto, unfolding(crate::specs::inside::Lexing::word_token_at))]
 fn word_token(text: &[u8]) -> Result<(Lexeme, &[u8]), TokenError>
-    ensures { Gives (λ x. (shape_of x.0, x.1.now)) result (word_token_at text.now) }
+    ensures { GivesUnlessMemory (λ x. (shape_of x.0, x.1.now)) result (word_token_at text.now) }
 {
     match word::word(text) {
         Some((keyword, rest)) => Ok((Lexeme::Word(keyword), rest)),
@@ -26,9 +26,9 @@ fn word_token(text: &[u8]) -> Result<(Lexeme, &[u8]), TokenError>
     }
 }
 
-#[tactic(auto, unfolding(crate::specs::Lexing::variable_token_at))]
+#[tactic(auto, unfolding(crate::specs::inside::Lexing::variable_token_at))]
 fn variable_token(alloc: Global, text: &[u8]) -> Result<(Lexeme, &[u8]), TokenError>
-    ensures { Gives (λ x. (shape_of x.0, x.1.now)) result (variable_token_at text.now) }
+    ensures { GivesUnlessMemory (λ x. (shape_of x.0, x.1.now)) result (variable_token_at text.now) }
 {
     match word::variable_name(text) {
         Some((name, rest)) => Ok((Lexeme::Variable(Vec::from_slice(alloc, name)?), rest)),
@@ -37,9 +37,9 @@ fn variable_token(alloc: Global, text: &[u8]) -> Result<(Lexeme, &[u8]), TokenEr
 }
 
 // The atom of what stands behind a single quote.
-#[tactic(auto, unfolding(crate::specs::Lexing::atom_token_at))]
+#[tactic(auto, unfolding(crate::specs::inside::Lexing::atom_token_at))]
 fn atom_token(alloc: Global, text: &[u8]) -> Result<(Lexeme, &[u8]), TokenError>
-    ensures { Gives (λ x. (shape_of x.0, x.1.now)) result (atom_token_at text.now) }
+    ensures { GivesUnlessMemory (λ x. (shape_of x.0, x.1.now)) result (atom_token_at text.now) }
 {
     let (characters, rest) = quoted::quoted(alloc, b'\'', text)?;
     let name = quoted::string_of(alloc, &characters)?;
@@ -47,18 +47,18 @@ fn atom_token(alloc: Global, text: &[u8]) -> Result<(Lexeme, &[u8]), TokenError>
 }
 
 // The string of what stands behind a double quote.
-#[tactic(auto, unfolding(crate::specs::Lexing::text_token_at))]
+#[tactic(auto, unfolding(crate::specs::inside::Lexing::text_token_at))]
 fn text_token(alloc: Global, text: &[u8]) -> Result<(Lexeme, &[u8]), TokenError>
-    ensures { Gives (λ x. (shape_of x.0, x.1.now)) result (text_token_at text.now) }
+    ensures { GivesUnlessMemory (λ x. (shape_of x.0, x.1.now)) result (text_token_at text.now) }
 {
     let (characters, rest) = quoted::quoted(alloc, b'"', text)?;
     Ok((Lexeme::Text(characters), rest))
 }
 
 // The character of what stands behind `$`.
-#[tactic(auto, unfolding(crate::specs::Lexing::dollar_token_at))]
+#[tactic(auto, unfolding(crate::specs::inside::Lexing::dollar_token_at))]
 fn dollar_token(text: &[u8]) -> Result<(Lexeme, &[u8]), TokenError>
-    ensures { Gives (λ x. (shape_of x.0, x.1.now)) result (dollar_token_at text.now) }
+    ensures { GivesUnlessMemory (λ x. (shape_of x.0, x.1.now)) result (dollar_token_at text.now) }
 {
     match quoted::dollar_character(text) {
         Some((character, rest)) => Ok((Lexeme::Character(character), rest)),
@@ -67,9 +67,9 @@ fn dollar_token(text: &[u8]) -> Result<(Lexeme, &[u8]), TokenError>
 }
 
 // The token at the front and what follows it; an integer is one of 64 bits.
-#[tactic(auto, unfolding(crate::specs::Lexing::token_at))]
+#[tactic(auto, unfolding(crate::specs::inside::Lexing::token_at))]
 fn token(alloc: Global, text: &[u8]) -> Result<(Lexeme, &[u8]), TokenError>
-    ensures { Gives (λ x. (shape_of x.0, x.1.now)) result (token_at text.now) }
+    ensures { GivesUnlessMemory (λ x. (shape_of x.0, x.1.now)) result (token_at text.now) }
 {
     let [first, rest @ ..] = text else {
         return Err(TokenError::NoToken);
@@ -108,13 +108,13 @@ fn may_follow_slash(lexeme: &Lexeme) -> bool
 }
 
 // The token at the front and what follows it; an integer is in range.
-#[tactic(auto, unfolding(crate::specs::Lexing::ranged_token_at))]
+#[tactic(auto, unfolding(crate::specs::inside::Lexing::ranged_token_at))]
 fn ranged_token(
     alloc: Global,
     behind_slash: bool,
     text: &[u8],
 ) -> Result<(Lexeme, &[u8]), TokenError>
-    ensures { Gives (λ x. (shape_of x.0, x.1.now)) result (ranged_token_at behind_slash text.now) }
+    ensures { GivesUnlessMemory (λ x. (shape_of x.0, x.1.now)) result (ranged_token_at behind_slash text.now) }
 {
     let (lexeme, rest) = token(alloc, text)?;
     if behind_slash && !may_follow_slash(&lexeme) {

@@ -1,7 +1,7 @@
 -- The number of a call is its place among the variants.
 use Rattle.std.proofs.Common.{◌≡◌, refl}
 use denote.Enum.Declared.{tag_of}
-use Rattle.core_tree.specs.PureCalls.{number_of_pure}
+use Rattle.core_tree.specs.CallCodes.{number_of_pure}
 use Rattle.core_tree.specs.contracts.pure.PureCall.{the_type}
 use Rattle.core_tree.specs.declared.pure.PureCall.{PureCall}
 use Rattle.core_tree.specs.declared.pure.PureCall.TheVariants as calls

@@ -1,7 +1,6 @@
 -- The calls of processes and tables: their names and the numbers of their arguments (Erlang reference manual, modules erlang and ets).
-use Rattle.std.specs.Prelude.{◌≡◌, ℕ, Bool, ◌==◌, ◌&&◌, if◌then◌else◌, List, [], ◌∷◌, Option, Some, None, codes, get_or, refl}
+use Rattle.std.specs.Prelude.{ℕ, Bool, ◌==◌, ◌&&◌, if◌then◌else◌, List, [], ◌∷◌, Option, Some, None, codes}
 use Rattle.std.specs.Cmp.Lexicographic.{pointwise}
-use Rattle.std.specs.Coded.{Coded, code_by, coded_ℕ}
 use Rattle.core_tree.specs.declared.call.CallKind.{CallKind}
 use Rattle.core_tree.specs.declared.call.CallKind.TheVariants.{Spawn, SpawnLink, SpawnMonitor, Bang, Send, Exit, Link, Unlink, Monitor, Demonitor, DemonitorWith, ProcessFlag, Register, Unregister, Whereis, IsProcessAlive, MakeRef, New, Lookup, Member, LookupElement, First, Last, Next, Prev, TableToList, Insert, InsertNew, DeleteTable, DeleteKey, DeleteObject, DeleteAllObjects, Take, UpdateCounter, UpdateElement, GiveAway, SetOptions, Info}
 
@@ -65,96 +64,9 @@ IsRead Insert = Unit {0}
 IsRead Lookup = Unit {0}
 IsRead kind = ⊥
 
--- ---- the code of a call, by which proofs tell values apart
-abbrev pub number_of_call : CallKind → ℕ
-number_of_call Spawn = 0
-number_of_call SpawnLink = 1
-number_of_call SpawnMonitor = 2
-number_of_call Bang = 3
-number_of_call Send = 4
-number_of_call Exit = 5
-number_of_call Link = 6
-number_of_call Unlink = 7
-number_of_call Monitor = 8
-number_of_call Demonitor = 9
-number_of_call DemonitorWith = 10
-number_of_call ProcessFlag = 11
-number_of_call Register = 12
-number_of_call Unregister = 13
-number_of_call Whereis = 14
-number_of_call IsProcessAlive = 15
-number_of_call MakeRef = 16
-number_of_call New = 17
-number_of_call Lookup = 18
-number_of_call Member = 19
-number_of_call LookupElement = 20
-number_of_call First = 21
-number_of_call Last = 22
-number_of_call Next = 23
-number_of_call Prev = 24
-number_of_call TableToList = 25
-number_of_call Insert = 26
-number_of_call InsertNew = 27
-number_of_call DeleteTable = 28
-number_of_call DeleteKey = 29
-number_of_call DeleteObject = 30
-number_of_call DeleteAllObjects = 31
-number_of_call Take = 32
-number_of_call UpdateCounter = 33
-number_of_call UpdateElement = 34
-number_of_call GiveAway = 35
-number_of_call SetOptions = 36
-number_of_call Info = 37
-
 -- all of the calls, each once
 abbrev pub calls : List CallKind
 calls = Spawn ∷ SpawnLink ∷ SpawnMonitor ∷ Bang ∷ Send ∷ Exit ∷ Link ∷ Unlink ∷ Monitor ∷ Demonitor ∷ DemonitorWith ∷ ProcessFlag ∷ Register ∷ Unregister ∷ Whereis ∷ IsProcessAlive ∷ MakeRef ∷ New ∷ Lookup ∷ Member ∷ LookupElement ∷ First ∷ Last ∷ Next ∷ Prev ∷ TableToList ∷ Insert ∷ InsertNew ∷ DeleteTable ∷ DeleteKey ∷ DeleteObject ∷ DeleteAllObjects ∷ Take ∷ UpdateCounter ∷ UpdateElement ∷ GiveAway ∷ SetOptions ∷ Info ∷ []
-
-abbrev pub call_of_number : ℕ → CallKind
-call_of_number n = get_or calls n Spawn
-
-pub call_of_number-number_of_call : (k : CallKind) → call_of_number (number_of_call k) ≡ k
-call_of_number-number_of_call Spawn = refl
-call_of_number-number_of_call SpawnLink = refl
-call_of_number-number_of_call SpawnMonitor = refl
-call_of_number-number_of_call Bang = refl
-call_of_number-number_of_call Send = refl
-call_of_number-number_of_call Exit = refl
-call_of_number-number_of_call Link = refl
-call_of_number-number_of_call Unlink = refl
-call_of_number-number_of_call Monitor = refl
-call_of_number-number_of_call Demonitor = refl
-call_of_number-number_of_call DemonitorWith = refl
-call_of_number-number_of_call ProcessFlag = refl
-call_of_number-number_of_call Register = refl
-call_of_number-number_of_call Unregister = refl
-call_of_number-number_of_call Whereis = refl
-call_of_number-number_of_call IsProcessAlive = refl
-call_of_number-number_of_call MakeRef = refl
-call_of_number-number_of_call New = refl
-call_of_number-number_of_call Lookup = refl
-call_of_number-number_of_call Member = refl
-call_of_number-number_of_call LookupElement = refl
-call_of_number-number_of_call First = refl
-call_of_number-number_of_call Last = refl
-call_of_number-number_of_call Next = refl
-call_of_number-number_of_call Prev = refl
-call_of_number-number_of_call TableToList = refl
-call_of_number-number_of_call Insert = refl
-call_of_number-number_of_call InsertNew = refl
-call_of_number-number_of_call DeleteTable = refl
-call_of_number-number_of_call DeleteKey = refl
-call_of_number-number_of_call DeleteObject = refl
-call_of_number-number_of_call DeleteAllObjects = refl
-call_of_number-number_of_call Take = refl
-call_of_number-number_of_call UpdateCounter = refl
-call_of_number-number_of_call UpdateElement = refl
-call_of_number-number_of_call GiveAway = refl
-call_of_number-number_of_call SetOptions = refl
-call_of_number-number_of_call Info = refl
-
-abbrev pub coded_call : Coded CallKind
-coded_call = code_by ℕ coded_ℕ number_of_call call_of_number call_of_number-number_of_call
 
 -- ---- calls by name
 

@@ -1,6 +1,9 @@
 -- Modules without where their parts stand in the text: each place is set to 0.
 use Rattle.std.specs.Prelude.{map}
-use Rattle.core_tree.specs.Syntax.{Mention, NamedAt, Callee, OfWorld, OfItself, OfExport, OfDefinition, FailsMatch, RaisesAgain, Pattern, Patterns, NumberIn, CharacterIn, TextIn, NameIn, VariableIn, GroupIn, ListIn, JoinIn, AliasIn, NoneToMatch, AlsoMatch, Tree, Trees, Clauses, Number, Character, Text, Name, Mentioned, Grouped, Listed, Joined, Several, Bound, Chosen, Followed, Called, Tried, Caught, NoMore, Also, NoClause, Clause, DefinitionTree, ModuleTree}
+use Rattle.core_tree.specs.Syntax.{Mention, NamedAt, Callee, Pattern, Patterns, Tree, Trees, Clauses, DefinitionTree, ModuleTree}
+use Rattle.core_tree.specs.Callee as callees
+use Rattle.core_tree.specs.Pattern as patterns
+use Rattle.core_tree.specs.Expression as trees
 
 -- a variable
 abbrev pub bare_mention : Mention → Mention
@@ -12,59 +15,59 @@ bare_named e = record { at = 0; function = e.function }
 
 -- what a call applies
 abbrev pub bare_callee : Callee → Callee
-bare_callee (OfWorld k) = OfWorld k
-bare_callee (OfItself k) = OfItself k
-bare_callee (OfExport f) = OfExport f
-bare_callee (OfDefinition n) = OfDefinition (bare_named n)
-bare_callee FailsMatch = FailsMatch
-bare_callee RaisesAgain = RaisesAgain
+bare_callee (callees.World k) = callees.World k
+bare_callee (callees.Pure k) = callees.Pure k
+bare_callee (callees.Exported f) = callees.Exported f
+bare_callee (callees.Defined n) = callees.Defined (bare_named n)
+bare_callee callees.MatchFail = callees.MatchFail
+bare_callee callees.Raise = callees.Raise
 
 abbrev mutual
   -- a pattern
   pub bare_pattern : Pattern → Pattern
-  bare_pattern (NumberIn n) = NumberIn n
-  bare_pattern (CharacterIn c) = CharacterIn c
-  bare_pattern (TextIn cs) = TextIn cs
-  bare_pattern (NameIn t) = NameIn t
-  bare_pattern (VariableIn v) = VariableIn (bare_mention v)
-  bare_pattern (GroupIn ps) = GroupIn (bare_patterns ps)
-  bare_pattern (ListIn ps) = ListIn (bare_patterns ps)
-  bare_pattern (JoinIn ps p) = JoinIn (bare_patterns ps) (bare_pattern p)
-  bare_pattern (AliasIn v p) = AliasIn (bare_mention v) (bare_pattern p)
+  bare_pattern (patterns.Integer n) = patterns.Integer n
+  bare_pattern (patterns.Character c) = patterns.Character c
+  bare_pattern (patterns.Text cs) = patterns.Text cs
+  bare_pattern (patterns.Atom t) = patterns.Atom t
+  bare_pattern (patterns.Variable v) = patterns.Variable (bare_mention v)
+  bare_pattern (patterns.Tuple ps) = patterns.Tuple (bare_patterns ps)
+  bare_pattern (patterns.List ps) = patterns.List (bare_patterns ps)
+  bare_pattern (patterns.Onto ps p) = patterns.Onto (bare_patterns ps) (bare_pattern p)
+  bare_pattern (patterns.Alias v p) = patterns.Alias (bare_mention v) (bare_pattern p)
 
   -- patterns in order
   pub bare_patterns : Patterns → Patterns
-  bare_patterns NoneToMatch = NoneToMatch
-  bare_patterns (AlsoMatch p ps) = AlsoMatch (bare_pattern p) (bare_patterns ps)
+  bare_patterns patterns.NoMore = patterns.NoMore
+  bare_patterns (patterns.Also p ps) = patterns.Also (bare_pattern p) (bare_patterns ps)
 
 abbrev mutual
   -- an expression
   pub bare_tree : Tree → Tree
-  bare_tree (Number n) = Number n
-  bare_tree (Character c) = Character c
-  bare_tree (Text cs) = Text cs
-  bare_tree (Name t) = Name t
-  bare_tree (Mentioned v) = Mentioned (bare_mention v)
-  bare_tree (Grouped ts) = Grouped (bare_trees ts)
-  bare_tree (Listed ts) = Listed (bare_trees ts)
-  bare_tree (Joined ts t) = Joined (bare_trees ts) (bare_tree t)
-  bare_tree (Several ts) = Several (bare_trees ts)
-  bare_tree (Bound vs t u) = Bound (map bare_mention vs) (bare_tree t) (bare_tree u)
-  bare_tree (Chosen at t cs) = Chosen 0 (bare_tree t) (bare_clauses cs)
-  bare_tree (Followed t u) = Followed (bare_tree t) (bare_tree u)
-  bare_tree (Called at c ts) = Called 0 (bare_callee c) (bare_trees ts)
-  bare_tree (Tried at t vs u ws h) = Tried 0 (bare_tree t) (map bare_mention vs) (bare_tree u) (map bare_mention ws) (bare_tree h)
-  bare_tree (Caught at t) = Caught 0 (bare_tree t)
+  bare_tree (trees.Integer n) = trees.Integer n
+  bare_tree (trees.Character c) = trees.Character c
+  bare_tree (trees.Text cs) = trees.Text cs
+  bare_tree (trees.Atom t) = trees.Atom t
+  bare_tree (trees.Variable v) = trees.Variable (bare_mention v)
+  bare_tree (trees.Tuple ts) = trees.Tuple (bare_trees ts)
+  bare_tree (trees.List ts) = trees.List (bare_trees ts)
+  bare_tree (trees.Onto ts t) = trees.Onto (bare_trees ts) (bare_tree t)
+  bare_tree (trees.Values ts) = trees.Values (bare_trees ts)
+  bare_tree (trees.Let vs t u) = trees.Let (map bare_mention vs) (bare_tree t) (bare_tree u)
+  bare_tree (trees.Case at t cs) = trees.Case 0 (bare_tree t) (bare_clauses cs)
+  bare_tree (trees.Do t u) = trees.Do (bare_tree t) (bare_tree u)
+  bare_tree (trees.Call at c ts) = trees.Call 0 (bare_callee c) (bare_trees ts)
+  bare_tree (trees.Try at t vs u ws h) = trees.Try 0 (bare_tree t) (map bare_mention vs) (bare_tree u) (map bare_mention ws) (bare_tree h)
+  bare_tree (trees.Catch at t) = trees.Catch 0 (bare_tree t)
 
   -- expressions in order
   pub bare_trees : Trees → Trees
-  bare_trees NoMore = NoMore
-  bare_trees (Also t ts) = Also (bare_tree t) (bare_trees ts)
+  bare_trees trees.NoMore = trees.NoMore
+  bare_trees (trees.Also t ts) = trees.Also (bare_tree t) (bare_trees ts)
 
   -- clauses in order
   pub bare_clauses : Clauses → Clauses
-  bare_clauses NoClause = NoClause
-  bare_clauses (Clause ps g b cs) = Clause (map bare_pattern ps) (bare_tree g) (bare_tree b) (bare_clauses cs)
+  bare_clauses trees.NoClause = trees.NoClause
+  bare_clauses (trees.Clause ps g b cs) = trees.Clause (map bare_pattern ps) (bare_tree g) (bare_tree b) (bare_clauses cs)
 
 -- a definition
 abbrev pub bare_definition : DefinitionTree → DefinitionTree

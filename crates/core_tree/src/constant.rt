@@ -32,8 +32,9 @@ pub struct Consts(pub Vec<Const>);
 impl Model for Consts {
     ghost use Rattle.std.specs.Prelude.{List, map};
     ghost use Rattle.std.specs.Coded.{coded_list};
-    ghost use Rattle.core_tree.specs.Syntax.{Constant, size_of_constant_list};
-    ghost use Rattle.core_tree.specs.SyntaxCodes.{coded_constant};
+    ghost use Rattle.core_tree.specs.Syntax.{Constant};
+    ghost use Rattle.core_tree.specs.inside.Sizes.{size_of_constant_list};
+    ghost use Rattle.core_tree.specs.inside.SyntaxCodes.{coded_constant};
 
     ghost Value = { List Constant };
 
@@ -46,7 +47,7 @@ impl Model for Consts {
     ghost size = { size_of_constant_list };
 
     ghost use Rattle.std.proofs.Common.{arith};
-    ghost use Rattle.core_tree.specs.Depth.{most_constant_le};
+    ghost use Rattle.core_tree.specs.inside.Depth.{most_constant_le};
 
     ghost size_decreases = { λ a h. Prim.omega (arith, most_constant_le a.0.items) };
 }
@@ -64,8 +65,9 @@ pub struct OntoConst {
 impl Model for OntoConst {
     ghost use Rattle.std.specs.Prelude.{List, ◌+◌};
     ghost use Rattle.std.specs.Coded.{coded×, coded_list};
-    ghost use Rattle.core_tree.specs.Syntax.{Constant, size_of_constant, size_of_constant_list};
-    ghost use Rattle.core_tree.specs.SyntaxCodes.{coded_constant};
+    ghost use Rattle.core_tree.specs.Syntax.{Constant};
+    ghost use Rattle.core_tree.specs.inside.Sizes.{size_of_constant, size_of_constant_list};
+    ghost use Rattle.core_tree.specs.inside.SyntaxCodes.{coded_constant};
 
     ghost Value = { List Constant × Constant };
 
@@ -78,7 +80,7 @@ impl Model for OntoConst {
     ghost size = { λ v. 1 + (size_of_constant_list v.0 + size_of_constant v.1) };
 
     ghost use Rattle.std.proofs.Common.{arith};
-    ghost use Rattle.core_tree.specs.Depth.{deep_constant_le};
+    ghost use Rattle.core_tree.specs.inside.Depth.{deep_constant_le};
 
     ghost size_decreases = { λ a h. Prim.omega (arith, deep_constant_le a.tail) };
 }

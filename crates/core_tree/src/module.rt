@@ -18,7 +18,7 @@ pub struct FunctionName {
 
 impl Model for FunctionName {
     ghost use Rattle.core_tree.specs.Syntax.{Function};
-    ghost use Rattle.core_tree.specs.SyntaxCodes.{coded_function};
+    ghost use Rattle.core_tree.specs.inside.SyntaxCodes.{coded_function};
 
     ghost Value = { Function };
 
@@ -76,7 +76,7 @@ pub struct NamedFunction {
 
 impl Model for NamedFunction {
     ghost use Rattle.core_tree.specs.Syntax.{NamedAt};
-    ghost use Rattle.core_tree.specs.SyntaxCodes.{coded_named};
+    ghost use Rattle.core_tree.specs.inside.SyntaxCodes.{coded_named};
 
     ghost Value = { NamedAt };
 
@@ -96,7 +96,7 @@ pub struct Attribute {
 
 impl Model for Attribute {
     ghost use Rattle.core_tree.specs.Syntax.{AttributeTree};
-    ghost use Rattle.core_tree.specs.SyntaxCodes.{coded_attribute};
+    ghost use Rattle.core_tree.specs.inside.SyntaxCodes.{coded_attribute};
     ghost use Rattle.core_tree.specs.Tree.{constant_of};
 
     ghost Value = { AttributeTree };
@@ -133,7 +133,7 @@ pub struct Module {
 impl Model for Module {
     ghost use Rattle.std.specs.Prelude.{map};
     ghost use Rattle.core_tree.specs.Syntax.{ModuleTree};
-    ghost use Rattle.core_tree.specs.SyntaxCodes.{coded_module};
+    ghost use Rattle.core_tree.specs.inside.SyntaxCodes.{coded_module};
     ghost use Rattle.core_tree.specs.Definitions.{definition_of};
 
     ghost Value = { ModuleTree };

@@ -36,8 +36,9 @@ pub struct Patterns(pub Vec<Pattern>);
 impl Model for Patterns {
     ghost use Rattle.std.specs.Prelude.{List, map};
     ghost use Rattle.std.specs.Coded.{coded_list};
-    ghost use Rattle.core_tree.specs.Syntax.{Pattern as Shape, size_of_pattern_list};
-    ghost use Rattle.core_tree.specs.SyntaxCodes.{coded_pattern};
+    ghost use Rattle.core_tree.specs.Syntax.{Pattern as Shape};
+    ghost use Rattle.core_tree.specs.inside.Sizes.{size_of_pattern_list};
+    ghost use Rattle.core_tree.specs.inside.SyntaxCodes.{coded_pattern};
 
     ghost Value = { List Shape };
 
@@ -50,7 +51,7 @@ impl Model for Patterns {
     ghost size = { size_of_pattern_list };
 
     ghost use Rattle.std.proofs.Common.{arith};
-    ghost use Rattle.core_tree.specs.Depth.{most_pattern_le};
+    ghost use Rattle.core_tree.specs.inside.Depth.{most_pattern_le};
 
     ghost size_decreases = { λ a h. Prim.omega (arith, most_pattern_le a.0.items) };
 }
@@ -69,8 +70,9 @@ pub struct OntoPattern {
 impl Model for OntoPattern {
     ghost use Rattle.std.specs.Prelude.{List, ◌+◌};
     ghost use Rattle.std.specs.Coded.{coded×, coded_list};
-    ghost use Rattle.core_tree.specs.Syntax.{Pattern as Shape, size_of_pattern, size_of_pattern_list};
-    ghost use Rattle.core_tree.specs.SyntaxCodes.{coded_pattern};
+    ghost use Rattle.core_tree.specs.Syntax.{Pattern as Shape};
+    ghost use Rattle.core_tree.specs.inside.Sizes.{size_of_pattern, size_of_pattern_list};
+    ghost use Rattle.core_tree.specs.inside.SyntaxCodes.{coded_pattern};
 
     ghost Value = { List Shape × Shape };
 
@@ -83,7 +85,7 @@ impl Model for OntoPattern {
     ghost size = { λ v. 1 + (size_of_pattern_list v.0 + size_of_pattern v.1) };
 
     ghost use Rattle.std.proofs.Common.{arith};
-    ghost use Rattle.core_tree.specs.Depth.{deep_pattern_le};
+    ghost use Rattle.core_tree.specs.inside.Depth.{deep_pattern_le};
 
     ghost size_decreases = { λ a h. Prim.omega (arith, deep_pattern_le a.tail) };
 }
@@ -101,8 +103,9 @@ pub struct Alias {
 impl Model for Alias {
     ghost use Rattle.std.specs.Prelude.{◌+◌};
     ghost use Rattle.std.specs.Coded.{coded×};
-    ghost use Rattle.core_tree.specs.Syntax.{Mention, Pattern as Shape, size_of_pattern};
-    ghost use Rattle.core_tree.specs.SyntaxCodes.{coded_mention, coded_pattern};
+    ghost use Rattle.core_tree.specs.Syntax.{Mention, Pattern as Shape};
+    ghost use Rattle.core_tree.specs.inside.Sizes.{size_of_pattern};
+    ghost use Rattle.core_tree.specs.inside.SyntaxCodes.{coded_mention, coded_pattern};
 
     ghost Value = { Mention × Shape };
 
@@ -115,7 +118,7 @@ impl Model for Alias {
     ghost size = { λ v. size_of_pattern v.1 };
 
     ghost use Rattle.std.proofs.Common.{arith};
-    ghost use Rattle.core_tree.specs.Depth.{deep_pattern_le};
+    ghost use Rattle.core_tree.specs.inside.Depth.{deep_pattern_le};
 
     ghost size_decreases = { λ a h. Prim.omega (arith, deep_pattern_le a.whole) };
 }

@@ -8,7 +8,7 @@ ghost use Rattle.core_tree.specs.Tree.{callee_of, pattern_of, tree_of, constant_
 ghost use Rattle.core_tree.specs.Definitions.{definition_of};
 ghost use Rattle.core_tree.specs.Sameness.{bare_module};
 ghost use Rattle.core_tree.specs.Alike.{same_mention, same_kind, same_pure, same_callee, same_pattern, same_patterns, same_tree, same_trees, same_clause, same_clauses, same_constant, same_constants, same_named, same_attribute, same_definition, same_module};
-ghost use Rattle.core_tree.specs.Alike.Laws.{mentions_equal, exports_equal, attributes_equal, trees_equal, modules_equal};
+ghost use Rattle.core_tree.specs.inside.AlikeLaws.{mentions_equal, exports_equal, attributes_equal, trees_equal, modules_equal};
 
 use crate::call::CallKind;
 use crate::constant::{Const, Consts, OntoConst};

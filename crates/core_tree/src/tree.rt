@@ -72,8 +72,9 @@ pub struct Exprs(pub Vec<Expr>);
 impl Model for Exprs {
     ghost use Rattle.std.specs.Prelude.{List, map};
     ghost use Rattle.std.specs.Coded.{coded_list};
-    ghost use Rattle.core_tree.specs.Syntax.{Tree, size_of_list};
-    ghost use Rattle.core_tree.specs.SyntaxCodes.{coded_tree};
+    ghost use Rattle.core_tree.specs.Syntax.{Tree};
+    ghost use Rattle.core_tree.specs.inside.Sizes.{size_of_list};
+    ghost use Rattle.core_tree.specs.inside.SyntaxCodes.{coded_tree};
 
     ghost Value = { List Tree };
 
@@ -86,7 +87,7 @@ impl Model for Exprs {
     ghost size = { size_of_list };
 
     ghost use Rattle.std.proofs.Common.{arith};
-    ghost use Rattle.core_tree.specs.Depth.{most_le};
+    ghost use Rattle.core_tree.specs.inside.Depth.{most_le};
 
     ghost size_decreases = { λ a h. Prim.omega (arith, most_le a.0.items) };
 }
@@ -104,8 +105,9 @@ pub struct Onto {
 impl Model for Onto {
     ghost use Rattle.std.specs.Prelude.{List, ◌+◌};
     ghost use Rattle.std.specs.Coded.{coded×, coded_list};
-    ghost use Rattle.core_tree.specs.Syntax.{Tree, size_of, size_of_list};
-    ghost use Rattle.core_tree.specs.SyntaxCodes.{coded_tree};
+    ghost use Rattle.core_tree.specs.Syntax.{Tree};
+    ghost use Rattle.core_tree.specs.inside.Sizes.{size_of, size_of_list};
+    ghost use Rattle.core_tree.specs.inside.SyntaxCodes.{coded_tree};
 
     ghost Value = { List Tree × Tree };
 
@@ -118,7 +120,7 @@ impl Model for Onto {
     ghost size = { λ v. 1 + (size_of_list v.0 + size_of v.1) };
 
     ghost use Rattle.std.proofs.Common.{arith};
-    ghost use Rattle.core_tree.specs.Depth.{deep_le};
+    ghost use Rattle.core_tree.specs.inside.Depth.{deep_le};
 
     ghost size_decreases = { λ a h. Prim.omega (arith, deep_le a.tail) };
 }
@@ -139,8 +141,9 @@ pub struct Let {
 impl Model for Let {
     ghost use Rattle.std.specs.Prelude.{List, ◌+◌, refl};
     ghost use Rattle.std.specs.Coded.{coded×, coded_list, code_by};
-    ghost use Rattle.core_tree.specs.Syntax.{Mention, Tree, size_of};
-    ghost use Rattle.core_tree.specs.SyntaxCodes.{coded_mention, coded_tree};
+    ghost use Rattle.core_tree.specs.Syntax.{Mention, Tree};
+    ghost use Rattle.core_tree.specs.inside.Sizes.{size_of};
+    ghost use Rattle.core_tree.specs.inside.SyntaxCodes.{coded_mention, coded_tree};
 
     ghost Value = { List Mention × Tree × Tree };
 
@@ -154,7 +157,7 @@ impl Model for Let {
     ghost size = { λ v. size_of v.1 + size_of v.2 };
 
     ghost use Rattle.std.proofs.Common.{arith};
-    ghost use Rattle.core_tree.specs.Depth.{deep_le};
+    ghost use Rattle.core_tree.specs.inside.Depth.{deep_le};
 
     ghost size_decreases = { λ a h. Prim.omega (arith, deep_le a.value, deep_le a.body) };
 }
@@ -172,8 +175,9 @@ pub struct Do {
 impl Model for Do {
     ghost use Rattle.std.specs.Prelude.{◌+◌};
     ghost use Rattle.std.specs.Coded.{coded×};
-    ghost use Rattle.core_tree.specs.Syntax.{Tree, size_of};
-    ghost use Rattle.core_tree.specs.SyntaxCodes.{coded_tree};
+    ghost use Rattle.core_tree.specs.Syntax.{Tree};
+    ghost use Rattle.core_tree.specs.inside.Sizes.{size_of};
+    ghost use Rattle.core_tree.specs.inside.SyntaxCodes.{coded_tree};
 
     ghost Value = { Tree × Tree };
 
@@ -186,7 +190,7 @@ impl Model for Do {
     ghost size = { λ v. size_of v.0 + size_of v.1 };
 
     ghost use Rattle.std.proofs.Common.{arith};
-    ghost use Rattle.core_tree.specs.Depth.{deep_le};
+    ghost use Rattle.core_tree.specs.inside.Depth.{deep_le};
 
     ghost size_decreases = { λ a h. Prim.omega (arith, deep_le a.first, deep_le a.second) };
 }
@@ -207,8 +211,9 @@ pub struct Call {
 impl Model for Call {
     ghost use Rattle.std.specs.Prelude.{ℕ, List, ◌+◌, refl};
     ghost use Rattle.std.specs.Coded.{coded×, coded_list, coded_ℕ, code_by};
-    ghost use Rattle.core_tree.specs.Syntax.{Callee as Target, Tree, size_of_list};
-    ghost use Rattle.core_tree.specs.SyntaxCodes.{coded_callee, coded_tree};
+    ghost use Rattle.core_tree.specs.Syntax.{Callee as Target, Tree};
+    ghost use Rattle.core_tree.specs.inside.Sizes.{size_of_list};
+    ghost use Rattle.core_tree.specs.inside.SyntaxCodes.{coded_callee, coded_tree};
 
     ghost Value = { ℕ × Target × List Tree };
 
@@ -241,8 +246,9 @@ pub struct Clause {
 
 impl Model for Clause {
     ghost use Rattle.std.specs.Prelude.{◌+◌};
-    ghost use Rattle.core_tree.specs.Syntax.{ClauseTree, size_of};
-    ghost use Rattle.core_tree.specs.SyntaxCodes.{coded_clause};
+    ghost use Rattle.core_tree.specs.Syntax.{ClauseTree};
+    ghost use Rattle.core_tree.specs.inside.Sizes.{size_of};
+    ghost use Rattle.core_tree.specs.inside.SyntaxCodes.{coded_clause};
 
     ghost Value = { ClauseTree };
 
@@ -255,7 +261,7 @@ impl Model for Clause {
     ghost size = { λ v. size_of v.guard + size_of v.body };
 
     ghost use Rattle.std.proofs.Common.{arith};
-    ghost use Rattle.core_tree.specs.Depth.{deep_le};
+    ghost use Rattle.core_tree.specs.inside.Depth.{deep_le};
 
     ghost size_decreases = { λ a h. Prim.omega (arith, deep_le a.guard, deep_le a.body) };
 }
@@ -268,8 +274,9 @@ pub struct Clauses(pub Vec<Clause>);
 impl Model for Clauses {
     ghost use Rattle.std.specs.Prelude.{List};
     ghost use Rattle.std.specs.Coded.{coded_list};
-    ghost use Rattle.core_tree.specs.Syntax.{ClauseTree, size_of_clause_list};
-    ghost use Rattle.core_tree.specs.SyntaxCodes.{coded_clause};
+    ghost use Rattle.core_tree.specs.Syntax.{ClauseTree};
+    ghost use Rattle.core_tree.specs.inside.Sizes.{size_of_clause_list};
+    ghost use Rattle.core_tree.specs.inside.SyntaxCodes.{coded_clause};
 
     ghost Value = { List ClauseTree };
 
@@ -280,7 +287,7 @@ impl Model for Clauses {
     ghost size = { size_of_clause_list };
 
     ghost use Rattle.std.proofs.Common.{arith};
-    ghost use Rattle.core_tree.specs.Depth.{most_clause_le};
+    ghost use Rattle.core_tree.specs.inside.Depth.{most_clause_le};
 
     ghost size_decreases = { λ a h. Prim.omega (arith, most_clause_le a.0.items) };
 }
@@ -301,8 +308,9 @@ pub struct Case {
 impl Model for Case {
     ghost use Rattle.std.specs.Prelude.{ℕ, List, ◌+◌, refl};
     ghost use Rattle.std.specs.Coded.{coded×, coded_list, coded_ℕ, code_by};
-    ghost use Rattle.core_tree.specs.Syntax.{ClauseTree, Tree, size_of, size_of_clause_list};
-    ghost use Rattle.core_tree.specs.SyntaxCodes.{coded_clause, coded_tree};
+    ghost use Rattle.core_tree.specs.Syntax.{ClauseTree, Tree};
+    ghost use Rattle.core_tree.specs.inside.Sizes.{size_of, size_of_clause_list};
+    ghost use Rattle.core_tree.specs.inside.SyntaxCodes.{coded_clause, coded_tree};
 
     ghost Value = { ℕ × Tree × List ClauseTree };
 
@@ -316,7 +324,7 @@ impl Model for Case {
     ghost size = { λ v. 1 + (size_of v.1 + size_of_clause_list v.2) };
 
     ghost use Rattle.std.proofs.Common.{arith};
-    ghost use Rattle.core_tree.specs.Depth.{deep_le};
+    ghost use Rattle.core_tree.specs.inside.Depth.{deep_le};
 
     ghost size_decreases = { λ a h. Prim.omega (arith, deep_le a.value) };
 }
@@ -344,8 +352,9 @@ pub struct Try {
 impl Model for Try {
     ghost use Rattle.std.specs.Prelude.{ℕ, List, ◌+◌, refl};
     ghost use Rattle.std.specs.Coded.{coded×, coded_list, coded_ℕ, code_by};
-    ghost use Rattle.core_tree.specs.Syntax.{Mention, Tree, size_of};
-    ghost use Rattle.core_tree.specs.SyntaxCodes.{coded_mention, coded_tree};
+    ghost use Rattle.core_tree.specs.Syntax.{Mention, Tree};
+    ghost use Rattle.core_tree.specs.inside.Sizes.{size_of};
+    ghost use Rattle.core_tree.specs.inside.SyntaxCodes.{coded_mention, coded_tree};
 
     ghost Value = { ℕ × Tree × List Mention × Tree × List Mention × Tree };
 
@@ -360,7 +369,7 @@ impl Model for Try {
     ghost size = { λ v. size_of v.1 + (size_of v.3 + size_of v.5) };
 
     ghost use Rattle.std.proofs.Common.{arith};
-    ghost use Rattle.core_tree.specs.Depth.{deep_le};
+    ghost use Rattle.core_tree.specs.inside.Depth.{deep_le};
 
     ghost size_decreases = { λ a h. Prim.omega (arith, deep_le a.value, deep_le a.body, deep_le a.handler) };
 }
@@ -379,8 +388,9 @@ pub struct Catch {
 impl Model for Catch {
     ghost use Rattle.std.specs.Prelude.{ℕ};
     ghost use Rattle.std.specs.Coded.{coded×, coded_ℕ};
-    ghost use Rattle.core_tree.specs.Syntax.{Tree, size_of};
-    ghost use Rattle.core_tree.specs.SyntaxCodes.{coded_tree};
+    ghost use Rattle.core_tree.specs.Syntax.{Tree};
+    ghost use Rattle.core_tree.specs.inside.Sizes.{size_of};
+    ghost use Rattle.core_tree.specs.inside.SyntaxCodes.{coded_tree};
 
     ghost Value = { ℕ × Tree };
 
@@ -393,7 +403,7 @@ impl Model for Catch {
     ghost size = { λ v. size_of v.1 };
 
     ghost use Rattle.std.proofs.Common.{arith};
-    ghost use Rattle.core_tree.specs.Depth.{deep_le};
+    ghost use Rattle.core_tree.specs.inside.Depth.{deep_le};
 
     ghost size_decreases = { λ a h. Prim.omega (arith, deep_le a.value) };
 }

@@ -12,7 +12,7 @@ pub struct Variable {
 
 impl Model for Variable {
     ghost use Rattle.core_tree.specs.Syntax.{Mention};
-    ghost use Rattle.core_tree.specs.SyntaxCodes.{coded_mention};
+    ghost use Rattle.core_tree.specs.inside.SyntaxCodes.{coded_mention};
 
     ghost Value = { Mention };
 

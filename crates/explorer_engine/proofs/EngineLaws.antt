@@ -3,7 +3,7 @@ use Rattle.std.proofs.Common.{◌≡◌, ◌⊎◌, ℕ, ◌<◌, ◌≤◌, Boo
 use Rattle.std.proofs.lemmas.Bool.{cases_order}
 use Rattle.std.specs.Prelude.{Result, Ok, Err}
 use Rattle.core_tree.specs.Syntax.{ModuleTree}
-use Rattle.core_reader.specs.Reader.{SpellsModule}
+use Rattle.core_reader.specs.ModuleText.{SpellsModule}
 use Rattle.core_reader.specs.Refusal.{IsTrueOf, IsRefusalOf}
 use Rattle.core_tokens.specs.declared.fault.ReadFault.{ReadFault}
 use Rattle.core_tokens.specs.declared.fault.ReadFault.TheVariants as read

@@ -6,7 +6,7 @@ use Rattle.std.proofs.lemmas.List.{at_drop_more, at_drop_all}
 use Rattle.core_tree.specs.Syntax.{ModuleTree}
 use Rattle.term_core.specs.Stream.{WritesAll}
 use Rattle.term_core.specs.declared.step.Step.{Step}
-use Rattle.term_core.proofs.Writing.{Owes, owes_all, owes_same, owes_less, owes_nothing, owes_break_in, appends_none}
+use Rattle.term_core.specs.inside.Writing.{Owes, owes_all, owes_same, owes_less, owes_nothing, owes_break_in, appends_none}
 use Rattle.world_core.specs.Events.{Happening, History}
 use Rattle.world_core.specs.Run.{next_event}
 use Rattle.explorer_engine.specs.EventText.{text_of_event, text_of_events}

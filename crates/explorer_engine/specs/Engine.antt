@@ -1,7 +1,7 @@
 -- What a run of the program comes to, by the bytes that it is given.
 use Rattle.std.specs.Prelude.{◌≡◌, ℕ, Bool, true, false, List, Option, Result, Ok, Err}
 use Rattle.core_tree.specs.Syntax.{ModuleTree}
-use Rattle.core_reader.specs.Reader.{SpellsModule}
+use Rattle.core_reader.specs.ModuleText.{SpellsModule}
 use Rattle.core_reader.specs.Refusal.{IsRefusalOf}
 use Rattle.term_core.specs.Schedule.{AreLawful, IsFirstBadStep}
 use Rattle.term_core.specs.Stream.{BreaksOff}

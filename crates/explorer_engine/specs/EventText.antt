@@ -6,7 +6,7 @@ use Rattle.term_core.specs.Text.{text_of_pid, text_of_step}
 use Rattle.term_core.specs.TermText.{text_of_term}
 use Rattle.core_tree.specs.declared.call.CallKind.{CallKind}
 use Rattle.core_tree.specs.Calls.{signature}
-use Rattle.world_core.specs.Events.{Deed, Serves, Refuses, Ends, RunsAway, TimesOut, Happening, History}
+use Rattle.world_core.specs.Events.{Deed, Served, Refused, Ended, RanAway, TimedOut, Happening, History}
 use Rattle.world_core.specs.declared.tables.rule.Rule.{Rule}
 use Rattle.world_core.specs.declared.tables.rule.Rule.TheVariants.{BadTable, NoTable, PrivateRead, PrivateWrite, ProtectedWrite, BadName, BadOption, NameTaken, NotObject, ShortObject}
 
@@ -77,11 +77,11 @@ text_of_end reason = codes "ends " ++ text_of_term reason
 
 -- what a step did
 abbrev pub text_of_deed : Deed → List ℕ
-text_of_deed (Serves kind arguments answer) = text_of_answer kind arguments answer
-text_of_deed (Refuses kind arguments rule owner) = text_of_refusal kind arguments rule owner
-text_of_deed (Ends reason) = text_of_end reason
-text_of_deed RunsAway = codes "runs away"
-text_of_deed TimesOut = codes "times out"
+text_of_deed (Served kind arguments answer) = text_of_answer kind arguments answer
+text_of_deed (Refused kind arguments rule owner) = text_of_refusal kind arguments rule owner
+text_of_deed (Ended reason) = text_of_end reason
+text_of_deed RanAway = codes "runs away"
+text_of_deed TimedOut = codes "times out"
 
 -- the line of the event of this number: the number, the step (of a turn its process), what it did, and the line's end
 abbrev pub text_of_event : ℕ → Happening → List ℕ

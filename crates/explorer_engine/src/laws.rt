@@ -1,7 +1,7 @@
 // What is so of the modules that a text says and of their runs. Each function here does nothing: its
 // contract is the law.
 ghost use Rattle.std.specs.Prelude.{◌≡◌, ℕ, List, Some, true};
-ghost use Rattle.core_reader.specs.Reader.{SpellsModule};
+ghost use Rattle.core_reader.specs.ModuleText.{SpellsModule};
 ghost use Rattle.core_tree.specs.Syntax.{ModuleTree};
 ghost use Rattle.term_core.specs.declared.step.Step.TheVariants.{Turn};
 ghost use Rattle.world_core.specs.Events.{Happening, History};

@@ -8,7 +8,7 @@ use Rattle.term_core.specs.Term.{meaning_of}
 use Rattle.term_core.specs.declared.term.Term.{Term}
 use Rattle.pure_calls.specs.Comparing.{are_equal}
 use Rattle.pure_calls.specs.Lists.{without_first}
-use Rattle.pure_calls.specs.Walks.{first_equal}
+use Rattle.pure_calls.specs.inside.Walks.{first_equal}
 
 -- what terms mean, from the end
 pub map_reverse : (ts : List Term) → map meaning_of (reverse ts) ≡ reverse (map meaning_of ts)

@@ -1,18 +1,18 @@
 -- What a call gives, or the exception that it raises (Erlang reference manual, "Errors and Error Handling").
 use Rattle.std.specs.Prelude.{ℕ, ℤ, pos, negsuc, ◌^◌, nat_lt, Bool, false, ◌==◌, List, Option, Some, None, codes, if◌then◌else◌}
 use Rattle.std.specs.Cmp.Lexicographic.{pointwise}
-use Rattle.term_core.specs.Meaning.{Meaning, Integer, Name}
+use Rattle.term_core.specs.Meaning.{Meaning, Int, Atom}
 use Rattle.pure_calls.specs.declared.outcome.Class.{Class}
 use Rattle.pure_calls.specs.declared.outcome.Class.TheVariants.{Error}
 
 -- a value, or an exception with its class and its reason
 pub data Answer : Type 0 where
-  Gives : (value : Meaning) → Answer
-  Fails : (class : Class) (reason : Meaning) → Answer
+  Value : (value : Meaning) → Answer
+  Raised : (class : Class) (reason : Meaning) → Answer
 
 -- an error with this atom as its reason
 abbrev pub error : List ℕ → Answer
-error reason = Fails Error (Name reason)
+error reason = Raised Error (Atom reason)
 
 -- the error of a wrong argument
 abbrev pub wrong_argument : Answer
@@ -20,7 +20,7 @@ wrong_argument = error (codes "badarg")
 
 -- a boolean is one of two atoms
 abbrev pub truth : Bool → Meaning
-truth b = if b then Name (codes "true") else Name (codes "false")
+truth b = if b then Atom (codes "true") else Atom (codes "false")
 
 -- whether an integer has 64 bits with its sign: from -2^63 to 2^63 - 1 (`negsuc n` is -(n + 1))
 abbrev pub has_64_bits : ℤ → Bool
@@ -29,14 +29,14 @@ has_64_bits (negsuc n) = nat_lt n (2 ^ 63)
 
 -- an integer as a value, or an error where it is out of range
 abbrev pub whole : ℤ → Answer
-whole z = if has_64_bits z then Gives (Integer z) else error (codes "system_limit")
+whole z = if has_64_bits z then Value (Int z) else error (codes "system_limit")
 
 -- the integer that a term is
 abbrev pub integer_in : Meaning → Option ℤ
-integer_in (Integer n) = Some n
+integer_in (Int n) = Some n
 integer_in m = None
 
 -- whether a term is the atom of this text
 abbrev pub is_name : List ℕ → Meaning → Bool
-is_name text (Name t) = pointwise ◌==◌ t text
+is_name text (Atom t) = pointwise ◌==◌ t text
 is_name text m = false

@@ -2,8 +2,8 @@
 use Rattle.std.specs.Prelude.{ℤ, pos, ◌+ℤ◌, ◌-ℤ◌, ◌*ℤ◌, neg_ℤ, unsigned_abs, int_div, int_rem, Option, Some, None, codes, if◌then◌else◌}
 use Rattle.std.specs.Int.{w64, int_bit_and, int_bit_or, int_bit_xor, int_bit_not}
 use Rattle.std.specs.Ordering.{int_eq}
-use Rattle.term_core.specs.Meaning.{Meaning, Integer}
-use Rattle.pure_calls.specs.Answers.{Answer, Gives, error, whole, wrong_argument, integer_in}
+use Rattle.term_core.specs.Meaning.{Meaning, Int}
+use Rattle.pure_calls.specs.Answers.{Answer, Value, error, whole, wrong_argument, integer_in}
 
 -- the error of a term that there is no counting with
 abbrev pub wrong_number : Answer
@@ -33,7 +33,7 @@ product m n = with_integers (λ a b. whole (a *ℤ b)) (integer_in m) (integer_i
 
 -- `+/1`
 abbrev pub kept : Meaning → Answer
-kept m = with_integer (λ a. Gives (Integer a)) wrong_number (integer_in m)
+kept m = with_integer (λ a. Value (Int a)) wrong_number (integer_in m)
 
 -- `-/1`
 abbrev pub negative : Meaning → Answer
@@ -49,7 +49,7 @@ quotient m n = with_integers divided (integer_in m) (integer_in n)
 
 -- the remainder of that division, with the sign of the dividend; it is never further from 0 than the dividend
 abbrev pub left_over : ℤ → ℤ → Answer
-left_over a b = if int_eq b (pos 0) then wrong_number else Gives (Integer (int_rem a b))
+left_over a b = if int_eq b (pos 0) then wrong_number else Value (Int (int_rem a b))
 
 -- `rem/2`
 abbrev pub remainder : Meaning → Meaning → Answer
@@ -61,16 +61,16 @@ absolute m = with_integer (λ a. whole (pos (unsigned_abs a))) wrong_argument (i
 
 -- `band/2`: bits are those of two's complement
 abbrev pub bits_of_both : Meaning → Meaning → Answer
-bits_of_both m n = with_integers (λ a b. Gives (Integer (int_bit_and w64 a b))) (integer_in m) (integer_in n)
+bits_of_both m n = with_integers (λ a b. Value (Int (int_bit_and w64 a b))) (integer_in m) (integer_in n)
 
 -- `bor/2`
 abbrev pub bits_of_one : Meaning → Meaning → Answer
-bits_of_one m n = with_integers (λ a b. Gives (Integer (int_bit_or w64 a b))) (integer_in m) (integer_in n)
+bits_of_one m n = with_integers (λ a b. Value (Int (int_bit_or w64 a b))) (integer_in m) (integer_in n)
 
 -- `bxor/2`
 abbrev pub bits_of_only_one : Meaning → Meaning → Answer
-bits_of_only_one m n = with_integers (λ a b. Gives (Integer (int_bit_xor w64 a b))) (integer_in m) (integer_in n)
+bits_of_only_one m n = with_integers (λ a b. Value (Int (int_bit_xor w64 a b))) (integer_in m) (integer_in n)
 
 -- `bnot/1`
 abbrev pub inverted_bits : Meaning → Answer
-inverted_bits m = with_integer (λ a. Gives (Integer (int_bit_not w64 a))) wrong_number (integer_in m)
+inverted_bits m = with_integer (λ a. Value (Int (int_bit_not w64 a))) wrong_number (integer_in m)

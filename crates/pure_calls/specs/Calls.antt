@@ -2,8 +2,8 @@
 use Rattle.std.specs.Prelude.{ℕ, Bool, List, [], ◌∷◌, false}
 use Rattle.core_tree.specs.declared.pure.PureCall.{PureCall}
 use Rattle.core_tree.specs.declared.pure.PureCall.TheVariants as calls
-use Rattle.term_core.specs.Meaning.{Meaning, Process}
-use Rattle.pure_calls.specs.Answers.{Answer, Gives, truth}
+use Rattle.term_core.specs.Meaning.{Meaning, Pid}
+use Rattle.pure_calls.specs.Answers.{Answer, Value, truth}
 use Rattle.pure_calls.specs.Arithmetic.{absolute, bits_of_both, bits_of_one, bits_of_only_one, difference, inverted_bits, kept, negative, product, quotient, remainder, sum}
 use Rattle.pure_calls.specs.Comparing.{are_different, are_equal, conjunction, disjunction, exclusion, is_at_least, is_at_most, is_greater, is_less, negation}
 use Rattle.pure_calls.specs.Kinds.{is_atom, is_boolean, is_integer, is_list, is_pid, is_reference, is_tuple, record_test}
@@ -13,11 +13,11 @@ use Rattle.pure_calls.specs.Raising.{error_with, exit_with, throw_of, undefined}
 
 -- a boolean as a value
 abbrev pub told : Bool → Answer
-told b = Gives (truth b)
+told b = Value (truth b)
 
 -- calls without arguments, of the process with this pid
 abbrev pub answer_to_none : List ℕ → PureCall → Answer
-answer_to_none own calls.OwnPid = Gives (Process own)
+answer_to_none own calls.OwnPid = Value (Pid own)
 answer_to_none own call = undefined
 
 -- calls of one argument

@@ -4,7 +4,7 @@ use Rattle.std.specs.Bool.{beq}
 use Rattle.std.specs.Ordering.{is_eq, is_ne, is_lt, is_le, is_gt, is_ge}
 use Rattle.term_core.specs.Meaning.{Meaning}
 use Rattle.term_core.specs.Order.{order_of_terms}
-use Rattle.pure_calls.specs.Answers.{Answer, Gives, truth, is_name, wrong_argument}
+use Rattle.pure_calls.specs.Answers.{Answer, Value, truth, is_name, wrong_argument}
 
 -- `==/2` and `=:=/2`: there are no floats, so that terms are equal where they are the same
 abbrev pub are_equal : Meaning → Meaning → Bool
@@ -40,12 +40,12 @@ boolean_in m =
 
 -- what is done with two booleans, if both terms are booleans
 abbrev pub with_booleans : (Bool → Bool → Bool) → Option Bool → Option Bool → Answer
-with_booleans f (Some a) (Some b) = Gives (truth (f a b))
+with_booleans f (Some a) (Some b) = Value (truth (f a b))
 with_booleans f a b = wrong_argument
 
 -- the same with one
 abbrev pub with_boolean : (Bool → Bool) → Option Bool → Answer
-with_boolean f (Some a) = Gives (truth (f a))
+with_boolean f (Some a) = Value (truth (f a))
 with_boolean f None = wrong_argument
 
 -- `and/2`

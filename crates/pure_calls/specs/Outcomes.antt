@@ -1,17 +1,18 @@
 -- What the answers of the code mean.
 use Rattle.std.specs.Prelude.{ℕ, ℤ, Bool, List, codes, Result, Ok, Err}
-use Rattle.term_core.specs.Meaning.{Integer}
+use Rattle.term_core.specs.Meaning.{Int}
 use Rattle.term_core.specs.Term.{meaning_of}
 use Rattle.pure_calls.specs.declared.outcome.Outcome.{Outcome}
 use Rattle.pure_calls.specs.declared.outcome.Outcome.TheVariants.{Value, Raised}
 use Rattle.pure_calls.specs.declared.outcome.Refusal.{Refusal}
 use Rattle.pure_calls.specs.declared.outcome.Refusal.TheVariants.{BadArgument, BadArithmetic, FunctionClause, SystemLimit, Undefined}
-use Rattle.pure_calls.specs.Answers.{Answer, Gives, Fails, error, truth}
+use Rattle.pure_calls.specs.Answers.{Answer, error, truth}
+use Rattle.pure_calls.specs.Answers as given
 
 -- an outcome without where its term lies in memory
 abbrev pub outcome_of : Outcome → Answer
-outcome_of (Value term) = Gives (meaning_of term)
-outcome_of (Raised class reason) = Fails class (meaning_of reason)
+outcome_of (Value term) = given.Value (meaning_of term)
+outcome_of (Raised class reason) = given.Raised class (meaning_of reason)
 
 -- the text of the reason of a refusal
 abbrev pub refusal_name : Refusal → List ℕ
@@ -27,10 +28,10 @@ refused refusal = error (refusal_name refusal)
 
 -- an integer, or a refusal
 abbrev pub integer_or_refusal : Result ℤ Refusal → Answer
-integer_or_refusal (Ok n) = Gives (Integer n)
+integer_or_refusal (Ok n) = given.Value (Int n)
 integer_or_refusal (Err refusal) = refused refusal
 
 -- a boolean, or a refusal
 abbrev pub truth_or_refusal : Result Bool Refusal → Answer
-truth_or_refusal (Ok b) = Gives (truth b)
+truth_or_refusal (Ok b) = given.Value (truth b)
 truth_or_refusal (Err refusal) = refused refusal

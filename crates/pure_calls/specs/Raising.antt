@@ -2,19 +2,19 @@
 use Rattle.std.specs.Prelude.{codes}
 use Rattle.term_core.specs.Meaning.{Meaning}
 use Rattle.pure_calls.specs.declared.outcome.Class.TheVariants as classes
-use Rattle.pure_calls.specs.Answers.{Answer, Fails, error}
+use Rattle.pure_calls.specs.Answers.{Answer, Raised, error}
 
 -- `error/1`, and `error/2`, whose second argument tells of the arguments of the caller and is not kept
 abbrev pub error_with : Meaning → Answer
-error_with reason = Fails classes.Error reason
+error_with reason = Raised classes.Error reason
 
 -- `exit/1`
 abbrev pub exit_with : Meaning → Answer
-exit_with reason = Fails classes.Exit reason
+exit_with reason = Raised classes.Exit reason
 
 -- `throw/1`
 abbrev pub throw_of : Meaning → Answer
-throw_of term = Fails classes.Throw term
+throw_of term = Raised classes.Throw term
 
 -- what there is no function for: `get_module_info/1`, `get_module_info/2`, and a call with another number of arguments than it has
 abbrev pub undefined : Answer

@@ -1,12 +1,12 @@
 -- Tuples (Erlang reference manual, module erlang, `element/2`, `setelement/3`, `tuple_size/1`, `tuple_to_list/1`). Places count from 1.
 use Rattle.std.specs.Prelude.{ℕ, suc, ℤ, pos, nat_lt, slice_get, slice_set, List, length, Option, Some, None, if◌then◌else◌}
-use Rattle.term_core.specs.Meaning.{Meaning, Group, Empty, group_of, parts_of}
+use Rattle.term_core.specs.Meaning.{Meaning, Tuple, Nil, meanings_of, parts_of}
 use Rattle.term_core.specs.Term.{list_onto}
-use Rattle.pure_calls.specs.Answers.{Answer, Gives, integer_in, whole, wrong_argument}
+use Rattle.pure_calls.specs.Answers.{Answer, Value, integer_in, whole, wrong_argument}
 
 -- the parts of the tuple that a term is
 abbrev pub tuple_in : Meaning → Option (List Meaning)
-tuple_in (Group parts) = Some (parts_of parts)
+tuple_in (Tuple parts) = Some (parts_of parts)
 tuple_in m = None
 
 -- what is done with the parts of a tuple, if the term is one
@@ -21,7 +21,7 @@ before_place index size = None
 
 -- a part, if there is one
 abbrev pub part_or_error : Option Meaning → Answer
-part_or_error (Some part) = Gives part
+part_or_error (Some part) = Value part
 part_or_error None = wrong_argument
 
 -- the part behind so many, if there are so many
@@ -35,7 +35,7 @@ element index m = with_tuple (λ parts. part_behind (before_place (integer_in in
 
 -- the tuple with another part behind so many, if there are so many
 abbrev pub replaced_behind : Option ℕ → List Meaning → Meaning → Answer
-replaced_behind (Some n) parts value = Gives (Group (group_of (slice_set parts n value)))
+replaced_behind (Some n) parts value = Value (Tuple (meanings_of (slice_set parts n value)))
 replaced_behind None parts value = wrong_argument
 
 -- `setelement/3`
@@ -48,4 +48,4 @@ size_of_tuple m = with_tuple (λ parts. whole (pos (length parts))) (tuple_in m)
 
 -- `tuple_to_list/1`
 abbrev pub list_of_tuple : Meaning → Answer
-list_of_tuple m = with_tuple (λ parts. Gives (list_onto parts Empty)) (tuple_in m)
+list_of_tuple m = with_tuple (λ parts. Value (list_onto parts Nil)) (tuple_in m)

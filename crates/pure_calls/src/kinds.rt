@@ -1,6 +1,6 @@
 // The kinds of terms (Erlang reference manual, module erlang, `is_integer/1` and its neighbours).
 ghost use Rattle.std.specs.Prelude.{◌≡◌, ◌∷◌, option_map};
-ghost use Rattle.term_core.specs.Meaning.{Group, group_of};
+ghost use Rattle.term_core.specs.Meaning.{Tuple, meanings_of};
 ghost use Rattle.term_core.specs.Term.{meaning_of};
 ghost use Rattle.pure_calls.specs.Kinds.{begin_with, is_atom, is_boolean, is_integer, is_list, is_pid, is_record_of, is_reference, is_tuple, record_test};
 ghost use Rattle.pure_calls.specs.Outcomes.{truth_or_refusal};
@@ -63,7 +63,7 @@ pub(crate) fn is_reference(term: &Term) -> bool
 
 /// Whether these parts begin with a term.
 fn begin_with(tag: &Term, parts: &Terms) -> bool
-    ensures { result ≡ begin_with (meaning_of tag.now) (group_of parts.now) }
+    ensures { result ≡ begin_with (meaning_of tag.now) (meanings_of parts.now) }
 {
     match parts.as_slice().first() {
         Some(first) => are_equal(first, tag),

@@ -4,7 +4,7 @@ ghost use Rattle.std.specs.Prelude.{◌≡◌, ◌^◌, ◌-◌, min, IfOk, map,
 ghost use Rattle.term_core.specs.Term.{meaning_of};
 ghost use Rattle.pure_calls.specs.Outcomes.{integer_or_refusal, outcome_of, truth_or_refusal};
 ghost use Rattle.pure_calls.specs.Lists.{appended, head_of, heads_of, is_proper, length_of, membership, one_equals, reversed, subtracted, tail_of, tuple_of_list, without_each, without_first};
-ghost use Rattle.pure_calls.specs.Walks.{cell_in, first_equal};
+ghost use Rattle.pure_calls.specs.inside.Walks.{cell_in, first_equal};
 
 use crate::arithmetic::count;
 use crate::compare::are_equal;

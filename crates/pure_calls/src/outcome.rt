@@ -1,6 +1,6 @@
 // What a call gives, and why it is refused.
 ghost use Rattle.std.specs.Prelude.{◌≡◌, IfOk};
-ghost use Rattle.term_core.specs.Meaning.{Name};
+ghost use Rattle.term_core.specs.Meaning.{Atom};
 ghost use Rattle.term_core.specs.Term.{meaning_of};
 ghost use Rattle.pure_calls.specs.Outcomes.{integer_or_refusal, outcome_of, refusal_name, refused, truth_or_refusal};
 ghost use Rattle.pure_calls.specs.Answers.{truth};
@@ -40,7 +40,7 @@ pub(crate) enum Refusal {
 
 /// The atom of this text.
 pub(crate) fn atom(alloc: Global, text: &str) -> Result<Term, AllocError>
-    ensures { IfOk result (λ atom. meaning_of atom ≡ Name text.now) }
+    ensures { IfOk result (λ atom. meaning_of atom ≡ Atom text.now) }
 {
     Ok(Term::Atom(Atom(String::from_str(alloc, text)?)))
 }

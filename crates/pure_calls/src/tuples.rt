@@ -1,6 +1,6 @@
 // Tuples (Erlang reference manual, module erlang, `element/2` and its neighbours).
 ghost use Rattle.std.specs.Prelude.{◌≡◌, ◌<◌, IfOk, length, map, option_map, slice_set, vec_len};
-ghost use Rattle.term_core.specs.Meaning.{Group, group_of};
+ghost use Rattle.term_core.specs.Meaning.{Tuple, meanings_of};
 ghost use Rattle.term_core.specs.Term.{meaning_of};
 ghost use Rattle.pure_calls.specs.Outcomes.{integer_or_refusal, outcome_of};
 ghost use Rattle.pure_calls.specs.Answers.{integer_in, whole};
@@ -79,7 +79,7 @@ fn replace(terms: &mut Vec<Term>, place: usize, term: Term)
 #[tactic(auto, using(crate::proofs::ListSteps::map_replaced))]
 fn tuple_with(alloc: Global, parts: &[Term], place: usize, value: &Term) -> Result<Term, AllocError>
     requires { place < length parts.now }
-    ensures { IfOk result (λ term. meaning_of term ≡ Group (group_of (slice_set (map meaning_of parts.now) place (meaning_of value.now)))) }
+    ensures { IfOk result (λ term. meaning_of term ≡ Tuple (meanings_of (slice_set (map meaning_of parts.now) place (meaning_of value.now)))) }
 {
     let mut replaced = copies(alloc, parts)?;
     replace(&mut replaced, place, value.copy(alloc)?);

@@ -6,9 +6,9 @@ use Rattle.std.specs.Ordering.{is_eq, eq_by_cmp}
 use Rattle.std.specs.Cmp.{IsTotalOrder, Equal-is, tied_itself}
 use Rattle.term_core.specs.Meaning.{Meaning}
 use Rattle.term_core.specs.Order.{order_of_terms, order_of_pairs, order_of_items}
-use Rattle.term_core.specs.Order.Laws.{terms_total, pairs_total, items_total, same_term, same_pair, same_items}
+use Rattle.term_core.specs.inside.OrderLaws.{terms_total, pairs_total, items_total, same_term, same_pair, same_items}
 use Rattle.term_core.specs.StepOrder.{order_of_reference_ids, order_of_steps}
-use Rattle.term_core.specs.StepOrder.Laws.{reference_ids_total, same_reference_id, steps_total, same_step}
+use Rattle.term_core.specs.inside.StepOrderLaws.{reference_ids_total, same_reference_id, steps_total, same_step}
 use Rattle.term_core.specs.declared.pid.RefId.{RefId}
 use Rattle.term_core.specs.declared.step.Step.{Step}
 

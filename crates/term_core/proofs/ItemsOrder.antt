@@ -6,10 +6,11 @@ use Rattle.std.specs.declared.cmp.Ordering.TheVariants.{Less, Equal, Greater}
 use Rattle.std.specs.Ordering.{ordering_then, nat_cmp, is_ne}
 use Rattle.std.specs.Cmp.{nat_cmp_total, tied_itself}
 use Rattle.std.specs.Cmp.Lexicographic.{slice_cmp}
-use Rattle.term_core.specs.Meaning.{Meaning, Group, group_of}
+use Rattle.term_core.specs.Meaning.{Meaning, meanings_of}
+use Rattle.term_core.specs.Meaning as terms
 use Rattle.term_core.specs.Term.{meaning_of}
 use Rattle.term_core.specs.Order.{order_of_terms, order_of_items}
-use Rattle.term_core.specs.Order.Laws.{order_of_terms-Group}
+use Rattle.term_core.specs.inside.OrderLaws.{order_of_terms-Tuple}
 use Rattle.term_core.specs.declared.term.Term.{Term}
 use Rattle.term_core.specs.declared.term.Term.TheVariants.{Tuple}
 
@@ -68,7 +69,7 @@ module _ (xs ys : List Term) (vs ws : List Meaning) (i : ℕ) (x y : Term) (r : 
 -- two tuples, from what their parts say
 pub tuples : (a b left right : Term) (ps qs : Arc (List Meaning) Global) (xs ys : List Meaning) (r : Ordering) → left ≡ Tuple ps → right ≡ Tuple qs → xs ≡ ps.value → ys ≡ qs.value → order_of_terms (meaning_of left) (meaning_of right) ≡ order_of_terms (meaning_of a) (meaning_of b) → r ≡ ordering_then (nat_cmp (length xs) (length ys)) (order_of_items xs ys) → r ≡ order_of_terms (meaning_of a) (meaning_of b)
 tuples a b left right ps qs xs ys r p q f g e is =
-    is ∙ sym (order_of_terms-Group xs ys) ∙ (λ i. order_of_terms (Group (group_of (f i))) (Group (group_of (g i)))) ∙ (λ i. order_of_terms (meaning_of (sym p i)) (meaning_of (sym q i))) ∙ e
+    is ∙ sym (order_of_terms-Tuple xs ys) ∙ (λ i. order_of_terms (terms.Tuple (meanings_of (f i))) (terms.Tuple (meanings_of (g i)))) ∙ (λ i. order_of_terms (meaning_of (sym p i)) (meaning_of (sym q i))) ∙ e
 
 -- two lists of terms, item by item
 pub order_of_items-map : (xs ys : List Term) → slice_cmp (λ x y. order_of_terms (meaning_of x) (meaning_of y)) xs ys ≡ order_of_items (map meaning_of xs) (map meaning_of ys)

@@ -1,4 +1,3 @@
-pub mod Writing
 pub mod Building
 pub mod Texts
 pub mod Pieces

@@ -5,7 +5,8 @@ use Rattle.std.proofs.lemmas.Bool.{false≢true}
 use Rattle.std.specs.List.{flat_map}
 use Rattle.std.proofs.lemmas.List.{at_drop_more}
 use Rattle.term_core.specs.Text.{text_of_step, text_of_schedule, behind_blank}
-use Rattle.term_core.specs.Meaning.{Meaning, Meanings, NoMore, Also, Cell, group_of, node_count, sum_of_nodes}
+use Rattle.term_core.specs.Meaning.{Meaning, Meanings, NoMore, Also, meanings_of, node_count, sum_of_nodes}
+use Rattle.term_core.specs.Meaning as terms
 use Rattle.term_core.specs.Term.{meaning_of}
 use Rattle.term_core.specs.TermText.{text_of_term, text_of_tail, text_of_others, text_of_tuple, text_of_end}
 use Rattle.term_core.specs.declared.step.Step.{Step}
@@ -27,11 +28,11 @@ marked-comma NoMore = refl
 marked-comma (Also m ms) = refl
 
 -- a part behind its mark, and the parts behind it
-pub marked-cons : (mark : ℕ) (first : Meaning) (others : List Meaning) → marked mark (group_of (first ∷ others)) ≡ (mark ∷ text_of_term first) ++ marked 44 (group_of others)
-marked-cons mark first others = ap (λ w. mark ∷ (text_of_term first ++ w)) (sym (marked-comma (group_of others)))
+pub marked-cons : (mark : ℕ) (first : Meaning) (others : List Meaning) → marked mark (meanings_of (first ∷ others)) ≡ (mark ∷ text_of_term first) ++ marked 44 (meanings_of others)
+marked-cons mark first others = ap (λ w. mark ∷ (text_of_term first ++ w)) (sym (marked-comma (meanings_of others)))
 
 -- a tuple that has parts
-pub tuple_opens : (ms : List Meaning) → (ms ≡ [] → ⊥) → text_of_tuple (group_of ms) ≡ marked 123 (group_of ms)
+pub tuple_opens : (ms : List Meaning) → (ms ≡ [] → ⊥) → text_of_tuple (meanings_of ms) ≡ marked 123 (meanings_of ms)
 tuple_opens [] ne = absurd (ne refl)
 tuple_opens (m ∷ ms) ne = refl
 
@@ -40,7 +41,7 @@ pub list_opens : (p q : Meaning × Meaning) → q ≡ p → 91 ∷ (text_of_term
 list_opens p q e = sym (ap (λ (r : Meaning × Meaning). 91 ∷ (text_of_term r.0 ++ text_of_tail r.1)) e)
 
 -- a cell's tail as its head behind a comma, and the tail
-pub tail_goes_on : (m : Meaning) (p : Meaning × Meaning) → m ≡ Cell p.0 p.1 → text_of_tail m ≡ (44 ∷ text_of_term p.0) ++ text_of_tail p.1
+pub tail_goes_on : (m : Meaning) (p : Meaning × Meaning) → m ≡ terms.Cons p.0 p.1 → text_of_tail m ≡ (44 ∷ text_of_term p.0) ++ text_of_tail p.1
 tail_goes_on m p e = ap text_of_tail e
 
 -- a last tail that is not nil stands behind a bar
@@ -54,9 +55,9 @@ end_behind_bar Nil ne = absurd (ne refl)
 end_behind_bar (Cons p) ne = refl
 
 -- the parts that are left, as the first behind its mark and the others
-pub marked-drop : (mark i : ℕ) (items : List Term) (item : Term) → i < length items → item ≡ get_or items i item → marked mark (group_of (map meaning_of (drop i items))) ≡ (mark ∷ text_of_term (meaning_of item)) ++ marked 44 (group_of (map meaning_of (drop (i + 1) items)))
+pub marked-drop : (mark i : ℕ) (items : List Term) (item : Term) → i < length items → item ≡ get_or items i item → marked mark (meanings_of (map meaning_of (drop i items))) ≡ (mark ∷ text_of_term (meaning_of item)) ++ marked 44 (meanings_of (map meaning_of (drop (i + 1) items)))
 marked-drop mark i items item h e =
-    at_drop_more (λ ts. marked mark (group_of (map meaning_of ts))) items i item h ∙ ap (λ t. marked mark (group_of (map meaning_of (t ∷ drop (i + 1) items)))) (sym e) ∙ marked-cons mark (meaning_of item) (map meaning_of (drop (i + 1) items))
+    at_drop_more (λ ts. marked mark (meanings_of (map meaning_of ts))) items i item h ∙ ap (λ t. marked mark (meanings_of (map meaning_of (t ∷ drop (i + 1) items)))) (sym e) ∙ marked-cons mark (meaning_of item) (map meaning_of (drop (i + 1) items))
 
 -- a part has no more nodes than all together
 pub part_smaller : (ts : List Term) (i : ℕ) (d : Term) → i < length ts → node_count (meaning_of (get_or ts i d)) ≤ sum_of_nodes (map meaning_of ts)

@@ -1,10 +1,9 @@
 -- What hashing a term feeds a hasher: the kind, and then the parts. A text ends with a byte that no UTF-8 has, and the numbers of a pid and the parts of a tuple follow their count.
-pub mod Laws
 use Rattle.std.specs.Prelude.{ℕ, List, [], ◌++◌, length}
 use Rattle.std.specs.Hash as fed
 use Rattle.std.specs.Hash.{HashWrites}
 use Rattle.std.specs.List.{flat_map}
-use Rattle.term_core.specs.Meaning.{Meaning, Meanings, Integer, Name, Reference, Process, Group, Empty, Cell, NoMore, Also, parts_of}
+use Rattle.term_core.specs.Meaning.{Meaning, Meanings, Int, Atom, Ref, Pid, Tuple, Nil, Cons, NoMore, Also, parts_of}
 use Rattle.term_core.specs.declared.pid.RefId.{RefId}
 use Rattle.term_core.specs.declared.step.Step.{Step}
 use Rattle.term_core.specs.declared.step.Step.TheVariants.{Turn, Deliver}
@@ -20,13 +19,13 @@ writes_of_reference p n = writes_of_pid p ++ fed.u64 n
 abbrev mutual
   -- a term: the rank of its kind, and its parts
   pub writes_of_term : Meaning → HashWrites
-  writes_of_term (Integer n) = fed.u8 0 ++ fed.i64 n
-  writes_of_term (Name t) = fed.u8 1 ++ fed.str t
-  writes_of_term (Reference p n) = fed.u8 2 ++ writes_of_reference p n
-  writes_of_term (Process p) = fed.u8 3 ++ writes_of_pid p
-  writes_of_term (Group ms) = fed.u8 4 ++ (fed.usize (length (parts_of ms)) ++ writes_of_parts ms)
-  writes_of_term Empty = fed.u8 5
-  writes_of_term (Cell a b) = fed.u8 6 ++ (writes_of_term a ++ writes_of_term b)
+  writes_of_term (Int n) = fed.u8 0 ++ fed.i64 n
+  writes_of_term (Atom t) = fed.u8 1 ++ fed.str t
+  writes_of_term (Ref p n) = fed.u8 2 ++ writes_of_reference p n
+  writes_of_term (Pid p) = fed.u8 3 ++ writes_of_pid p
+  writes_of_term (Tuple ms) = fed.u8 4 ++ (fed.usize (length (parts_of ms)) ++ writes_of_parts ms)
+  writes_of_term Nil = fed.u8 5
+  writes_of_term (Cons a b) = fed.u8 6 ++ (writes_of_term a ++ writes_of_term b)
 
   -- the parts of a tuple, one after another
   pub writes_of_parts : Meanings → HashWrites

@@ -1,6 +1,5 @@
 pub mod Meaning
 pub mod Term
-pub mod Depth
 pub mod Order
 pub mod StepOrder
 pub mod HashInput
@@ -8,3 +7,4 @@ pub mod Stream
 pub mod Text
 pub mod TermText
 pub mod Schedule
+pub mod inside

@@ -1,5 +1,4 @@
 -- The order of references, steps and schedules.
-pub mod Laws
 use Rattle.std.specs.Prelude.{List, length}
 use Rattle.std.specs.declared.cmp.Ordering.{Ordering}
 use Rattle.std.specs.declared.cmp.Ordering.TheVariants.{Less, Greater}

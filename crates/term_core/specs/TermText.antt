@@ -2,7 +2,7 @@
 use Rattle.std.specs.Prelude.{ℕ, ◌+◌, ◌/◌, ◌%◌, ◌==◌, nat_lt, if◌then◌else◌, List, [], ◌∷◌, ◌++◌}
 use Rattle.std.specs.List.{flat_map}
 use Rattle.std.specs.Fmt.{decimal, signed_decimal}
-use Rattle.term_core.specs.Meaning.{Meaning, Meanings, Integer, Name, Reference, Process, Group, Empty, Cell, NoMore, Also}
+use Rattle.term_core.specs.Meaning.{Meaning, Meanings, Int, Atom, Ref, Pid, Tuple, Nil, Cons, NoMore, Also}
 use Rattle.term_core.specs.Text.{text_of_pid}
 
 -- below 32 a backslash and three octal digits, else the byte as it stands
@@ -39,23 +39,23 @@ behind_bar text = 124 ∷ (text ++ 93 ∷ [])
 -- tuples as `{a,b}`, lists as `[a,b]`, and as `[a,b|t]` where the last tail is not nil
 abbrev mutual
   pub text_of_term : Meaning → List ℕ
-  text_of_term (Integer n) = signed_decimal n
-  text_of_term (Name text) = text_of_atom text
-  text_of_term (Reference pid number) = text_of_reference pid number
-  text_of_term (Process pid) = text_of_pid pid
-  text_of_term (Group parts) = text_of_tuple parts
-  text_of_term Empty = 91 ∷ 93 ∷ []
-  text_of_term (Cell head tail) = 91 ∷ (text_of_term head ++ text_of_tail tail)
+  text_of_term (Int n) = signed_decimal n
+  text_of_term (Atom text) = text_of_atom text
+  text_of_term (Ref pid number) = text_of_reference pid number
+  text_of_term (Pid pid) = text_of_pid pid
+  text_of_term (Tuple parts) = text_of_tuple parts
+  text_of_term Nil = 91 ∷ 93 ∷ []
+  text_of_term (Cons head tail) = 91 ∷ (text_of_term head ++ text_of_tail tail)
 
   -- what stands behind the head of a list cell
   pub text_of_tail : Meaning → List ℕ
-  text_of_tail (Integer n) = behind_bar (signed_decimal n)
-  text_of_tail (Name text) = behind_bar (text_of_atom text)
-  text_of_tail (Reference pid number) = behind_bar (text_of_reference pid number)
-  text_of_tail (Process pid) = behind_bar (text_of_pid pid)
-  text_of_tail (Group parts) = behind_bar (text_of_tuple parts)
-  text_of_tail Empty = 93 ∷ []
-  text_of_tail (Cell head tail) = 44 ∷ (text_of_term head ++ text_of_tail tail)
+  text_of_tail (Int n) = behind_bar (signed_decimal n)
+  text_of_tail (Atom text) = behind_bar (text_of_atom text)
+  text_of_tail (Ref pid number) = behind_bar (text_of_reference pid number)
+  text_of_tail (Pid pid) = behind_bar (text_of_pid pid)
+  text_of_tail (Tuple parts) = behind_bar (text_of_tuple parts)
+  text_of_tail Nil = 93 ∷ []
+  text_of_tail (Cons head tail) = 44 ∷ (text_of_term head ++ text_of_tail tail)
 
   pub text_of_tuple : Meanings → List ℕ
   text_of_tuple NoMore = 123 ∷ 125 ∷ []
@@ -68,10 +68,10 @@ abbrev mutual
 
 -- the end of a list whose last tail this is
 abbrev pub text_of_end : Meaning → List ℕ
-text_of_end (Integer n) = behind_bar (signed_decimal n)
-text_of_end (Name text) = behind_bar (text_of_atom text)
-text_of_end (Reference pid number) = behind_bar (text_of_reference pid number)
-text_of_end (Process pid) = behind_bar (text_of_pid pid)
-text_of_end (Group parts) = behind_bar (text_of_tuple parts)
-text_of_end Empty = 93 ∷ []
-text_of_end (Cell head tail) = behind_bar (text_of_term (Cell head tail))
+text_of_end (Int n) = behind_bar (signed_decimal n)
+text_of_end (Atom text) = behind_bar (text_of_atom text)
+text_of_end (Ref pid number) = behind_bar (text_of_reference pid number)
+text_of_end (Pid pid) = behind_bar (text_of_pid pid)
+text_of_end (Tuple parts) = behind_bar (text_of_tuple parts)
+text_of_end Nil = 93 ∷ []
+text_of_end (Cons head tail) = behind_bar (text_of_term (Cons head tail))

@@ -1,6 +1,6 @@
 // Tuples and lists, built of their parts.
 ghost use Rattle.std.specs.Prelude.{◌≡◌, IfOk, map};
-ghost use Rattle.term_core.specs.Meaning.{Cell, Group, group_of};
+ghost use Rattle.term_core.specs.Meaning.{Cons, Tuple, meanings_of};
 ghost use Rattle.term_core.specs.Term.{meaning_of, list_onto};
 
 use crate::term::{Pair, Term, Terms};
@@ -11,14 +11,14 @@ impl Term {
     /// The list cell of a head and a tail, or `AllocError` where memory is wanting, and then both are
     /// dropped.
     pub fn cell(alloc: Global, head: Term, tail: Term) -> Result<Term, AllocError>
-        ensures { IfOk result (λ cell. meaning_of cell ≡ Cell (meaning_of head) (meaning_of tail)) }
+        ensures { IfOk result (λ cell. meaning_of cell ≡ Cons (meaning_of head) (meaning_of tail)) }
     {
         Ok(Term::Cons(Arc::new(alloc, Pair::new(head, tail))?))
     }
 
     /// The tuple of these parts, or `AllocError` where memory is wanting, and then they are dropped.
     pub fn tuple(alloc: Global, parts: Terms) -> Result<Term, AllocError>
-        ensures { IfOk result (λ tuple. meaning_of tuple ≡ Group (group_of parts)) }
+        ensures { IfOk result (λ tuple. meaning_of tuple ≡ Tuple (meanings_of parts)) }
     {
         Ok(Term::Tuple(Arc::new(alloc, parts)?))
     }

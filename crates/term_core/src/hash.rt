@@ -6,10 +6,10 @@ ghost use Rattle.std.specs.Hash as fed;
 ghost use Rattle.std.specs.Cmp.Rules.{hashing};
 ghost use Rattle.term_core.specs.Term.{meaning_of};
 ghost use Rattle.term_core.specs.Order.{order_of_terms, order_of_pairs, order_of_items};
-ghost use Rattle.term_core.specs.Order.Laws.{same_term, same_pair, same_items};
-ghost use Rattle.term_core.specs.StepOrder.Laws.{same_reference_id, same_step};
+ghost use Rattle.term_core.specs.inside.OrderLaws.{same_term, same_pair, same_items};
+ghost use Rattle.term_core.specs.inside.StepOrderLaws.{same_reference_id, same_step};
 ghost use Rattle.term_core.specs.HashInput.{writes_of_term, writes_of_pid, writes_of_items, writes_of_pair, writes_of_reference_id, writes_of_step};
-ghost use Rattle.term_core.specs.HashInput.Laws.{fed_alike};
+ghost use Rattle.term_core.specs.inside.HashInputLaws.{fed_alike};
 
 use crate::atom::Atom;
 use crate::pid::{Pid, RefId};

@@ -5,7 +5,7 @@ ghost use Rattle.std.specs.Cmp.{IsTotalOrder, partial_order_from_total, partial_
 ghost use Rattle.term_core.specs.Meaning.{Meaning};
 ghost use Rattle.term_core.specs.Term.{meaning_of};
 ghost use Rattle.term_core.specs.Order.{order_of_terms, order_of_items, order_of_pairs, rank_of};
-ghost use Rattle.term_core.specs.Order.Laws.{terms_total, items_total, pairs_total};
+ghost use Rattle.term_core.specs.inside.OrderLaws.{terms_total, items_total, pairs_total};
 
 use crate::term::{Pair, Term, Terms};
 use std::cmp::Ordering;

@@ -32,7 +32,8 @@ pub struct Pair {
 impl Model for Pair {
     ghost use Rattle.std.specs.Prelude.{◌≡◌, ◌+◌, ◌-◌, ◌^◌, min};
     ghost use Rattle.std.specs.Coded.{coded×};
-    ghost use Rattle.term_core.specs.Meaning.{Meaning, Cell, coded_meaning, node_count};
+    ghost use Rattle.term_core.specs.Meaning.{Meaning, Cons, node_count};
+    ghost use Rattle.term_core.specs.inside.MeaningCodes.{coded_meaning};
 
     ghost Value = { Meaning × Meaning };
 
@@ -42,12 +43,12 @@ impl Model for Pair {
 
     ghost view = { λ p. (meaning_of p.head, meaning_of p.tail) };
 
-    ghost invariant = { λ p. p.nodes ≡ min (node_count (Cell (meaning_of p.head) (meaning_of p.tail))) (2 ^ 64 - 1) };
+    ghost invariant = { λ p. p.nodes ≡ min (node_count (Cons (meaning_of p.head) (meaning_of p.tail))) (2 ^ 64 - 1) };
 
     ghost size = { λ v. node_count v.0 + node_count v.1 };
 
     ghost use Rattle.std.proofs.Common.{arith};
-    ghost use Rattle.term_core.specs.Depth.{deep_le};
+    ghost use Rattle.term_core.specs.inside.Depth.{deep_le};
 
     ghost size_decreases = { λ a h. Prim.omega (arith, deep_le a.head, deep_le a.tail) };
 }
@@ -63,7 +64,8 @@ pub struct Terms {
 impl Model for Terms {
     ghost use Rattle.std.specs.Prelude.{◌≡◌, ◌-◌, ◌^◌, min, List, map};
     ghost use Rattle.std.specs.Coded.{coded_list};
-    ghost use Rattle.term_core.specs.Meaning.{Meaning, coded_meaning, sum_of_nodes};
+    ghost use Rattle.term_core.specs.Meaning.{Meaning, sum_of_nodes};
+    ghost use Rattle.term_core.specs.inside.MeaningCodes.{coded_meaning};
 
     ghost Value = { List Meaning };
 
@@ -78,7 +80,7 @@ impl Model for Terms {
     ghost size = { sum_of_nodes };
 
     ghost use Rattle.std.proofs.Common.{arith};
-    ghost use Rattle.term_core.specs.Depth.{most_le};
+    ghost use Rattle.term_core.specs.inside.Depth.{most_le};
 
     ghost size_decreases = { λ a h. Prim.omega (arith, most_le a.items.items) };
 }

@@ -1,7 +1,7 @@
 // The text of a term. No write takes memory.
 ghost use Rattle.std.specs.Prelude.{◌≡◌, false, ◌∷◌, ◌++◌};
 ghost use Rattle.term_core.specs.Stream.{Writes};
-ghost use Rattle.term_core.specs.Meaning.{group_of};
+ghost use Rattle.term_core.specs.Meaning.{meanings_of};
 ghost use Rattle.term_core.specs.Term.{meaning_of};
 ghost use Rattle.term_core.specs.TermText.{text_of_term, text_of_tuple, text_of_tail, text_of_end};
 
@@ -32,7 +32,7 @@ pub fn write_term<S: Sink>(term: &Term, sink: &mut S) -> Result<(), WriteFault>
 #[cycle(write)]
 fn write_tuple<S: Sink>(parts: &Terms, sink: &mut S) -> Result<(), WriteFault>
     requires { S.has_failed sink.old ≡ false }
-    ensures { Writes (S.contents sink.old) (S.contents sink.new) (S.has_failed sink.new) result (text_of_tuple (group_of parts.now)) }
+    ensures { Writes (S.contents sink.old) (S.contents sink.new) (S.has_failed sink.new) result (text_of_tuple (meanings_of parts.now)) }
 {
     if parts.items.is_empty() {
         return write_all(sink, b"{}");

@@ -1,6 +1,6 @@
 -- Who finds a table, and whose it is.
 use Rattle.std.proofs.Common.{◌≡◌, Bool, true, false, ℕ, ◌+◌, List, [], ◌∷◌, Option, Some, inl, inr, refl, sym, ap, ◌∙◌, if◌then◌else◌}
-use Rattle.term_core.specs.Meaning.{Meaning, Reference}
+use Rattle.term_core.specs.Meaning.{Meaning, Ref}
 use Rattle.world_core.specs.Names.{same_term}
 use Rattle.world_core.specs.Effects.{Effect, Makes, Puts, Leaves}
 use Rattle.world_core.specs.Events.{History}
@@ -16,7 +16,7 @@ OneHandle h = (a b t : Meaning) → found h a ≡ Some t → found h b ≡ Some 
 
 -- no argument finds the next table of this process
 abbrev pub IsFresh : History → List ℕ → ℕ → Type 0
-IsFresh h p n = (a : Meaning) → found h a ≡ Some (Reference p n) → ⊥
+IsFresh h p n = (a : Meaning) → found h a ≡ Some (Ref p n) → ⊥
 
 one_handle_after : (h : History) (p : List ℕ) (n : ℕ) (f : Effect) → IsNumbered p n f → IsFresh h p n → OneHandle h → (a b t : Meaning) → found_after f a (found h a) ≡ Some t → found_after f b (found h b) ≡ Some t → a ≡ b
 one_handle_after h p n (Makes table owner handle protection) is fresh one a b t now also =

@@ -1,13 +1,13 @@
 -- A table that is found was made in an earlier turn, so a table that is made now is none of those.
 use Rattle.std.proofs.Common.{◌≡◌, ℕ, ◌+◌, ◌≤◌, le_trans, List, [], ◌∷◌, Option, Some, None, inl, inr, refl, sym, ap, ◌∙◌, arith}
-use Rattle.term_core.specs.Meaning.{Meaning, Reference}
+use Rattle.term_core.specs.Meaning.{Meaning, Ref}
 use Rattle.term_core.specs.declared.step.Step.{Step}
 use Rattle.term_core.specs.declared.step.Step.TheVariants.{Turn, Deliver}
 use Rattle.world_core.specs.Names.{same_term}
 use Rattle.world_core.specs.Calls.{TableCall, New, Insert, Lookup, table_call}
 use Rattle.world_core.specs.Objects.{objects_of}
 use Rattle.world_core.specs.Effects.{Effect, Makes, Puts, Leaves, puts_of, effect_of_call}
-use Rattle.world_core.specs.Events.{Deed, Serves, Refuses, Ends, RunsAway, TimesOut, Happening, History}
+use Rattle.world_core.specs.Events.{Deed, Served, Refused, Ended, RanAway, TimedOut, Happening, History}
 use Rattle.world_core.specs.History.{turns, effect_of, effect_of_deed, effect_of_step, found, found_after}
 use Rattle.world_core.specs.Run.{happening}
 use Rattle.world_core.proofs.Choices.{chosen, some_is}
@@ -17,7 +17,7 @@ use Rattle.world_core.proofs.Turns.{turns-own, turns_grow}
 
 -- a table that an effect makes has this process and this number
 abbrev pub IsNumbered : List ℕ → ℕ → Effect → Type 0
-IsNumbered p n (Makes table owner handle protection) = table ≡ Reference p n
+IsNumbered p n (Makes table owner handle protection) = table ≡ Ref p n
 IsNumbered p n (Puts argument objects) = Unit {0}
 IsNumbered p n Leaves = Unit {0}
 
@@ -32,11 +32,11 @@ call_numbered p n (Some (Insert argument objects)) answer = puts_numbered p n ar
 call_numbered p n (Some (Lookup argument key)) answer = tt
 
 pub deed_numbered : (p : List ℕ) (n : ℕ) (deed : Deed) → IsNumbered p n (effect_of_deed p n deed)
-deed_numbered p n (Serves kind arguments answer) = call_numbered p n (table_call kind arguments) answer
-deed_numbered p n (Refuses kind arguments rule owner) = tt
-deed_numbered p n (Ends reason) = tt
-deed_numbered p n RunsAway = tt
-deed_numbered p n TimesOut = tt
+deed_numbered p n (Served kind arguments answer) = call_numbered p n (table_call kind arguments) answer
+deed_numbered p n (Refused kind arguments rule owner) = tt
+deed_numbered p n (Ended reason) = tt
+deed_numbered p n RanAway = tt
+deed_numbered p n TimedOut = tt
 
 -- the process that a step is of
 abbrev pub process_of : Step → List ℕ
@@ -56,7 +56,7 @@ event_numbered h e = step_numbered h e.step e.deed
 pub record IsMade (h : History) (table : Meaning) : Type 0 where
   pub pid : List ℕ
   pub number : ℕ
-  pub is : table ≡ Reference pid number
+  pub is : table ≡ Ref pid number
   pub past : number ≤ turns h pid
 
 still_made : (h : History) (e : Happening) (t : Meaning) → IsMade h t → IsMade (e ∷ h) t
@@ -82,14 +82,14 @@ found_is_made [] a t now = absurd cc
 found_is_made (e ∷ h) a t now = made_in h e.step e.deed a t (found_is_made h a t) now
 
 -- the next number of a process is none of those
-pub made_is_not_next : (h : History) (p : List ℕ) (t : Meaning) → IsMade h t → Reference p (turns h p + 1) ≡ t → ⊥
+pub made_is_not_next : (h : History) (p : List ℕ) (t : Meaning) → IsMade h t → Ref p (turns h p + 1) ≡ t → ⊥
 made_is_not_next h p t m e =
-    let both : Reference p (turns h p + 1) ≡ Reference m.pid m.number = e ∙ m.is in
+    let both : Ref p (turns h p + 1) ≡ Ref m.pid m.number = e ∙ m.is in
     let number : turns h p + 1 ≡ m.number = cc in
     let pid : p ≡ m.pid = cc in
     let same : turns h p ≡ turns h m.pid = ap (turns h) pid in
     omega (arith, m.past)
 
 -- a table that is made now is not found before
-pub next_is_not_found : (h : History) (p : List ℕ) (a : Meaning) → found h a ≡ Some (Reference p (turns h p + 1)) → ⊥
+pub next_is_not_found : (h : History) (p : List ℕ) (a : Meaning) → found h a ≡ Some (Ref p (turns h p + 1)) → ⊥
 next_is_not_found h p a now = made_is_not_next h p _ (found_is_made h a _ now) refl

@@ -2,7 +2,7 @@
 use Rattle.std.proofs.Common.{◌≡◌, Bool, true, false, List, ◌∷◌, Option, Some, None, refl, sym, ap, ◌∙◌}
 use Rattle.std.specs.Prelude.{◌||◌, option_map, unwrap_or}
 use Rattle.std.specs.Option.{option_or}
-use Rattle.term_core.specs.Meaning.{Meaning, Cell}
+use Rattle.term_core.specs.Meaning.{Meaning, Cons}
 use Rattle.world_core.specs.Options.{option_of, options_of, before_options, protection_in, last_protection, is_named_option, is_named}
 use Rattle.world_core.specs.declared.tables.options.TableOption.{TableOption}
 use Rattle.world_core.specs.declared.tables.options.Protection.{Protection}
@@ -32,7 +32,7 @@ map_joined s t o None p n = refl
 map_joined s t o (Some os) p n = ap (λ (x : Settings). Some x) (joined_more s t o os p n)
 
 -- so it does where the options are the terms of a list
-pub joined_on : (s t : Settings) (o : TableOption) (cell : Meaning) (head tail : Meaning) → cell ≡ Cell head tail → Some o ≡ option_of head → t.protection ≡ unwrap_or (protection_in o) s.protection → t.is_named ≡ (s.is_named || is_named_option o)
+pub joined_on : (s t : Settings) (o : TableOption) (cell : Meaning) (head tail : Meaning) → cell ≡ Cons head tail → Some o ≡ option_of head → t.protection ≡ unwrap_or (protection_in o) s.protection → t.is_named ≡ (s.is_named || is_named_option o)
     → option_map (joined t) (options_of tail) ≡ option_map (joined s) (options_of cell)
 joined_on s t o cell head tail e h p n =
     sym (map_joined s t o (options_of tail) p n) ∙ ap (λ (x : Option TableOption). option_map (joined s) (before_options x (options_of tail))) h ∙ ap (λ (m : Meaning). option_map (joined s) (options_of m)) (sym e)

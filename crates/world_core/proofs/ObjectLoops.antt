@@ -3,13 +3,14 @@ use Rattle.std.proofs.Common.{◌≡◌, Bool, true, false, Global, List, [], �
 use Rattle.std.specs.Prelude.{IsTrue, ◌↔◌, option_map}
 use Rattle.std.specs.declared.sync.Arc.{Arc}
 use Rattle.std.specs.Option.{option_or}
-use Rattle.term_core.specs.Meaning.{Meaning, Group, Cell, group_of}
+use Rattle.term_core.specs.Meaning.{Meaning, meanings_of}
+use Rattle.term_core.specs.Meaning as terms
 use Rattle.term_core.specs.Term.{meaning_of}
 use Rattle.term_core.specs.declared.term.Term.{Term}
 use Rattle.term_core.specs.declared.term.Term.TheVariants.{Int, Atom, Ref, Pid, Tuple, Nil, Cons}
 use Rattle.term_core.specs.declared.term.Terms.{Terms}
 use Rattle.world_core.specs.Objects.{tuple_of, before_objects, objects_of, tuples_of, is_short, last_with, replaced}
-use Rattle.world_core.specs.Stored.{objects_under}
+use Rattle.world_core.specs.inside.Stored.{objects_under}
 
 -- the objects that are left, put into the rows so far, give what all give, put into the first rows
 abbrev pub PutsIn : Meaning → List (Meaning × List Meaning) → List (Meaning × List Meaning) → Meaning → Type 0
@@ -31,15 +32,15 @@ one_more : (a x : Option Meaning) (before : List Meaning) → replaced a (replac
 one_more None x before = refl
 one_more (Some o) x before = refl
 
-module _ (all cell head tail : Meaning) (first rows new : List (Meaning × List Meaning)) (e : cell ≡ Cell head tail) where
+module _ (all cell head tail : Meaning) (first rows new : List (Meaning × List Meaning)) (e : cell ≡ terms.Cons head tail) where
   -- once an object was put in, the others are left
-  pub puts_in_on : (parts : List Meaning) → Some (Group (group_of parts)) ≡ tuple_of head → ((key : Meaning) → objects_under new key ≡ replaced (last_with key (Group (group_of parts) ∷ [])) (objects_under rows key)) → PutsIn all first rows cell → PutsIn all first new tail
+  pub puts_in_on : (parts : List Meaning) → Some (terms.Tuple (meanings_of parts)) ≡ tuple_of head → ((key : Meaning) → objects_under new key ≡ replaced (last_with key (terms.Tuple (meanings_of parts) ∷ [])) (objects_under rows key)) → PutsIn all first rows cell → PutsIn all first new tail
   puts_in_on parts h put before os is =
       let old = before os is in
       by (tuples_of tail) refl old.0 (ap (λ (o : Option Meaning). before_objects o (tuples_of tail)) h ∙ ap tuples_of (sym e) ∙ old.1) old.2
     where
       object : Meaning
-      object = Group (group_of parts)
+      object = terms.Tuple (meanings_of parts)
 
       all_left : (more left : List Meaning) → Some (object ∷ more) ≡ Some left → object ∷ more ≡ left
       all_left more left q = cc
@@ -67,7 +68,7 @@ module _ (all cell head tail : Meaning) (first rows new : List (Meaning × List 
       none_left left q = cc
 
 -- an object is too short where it has no parts
-pub short_where_empty : (b : Bool) (ms : List Meaning) → (IsTrue b ↔ (ms ≡ [])) → b ≡ is_short (Group (group_of ms))
+pub short_where_empty : (b : Bool) (ms : List Meaning) → (IsTrue b ↔ (ms ≡ [])) → b ≡ is_short (terms.Tuple (meanings_of ms))
 short_where_empty true [] h = refl
 short_where_empty false [] h = h.1 refl
 short_where_empty true (m ∷ ms) h = absurd (no_more (h.0 refl))

@@ -8,11 +8,11 @@ use Rattle.core_tree.specs.Syntax.{ModuleTree}
 use Rattle.term_core.specs.Meaning.{Meaning}
 use Rattle.term_core.specs.declared.step.Step.TheVariants.{Turn}
 use Rattle.core_eval.specs.Ask.{Entry, ask}
-use Rattle.core_eval.specs.Asked.{Asked, Answered, Asks, Receives}
+use Rattle.core_eval.specs.Asked.{Asked, Answered, Call, Receive}
 use Rattle.core_eval.specs.Asked as asked
 use Rattle.core_eval.specs.Servable.{IsReadRequest}
 use Rattle.world_core.specs.Calls.{TableCall, New, Insert, Lookup, call_with, table_call}
-use Rattle.world_core.specs.Events.{Deed, Ends, RunsAway, TimesOut, Happening, History}
+use Rattle.world_core.specs.Events.{Deed, Ended, RanAway, TimedOut, Happening, History}
 use Rattle.world_core.specs.History.{alive, answers}
 use Rattle.world_core.specs.Laws.{Waits}
 use Rattle.world_core.specs.Run.{origin, asking, deed_of_call, deed_asked, happening, next_event}
@@ -51,12 +51,12 @@ served_read kind (a ∷ b ∷ c ∷ more) call e = absurd cc
 
 -- ---- turns
 
-deed_is : (h : History) (p : List ℕ) (request : Asked) → IsReadRequest request → ¬ (request ≡ Receives true) → (d : Deed) × (deed_asked h p request ≡ Some d)
-deed_is h p (Asks kind arguments) r n = let c = read_served kind arguments r.0 r.1 in (deed_of_call h p kind arguments c.0, ap (λ (o : Option TableCall). option_map (deed_of_call h p kind arguments) o) c.1)
-deed_is h p (Receives true) r n = absurd (n refl)
-deed_is h p (Receives false) r n = (TimesOut, refl)
-deed_is h p (asked.Ends reason) r n = (Ends reason, refl)
-deed_is h p asked.RunsAway r n = (RunsAway, refl)
+deed_is : (h : History) (p : List ℕ) (request : Asked) → IsReadRequest request → ¬ (request ≡ Receive true) → (d : Deed) × (deed_asked h p request ≡ Some d)
+deed_is h p (Call kind arguments) r n = let c = read_served kind arguments r.0 r.1 in (deed_of_call h p kind arguments c.0, ap (λ (o : Option TableCall). option_map (deed_of_call h p kind arguments) o) c.1)
+deed_is h p (Receive true) r n = absurd (n refl)
+deed_is h p (Receive false) r n = (TimedOut, refl)
+deed_is h p (asked.End reason) r n = (Ended reason, refl)
+deed_is h p asked.Runaway r n = (RanAway, refl)
 
 -- where only calls that are read are asked, a process that is alive and need not wait has a turn
 pub has_turn : ((m : ModuleTree) (pid : List ℕ) (e : Entry) (given : List Answered) → IsServableModule m → IsReadRequest (ask m pid e given))

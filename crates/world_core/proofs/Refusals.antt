@@ -4,16 +4,16 @@ use Rattle.term_core.specs.Meaning.{Meaning}
 use Rattle.term_core.specs.declared.step.Step.{Step}
 use Rattle.term_core.specs.declared.step.Step.TheVariants.{Turn, Deliver}
 use Rattle.world_core.specs.Effects.{Leaves}
-use Rattle.world_core.specs.Events.{Deed, Serves, Refuses, Ends, RunsAway, TimesOut, Happening, History}
+use Rattle.world_core.specs.Events.{Deed, Served, Refused, Ended, RanAway, TimedOut, Happening, History}
 use Rattle.world_core.specs.History.{turns, effect_of_step, effect_of, effect_of_deed, found, found_after, owner, owner_after, protection, protection_after, rows, rows_after}
 use Rattle.world_core.specs.Laws.{IsRefusal}
 
 leaves : (p : List ℕ) (n : ℕ) (deed : Deed) → IsRefusal deed → effect_of_deed p n deed ≡ Leaves
-leaves p n (Serves kind arguments answer) is = absurd is
-leaves p n (Refuses kind arguments rule owner) is = refl
-leaves p n (Ends reason) is = refl
-leaves p n RunsAway is = refl
-leaves p n TimesOut is = refl
+leaves p n (Served kind arguments answer) is = absurd is
+leaves p n (Refused kind arguments rule owner) is = refl
+leaves p n (Ended reason) is = refl
+leaves p n RanAway is = refl
+leaves p n TimedOut is = refl
 
 leaves_in : (h : History) (step : Step) (deed : Deed) → IsRefusal deed → effect_of_step h step deed ≡ Leaves
 leaves_in h (Turn p) deed is = leaves p (turns h p + 1) deed is

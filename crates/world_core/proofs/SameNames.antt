@@ -5,7 +5,7 @@ use Rattle.std.specs.Cmp.{Equal-is, tied_itself}
 use Rattle.std.proofs.lemmas.Slice.Eq.{bytes_eq-Decides}
 use Rattle.term_core.specs.Meaning.{Meaning}
 use Rattle.term_core.specs.Order.{order_of_terms}
-use Rattle.term_core.specs.Order.Laws as order
+use Rattle.term_core.specs.inside.OrderLaws as order
 use Rattle.world_core.specs.Names.{same_term, same_pid}
 
 -- a test that does not succeed fails

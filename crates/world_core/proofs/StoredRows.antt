@@ -4,12 +4,12 @@ use Rattle.std.specs.Prelude.{if◌then◌else◌}
 use Rattle.std.specs.Map.{lookup}
 use Rattle.std.specs.Cmp.{IsEquivalence, eq_by_cmp_equiv}
 use Rattle.indexmap.specs.IndexMap.{insert_entry}
-use Rattle.term_core.specs.Meaning.{Meaning, Group, group_of}
-use Rattle.term_core.specs.Order.Laws.{terms_total}
+use Rattle.term_core.specs.Meaning.{Meaning, Tuple, meanings_of}
+use Rattle.term_core.specs.inside.OrderLaws.{terms_total}
 use Rattle.term_core.specs.Term.{meaning_of}
 use Rattle.term_core.specs.declared.term.Term.{Term}
 use Rattle.world_core.specs.Names.{same_term}
-use Rattle.world_core.specs.Stored.{entry_at, entries_of, object_of, objects_under}
+use Rattle.world_core.specs.inside.Stored.{entry_at, entries_of, object_of, objects_under}
 
 -- sameness is an equivalence
 pub sameness : IsEquivalence same_term
@@ -60,9 +60,9 @@ module _ {A : Type 0} where
       by false p h = there (same_term (meaning_of key) other) (same_term (meaning_of e.0) other) a e.1 (entry_at (entries_of es) other) _ (apart p) h
 
 -- the objects under each key after one was put in
-pub object_put_in : (key : Term) (parts : List Meaning) (es : List (Term × List Meaning)) (other : Meaning) → objects_under (entries_of (insert_entry same_stored es key parts)) other ≡ (if same_term (meaning_of key) other then Group (group_of parts) ∷ [] else objects_under (entries_of es) other)
+pub object_put_in : (key : Term) (parts : List Meaning) (es : List (Term × List Meaning)) (other : Meaning) → objects_under (entries_of (insert_entry same_stored es key parts)) other ≡ (if same_term (meaning_of key) other then Tuple (meanings_of parts) ∷ [] else objects_under (entries_of es) other)
 object_put_in key parts es other = ap object_of (inserted key parts es other) ∙ by (same_term (meaning_of key) other) (entry_at (entries_of es) other)
   where
-    by : (b : Bool) (o : Option (List Meaning)) → object_of (if b then Some parts else o) ≡ (if b then Group (group_of parts) ∷ [] else object_of o)
+    by : (b : Bool) (o : Option (List Meaning)) → object_of (if b then Some parts else o) ≡ (if b then Tuple (meanings_of parts) ∷ [] else object_of o)
     by true o = refl
     by false o = refl

@@ -9,9 +9,9 @@ use Rattle.term_core.specs.Term.{meaning_of}
 use Rattle.term_core.specs.declared.term.Term.{Term}
 use Rattle.world_core.specs.Effects.{filled}
 use Rattle.world_core.specs.Names.{same_term}
-use Rattle.world_core.specs.Records.{found_in, find_in}
+use Rattle.world_core.specs.inside.Records.{found_in, find_in}
 use Rattle.world_core.specs.Rules.{Found}
-use Rattle.world_core.specs.Stored.{entry_at, entries_of}
+use Rattle.world_core.specs.inside.Stored.{entry_at, entries_of}
 use Rattle.world_core.specs.declared.tables.record.Table.{Table}
 use Rattle.world_core.proofs.StoredRows.{sameness, tests, same_stored, inserted}
 

@@ -7,18 +7,18 @@ use Rattle.core_tree.specs.Syntax.{ModuleTree}
 use Rattle.term_core.specs.Meaning.{Meaning}
 use Rattle.term_core.specs.declared.step.Step.TheVariants.{Turn}
 use Rattle.core_eval.specs.Ask.{ask}
-use Rattle.core_eval.specs.Asked.{Asked, Asks, Receives, Answered, TimesOut as TimedOut}
+use Rattle.core_eval.specs.Asked.{Asked, Call, Receive, Answered, TimedOut as TimedOut}
 use Rattle.core_eval.specs.Standing.{Standing, after, is_spent}
 use Rattle.world_core.specs.Names.{same_pid}
 use Rattle.world_core.specs.Calls.{TableCall, table_call}
 use Rattle.world_core.specs.Rules.{rule_for}
 use Rattle.world_core.specs.Answers.{answer_for}
 use Rattle.world_core.specs.Effects.{changed, effect_of_call}
-use Rattle.world_core.specs.Events.{Deed, Serves, TimesOut, History}
+use Rattle.world_core.specs.Events.{Deed, Served, TimedOut, History}
 use Rattle.world_core.specs.History.{alive, turns, answers, answer_in, is_end, find, rule_of, answer_of, owner_of}
 use Rattle.world_core.specs.Run.{origin, deed_asked, deed_of_call, judged, is_answered, happening}
-use Rattle.world_core.specs.Records.{find_in}
-use Rattle.world_core.specs.Agreement.{IsProcess, AreTables, IsServed, IsTurn}
+use Rattle.world_core.specs.inside.Records.{find_in}
+use Rattle.world_core.specs.inside.Agreement.{IsProcess, AreTables, IsServed, IsTurn}
 use Rattle.world_core.specs.declared.tables.rule.Rule.{Rule}
 use Rattle.world_core.specs.declared.process.Process.{Process}
 use Rattle.world_core.specs.declared.tables.record.Table.{Table}
@@ -31,7 +31,7 @@ pub served : (h : History) (p : List ℕ) (number : ℕ) (kind : CallKind) (argu
     → answer ≡ answer_for (find_in old) p number call
     → (rule_for (find_in old) p call ≡ None → (a : Meaning) → find_in new a ≡ changed (effect_of_call p number (Some call) answer) (find_in old) a)
     → AreTables h old → number ≡ turns h p + 1
-    → IsServed h p (Asks kind arguments) (Serves kind arguments answer) new
+    → IsServed h p (Call kind arguments) (Served kind arguments answer) new
 served h p number kind arguments call answer old new is_call none answers_so changes tables counted =
     let same : find_in old ≡ find h = λ i a. tables a i in
     let rule : rule_of h p call ≡ None = ap (λ f. rule_for f p call) (sym same) ∙ none in
@@ -40,13 +40,13 @@ served h p number kind arguments call answer old new is_call none answers_so cha
       next =
           ap (option_map (deed_of_call h p kind arguments)) is_call
           ∙ ap (λ r. Some (judged kind arguments r (owner_of h call) (answer_for (find h) p (turns h p + 1) call))) rule
-          ∙ ap (λ a. Some (Serves kind arguments a)) (sym given);
+          ∙ ap (λ a. Some (Served kind arguments a)) (sym given);
       finds = λ a.
           changes none a
           ∙ ap (λ f. changed (effect_of_call p number (Some call) answer) f a) same
           ∙ ap (λ n. changed (effect_of_call p n (Some call) answer) (find h) a) counted
           ∙ ap (λ c. changed (effect_of_call p (turns h p + 1) c answer) (find h) a) (sym is_call)
-          ∙ sym (find_changed h (happening (Turn p) (Serves kind arguments answer)) a);
+          ∙ sym (find_changed h (happening (Turn p) (Served kind arguments answer)) a);
     }
 
 -- a pid is itself
@@ -89,7 +89,7 @@ turned m h old machine lives deed tables was next sound on alive_now finds =
     }
 
 -- a deed that a served or refused call is ends no process
-pub no_end : (h : History) (p : List ℕ) (kind : CallKind) (arguments : List Meaning) (deed : Deed) → deed_asked h p (Asks kind arguments) ≡ Some deed → is_end deed ≡ false
+pub no_end : (h : History) (p : List ℕ) (kind : CallKind) (arguments : List Meaning) (deed : Deed) → deed_asked h p (Call kind arguments) ≡ Some deed → is_end deed ≡ false
 no_end h p kind arguments deed e = by (table_call kind arguments) e
   where
     judged_no_end : (rule : Option Rule) (owner : Option (List ℕ)) (answer : Meaning) → is_end (judged kind arguments rule owner answer) ≡ false
@@ -104,8 +104,8 @@ no_end h p kind arguments deed e = by (table_call kind arguments) e
 
 -- the records after a call
 pub turned_by_call : (m : ModuleTree) (h : History) (old : Process) (machine : Standing) (kind : CallKind) (arguments : List Meaning) (deed : Deed) (old_tables tables : List (Meaning × Table))
-    → after old.machine [] ≡ Asks kind arguments
-    → ((g : History) → AreTables g old_tables → old.turns + 1 ≡ turns g old.pid + 1 → IsServed g old.pid (Asks kind arguments) deed tables)
+    → after old.machine [] ≡ Call kind arguments
+    → ((g : History) → AreTables g old_tables → old.turns + 1 ≡ turns g old.pid + 1 → IsServed g old.pid (Call kind arguments) deed tables)
     → ((later : List Answered) → after machine later ≡ after old.machine (answer_in deed ++ later))
     → is_spent machine ≡ false
     → IsProcess m h old → AreTables h old_tables
@@ -121,21 +121,21 @@ turned_by_call m h old machine kind arguments deed old_tables tables asked serve
     lived false false e = refl
 
 -- a wait that is over
-waited : (h : History) (p : List ℕ) (asked : Asked) (waits : Bool) → asked ≡ Receives waits → is_answered asked ≡ true → deed_asked h p asked ≡ Some TimesOut
+waited : (h : History) (p : List ℕ) (asked : Asked) (waits : Bool) → asked ≡ Receive waits → is_answered asked ≡ true → deed_asked h p asked ≡ Some TimedOut
 waited h p asked true e over = absurd (true≢false (sym over ∙ ap is_answered e))
 waited h p asked false e over = ap (deed_asked h p) e
 
 -- the records after a wait in vain
 pub turned_by_wait : (m : ModuleTree) (h : History) (old : Process) (machine : Standing) (waits : Bool) (tables : List (Meaning × Table))
-    → after old.machine [] ≡ Receives waits
+    → after old.machine [] ≡ Receive waits
     → is_answered (after old.machine []) ≡ true
     → ((later : List Answered) → after machine later ≡ after old.machine (TimedOut ∷ later))
     → is_spent machine ≡ false
     → IsProcess m h old → AreTables h tables
-    → IsTurn m h old (record { pid = old.pid; machine = machine; turns = old.turns + 1; is_alive = old.is_alive }) TimesOut tables
+    → IsTurn m h old (record { pid = old.pid; machine = machine; turns = old.turns + 1; is_alive = old.is_alive }) TimedOut tables
 turned_by_wait m h old machine waits tables asked over on sound was found =
-    turned m h old machine old.is_alive TimesOut tables was (waited h old.pid (after old.machine []) waits asked over) sound on (lived old.is_alive)
-    (λ a. found a ∙ sym (find_changed h (happening (Turn old.pid) TimesOut) a))
+    turned m h old machine old.is_alive TimedOut tables was (waited h old.pid (after old.machine []) waits asked over) sound on (lived old.is_alive)
+    (λ a. found a ∙ sym (find_changed h (happening (Turn old.pid) TimedOut) a))
   where
     lived : (a : Bool) → a ≡ (a && true)
     lived true = refl

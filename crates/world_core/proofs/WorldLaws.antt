@@ -6,7 +6,7 @@ use Rattle.term_core.specs.Meaning.{Meaning}
 use Rattle.term_core.specs.declared.step.Step.{Step}
 use Rattle.term_core.specs.declared.step.Step.TheVariants.{Turn, Deliver}
 use Rattle.core_eval.specs.Ask.{ask}
-use Rattle.core_eval.specs.Asked.{Asked, Asks, Receives, Ends, RunsAway}
+use Rattle.core_eval.specs.Asked.{Asked, Call, Receive, End, Runaway}
 use Rattle.core_eval.specs.Standing.{after}
 use Rattle.world_core.specs.Names.{same_pid}
 use Rattle.world_core.specs.Calls.{table_call}
@@ -14,7 +14,7 @@ use Rattle.world_core.specs.Deeds.{deed_seen, happening_of, history_of}
 use Rattle.world_core.specs.Events.{Deed, History}
 use Rattle.world_core.specs.History.{alive, answers, is_turn_of}
 use Rattle.world_core.specs.Run.{origin, asking, deed_asked, next_event, happening, is_answered, grown}
-use Rattle.world_core.specs.Agreement.{IsProcess, IsTurn, IsWorld}
+use Rattle.world_core.specs.inside.Agreement.{IsProcess, IsTurn, IsWorld}
 use Rattle.world_core.specs.declared.event.Deed.{Deed as Stored}
 use Rattle.world_core.specs.declared.event.Event.{Event}
 use Rattle.world_core.specs.declared.process.Process.{Process}
@@ -31,11 +31,11 @@ chosen_some f false o = refl
 
 -- what is asked is served, judged or over
 asked_some : (h : History) (p : List ℕ) (asked : Asked) → is_some (deed_asked h p asked) ≡ is_answered asked
-asked_some h p (Asks kind arguments) = mapped_some _ (table_call kind arguments)
-asked_some h p (Receives true) = refl
-asked_some h p (Receives false) = refl
-asked_some h p (Ends reason) = refl
-asked_some h p RunsAway = refl
+asked_some h p (Call kind arguments) = mapped_some _ (table_call kind arguments)
+asked_some h p (Receive true) = refl
+asked_some h p (Receive false) = refl
+asked_some h p (End reason) = refl
+asked_some h p Runaway = refl
 
 -- the machine stands at what its process asks now
 asking_is : (m : ModuleTree) (h : History) (p : Process) → IsProcess m h p → asking m h p.pid ≡ after p.machine []

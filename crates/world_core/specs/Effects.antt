@@ -1,6 +1,6 @@
 -- What a served call does to tables.
 use Rattle.std.specs.Prelude.{ℕ, List, [], Option, Some, None, option_map, if◌then◌else◌}
-use Rattle.term_core.specs.Meaning.{Meaning, Reference}
+use Rattle.term_core.specs.Meaning.{Meaning, Ref}
 use Rattle.world_core.specs.Names.{same_term}
 use Rattle.world_core.specs.Calls.{TableCall, New, Insert, Lookup}
 use Rattle.world_core.specs.Options.{options_of, protection_of}
@@ -29,7 +29,7 @@ puts_of argument (Some objects) = Puts argument objects
 -- the effect of a served call of a process in its turn of this number
 abbrev pub effect_of_call : List ℕ → ℕ → Option TableCall → Meaning → Effect
 effect_of_call caller number None answer = Leaves
-effect_of_call caller number (Some (New name options)) answer = Makes (Reference caller number) caller answer (protection_by (options_of options))
+effect_of_call caller number (Some (New name options)) answer = Makes (Ref caller number) caller answer (protection_by (options_of options))
 effect_of_call caller number (Some (Insert argument objects)) answer = puts_of argument (objects_of objects)
 effect_of_call caller number (Some (Lookup argument key)) answer = Leaves
 

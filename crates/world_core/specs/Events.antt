@@ -7,11 +7,11 @@ use Rattle.world_core.specs.declared.tables.rule.Rule.{Rule}
 
 -- what a step did: a call was served with its answer, a call of a table was refused by a rule (with the table's owner then), the process ended, made too many applications, or waited in vain
 pub data Deed : Type 0 where
-  Serves : (kind : CallKind) (arguments : List Meaning) (answer : Meaning) → Deed
-  Refuses : (kind : CallKind) (arguments : List Meaning) (rule : Rule) (owner : Option (List ℕ)) → Deed
-  Ends : (reason : Meaning) → Deed
-  RunsAway : Deed
-  TimesOut : Deed
+  Served : (kind : CallKind) (arguments : List Meaning) (answer : Meaning) → Deed
+  Refused : (kind : CallKind) (arguments : List Meaning) (rule : Rule) (owner : Option (List ℕ)) → Deed
+  Ended : (reason : Meaning) → Deed
+  RanAway : Deed
+  TimedOut : Deed
 
 -- a step, and what it did
 pub record Happening : Type 0 where

@@ -1,6 +1,6 @@
 -- What a history tells of the world: each definition searches the events backwards.
 use Rattle.std.specs.Prelude.{ℕ, ◌+◌, Bool, true, false, ◌&&◌, not, List, [], ◌∷◌, ◌++◌, Option, Some, None, if◌then◌else◌, codes}
-use Rattle.term_core.specs.Meaning.{Meaning, Name}
+use Rattle.term_core.specs.Meaning.{Meaning, Atom}
 use Rattle.term_core.specs.declared.step.Step.{Step}
 use Rattle.term_core.specs.declared.step.Step.TheVariants.{Turn, Deliver}
 use Rattle.core_eval.specs.Ask.{is_first}
@@ -12,7 +12,7 @@ use Rattle.world_core.specs.Objects.{last_with, replaced}
 use Rattle.world_core.specs.Rules.{Found, rule_for, owner_for}
 use Rattle.world_core.specs.Answers.{answer_for}
 use Rattle.world_core.specs.Effects.{Effect, Makes, Puts, Leaves, effect_of_call}
-use Rattle.world_core.specs.Events.{Deed, Serves, Refuses, Ends, RunsAway, TimesOut, Happening, History}
+use Rattle.world_core.specs.Events.{Deed, Served, Refused, Ended, RanAway, TimedOut, Happening, History}
 use Rattle.world_core.specs.declared.tables.options.Protection.{Protection}
 use Rattle.world_core.specs.declared.tables.options.Protection.TheVariants.{Protected}
 use Rattle.world_core.specs.declared.tables.rule.Rule.{Rule}
@@ -26,11 +26,11 @@ is_turn_of p (Deliver from to) = false
 
 -- whether it ends the process whose turn it is
 abbrev pub is_end : Deed → Bool
-is_end (Serves kind arguments answer) = false
-is_end (Refuses kind arguments rule owner) = false
-is_end (Ends reason) = true
-is_end RunsAway = true
-is_end TimesOut = false
+is_end (Served kind arguments answer) = false
+is_end (Refused kind arguments rule owner) = false
+is_end (Ended reason) = true
+is_end RanAway = true
+is_end TimedOut = false
 
 -- a process lives from its start, that of the first being the beginning, until an event ends it
 abbrev pub alive : History → List ℕ → Bool
@@ -44,11 +44,11 @@ turns (e ∷ h) p = if is_turn_of p e.step then turns h p + 1 else turns h p
 
 -- the answer that an event gives to the process whose turn it is
 abbrev pub answer_in : Deed → List Answered
-answer_in (Serves kind arguments answer) = answered.Gives answer ∷ []
-answer_in (Refuses kind arguments rule owner) = answered.Refuses (Name (codes "badarg")) ∷ []
-answer_in (Ends reason) = []
-answer_in RunsAway = []
-answer_in TimesOut = answered.TimesOut ∷ []
+answer_in (Served kind arguments answer) = answered.Value answer ∷ []
+answer_in (Refused kind arguments rule owner) = answered.Raise (Atom (codes "badarg")) ∷ []
+answer_in (Ended reason) = []
+answer_in RanAway = []
+answer_in TimedOut = answered.TimedOut ∷ []
 
 -- the answers that a process got in its turns, in order
 abbrev pub answers : History → List ℕ → List Answered
@@ -59,11 +59,11 @@ answers (e ∷ h) p = if is_turn_of p e.step then answers h p ++ answer_in e.dee
 
 -- only what is served has one
 abbrev pub effect_of_deed : List ℕ → ℕ → Deed → Effect
-effect_of_deed caller number (Serves kind arguments answer) = effect_of_call caller number (table_call kind arguments) answer
-effect_of_deed caller number (Refuses kind arguments rule owner) = Leaves
-effect_of_deed caller number (Ends reason) = Leaves
-effect_of_deed caller number RunsAway = Leaves
-effect_of_deed caller number TimesOut = Leaves
+effect_of_deed caller number (Served kind arguments answer) = effect_of_call caller number (table_call kind arguments) answer
+effect_of_deed caller number (Refused kind arguments rule owner) = Leaves
+effect_of_deed caller number (Ended reason) = Leaves
+effect_of_deed caller number RanAway = Leaves
+effect_of_deed caller number TimedOut = Leaves
 
 -- the effect of the next event: only a turn has one
 abbrev pub effect_of_step : History → Step → Deed → Effect

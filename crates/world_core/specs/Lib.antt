@@ -1,7 +1,6 @@
 pub mod Names
 pub mod Calls
 pub mod Options
-pub mod Settings
 pub mod Objects
 pub mod Rules
 pub mod Answers
@@ -10,10 +9,6 @@ pub mod Events
 pub mod History
 pub mod Run
 pub mod Laws
-pub mod TableCalls
-pub mod Stored
-pub mod Records
 pub mod Deeds
-pub mod DeedCodes
 pub mod Seen
-pub mod Agreement
+pub mod inside

@@ -1,7 +1,7 @@
 -- The rules by which a call of a table is served or refused (ets manual; "Access control"): the first that fails, in order.
 use Rattle.std.specs.Prelude.{ℕ, Bool, true, false, ◌&&◌, List, Option, Some, None, is_some, if◌then◌else◌}
 use Rattle.std.specs.Option.{option_or}
-use Rattle.term_core.specs.Meaning.{Meaning, Integer, Name, Reference, Process, Group, Empty, Cell}
+use Rattle.term_core.specs.Meaning.{Meaning, Int, Atom, Ref, Pid, Tuple, Nil, Cons}
 use Rattle.world_core.specs.Names.{same_pid}
 use Rattle.world_core.specs.Calls.{TableCall, New, Insert, Lookup}
 use Rattle.world_core.specs.Options.{options_of, is_named}
@@ -37,13 +37,13 @@ allowed Write Private false = Some PrivateWrite
 
 -- whether a term can name a table: an atom or a reference
 abbrev pub is_table_argument : Meaning → Bool
-is_table_argument (Integer n) = false
-is_table_argument (Name text) = true
-is_table_argument (Reference p n) = true
-is_table_argument (Process p) = false
-is_table_argument (Group parts) = false
-is_table_argument Empty = false
-is_table_argument (Cell head tail) = false
+is_table_argument (Int n) = false
+is_table_argument (Atom text) = true
+is_table_argument (Ref p n) = true
+is_table_argument (Pid p) = false
+is_table_argument (Tuple parts) = false
+is_table_argument Nil = false
+is_table_argument (Cons head tail) = false
 
 -- of a call with a table argument: the argument, what it finds, whether the caller may, and then the rules of the other arguments
 abbrev pub rule_at : Option Found → List ℕ → Class → Option Rule → Option Rule
@@ -60,13 +60,13 @@ rule_of_objects (Some objects) = if one_is_short objects then Some ShortObject e
 
 -- of a new table: its name, its options, and where it is to be found by its name whether that is free
 abbrev pub is_atom : Meaning → Bool
-is_atom (Integer n) = false
-is_atom (Name text) = true
-is_atom (Reference p n) = false
-is_atom (Process p) = false
-is_atom (Group parts) = false
-is_atom Empty = false
-is_atom (Cell head tail) = false
+is_atom (Int n) = false
+is_atom (Atom text) = true
+is_atom (Ref p n) = false
+is_atom (Pid p) = false
+is_atom (Tuple parts) = false
+is_atom Nil = false
+is_atom (Cons head tail) = false
 
 abbrev pub rule_of_options : Bool → Option (List TableOption) → Option Rule
 rule_of_options is_taken None = Some BadOption

@@ -8,10 +8,10 @@ use Rattle.term_core.specs.declared.step.Step.TheVariants.{Turn, Deliver}
 use Rattle.std.specs.declared.cmp.Ordering.TheVariants.{Less}
 use Rattle.term_core.specs.StepOrder.{order_of_steps}
 use Rattle.core_eval.specs.Ask.{Entry, entry, ask}
-use Rattle.core_eval.specs.Asked.{Asked, Asks, Receives}
+use Rattle.core_eval.specs.Asked.{Asked, Call, Receive}
 use Rattle.core_eval.specs.Asked as asked
 use Rattle.world_core.specs.Calls.{TableCall, table_call}
-use Rattle.world_core.specs.Events.{Deed, Serves, Refuses, Ends, RunsAway, TimesOut, Happening, History}
+use Rattle.world_core.specs.Events.{Deed, Served, Refused, Ended, RanAway, TimedOut, Happening, History}
 use Rattle.world_core.specs.History.{alive, answers, rule_of, answer_of, owner_of}
 use Rattle.world_core.specs.declared.tables.rule.Rule.{Rule}
 use Rattle.world_core.specs.declared.tables.rule.Rule.TheVariants.{BadTable, NoTable, PrivateRead, PrivateWrite, ProtectedWrite, BadName, BadOption, NameTaken, NotObject, ShortObject}
@@ -43,26 +43,26 @@ told_owner rule owner = if tells_owner rule then owner else None
 
 -- a call of a table is served where no rule fails, and else refused by the one that does
 abbrev pub judged : CallKind → List Meaning → Option Rule → Option (List ℕ) → Meaning → Deed
-judged kind arguments None owner answer = Serves kind arguments answer
-judged kind arguments (Some rule) owner answer = Refuses kind arguments rule (told_owner rule owner)
+judged kind arguments None owner answer = Served kind arguments answer
+judged kind arguments (Some rule) owner answer = Refused kind arguments rule (told_owner rule owner)
 
 abbrev pub deed_of_call : History → List ℕ → CallKind → List Meaning → TableCall → Deed
 deed_of_call h p kind arguments call = judged kind arguments (rule_of h p call) (owner_of h call) (answer_of h p call)
 
 -- what a turn of a process that asks this does; nothing where it must wait
 abbrev pub deed_asked : History → List ℕ → Asked → Option Deed
-deed_asked h p (Asks kind arguments) = option_map (deed_of_call h p kind arguments) (table_call kind arguments)
-deed_asked h p (Receives true) = None
-deed_asked h p (Receives false) = Some TimesOut
-deed_asked h p (asked.Ends reason) = Some (Ends reason)
-deed_asked h p asked.RunsAway = Some RunsAway
+deed_asked h p (Call kind arguments) = option_map (deed_of_call h p kind arguments) (table_call kind arguments)
+deed_asked h p (Receive true) = None
+deed_asked h p (Receive false) = Some TimedOut
+deed_asked h p (asked.End reason) = Some (Ended reason)
+deed_asked h p asked.Runaway = Some RanAway
 
 -- whether there is something to it: a call that is served or judged, an end, or a wait that is over
 abbrev pub is_answered : Asked → Bool
-is_answered (Asks kind arguments) = is_some (table_call kind arguments)
-is_answered (Receives waits) = not waits
-is_answered (asked.Ends reason) = true
-is_answered asked.RunsAway = true
+is_answered (Call kind arguments) = is_some (table_call kind arguments)
+is_answered (Receive waits) = not waits
+is_answered (asked.End reason) = true
+is_answered asked.Runaway = true
 
 -- what a step does next: a turn serves what its process asks, if that lives; nothing is on its way to be delivered
 abbrev pub next_deed : ModuleTree → History → Step → Option Deed

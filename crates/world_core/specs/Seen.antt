@@ -2,9 +2,9 @@
 use Rattle.std.specs.Prelude.{Bool, refl}
 use Rattle.std.specs.Coded.{Coded, code_by, coded×, coded_bool}
 use Rattle.core_tree.specs.Syntax.{ModuleTree}
-use Rattle.core_tree.specs.SyntaxCodes.{coded_module}
+use Rattle.core_tree.specs.inside.SyntaxCodes.{coded_module}
 use Rattle.world_core.specs.Events.{History}
-use Rattle.world_core.specs.DeedCodes.{coded_history}
+use Rattle.world_core.specs.inside.DeedCodes.{coded_history}
 
 pub record Seen : Type 0 where
   pub program : ModuleTree

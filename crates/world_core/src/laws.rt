@@ -5,11 +5,11 @@ ghost use Rattle.core_tree.specs.Calls.{signature, IsRead};
 ghost use Rattle.core_tree.specs.Servable.{IsServableModule};
 ghost use Rattle.core_tree.specs.Syntax.{ModuleTree};
 ghost use Rattle.core_tree.specs.declared.call.CallKind.{CallKind};
-ghost use Rattle.term_core.specs.Meaning.{Meaning, Reference};
+ghost use Rattle.term_core.specs.Meaning.{Meaning, Ref};
 ghost use Rattle.term_core.specs.declared.step.Step.TheVariants.{Turn};
 ghost use Rattle.world_core.specs.Calls.{TableCall, table_call};
 ghost use Rattle.world_core.specs.Effects.{changed};
-ghost use Rattle.world_core.specs.Events.{Happening, History, Serves, Refuses};
+ghost use Rattle.world_core.specs.Events.{Happening, History, Served, Refused};
 ghost use Rattle.world_core.specs.History.{alive, turns, found, owner, protection, rows, find, effect_of, rule_of, answer_of, owner_of};
 ghost use Rattle.world_core.specs.Laws.{IsRefusal, IsAsked, Waits, IsPut};
 ghost use Rattle.world_core.specs.Objects.{last_with, replaced};
@@ -23,7 +23,7 @@ use core_eval::laws::only_calls_that_are_read_are_asked;
 pub fn each_argument_finds_one_table()
     ensures one { (h : History) (a b table : Meaning) → found h a ≡ Some table → found h b ≡ Some table → a ≡ b }
     ensures owned { (h : History) (argument table : Meaning) → found h argument ≡ Some table → (p : List ℕ) × (owner h table ≡ Some p) }
-    ensures fresh { (h : History) (p : List ℕ) (argument : Meaning) → found h argument ≢ Some (Reference p (turns h p + 1)) }
+    ensures fresh { (h : History) (p : List ℕ) (argument : Meaning) → found h argument ≢ Some (Ref p (turns h p + 1)) }
 {}
 
 /// What each argument finds after an event is what it found before, changed by the event's effect.
@@ -69,9 +69,9 @@ pub fn living_processes_have_turns()
 /// else refused by the rule that does, with the owner then where that is told. So it is served exactly
 /// where no rule fails.
 pub fn calls_are_judged()
-    ensures served { (m : ModuleTree) (h : History) (p : List ℕ) (kind : CallKind) (arguments : List Meaning) (call : TableCall) → IsAsked m h p kind arguments call → rule_of h p call ≡ None → next_event m h (Turn p) ≡ Some (happening (Turn p) (Serves kind arguments (answer_of h p call))) }
-    ensures refused { (m : ModuleTree) (h : History) (p : List ℕ) (kind : CallKind) (arguments : List Meaning) (call : TableCall) (rule : Rule) → IsAsked m h p kind arguments call → rule_of h p call ≡ Some rule → next_event m h (Turn p) ≡ Some (happening (Turn p) (Refuses kind arguments rule (if tells_owner rule then owner_of h call else None))) }
-    ensures exactly { (m : ModuleTree) (h : History) (p : List ℕ) (kind : CallKind) (arguments : List Meaning) (call : TableCall) (answer : Meaning) → IsAsked m h p kind arguments call → next_event m h (Turn p) ≡ Some (happening (Turn p) (Serves kind arguments answer)) → rule_of h p call ≡ None }
+    ensures served { (m : ModuleTree) (h : History) (p : List ℕ) (kind : CallKind) (arguments : List Meaning) (call : TableCall) → IsAsked m h p kind arguments call → rule_of h p call ≡ None → next_event m h (Turn p) ≡ Some (happening (Turn p) (Served kind arguments (answer_of h p call))) }
+    ensures refused { (m : ModuleTree) (h : History) (p : List ℕ) (kind : CallKind) (arguments : List Meaning) (call : TableCall) (rule : Rule) → IsAsked m h p kind arguments call → rule_of h p call ≡ Some rule → next_event m h (Turn p) ≡ Some (happening (Turn p) (Refused kind arguments rule (if tells_owner rule then owner_of h call else None))) }
+    ensures exactly { (m : ModuleTree) (h : History) (p : List ℕ) (kind : CallKind) (arguments : List Meaning) (call : TableCall) (answer : Meaning) → IsAsked m h p kind arguments call → next_event m h (Turn p) ≡ Some (happening (Turn p) (Served kind arguments answer)) → rule_of h p call ≡ None }
 {}
 
 /// After objects were put into a table, the last of them with a key is what is under that key, the rows

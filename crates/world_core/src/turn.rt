@@ -1,20 +1,20 @@
 // The turn of a process: the request that it stands at is served, and it runs to the next one.
 ghost use Rattle.std.specs.Prelude.{◌≡◌, ◌++◌, ◌∷◌, ◌+◌, ◌<◌, ◌^◌, true, false, List, IfOk, OnOk, Some, is_some, ◌&&◌, [], codes};
 ghost use Rattle.core_tree.specs.Syntax.{ModuleTree};
-ghost use Rattle.term_core.specs.Meaning.{Name};
+ghost use Rattle.term_core.specs.Meaning.{Atom};
 ghost use Rattle.term_core.specs.Term.{meaning_of};
-ghost use Rattle.core_eval.specs.Asked.{Answered, Asks};
+ghost use Rattle.core_eval.specs.Asked.{Answered, Call};
 ghost use Rattle.core_eval.specs.Requests.{asked_of};
 ghost use Rattle.core_eval.specs.Standing.{after, is_spent};
-ghost use Rattle.world_core.specs.Agreement.{IsProcess, AreTables, IsServed, IsTurn};
+ghost use Rattle.world_core.specs.inside.Agreement.{IsProcess, AreTables, IsServed, IsTurn};
 ghost use Rattle.world_core.specs.Deeds.{deed_seen};
 ghost use Rattle.world_core.specs.Calls.{table_call};
 ghost use Rattle.world_core.specs.Events.{History};
 ghost use Rattle.world_core.specs.History.{turns, answer_in};
-ghost use Rattle.world_core.specs.Records.{find_in};
+ghost use Rattle.world_core.specs.inside.Records.{find_in};
 ghost use Rattle.world_core.specs.Rules.{owner_for};
 ghost use Rattle.world_core.specs.Run.{is_answered, told_owner};
-ghost use Rattle.world_core.specs.TableCalls.{call_of};
+ghost use Rattle.world_core.specs.inside.TableCalls.{call_of};
 
 use crate::event::Deed;
 use crate::process::Process;
@@ -46,7 +46,7 @@ pub(crate) fn is_enabled(process: &Process<'_>) -> bool
 
 /// The reason of the error that a refused call raises.
 fn badarg(alloc: Global) -> Result<Term, AllocError>
-    ensures { IfOk result (λ reason. meaning_of reason ≡ Name (codes "badarg")) }
+    ensures { IfOk result (λ reason. meaning_of reason ≡ Atom (codes "badarg")) }
 {
     Ok(Term::Atom(Atom(String::from_str(alloc, "badarg")?)))
 }
@@ -78,7 +78,7 @@ fn serve<'m>(
 ) -> Result<Deed, AllocError>
     requires { is_some (table_call kind arguments) ≡ true }
     ensures served { IfOk result (λ deed. (h : History) → AreTables h tables.old → number ≡ turns h caller.now + 1
-        → IsServed h caller.now (Asks kind arguments) (deed_seen deed) tables.new) }
+        → IsServed h caller.now (Call kind arguments) (deed_seen deed) tables.new) }
     ensures machine { IfOk result (λ deed. (later : List Answered)
         → after machine.new later ≡ after machine.old (answer_in (deed_seen deed) ++ later)) }
     ensures lives { OnOk result (is_spent machine.new ≡ false) }

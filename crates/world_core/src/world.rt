@@ -2,7 +2,7 @@
 ghost use Rattle.std.specs.Prelude.{◌≡◌, ◌↔◌, [], true, false, Some, None, IfOk, OnOk, OnErr, IfErr, IsErr, IsSome, MatchResult, Contains, option_map, is_some};
 ghost use Rattle.term_core.specs.declared.step.Step.{Step};
 ghost use Rattle.core_tree.specs.Syntax.{ModuleTree};
-ghost use Rattle.world_core.specs.Agreement.{IsProcess};
+ghost use Rattle.world_core.specs.inside.Agreement.{IsProcess};
 ghost use Rattle.world_core.specs.Deeds.{happening_of};
 ghost use Rattle.world_core.specs.Events.{History};
 ghost use Rattle.world_core.specs.Run.{next_event, grown, run, schedule_of, latest, AreInOrder};
@@ -40,7 +40,7 @@ impl<'m> Model for World<'m> {
     ghost coded = { coded_seen };
 
     ghost use Rattle.world_core.specs.Deeds.{history_of};
-    ghost use Rattle.world_core.specs.Agreement.{IsWorld};
+    ghost use Rattle.world_core.specs.inside.Agreement.{IsWorld};
 
     ghost view = { λ w. record { program = w.program.now; history = history_of w.events.items; spent = w.is_spent } };
 

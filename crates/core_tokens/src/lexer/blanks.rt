@@ -3,7 +3,7 @@ ghost use Rattle.std.specs.Prelude.{◌≡◌, ◌≤◌, length};
 ghost use Rattle.std.specs.List.{prefix_len};
 ghost use Rattle.std.specs.Option.{option_map};
 ghost use Rattle.core_tokens.specs.TokenText.{is_line_end, is_blank, is_in_line};
-ghost use Rattle.core_tokens.specs.Lexing.{behind_run, behind_blank_at, Skips, BeginsNoBlank};
+ghost use Rattle.core_tokens.specs.inside.Lexing.{behind_run, behind_blank_at, Skips, BeginsNoBlank};
 
 fn is_line_end(c: u8) -> bool
     ensures { result ≡ is_line_end c }
@@ -34,7 +34,7 @@ fn behind_line(text: &[u8]) -> &[u8]
 }
 
 // What follows one blank or one comment at the front.
-#[tactic(auto, unfolding(crate::specs::Lexing::behind_blank_at))]
+#[tactic(auto, unfolding(crate::specs::inside::Lexing::behind_blank_at))]
 fn behind_blank(text: &[u8]) -> Option<&[u8]>
     ensures { option_map (λ x. x.now) result ≡ behind_blank_at text.now }
 {

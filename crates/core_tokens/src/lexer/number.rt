@@ -5,13 +5,13 @@ ghost use Rattle.std.specs.Option.{option_map};
 ghost use Rattle.std.specs.Char.{is_ascii_digit};
 ghost use Rattle.core_tokens.specs.Piece.{shape_of};
 ghost use Rattle.core_tokens.specs.TokenText.{decimal_value};
-ghost use Rattle.core_tokens.specs.Lexing.{Gives, run_of, behind_run, sign_at, digits_at, fraction_at, exponent_at, integer_of, number_at};
+ghost use Rattle.core_tokens.specs.inside.Lexing.{GivesUnlessMemory, run_of, behind_run, sign_at, digits_at, fraction_at, exponent_at, integer_of, number_at};
 
 use super::trouble::TokenError;
 use crate::token::Lexeme;
 
 // Whether a minus stands at the front, and what follows the sign.
-#[tactic(auto, unfolding(crate::specs::Lexing::sign_at))]
+#[tactic(auto, unfolding(crate::specs::inside::Lexing::sign_at))]
 fn sign(text: &[u8]) -> (bool, &[u8])
     ensures { (result.0, result.1.now) ≡ sign_at text.now }
 {
@@ -39,7 +39,7 @@ fn digit_run(text: &[u8]) -> (&[u8], &[u8])
 }
 
 // The digits at the front, at least one, and what follows them.
-#[tactic(auto, unfolding(crate::specs::Lexing::digits_at))]
+#[tactic(auto, unfolding(crate::specs::inside::Lexing::digits_at))]
 fn digits(text: &[u8]) -> Option<(&[u8], &[u8])>
     ensures { option_map (λ x. (x.0.now, x.1.now)) result ≡ digits_at text.now }
 {
@@ -51,7 +51,7 @@ fn digits(text: &[u8]) -> Option<(&[u8], &[u8])>
 }
 
 // What follows the fraction at the front.
-#[tactic(auto, unfolding(crate::specs::Lexing::fraction_at))]
+#[tactic(auto, unfolding(crate::specs::inside::Lexing::fraction_at))]
 fn behind_fraction(text: &[u8]) -> Option<&[u8]>
     ensures { option_map (λ x. x.now) result ≡ fraction_at text.now }
 {
@@ -63,7 +63,7 @@ fn behind_fraction(text: &[u8]) -> Option<&[u8]>
 }
 
 // What follows the exponent at the front.
-#[tactic(auto, unfolding(crate::specs::Lexing::exponent_at))]
+#[tactic(auto, unfolding(crate::specs::inside::Lexing::exponent_at))]
 fn behind_exponent(text: &[u8]) -> Option<&[u8]>
     ensures { option_map (λ x. x.now) result ≡ exponent_at text.now }
 {
@@ -89,9 +89,9 @@ fn magnitude(digits: &[u8]) -> u64
 }
 
 // The integer of these digits and this sign.
-#[tactic(auto, unfolding(crate::specs::Lexing::integer_of))]
+#[tactic(auto, unfolding(crate::specs::inside::Lexing::integer_of))]
 fn integer(negative: bool, digits: &[u8]) -> Result<i64, TokenError>
-    ensures { Gives (λ n. n) result (integer_of negative (decimal_value digits.now)) }
+    ensures { GivesUnlessMemory (λ n. n) result (integer_of negative (decimal_value digits.now)) }
 {
     let magnitude = magnitude(digits);
     let value = if negative {
@@ -107,9 +107,9 @@ fn integer(negative: bool, digits: &[u8]) -> Result<i64, TokenError>
 /// # Errors
 ///
 /// `NoToken` where no number stands there, `OutOfRange` for an integer that does not fit 64 bits.
-#[tactic(auto, unfolding(crate::specs::Lexing::number_at))]
+#[tactic(auto, unfolding(crate::specs::inside::Lexing::number_at))]
 pub(crate) fn number(text: &[u8]) -> Result<(Lexeme, &[u8]), TokenError>
-    ensures { Gives (λ x. (shape_of x.0, x.1.now)) result (number_at text.now) }
+    ensures { GivesUnlessMemory (λ x. (shape_of x.0, x.1.now)) result (number_at text.now) }
 {
     let (negative, unsigned) = sign(text);
     let Some((digits, rest)) = digits(unsigned) else {

@@ -3,7 +3,7 @@ ghost use Rattle.std.specs.Prelude.{◌≡◌, ◌+◌, ◌*◌, ◌^◌, ◌<�
 ghost use Rattle.std.specs.Option.{option_map};
 ghost use Rattle.std.specs.Str.{continuation_len};
 ghost use Rattle.core_tokens.specs.TokenText.{escape_of, stands_raw};
-ghost use Rattle.core_tokens.specs.Lexing.{Gives, only_character, character_at, octal_digit_at, longer_octal, octal_at, escape_at, unit_at, behind_quote_at, quoted_at, dollar_at};
+ghost use Rattle.core_tokens.specs.inside.Lexing.{GivesUnlessMemory, only_character, character_at, octal_digit_at, longer_octal, octal_at, escape_at, unit_at, behind_quote_at, quoted_at, dollar_at};
 
 use super::trouble::TokenError;
 use std::alloc::Global;
@@ -40,7 +40,7 @@ fn only_character(text: &[u8]) -> Option<char>
 }
 
 /// The first character of bytes in UTF-8, and what follows it. `None` where no character begins.
-#[tactic(auto, unfolding(crate::specs::Lexing::character_at))]
+#[tactic(auto, unfolding(crate::specs::inside::Lexing::character_at))]
 pub(crate) fn first_character(text: &[u8]) -> Option<(char, &[u8])>
     ensures { option_map (λ x. (x.0, x.1.now)) result ≡ character_at text.now }
 {
@@ -53,7 +53,7 @@ pub(crate) fn first_character(text: &[u8]) -> Option<(char, &[u8])>
 }
 
 // An octal digit's number, and what follows it.
-#[tactic(auto, unfolding(crate::specs::Lexing::octal_digit_at))]
+#[tactic(auto, unfolding(crate::specs::inside::Lexing::octal_digit_at))]
 fn octal_digit(text: &[u8]) -> Option<(u32, &[u8])>
     ensures found { option_map (λ x. (x.0, x.1.now)) result ≡ octal_digit_at text.now }
     ensures small { IfSome result (λ x. x.0 < 8) }
@@ -65,7 +65,7 @@ fn octal_digit(text: &[u8]) -> Option<(u32, &[u8])>
 }
 
 // The number with one more octal digit, where one stands, and what follows.
-#[tactic(auto, unfolding(crate::specs::Lexing::longer_octal))]
+#[tactic(auto, unfolding(crate::specs::inside::Lexing::longer_octal))]
 fn longer_octal(number: u32, text: &[u8]) -> (u32, &[u8])
     requires { number < 2 ^ 16 }
     ensures longer { (result.0, result.1.now) ≡ longer_octal number text.now }
@@ -78,7 +78,7 @@ fn longer_octal(number: u32, text: &[u8]) -> (u32, &[u8])
 }
 
 // The number of one to three octal digits, and what follows them.
-#[tactic(auto, unfolding(crate::specs::Lexing::octal_at))]
+#[tactic(auto, unfolding(crate::specs::inside::Lexing::octal_at))]
 fn octal(text: &[u8]) -> Option<(u32, &[u8])>
     ensures found { option_map (λ x. (x.0, x.1.now)) result ≡ octal_at text.now }
     ensures small { IfSome result (λ x. x.0 < 512) }
@@ -110,7 +110,7 @@ fn escape_letter(c: u8) -> Option<char>
 }
 
 /// The character of the escape behind a backslash, and what follows it.
-#[tactic(auto, unfolding(crate::specs::Lexing::escape_at))]
+#[tactic(auto, unfolding(crate::specs::inside::Lexing::escape_at))]
 pub(crate) fn escape(text: &[u8]) -> Option<(char, &[u8])>
     ensures { option_map (λ x. (x.0, x.1.now)) result ≡ escape_at text.now }
 {
@@ -132,7 +132,7 @@ fn stands_raw(quote: u8, c: char) -> bool
 }
 
 // One character or escape between quotes, and what follows it.
-#[tactic(auto, unfolding(crate::specs::Lexing::unit_at))]
+#[tactic(auto, unfolding(crate::specs::inside::Lexing::unit_at))]
 fn unit(quote: u8, text: &[u8]) -> Option<(char, &[u8])>
     ensures { option_map (λ x. (x.0, x.1.now)) result ≡ unit_at quote text.now }
 {
@@ -147,7 +147,7 @@ fn unit(quote: u8, text: &[u8]) -> Option<(char, &[u8])>
 }
 
 // What follows a closing quote at the front.
-#[tactic(auto, unfolding(crate::specs::Lexing::behind_quote_at))]
+#[tactic(auto, unfolding(crate::specs::inside::Lexing::behind_quote_at))]
 fn behind_quote(quote: u8, text: &[u8]) -> Option<&[u8]>
     ensures { option_map (λ x. x.now) result ≡ behind_quote_at quote text.now }
 {
@@ -167,7 +167,7 @@ pub(crate) fn quoted(
     quote: u8,
     text: &[u8],
 ) -> Result<(Vec<char>, &[u8]), TokenError>
-    ensures { Gives (λ x. (x.0.items, x.1.now)) result (quoted_at quote text.now) }
+    ensures { GivesUnlessMemory (λ x. (x.0.items, x.1.now)) result (quoted_at quote text.now) }
 {
     let mut characters = Vec::new(alloc);
     let mut rest = text;
@@ -186,7 +186,7 @@ pub(crate) fn quoted(
 
 /// The text of these characters.
 pub(crate) fn string_of(alloc: Global, characters: &[char]) -> Result<String, TokenError>
-    ensures { Gives (λ s. string_bytes s) result (Ok (encode_utf8_all characters.now)) }
+    ensures { GivesUnlessMemory (λ s. string_bytes s) result (Ok (encode_utf8_all characters.now)) }
 {
     let mut text = String::new(alloc);
     for c in characters {
@@ -196,7 +196,7 @@ pub(crate) fn string_of(alloc: Global, characters: &[char]) -> Result<String, To
 }
 
 /// The character or escape behind `$`, and what follows it.
-#[tactic(auto, unfolding(crate::specs::Lexing::dollar_at))]
+#[tactic(auto, unfolding(crate::specs::inside::Lexing::dollar_at))]
 pub(crate) fn dollar_character(text: &[u8]) -> Option<(char, &[u8])>
     ensures { option_map (λ x. (x.0, x.1.now)) result ≡ dollar_at text.now }
 {

@@ -1,7 +1,7 @@
 // Why no token was read.
 ghost use Rattle.std.specs.Prelude.{◌≡◌};
 ghost use Rattle.core_tokens.specs.declared.lexer.trouble.TokenError.TheVariants.{Memory};
-ghost use Rattle.core_tokens.specs.Lexing.{fault_at};
+ghost use Rattle.core_tokens.specs.inside.Lexing.{fault_at};
 
 use crate::fault::ReadFault;
 use std::alloc::{AllocError, AllocFailed};

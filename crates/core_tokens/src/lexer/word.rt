@@ -4,12 +4,12 @@ ghost use Rattle.std.specs.List.{prefix_len};
 ghost use Rattle.std.specs.Option.{option_map};
 ghost use Rattle.std.specs.Char.{is_ascii_lowercase};
 ghost use Rattle.core_tokens.specs.TokenText.{is_in_name, is_variable_name};
-ghost use Rattle.core_tokens.specs.Lexing.{run_of, behind_run, keyword_of, word_at, name_at, mark_of, mark_behind_minus, mark_at};
+ghost use Rattle.core_tokens.specs.inside.Lexing.{run_of, behind_run, keyword_of, word_at, name_at, mark_of, mark_behind_minus, mark_at};
 
 use crate::token::{Keyword, Mark};
 
 // The keyword of these letters.
-#[tactic(auto, unfolding(crate::specs::Lexing::keyword_of))]
+#[tactic(auto, unfolding(crate::specs::inside::Lexing::keyword_of))]
 fn keyword(word: &[u8]) -> Option<Keyword>
     ensures { result ≡ keyword_of word.now }
 {
@@ -87,7 +87,7 @@ fn letters(text: &[u8]) -> (&[u8], &[u8])
 }
 
 /// The keyword at the front and what follows it. All the lower-case letters there are one word.
-#[tactic(auto, unfolding(crate::specs::Lexing::word_at))]
+#[tactic(auto, unfolding(crate::specs::inside::Lexing::word_at))]
 pub(crate) fn word(text: &[u8]) -> Option<(Keyword, &[u8])>
     ensures { option_map (λ x. (x.0, x.1.now)) result ≡ word_at text.now }
 {
@@ -128,7 +128,7 @@ fn is_variable_name(name: &[u8]) -> bool
 }
 
 /// The variable's name at the front and what follows it.
-#[tactic(auto, unfolding(crate::specs::Lexing::name_at))]
+#[tactic(auto, unfolding(crate::specs::inside::Lexing::name_at))]
 pub(crate) fn variable_name(text: &[u8]) -> Option<(&[u8], &[u8])>
     ensures { option_map (λ x. (x.0.now, x.1.now)) result ≡ name_at text.now }
 {
@@ -141,7 +141,7 @@ pub(crate) fn variable_name(text: &[u8]) -> Option<(&[u8], &[u8])>
 }
 
 // The mark of this one character.
-#[tactic(auto, unfolding(crate::specs::Lexing::mark_of))]
+#[tactic(auto, unfolding(crate::specs::inside::Lexing::mark_of))]
 fn short_mark(c: u8) -> Option<Mark>
     ensures { result ≡ mark_of c }
 {
@@ -166,7 +166,7 @@ fn short_mark(c: u8) -> Option<Mark>
 }
 
 // The mark of a minus and what follows it.
-#[tactic(auto, unfolding(crate::specs::Lexing::mark_behind_minus))]
+#[tactic(auto, unfolding(crate::specs::inside::Lexing::mark_behind_minus))]
 fn mark_behind_minus(text: &[u8]) -> Option<(Mark, &[u8])>
     ensures { option_map (λ x. (x.0, x.1.now)) result ≡ mark_behind_minus text.now }
 {
@@ -178,7 +178,7 @@ fn mark_behind_minus(text: &[u8]) -> Option<(Mark, &[u8])>
 }
 
 /// The mark at the front and what follows it.
-#[tactic(auto, unfolding(crate::specs::Lexing::mark_at))]
+#[tactic(auto, unfolding(crate::specs::inside::Lexing::mark_at))]
 pub(crate) fn mark(text: &[u8]) -> Option<(Mark, &[u8])>
     ensures { option_map (λ x. (x.0, x.1.now)) result ≡ mark_at text.now }
 {

@@ -5,7 +5,7 @@ ghost use Rattle.std.specs.Cmp.{partial_order_from_total, partial_equiv_from_equ
 ghost use Rattle.std.specs.Cmp.Lexicographic.{nat_list_eq_equiv, nat_list_cmp_total, texts_ties, texts_po};
 ghost use Rattle.term_core.specs.Order.{order_of_lists};
 ghost use Rattle.term_core.specs.StepOrder.{order_of_reference_ids};
-ghost use Rattle.term_core.specs.StepOrder.Laws.{reference_ids_total};
+ghost use Rattle.term_core.specs.inside.StepOrderLaws.{reference_ids_total};
 
 use crate::atom::Atom;
 use crate::pid::{Pid, RefId};

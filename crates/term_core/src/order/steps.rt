@@ -3,7 +3,7 @@ ghost use Rattle.std.specs.Prelude.{◌≡◌, ◌↔◌, List, IsTrue, refl};
 ghost use Rattle.std.specs.Ordering.{eq_by_cmp, as_partial_cmp};
 ghost use Rattle.std.specs.Cmp.{IsTotalOrder, partial_order_from_total, partial_equiv_from_equiv, eq_by_cmp_equiv};
 ghost use Rattle.term_core.specs.StepOrder.{order_of_steps, order_of_schedules};
-ghost use Rattle.term_core.specs.StepOrder.Laws.{steps_total};
+ghost use Rattle.term_core.specs.inside.StepOrderLaws.{steps_total};
 ghost use Rattle.term_core.specs.declared.step.Step.{Step};
 
 use crate::step::Step;

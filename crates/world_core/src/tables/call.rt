@@ -1,7 +1,7 @@
 // The calls of tables that are served.
 ghost use Rattle.std.specs.Prelude.{◌≡◌, option_map};
 ghost use Rattle.world_core.specs.Calls.{table_call};
-ghost use Rattle.world_core.specs.TableCalls.{call_of};
+ghost use Rattle.world_core.specs.inside.TableCalls.{call_of};
 
 use core_tree::CallKind;
 use term_core::{Term, Terms};

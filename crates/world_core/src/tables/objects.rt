@@ -1,10 +1,10 @@
 // The objects that are put into a table.
 ghost use Rattle.std.specs.Prelude.{◌≡◌, ◌∷◌, [], None, Some, List, OnOk, option_map, if◌then◌else◌};
-ghost use Rattle.term_core.specs.Meaning.{Meaning, Group, group_of};
+ghost use Rattle.term_core.specs.Meaning.{Meaning, Tuple, meanings_of};
 ghost use Rattle.term_core.specs.Term.{meaning_of};
 ghost use Rattle.world_core.specs.Objects.{tuple_of, objects_of, is_short, last_with, replaced};
 ghost use Rattle.world_core.specs.Rules.{rule_of_objects};
-ghost use Rattle.world_core.specs.Stored.{objects_under};
+ghost use Rattle.world_core.specs.inside.Stored.{objects_under};
 ghost use Rattle.world_core.specs.declared.tables.rule.Rule.TheVariants.{ShortObject};
 
 use crate::tables::rows::Rows;
@@ -14,7 +14,7 @@ use term_core::{Pair, Term, Terms};
 
 /// The parts of the tuple that a term is.
 fn tuple_of(term: &Term) -> Option<&Terms>
-    ensures { option_map (λ parts. Group (group_of parts.now)) result ≡ tuple_of (meaning_of term.now) }
+    ensures { option_map (λ parts. Tuple (meanings_of parts.now)) result ≡ tuple_of (meaning_of term.now) }
 {
     match term {
         Term::Tuple(parts) => Some(parts),
@@ -24,7 +24,7 @@ fn tuple_of(term: &Term) -> Option<&Terms>
 
 /// Whether an object with these parts is too short to have a key.
 fn is_short(parts: &Terms) -> bool
-    ensures { result ≡ is_short (Group (group_of parts.now)) }
+    ensures { result ≡ is_short (Tuple (meanings_of parts.now)) }
 {
     parts.is_empty()
 }
@@ -68,7 +68,7 @@ pub(crate) fn rule_of_objects(objects: &Term) -> Option<Rule>
 /// Puts an object with these parts in, unless it is too short to have a key.
 fn insert_object(alloc: Global, rows: &mut Rows, parts: &Terms) -> Result<(), AllocError>
     ensures { OnOk result ((key : Meaning) →
-        objects_under rows.new key ≡ replaced (last_with key (Group (group_of parts.now) ∷ [])) (objects_under rows.old key)) }
+        objects_under rows.new key ≡ replaced (last_with key (Tuple (meanings_of parts.now) ∷ [])) (objects_under rows.old key)) }
 {
     let Some(key) = parts.as_slice().first() else {
         return Ok(());

@@ -2,7 +2,7 @@
 ghost use Rattle.std.specs.Prelude.{◌≡◌, ◌||◌, [], option_map, unwrap_or};
 ghost use Rattle.term_core.specs.Term.{meaning_of};
 ghost use Rattle.world_core.specs.Options.{option_of, options_of, protection_in, is_named_option};
-ghost use Rattle.world_core.specs.Settings.{settings_of, settings_by};
+ghost use Rattle.world_core.specs.inside.Settings.{settings_of, settings_by};
 
 use term_core::{Pair, Term};
 

@@ -1,6 +1,6 @@
 // What is kept of one table.
 ghost use Rattle.std.specs.Prelude.{◌≡◌, List, Some, IfOk, OnOk};
-ghost use Rattle.term_core.specs.Meaning.{Meaning, Reference};
+ghost use Rattle.term_core.specs.Meaning.{Meaning, Ref};
 ghost use Rattle.term_core.specs.Term.{meaning_of};
 ghost use Rattle.world_core.specs.Effects.{made, filled};
 ghost use Rattle.world_core.specs.Objects.{objects_of};
@@ -21,7 +21,7 @@ pub(crate) struct Table {
 }
 
 impl Table {
-    ghost use Rattle.world_core.specs.Records.{found_in};
+    ghost use Rattle.world_core.specs.inside.Records.{found_in};
 
     /// A table without objects that this process makes in its turn of this number, or `AllocError`
     /// where memory is wanting.
@@ -31,7 +31,7 @@ impl Table {
         number: u64,
         protection: Protection,
     ) -> Result<Table, AllocError>
-        ensures { IfOk result (λ table. found_in table ≡ made (Reference owner.now number) owner.now protection) }
+        ensures { IfOk result (λ table. found_in table ≡ made (Ref owner.now number) owner.now protection) }
     {
         Ok(Table {
             reference: RefId {

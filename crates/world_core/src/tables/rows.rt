@@ -1,9 +1,9 @@
 // The objects of a table.
 ghost use Rattle.std.specs.Prelude.{◌≡◌, ◌∷◌, [], OnOk, if◌then◌else◌, option_map, option_copied};
-ghost use Rattle.term_core.specs.Meaning.{Meaning, Group, group_of};
+ghost use Rattle.term_core.specs.Meaning.{Meaning, Tuple, meanings_of};
 ghost use Rattle.term_core.specs.Term.{meaning_of};
 ghost use Rattle.world_core.specs.Names.{same_term};
-ghost use Rattle.world_core.specs.Stored.{entry_at, objects_under};
+ghost use Rattle.world_core.specs.inside.Stored.{entry_at, objects_under};
 
 use indexmap::IndexMap;
 use std::alloc::{AllocError, Global};
@@ -18,13 +18,13 @@ pub(crate) struct Rows(IndexMap<Term, Terms>);
 impl Model for Rows {
     ghost use Rattle.std.specs.Prelude.{List};
     ghost use Rattle.term_core.specs.Meaning.{Meaning};
-    ghost use Rattle.world_core.specs.Stored.{coded_rows};
+    ghost use Rattle.world_core.specs.inside.Stored.{coded_rows};
 
     ghost Value = { List (Meaning × List Meaning) };
 
     ghost coded = { coded_rows };
 
-    ghost use Rattle.world_core.specs.Stored.{entries_of};
+    ghost use Rattle.world_core.specs.inside.Stored.{entries_of};
 
     ghost view = { λ r. entries_of r.0.entries };
 }
@@ -48,7 +48,7 @@ impl Rows {
     /// `ets:insert/2`, type `set`), or drops it with `AllocError` where memory is wanting.
     pub(crate) fn insert(&mut self, key: Term, object: Terms) -> Result<(), AllocError>
         ensures { OnOk result ((other : Meaning) → objects_under self.new other
-            ≡ (if same_term (meaning_of key) other then Group (group_of object) ∷ [] else objects_under self.old other)) }
+            ≡ (if same_term (meaning_of key) other then Tuple (meanings_of object) ∷ [] else objects_under self.old other)) }
     {
         self.0.insert(key, object)?;
         Ok(())

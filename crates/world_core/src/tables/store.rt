@@ -1,14 +1,14 @@
 // The tables of a world: a call is judged first, and applied where no rule refuses it.
 ghost use Rattle.std.specs.Prelude.{◌≡◌, [], ◌∷◌, List, None, Some, IfOk, OnOk, option_map, option_copied, if◌then◌else◌, codes};
-ghost use Rattle.term_core.specs.Meaning.{Meaning, Name, Reference, Empty};
+ghost use Rattle.term_core.specs.Meaning.{Meaning, Atom, Ref, Nil};
 ghost use Rattle.term_core.specs.Term.{meaning_of, list_onto};
 ghost use Rattle.world_core.specs.Answers.{answer_for, objects_at};
 ghost use Rattle.world_core.specs.Calls.{New};
 ghost use Rattle.world_core.specs.Effects.{changed, effect_of_call, Makes, Puts};
 ghost use Rattle.world_core.specs.Objects.{objects_of};
 ghost use Rattle.world_core.specs.Rules.{rule_for, rule_on, owner_for};
-ghost use Rattle.world_core.specs.Stored.{object_of};
-ghost use Rattle.world_core.specs.TableCalls.{call_of};
+ghost use Rattle.world_core.specs.inside.Stored.{object_of};
+ghost use Rattle.world_core.specs.inside.TableCalls.{call_of};
 
 use crate::tables::access::{Class, refusal};
 use crate::tables::call::TableCall;
@@ -30,7 +30,7 @@ impl Model for Tables {
     ghost use Rattle.std.specs.Prelude.{List};
     ghost use Rattle.term_core.specs.Meaning.{Meaning};
     ghost use Rattle.std.specs.Coded.{coded_list, coded×};
-    ghost use Rattle.term_core.specs.Meaning.{coded_meaning};
+    ghost use Rattle.term_core.specs.inside.MeaningCodes.{coded_meaning};
     ghost use Rattle.world_core.specs.declared.tables.record.Table.{Table};
     ghost use Rattle.world_core.specs.contracts.tables.record.Table as table;
 
@@ -38,13 +38,13 @@ impl Model for Tables {
 
     ghost coded = { coded_list (coded× coded_meaning table.the_row.coded) };
 
-    ghost use Rattle.world_core.specs.Stored.{entries_of};
+    ghost use Rattle.world_core.specs.inside.Stored.{entries_of};
 
     ghost view = { λ t. entries_of t.0.entries };
 }
 
 impl Tables {
-    ghost use Rattle.world_core.specs.Records.{found_in, find_in};
+    ghost use Rattle.world_core.specs.inside.Records.{found_in, find_in};
 
     /// No tables.
     pub(crate) fn new(alloc: Global) -> Tables
@@ -153,9 +153,9 @@ impl Tables {
         name: &Term,
         settings: Settings,
     ) -> Result<Term, AllocError>
-        ensures answer { IfOk result (λ answer. meaning_of answer ≡ (if settings.is_named then meaning_of name.now else Reference caller.now number)) }
+        ensures answer { IfOk result (λ answer. meaning_of answer ≡ (if settings.is_named then meaning_of name.now else Ref caller.now number)) }
         ensures tables { IfOk result (λ answer. (argument : Meaning) →
-            find_in self.new argument ≡ changed (Makes (Reference caller.now number) caller.now (meaning_of answer) settings.protection) (find_in self.old) argument) }
+            find_in self.new argument ≡ changed (Makes (Ref caller.now number) caller.now (meaning_of answer) settings.protection) (find_in self.old) argument) }
     {
         let table = Table::new(alloc, caller, number, settings.protection)?;
         let handle = handle_of(alloc, caller, number, name, settings)?;
@@ -166,7 +166,7 @@ impl Tables {
 
     /// Puts objects into the table that an argument finds, and gives `'true'`.
     fn insert(&mut self, alloc: Global, argument: &Term, objects: &Term) -> Result<Term, AllocError>
-        ensures answer { IfOk result (λ answer. meaning_of answer ≡ Name (codes "true")) }
+        ensures answer { IfOk result (λ answer. meaning_of answer ≡ Atom (codes "true")) }
         ensures tables { OnOk result ((os : List Meaning) → objects_of (meaning_of objects.now) ≡ Some os → (other : Meaning) →
             find_in self.new other ≡ changed (Puts (meaning_of argument.now) os) (find_in self.old) other) }
     {
@@ -187,7 +187,7 @@ impl Tables {
 
     /// The list of the objects under a key in the table that an argument finds.
     fn lookup(&self, alloc: Global, argument: &Term, key: &Term) -> Result<Term, AllocError>
-        ensures { IfOk result (λ answer. meaning_of answer ≡ list_onto (objects_at (find_in self.now (meaning_of argument.now)) (meaning_of key.now)) Empty) }
+        ensures { IfOk result (λ answer. meaning_of answer ≡ list_onto (objects_at (find_in self.now (meaning_of argument.now)) (meaning_of key.now)) Nil) }
     {
         let Some(parts) = self.object_at(argument, key) else {
             return Ok(Term::Nil);
@@ -206,7 +206,7 @@ fn handle_of(
     name: &Term,
     settings: Settings,
 ) -> Result<Term, AllocError>
-    ensures { IfOk result (λ handle. meaning_of handle ≡ (if settings.is_named then meaning_of name.now else Reference caller.now number)) }
+    ensures { IfOk result (λ handle. meaning_of handle ≡ (if settings.is_named then meaning_of name.now else Ref caller.now number)) }
 {
     if settings.is_named {
         return name.copy(alloc);

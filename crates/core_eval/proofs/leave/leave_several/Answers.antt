@@ -1,8 +1,8 @@
 use Rattle.std.proofs.Common.{◌+◌, sym, subst, arith}
 use Rattle.core_eval.specs.Evaluation.{Yields}
-use Rattle.core_eval.specs.Frames.{hole_of}
+use Rattle.core_eval.specs.inside.Frames.{hole_of}
 use Rattle.core_eval.specs.Holes.{scope, filled}
-use Rattle.core_eval.specs.Steps.{work_in}
+use Rattle.core_eval.specs.inside.Steps.{work_in}
 use Rattle.core_eval.specs.declared.frame.Frame.{Frame}
 use Rattle.core_eval.proofs.Errors.{WantsOne, filled-miscounted, goes_on}
 use Rattle.core_eval.proofs.leave.leave_several.Goals as goal

@@ -1,12 +1,12 @@
 use Rattle.std.proofs.Common.{◌∷◌, [], ◌∙◌}
 use Rattle.std.specs.Prelude.{codes}
-use Rattle.term_core.specs.Meaning.{Group, group_of}
+use Rattle.term_core.specs.Meaning.{Tuple, meanings_of}
 use Rattle.core_eval.specs.Evaluation.{as_one, name}
 use Rattle.core_eval.proofs.Errors.{same_limited_error}
 use Rattle.core_eval.proofs.leave.no_clause.Goals as goal
 
 pub returns-clause-same : goal.returns-clause-same
 returns-clause-same c =
-    same_limited_error _ _ (Group (group_of (name (codes "case_clause") ∷ as_one c.args.values ∷ [])))
-    (c.in_ok-pair.ensures ∙ (λ i. Group (group_of (c.in_ok-atom.ensures i ∷ c.in_ok-whole.ensures i ∷ []))))
+    same_limited_error _ _ (Tuple (meanings_of (name (codes "case_clause") ∷ as_one c.args.values ∷ [])))
+    (c.in_ok-pair.ensures ∙ (λ i. Tuple (meanings_of (c.in_ok-atom.ensures i ∷ c.in_ok-whole.ensures i ∷ []))))
     c.limited_error.ensures.same

@@ -1,7 +1,7 @@
 use Rattle.std.proofs.Common.{List, length, ap, sym, ◌∙◌, arith}
 use Rattle.core_tree.specs.Tree.{pattern_of}
 use Rattle.std.proofs.lemmas.List.{length-map}
-use Rattle.term_core.specs.Meaning.{Meaning, Group, group_of}
+use Rattle.term_core.specs.Meaning.{Meaning, Tuple, meanings_of}
 use Rattle.term_core.specs.Term.{meaning_of}
 use Rattle.core_eval.proofs.Matches.{group_matches, other_count, each_fails, each_goes_on}
 use Rattle.core_eval.proofs.matching.+matching.Goals as goal
@@ -9,7 +9,7 @@ use Rattle.core_eval.proofs.matching.+matching.Goals as goal
 pub matches-returns-in-Tuple-value : goal.matches-returns-in-Tuple-value
 matches-returns-in-Tuple-value t c =
     group_matches c.matches_each.result c.matches_each.new.bindings (pattern_of c.args.pattern.now) c.in-Tuple.parts (meaning_of c.args.value.now) c.deref-in-Tuple-value.result.now c.args.bindings.now
-    (ap pattern_of c.in-Tuple.is) (ap meaning_of c.in-Tuple-value.is ∙ sym (ap (λ (ms : List Meaning). Group (group_of ms)) c.deref-in-Tuple-value.ensures)) c.matches_each.ensures
+    (ap pattern_of c.in-Tuple.is) (ap meaning_of c.in-Tuple-value.is ∙ sym (ap (λ (ms : List Meaning). Tuple (meanings_of ms)) c.deref-in-Tuple-value.ensures)) c.matches_each.ensures
 
 pub matches_each-returns-then-len-items : goal.matches_each-returns-then-len-items
 matches_each-returns-then-len-items t c =

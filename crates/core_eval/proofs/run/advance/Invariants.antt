@@ -1,6 +1,6 @@
 use Rattle.std.proofs.Common.{◌≡◌, ◌+◌}
 use Rattle.core_eval.specs.Evaluation.{Setting, State}
-use Rattle.core_eval.specs.Steps.{going, load, work}
+use Rattle.core_eval.specs.inside.Steps.{going, load, work}
 use Rattle.core_eval.proofs.run.advance.Given as goal
 
 -- what is on top of the stack means what it meant at first

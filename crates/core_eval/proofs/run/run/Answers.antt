@@ -5,7 +5,7 @@ use Rattle.core_eval.specs.Evaluation.{Setting, State}
 use Rattle.core_eval.specs.Holes.{Hole}
 use Rattle.std.specs.Prelude.{List}
 use Rattle.core_eval.specs.declared.control.Pause.{Pause}
-use Rattle.core_eval.specs.Steps.{paused}
+use Rattle.core_eval.specs.inside.Steps.{paused}
 use Rattle.core_eval.proofs.Running.{asks_in_body, asks_to_run_away}
 use Rattle.core_eval.proofs.run.run.Goals as goal
 

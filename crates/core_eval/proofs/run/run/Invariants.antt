@@ -3,7 +3,7 @@ use Rattle.core_eval.specs.Applications.{setting_of}
 use Rattle.core_eval.specs.Ask.{request_of}
 use Rattle.core_eval.specs.Asked.{Answered}
 use Rattle.core_eval.specs.Evaluation.{before}
-use Rattle.core_eval.specs.Steps.{going}
+use Rattle.core_eval.specs.inside.Steps.{going}
 use Rattle.core_eval.proofs.run.run.Given as goal
 
 -- what is on top of the stack asks, after so many applications, what it asked at first

@@ -1,6 +1,6 @@
 use Rattle.std.proofs.Common.{sym, arith}
 use Rattle.std.proofs.lemmas.Result.{err_from_is_err_and}
-use Rattle.core_scopes.specs.Environment.{setting_in}
+use Rattle.core_scopes.specs.inside.Environment.{setting_in}
 use Rattle.core_scopes.proofs.Gathering.{body_next, body_fails, bodies_out, bodies_done}
 use Rattle.core_scopes.proofs.functions.check_bodies.Goals as goal
 

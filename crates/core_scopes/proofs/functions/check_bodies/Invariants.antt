@@ -1,6 +1,6 @@
 use Rattle.std.proofs.Common.{◌≡◌, map, drop, take}
 use Rattle.core_tree.specs.Definitions.{definition_of}
-use Rattle.core_scopes.specs.Environment.{setting_in, check_bodies}
+use Rattle.core_scopes.specs.inside.Environment.{setting_in, check_bodies}
 use Rattle.core_scopes.proofs.functions.check_bodies.Given as goal
 
 abbrev pub invariant-bodies : goal.invariant-bodies

@@ -2,7 +2,7 @@ use Rattle.std.proofs.Common.{List, sym, ap, ◌∙◌, Ok, ◌≡◌}
 use Rattle.std.proofs.lemmas.Result.{err_from_is_err_and}
 use Rattle.core_tree.specs.Syntax.{NamedAt, ModuleTree}
 use Rattle.core_scopes.specs.Drafts.{draft_of}
-use Rattle.core_scopes.specs.Environment.{check_functions}
+use Rattle.core_scopes.specs.inside.Environment.{check_functions}
 use Rattle.core_scopes.proofs.Gathering.{functions_fail, main_lacks, module_closed}
 use Rattle.core_scopes.proofs.functions.checked_module.Goals as goal
 

@@ -2,7 +2,7 @@ use Rattle.std.proofs.Common.{◌≡◌, ◌||◌, List, ap, subst, arith}
 use Rattle.core_tree.specs.Syntax.{Function, NamedAt}
 use Rattle.core_scopes.specs.Scopes.{exported_by}
 use Rattle.core_scopes.specs.ScopeChecks.{is_defined}
-use Rattle.core_scopes.specs.Environment.{shown}
+use Rattle.core_scopes.specs.inside.Environment.{shown}
 use Rattle.core_scopes.proofs.Gathering.{export_next}
 use Rattle.core_scopes.proofs.ScopeLoops.{drop_item}
 use Rattle.core_scopes.proofs.functions.exported_names.Goals as goal

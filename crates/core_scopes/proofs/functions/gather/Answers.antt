@@ -12,7 +12,7 @@ definitions-preserved c =
     let step = c.in-Some.ensures.steps in
     let before : Gathering all c.definitions.second c.definitions.definitions.entries (defined_of c.in-Some.defined ∷ map defined_of (into_iter_items c.next.new.self)) =
     subst (λ (ds : List DefinitionTree). Gathering all c.definitions.second c.definitions.definitions.entries ds) (ap (map defined_of) step.0) c.definitions.invariant.0 in (
-      rw c.next_second-second.ensures (gathering_on all (map defined_of (into_iter_items c.next.new.self)) c.definitions.definitions.entries c.keep.new.definitions.entries (c.in-Some.defined.function, c.in-Some.defined.definition) c.definitions.second c.in_ok-keep.ensures.new c.in_ok-keep.ensures.old before),
+      rw c.first_duplicate-second.ensures (gathering_on all (map defined_of (into_iter_items c.next.new.self)) c.definitions.definitions.entries c.keep.new.definitions.entries (c.in-Some.defined.function, c.in-Some.defined.definition) c.definitions.second c.in_ok-keep.ensures.new c.in_ok-keep.ensures.old before),
       omega (arith, step.1, c.definitions.invariant.1, ap length step.0),
     )
 

@@ -4,7 +4,7 @@ use Rattle.core_tree.specs.Syntax.{Mention, Pattern, patterns_of}
 use Rattle.core_tree.specs.Tree.{pattern_of}
 use Rattle.core_tree.specs.declared.pattern.Pattern.{Pattern as Shape}
 use Rattle.core_scopes.specs.Scopes.{variables_of, variables_of_all}
-use Rattle.core_scopes.specs.Environment.{shown, Adds}
+use Rattle.core_scopes.specs.inside.Environment.{shown, AddsUnlessMemory}
 use Rattle.core_scopes.proofs.Binding.{Adding, leaf_adds, adds_both, adds_fails, adding_next, adding_fails, adding_done}
 use Rattle.core_scopes.proofs.ScopeLoops.{drop_item, drop_all}
 use Rattle.core_scopes.proofs.scopes.+patterns.Goals as goal
@@ -28,7 +28,7 @@ bind_onto-returns-in_err-bind_patterns t c =
 
 pub bind_onto-returns : goal.bind_onto-returns
 bind_onto-returns t c =
-    subst (λ (v : List Pattern × Pattern). Adds (variables_of_all (patterns_of v.0) ++ variables_of v.1) c.bind_pattern.result (shown c.args.names.now.keys) (shown c.bind_pattern.new.names.keys)) c.onto.view_is
+    subst (λ (v : List Pattern × Pattern). AddsUnlessMemory (variables_of_all (patterns_of v.0) ++ variables_of v.1) c.bind_pattern.result (shown c.args.names.now.keys) (shown c.bind_pattern.new.names.keys)) c.onto.view_is
     (adds_both _ _ _ (shown c.args.names.now.keys) _ _ c.in_ok-bind_patterns.ensures c.bind_pattern.ensures)
 
 pub bind_alias-returns-in_err-bind : goal.bind_alias-returns-in_err-bind
@@ -38,7 +38,7 @@ bind_alias-returns-in_err-bind t c =
 
 pub bind_alias-returns : goal.bind_alias-returns
 bind_alias-returns t c =
-    subst (λ (v : Mention × Pattern). Adds (v.0 ∷ variables_of v.1) c.bind_pattern.result (shown c.args.names.now.keys) (shown c.bind_pattern.new.names.keys)) c.alias.view_is
+    subst (λ (v : Mention × Pattern). AddsUnlessMemory (v.0 ∷ variables_of v.1) c.bind_pattern.result (shown c.args.names.now.keys) (shown c.bind_pattern.new.names.keys)) c.alias.view_is
     (adds_both (_ ∷ []) _ _ (shown c.args.names.now.keys) _ _ c.in_ok-bind.ensures c.bind_pattern.ensures)
 
 pub bind_patterns-returns-in_err-bind_pattern : goal.bind_patterns-returns-in_err-bind_pattern
@@ -49,7 +49,7 @@ bind_patterns-returns-in_err-bind_pattern t c =
     let so_far : Adding old (variables_of_all (patterns_of (map pattern_of ps))) (shown c.patterns.names.keys) (variables_of (pattern_of c.pattern-item.result) ++ variables_of_all (patterns_of (map pattern_of (drop (c.patterns.pattern-index + 1) ps)))) =
     subst (λ (qs : List Shape). Adding old (variables_of_all (patterns_of (map pattern_of ps))) (shown c.patterns.names.keys) (variables_of_all (patterns_of (map pattern_of qs)))) (drop_item ps c.patterns.pattern-index c.pattern-item.result (omega arith) c.pattern-item.is) c.patterns.invariant in
     let all : map pattern_of ps ≡ c.args.patterns.now = ap (map pattern_of) c.deref-pattern-items.ensures.value ∙ c.patterns-2.view_is in
-    rw (p.1, p.2) (subst (λ (qs : List Pattern). Adds (variables_of_all (patterns_of qs)) (Err c.in_err-bind_pattern.field-0.0) old (shown c.bind_pattern.new.names.keys)) all
+    rw (p.1, p.2) (subst (λ (qs : List Pattern). AddsUnlessMemory (variables_of_all (patterns_of qs)) (Err c.in_err-bind_pattern.field-0.0) old (shown c.bind_pattern.new.names.keys)) all
     (adding_fails old _ (variables_of (pattern_of c.pattern-item.result)) _ _ _ so_far c.in_err-bind_pattern.ensures))
 
 pub bind_patterns-patterns-preserved : goal.bind_patterns-patterns-preserved
@@ -67,4 +67,4 @@ bind_patterns-returns t c =
     let all : map pattern_of ps ≡ c.args.patterns.now = ap (map pattern_of) c.deref-pattern-items.ensures.value ∙ c.patterns-2.view_is in
     let done : Adding old (variables_of_all (patterns_of (map pattern_of ps))) (shown c.patterns.names.keys) [] =
     subst (λ (qs : List Shape). Adding old (variables_of_all (patterns_of (map pattern_of ps))) (shown c.patterns.names.keys) (variables_of_all (patterns_of (map pattern_of qs)))) (drop_all ps c.patterns.pattern-index (omega arith)) c.patterns.invariant in
-    subst (λ (qs : List Pattern). Adds (variables_of_all (patterns_of qs)) (Ok tt) old (shown c.patterns.names.keys)) all (adding_done old _ _ done)
+    subst (λ (qs : List Pattern). AddsUnlessMemory (variables_of_all (patterns_of qs)) (Ok tt) old (shown c.patterns.names.keys)) all (adding_done old _ _ done)

@@ -2,7 +2,7 @@ use Rattle.std.proofs.Common.{map, drop}
 use Rattle.core_tree.specs.Syntax.{patterns_of}
 use Rattle.core_tree.specs.Tree.{pattern_of}
 use Rattle.core_scopes.specs.Scopes.{variables_of_all}
-use Rattle.core_scopes.specs.Environment.{shown}
+use Rattle.core_scopes.specs.inside.Environment.{shown}
 use Rattle.core_scopes.proofs.Binding.{Adding}
 use Rattle.core_scopes.proofs.scopes.+patterns.Given as goal
 

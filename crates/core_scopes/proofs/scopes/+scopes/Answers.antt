@@ -2,7 +2,7 @@ use Rattle.std.proofs.Common.{◌≡◌, ◌∙◌, ◌≢◌, List, Err, arith,
 use Rattle.std.proofs.lemmas.Result.{err_from_is_err_and}
 use Rattle.core_tokens.specs.declared.fault.ReadFault.TheVariants.{Memory}
 use Rattle.core_tree.specs.Syntax.{ClauseTree, clauses_of}
-use Rattle.core_scopes.specs.Environment.{bound_in, setting_in}
+use Rattle.core_scopes.specs.inside.Environment.{bound_in, setting_in}
 use Rattle.core_scopes.specs.ScopeChecks.{check_clauses}
 use Rattle.core_scopes.proofs.ScopeLoops.{clauses_fail}
 use Rattle.core_scopes.proofs.scopes.+scopes.Goals as goal

@@ -1,7 +1,7 @@
 use Rattle.std.proofs.Common.{◌≡◌, map, drop}
 use Rattle.core_tree.specs.Syntax.{trees_of, clauses_of}
 use Rattle.core_tree.specs.Tree.{tree_of}
-use Rattle.core_scopes.specs.Environment.{bound_in, setting_in}
+use Rattle.core_scopes.specs.inside.Environment.{bound_in, setting_in}
 use Rattle.core_scopes.specs.ScopeChecks.{check_trees, check_clauses}
 use Rattle.core_scopes.proofs.scopes.+scopes.Given as goal
 

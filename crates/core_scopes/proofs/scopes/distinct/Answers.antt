@@ -1,7 +1,7 @@
 use Rattle.std.proofs.Common.{◌+◌, List, [], ◌∷◌, drop, subst, arith}
 use Rattle.std.proofs.lemmas.Result.{err_from_is_err_and}
 use Rattle.core_tree.specs.Syntax.{Mention}
-use Rattle.core_scopes.specs.Environment.{shown}
+use Rattle.core_scopes.specs.inside.Environment.{shown}
 use Rattle.core_scopes.proofs.Binding.{Adding, adding_next, adding_fails, adding_done}
 use Rattle.core_scopes.proofs.ScopeLoops.{drop_item, drop_all}
 use Rattle.core_scopes.proofs.scopes.distinct.Goals as goal

@@ -1,5 +1,5 @@
 use Rattle.std.proofs.Common.{[], drop}
-use Rattle.core_scopes.specs.Environment.{shown}
+use Rattle.core_scopes.specs.inside.Environment.{shown}
 use Rattle.core_scopes.proofs.Binding.{Adding}
 use Rattle.core_scopes.proofs.scopes.distinct.Given as goal
 

@@ -1,5 +1,5 @@
 use Rattle.std.proofs.Common.{◌≡◌}
-use Rattle.core_scopes.specs.Environment.{bound_in}
+use Rattle.core_scopes.specs.inside.Environment.{bound_in}
 use Rattle.core_scopes.specs.ScopeChecks.{is_among}
 use Rattle.core_scopes.proofs.scopes.is_bound.Given as goal
 

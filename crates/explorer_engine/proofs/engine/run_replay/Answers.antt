@@ -1,7 +1,7 @@
 use Rattle.std.proofs.Common.{◌≡◌, ℕ, List, ap, subst, ◌∙◌}
 use Rattle.std.specs.Prelude.{Ok, Err}
 use Rattle.std.proofs.lemmas.Result.{err_from_is_err_and}
-use Rattle.core_reader.specs.Reader.{SpellsModule}
+use Rattle.core_reader.specs.ModuleText.{SpellsModule}
 use Rattle.core_reader.specs.Refusal.{IsRefusalOf}
 use Rattle.term_core.specs.Schedule.{AreLawful}
 use Rattle.term_core.specs.Text.{text_of_schedule}

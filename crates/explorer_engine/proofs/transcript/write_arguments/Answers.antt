@@ -3,7 +3,7 @@ use Rattle.std.proofs.lemmas.Result.{err_from_is_err_and}
 use Rattle.std.specs.List.{flat_map}
 use Rattle.term_core.specs.Term.{meaning_of}
 use Rattle.term_core.specs.TermText.{text_of_term}
-use Rattle.term_core.proofs.Writing.{owes_all, owes_less, owes_break_in, owes_same, owes_item, breaks_at}
+use Rattle.term_core.specs.inside.Writing.{owes_all, owes_less, owes_break_in, owes_same, owes_item, breaks_at}
 use Rattle.explorer_engine.specs.EventText.{behind_comma, text_of_arguments}
 use Rattle.explorer_engine.proofs.EventTexts.{text_of_arguments-cons}
 use Rattle.explorer_engine.proofs.transcript.write_arguments.Goals as goal

@@ -1,7 +1,7 @@
 use Rattle.std.proofs.Common.{◌≡◌, [], ◌++◌, false, drop}
 use Rattle.std.specs.List.{flat_map}
 use Rattle.term_core.specs.Term.{meaning_of}
-use Rattle.term_core.proofs.Writing.{Owes}
+use Rattle.term_core.specs.inside.Writing.{Owes}
 use Rattle.explorer_engine.specs.EventText.{behind_comma, text_of_arguments}
 use Rattle.explorer_engine.proofs.transcript.write_arguments.Given as goal
 

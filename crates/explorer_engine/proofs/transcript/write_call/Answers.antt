@@ -1,8 +1,8 @@
 use Rattle.std.proofs.Common.{codes}
 use Rattle.std.proofs.lemmas.Result.{err_from_is_err_and}
-use Rattle.term_core.proofs.Writing.{owes_all, owes_less, owes_break_in, writes_last, breaks_at}
+use Rattle.term_core.specs.inside.Writing.{owes_all, owes_less, owes_break_in, writes_last, breaks_at}
 use Rattle.std.proofs.Common.{◌∙◌}
-use Rattle.term_core.proofs.Writing.{owes_same}
+use Rattle.term_core.specs.inside.Writing.{owes_same}
 use Rattle.explorer_engine.proofs.EventTexts.{text_of_call-names}
 use Rattle.explorer_engine.proofs.transcript.write_call.Goals as goal
 

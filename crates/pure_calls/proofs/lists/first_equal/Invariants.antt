@@ -1,6 +1,6 @@
 use Rattle.std.proofs.Common.{◌≡◌, ◌+◌, drop, map, option_map}
 use Rattle.term_core.specs.Term.{meaning_of}
-use Rattle.pure_calls.specs.Walks.{first_equal}
+use Rattle.pure_calls.specs.inside.Walks.{first_equal}
 use Rattle.pure_calls.proofs.lists.first_equal.Given as goal
 
 -- the first place among the items that are left, counted from the beginning

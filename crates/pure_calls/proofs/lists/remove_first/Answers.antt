@@ -1,7 +1,7 @@
 use Rattle.std.proofs.Common.{◌∙◌, ap, sym, map, List, arith}
 use Rattle.term_core.specs.Term.{meaning_of}
 use Rattle.term_core.specs.declared.term.Term.{Term}
-use Rattle.pure_calls.specs.Walks.{first_equal}
+use Rattle.pure_calls.specs.inside.Walks.{first_equal}
 use Rattle.pure_calls.proofs.ListSteps.{first_removed, none_removed}
 use Rattle.pure_calls.proofs.lists.remove_first.Goals as goal
 

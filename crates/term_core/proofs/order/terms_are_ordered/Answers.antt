@@ -1,4 +1,4 @@
-use Rattle.term_core.specs.Order.Laws.{same_term, terms_total}
+use Rattle.term_core.specs.inside.OrderLaws.{same_term, terms_total}
 use Rattle.term_core.proofs.order.terms_are_ordered.Goals as goal
 
 pub returns-clause-total : goal.returns-clause-total

@@ -1,4 +1,4 @@
-use Rattle.term_core.proofs.Writing.{owes_after, stays_sound}
+use Rattle.term_core.specs.inside.Writing.{owes_after, stays_sound}
 use Rattle.term_core.proofs.stream.write_all.Goals as goal
 
 pub loop-rest-preserved : goal.loop-rest-preserved

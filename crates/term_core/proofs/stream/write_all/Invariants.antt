@@ -1,5 +1,5 @@
 use Rattle.std.proofs.Common.{◌≡◌, false, length}
-use Rattle.term_core.proofs.Writing.{Owes}
+use Rattle.term_core.specs.inside.Writing.{Owes}
 use Rattle.term_core.proofs.stream.write_all.Given as goal
 
 -- the sink is sound, and what is left is owed

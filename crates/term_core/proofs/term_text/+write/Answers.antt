@@ -1,10 +1,10 @@
 use Rattle.std.proofs.Common.{[], ◌∷◌, ◌∙◌, ap, sym, map, arith}
 use Rattle.std.proofs.lemmas.Result.{err_from_is_err_and}
-use Rattle.term_core.specs.Meaning.{Meaning, Cell, node_count, sum_of_nodes, group_of}
+use Rattle.term_core.specs.Meaning.{Meaning, Cons, node_count, sum_of_nodes, meanings_of}
 use Rattle.term_core.specs.Term.{meaning_of}
 use Rattle.term_core.specs.TermText.{text_of_term}
 use Rattle.term_core.proofs.Texts.{marked, marked-drop, tuple_opens, list_opens, tail_goes_on, end_behind_bar, part_smaller, parts_left}
-use Rattle.term_core.proofs.Writing.{owes_all, owes_less, owes_break_in, owes_same, writes_last, breaks_at}
+use Rattle.term_core.specs.inside.Writing.{owes_all, owes_less, owes_break_in, owes_same, writes_last, breaks_at}
 use Rattle.term_core.proofs.term_text.+write.Goals as goal
 
 pub write_behind-returns-in_err-write_all : goal.write_behind-returns-in_err-write_all
@@ -42,13 +42,13 @@ write_list-loop-rest-init g t c =
 pub write_list-returns-in_err-write_behind-2 : goal.write_list-returns-in_err-write_behind-2
 write_list-returns-in_err-write_behind-2 g t c =
     let p = err_from_is_err_and c.from_residual-in_err-write_behind-2.result c.from_residual-in_err-write_behind-2.ensures.1 in
-    let cell = ap meaning_of c.in-Cons.is ∙ sym (ap (λ (q : Meaning × Meaning). Cell q.0 q.1) (c.pair-in-Cons.view_is ∙ c.deref-pair.ensures)) in
+    let cell = ap meaning_of c.in-Cons.is ∙ sym (ap (λ (q : Meaning × Meaning). Cons q.0 q.1) (c.pair-in-Cons.view_is ∙ c.deref-pair.ensures)) in
     let o = owes_same _ _ _ _ _ (tail_goes_on _ (meaning_of c.pair-in-Cons.inside.head, meaning_of c.pair-in-Cons.inside.tail) cell) c.loop-rest.invariant.2 in
     breaks_at _ _ _ _ _ _ p.1 (owes_break_in _ _ _ _ (44 ∷ text_of_term (meaning_of c.pair-in-Cons.inside.head)) _ _ o c.in_err-write_behind-2.ensures)
 
 pub write_list-loop-rest-preserved : goal.write_list-loop-rest-preserved
 write_list-loop-rest-preserved g t c =
-    let cell = ap meaning_of c.in-Cons.is ∙ sym (ap (λ (q : Meaning × Meaning). Cell q.0 q.1) (c.pair-in-Cons.view_is ∙ c.deref-pair.ensures)) in
+    let cell = ap meaning_of c.in-Cons.is ∙ sym (ap (λ (q : Meaning × Meaning). Cons q.0 q.1) (c.pair-in-Cons.view_is ∙ c.deref-pair.ensures)) in
     let o = owes_same _ _ _ _ _ (tail_goes_on _ (meaning_of c.pair-in-Cons.inside.head, meaning_of c.pair-in-Cons.inside.tail) cell) c.loop-rest.invariant.2 in
     let w = c.in_ok-write_behind-2.ensures in
     (omega (arith, ap node_count cell), w.sound, owes_less _ _ _ (44 ∷ text_of_term (meaning_of c.pair-in-Cons.inside.head)) _ _ o w.appends)
@@ -57,7 +57,7 @@ pub write_tuple-loop-part-init : goal.write_tuple-loop-part-init
 write_tuple-loop-part-init g t c =
     let parts = ap (map meaning_of) c.deref-part-items.ensures.value ∙ c.parts.view_is in
     let some = parts_left _ _ _ parts c.deref-part-items.ensures.len c.if-is_empty.ensures in
-    (c.requires, owes_same _ _ _ _ _ (tuple_opens c.args.parts.now some ∙ ap (λ ms. marked 123 (group_of ms)) (sym parts)) (owes_all _ _))
+    (c.requires, owes_same _ _ _ _ _ (tuple_opens c.args.parts.now some ∙ ap (λ ms. marked 123 (meanings_of ms)) (sym parts)) (owes_all _ _))
 
 pub write_tuple-write_behind-requires : goal.write_tuple-write_behind-requires
 write_tuple-write_behind-requires g t c κs within =

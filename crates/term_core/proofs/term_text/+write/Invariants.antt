@@ -1,9 +1,9 @@
 use Rattle.std.proofs.Common.{◌≡◌, ◌∷◌, ◌++◌, ◌+◌, ◌*◌, ◌≤◌, false, drop, map}
-use Rattle.term_core.specs.Meaning.{node_count, sum_of_nodes, group_of}
+use Rattle.term_core.specs.Meaning.{node_count, sum_of_nodes, meanings_of}
 use Rattle.term_core.specs.Term.{meaning_of}
 use Rattle.term_core.specs.TermText.{text_of_term, text_of_tail, text_of_tuple}
 use Rattle.term_core.proofs.Texts.{marked}
-use Rattle.term_core.proofs.Writing.{Owes}
+use Rattle.term_core.specs.inside.Writing.{Owes}
 use Rattle.term_core.proofs.term_text.+write.Given as goal
 
 abbrev pub decreases-write_term : goal.decreases-write_term
@@ -24,7 +24,7 @@ decreases-write_list g l = 4 * (node_count l.pair.now.0 + node_count l.pair.now.
 -- the sink is sound, and the parts that are left are owed
 abbrev pub invariant-write_tuple-loop-part : goal.invariant-write_tuple-loop-part
 invariant-write_tuple-loop-part g l =
-    (g.S.Sink.has_failed l.sink ≡ false) × Owes (g.S.Sink.contents l.fn.sink) (g.S.Sink.contents l.sink) (marked l.mark (group_of (map meaning_of (drop l.part-index l.part-items)))) (text_of_tuple (group_of l.fn.parts))
+    (g.S.Sink.has_failed l.sink ≡ false) × Owes (g.S.Sink.contents l.fn.sink) (g.S.Sink.contents l.sink) (marked l.mark (meanings_of (map meaning_of (drop l.part-index l.part-items)))) (text_of_tuple (meanings_of l.fn.parts))
 
 -- the sink is sound, and the tail that is left is owed
 abbrev pub invariant-write_list-loop-rest : goal.invariant-write_list-loop-rest

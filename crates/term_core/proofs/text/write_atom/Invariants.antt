@@ -1,7 +1,7 @@
 use Rattle.std.proofs.Common.{◌≡◌, [], ◌∷◌, ◌++◌, false, drop}
 use Rattle.std.specs.List.{flat_map}
 use Rattle.term_core.specs.TermText.{text_of_atom, printed_byte}
-use Rattle.term_core.proofs.Writing.{Owes}
+use Rattle.term_core.specs.inside.Writing.{Owes}
 use Rattle.term_core.proofs.text.write_atom.Given as goal
 
 -- the sink is sound, and the bytes that are left and the closing quote are owed

@@ -1,6 +1,6 @@
 use Rattle.std.proofs.Common.{[], ◌∷◌}
 use Rattle.std.proofs.lemmas.Result.{err_from_is_err_and}
-use Rattle.term_core.proofs.Writing.{owes_all, owes_less, owes_break_in, writes_last, breaks_at}
+use Rattle.term_core.specs.inside.Writing.{owes_all, owes_less, owes_break_in, writes_last, breaks_at}
 use Rattle.term_core.proofs.text.write_dotted.Goals as goal
 
 pub returns-in_err-write_all : goal.returns-in_err-write_all

@@ -2,7 +2,7 @@ use Rattle.std.proofs.Common.{[], ◌∷◌, ◌∙◌, ap, sym, append-nil, ref
 use Rattle.std.proofs.lemmas.Result.{err_from_is_err_and}
 use Rattle.std.specs.List.{flat_map}
 use Rattle.term_core.specs.Text.{dotted}
-use Rattle.term_core.proofs.Writing.{owes_all, owes_less, owes_break_in, owes_same, owes_item, owes_items_end, owes_nothing, breaks_at}
+use Rattle.term_core.specs.inside.Writing.{owes_all, owes_less, owes_break_in, owes_same, owes_item, owes_items_end, owes_nothing, breaks_at}
 use Rattle.term_core.proofs.text.write_pid.Goals as goal
 
 pub returns-in_err-write_all : goal.returns-in_err-write_all

@@ -1,7 +1,7 @@
 use Rattle.std.proofs.Common.{◌≡◌, [], ◌++◌, false, drop}
 use Rattle.std.specs.List.{flat_map}
 use Rattle.term_core.specs.Text.{dotted, text_of_pid}
-use Rattle.term_core.proofs.Writing.{Owes}
+use Rattle.term_core.specs.inside.Writing.{Owes}
 use Rattle.term_core.proofs.text.write_pid.Given as goal
 
 -- the sink is sound, and the numbers that are left are owed

@@ -2,7 +2,7 @@ use Rattle.std.proofs.Common.{[], ◌∙◌, ap, sym, append-nil}
 use Rattle.std.proofs.lemmas.Result.{err_from_is_err_and}
 use Rattle.term_core.specs.Text.{text_of_step, behind_blank, text_of_schedule}
 use Rattle.term_core.proofs.Texts.{text_of_schedule-cons}
-use Rattle.term_core.proofs.Writing.{owes_all, owes_less, owes_break_in, owes_same, owes_item, breaks_at}
+use Rattle.term_core.specs.inside.Writing.{owes_all, owes_less, owes_break_in, owes_same, owes_item, breaks_at}
 use Rattle.term_core.proofs.text.write_schedule.Goals as goal
 
 pub returns-in_err-write_step : goal.returns-in_err-write_step

@@ -1,6 +1,6 @@
 use Rattle.std.proofs.Common.{sym}
 use Rattle.term_core.specs.Term.{meaning_of}
-use Rattle.world_core.specs.TableCalls.{call_of}
+use Rattle.world_core.specs.inside.TableCalls.{call_of}
 use Rattle.world_core.proofs.Turning.{served}
 use Rattle.world_core.proofs.turn.serve.Goals as goal
 

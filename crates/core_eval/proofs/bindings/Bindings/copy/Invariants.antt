@@ -1,6 +1,6 @@
 use Rattle.std.proofs.Common.{◌≡◌, ◌++◌, drop, map}
 use Rattle.std.specs.Prelude.{reverse}
-use Rattle.core_eval.specs.Bindings.{binding_of}
+use Rattle.core_eval.specs.inside.Bindings.{binding_of}
 use Rattle.core_eval.proofs.bindings.Bindings.copy.Given as goal
 
 -- the copied variables, with those that are left, are all

@@ -1,6 +1,6 @@
 use Rattle.std.proofs.Common.{◌≡◌, ◌≤◌, take, map, length}
 use Rattle.std.specs.Prelude.{reverse}
-use Rattle.core_eval.specs.Bindings.{binding_of}
+use Rattle.core_eval.specs.inside.Bindings.{binding_of}
 use Rattle.core_eval.specs.Matching.{lookup}
 use Rattle.core_eval.proofs.bindings.Bindings.lookup.Given as goal
 

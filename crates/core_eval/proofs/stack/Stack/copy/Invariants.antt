@@ -1,6 +1,6 @@
 use Rattle.std.proofs.Common.{◌≡◌, ◌++◌, drop, map}
 use Rattle.std.specs.Prelude.{reverse}
-use Rattle.core_eval.specs.Frames.{hole_of}
+use Rattle.core_eval.specs.inside.Frames.{hole_of}
 use Rattle.core_eval.proofs.stack.Stack.copy.Given as goal
 
 -- the copied frames, with those that are left, are the stack

@@ -1,5 +1,5 @@
 use Rattle.std.proofs.Common.{◌≡◌, ◌≤◌, take, length}
-use Rattle.core_eval.specs.Frames.{holes_of}
+use Rattle.core_eval.specs.inside.Frames.{holes_of}
 use Rattle.core_eval.specs.Holes.{scope}
 use Rattle.core_eval.specs.Matching.{lookup}
 use Rattle.core_eval.proofs.stack.Stack.lookup.Given as goal

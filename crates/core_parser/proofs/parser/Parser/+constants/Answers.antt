@@ -1,11 +1,11 @@
 use Rattle.std.proofs.Common.{map, sym, ap, ◌∙◌, arith, Err}
 use Rattle.std.proofs.lemmas.Result.{err_from_is_err_and}
 use Rattle.std.proofs.lemmas.List.{map-append}
-use Rattle.core_grammar.specs.Reading.{constant_at}
-use Rattle.core_parser.specs.Parsing.{state_of}
+use Rattle.core_grammar.specs.inside.Decoder.{constant_at}
+use Rattle.core_parser.specs.inside.ParserView.{state_of}
 use Rattle.core_tree.specs.Tree.{constant_of}
-use Rattle.core_grammar.specs.Loops.{begins, goes_on, ends, fails, is_out, pieces_length}
-use Rattle.core_grammar.specs.Levels.{constant_zero, constant_more}
+use Rattle.core_grammar.specs.inside.Loops.{begins, goes_on, ends, fails, is_out, pieces_length}
+use Rattle.core_grammar.specs.inside.Levels.{constant_zero, constant_more}
 use Rattle.core_parser.proofs.parser.Parser.+constants.Goals as goal
 
 pub constant-returns-in_err-constant_form : goal.constant-returns-in_err-constant_form

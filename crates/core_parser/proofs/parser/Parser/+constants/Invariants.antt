@@ -1,8 +1,8 @@
 use Rattle.std.proofs.Common.{◌≡◌, map, ◌+◌, ◌-◌, ◌*◌}
-use Rattle.core_grammar.specs.Reading.{items_at, commas_at, constant_at}
-use Rattle.core_parser.specs.Parsing.{state_of}
+use Rattle.core_grammar.specs.inside.Decoder.{items_at, commas_at, constant_at}
+use Rattle.core_parser.specs.inside.ParserView.{state_of}
 use Rattle.core_tree.specs.Tree.{constant_of}
-use Rattle.core_grammar.specs.Loops.{with_front}
+use Rattle.core_grammar.specs.inside.Loops.{with_front}
 use Rattle.core_parser.proofs.parser.Parser.+constants.Given as goal
 
 abbrev pub decreases-constant : goal.decreases-constant

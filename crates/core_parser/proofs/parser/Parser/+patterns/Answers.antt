@@ -1,11 +1,11 @@
 use Rattle.std.proofs.Common.{map, sym, ap, ◌∙◌, arith, Err}
 use Rattle.std.proofs.lemmas.Result.{err_from_is_err_and}
 use Rattle.std.proofs.lemmas.List.{map-append}
-use Rattle.core_grammar.specs.Reading.{pattern_at}
-use Rattle.core_parser.specs.Parsing.{state_of}
+use Rattle.core_grammar.specs.inside.Decoder.{pattern_at}
+use Rattle.core_parser.specs.inside.ParserView.{state_of}
 use Rattle.core_tree.specs.Tree.{pattern_of}
-use Rattle.core_grammar.specs.Loops.{begins, goes_on, ends, fails, is_out, pieces_length}
-use Rattle.core_grammar.specs.Levels.{pattern_zero, pattern_fails, alias_fails, pattern_reads}
+use Rattle.core_grammar.specs.inside.Loops.{begins, goes_on, ends, fails, is_out, pieces_length}
+use Rattle.core_grammar.specs.inside.Levels.{pattern_zero, pattern_fails, alias_fails, pattern_reads}
 use Rattle.core_parser.proofs.parser.Parser.+patterns.Goals as goal
 
 pub pattern-returns-then-levels-eq0 : goal.pattern-returns-then-levels-eq0

@@ -1,7 +1,7 @@
 use Rattle.std.proofs.lemmas.Result.{err_from_is_err_and}
-use Rattle.core_grammar.specs.Reading.{bare_variable_at, variable_at}
-use Rattle.core_parser.specs.Parsing.{state_of}
-use Rattle.core_grammar.specs.Notes.{is_deep, bare_fails, bare_reads, inside_fails, note_fails, note_reads}
+use Rattle.core_grammar.specs.inside.Decoder.{bare_variable_at, variable_at}
+use Rattle.core_parser.specs.inside.ParserView.{state_of}
+use Rattle.core_grammar.specs.inside.Notes.{is_deep, bare_fails, bare_reads, inside_fails, note_fails, note_reads}
 use Rattle.core_parser.proofs.parser.Parser.+variable.Goals as goal
 
 pub returns-in_err-opens_note : goal.returns-in_err-opens_note

@@ -1,8 +1,8 @@
 use Rattle.std.proofs.Common.{arith}
 use Rattle.std.proofs.lemmas.Result.{err_from_is_err_and}
-use Rattle.core_grammar.specs.Reading.{variable_at}
-use Rattle.core_parser.specs.Parsing.{state_of}
-use Rattle.core_grammar.specs.Loops.{exactly_on, exactly_lack_comma, exactly_lack, exactly_done}
+use Rattle.core_grammar.specs.inside.Decoder.{variable_at}
+use Rattle.core_parser.specs.inside.ParserView.{state_of}
+use Rattle.core_grammar.specs.inside.Loops.{exactly_on, exactly_lack_comma, exactly_lack, exactly_done}
 use Rattle.core_parser.proofs.parser.Parser.parameters.Goals as goal
 
 pub returns-in_err-comma : goal.returns-in_err-comma

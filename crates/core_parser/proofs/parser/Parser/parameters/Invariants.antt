@@ -1,7 +1,7 @@
 use Rattle.std.proofs.Common.{◌≡◌, ◌-◌, ◌==◌, true}
-use Rattle.core_grammar.specs.Reading.{exactly_at, variable_at}
-use Rattle.core_parser.specs.Parsing.{state_of}
-use Rattle.core_grammar.specs.Loops.{with_front}
+use Rattle.core_grammar.specs.inside.Decoder.{exactly_at, variable_at}
+use Rattle.core_parser.specs.inside.ParserView.{state_of}
+use Rattle.core_grammar.specs.inside.Loops.{with_front}
 use Rattle.core_parser.proofs.parser.Parser.parameters.Given as goal
 
 abbrev pub invariant-parameters : goal.invariant-parameters

@@ -1,8 +1,8 @@
 use Rattle.std.proofs.Common.{sym, ap, ◌∙◌, arith, Err}
 use Rattle.std.proofs.lemmas.Result.{err_from_is_err_and}
-use Rattle.core_grammar.specs.Reading.{variable_at}
-use Rattle.core_parser.specs.Parsing.{state_of}
-use Rattle.core_grammar.specs.Loops.{begins, goes_on, ends, fails, is_out, pieces_length}
+use Rattle.core_grammar.specs.inside.Decoder.{variable_at}
+use Rattle.core_parser.specs.inside.ParserView.{state_of}
+use Rattle.core_grammar.specs.inside.Loops.{begins, goes_on, ends, fails, is_out, pieces_length}
 use Rattle.core_parser.proofs.parser.Parser.variable_items.Goals as goal
 
 pub items-init : goal.items-init

@@ -1,14 +1,14 @@
 use Rattle.std.proofs.Common.{map, sym, ap, ◌∙◌, arith, Err}
 use Rattle.std.proofs.lemmas.Result.{err_from_is_err_and}
 use Rattle.std.proofs.lemmas.List.{map-append}
-use Rattle.core_grammar.specs.ReadingForms.{expression_at, start_at, clause_at, inside_start_at}
-use Rattle.core_grammar.specs.Reading.{constant_at}
-use Rattle.core_grammar.specs.Notes.{in_note_ends}
-use Rattle.core_parser.specs.Parsing.{state_of}
-use Rattle.core_reader.specs.Parsing.{state_in, start_of}
+use Rattle.core_grammar.specs.inside.DecoderForms.{expression_at, start_at, clause_at, inside_start_at}
+use Rattle.core_grammar.specs.inside.Decoder.{constant_at}
+use Rattle.core_grammar.specs.inside.Notes.{in_note_ends}
+use Rattle.core_parser.specs.inside.ParserView.{state_of}
+use Rattle.core_reader.specs.inside.ReaderView.{state_in, start_of}
 use Rattle.core_tree.specs.Tree.{tree_of, pattern_of}
-use Rattle.core_grammar.specs.Loops.{begins, goes_on, ends, fails, is_out, pieces_length, exactly_begin, exactly_on, exactly_lack_comma, exactly_lack, exactly_done, rows_on, rows_end, rows_fail, rows_out}
-use Rattle.core_grammar.specs.Forms.{expression_zero, expression_more, start_is_deep, bare_start_fails, bare_start_reads, noted_start_fails, noted_start_reads, started_plain, started_fails, started_reads, let_fails, let_lacks, let_reads, try_fails, try_lacks, try_reads, clause_fails, clause_reads, clauses_begin, case_fails, case_lacks, case_reads}
+use Rattle.core_grammar.specs.inside.Loops.{begins, goes_on, ends, fails, is_out, pieces_length, exactly_begin, exactly_on, exactly_lack_comma, exactly_lack, exactly_done, rows_on, rows_end, rows_fail, rows_out}
+use Rattle.core_grammar.specs.inside.Forms.{expression_zero, expression_more, start_is_deep, bare_start_fails, bare_start_reads, noted_start_fails, noted_start_reads, started_plain, started_fails, started_reads, let_fails, let_lacks, let_reads, try_fails, try_lacks, try_reads, clause_fails, clause_reads, clauses_begin, case_fails, case_lacks, case_reads}
 use Rattle.core_reader.proofs.form_reader.FormReader.+expressions.Goals as goal
 
 -- ---- an expression

@@ -1,9 +1,9 @@
 use Rattle.std.proofs.Common.{◌≡◌, map, ◌+◌, ◌-◌, ◌*◌, ◌==◌, true}
-use Rattle.core_grammar.specs.Reading.{items_at, commas_at, exactly_at, row_at}
-use Rattle.core_grammar.specs.ReadingForms.{expression_at, start_at, clause_at, clauses_at}
-use Rattle.core_reader.specs.Parsing.{state_in}
+use Rattle.core_grammar.specs.inside.Decoder.{items_at, commas_at, exactly_at, row_at}
+use Rattle.core_grammar.specs.inside.DecoderForms.{expression_at, start_at, clause_at, clauses_at}
+use Rattle.core_reader.specs.inside.ReaderView.{state_in}
 use Rattle.core_tree.specs.Tree.{tree_of}
-use Rattle.core_grammar.specs.Loops.{with_front}
+use Rattle.core_grammar.specs.inside.Loops.{with_front}
 use Rattle.core_reader.proofs.form_reader.FormReader.+expressions.Given as goal
 
 abbrev pub decreases-expression : goal.decreases-expression

@@ -1,8 +1,8 @@
 use Rattle.std.proofs.lemmas.Result.{err_from_is_err_and}
-use Rattle.core_grammar.specs.ReadingModules.{bare_module_at}
-use Rattle.core_parser.specs.Parsing.{state_of}
-use Rattle.core_reader.specs.Parsing.{state_in}
-use Rattle.core_grammar.specs.Notes.{is_deep, bare_fails, bare_reads, inside_fails, note_fails, note_reads}
+use Rattle.core_grammar.specs.inside.DecoderModules.{bare_module_at}
+use Rattle.core_parser.specs.inside.ParserView.{state_of}
+use Rattle.core_reader.specs.inside.ReaderView.{state_in}
+use Rattle.core_grammar.specs.inside.Notes.{is_deep, bare_fails, bare_reads, inside_fails, note_fails, note_reads}
 use Rattle.core_reader.proofs.form_reader.FormReader.+noted_module.Goals as goal
 
 pub returns-in_err-opens_note : goal.returns-in_err-opens_note

@@ -1,7 +1,7 @@
 use Rattle.std.proofs.lemmas.Result.{err_from_is_err_and}
-use Rattle.core_parser.specs.Parsing.{state_of}
-use Rattle.core_reader.specs.Parsing.{state_in, opening_of}
-use Rattle.core_grammar.specs.Openings.{opening_is_deep, name_fails, name_reads, opening_fails, opening_ends}
+use Rattle.core_parser.specs.inside.ParserView.{state_of}
+use Rattle.core_reader.specs.inside.ReaderView.{state_in, opening_of}
+use Rattle.core_grammar.specs.inside.Openings.{opening_is_deep, name_fails, name_reads, opening_fails, opening_ends}
 use Rattle.core_reader.proofs.form_reader.FormReader.+opening.Goals as goal
 
 pub opening-returns-in_err-opens_note : goal.opening-returns-in_err-opens_note

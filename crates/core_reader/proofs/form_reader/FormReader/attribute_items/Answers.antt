@@ -1,8 +1,8 @@
 use Rattle.std.proofs.Common.{sym, ap, ◌∙◌, arith, Err}
 use Rattle.std.proofs.lemmas.Result.{err_from_is_err_and}
-use Rattle.core_grammar.specs.ReadingModules.{attribute_at}
-use Rattle.core_reader.specs.Parsing.{state_in}
-use Rattle.core_grammar.specs.Loops.{begins, goes_on, ends, fails, is_out, pieces_length}
+use Rattle.core_grammar.specs.inside.DecoderModules.{attribute_at}
+use Rattle.core_reader.specs.inside.ReaderView.{state_in}
+use Rattle.core_grammar.specs.inside.Loops.{begins, goes_on, ends, fails, is_out, pieces_length}
 use Rattle.core_reader.proofs.form_reader.FormReader.attribute_items.Goals as goal
 
 pub items-init : goal.items-init

@@ -1,8 +1,8 @@
 use Rattle.std.proofs.Common.{◌≡◌, ◌-◌}
-use Rattle.core_grammar.specs.Reading.{items_at, commas_at}
-use Rattle.core_grammar.specs.ReadingModules.{attribute_at}
-use Rattle.core_reader.specs.Parsing.{state_in}
-use Rattle.core_grammar.specs.Loops.{with_front}
+use Rattle.core_grammar.specs.inside.Decoder.{items_at, commas_at}
+use Rattle.core_grammar.specs.inside.DecoderModules.{attribute_at}
+use Rattle.core_reader.specs.inside.ReaderView.{state_in}
+use Rattle.core_grammar.specs.inside.Loops.{with_front}
 use Rattle.core_reader.proofs.form_reader.FormReader.attribute_items.Given as goal
 
 abbrev pub invariant-items : goal.invariant-items

@@ -1,10 +1,10 @@
 use Rattle.std.proofs.Common.{map, sym, ap, ◌∙◌, arith, Err}
 use Rattle.std.proofs.lemmas.Result.{err_from_is_err_and}
 use Rattle.std.proofs.lemmas.List.{map-append}
-use Rattle.core_grammar.specs.ReadingModules.{definition_at}
+use Rattle.core_grammar.specs.inside.DecoderModules.{definition_at}
 use Rattle.core_scopes.specs.Drafts.{defined_of}
-use Rattle.core_reader.specs.Parsing.{state_in}
-use Rattle.core_grammar.specs.Loops.{rows_begin, rows_on, rows_end, rows_fail, rows_out, pieces_length}
+use Rattle.core_reader.specs.inside.ReaderView.{state_in}
+use Rattle.core_grammar.specs.inside.Loops.{rows_begin, rows_on, rows_end, rows_fail, rows_out, pieces_length}
 use Rattle.core_reader.proofs.form_reader.FormReader.definitions.Goals as goal
 
 pub definitions-init : goal.definitions-init

@@ -1,9 +1,9 @@
 use Rattle.std.proofs.Common.{◌≡◌, ◌-◌, map}
-use Rattle.core_grammar.specs.Reading.{row_at, rows_at}
-use Rattle.core_grammar.specs.ReadingModules.{definition_at}
+use Rattle.core_grammar.specs.inside.Decoder.{row_at, rows_at}
+use Rattle.core_grammar.specs.inside.DecoderModules.{definition_at}
 use Rattle.core_scopes.specs.Drafts.{defined_of}
-use Rattle.core_reader.specs.Parsing.{state_in}
-use Rattle.core_grammar.specs.Loops.{with_front}
+use Rattle.core_reader.specs.inside.ReaderView.{state_in}
+use Rattle.core_grammar.specs.inside.Loops.{with_front}
 use Rattle.core_reader.proofs.form_reader.FormReader.definitions.Given as goal
 
 abbrev pub invariant-definitions : goal.invariant-definitions

@@ -1,7 +1,7 @@
 use Rattle.std.proofs.Common.{◌≡◌, ◌-◌}
-use Rattle.core_grammar.specs.Reading.{items_at, commas_at, function_name_at}
-use Rattle.core_reader.specs.Parsing.{state_in}
-use Rattle.core_grammar.specs.Loops.{with_front}
+use Rattle.core_grammar.specs.inside.Decoder.{items_at, commas_at, function_name_at}
+use Rattle.core_reader.specs.inside.ReaderView.{state_in}
+use Rattle.core_grammar.specs.inside.Loops.{with_front}
 use Rattle.core_reader.proofs.form_reader.FormReader.export_items.Given as goal
 
 abbrev pub invariant-items : goal.invariant-items

@@ -1,5 +1,5 @@
 use Rattle.std.proofs.Common.{◌≤◌, length}
-use Rattle.core_tokens.specs.Lexing.{Skips}
+use Rattle.core_tokens.specs.inside.Lexing.{Skips}
 use Rattle.core_tokens.proofs.lexer.blanks.behind_blanks.Given as goal
 
 abbrev pub invariant-loop-after : goal.invariant-loop-after

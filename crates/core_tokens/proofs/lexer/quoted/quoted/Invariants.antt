@@ -1,5 +1,5 @@
 use Rattle.std.proofs.Common.{◌≡◌, ◌-◌, length}
-use Rattle.core_tokens.specs.Lexing.{quoted_in}
+use Rattle.core_tokens.specs.inside.Lexing.{quoted_in}
 use Rattle.core_tokens.proofs.QuotedLoop.{with_front}
 use Rattle.core_tokens.proofs.lexer.quoted.quoted.Given as goal
 

@@ -1,4 +1,4 @@
-use Rattle.core_tree.specs.Alike.Laws.{module_bears, same_image}
+use Rattle.core_tree.specs.inside.AlikeLaws.{module_bears, same_image}
 use Rattle.core_tree.proofs.sameness.ModulePartialEq.eq.Goals as goal
 
 pub returns-clause-same : goal.returns-clause-same

@@ -1,4 +1,4 @@
-use Rattle.term_core.specs.StepOrder.Laws.{same_schedule, schedules_total}
+use Rattle.term_core.specs.inside.StepOrderLaws.{same_schedule, schedules_total}
 use Rattle.term_core.proofs.order.steps.schedules_are_ordered.Goals as goal
 
 pub returns-clause-total : goal.returns-clause-total

@@ -2,7 +2,7 @@ use Rattle.std.proofs.Common.{◌≡◌}
 use Rattle.std.specs.Prelude.{option_map}
 use Rattle.term_core.specs.Term.{meaning_of}
 use Rattle.world_core.specs.Options.{options_of}
-use Rattle.world_core.specs.Settings.{settings_of}
+use Rattle.world_core.specs.inside.Settings.{settings_of}
 use Rattle.world_core.proofs.GatheredOptions.{joined}
 use Rattle.world_core.proofs.tables.options.settings_of.Given as goal
 

@@ -1,7 +1,7 @@
 use Rattle.std.proofs.Common.{◌∙◌, List, ap}
 use Rattle.term_core.specs.Meaning.{Meaning}
 use Rattle.term_core.specs.Term.{meaning_of}
-use Rattle.world_core.specs.Stored.{entry_at}
+use Rattle.world_core.specs.inside.Stored.{entry_at}
 use Rattle.world_core.proofs.StoredRows.{looked_up}
 use Rattle.world_core.proofs.tables.rows.Rows.get.Goals as goal
 

@@ -1,6 +1,6 @@
 use Rattle.std.proofs.Common.{◌∙◌, ap}
-use Rattle.world_core.specs.Records.{find_in}
-use Rattle.world_core.specs.Stored.{entries_of}
+use Rattle.world_core.specs.inside.Records.{find_in}
+use Rattle.world_core.specs.inside.Stored.{entries_of}
 use Rattle.world_core.proofs.StoredTables.{made_at}
 use Rattle.world_core.proofs.tables.store.Tables.create.Goals as goal
 

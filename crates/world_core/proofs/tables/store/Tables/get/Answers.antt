@@ -2,7 +2,7 @@ use Rattle.std.proofs.Common.{◌∙◌, List, ap}
 use Rattle.std.specs.Prelude.{option_map}
 use Rattle.term_core.specs.Meaning.{Meaning}
 use Rattle.term_core.specs.Term.{meaning_of}
-use Rattle.world_core.specs.Records.{found_in, find_in}
+use Rattle.world_core.specs.inside.Records.{found_in, find_in}
 use Rattle.world_core.specs.declared.tables.record.Table.{Table}
 use Rattle.world_core.proofs.StoredRows.{looked_up}
 use Rattle.world_core.proofs.StoredTables.{found_behind}

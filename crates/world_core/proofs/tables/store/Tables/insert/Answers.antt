@@ -4,8 +4,8 @@ use Rattle.term_core.specs.Meaning.{Meaning}
 use Rattle.term_core.specs.Term.{meaning_of}
 use Rattle.world_core.specs.Effects.{filled}
 use Rattle.world_core.specs.Names.{same_term}
-use Rattle.world_core.specs.Records.{found_in, find_in}
-use Rattle.world_core.specs.Stored.{entries_of}
+use Rattle.world_core.specs.inside.Records.{found_in, find_in}
+use Rattle.world_core.specs.inside.Stored.{entries_of}
 use Rattle.world_core.specs.declared.tables.record.Table.{Table}
 use Rattle.world_core.proofs.StoredRows.{looked_up}
 use Rattle.world_core.proofs.StoredTables.{filled_at, none_filled}

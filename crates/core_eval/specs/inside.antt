@@ -1,0 +1,6 @@
+pub mod Bindings
+pub mod Frames
+pub mod Functions
+pub mod HoleCodes
+pub mod Matched
+pub mod Steps

@@ -1,0 +1,119 @@
+-- The steps of the code: what it has on top of its stack means something as a whole, and the work that is left grows less.
+use Rattle.std.specs.Prelude.{ℕ, ◌+◌, ◌*◌, ◌<◌, ◌≡◌, List, [], ◌∷◌, Bool, true, false, not, ◌&&◌, Option}
+use Rattle.core_tree.specs.Syntax.{Mention, Tree, trees_of}
+use Rattle.core_tree.specs.inside.Sizes.{size_of, size_of_list, size_of_clause_list}
+use Rattle.core_tree.specs.Tree.{tree_of}
+use Rattle.term_core.specs.Meaning.{Meaning}
+use Rattle.term_core.specs.Term.{meaning_of}
+use Rattle.core_eval.specs.declared.control.Control.{Control}
+use Rattle.core_eval.specs.declared.control.Control.TheVariants.{Evaluate, Return, Values, Raise, Answer, Ask, Apply}
+use Rattle.core_eval.specs.declared.control.Pause.{Pause}
+use Rattle.core_eval.specs.declared.control.Pause.TheVariants as pauses
+use Rattle.core_eval.specs.Matching.{Environment, bound}
+use Rattle.core_eval.specs.Evaluation.{State, Outcome, Yields, Raises, Setting, then_do, called, limited_answer, within, evaluate, evaluate_all}
+use Rattle.pure_calls.specs.Calls.{answer_of}
+use Rattle.core_eval.specs.Applications.{body_with}
+use Rattle.core_eval.specs.Ask.{request_of}
+use Rattle.core_eval.specs.Requests.{Asked, asked_of}
+use Rattle.core_eval.specs.Holes.{Purpose, Hole, only_keeps, scope, finish, through, standing}
+use Rattle.core_eval.specs.Purposes as purposes
+use Rattle.core_eval.specs.Holes as holes
+
+-- what the outermost expression gives where this is on top of a stack
+abbrev pub going : Setting → List Hole → Control → State → Outcome
+going setting holes (Evaluate expression) s = through setting holes (evaluate setting (tree_of expression.now) (scope holes) s)
+going setting holes (Return value) s = through setting holes (Yields (meaning_of value ∷ []) s)
+going setting holes (Values values) s = through setting holes (Yields values s)
+going setting holes (Raise class reason) s = through setting holes (Raises class (meaning_of reason) s)
+going setting holes (Answer kind arguments) s = through setting holes (limited_answer (answer_of setting.own kind arguments) s)
+going setting holes (Ask kind arguments) s = through setting holes (called kind arguments s)
+going setting holes (Apply function arguments) s = through setting holes (setting.apply function.now arguments s)
+
+-- on top of every stack this means that, which may depend on the setting
+abbrev pub MeansIn : Control → (Setting → State → Outcome) → Type 0
+MeansIn next got = (setting : Setting) (holes : List Hole) (s : State) → going setting holes next s ≡ through setting holes (got setting s)
+
+-- on top of every stack this means that
+abbrev pub Means : Control → (State → Outcome) → Type 0
+Means next got = MeansIn next (λ setting s. got s)
+
+-- what a process asks that stands at a request, or is about to apply a function
+abbrev pub paused : Setting → List Hole → Pause → State → Asked
+paused setting holes (pauses.Request request) s = standing setting holes (asked_of request) s.answers
+paused setting holes (pauses.Application function arguments) s = request_of (through setting holes (setting.apply function.now arguments s))
+
+-- the work that is left in what is on top of a stack
+abbrev pub load : Control → ℕ
+load (Evaluate expression) = 4 * size_of (tree_of expression.now)
+load (Return value) = 2
+load (Values values) = 2
+load (Raise class reason) = 0
+load (Answer kind arguments) = 3
+load (Ask kind arguments) = 0
+load (Apply function arguments) = 0
+
+-- the work that is left behind several expressions
+abbrev pub further : Purpose → List Meaning → ℕ
+further purposes.Tuple done = 0
+further purposes.List done = 0
+further (purposes.Onto t) done = 4 * size_of t
+further (purposes.Call callee) done = 0
+further purposes.Values done = 0
+
+-- the work that is left in a hole
+abbrev pub work_in : Hole → ℕ
+work_in (holes.Parts purpose done later) = 2 + (4 * size_of_list later + further purpose done)
+work_in (holes.Tail items) = 1
+work_in (holes.Body variables body) = 1 + 4 * size_of body
+work_in (holes.Second second) = 1 + 4 * size_of second
+work_in (holes.Clauses clauses) = 1 + 4 * size_of_clause_list clauses
+work_in (holes.Guard bindings body others values) = 2 + (4 * size_of body + 4 * size_of_clause_list others)
+work_in (holes.Try variables body caught handler) = 2 + (4 * size_of body + 4 * size_of handler)
+work_in holes.Catch = 3
+work_in (holes.Kept bindings) = 1
+work_in (holes.Applied bindings) = 1
+
+-- the work that is left in a stack
+abbrev pub work : List Hole → ℕ
+work [] = 0
+work (hole ∷ holes) = work_in hole + work holes
+
+-- whether the top of a stack does nothing but keep variables
+abbrev pub keeps_on_top : List Hole → Bool
+keeps_on_top [] = false
+keeps_on_top (hole ∷ holes) = only_keeps hole
+
+-- whether no more than the top of a stack does nothing but keep variables
+abbrev pub keeps_once : List Hole → Bool
+keeps_once [] = true
+keeps_once (hole ∷ holes) = not (only_keeps hole && keeps_on_top holes)
+
+-- what is on top of the new stack means this in the old one, and less work is left than this
+pub record GoesOn (old new : List Hole) (next : Control) (got : Setting → State → Outcome) (left : ℕ) : Type 0 where
+  pub same : (setting : Setting) (s : State) → going setting new next s ≡ through setting old (got setting s)
+  pub less : load next + work new < left + work old
+
+-- what is on top of the new stack is the evaluation of an expression in the old one
+abbrev pub Enters : List Hole → List Hole → Control → Tree → Type 0
+Enters old new next t = GoesOn old new next (λ setting s. evaluate setting t (scope old) s) (4 * size_of t)
+
+-- what several values are for, once those that are left are there
+abbrev pub gathered : Setting → Purpose → List Meaning → List Tree → Environment → State → Outcome
+gathered setting purpose done later env s = then_do (evaluate_all setting (trees_of later) env done s) (λ vs s'. finish setting purpose env vs s')
+
+-- what is on top of the new stack gathers these values in the old one
+abbrev pub GathersOn : List Hole → List Hole → Control → Purpose → List Meaning → List Tree → Type 0
+GathersOn old new next purpose done later = GoesOn old new next (λ setting s. gathered setting purpose done later (scope old) s) (4 + (4 * size_of_list later + further purpose done))
+
+-- what is on top of the new stack is the evaluation of a body in the old one, with these values bound to variables
+abbrev pub EntersWith : List Hole → List Hole → Control → List Mention → List Meaning → Tree → Type 0
+EntersWith old new next variables values body = GoesOn old new next (λ setting s. within (bound variables values []) (scope old) (λ env s'. evaluate setting body env s') s) (2 + 4 * size_of body)
+
+-- what is on top of the new stack is the body of a function with these arguments in the old one
+abbrev pub Begins : List Hole → List Hole → Control → Option (List Mention × Tree) → List Meaning → Type 0
+Begins old new next function arguments = (setting : Setting) (s : State) → going setting new next s ≡ through setting old (body_with setting function arguments s)
+
+-- the new stack means what the old one does, and on its top something is left to do but to keep variables
+pub record IsBared (old new : List Hole) : Type 0 where
+  pub same : (setting : Setting) (got : Outcome) → through setting new got ≡ through setting old got
+  pub bare : keeps_on_top new ≡ false

@@ -1,0 +1,255 @@
+// The steps of the machine into an expression.
+ghost use Rattle.std.specs.Prelude.{◌≡◌, ◌≤◌, [], IfOk, map};
+ghost use Rattle.core_tree.specs.Syntax.{trees_of, clauses_of};
+ghost use Rattle.core_tree.specs.Expression as trees;
+ghost use Rattle.core_tree.specs.Callee as callees;
+ghost use Rattle.core_tree.specs.Tree.{callee_of, tree_of};
+ghost use Rattle.core_eval.specs.Evaluation.{called_with, limited, value_or_error};
+ghost use Rattle.core_eval.specs.Matching.{lookup, text_of};
+ghost use Rattle.core_eval.specs.inside.Frames.{purpose_of};
+ghost use Rattle.core_eval.specs.Holes.{scope};
+ghost use Rattle.core_eval.specs.inside.Steps.{GoesOn, Means, MeansIn, Enters, GathersOn, load};
+
+use crate::build::{error, limited};
+use crate::control::Control;
+use crate::exception::{match_reason, raise_again};
+use crate::frame::{Frame, Purpose};
+use crate::stack::Stack;
+use core_tree::{Call, Callee, Case, Catch, Do, Expr, Let, Onto, Try, Variable};
+use pure_calls::Class;
+use std::alloc::{AllocError, Global};
+use term_core::{Term, Terms, list_onto};
+
+/// Into an expression.
+pub(crate) fn enter<'m>(
+    alloc: Global,
+    stack: &mut Stack<'m>,
+    expression: &'m Expr,
+) -> Result<Control<'m>, AllocError>
+    ensures { IfOk result (λ next. Enters stack.old stack.new next (tree_of expression.now)) }
+{
+    match expression {
+        Expr::Integer(number) => Ok(Control::Return(Term::Int(*number))),
+        Expr::Character(character) => Ok(Control::Return(Term::Int(*character as i64))),
+        Expr::Text(characters) => text(alloc, characters),
+        Expr::Atom(atom) => Ok(Control::Return(Term::Atom(atom.copy(alloc)?))),
+        Expr::Variable(variable) => value_of(alloc, stack, variable),
+        Expr::Tuple(parts) => gather(
+            alloc,
+            stack,
+            Purpose::Tuple,
+            Terms::new(alloc),
+            parts.0.as_slice(),
+        ),
+        Expr::List(items) => gather(
+            alloc,
+            stack,
+            Purpose::List,
+            Terms::new(alloc),
+            items.0.as_slice(),
+        ),
+        Expr::Onto(onto) => enter_onto(alloc, stack, onto),
+        Expr::Values(values) => gather(
+            alloc,
+            stack,
+            Purpose::Values,
+            Terms::new(alloc),
+            values.0.as_slice(),
+        ),
+        Expr::Let(inner) => enter_let(stack, inner),
+        Expr::Do(both) => enter_do(stack, both),
+        Expr::Call(call) => enter_call(alloc, stack, call),
+        Expr::Case(case) => enter_case(stack, case),
+        Expr::Try(protected) => enter_try(stack, protected),
+        Expr::Catch(protected) => enter_catch(stack, protected),
+    }
+}
+
+/// The value of a variable.
+fn value_of<'m>(
+    alloc: Global,
+    stack: &mut Stack<'m>,
+    variable: &'m Variable,
+) -> Result<Control<'m>, AllocError>
+    ensures { IfOk result (λ next.
+        GoesOn stack.old stack.new next (λ setting s. value_or_error (lookup variable.now.name (scope stack.old)) s) 3) }
+{
+    match stack.lookup(variable.name.as_slice()) {
+        Some(value) => Ok(Control::Return(value.copy(alloc)?)),
+        None => error(alloc, "unbound"),
+    }
+}
+
+/// Into the first items of a list that goes on.
+fn enter_onto<'m>(
+    alloc: Global,
+    stack: &mut Stack<'m>,
+    onto: &'m Onto,
+) -> Result<Control<'m>, AllocError>
+    ensures { IfOk result (λ next. Enters stack.old stack.new next (trees.Onto (trees_of onto.now.0) onto.now.1)) }
+{
+    gather(
+        alloc,
+        stack,
+        Purpose::Onto(&onto.tail),
+        Terms::new(alloc),
+        onto.items.0.as_slice(),
+    )
+}
+
+/// Into the value of a `let`.
+fn enter_let<'m>(stack: &mut Stack<'m>, inner: &'m Let) -> Result<Control<'m>, AllocError>
+    ensures { IfOk result (λ next. Enters stack.old stack.new next (trees.Let inner.now.0 inner.now.1 inner.now.2)) }
+{
+    stack.push(Frame::Body(inner.variables.as_slice(), &inner.body))?;
+    Ok(Control::Evaluate(&inner.value))
+}
+
+/// Into the first expression of a `do`.
+fn enter_do<'m>(stack: &mut Stack<'m>, both: &'m Do) -> Result<Control<'m>, AllocError>
+    ensures { IfOk result (λ next. Enters stack.old stack.new next (trees.Do both.now.0 both.now.1)) }
+{
+    stack.push(Frame::Second(&both.second))?;
+    Ok(Control::Evaluate(&both.first))
+}
+
+/// Into the expression whose values the clauses of a `case` match.
+fn enter_case<'m>(stack: &mut Stack<'m>, case: &'m Case) -> Result<Control<'m>, AllocError>
+    ensures { IfOk result (λ next. Enters stack.old stack.new next (trees.Case case.now.0 case.now.1 (clauses_of case.now.2))) }
+{
+    stack.push(Frame::Clauses(case.clauses.0.as_slice()))?;
+    Ok(Control::Evaluate(&case.value))
+}
+
+/// Into the expression that a `try` protects.
+fn enter_try<'m>(stack: &mut Stack<'m>, protected: &'m Try) -> Result<Control<'m>, AllocError>
+    ensures { IfOk result (λ next.
+        Enters stack.old stack.new next (trees.Try protected.now.0 protected.now.1 protected.now.2 protected.now.3 protected.now.4 protected.now.5)) }
+{
+    stack.push(Frame::Try(protected))?;
+    Ok(Control::Evaluate(&protected.value))
+}
+
+/// Into the expression that a `catch` protects.
+fn enter_catch<'m>(stack: &mut Stack<'m>, protected: &'m Catch) -> Result<Control<'m>, AllocError>
+    ensures { IfOk result (λ next. Enters stack.old stack.new next (trees.Catch protected.now.0 protected.now.1)) }
+{
+    stack.push(Frame::Catch)?;
+    Ok(Control::Evaluate(&protected.value))
+}
+
+/// The list of the numbers of a string's characters.
+fn text<'m>(alloc: Global, characters: &[char]) -> Result<Control<'m>, AllocError>
+    ensures same { IfOk result (λ next. Means next (limited (text_of characters.now))) }
+    ensures less { IfOk result (λ next. load next ≤ 2) }
+{
+    let mut numbers = Vec::new(alloc);
+    'characters: for character in characters {
+        numbers.push(Term::Int(*character as i64))?;
+    }
+    limited(alloc, list_onto(alloc, numbers, Term::Nil)?)
+}
+
+/// Into the arguments of what is called.
+fn enter_call<'m>(
+    alloc: Global,
+    stack: &mut Stack<'m>,
+    call: &'m Call,
+) -> Result<Control<'m>, AllocError>
+    ensures { IfOk result (λ next.
+        Enters stack.old stack.new next (trees.Call call.now.0 call.now.1 (trees_of call.now.2))) }
+{
+    gather(
+        alloc,
+        stack,
+        Purpose::Call(&call.callee),
+        Terms::new(alloc),
+        call.arguments.0.as_slice(),
+    )
+}
+
+/// To the next of several expressions, or to what their values are for.
+pub(crate) fn gather<'m>(
+    alloc: Global,
+    stack: &mut Stack<'m>,
+    purpose: Purpose<'m>,
+    done: Terms,
+    later: &'m [Expr],
+) -> Result<Control<'m>, AllocError>
+    ensures { IfOk result (λ next.
+        GathersOn stack.old stack.new next (purpose_of purpose.entry) done (map tree_of later.now)) }
+{
+    match later.split_first() {
+        Some((first, others)) => {
+            stack.push(Frame::Parts(purpose, done, others))?;
+            Ok(Control::Evaluate(first))
+        }
+        None => complete(alloc, stack, purpose, done),
+    }
+}
+
+/// To what several values are for.
+fn complete<'m>(
+    alloc: Global,
+    stack: &mut Stack<'m>,
+    purpose: Purpose<'m>,
+    done: Terms,
+) -> Result<Control<'m>, AllocError>
+    ensures { IfOk result (λ next.
+        GathersOn stack.old stack.new next (purpose_of purpose.entry) done []) }
+{
+    match purpose {
+        Purpose::Tuple => limited(alloc, Term::tuple(alloc, done)?),
+        Purpose::List => limited(alloc, list_onto(alloc, done.into_vec(), Term::Nil)?),
+        Purpose::Onto(tail) => {
+            stack.push(Frame::Tail(done))?;
+            Ok(Control::Evaluate(tail))
+        }
+        Purpose::Call(callee) => apply(alloc, callee, done),
+        Purpose::Values => Ok(Control::Values(done)),
+    }
+}
+
+/// What is called, applied to its arguments.
+fn apply<'m>(alloc: Global, callee: &'m Callee, arguments: Terms) -> Result<Control<'m>, AllocError>
+    ensures same { IfOk result (λ next. MeansIn next (λ setting s. called_with setting (callee_of callee.now) arguments s)) }
+    ensures less { IfOk result (λ next. load next ≤ 3) }
+{
+    match callee {
+        Callee::World(kind) => Ok(Control::Ask(*kind, arguments)),
+        Callee::Pure(kind) => Ok(Control::Answer(*kind, arguments)),
+        Callee::MatchFail => fail_match(alloc, arguments),
+        Callee::Raise => raise(alloc, arguments),
+        Callee::Exported(function) => Ok(Control::Apply(function, arguments)),
+        Callee::Defined(named) => Ok(Control::Apply(&named.function, arguments)),
+    }
+}
+
+/// `primop 'match_fail'`: the error that its one argument tells.
+fn fail_match<'m>(alloc: Global, arguments: Terms) -> Result<Control<'m>, AllocError>
+    ensures same { IfOk result (λ next. MeansIn next (λ setting s. called_with setting callees.MatchFail arguments s)) }
+    ensures less { IfOk result (λ next. load next ≤ 2) }
+{
+    let mut reasons = arguments.into_vec();
+    match reasons.pop() {
+        Some(reason) if reasons.is_empty() => {
+            Ok(Control::Raise(Class::Error, match_reason(alloc, reason)?))
+        }
+        _ => error(alloc, "undef"),
+    }
+}
+
+/// `primop 'raise'`: the exception that its two arguments tell, the trace and the reason.
+fn raise<'m>(alloc: Global, arguments: Terms) -> Result<Control<'m>, AllocError>
+    ensures same { IfOk result (λ next. MeansIn next (λ setting s. called_with setting callees.Raise arguments s)) }
+    ensures less { IfOk result (λ next. load next ≤ 2) }
+{
+    let mut parts = arguments.into_vec();
+    if parts.len() != 2 {
+        return error(alloc, "undef");
+    }
+    match parts.pop() {
+        Some(reason) => raise_again(alloc, &parts[0], reason),
+        None => error(alloc, "undef"),
+    }
+}

@@ -1,0 +1,4 @@
+pub mod Sizes
+pub mod Depth
+pub mod SyntaxCodes
+pub mod AlikeLaws

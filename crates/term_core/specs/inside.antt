@@ -1,0 +1,6 @@
+pub mod MeaningCodes
+pub mod Depth
+pub mod OrderLaws
+pub mod StepOrderLaws
+pub mod HashInputLaws
+pub mod Writing
