@@ -1,7 +1,7 @@
 -- What a process of a module asks of the world, after the answers that it got so far.
 use Rattle.std.specs.Prelude.{ℕ, Bool, true, false, ◌==◌, ◌&&◌, ◌||◌, List, [], ◌∷◌, Option, None, if◌then◌else◌, nat_le, length, codes}
 use Rattle.std.specs.List.{list_any}
-use Rattle.std.specs.Cmp.Lexicographic.{pointwise}
+use Rattle.term_core.specs.Kinds.{same_text}
 use Rattle.core_tree.specs.Syntax.{Mention, Tree, Function, NamedAt, ModuleTree}
 use Rattle.core_tree.specs.Functions.{same_function}
 use Rattle.term_core.specs.Meaning.{Meaning, Tuple, Nil, meanings_of}
@@ -40,7 +40,7 @@ arity_limit = 255
 
 -- whether a process may begin there: in this module, and but for the first process at an export
 abbrev pub is_open : ModuleTree → List ℕ → Entry → Bool
-is_open m pid e = nat_le (length e.arguments) arity_limit && pointwise ◌==◌ m.name e.module_name && (is_first pid || is_exported (function_of e) m.exports)
+is_open m pid e = nat_le (length e.arguments) arity_limit && same_text m.name e.module_name && (is_first pid || is_exported (function_of e) m.exports)
 
 -- the function that a process begins with, if it may
 abbrev pub first_function : ModuleTree → List ℕ → Entry → Option (List Mention × Tree)

@@ -13,7 +13,8 @@ use Rattle.pure_calls.specs.Answers.{Answer}
 use Rattle.pure_calls.specs.Answers as answers
 use Rattle.pure_calls.specs.Calls.{answer_of}
 use Rattle.core_eval.specs.Asked.{Asked, Call, Answered, Value, Raise, Message, TimedOut}
-use Rattle.core_eval.specs.Matching.{Environment, lookup, bound, text_of, is_name, match_each}
+use Rattle.core_eval.specs.Matching.{Environment, lookup, bound, text_of, match_each}
+use Rattle.term_core.specs.Kinds.{is_the_atom}
 
 -- the answers that are still to come, and the applications made since the last one
 pub record State : Type 0 where
@@ -121,7 +122,7 @@ caught Throw value s = Yields (value ∷ []) s
 
 -- whether a term is a tuple that begins with this atom
 abbrev pub begins_with : List ℕ → Meaning → Bool
-begins_with text (Tuple (Also first others)) = is_name text first
+begins_with text (Tuple (Also first others)) = is_the_atom text first
 begins_with text m = false
 
 -- the reason of a failed match: where the clauses of a function failed, their atom alone
@@ -131,13 +132,13 @@ match_reason reason = if begins_with (codes "function_clause") reason then name 
 -- the class of this name
 abbrev pub class_named : Meaning → Option Class
 class_named m =
-    if is_name (codes "error") m then Some Error
-    else (if is_name (codes "exit") m then Some Exit
-    else (if is_name (codes "throw") m then Some Throw else None))
+    if is_the_atom (codes "error") m then Some Error
+    else (if is_the_atom (codes "exit") m then Some Exit
+    else (if is_the_atom (codes "throw") m then Some Throw else None))
 
 -- the class that a trace tells
 abbrev pub class_in : Meaning → Option Class
-class_in (Tuple (Also tag (Also class NoMore))) = if is_name (codes "$trace") tag then class_named class else None
+class_in (Tuple (Also tag (Also class NoMore))) = if is_the_atom (codes "$trace") tag then class_named class else None
 class_in m = None
 
 -- an exception that was caught before is raised again, with the class that its trace tells
@@ -160,7 +161,7 @@ within (Some bindings) env go s = go (bindings ++ env) s
 -- whether a guard gave `'true'`, and nothing else
 abbrev pub is_true : List Meaning → Bool
 is_true [] = false
-is_true (m ∷ []) = is_name (codes "true") m
+is_true (m ∷ []) = is_the_atom (codes "true") m
 is_true (m ∷ n ∷ ms) = false
 
 -- a guard that gives `'true'` holds; one that gives anything else, or raises, fails

@@ -1,12 +1,11 @@
 -- Patterns (Core Erlang 1.0.3, "Pattern matching"): which variables a pattern binds to a value and its parts, from left to right, if the value matches it.
-use Rattle.std.specs.Prelude.{ℕ, ℤ, pos, map, ◌==◌, ◌&&◌, Bool, true, false, List, [], ◌∷◌, Option, Some, None, if◌then◌else◌}
+use Rattle.std.specs.Prelude.{ℕ, ℤ, pos, map, ◌&&◌, Bool, true, false, List, [], ◌∷◌, Option, Some, None, if◌then◌else◌}
 use Rattle.std.specs.Ordering.{int_eq}
-use Rattle.std.specs.Cmp.Lexicographic.{pointwise}
 use Rattle.core_tree.specs.Syntax.{Mention, Pattern, Patterns}
 use Rattle.core_tree.specs.Pattern as patterns
 use Rattle.term_core.specs.Meaning.{Meaning, Int, Tuple, Nil, Cons, parts_of}
 use Rattle.term_core.specs.Term.{list_onto}
-pub use Rattle.pure_calls.specs.Answers.{is_name}
+use Rattle.term_core.specs.Kinds.{is_the_atom, same_text}
 
 -- the values of variables in scope, innermost first
 abbrev pub Environment : Type 0
@@ -15,7 +14,7 @@ Environment = List (List ℕ × Meaning)
 -- the innermost value of a variable
 abbrev pub lookup : List ℕ → Environment → Option Meaning
 lookup name [] = None
-lookup name (b ∷ env) = if pointwise ◌==◌ b.0 name then Some b.1 else lookup name env
+lookup name (b ∷ env) = if same_text b.0 name then Some b.1 else lookup name env
 
 -- as many variables as values are bound to them, in order, on top of what is bound before
 abbrev pub bound : List Mention → List Meaning → Environment → Option Environment
@@ -59,7 +58,7 @@ abbrev mutual
   match (patterns.Integer n) m before = literal (is_number n m) before
   match (patterns.Character c) m before = literal (is_number (pos c) m) before
   match (patterns.Text cs) m before = literal (is_text cs m) before
-  match (patterns.Atom t) m before = literal (is_name t m) before
+  match (patterns.Atom t) m before = literal (is_the_atom t m) before
   match (patterns.Variable v) m before = Some ((v.name, m) ∷ before)
   match (patterns.Tuple ps) (Tuple ms) before = match_each ps (parts_of ms) before
   match (patterns.Tuple ps) m before = None

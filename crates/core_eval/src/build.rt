@@ -2,30 +2,23 @@
 ghost use Rattle.std.specs.Prelude.{◌≡◌, ◌≤◌, ◌++◌, ◌∷◌, [], IfOk};
 ghost use Rattle.term_core.specs.Meaning.{Tuple, meanings_of};
 ghost use Rattle.term_core.specs.Term.{meaning_of};
-ghost use Rattle.core_eval.specs.Evaluation.{error, limited, limited_error, name};
+ghost use Rattle.core_eval.specs.Evaluation.{error, limited, limited_error};
 ghost use Rattle.core_eval.specs.inside.Steps.{Means, load};
 
 use crate::control::Control;
 use pure_calls::Class;
 use std::alloc::{AllocError, Global};
-use term_core::{Atom, Term, Terms};
+use term_core::{Term, Terms};
 
 /// The most nodes of a term that is built in evaluation.
 const NODE_LIMIT: u64 = 10_000;
-
-/// The atom of this text.
-pub(crate) fn atom(alloc: Global, text: &str) -> Result<Term, AllocError>
-    ensures { IfOk result (λ atom. meaning_of atom ≡ name text.now) }
-{
-    Ok(Term::Atom(Atom(String::from_str(alloc, text)?)))
-}
 
 /// An error whose reason is the atom of this text.
 pub(crate) fn error<'m>(alloc: Global, text: &str) -> Result<Control<'m>, AllocError>
     ensures same { IfOk result (λ next. Means next (error text.now)) }
     ensures less { IfOk result (λ next. load next ≡ 0) }
 {
-    Ok(Control::Raise(Class::Error, atom(alloc, text)?))
+    Ok(Control::Raise(Class::Error, Term::atom(alloc, text)?))
 }
 
 /// The tuple of two terms.

@@ -34,28 +34,10 @@ pub(crate) fn enter<'m>(
         Expr::Text(characters) => text(alloc, characters),
         Expr::Atom(atom) => Ok(Control::Return(Term::Atom(atom.copy(alloc)?))),
         Expr::Variable(variable) => value_of(alloc, stack, variable),
-        Expr::Tuple(parts) => gather(
-            alloc,
-            stack,
-            Purpose::Tuple,
-            Terms::new(alloc),
-            parts.0.as_slice(),
-        ),
-        Expr::List(items) => gather(
-            alloc,
-            stack,
-            Purpose::List,
-            Terms::new(alloc),
-            items.0.as_slice(),
-        ),
+        Expr::Tuple(parts) => enter_parts(alloc, stack, Purpose::Tuple, parts.0.as_slice()),
+        Expr::List(items) => enter_parts(alloc, stack, Purpose::List, items.0.as_slice()),
         Expr::Onto(onto) => enter_onto(alloc, stack, onto),
-        Expr::Values(values) => gather(
-            alloc,
-            stack,
-            Purpose::Values,
-            Terms::new(alloc),
-            values.0.as_slice(),
-        ),
+        Expr::Values(values) => enter_parts(alloc, stack, Purpose::Values, values.0.as_slice()),
         Expr::Let(inner) => enter_let(stack, inner),
         Expr::Do(both) => enter_do(stack, both),
         Expr::Call(call) => enter_call(alloc, stack, call),
@@ -63,6 +45,19 @@ pub(crate) fn enter<'m>(
         Expr::Try(protected) => enter_try(stack, protected),
         Expr::Catch(protected) => enter_catch(stack, protected),
     }
+}
+
+/// Into the first of several expressions.
+fn enter_parts<'m>(
+    alloc: Global,
+    stack: &mut Stack<'m>,
+    purpose: Purpose<'m>,
+    parts: &'m [Expr],
+) -> Result<Control<'m>, AllocError>
+    ensures { IfOk result (λ next.
+        GathersOn stack.old stack.new next (purpose_of purpose.entry) [] (map tree_of parts.now)) }
+{
+    gather(alloc, stack, purpose, Terms::new(alloc), parts)
 }
 
 /// The value of a variable.
@@ -88,11 +83,10 @@ fn enter_onto<'m>(
 ) -> Result<Control<'m>, AllocError>
     ensures { IfOk result (λ next. Enters stack.old stack.new next (trees.Onto (trees_of onto.now.0) onto.now.1)) }
 {
-    gather(
+    enter_parts(
         alloc,
         stack,
         Purpose::Onto(&onto.tail),
-        Terms::new(alloc),
         onto.items.0.as_slice(),
     )
 }
@@ -159,13 +153,8 @@ fn enter_call<'m>(
     ensures { IfOk result (λ next.
         Enters stack.old stack.new next (trees.Call call.now.0 call.now.1 (trees_of call.now.2))) }
 {
-    gather(
-        alloc,
-        stack,
-        Purpose::Call(&call.callee),
-        Terms::new(alloc),
-        call.arguments.0.as_slice(),
-    )
+    let purpose = Purpose::Call(&call.callee);
+    enter_parts(alloc, stack, purpose, call.arguments.0.as_slice())
 }
 
 /// To the next of several expressions, or to what their values are for.
@@ -205,13 +194,17 @@ fn complete<'m>(
             stack.push(Frame::Tail(done))?;
             Ok(Control::Evaluate(tail))
         }
-        Purpose::Call(callee) => apply(alloc, callee, done),
+        Purpose::Call(callee) => dispatch(alloc, callee, done),
         Purpose::Values => Ok(Control::Values(done)),
     }
 }
 
 /// What is called, applied to its arguments.
-fn apply<'m>(alloc: Global, callee: &'m Callee, arguments: Terms) -> Result<Control<'m>, AllocError>
+fn dispatch<'m>(
+    alloc: Global,
+    callee: &'m Callee,
+    arguments: Terms,
+) -> Result<Control<'m>, AllocError>
     ensures same { IfOk result (λ next. MeansIn next (λ setting s. called_with setting (callee_of callee.now) arguments s)) }
     ensures less { IfOk result (λ next. load next ≤ 3) }
 {

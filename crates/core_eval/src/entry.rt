@@ -1,17 +1,16 @@
 // Where a process begins, and what it applies.
 ghost use Rattle.std.specs.Prelude.{◌≡◌, true, false, IfOk, option_map, option_copied};
-ghost use Rattle.core_tree.specs.Tree.{tree_of};
 ghost use Rattle.core_eval.specs.Applications.{definition};
 ghost use Rattle.core_eval.specs.Ask.{entry, first_function, is_exported};
 ghost use Rattle.core_eval.specs.inside.Functions.{function_in};
-ghost use Rattle.core_eval.specs.inside.Steps.{Begins, EntersWith, keeps_on_top, keeps_once};
+ghost use Rattle.core_eval.specs.inside.Steps.{Begins, keeps_on_top, keeps_once};
 
 use crate::bindings::Bindings;
 use crate::build::error;
 use crate::control::Control;
 use crate::frame::Frame;
 use crate::stack::Stack;
-use core_tree::{Definition, Expr, FunctionName, Module, NamedFunction, Variable};
+use core_tree::{Definition, FunctionName, Module, NamedFunction};
 use std::alloc::{AllocError, Global};
 use term_core::{Atom, Pid, Terms};
 
@@ -57,25 +56,6 @@ fn definition_of<'m>(program: &'m Module, function: &FunctionName) -> Option<&'m
     ensures { option_map function_in (option_copied result) ≡ definition function.now program.now.definitions }
 {
     program.definitions.get(function)
-}
-
-/// Into a body with these values as its variables; another number of values than variables is an error.
-pub(crate) fn bind<'m>(
-    alloc: Global,
-    stack: &mut Stack<'m>,
-    variables: &'m [Variable],
-    body: &'m Expr,
-    values: Terms,
-) -> Result<Control<'m>, AllocError>
-    ensures { IfOk result (λ next. EntersWith stack.old stack.new next variables.now values (tree_of body.now)) }
-{
-    match Bindings::of(alloc, variables, values)? {
-        Some(bindings) => {
-            stack.push(Frame::Kept(bindings))?;
-            Ok(Control::Evaluate(body))
-        }
-        None => error(alloc, "value_count"),
-    }
 }
 
 /// Into the body of a function with these arguments as its parameters, and no other variable in scope.

@@ -6,9 +6,9 @@ ghost use Rattle.core_eval.specs.Ask.{reason_of};
 ghost use Rattle.core_eval.specs.Evaluation.{caught, caught_values, class_in, class_name, class_named, match_reason, raised_again, trace_of};
 ghost use Rattle.core_eval.specs.inside.Steps.{Means, load};
 
-use crate::build::{atom, error, limited, pair};
+use crate::build::{error, limited, pair};
 use crate::control::Control;
-use crate::matching::{begins_with, is_atom};
+use crate::matching::begins_with;
 use pure_calls::Class;
 use std::alloc::{AllocError, Global};
 use term_core::{Term, Terms};
@@ -18,9 +18,9 @@ fn class_name(alloc: Global, class: Class) -> Result<Term, AllocError>
     ensures { IfOk result (λ name. meaning_of name ≡ class_name class) }
 {
     match class {
-        Class::Error => atom(alloc, "error"),
-        Class::Exit => atom(alloc, "exit"),
-        Class::Throw => atom(alloc, "throw"),
+        Class::Error => Term::atom(alloc, "error"),
+        Class::Exit => Term::atom(alloc, "exit"),
+        Class::Throw => Term::atom(alloc, "throw"),
     }
 }
 
@@ -28,11 +28,11 @@ fn class_name(alloc: Global, class: Class) -> Result<Term, AllocError>
 fn class_named(name: &Term) -> Option<Class>
     ensures { result ≡ class_named (meaning_of name.now) }
 {
-    if is_atom(name, "error") {
+    if name.is_the_atom("error") {
         Some(Class::Error)
-    } else if is_atom(name, "exit") {
+    } else if name.is_the_atom("exit") {
         Some(Class::Exit)
-    } else if is_atom(name, "throw") {
+    } else if name.is_the_atom("throw") {
         Some(Class::Throw)
     } else {
         None
@@ -43,7 +43,11 @@ fn class_named(name: &Term) -> Option<Class>
 fn trace_of(alloc: Global, class: Class) -> Result<Term, AllocError>
     ensures { IfOk result (λ trace. meaning_of trace ≡ trace_of class) }
 {
-    pair(alloc, atom(alloc, "$trace")?, class_name(alloc, class)?)
+    pair(
+        alloc,
+        Term::atom(alloc, "$trace")?,
+        class_name(alloc, class)?,
+    )
 }
 
 /// The class that a trace tells.
@@ -56,7 +60,7 @@ fn class_in(trace: &Term) -> Option<Class>
     if parts.len() != 2 {
         return None;
     }
-    if !is_atom(&parts.as_slice()[0], "$trace") {
+    if !parts.as_slice()[0].is_the_atom("$trace") {
         return None;
     }
     class_named(&parts.as_slice()[1])
@@ -93,9 +97,9 @@ pub(crate) fn caught<'m>(
     match class {
         Class::Error => {
             let told = pair(alloc, reason, Term::Nil)?;
-            limited(alloc, pair(alloc, atom(alloc, "EXIT")?, told)?)
+            limited(alloc, pair(alloc, Term::atom(alloc, "EXIT")?, told)?)
         }
-        Class::Exit => limited(alloc, pair(alloc, atom(alloc, "EXIT")?, reason)?),
+        Class::Exit => limited(alloc, pair(alloc, Term::atom(alloc, "EXIT")?, reason)?),
         Class::Throw => Ok(Control::Return(reason)),
     }
 }
@@ -105,7 +109,7 @@ pub(crate) fn match_reason(alloc: Global, reason: Term) -> Result<Term, AllocErr
     ensures { IfOk result (λ failed. meaning_of failed ≡ match_reason (meaning_of reason)) }
 {
     if begins_with(&reason, "function_clause") {
-        atom(alloc, "function_clause")
+        Term::atom(alloc, "function_clause")
     } else {
         Ok(reason)
     }
@@ -134,7 +138,7 @@ pub(crate) fn end_of(alloc: Global, class: Class, reason: Term) -> Result<Term, 
         Class::Error => pair(alloc, reason, Term::Nil),
         Class::Exit => Ok(reason),
         Class::Throw => {
-            let uncaught = pair(alloc, atom(alloc, "nocatch")?, reason)?;
+            let uncaught = pair(alloc, Term::atom(alloc, "nocatch")?, reason)?;
             pair(alloc, uncaught, Term::Nil)
         }
     }

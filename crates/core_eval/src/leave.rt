@@ -8,19 +8,17 @@ ghost use Rattle.term_core.specs.Term.{meaning_of};
 ghost use Rattle.core_eval.specs.Evaluation.{Raises, Yields, as_one, choose, no_clause};
 ghost use Rattle.core_eval.specs.inside.Frames.{hole_of};
 ghost use Rattle.core_eval.specs.Holes.{scope, filled};
-ghost use Rattle.core_eval.specs.Holes as holes;
 ghost use Rattle.core_eval.specs.inside.Steps.{EntersWith, GoesOn, Means, load, work_in};
 
 use crate::bindings::Bindings;
-use crate::build::{atom, error, limited, limited_error, pair, single, with_last};
+use crate::build::{error, limited, limited_error, pair, single, with_last};
 use crate::control::Control;
-use crate::entry::bind;
+use crate::enter::gather;
 use crate::exception::{caught, caught_values};
 use crate::frame::Frame;
-use crate::matching::{is_atom, matches_each};
+use crate::matching::matches_each;
 use crate::stack::Stack;
-use crate::enter::gather;
-use core_tree::{Clause, Try};
+use core_tree::{Clause, Expr, Try, Variable};
 use pure_calls::Class;
 use std::alloc::{AllocError, Global};
 use term_core::{Term, Terms, list_onto};
@@ -49,7 +47,7 @@ pub(crate) fn leave<'m>(
         Frame::Body(variables, body) => bind(alloc, stack, variables, body, single(alloc, value)?),
         Frame::Second(second) => Ok(Control::Evaluate(second)),
         Frame::Clauses(clauses) => choose(alloc, stack, clauses, single(alloc, value)?),
-        Frame::Guard(bindings, body, others, values) if is_atom(&value, "true") => {
+        Frame::Guard(bindings, body, others, values) if value.is_the_atom("true") => {
             stack.push(Frame::Kept(bindings))?;
             Ok(Control::Evaluate(body))
         }
@@ -175,7 +173,10 @@ fn no_clause<'m>(alloc: Global, values: Terms) -> Result<Control<'m>, AllocError
     ensures less { IfOk result (λ next. load next ≡ 0) }
 {
     let whole = as_one(alloc, values)?;
-    limited_error(alloc, pair(alloc, atom(alloc, "case_clause")?, whole)?)
+    limited_error(
+        alloc,
+        pair(alloc, Term::atom(alloc, "case_clause")?, whole)?,
+    )
 }
 
 /// Several values as one: what is one already, else the tuple of them.
@@ -189,4 +190,23 @@ fn as_one(alloc: Global, values: Terms) -> Result<Term, AllocError>
         }
     }
     Term::tuple(alloc, Terms::from_vec(items))
+}
+
+/// Into a body with these values as its variables; another number of values than variables is an error.
+fn bind<'m>(
+    alloc: Global,
+    stack: &mut Stack<'m>,
+    variables: &'m [Variable],
+    body: &'m Expr,
+    values: Terms,
+) -> Result<Control<'m>, AllocError>
+    ensures { IfOk result (λ next. EntersWith stack.old stack.new next variables.now values (tree_of body.now)) }
+{
+    match Bindings::of(alloc, variables, values)? {
+        Some(bindings) => {
+            stack.push(Frame::Kept(bindings))?;
+            Ok(Control::Evaluate(body))
+        }
+        None => error(alloc, "value_count"),
+    }
 }

@@ -4,6 +4,7 @@
 mod bindings;
 mod build;
 mod control;
+mod enter;
 mod entry;
 mod exception;
 mod frame;
@@ -15,7 +16,6 @@ mod pure;
 pub mod request;
 mod run;
 mod stack;
-mod enter;
 
 pub use machine::{Machine, start};
 pub use request::{Answer, Request};

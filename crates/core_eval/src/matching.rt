@@ -5,7 +5,7 @@ ghost use Rattle.core_tree.specs.Tree.{pattern_of};
 ghost use Rattle.term_core.specs.Meaning.{Meaning};
 ghost use Rattle.term_core.specs.Term.{meaning_of};
 ghost use Rattle.core_eval.specs.Evaluation.{begins_with};
-ghost use Rattle.core_eval.specs.Matching.{Environment, is_name, is_number, is_text, match, match_each, match_items};
+ghost use Rattle.core_eval.specs.Matching.{Environment, is_number, is_text, match, match_each, match_items};
 ghost use Rattle.core_eval.specs.inside.Matched.{IsMatch, behind_items};
 
 use crate::bindings::Bindings;
@@ -13,23 +13,13 @@ use core_tree::{Alias, OntoPattern, Pattern, Patterns};
 use std::alloc::{AllocError, Global};
 use term_core::{Pair, Term, Terms};
 
-/// Whether the value is the atom of this text.
-pub(crate) fn is_atom(value: &Term, text: &str) -> bool
-    ensures { result ≡ is_name text.now (meaning_of value.now) }
-{
-    match value {
-        Term::Atom(atom) => atom.0.as_str() == text,
-        _ => false,
-    }
-}
-
 /// Whether the value is a tuple that begins with the atom of this text.
 pub(crate) fn begins_with(value: &Term, text: &str) -> bool
     ensures { result ≡ begins_with text.now (meaning_of value.now) }
 {
     match value {
         Term::Tuple(parts) => match parts.as_slice().first() {
-            Some(first) => is_atom(first, text),
+            Some(first) => first.is_the_atom(text),
             None => false,
         },
         _ => false,
@@ -79,7 +69,7 @@ pub(crate) fn matches<'m>(
         Pattern::Integer(number) => Ok(is_integer(value, *number)),
         Pattern::Character(character) => Ok(is_integer(value, *character as i64)),
         Pattern::Text(characters) => Ok(is_text(value, characters)),
-        Pattern::Atom(atom) => Ok(is_atom(value, atom.0.as_str())),
+        Pattern::Atom(atom) => Ok(value.is_the_atom(atom.0.as_str())),
         Pattern::Variable(variable) => {
             bindings.push(variable.name.as_slice(), value.copy(alloc)?)?;
             Ok(true)

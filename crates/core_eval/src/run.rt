@@ -8,18 +8,17 @@ ghost use Rattle.core_eval.specs.Holes.{standing};
 ghost use Rattle.core_eval.specs.Requests.{asked_of};
 ghost use Rattle.core_eval.specs.inside.Steps.{going, paused};
 
-use crate::build::atom;
 use crate::control::{Control, Pause};
+use crate::enter::enter;
 use crate::entry::apply;
 use crate::exception::end_of;
 use crate::leave::{leave, leave_raised, leave_with};
 use crate::pure::answer_call;
 use crate::request::Request;
 use crate::stack::Stack;
-use crate::enter::enter;
 use core_tree::Module;
 use std::alloc::{AllocError, Global};
-use term_core::Pid;
+use term_core::{Pid, Term};
 
 /// The most applications between two requests.
 const APPLICATION_LIMIT: usize = 10_000;
@@ -68,11 +67,11 @@ fn advance<'m>(
             Control::Evaluate(expression) => enter(alloc, stack, expression)?,
             Control::Return(value) => match stack.pop() {
                 Some(frame) => leave(alloc, stack, frame, value)?,
-                None => return Ok(Pause::Request(Request::End(atom(alloc, "normal")?))),
+                None => return Ok(Pause::Request(Request::End(Term::atom(alloc, "normal")?))),
             },
             Control::Values(values) => {
                 let Some(frame) = stack.pop() else {
-                    return Ok(Pause::Request(Request::End(atom(alloc, "normal")?)));
+                    return Ok(Pause::Request(Request::End(Term::atom(alloc, "normal")?)));
                 };
                 leave_with(alloc, stack, frame, values)?
             }

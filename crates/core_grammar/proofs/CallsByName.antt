@@ -1,7 +1,7 @@
 -- Calls found by their names and the number of their arguments.
 use Rattle.std.proofs.Common.{◌≡◌, ◌≢◌, ℕ, zero, suc, ◌<◌, Bool, true, false, cond, List, [], ◌∷◌, get_or, Option, Some, None, refl, sym, ap, ◌∙◌, subst, arith}
 use Rattle.std.specs.Prelude.{◌&&◌, ◌==◌, nat_lt, codes}
-use Rattle.std.specs.Cmp.Lexicographic.{same_text}
+use Rattle.std.specs.Cmp.Lexicographic.{same_text as texts_are_one}
 use Rattle.std.proofs.lemmas.Bool.{eqb-true}
 use Rattle.std.proofs.lemmas.Bool.Decides.{nat_tests}
 use borrow.Author.Tests.{ltb-true}
@@ -16,7 +16,7 @@ use Rattle.core_tree.specs.CallCodes.{number_of_pure, pure_of_number-number_of_p
 use Rattle.core_tree.specs.Syntax.{Callee}
 use Rattle.core_tree.specs.Callee as callees
 use Rattle.core_grammar.specs.Grammar.{IsUnlisted, Calls, calls_world, calls_itself, calls_export, Operates, fails_match, raises_again}
-use Rattle.core_scopes.specs.Names.{same_bytes}
+use Rattle.term_core.specs.Kinds.{same_text}
 use Rattle.core_grammar.specs.inside.DecoderForms.{is_read, export_called, unlisted_called, callee_by, callee_named, operation_named}
 
 -- ---- the first that passes a test
@@ -56,7 +56,7 @@ none_passes test (x ∷ xs) d e other (suc i) = none_passes test xs d (first_fai
 number_own : (n : ℕ) → (n == n) ≡ true
 number_own n = grind (arith, nat_tests)
 
-bytes_own : (a : List ℕ) → same_bytes a a ≡ true
+bytes_own : (a : List ℕ) → same_text a a ≡ true
 bytes_own [] = refl
 bytes_own (x ∷ xs) = rw (number_own x) (bytes_own xs)
 
@@ -69,10 +69,10 @@ signed a f n = record { module_name = a; function_name = f; arity = n }
 
 signature_is : (a f : List ℕ) (n : ℕ) (s : Signature) → has_signature a f n s ≡ true → s ≡ signed a f n
 signature_is a f n s e =
-    let h = both_true (same_bytes s.module_name a) (same_bytes s.function_name f && s.arity == n) e in
-    let g = both_true (same_bytes s.function_name f) (s.arity == n) h.1 in
-    let in_module : s.module_name ≡ a = same_text s.module_name a (sym h.0) in
-    let of_function : s.function_name ≡ f = same_text s.function_name f (sym g.0) in
+    let h = both_true (same_text s.module_name a) (same_text s.function_name f && s.arity == n) e in
+    let g = both_true (same_text s.function_name f) (s.arity == n) h.1 in
+    let in_module : s.module_name ≡ a = texts_are_one s.module_name a (sym h.0) in
+    let of_function : s.function_name ≡ f = texts_are_one s.function_name f (sym g.0) in
     let with_arity : s.arity ≡ n = eqb-true _ _ g.1 in
     λ i. record { module_name = in_module i; function_name = of_function i; arity = with_arity i }
 
@@ -120,9 +120,9 @@ is_some_callee false x y e = absurd cc
 
 export_found : (own a f : List ℕ) (n : ℕ) (callee : Callee) → IsUnlisted (signed a f n) → export_called own a f n ≡ Some callee → Calls own (signed a f n) callee
 export_found own a f n callee new e =
-    let h = is_some_callee (same_bytes own a && nat_lt n 256) (callees.Exported (record { name = f; arity = n })) callee e in
-    let g = both_true (same_bytes own a) (nat_lt n 256) h.0 in
-    let same : own ≡ a = same_text own a (sym g.0) in
+    let h = is_some_callee (same_text own a && nat_lt n 256) (callees.Exported (record { name = f; arity = n })) callee e in
+    let g = both_true (same_text own a) (nat_lt n 256) h.0 in
+    let same : own ≡ a = texts_are_one own a (sym g.0) in
     let small : n < 256 = ltb-true _ _ g.1 in
     let made : Calls a (signed a f n) (callees.Exported (record { name = f; arity = n })) = calls_export small new in
     subst (λ (c : Callee). Calls own (signed a f n) c) h.1 (subst (λ (b : List ℕ). Calls b (signed a f n) (callees.Exported (record { name = f; arity = n }))) (sym same) made)
@@ -147,22 +147,22 @@ callee_found own a f n callee e = callee_by_found own a f n (call_with a f n) ca
 
 pub operation_found : (t : List ℕ) (n : ℕ) (callee : Callee) → operation_named t n ≡ Some callee → Operates t n callee
 unfolding operation_named
-operation_found t n callee e = by (same_bytes t (codes "match_fail") && n == 1) refl e
+operation_found t n callee e = by (same_text t (codes "match_fail") && n == 1) refl e
   where
-    operates : (u : List ℕ) (m : ℕ) (c : Callee) (name : List ℕ) (k : ℕ) → (same_bytes t name && n == k) ≡ true → Operates name k c → c ≡ callee → Operates t n callee
+    operates : (u : List ℕ) (m : ℕ) (c : Callee) (name : List ℕ) (k : ℕ) → (same_text t name && n == k) ≡ true → Operates name k c → c ≡ callee → Operates t n callee
     operates u m c name k is h same =
-        let g = both_true (same_bytes t name) (n == k) is in
-        let of_name : t ≡ name = same_text t name (sym g.0) in
+        let g = both_true (same_text t name) (n == k) is in
+        let of_name : t ≡ name = texts_are_one t name (sym g.0) in
         let with_count : n ≡ k = eqb-true _ _ g.1 in
         rw (of_name, with_count) (subst (λ (x : Callee). Operates name k x) same h)
 
-    last : (b : Bool) → (same_bytes t (codes "raise") && n == 2) ≡ b → cond b (Some callees.Raise) None ≡ Some callee → Operates t n callee
+    last : (b : Bool) → (same_text t (codes "raise") && n == 2) ≡ b → cond b (Some callees.Raise) None ≡ Some callee → Operates t n callee
     last true is f = operates t n callees.Raise (codes "raise") 2 is raises_again (some_is callees.Raise callee f)
     last false is f = absurd cc
 
-    by : (b : Bool) → (same_bytes t (codes "match_fail") && n == 1) ≡ b → cond b (Some callees.MatchFail) (cond (same_bytes t (codes "raise") && n == 2) (Some callees.Raise) None) ≡ Some callee → Operates t n callee
+    by : (b : Bool) → (same_text t (codes "match_fail") && n == 1) ≡ b → cond b (Some callees.MatchFail) (cond (same_text t (codes "raise") && n == 2) (Some callees.Raise) None) ≡ Some callee → Operates t n callee
     by true is f = operates t n callees.MatchFail (codes "match_fail") 1 is fails_match (some_is callees.MatchFail callee f)
-    by false is f = last (same_bytes t (codes "raise") && n == 2) refl f
+    by false is f = last (same_text t (codes "raise") && n == 2) refl f
 
 -- ---- what is called is found
 

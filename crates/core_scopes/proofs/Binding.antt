@@ -13,21 +13,21 @@ use Rattle.core_tokens.specs.declared.fault.ReadFault.TheVariants.{DuplicateVari
 use Rattle.core_tree.specs.Syntax.{Mention}
 use Rattle.core_scopes.specs.Scopes.{names, variables_of}
 use Rattle.core_scopes.specs.Outcomes.{◌>>=◌}
-use Rattle.core_scopes.specs.Names.{same_bytes}
+use Rattle.term_core.specs.Kinds.{same_text}
 use Rattle.core_scopes.specs.ScopeChecks.{Checked, is_among, check_distinct}
 use Rattle.core_scopes.specs.inside.Environment.{shown, AddsUnlessMemory}
 
 -- ---- names, by a set of borrowed names
 
-turned : (a b : List ℕ) → same_bytes a b ≡ same_bytes b a
+turned : (a b : List ℕ) → same_text a b ≡ same_text b a
 turned a b = nat_list_eq_equiv.symm a b
 
 abbrev same_name : Bor (List ℕ) → Bor (List ℕ) → Bool
-same_name a b = same_bytes a.now b.now
+same_name a b = same_text a.now b.now
 
-pub among_shown : (ks : List (Bor (List ℕ))) (name : List ℕ) → list_any (λ k. same_bytes name k.now) ks ≡ is_among (shown ks) name
+pub among_shown : (ks : List (Bor (List ℕ))) (name : List ℕ) → list_any (λ k. same_text name k.now) ks ≡ is_among (shown ks) name
 among_shown [] name = refl
-among_shown (k ∷ ks) name = ap (λ (b : Bool). b || list_any (λ (x : Bor (List ℕ)). same_bytes name x.now) ks) (turned name k.now) ∙ ap (λ (b : Bool). same_bytes k.now name || b) (among_shown ks name)
+among_shown (k ∷ ks) name = ap (λ (b : Bool). b || list_any (λ (x : Bor (List ℕ)). same_text name x.now) ks) (turned name k.now) ∙ ap (λ (b : Bool). same_text k.now name || b) (among_shown ks name)
 
 -- ---- one more variable
 

@@ -1,4 +1,3 @@
-pub mod Names
 pub mod Outcomes
 pub mod Scopes
 pub mod ScopeFaults

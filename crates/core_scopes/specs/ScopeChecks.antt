@@ -9,14 +9,14 @@ use Rattle.core_tree.specs.Expression as trees
 use Rattle.core_tree.specs.Functions.{same_function}
 use Rattle.core_scopes.specs.Scopes.{names, bound_by, Setting, guard_of, functions, setting_of, main_function}
 use Rattle.core_scopes.specs.Outcomes.{◌>>=◌}
-use Rattle.core_scopes.specs.Names.{same_bytes}
+use Rattle.term_core.specs.Kinds.{same_text}
 
 -- nothing, or the first fault
 abbrev pub Checked : Type 0
 Checked = Result (Unit {0}) ReadFault
 
 abbrev pub is_among : List (List ℕ) → List ℕ → Bool
-is_among bound name = list_any (λ x. same_bytes x name) bound
+is_among bound name = list_any (λ x. same_text x name) bound
 
 abbrev pub check_variable : List (List ℕ) → Mention → Checked
 check_variable bound v = if is_among bound v.name then Ok tt else Err (Unbound v.at)

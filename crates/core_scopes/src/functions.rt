@@ -195,7 +195,7 @@ fn has_main(
     ensures err { IfErr result (λ e. e ≡ Memory) }
 {
     let main = FunctionName {
-        name: Atom(String::from_str(alloc, "main")?),
+        name: Atom::new(alloc, "main")?,
         arity: 0,
     };
     Ok(is_defined(definitions, &main))

@@ -7,15 +7,12 @@ use Rattle.core_tree.specs.declared.pure.PureCall.{PureCall}
 use Rattle.core_tree.specs.CallCodes.{number_of_call}
 use Rattle.core_tree.specs.CallCodes.{number_of_pure}
 use Rattle.core_tree.specs.Functions.{same_function}
+use Rattle.term_core.specs.Kinds.{same_text}
 use Rattle.core_tree.specs.Syntax.{Mention, NamedAt, Callee, Pattern, Patterns, patterns_of, Tree, Trees, Clauses, ClauseTree, Constant, Constants, AttributeTree, DefinitionTree, ModuleTree}
 use Rattle.core_tree.specs.Callee as callees
 use Rattle.core_tree.specs.Pattern as patterns
 use Rattle.core_tree.specs.Expression as trees
 use Rattle.core_tree.specs.Constant as constants
-
--- two texts
-abbrev pub same_text : List ℕ → List ℕ → Bool
-same_text = pointwise ◌==◌
 
 -- two variables have one name
 abbrev pub same_mention : Mention → Mention → Bool

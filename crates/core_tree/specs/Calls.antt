@@ -1,6 +1,6 @@
 -- The calls of processes and tables: their names and the numbers of their arguments (Erlang reference manual, modules erlang and ets).
 use Rattle.std.specs.Prelude.{ℕ, Bool, ◌==◌, ◌&&◌, if◌then◌else◌, List, [], ◌∷◌, Option, Some, None, codes}
-use Rattle.std.specs.Cmp.Lexicographic.{pointwise}
+use Rattle.term_core.specs.Kinds.{same_text}
 use Rattle.core_tree.specs.declared.call.CallKind.{CallKind}
 use Rattle.core_tree.specs.declared.call.CallKind.TheVariants.{Spawn, SpawnLink, SpawnMonitor, Bang, Send, Exit, Link, Unlink, Monitor, Demonitor, DemonitorWith, ProcessFlag, Register, Unregister, Whereis, IsProcessAlive, MakeRef, New, Lookup, Member, LookupElement, First, Last, Next, Prev, TableToList, Insert, InsertNew, DeleteTable, DeleteKey, DeleteObject, DeleteAllObjects, Take, UpdateCounter, UpdateElement, GiveAway, SetOptions, Info}
 
@@ -72,7 +72,7 @@ calls = Spawn ∷ SpawnLink ∷ SpawnMonitor ∷ Bang ∷ Send ∷ Exit ∷ Link
 
 -- whether a call has these names and so many arguments
 abbrev pub has_signature : List ℕ → List ℕ → ℕ → Signature → Bool
-has_signature module_name function_name arity s = pointwise ◌==◌ s.module_name module_name && (pointwise ◌==◌ s.function_name function_name && s.arity == arity)
+has_signature module_name function_name arity s = same_text s.module_name module_name && (same_text s.function_name function_name && s.arity == arity)
 
 -- the first of several calls that passes a test
 abbrev pub first_with : {X : Type 0} → (X → Bool) → List X → Option X

@@ -1,4 +1,3 @@
 pub mod Numbers
-pub mod Parts
 pub mod ListSteps
 pub mod Arguments

@@ -1,6 +1,5 @@
 -- What a call gives, or the exception that it raises (Erlang reference manual, "Errors and Error Handling").
-use Rattle.std.specs.Prelude.{ℕ, ℤ, pos, negsuc, ◌^◌, nat_lt, Bool, false, ◌==◌, List, Option, Some, None, codes, if◌then◌else◌}
-use Rattle.std.specs.Cmp.Lexicographic.{pointwise}
+use Rattle.std.specs.Prelude.{ℕ, ℤ, pos, negsuc, ◌^◌, nat_lt, Bool, List, Option, Some, None, codes, if◌then◌else◌}
 use Rattle.term_core.specs.Meaning.{Meaning, Int, Atom}
 use Rattle.pure_calls.specs.declared.outcome.Class.{Class}
 use Rattle.pure_calls.specs.declared.outcome.Class.TheVariants.{Error}
@@ -35,8 +34,3 @@ whole z = if has_64_bits z then Value (Int z) else error (codes "system_limit")
 abbrev pub integer_in : Meaning → Option ℤ
 integer_in (Int n) = Some n
 integer_in m = None
-
--- whether a term is the atom of this text
-abbrev pub is_name : List ℕ → Meaning → Bool
-is_name text (Atom t) = pointwise ◌==◌ t text
-is_name text m = false

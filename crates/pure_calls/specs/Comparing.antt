@@ -4,7 +4,8 @@ use Rattle.std.specs.Bool.{beq}
 use Rattle.std.specs.Ordering.{is_eq, is_ne, is_lt, is_le, is_gt, is_ge}
 use Rattle.term_core.specs.Meaning.{Meaning}
 use Rattle.term_core.specs.Order.{order_of_terms}
-use Rattle.pure_calls.specs.Answers.{Answer, Value, truth, is_name, wrong_argument}
+use Rattle.pure_calls.specs.Answers.{Answer, Value, truth, wrong_argument}
+use Rattle.term_core.specs.Kinds.{is_the_atom}
 
 -- `==/2` and `=:=/2`: there are no floats, so that terms are equal where they are the same
 abbrev pub are_equal : Meaning → Meaning → Bool
@@ -35,8 +36,8 @@ is_at_least m n = is_ge (order_of_terms m n)
 -- the boolean that a term is
 abbrev pub boolean_in : Meaning → Option Bool
 boolean_in m =
-    if is_name (codes "true") m then Some true
-    else (if is_name (codes "false") m then Some false else None)
+    if is_the_atom (codes "true") m then Some true
+    else (if is_the_atom (codes "false") m then Some false else None)
 
 -- what is done with two booleans, if both terms are booleans
 abbrev pub with_booleans : (Bool → Bool → Bool) → Option Bool → Option Bool → Answer

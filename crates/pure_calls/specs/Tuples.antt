@@ -2,12 +2,8 @@
 use Rattle.std.specs.Prelude.{ℕ, suc, ℤ, pos, nat_lt, slice_get, slice_set, List, length, Option, Some, None, if◌then◌else◌}
 use Rattle.term_core.specs.Meaning.{Meaning, Tuple, Nil, meanings_of, parts_of}
 use Rattle.term_core.specs.Term.{list_onto}
+use Rattle.term_core.specs.Kinds.{tuple_in}
 use Rattle.pure_calls.specs.Answers.{Answer, Value, integer_in, whole, wrong_argument}
-
--- the parts of the tuple that a term is
-abbrev pub tuple_in : Meaning → Option (List Meaning)
-tuple_in (Tuple parts) = Some (parts_of parts)
-tuple_in m = None
 
 -- what is done with the parts of a tuple, if the term is one
 abbrev pub with_tuple : (List Meaning → Answer) → Option (List Meaning) → Answer

@@ -1,7 +1,6 @@
 // Comparisons (Erlang reference manual, "Term Comparisons") and booleans ("Boolean Expressions").
 ghost use Rattle.std.specs.Prelude.{◌≡◌};
 ghost use Rattle.term_core.specs.Term.{meaning_of};
-ghost use Rattle.pure_calls.specs.Answers.{is_name};
 ghost use Rattle.pure_calls.specs.Comparing.{are_different, are_equal, boolean_in, conjunction, disjunction, exclusion, is_at_least, is_at_most, is_greater, is_less, negation};
 ghost use Rattle.pure_calls.specs.Outcomes.{truth_or_refusal};
 
@@ -50,23 +49,13 @@ pub(crate) fn is_at_least(first: &Term, second: &Term) -> bool
     first.cmp(second).is_ge()
 }
 
-/// Whether a term is the atom of this text.
-fn is_name(term: &Term, text: &str) -> bool
-    ensures { result ≡ is_name text.now (meaning_of term.now) }
-{
-    match term {
-        Term::Atom(atom) => atom.0.as_str() == text,
-        _ => false,
-    }
-}
-
 /// The boolean that a term is.
 pub(crate) fn boolean(term: &Term) -> Option<bool>
     ensures { result ≡ boolean_in (meaning_of term.now) }
 {
-    if is_name(term, "true") {
+    if term.is_the_atom("true") {
         Some(true)
-    } else if is_name(term, "false") {
+    } else if term.is_the_atom("false") {
         Some(false)
     } else {
         None

@@ -4,12 +4,11 @@ ghost use Rattle.term_core.specs.Meaning.{Tuple, meanings_of};
 ghost use Rattle.term_core.specs.Term.{meaning_of};
 ghost use Rattle.pure_calls.specs.Kinds.{begin_with, is_atom, is_boolean, is_integer, is_list, is_pid, is_record_of, is_reference, is_tuple, record_test};
 ghost use Rattle.pure_calls.specs.Outcomes.{truth_or_refusal};
-ghost use Rattle.pure_calls.specs.Tuples.{tuple_in};
+ghost use Rattle.term_core.specs.Kinds.{tuple_in};
 
 use crate::arithmetic::integer;
 use crate::compare::{are_equal, boolean};
 use crate::outcome::Refusal;
-use crate::tuples::tuple;
 use term_core::{Term, Terms};
 
 /// Whether a term is an integer, and so a number.
@@ -75,7 +74,7 @@ fn begin_with(tag: &Term, parts: &Terms) -> bool
 fn is_record_of(tag: &Term, size: i64, term: &Term) -> bool
     ensures { result ≡ is_record_of (meaning_of tag.now) size (meaning_of term.now) }
 {
-    let Some(parts) = tuple(term) else {
+    let Some(parts) = term.as_tuple() else {
         return false;
     };
     size >= 0 && size as u64 == parts.len() as u64 && begin_with(tag, parts)

@@ -4,33 +4,20 @@ ghost use Rattle.std.specs.Prelude.{◌≡◌, ◌^◌, ◌-◌, min, IfOk, map,
 ghost use Rattle.term_core.specs.Term.{meaning_of};
 ghost use Rattle.pure_calls.specs.Outcomes.{integer_or_refusal, outcome_of, truth_or_refusal};
 ghost use Rattle.pure_calls.specs.Lists.{appended, head_of, heads_of, is_proper, length_of, membership, one_equals, reversed, subtracted, tail_of, tuple_of_list, without_each, without_first};
-ghost use Rattle.pure_calls.specs.inside.Walks.{cell_in, first_equal};
+ghost use Rattle.pure_calls.specs.inside.Walks.{first_equal};
 
 use crate::arithmetic::count;
 use crate::compare::are_equal;
 use crate::outcome::{Outcome, Refusal, refuse};
 use std::alloc::{AllocError, Global};
-use term_core::{Pair, Term, Terms, list_onto};
-
-/// The list cell that a term is.
-fn cell(term: &Term) -> Option<&Pair>
-    ensures { option_map (λ pair. pair.now) result ≡ cell_in (meaning_of term.now) }
-{
-    match term {
-        Term::Cons(cell) => {
-            let pair: &Pair = cell;
-            Some(pair)
-        }
-        _ => None,
-    }
-}
+use term_core::{Term, Terms, list_onto};
 
 /// Whether the last tail of a list is nil.
 fn is_proper(list: &Term) -> bool
     ensures { result ≡ is_proper (meaning_of list.now) }
 {
     let mut rest = list;
-    while let Some(pair) = cell(rest) {
+    while let Some(pair) = rest.as_cell() {
         rest = pair.tail();
     }
     matches!(rest, Term::Nil)
@@ -42,7 +29,7 @@ fn cells(list: &Term) -> u64
 {
     let mut cells: u64 = 0;
     let mut rest = list;
-    while let Some(pair) = cell(rest) {
+    while let Some(pair) = rest.as_cell() {
         cells = cells.saturating_add(1);
         rest = pair.tail();
     }
@@ -55,7 +42,7 @@ fn heads(alloc: Global, list: &Term) -> Result<Vec<Term>, AllocError>
 {
     let mut copied = Vec::new(alloc);
     let mut rest = list;
-    while let Some(pair) = cell(rest) {
+    while let Some(pair) = rest.as_cell() {
         copied.push(pair.head().copy(alloc)?)?;
         rest = pair.tail();
     }
@@ -67,7 +54,7 @@ fn one_equals(wanted: &Term, list: &Term) -> bool
     ensures { result ≡ one_equals (meaning_of wanted.now) (heads_of (meaning_of list.now)) }
 {
     let mut rest = list;
-    while let Some(pair) = cell(rest) {
+    while let Some(pair) = rest.as_cell() {
         if are_equal(pair.head(), wanted) {
             return true;
         }
@@ -80,7 +67,7 @@ fn one_equals(wanted: &Term, list: &Term) -> bool
 pub(crate) fn head_of(alloc: Global, term: &Term) -> Result<Outcome, AllocError>
     ensures { IfOk result (λ outcome. outcome_of outcome ≡ head_of (meaning_of term.now)) }
 {
-    match cell(term) {
+    match term.as_cell() {
         Some(pair) => Ok(Outcome::Value(pair.head().copy(alloc)?)),
         None => refuse(alloc, Refusal::BadArgument),
     }
@@ -90,7 +77,7 @@ pub(crate) fn head_of(alloc: Global, term: &Term) -> Result<Outcome, AllocError>
 pub(crate) fn tail_of(alloc: Global, term: &Term) -> Result<Outcome, AllocError>
     ensures { IfOk result (λ outcome. outcome_of outcome ≡ tail_of (meaning_of term.now)) }
 {
-    match cell(term) {
+    match term.as_cell() {
         Some(pair) => Ok(Outcome::Value(pair.tail().copy(alloc)?)),
         None => refuse(alloc, Refusal::BadArgument),
     }
@@ -144,7 +131,7 @@ fn remove_each(items: &mut Vec<Term>, taken: &Term)
     ensures { map meaning_of items.new.items ≡ without_each (heads_of (meaning_of taken.now)) (map meaning_of items.old.items) }
 {
     let mut rest = taken;
-    while let Some(pair) = cell(rest) {
+    while let Some(pair) = rest.as_cell() {
         remove_first(items, pair.head());
         rest = pair.tail();
     }

@@ -1,12 +1,11 @@
 // What a call gives, and why it is refused.
 ghost use Rattle.std.specs.Prelude.{◌≡◌, IfOk};
-ghost use Rattle.term_core.specs.Meaning.{Atom};
 ghost use Rattle.term_core.specs.Term.{meaning_of};
 ghost use Rattle.pure_calls.specs.Outcomes.{integer_or_refusal, outcome_of, refusal_name, refused, truth_or_refusal};
 ghost use Rattle.pure_calls.specs.Answers.{truth};
 
 use std::alloc::{AllocError, Global};
-use term_core::{Atom, Term};
+use term_core::Term;
 
 /// The class of an exception (Erlang reference manual, "Errors and Error Handling").
 #[derive(Clone, Copy)]
@@ -38,13 +37,6 @@ pub(crate) enum Refusal {
     Undefined,
 }
 
-/// The atom of this text.
-pub(crate) fn atom(alloc: Global, text: &str) -> Result<Term, AllocError>
-    ensures { IfOk result (λ atom. meaning_of atom ≡ Atom text.now) }
-{
-    Ok(Term::Atom(Atom(String::from_str(alloc, text)?)))
-}
-
 impl Refusal {
     /// The text of the reason.
     fn name(self) -> &'static str
@@ -64,7 +56,7 @@ impl Refusal {
 pub(crate) fn refuse(alloc: Global, refusal: Refusal) -> Result<Outcome, AllocError>
     ensures { IfOk result (λ outcome. outcome_of outcome ≡ refused refusal) }
 {
-    Ok(Outcome::Raised(Class::Error, atom(alloc, refusal.name())?))
+    Ok(Outcome::Raised(Class::Error, Term::atom(alloc, refusal.name())?))
 }
 
 /// The atom of a boolean.
@@ -72,9 +64,9 @@ fn truth(alloc: Global, is_true: bool) -> Result<Term, AllocError>
     ensures { IfOk result (λ atom. meaning_of atom ≡ truth is_true) }
 {
     if is_true {
-        atom(alloc, "true")
+        Term::atom(alloc, "true")
     } else {
-        atom(alloc, "false")
+        Term::atom(alloc, "false")
     }
 }
 

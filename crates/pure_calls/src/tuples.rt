@@ -1,30 +1,16 @@
 // Tuples (Erlang reference manual, module erlang, `element/2` and its neighbours).
-ghost use Rattle.std.specs.Prelude.{◌≡◌, ◌<◌, IfOk, length, map, option_map, slice_set, vec_len};
+ghost use Rattle.std.specs.Prelude.{◌≡◌, ◌<◌, IfOk, length, map, slice_set, vec_len};
 ghost use Rattle.term_core.specs.Meaning.{Tuple, meanings_of};
 ghost use Rattle.term_core.specs.Term.{meaning_of};
 ghost use Rattle.pure_calls.specs.Outcomes.{integer_or_refusal, outcome_of};
 ghost use Rattle.pure_calls.specs.Answers.{integer_in, whole};
-ghost use Rattle.pure_calls.specs.Tuples.{before_place, element, list_of_tuple, size_of_tuple, tuple_in, with_element};
+ghost use Rattle.pure_calls.specs.Tuples.{before_place, element, list_of_tuple, size_of_tuple, with_element};
 
 use crate::arithmetic::{count, integer};
 use crate::outcome::{Outcome, Refusal, refuse};
 use std::alloc::{AllocError, Global};
 use std::mem;
 use term_core::{Term, Terms, list_onto};
-
-/// The parts of the tuple that a term is.
-#[tactic(auto, using(crate::proofs::Parts::parts_of_group))]
-pub(crate) fn tuple(term: &Term) -> Option<&Terms>
-    ensures { option_map (λ parts. parts.now) result ≡ tuple_in (meaning_of term.now) }
-{
-    match term {
-        Term::Tuple(parts) => {
-            let parts: &Terms = parts;
-            Some(parts)
-        }
-        _ => None,
-    }
-}
 
 /// How many parts stand before the one at this place of a tuple, if it has so many.
 fn before_place(index: &Term, size: usize) -> Option<usize>
@@ -57,7 +43,7 @@ pub(crate) fn copies(alloc: Global, terms: &[Term]) -> Result<Vec<Term>, AllocEr
 pub(crate) fn element(alloc: Global, index: &Term, term: &Term) -> Result<Outcome, AllocError>
     ensures { IfOk result (λ outcome. outcome_of outcome ≡ element (meaning_of index.now) (meaning_of term.now)) }
 {
-    let Some(parts) = tuple(term) else {
+    let Some(parts) = term.as_tuple() else {
         return refuse(alloc, Refusal::BadArgument);
     };
     let parts = parts.as_slice();
@@ -95,7 +81,7 @@ pub(crate) fn with_element(
 ) -> Result<Outcome, AllocError>
     ensures { IfOk result (λ outcome. outcome_of outcome ≡ with_element (meaning_of index.now) (meaning_of term.now) (meaning_of value.now)) }
 {
-    let Some(parts) = tuple(term) else {
+    let Some(parts) = term.as_tuple() else {
         return refuse(alloc, Refusal::BadArgument);
     };
     let parts = parts.as_slice();
@@ -109,7 +95,7 @@ pub(crate) fn with_element(
 pub(crate) fn size_of_tuple(term: &Term) -> Result<i64, Refusal>
     ensures { integer_or_refusal result ≡ size_of_tuple (meaning_of term.now) }
 {
-    match tuple(term) {
+    match term.as_tuple() {
         Some(parts) => count(parts.len() as u64),
         None => Err(Refusal::BadArgument),
     }
@@ -119,7 +105,7 @@ pub(crate) fn size_of_tuple(term: &Term) -> Result<i64, Refusal>
 pub(crate) fn list_of_tuple(alloc: Global, term: &Term) -> Result<Outcome, AllocError>
     ensures { IfOk result (λ outcome. outcome_of outcome ≡ list_of_tuple (meaning_of term.now)) }
 {
-    let Some(parts) = tuple(term) else {
+    let Some(parts) = term.as_tuple() else {
         return refuse(alloc, Refusal::BadArgument);
     };
     let items = copies(alloc, parts.as_slice())?;

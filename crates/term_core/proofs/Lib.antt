@@ -9,3 +9,4 @@ pub mod ItemsOrder
 pub mod Equality
 pub mod HashSteps
 pub mod Sizes
+pub mod TupleParts

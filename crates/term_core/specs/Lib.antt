@@ -1,5 +1,6 @@
 pub mod Meaning
 pub mod Term
+pub mod Kinds
 pub mod Order
 pub mod StepOrder
 pub mod HashInput

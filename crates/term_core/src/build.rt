@@ -1,24 +1,33 @@
-// Tuples and lists, built of their parts.
+// Atoms of texts; tuples and lists, built of their parts.
 ghost use Rattle.std.specs.Prelude.{◌≡◌, IfOk, map};
-ghost use Rattle.term_core.specs.Meaning.{Cons, Tuple, meanings_of};
+ghost use Rattle.term_core.specs.Meaning as terms;
+ghost use Rattle.term_core.specs.Meaning.{meanings_of};
 ghost use Rattle.term_core.specs.Term.{meaning_of, list_onto};
 
+use crate::atom::Atom;
 use crate::term::{Pair, Term, Terms};
 use std::alloc::{AllocError, Global};
 use std::sync::Arc;
 
 impl Term {
+    /// The atom of this text, or `AllocError` where there is no memory for it.
+    pub fn atom(alloc: Global, text: &str) -> Result<Term, AllocError>
+        ensures { IfOk result (λ atom. meaning_of atom ≡ terms.Atom text.now) }
+    {
+        Ok(Term::Atom(Atom::new(alloc, text)?))
+    }
+
     /// The list cell of a head and a tail, or `AllocError` where memory is wanting, and then both are
     /// dropped.
     pub fn cell(alloc: Global, head: Term, tail: Term) -> Result<Term, AllocError>
-        ensures { IfOk result (λ cell. meaning_of cell ≡ Cons (meaning_of head) (meaning_of tail)) }
+        ensures { IfOk result (λ cell. meaning_of cell ≡ terms.Cons (meaning_of head) (meaning_of tail)) }
     {
         Ok(Term::Cons(Arc::new(alloc, Pair::new(head, tail))?))
     }
 
     /// The tuple of these parts, or `AllocError` where memory is wanting, and then they are dropped.
     pub fn tuple(alloc: Global, parts: Terms) -> Result<Term, AllocError>
-        ensures { IfOk result (λ tuple. meaning_of tuple ≡ Tuple (meanings_of parts)) }
+        ensures { IfOk result (λ tuple. meaning_of tuple ≡ terms.Tuple (meanings_of parts)) }
     {
         Ok(Term::Tuple(Arc::new(alloc, parts)?))
     }

@@ -6,6 +6,7 @@ pub mod atom;
 pub mod build;
 pub mod copy;
 pub mod hash;
+pub mod kinds;
 pub mod nodes;
 pub mod order;
 pub mod parts;

@@ -48,7 +48,7 @@ pub(crate) fn is_enabled(process: &Process<'_>) -> bool
 fn badarg(alloc: Global) -> Result<Term, AllocError>
     ensures { IfOk result (λ reason. meaning_of reason ≡ Atom (codes "badarg")) }
 {
-    Ok(Term::Atom(Atom(String::from_str(alloc, "badarg")?)))
+    Term::atom(alloc, "badarg")
 }
 
 /// The owner of the table that a refused call names, where the refusal tells it.

@@ -51,7 +51,7 @@ impl<'m> Model for World<'m> {
 fn first_process<'m>(alloc: Global, program: &'m Module) -> Result<Process<'m>, AllocError>
     ensures { IfOk result (λ process. (process.pid ≡ []) × IsProcess program.now [] process) }
 {
-    let main = Atom(String::from_str(alloc, "main")?);
+    let main = Atom::new(alloc, "main")?;
     let arguments = Terms::new(alloc);
     let pid = Pid(Vec::new(alloc));
     let machine = start(alloc, program, pid, &program.name, &main, arguments)?;

@@ -16,7 +16,7 @@ use Rattle.core_tree.specs.Callee as callees
 use Rattle.core_tree.specs.Expression as trees
 use Rattle.core_grammar.specs.declared.unserved.Unserved.{Unserved}
 use Rattle.core_grammar.specs.declared.unserved.Unserved.TheVariants as unserved
-use Rattle.core_scopes.specs.Names.{same_bytes}
+use Rattle.term_core.specs.Kinds.{same_text}
 use Rattle.core_scopes.specs.Outcomes.{◌>>=◌}
 use Rattle.core_grammar.specs.Beginnings.{Beginning, OfAtom, OfOtherForm, OfFunction, beginning}
 use Rattle.core_grammar.specs.inside.Decoder.{place_of_unserved, State, Read, with_pieces, is_mark, is_word, after_mark, after_word, refusal, is_foreign, too_deep, mark_at, word_at, taken, atom_in, atom_at, named_by, behind_atom_at, closed_at, brackets_at, exactly_at, rows_at, begins_pattern_by, in_note_at, constant_at, noted_at, variables_at, caught_at, alias_at, pattern_at}
@@ -115,7 +115,7 @@ is_read kind = false
 -- an exported function of the module `own`, as far as the names tell
 abbrev pub export_called : List ℕ → List ℕ → List ℕ → ℕ → Option Callee
 export_called own module_name function_name arity =
-    if same_bytes own module_name && nat_lt arity 256 then Some (callees.Exported (record { name = function_name; arity = arity })) else None
+    if same_text own module_name && nat_lt arity 256 then Some (callees.Exported (record { name = function_name; arity = arity })) else None
 
 abbrev pub unlisted_called : List ℕ → List ℕ → List ℕ → ℕ → Option PureCall → Option Callee
 unlisted_called own module_name function_name arity (Some kind) = Some (callees.Pure kind)
@@ -132,8 +132,8 @@ callee_named own module_name function_name arity = callee_by own module_name fun
 -- the operation of a `primop`, by its name and the number of its arguments
 unfoldable pub operation_named : List ℕ → ℕ → Option Callee
 operation_named name arity =
-    if same_bytes name (codes "match_fail") && arity == 1 then Some callees.MatchFail
-    else (if same_bytes name (codes "raise") && arity == 2 then Some callees.Raise else None)
+    if same_text name (codes "match_fail") && arity == 1 then Some callees.MatchFail
+    else (if same_text name (codes "raise") && arity == 2 then Some callees.Raise else None)
 
 abbrev pub earlier : Unserved → Option Unserved → Unserved
 earlier u None = u

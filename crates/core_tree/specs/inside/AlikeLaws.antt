@@ -16,7 +16,8 @@ use Rattle.core_tree.specs.Pattern as patterns
 use Rattle.core_tree.specs.Expression as trees
 use Rattle.core_tree.specs.Constant as constants
 use Rattle.core_tree.specs.Sameness.{bare_mention, bare_callee, bare_pattern, bare_patterns, bare_tree, bare_trees, bare_clauses, bare_named, bare_definition, bare_module}
-use Rattle.core_tree.specs.Alike.{same_text, same_mention, same_kind, same_pure, same_callee, same_pattern, same_patterns, same_pattern_list, same_tree, same_trees, same_clauses, same_constant, same_constants, same_named, same_attribute, same_definition, same_module}
+use Rattle.core_tree.specs.Alike.{same_mention, same_kind, same_pure, same_callee, same_pattern, same_patterns, same_pattern_list, same_tree, same_trees, same_clauses, same_constant, same_constants, same_named, same_attribute, same_definition, same_module}
+use Rattle.term_core.specs.Kinds.{same_text}
 
 -- a test by which two values have one image
 abbrev pub Tells : {K L : Type 0} → (K → L) → (K → K → Bool) → Type 0

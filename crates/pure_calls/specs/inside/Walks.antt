@@ -1,12 +1,7 @@
 -- What a walk along the cells of a list finds.
 use Rattle.std.specs.Prelude.{ℕ, suc, List, [], ◌∷◌, Option, Some, None, option_map, if◌then◌else◌}
-use Rattle.term_core.specs.Meaning.{Meaning, Cons}
+use Rattle.term_core.specs.Meaning.{Meaning}
 use Rattle.pure_calls.specs.Comparing.{are_equal}
-
--- the head and the tail of the cell that a term is
-abbrev pub cell_in : Meaning → Option (Meaning × Meaning)
-cell_in (Cons head tail) = Some (head, tail)
-cell_in m = None
 
 -- the place of the first of these that is equal to a term, from 0
 abbrev pub first_equal : Meaning → List Meaning → Option ℕ

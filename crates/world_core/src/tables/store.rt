@@ -170,7 +170,7 @@ impl Tables {
         ensures tables { OnOk result ((os : List Meaning) → objects_of (meaning_of objects.now) ≡ Some os → (other : Meaning) →
             find_in self.new other ≡ changed (Puts (meaning_of argument.now) os) (find_in self.old) other) }
     {
-        let answer = Term::Atom(Atom(String::from_str(alloc, "true")?));
+        let answer = Term::atom(alloc, "true")?;
         if let Some(table) = self.0.get_mut(argument) {
             table.insert(alloc, objects)?;
         }
