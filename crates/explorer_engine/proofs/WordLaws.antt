@@ -8,7 +8,7 @@ use Rattle.clap.specs.Words.{App, Row, Text, fault_of, first_of, is_simple, is_s
 use Rattle.clap.specs.declared.error.Error.{Error}
 use Rattle.clap.specs.declared.error.kind.ErrorKind.TheVariants.{OutOfMemory}
 use Rattle.clap.proofs.OnLiterals.{clap_on_literals}
-use Rattle.explorer_engine.specs.CommandLine.{command_line}
+use Rattle.explorer_engine.specs.inside.CommandLine.{command_line}
 use Rattle.explorer_engine.specs.Words.{AreReadAs, IsReplay, begins_with_hyphen}
 use Rattle.explorer_engine.specs.declared.words.Words.{Words}
 

@@ -5,6 +5,6 @@ pub mod Input
 pub mod Refusals
 pub mod Replay
 pub mod Engine
-pub mod CommandLine
 pub mod Words
 pub mod Program
+pub mod inside

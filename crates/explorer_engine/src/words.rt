@@ -2,7 +2,7 @@
 ghost use Rattle.std.specs.Prelude.{◌≡◌, List, ℕ, codes, map, option_map, Some, IfOk, IfErr};
 ghost use Rattle.clap.specs.Values.{kind_of};
 ghost use Rattle.clap.specs.Words.{Row, app_of, first_of, subcommand_rows_of};
-ghost use Rattle.explorer_engine.specs.CommandLine.{command_line};
+ghost use Rattle.explorer_engine.specs.inside.CommandLine.{command_line};
 ghost use Rattle.explorer_engine.specs.Words.{AreReadAs, IsReplay, schedule_of};
 
 use clap::error::ErrorKind;

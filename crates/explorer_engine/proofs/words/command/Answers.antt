@@ -4,7 +4,7 @@ use Rattle.clap.specs.Words.{App, app_of, rule_of, with_rule, with_subcommand}
 use Rattle.clap.specs.declared.builder.command.Command.{Command}
 use Rattle.clap.specs.declared.builder.command.Command.TheOpen.{Command-F}
 use Rattle.clap.specs.declared.builder.command.Command.TheViews.{out-Command}
-use Rattle.explorer_engine.specs.CommandLine.{schedule_rule, replay_command, program_command}
+use Rattle.explorer_engine.specs.inside.CommandLine.{schedule_rule, replay_command, program_command}
 use Rattle.explorer_engine.proofs.words.command.Goals as goal
 
 abbrev with_required : App → App
