@@ -24,7 +24,7 @@ use crate::tables::store::Tables;
 use core_eval::{Answer, Machine, Request};
 use core_tree::CallKind;
 use std::alloc::{AllocError, Global};
-use term_core::{Atom, Pid, Term, Terms};
+use term_core::{Pid, Term, Terms};
 
 /// Whether there is something to this request: a wait for a message that does not come is not over.
 fn is_answered(request: &Request) -> bool

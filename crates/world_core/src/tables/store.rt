@@ -19,7 +19,7 @@ use crate::tables::rule::Rule;
 use indexmap::IndexMap;
 use std::alloc::{AllocError, Global};
 use std::marker::Model;
-use term_core::{Atom, Pid, RefId, Term, Terms};
+use term_core::{Pid, RefId, Term, Terms};
 
 /// The tables, each under its handle: the name of a named table, and the reference of another one.
 /// Contracts see each handle with its record.
