@@ -66,7 +66,7 @@ one go (v ∷ w ∷ vs) s = error (codes "value_count") s
 abbrev pub node_limit : ℕ
 node_limit = 10000
 
--- what is done with a term that was built, or an error in its place where it is too large
+-- the outcome, or the error `system_limit` if the term has more than 10,000 nodes
 abbrev pub within_limit : Meaning → Outcome → State → Outcome
 within_limit m got s = if nat_le (node_count m) node_limit then got else error (codes "system_limit") s
 

@@ -43,7 +43,7 @@ is_text [] m = is_nil m
 is_text (c ∷ cs) (Cons a b) = is_number (pos c) a && is_text cs b
 is_text (c ∷ cs) m = false
 
--- what a literal matches it binds nothing in
+-- a literal binds no variable
 abbrev pub literal : Bool → Environment → Option Environment
 literal matches before = if matches then Some before else None
 

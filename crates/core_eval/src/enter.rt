@@ -1,5 +1,5 @@
 // The steps of the machine into an expression.
-ghost use Rattle.std.specs.Prelude.{◌≡◌, ◌≤◌, [], IfOk, map};
+ghost use Rattle.std.specs.Prelude.{◌≤◌, [], IfOk, map};
 ghost use Rattle.core_tree.specs.Syntax.{trees_of, clauses_of};
 ghost use Rattle.core_tree.specs.Expression as trees;
 ghost use Rattle.core_tree.specs.Callee as callees;

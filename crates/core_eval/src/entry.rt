@@ -82,9 +82,8 @@ pub(crate) fn begin<'m>(
     }
 }
 
-/// Into the body of the function that is applied to these arguments. Nothing that the body sees stands on
-/// the stack, so what only keeps variables is dropped there: an application that is the last thing that a
-/// function does takes no more place than the function did.
+/// Into the body of the function that is applied to these arguments. The scope frames on top of the stack are
+/// popped first, since the body sees none of their variables: this makes tail calls run in constant stack.
 pub(crate) fn apply<'m>(
     alloc: Global,
     program: &'m Module,

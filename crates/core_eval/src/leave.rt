@@ -1,6 +1,6 @@
 // The steps of the machine out of an expression, with its values or with what it raises, to what the frame
 // above it leaves to do.
-ghost use Rattle.std.specs.Prelude.{◌≡◌, ◌+◌, ◌*◌, ◌≤◌, ◌∷◌, [], IfOk, length};
+ghost use Rattle.std.specs.Prelude.{◌≡◌, ◌+◌, ◌*◌, ◌∷◌, [], IfOk, length};
 ghost use Rattle.core_tree.specs.Syntax.{clauses_of};
 ghost use Rattle.core_tree.specs.inside.Sizes.{size_of_clause_list};
 ghost use Rattle.core_tree.specs.Tree.{tree_of};

@@ -1,5 +1,5 @@
 // The machine of one process.
-ghost use Rattle.std.specs.Prelude.{◌≡◌, ◌∷◌, [], Bool, true, false, List, IfOk, OnOk, OnErr, IsErr};
+ghost use Rattle.std.specs.Prelude.{◌≡◌, ◌∷◌, [], true, false, List, IfOk, OnOk, OnErr, IsErr};
 ghost use Rattle.core_eval.specs.Ask.{ask, entry};
 ghost use Rattle.core_eval.specs.Asked.{Answered};
 ghost use Rattle.core_eval.specs.Requests.{asked_of, answered_of};
@@ -76,8 +76,8 @@ pub fn start<'m>(
 }
 
 impl<'m> Machine<'m> {
-    /// The request that it stands at. It takes no memory. A machine that is spent has none to show: this
-    /// is then the one of which the answer was lost.
+    /// The request that it stands at. It takes no memory. On a spent machine this
+    /// is the last request, whose answer was lost.
     pub fn request(&self) -> &Request
         ensures { asked_of result.now ≡ after self.now [] }
     {

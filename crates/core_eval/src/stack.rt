@@ -82,8 +82,7 @@ impl<'m> Stack<'m> {
         }
     }
 
-    /// Drops the frames on top that do nothing but keep variables: what does not see them needs no place
-    /// for them.
+    /// Pops the scope frames on top: a function body does not see its caller's variables.
     pub(crate) fn bare(&mut self)
         ensures { IsBared self.old self.new }
     {

@@ -1,5 +1,5 @@
 // What the grammar reads tokens with: one token at a time, with the fault where it cannot stand.
-ghost use Rattle.std.specs.Prelude.{◌≡◌, ◌≢◌, IfOk, is_some};
+ghost use Rattle.std.specs.Prelude.{◌≡◌, IfOk, is_some};
 ghost use Rattle.core_tokens.specs.Piece.{shape_of, pieces};
 ghost use Rattle.core_grammar.specs.inside.Decoder.{MovesUnlessMemory, PassesUnlessMemory, mark_number, word_number, is_foreign, after_mark, after_word, Skips, fault_of, refusal, place_of, fault, too_deep, mark_at, word_at, comma_at, atom_at, placed_atom_at, arity_at};
 ghost use Rattle.core_parser.specs.inside.ParserView.{state_of};

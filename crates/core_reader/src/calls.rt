@@ -2,7 +2,6 @@
 ghost use Rattle.std.specs.Prelude.{◌≡◌, map, length, true, option_map};
 ghost use Rattle.core_tokens.specs.Piece.{pieces};
 ghost use Rattle.core_tokens.specs.declared.token.Mark.TheVariants.{LeftParenthesis};
-ghost use Rattle.core_tree.specs.Callee as callees;
 ghost use Rattle.core_tree.specs.Tree.{tree_of, callee_of};
 ghost use Rattle.core_grammar.specs.inside.Decoder.{MovesUnlessMemory, after_mark, exactly_at};
 ghost use Rattle.core_grammar.specs.inside.DecoderForms.{callee_fault_of, callee_fault, bare_callee_at, callee_at, applied_fault_of, applied_fault, applied_atom_at, behind_applied_by, bare_applied_at, applied_at, is_read, export_called, unlisted_called, callee_named, operation_named, earlier, refuse, judged, apply_at, call_at, primop_at, expression_at};
@@ -254,7 +253,8 @@ impl<'a> FormReader<'a> {
         self.parser.refused = Some(earlier(unserved, self.parser.refused));
     }
 
-    /// The call at `at` of this callee, if there is one; else something in its place, as reading goes on.
+    /// The call at `at` of this callee, or, if nothing serves it, a placeholder: the fault is recorded, and
+    /// parsing continues.
     fn judged(
         &mut self,
         at: usize,

@@ -1,5 +1,5 @@
 // Clauses of `case` (Core Erlang 1.0.3, "Expressions"), each annotated any number of times.
-ghost use Rattle.std.specs.Prelude.{◌≡◌, map, ◌∷◌, []};
+ghost use Rattle.std.specs.Prelude.{map, ◌∷◌, []};
 ghost use Rattle.core_tokens.specs.declared.token.Keyword.TheVariants.{When};
 ghost use Rattle.core_tokens.specs.declared.token.Mark.TheVariants.{Less};
 ghost use Rattle.core_tree.specs.Syntax.{clauses_of};

@@ -346,7 +346,7 @@ module _ (m : ModuleTree) (at : ℕ) (second : Option Duplicate) (es : List (Fun
     module_closed kept there =
         main_is ∙ ap (λ (b : Bool). if b then Ok m else Err (NoMain at)) there ∙ ap (λ (ds : List DefinitionTree). Ok (record { name = m.name; exports = m.exports; attributes = m.attributes; definitions = ds })) (sym (kept (no_second second fine)))
 
--- ---- the first definition of a name that has one
+-- ---- the first duplicate definition
 
 module _ (es : List (Function × Definition)) (second : Option Duplicate) (d : DefinitionTree) where
   pub second_stays : is_some second ≡ true → second ≡ first_duplicate es second d

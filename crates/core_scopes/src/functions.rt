@@ -6,7 +6,7 @@ ghost use Rattle.core_tree.specs.Definitions.{definition_of, keys_in};
 ghost use Rattle.core_scopes.specs.Scopes.{Setting as Place, functions, exported_by, main_function, IsLawful};
 ghost use Rattle.core_scopes.specs.ScopeFaults.{IsFaultOfModule};
 ghost use Rattle.core_scopes.specs.ScopeChecks.{is_defined, check_definition, check_definitions, check_exports, check_module};
-ghost use Rattle.core_scopes.specs.inside.Environment.{shown, setting_in, check_bodies, check_kept, before_duplicate, first_duplicate, check_functions};
+ghost use Rattle.core_scopes.specs.inside.Environment.{shown, setting_in, check_bodies, check_kept, first_duplicate, check_functions};
 ghost use Rattle.core_scopes.specs.Drafts.{defined_of, draft_of};
 ghost use Rattle.core_scopes.specs.Outcomes.{GivesUnlessMemory};
 
@@ -18,8 +18,7 @@ use indexmap::{IndexMap, IndexSet};
 use std::alloc::Global;
 use term_core::Atom;
 
-/// The first definition of a name that has one: the number of the definitions that were kept before it, and the
-/// place of its name.
+/// The first duplicate definition: how many definitions stand before it, and the place of its name.
 #[derive(Clone, Copy)]
 pub(crate) struct Duplicate {
     pub before: usize,
@@ -33,7 +32,7 @@ struct Gathered {
     second: Option<Duplicate>,
 }
 
-/// The first definition of a name that has one, where `second` is that of the definitions before.
+/// The first duplicate definition, where `second` is that of the definitions before.
 fn first_duplicate(
     definitions: &IndexMap<FunctionName, Definition>,
     second: Option<Duplicate>,
@@ -153,8 +152,8 @@ fn check_bodies(setting: &Setting, count: usize) -> Result<(), ReadFault>
     Ok(())
 }
 
-/// The definitions from the first to the last, or to the first whose name has one. Faults are those of the
-/// bodies, and `DuplicateFunction` at that name.
+/// The definitions up to the first duplicate. Faults are those of the bodies, and `DuplicateFunction` at the
+/// name of the duplicate.
 fn check_kept(setting: &Setting, second: Option<Duplicate>) -> Result<(), ReadFault>
     ensures { GivesUnlessMemory (λ u. u) result (check_kept (setting_in setting.now) second setting.now.definitions.now.entries) }
 {

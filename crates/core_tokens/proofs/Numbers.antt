@@ -10,7 +10,8 @@ use Rattle.core_tokens.specs.declared.lexer.trouble.TokenError.TheVariants as er
 use Rattle.core_tokens.specs.Piece.{Shape}
 use Rattle.core_tokens.specs.Piece as lexemes
 use Rattle.core_tokens.specs.TokenText.{decimal_value, signed, Run, Sign, bare, plus, minus, Fraction, point, Exponent, power, PerhapsExponent, scaled, unscaled, TokenAt, spells_integer, spells_float}
-use Rattle.core_tokens.specs.Tokens.{fits_word, in_range}
+use Rattle.core_tokens.specs.Tokens.{in_range}
+use Rattle.term_core.specs.Integers.{has_64_bits}
 use Rattle.core_tokens.specs.inside.Lexing.{◌>>=◌, run_of, behind_run, some_digits, digits_at, sign_at, fraction_at, exponent_at, integer_of, number_by, number_from, number_at}
 use Rattle.core_tokens.proofs.Basics.{some_is, map_some, chosen, cases_Option}
 use Rattle.core_tokens.proofs.Runs.{run_sound, run_complete, run_head}
@@ -146,11 +147,11 @@ float_complete bytes unsigned digits behind_digits behind_fraction rest d negati
 -- What was read stands there: a token in range; or an integer of more bits.
 abbrev pub IsRead : List ℕ → Result (Shape × List ℕ) TokenError → Type 0
 IsRead bytes (Ok x) = TokenAt bytes x.0 x.1 × (in_range false x.0 ≡ true)
-IsRead bytes (Err errors.OutOfRange) = (n : ℤ) × (rest : List ℕ) × TokenAt bytes (lexemes.Integer n) rest × (fits_word n ≡ false)
+IsRead bytes (Err errors.OutOfRange) = (n : ℤ) × (rest : List ℕ) × TokenAt bytes (lexemes.Integer n) rest × (has_64_bits n ≡ false)
 IsRead bytes (Err errors.NoToken) = Unit {0}
 IsRead bytes (Err errors.Memory) = Unit {0}
 
-integer_by : (bytes rest : List ℕ) (n : ℤ) (b : Bool) → fits_word n ≡ b → TokenAt bytes (lexemes.Integer n) rest → IsRead bytes (cond b (Ok n) (Err errors.OutOfRange) >>= λ m. Ok (lexemes.Integer m, rest))
+integer_by : (bytes rest : List ℕ) (n : ℤ) (b : Bool) → has_64_bits n ≡ b → TokenAt bytes (lexemes.Integer n) rest → IsRead bytes (cond b (Ok n) (Err errors.OutOfRange) >>= λ m. Ok (lexemes.Integer m, rest))
 integer_by bytes rest n true e t = (t, e)
 integer_by bytes rest n false e t = (n, rest, t, e)
 
@@ -158,7 +159,7 @@ number_by_sound : (bytes unsigned : List ℕ) (negative : Bool) (d : ℕ) (digit
 unfolding integer_of
 number_by_sound bytes unsigned negative d digits rest None s r e =
     let n = signed negative (decimal_value (d ∷ digits)) in
-    integer_by bytes rest n (fits_word n) refl (spells_integer s r (fraction_none rest e))
+    integer_by bytes rest n (has_64_bits n) refl (spells_integer s r (fraction_none rest e))
 number_by_sound bytes unsigned negative d digits rest (Some after) s r e = (spells_float s r (fraction_sound rest after e) (perhaps_sound after), refl)
 
 number_from_sound : (bytes unsigned : List ℕ) (negative : Bool) (o : Option (List ℕ × List ℕ)) → Sign bytes negative unsigned → digits_at unsigned ≡ o → IsRead bytes (number_from negative o)

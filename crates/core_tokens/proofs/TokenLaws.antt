@@ -15,7 +15,8 @@ use Rattle.core_tokens.specs.declared.token.Mark.TheVariants as mark
 use Rattle.core_tokens.specs.Piece.{Shape}
 use Rattle.core_tokens.specs.Piece as lexemes
 use Rattle.core_tokens.specs.TokenText.{keyword_text, mark_text, is_in_name, is_variable_name, decimal_value, signed, Run, Sign, bare, plus, minus, FirstCharacter, Escape, Quoted, TokenAt, spells_word, spells_mark, spells_atom, spells_variable, spells_integer, spells_float, spells_character, spells_escape, spells_text}
-use Rattle.core_tokens.specs.Tokens.{fits_word, fits_arity, in_range, BeginsBadInteger}
+use Rattle.core_tokens.specs.Tokens.{fits_arity, in_range, BeginsBadInteger}
+use Rattle.term_core.specs.Integers.{has_64_bits}
 use Rattle.core_tokens.specs.inside.Lexing.{◌>>=◌, word_at, name_at, mark_of, mark_behind_minus, mark_at, escape_at, character_at, integer_of, number_at, unit_at, behind_quote_at, quoted_by, quoted_in, quoted_at, dollar_at, word_token_at, variable_token_at, atom_token_at, text_token_at, dollar_token_at, mark_or_number, token_at, ranged_token_at}
 use Rattle.core_tokens.proofs.Basics.{apart, kind_of, error_is, ok_is}
 use Rattle.core_tokens.proofs.Runs.{run_head}
@@ -290,7 +291,7 @@ token_complete bytes rest s (spells_mark {bytes = whole} {rest = same} {m} e) = 
 token_complete bytes rest s (spells_atom {bytes = whole} {characters} {rest = same} q) = atom_complete_at whole characters same q
 token_complete bytes rest s (spells_variable {bytes = whole} {name} {rest = same} r n) = variable_complete_at whole name same r n
 token_complete bytes rest s (spells_integer {bytes = whole} {unsigned} {digits} {rest = same} {d} {negative} g r none) =
-    signed_is_number whole unsigned digits same d negative g r ∙ integer_complete whole unsigned digits same d negative g r none ∙ integer_ranged (signed negative (decimal_value (d ∷ digits))) same (fits_word (signed negative (decimal_value (d ∷ digits))))
+    signed_is_number whole unsigned digits same d negative g r ∙ integer_complete whole unsigned digits same d negative g r none ∙ integer_ranged (signed negative (decimal_value (d ∷ digits))) same (has_64_bits (signed negative (decimal_value (d ∷ digits))))
 token_complete bytes rest s (spells_float {bytes = whole} {unsigned} {digits} {behind_digits} {behind_fraction} {rest = same} {d} {negative} g r f x) =
     signed_is_number whole unsigned digits behind_digits d negative g r ∙ float_complete whole unsigned digits behind_digits behind_fraction same d negative g r f x
 token_complete bytes rest s (spells_character {bytes = whole} {rest = same} {c} f n) = character_complete_at whole same c f n
@@ -299,11 +300,11 @@ token_complete bytes rest s (spells_text {bytes = whole} {characters} {rest = sa
 
 -- ---- tokens in range
 
-arity_is_word : (n : ℤ) → fits_arity n ≡ true → fits_word n ≡ true
+arity_is_word : (n : ℤ) → fits_arity n ≡ true → has_64_bits n ≡ true
 arity_is_word (pos n) h = lt-ltb n (2 ^ 63) (omega (arith, ltb-true n 256 h))
 arity_is_word (negsuc n) h = absurd cc
 
-no_word_no_arity : (n : ℤ) → fits_word n ≡ false → fits_arity n ≡ false
+no_word_no_arity : (n : ℤ) → has_64_bits n ≡ false → fits_arity n ≡ false
 no_word_no_arity n h = false_from_ne_true (fits_arity n) (λ e. let f = arity_is_word n e in cc)
 
 in_range_is_word : (s : Shape) → in_range true s ≡ true → in_range false s ≡ true
@@ -380,7 +381,7 @@ token_unique behind_slash bytes rest rest' s s' t t' h h' =
     (ap (λ (x : Shape × List ℕ). x.0) both, ap (λ (x : Shape × List ℕ). x.1) both)
 
 -- an integer out of range is read as one
-out_by : (bytes rest : List ℕ) (n : ℤ) (b : Bool) → fits_word n ≡ b → fits_arity n ≡ false → token_at bytes ≡ ranged false (lexemes.Integer n) rest → ranged_token_at true bytes ≡ Err errors.OutOfRange
+out_by : (bytes rest : List ℕ) (n : ℤ) (b : Bool) → has_64_bits n ≡ b → fits_arity n ≡ false → token_at bytes ≡ ranged false (lexemes.Integer n) rest → ranged_token_at true bytes ≡ Err errors.OutOfRange
 unfolding ranged_token_at ranged
 out_by bytes rest n true w a e = rw (e, w, a) refl
 out_by bytes rest n false w a e = rw (e, w) refl
@@ -388,7 +389,7 @@ out_by bytes rest n false w a e = rw (e, w) refl
 pub ranged_out : (behind_slash : Bool) (bytes : List ℕ) → BeginsBadInteger behind_slash bytes → ranged_token_at behind_slash bytes ≡ Err errors.OutOfRange
 unfolding ranged_token_at ranged
 ranged_out false bytes h = token_complete bytes h.1 (lexemes.Integer h.0) h.2 ∙ rw h.3 refl
-ranged_out true bytes h = out_by bytes h.1 h.0 (fits_word h.0) refl h.3 (token_complete bytes h.1 (lexemes.Integer h.0) h.2)
+ranged_out true bytes h = out_by bytes h.1 h.0 (has_64_bits h.0) refl h.3 (token_complete bytes h.1 (lexemes.Integer h.0) h.2)
 
 pub bad_is_no_token : (behind_slash : Bool) (bytes rest : List ℕ) (s : Shape) → BeginsBadInteger behind_slash bytes → TokenAt bytes s rest → in_range behind_slash s ≡ true → ⊥
 bad_is_no_token behind_slash bytes rest s h t g =

@@ -6,16 +6,12 @@ use Rattle.core_tokens.specs.declared.token.Mark.TheVariants as mark
 use Rattle.core_tokens.specs.Piece.{Shape, Piece}
 use Rattle.core_tokens.specs.Piece as lexemes
 use Rattle.core_tokens.specs.TokenText.{is_blank, is_in_line, Run, TokenAt}
+use Rattle.term_core.specs.Integers.{has_64_bits}
 
 -- the token is the mark `/`, behind which an integer is an arity
 abbrev pub is_slash : Shape → Bool
 is_slash (lexemes.Mark mark.Slash) = true
 is_slash _ = false
-
--- the integer fits 64 bits
-abbrev pub fits_word : ℤ → Bool
-fits_word (pos n) = nat_lt n (2 ^ 63)
-fits_word (negsuc n) = nat_lt n (2 ^ 63)
 
 -- the integer is an arity: 0 to 255
 abbrev pub fits_arity : ℤ → Bool
@@ -25,7 +21,7 @@ fits_arity (negsuc n) = false
 -- an integer is in range: an arity behind `/`, and elsewhere one of 64 bits
 abbrev pub integer_in_range : Bool → ℤ → Bool
 integer_in_range true n = fits_arity n
-integer_in_range false n = fits_word n
+integer_in_range false n = has_64_bits n
 
 -- a token is in range where it is no integer, or one in range
 abbrev pub in_range : Bool → Shape → Bool

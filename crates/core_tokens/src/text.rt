@@ -1,5 +1,5 @@
 // The size of a text, and whether it is UTF-8.
-ghost use Rattle.std.specs.Prelude.{◌≡◌, ◌<◌, ◌≤◌, length, IsOk, IsErrOf, OnOk, IfErr};
+ghost use Rattle.std.specs.Prelude.{◌<◌, ◌≤◌, length, IsOk, IsErrOf, OnOk, IfErr};
 ghost use Rattle.core_tokens.specs.Text.{text_limit};
 ghost use Rattle.core_tokens.specs.Within.{IsPlacedWithin};
 ghost use Rattle.std.specs.Str.{IsUtf8};

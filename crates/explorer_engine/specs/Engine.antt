@@ -33,7 +33,7 @@ IsBadSchedule word (schedule.BadStep at) = IsFirstBadStep word at
 IsBadSchedule word schedule.Memory = Unit {0}
 
 -- what was replayed, and how that ended
-pub record IsReplayed (input word : List ℕ) (old new : Option (List ℕ)) (End : ModuleTree → List Step → Type 0) : Type 0 where
+pub record IsReplayed (input word : List ℕ) (End : ModuleTree → List Step → Type 0) : Type 0 where
   pub program : ModuleTree
   pub steps : List Step
   pub given : IsGiven input word program steps
@@ -48,13 +48,13 @@ pub record IsNoSchedule (input word : List ℕ) (old new : Option (List ℕ)) (f
 
 -- a run replayed its schedule to the end; or the input was refused as a module, or could not be read, or the schedule was refused, and nothing was written; or the replay stopped at a step or for want of memory; or the output failed, at a write or at the flush
 abbrev pub IsRunOf : (input word : List ℕ) → (old new : Option (List ℕ)) → Bool → Result Verdict RunFault → Type 0
-IsRunOf input word old new failed (Ok Done) = IsReplayed input word old new (λ m steps. Replays m steps old new failed (Ok tt))
+IsRunOf input word old new failed (Ok Done) = IsReplayed input word (λ m steps. Replays m steps old new failed (Ok tt))
 IsRunOf input word old new failed (Err (run.Input fault)) = IsRefusalOf input fault × WritesNothing old new failed
 IsRunOf input word old new failed (Err run.ReadFailed) = WritesNothing old new failed
 IsRunOf input word old new failed (Err (run.Schedule fault)) = IsNoSchedule input word old new failed fault
 IsRunOf input word old new failed (Err (run.Replay replay.Write)) = ⊥
-IsRunOf input word old new failed (Err (run.Replay fault)) = IsReplayed input word old new (λ m steps. Replays m steps old new failed (Err fault))
-IsRunOf input word old new failed (Err run.Output) = IsReplayed input word old new (λ m steps. BreaksOff old new failed (transcript m steps))
+IsRunOf input word old new failed (Err (run.Replay fault)) = IsReplayed input word (λ m steps. Replays m steps old new failed (Err fault))
+IsRunOf input word old new failed (Err run.Output) = IsReplayed input word (λ m steps. BreaksOff old new failed (transcript m steps))
 
 -- the run was refused before its replay: its input could not be read, or is no module, or the word is no schedule
 abbrev pub IsRefusedBefore : Result Verdict RunFault → Type 0

@@ -9,7 +9,7 @@ use Rattle.explorer_engine.specs.EventText.{text_of_event, text_of_events}
 use Rattle.explorer_engine.specs.declared.replay_fault.ReplayFault.{ReplayFault}
 use Rattle.explorer_engine.specs.declared.replay_fault.ReplayFault.TheVariants.{NotEnabled, Memory, Write}
 
--- what is there with the next event, or else as it is
+-- go on with the next event, or stop
 abbrev pub with_next : {A : Type 0} → (History → A) → A → History → Option Happening → A
 with_next go stop h None = stop
 with_next go stop h (Some e) = go (e ∷ h)

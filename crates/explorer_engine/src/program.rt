@@ -1,5 +1,5 @@
 // The whole program over its three streams, from its words to its exit status.
-ghost use Rattle.std.specs.Prelude.{◌≡◌, ◌≢◌, ◌==◌, ℕ, List, Bool, false, codes, map};
+ghost use Rattle.std.specs.Prelude.{◌≡◌, ◌≢◌, ◌==◌, ℕ, List, false, codes, map};
 ghost use Rattle.clap.specs.Values.{kind_of};
 ghost use Rattle.term_core.specs.Stream.{Writes};
 ghost use Rattle.explorer_engine.specs.Program.{IsRun, IsReported, AreRefused, written};

@@ -1,5 +1,5 @@
 // How a run ends: its verdict or its refusal, and the exit status that reports it.
-ghost use Rattle.std.specs.Prelude.{◌≡◌, false};
+ghost use Rattle.std.specs.Prelude.{◌≡◌};
 ghost use Rattle.explorer_engine.specs.Status.{status_of, status_of_fault, status_of_read_fault, status_of_schedule_fault, status_of_replay_fault};
 
 use crate::input::InputFault;

@@ -1,6 +1,7 @@
 -- What a call gives, or the exception that it raises (Erlang reference manual, "Errors and Error Handling").
-use Rattle.std.specs.Prelude.{ℕ, ℤ, pos, negsuc, ◌^◌, nat_lt, Bool, List, Option, Some, None, codes, if◌then◌else◌}
+use Rattle.std.specs.Prelude.{ℕ, ℤ, Bool, List, Option, Some, None, codes, if◌then◌else◌}
 use Rattle.term_core.specs.Meaning.{Meaning, Int, Atom}
+use Rattle.term_core.specs.Integers.{has_64_bits}
 use Rattle.pure_calls.specs.declared.outcome.Class.{Class}
 use Rattle.pure_calls.specs.declared.outcome.Class.TheVariants.{Error}
 
@@ -20,11 +21,6 @@ wrong_argument = error (codes "badarg")
 -- a boolean is one of two atoms
 abbrev pub truth : Bool → Meaning
 truth b = if b then Atom (codes "true") else Atom (codes "false")
-
--- whether an integer has 64 bits with its sign: from -2^63 to 2^63 - 1 (`negsuc n` is -(n + 1))
-abbrev pub has_64_bits : ℤ → Bool
-has_64_bits (pos n) = nat_lt n (2 ^ 63)
-has_64_bits (negsuc n) = nat_lt n (2 ^ 63)
 
 -- an integer as a value, or an error where it is out of range
 abbrev pub whole : ℤ → Answer

@@ -32,45 +32,45 @@ abbrev pub product : Meaning → Meaning → Answer
 product m n = with_integers (λ a b. whole (a *ℤ b)) (integer_in m) (integer_in n)
 
 -- `+/1`
-abbrev pub kept : Meaning → Answer
-kept m = with_integer (λ a. Value (Int a)) wrong_number (integer_in m)
+abbrev pub plus_of : Meaning → Answer
+plus_of m = with_integer (λ a. Value (Int a)) wrong_number (integer_in m)
 
 -- `-/1`
 abbrev pub negative : Meaning → Answer
 negative m = with_integer (λ a. whole (neg_ℤ a)) wrong_number (integer_in m)
 
 -- the quotient of two integers, towards zero; there is none by 0
-abbrev pub divided : ℤ → ℤ → Answer
-divided a b = if int_eq b (pos 0) then wrong_number else whole (int_div a b)
+abbrev pub quotient_of : ℤ → ℤ → Answer
+quotient_of a b = if int_eq b (pos 0) then wrong_number else whole (int_div a b)
 
 -- `div/2`
 abbrev pub quotient : Meaning → Meaning → Answer
-quotient m n = with_integers divided (integer_in m) (integer_in n)
+quotient m n = with_integers quotient_of (integer_in m) (integer_in n)
 
 -- the remainder of that division, with the sign of the dividend; it is never further from 0 than the dividend
-abbrev pub left_over : ℤ → ℤ → Answer
-left_over a b = if int_eq b (pos 0) then wrong_number else Value (Int (int_rem a b))
+abbrev pub remainder_of : ℤ → ℤ → Answer
+remainder_of a b = if int_eq b (pos 0) then wrong_number else Value (Int (int_rem a b))
 
 -- `rem/2`
 abbrev pub remainder : Meaning → Meaning → Answer
-remainder m n = with_integers left_over (integer_in m) (integer_in n)
+remainder m n = with_integers remainder_of (integer_in m) (integer_in n)
 
 -- `abs/1`; what is no integer is a wrong argument here
 abbrev pub absolute : Meaning → Answer
 absolute m = with_integer (λ a. whole (pos (unsigned_abs a))) wrong_argument (integer_in m)
 
 -- `band/2`: bits are those of two's complement
-abbrev pub bits_of_both : Meaning → Meaning → Answer
-bits_of_both m n = with_integers (λ a b. Value (Int (int_bit_and w64 a b))) (integer_in m) (integer_in n)
+abbrev pub bit_and : Meaning → Meaning → Answer
+bit_and m n = with_integers (λ a b. Value (Int (int_bit_and w64 a b))) (integer_in m) (integer_in n)
 
 -- `bor/2`
-abbrev pub bits_of_one : Meaning → Meaning → Answer
-bits_of_one m n = with_integers (λ a b. Value (Int (int_bit_or w64 a b))) (integer_in m) (integer_in n)
+abbrev pub bit_or : Meaning → Meaning → Answer
+bit_or m n = with_integers (λ a b. Value (Int (int_bit_or w64 a b))) (integer_in m) (integer_in n)
 
 -- `bxor/2`
-abbrev pub bits_of_only_one : Meaning → Meaning → Answer
-bits_of_only_one m n = with_integers (λ a b. Value (Int (int_bit_xor w64 a b))) (integer_in m) (integer_in n)
+abbrev pub bit_xor : Meaning → Meaning → Answer
+bit_xor m n = with_integers (λ a b. Value (Int (int_bit_xor w64 a b))) (integer_in m) (integer_in n)
 
 -- `bnot/1`
-abbrev pub inverted_bits : Meaning → Answer
-inverted_bits m = with_integer (λ a. Value (Int (int_bit_not w64 a))) wrong_number (integer_in m)
+abbrev pub bit_not : Meaning → Answer
+bit_not m = with_integer (λ a. Value (Int (int_bit_not w64 a))) wrong_number (integer_in m)

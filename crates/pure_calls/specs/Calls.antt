@@ -4,7 +4,7 @@ use Rattle.core_tree.specs.declared.pure.PureCall.{PureCall}
 use Rattle.core_tree.specs.declared.pure.PureCall.TheVariants as calls
 use Rattle.term_core.specs.Meaning.{Meaning, Pid}
 use Rattle.pure_calls.specs.Answers.{Answer, Value, truth}
-use Rattle.pure_calls.specs.Arithmetic.{absolute, bits_of_both, bits_of_one, bits_of_only_one, difference, inverted_bits, kept, negative, product, quotient, remainder, sum}
+use Rattle.pure_calls.specs.Arithmetic.{absolute, bit_and, bit_or, bit_xor, difference, bit_not, plus_of, negative, product, quotient, remainder, sum}
 use Rattle.pure_calls.specs.Comparing.{are_different, are_equal, conjunction, disjunction, exclusion, is_at_least, is_at_most, is_greater, is_less, negation}
 use Rattle.pure_calls.specs.Kinds.{is_atom, is_boolean, is_integer, is_list, is_pid, is_reference, is_tuple, record_test}
 use Rattle.pure_calls.specs.Tuples.{element, list_of_tuple, size_of_tuple, with_element}
@@ -22,10 +22,10 @@ answer_to_none own call = undefined
 
 -- calls of one argument
 abbrev pub answer_to_one : PureCall → Meaning → Answer
-answer_to_one calls.Keep a = kept a
+answer_to_one calls.Keep a = plus_of a
 answer_to_one calls.Negate a = negative a
 answer_to_one calls.Absolute a = absolute a
-answer_to_one calls.BitNot a = inverted_bits a
+answer_to_one calls.BitNot a = bit_not a
 answer_to_one calls.Not a = negation a
 answer_to_one calls.IsInteger a = told (is_integer a)
 answer_to_one calls.IsNumber a = told (is_integer a)
@@ -56,9 +56,9 @@ answer_to_two calls.Subtract a b = difference a b
 answer_to_two calls.Multiply a b = product a b
 answer_to_two calls.Divide a b = quotient a b
 answer_to_two calls.Remainder a b = remainder a b
-answer_to_two calls.BitAnd a b = bits_of_both a b
-answer_to_two calls.BitOr a b = bits_of_one a b
-answer_to_two calls.BitXor a b = bits_of_only_one a b
+answer_to_two calls.BitAnd a b = bit_and a b
+answer_to_two calls.BitOr a b = bit_or a b
+answer_to_two calls.BitXor a b = bit_xor a b
 answer_to_two calls.Equal a b = told (are_equal a b)
 answer_to_two calls.NotEqual a b = told (are_different a b)
 answer_to_two calls.Same a b = told (are_equal a b)

@@ -3,7 +3,7 @@ ghost use Rattle.std.specs.Prelude.{◌≡◌, ℤ, pos, SomeIff, FitsSigned};
 ghost use Rattle.std.specs.Int.{w64};
 ghost use Rattle.term_core.specs.Term.{meaning_of};
 ghost use Rattle.pure_calls.specs.Answers.{integer_in, whole};
-ghost use Rattle.pure_calls.specs.Arithmetic.{absolute, bits_of_both, bits_of_one, bits_of_only_one, difference, divided, inverted_bits, kept, left_over, negative, product, quotient, remainder, sum};
+ghost use Rattle.pure_calls.specs.Arithmetic.{absolute, bit_and, bit_or, bit_xor, difference, quotient_of, bit_not, plus_of, remainder_of, negative, product, quotient, remainder, sum};
 ghost use Rattle.pure_calls.specs.Outcomes.{integer_or_refusal};
 
 use crate::outcome::Refusal;
@@ -70,8 +70,8 @@ pub(crate) fn product(first: &Term, second: &Term) -> Result<i64, Refusal>
 }
 
 /// `+` of one term.
-pub(crate) fn kept(term: &Term) -> Result<i64, Refusal>
-    ensures { integer_or_refusal result ≡ kept (meaning_of term.now) }
+pub(crate) fn plus_of(term: &Term) -> Result<i64, Refusal>
+    ensures { integer_or_refusal result ≡ plus_of (meaning_of term.now) }
 {
     match integer(term) {
         Some(number) => Ok(number),
@@ -90,8 +90,8 @@ pub(crate) fn negative(term: &Term) -> Result<i64, Refusal>
 }
 
 /// The quotient of two integers, towards zero.
-fn divided(dividend: i64, divisor: i64) -> Result<i64, Refusal>
-    ensures { integer_or_refusal result ≡ divided dividend divisor }
+fn quotient_of(dividend: i64, divisor: i64) -> Result<i64, Refusal>
+    ensures { integer_or_refusal result ≡ quotient_of dividend divisor }
 {
     if divisor == 0 {
         return Err(Refusal::BadArithmetic);
@@ -104,14 +104,14 @@ pub(crate) fn quotient(first: &Term, second: &Term) -> Result<i64, Refusal>
     ensures { integer_or_refusal result ≡ quotient (meaning_of first.now) (meaning_of second.now) }
 {
     match (integer(first), integer(second)) {
-        (Some(a), Some(b)) => divided(a, b),
+        (Some(a), Some(b)) => quotient_of(a, b),
         _ => Err(Refusal::BadArithmetic),
     }
 }
 
 /// The remainder of the division of two integers towards zero.
-fn left_over(dividend: i64, divisor: i64) -> Result<i64, Refusal>
-    ensures { integer_or_refusal result ≡ left_over dividend divisor }
+fn remainder_of(dividend: i64, divisor: i64) -> Result<i64, Refusal>
+    ensures { integer_or_refusal result ≡ remainder_of dividend divisor }
 {
     if divisor == 0 {
         return Err(Refusal::BadArithmetic);
@@ -124,7 +124,7 @@ pub(crate) fn remainder(first: &Term, second: &Term) -> Result<i64, Refusal>
     ensures { integer_or_refusal result ≡ remainder (meaning_of first.now) (meaning_of second.now) }
 {
     match (integer(first), integer(second)) {
-        (Some(a), Some(b)) => left_over(a, b),
+        (Some(a), Some(b)) => remainder_of(a, b),
         _ => Err(Refusal::BadArithmetic),
     }
 }
@@ -140,8 +140,8 @@ pub(crate) fn absolute(term: &Term) -> Result<i64, Refusal>
 }
 
 /// `band` of two terms.
-pub(crate) fn bits_of_both(first: &Term, second: &Term) -> Result<i64, Refusal>
-    ensures { integer_or_refusal result ≡ bits_of_both (meaning_of first.now) (meaning_of second.now) }
+pub(crate) fn bit_and(first: &Term, second: &Term) -> Result<i64, Refusal>
+    ensures { integer_or_refusal result ≡ bit_and (meaning_of first.now) (meaning_of second.now) }
 {
     match (integer(first), integer(second)) {
         (Some(a), Some(b)) => Ok(a & b),
@@ -150,8 +150,8 @@ pub(crate) fn bits_of_both(first: &Term, second: &Term) -> Result<i64, Refusal>
 }
 
 /// `bor` of two terms.
-pub(crate) fn bits_of_one(first: &Term, second: &Term) -> Result<i64, Refusal>
-    ensures { integer_or_refusal result ≡ bits_of_one (meaning_of first.now) (meaning_of second.now) }
+pub(crate) fn bit_or(first: &Term, second: &Term) -> Result<i64, Refusal>
+    ensures { integer_or_refusal result ≡ bit_or (meaning_of first.now) (meaning_of second.now) }
 {
     match (integer(first), integer(second)) {
         (Some(a), Some(b)) => Ok(a | b),
@@ -160,8 +160,8 @@ pub(crate) fn bits_of_one(first: &Term, second: &Term) -> Result<i64, Refusal>
 }
 
 /// `bxor` of two terms.
-pub(crate) fn bits_of_only_one(first: &Term, second: &Term) -> Result<i64, Refusal>
-    ensures { integer_or_refusal result ≡ bits_of_only_one (meaning_of first.now) (meaning_of second.now) }
+pub(crate) fn bit_xor(first: &Term, second: &Term) -> Result<i64, Refusal>
+    ensures { integer_or_refusal result ≡ bit_xor (meaning_of first.now) (meaning_of second.now) }
 {
     match (integer(first), integer(second)) {
         (Some(a), Some(b)) => Ok(a ^ b),
@@ -170,8 +170,8 @@ pub(crate) fn bits_of_only_one(first: &Term, second: &Term) -> Result<i64, Refus
 }
 
 /// `bnot` of a term.
-pub(crate) fn inverted_bits(term: &Term) -> Result<i64, Refusal>
-    ensures { integer_or_refusal result ≡ inverted_bits (meaning_of term.now) }
+pub(crate) fn bit_not(term: &Term) -> Result<i64, Refusal>
+    ensures { integer_or_refusal result ≡ bit_not (meaning_of term.now) }
 {
     match integer(term) {
         Some(number) => Ok(!number),

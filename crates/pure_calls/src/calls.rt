@@ -25,10 +25,10 @@ fn answer_to_one(alloc: Global, call: PureCall, a: &Term) -> Result<Outcome, All
     ensures { IfOk result (λ outcome. outcome_of outcome ≡ answer_to_one call (meaning_of a.now)) }
 {
     match call {
-        PureCall::Keep => integer_or_refusal(alloc, arithmetic::kept(a)),
+        PureCall::Keep => integer_or_refusal(alloc, arithmetic::plus_of(a)),
         PureCall::Negate => integer_or_refusal(alloc, arithmetic::negative(a)),
         PureCall::Absolute => integer_or_refusal(alloc, arithmetic::absolute(a)),
-        PureCall::BitNot => integer_or_refusal(alloc, arithmetic::inverted_bits(a)),
+        PureCall::BitNot => integer_or_refusal(alloc, arithmetic::bit_not(a)),
         PureCall::Not => truth_or_refusal(alloc, compare::negation(a)),
         PureCall::IsInteger => truth_or_refusal(alloc, Ok(kinds::is_integer(a))),
         PureCall::IsNumber => truth_or_refusal(alloc, Ok(kinds::is_integer(a))),
@@ -64,9 +64,9 @@ fn answer_to_two(alloc: Global, call: PureCall, a: &Term, b: &Term) -> Result<Ou
         PureCall::Multiply => integer_or_refusal(alloc, arithmetic::product(a, b)),
         PureCall::Divide => integer_or_refusal(alloc, arithmetic::quotient(a, b)),
         PureCall::Remainder => integer_or_refusal(alloc, arithmetic::remainder(a, b)),
-        PureCall::BitAnd => integer_or_refusal(alloc, arithmetic::bits_of_both(a, b)),
-        PureCall::BitOr => integer_or_refusal(alloc, arithmetic::bits_of_one(a, b)),
-        PureCall::BitXor => integer_or_refusal(alloc, arithmetic::bits_of_only_one(a, b)),
+        PureCall::BitAnd => integer_or_refusal(alloc, arithmetic::bit_and(a, b)),
+        PureCall::BitOr => integer_or_refusal(alloc, arithmetic::bit_or(a, b)),
+        PureCall::BitXor => integer_or_refusal(alloc, arithmetic::bit_xor(a, b)),
         PureCall::Equal => truth_or_refusal(alloc, Ok(compare::are_equal(a, b))),
         PureCall::NotEqual => truth_or_refusal(alloc, Ok(compare::are_different(a, b))),
         PureCall::Same => truth_or_refusal(alloc, Ok(compare::are_equal(a, b))),

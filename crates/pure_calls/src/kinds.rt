@@ -1,10 +1,9 @@
 // The kinds of terms (Erlang reference manual, module erlang, `is_integer/1` and its neighbours).
-ghost use Rattle.std.specs.Prelude.{◌≡◌, ◌∷◌, option_map};
+ghost use Rattle.std.specs.Prelude.{◌≡◌};
 ghost use Rattle.term_core.specs.Meaning.{Tuple, meanings_of};
 ghost use Rattle.term_core.specs.Term.{meaning_of};
 ghost use Rattle.pure_calls.specs.Kinds.{begin_with, is_atom, is_boolean, is_integer, is_list, is_pid, is_record_of, is_reference, is_tuple, record_test};
 ghost use Rattle.pure_calls.specs.Outcomes.{truth_or_refusal};
-ghost use Rattle.term_core.specs.Kinds.{tuple_in};
 
 use crate::arithmetic::integer;
 use crate::compare::{are_equal, boolean};

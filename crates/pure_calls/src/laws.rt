@@ -1,6 +1,5 @@
 // What is so of the answers themselves. Each function here does nothing: its contract is the law.
-ghost use Rattle.std.specs.Prelude.{◌≡◌, ℤ, ℕ, ◌<◌, ◌+ℤ◌, ◌*ℤ◌, List, int_div, int_rem, unsigned_abs};
-ghost use Rattle.term_core.specs.Meaning.{Meaning, Int};
+ghost use Rattle.std.specs.Prelude.{◌≡◌, ℤ, ◌<◌, ◌+ℤ◌, ◌*ℤ◌, int_div, int_rem, unsigned_abs};
 ghost use Rattle.pure_calls.specs.Rows.{ArithmeticRows, ListRows, TupleRows};
 
 /// The quotient and the remainder of two integers make up the dividend, and the remainder is nearer to 0

@@ -1,6 +1,6 @@
 // Lists (Erlang reference manual, modules erlang and lists). They may have any length: each is walked by a
 // loop over its tails.
-ghost use Rattle.std.specs.Prelude.{◌≡◌, ◌^◌, ◌-◌, min, IfOk, map, length, option_map};
+ghost use Rattle.std.specs.Prelude.{◌≡◌, ◌^◌, ◌-◌, min, IfOk, map, length};
 ghost use Rattle.term_core.specs.Term.{meaning_of};
 ghost use Rattle.pure_calls.specs.Outcomes.{integer_or_refusal, outcome_of, truth_or_refusal};
 ghost use Rattle.pure_calls.specs.Lists.{appended, head_of, heads_of, is_proper, length_of, membership, one_equals, reversed, subtracted, tail_of, tuple_of_list, without_each, without_first};

@@ -3,7 +3,7 @@ ghost use Rattle.std.specs.Prelude.{◌≡◌, ◌<◌, IfOk, length, map, slice
 ghost use Rattle.term_core.specs.Meaning.{Tuple, meanings_of};
 ghost use Rattle.term_core.specs.Term.{meaning_of};
 ghost use Rattle.pure_calls.specs.Outcomes.{integer_or_refusal, outcome_of};
-ghost use Rattle.pure_calls.specs.Answers.{integer_in, whole};
+ghost use Rattle.pure_calls.specs.Answers.{integer_in};
 ghost use Rattle.pure_calls.specs.Tuples.{before_place, element, list_of_tuple, size_of_tuple, with_element};
 
 use crate::arithmetic::{count, integer};

@@ -1,6 +1,7 @@
 pub mod Meaning
 pub mod Term
 pub mod Kinds
+pub mod Integers
 pub mod Order
 pub mod StepOrder
 pub mod HashInput

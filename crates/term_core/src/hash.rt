@@ -1,11 +1,10 @@
 // Hashes of terms, atoms, pids, references and steps: equal values are hashed alike.
-ghost use Rattle.std.specs.Prelude.{◌≡◌, ◌++◌};
+ghost use Rattle.std.specs.Prelude.{◌≡◌};
 ghost use Rattle.std.proofs.Common.{rules};
 ghost use Rattle.std.specs.List.{fold};
 ghost use Rattle.std.specs.Hash as fed;
 ghost use Rattle.std.specs.Cmp.Rules.{hashing};
 ghost use Rattle.term_core.specs.Term.{meaning_of};
-ghost use Rattle.term_core.specs.Order.{order_of_terms, order_of_pairs, order_of_items};
 ghost use Rattle.term_core.specs.inside.OrderLaws.{same_term, same_pair, same_items};
 ghost use Rattle.term_core.specs.inside.StepOrderLaws.{same_reference_id, same_step};
 ghost use Rattle.term_core.specs.HashInput.{writes_of_term, writes_of_pid, writes_of_items, writes_of_pair, writes_of_reference_id, writes_of_step};

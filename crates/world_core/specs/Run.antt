@@ -57,7 +57,7 @@ deed_asked h p (Receive false) = Some TimedOut
 deed_asked h p (asked.End reason) = Some (Ended reason)
 deed_asked h p asked.Runaway = Some RanAway
 
--- whether there is something to it: a call that is served or judged, an end, or a wait that is over
+-- whether a request can be answered now: a call of a table, an end, a runaway, or a receive with a timeout
 abbrev pub is_answered : Asked → Bool
 is_answered (Call kind arguments) = is_some (table_call kind arguments)
 is_answered (Receive waits) = not waits

@@ -1,5 +1,5 @@
 // The turn of a process: the request that it stands at is served, and it runs to the next one.
-ghost use Rattle.std.specs.Prelude.{◌≡◌, ◌++◌, ◌∷◌, ◌+◌, ◌<◌, ◌^◌, true, false, List, IfOk, OnOk, Some, is_some, ◌&&◌, [], codes};
+ghost use Rattle.std.specs.Prelude.{◌≡◌, ◌++◌, ◌+◌, ◌<◌, ◌^◌, true, false, List, IfOk, OnOk, Some, is_some, ◌&&◌, [], codes};
 ghost use Rattle.core_tree.specs.Syntax.{ModuleTree};
 ghost use Rattle.term_core.specs.Meaning.{Atom};
 ghost use Rattle.term_core.specs.Term.{meaning_of};
@@ -26,7 +26,7 @@ use core_tree::CallKind;
 use std::alloc::{AllocError, Global};
 use term_core::{Pid, Term, Terms};
 
-/// Whether there is something to this request: a wait for a message that does not come is not over.
+/// Whether the request can be answered now; a receive without a timeout cannot.
 fn is_answered(request: &Request) -> bool
     ensures { result ≡ is_answered (asked_of request.now) }
 {

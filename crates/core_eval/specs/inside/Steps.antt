@@ -113,7 +113,7 @@ EntersWith old new next variables values body = GoesOn old new next (λ setting 
 abbrev pub Begins : List Hole → List Hole → Control → Option (List Mention × Tree) → List Meaning → Type 0
 Begins old new next function arguments = (setting : Setting) (s : State) → going setting new next s ≡ through setting old (body_with setting function arguments s)
 
--- the new stack means what the old one does, and on its top something is left to do but to keep variables
+-- the new stack is equivalent to the old one, and its top frame is not a mere scope
 pub record IsBared (old new : List Hole) : Type 0 where
   pub same : (setting : Setting) (got : Outcome) → through setting new got ≡ through setting old got
   pub bare : keeps_on_top new ≡ false

@@ -25,7 +25,7 @@ bound_in (Within' ns p outer) = shown ns.now.keys ++ bound_in outer
 abbrev pub setting_in : Place → Setting
 setting_in x = record { defined = keys_in x.definitions.now.entries; exported = shown x.exported.now.keys; in_guard = x.in_guard }
 
--- the names of the variables went behind those before them, where no two are the same
+-- the variables' names were appended, all distinct
 abbrev pub AddsUnlessMemory : List Mention → Result (Unit {0}) ReadFault → List (List ℕ) → List (List ℕ) → Type 0
 AddsUnlessMemory vs (Ok u) old new = (check_distinct old vs ≡ Ok tt) × (new ≡ old ++ names vs)
 AddsUnlessMemory vs (Err e) old new = e ≢ Memory → check_distinct old vs ≡ Err e
@@ -47,12 +47,12 @@ unfoldable pub check_bodies : Setting → List DefinitionTree → Checked
 check_bodies x [] = Ok tt
 check_bodies x (d ∷ ds) = check_definition x d >>= λ _. check_bodies x ds
 
--- the definitions before the first whose name has one
+-- the definitions before the first duplicate
 abbrev pub before_duplicate : Option Duplicate → List DefinitionTree → List DefinitionTree
 before_duplicate None ds = ds
 before_duplicate (Some s) ds = take s.before ds
 
--- the fault at the first definition whose name has one
+-- the fault at the first duplicate definition
 abbrev pub fault_of_duplicate : Option Duplicate → Checked
 fault_of_duplicate None = Ok tt
 fault_of_duplicate (Some s) = Err (DuplicateFunction s.at)
@@ -61,7 +61,7 @@ fault_of_duplicate (Some s) = Err (DuplicateFunction s.at)
 abbrev pub check_kept : Setting → Option Duplicate → List (Function × Definition) → Checked
 check_kept x second es = check_bodies x (before_duplicate second (map definition_of es)) >>= λ _. fault_of_duplicate second
 
--- the first definition whose name has one, after one more
+-- the first duplicate definition, with one more definition at the end
 unfoldable pub first_duplicate : List (Function × Definition) → Option Duplicate → DefinitionTree → Option Duplicate
 first_duplicate es (Some s) d = Some s
 first_duplicate es None d = if is_defined (keys_in es) d.named.function then Some (record { before = length es; at = d.named.at }) else None

@@ -15,7 +15,8 @@ use Rattle.core_tokens.specs.declared.token.Mark.TheVariants as mark
 use Rattle.core_tokens.specs.Piece.{Piece, Shape}
 use Rattle.core_tokens.specs.Piece as lexemes
 use Rattle.core_tokens.specs.TokenText.{is_blank, is_in_line, is_in_name, is_octal, keyword_text, mark_text, is_variable_name, decimal_value, signed, escape_of, stands_raw}
-use Rattle.core_tokens.specs.Tokens.{fits_word, in_range, Spelt}
+use Rattle.core_tokens.specs.Tokens.{in_range, Spelt}
+use Rattle.term_core.specs.Integers.{has_64_bits}
 
 infixl 10 ◌>>=◌
 abbrev pub ◌>>=◌ : {A B : Type 0} → Result A TokenError → (A → Result B TokenError) → Result B TokenError
@@ -123,7 +124,7 @@ exponent_at (c ∷ bytes) = if (c == 101) || (c == 69) then option_map (λ d. d.
 
 -- an integer of 64 bits
 unfoldable pub integer_of : Bool → ℕ → Result ℤ TokenError
-integer_of negative n = if fits_word (signed negative n) then Ok (signed negative n) else Err errors.OutOfRange
+integer_of negative n = if has_64_bits (signed negative n) then Ok (signed negative n) else Err errors.OutOfRange
 
 abbrev pub number_by : Bool → List ℕ → List ℕ → Option (List ℕ) → Result (Shape × List ℕ) TokenError
 number_by negative digits rest None = integer_of negative (decimal_value digits) >>= λ n. Ok (lexemes.Integer n, rest)

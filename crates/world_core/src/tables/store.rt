@@ -1,5 +1,5 @@
 // The tables of a world: a call is judged first, and applied where no rule refuses it.
-ghost use Rattle.std.specs.Prelude.{◌≡◌, [], ◌∷◌, List, None, Some, IfOk, OnOk, option_map, option_copied, if◌then◌else◌, codes};
+ghost use Rattle.std.specs.Prelude.{◌≡◌, [], List, None, Some, IfOk, OnOk, option_map, option_copied, if◌then◌else◌, codes};
 ghost use Rattle.term_core.specs.Meaning.{Meaning, Atom, Ref, Nil};
 ghost use Rattle.term_core.specs.Term.{meaning_of, list_onto};
 ghost use Rattle.world_core.specs.Answers.{answer_for, objects_at};
