@@ -58,9 +58,10 @@ pub fn read_calls_are_served()
 {}
 
 /// Where each call of the world in a module is one that is read, as in every module that a text says, a
-/// process that is alive always has a turn, unless it waits for a message.
+/// process that is alive always has a turn, unless it waits for a message; and then it has none.
 pub fn living_processes_have_turns()
-    ensures { (m : ModuleTree) (h : History) (p : List ℕ) → IsServableModule m → alive h p ≡ true → ¬ (Waits m h p) → (e : Happening) × (next_event m h (Turn p) ≡ Some e) }
+    ensures turn { (m : ModuleTree) (h : History) (p : List ℕ) → IsServableModule m → alive h p ≡ true → ¬ (Waits m h p) → (e : Happening) × (next_event m h (Turn p) ≡ Some e) }
+    ensures waits { (m : ModuleTree) (h : History) (p : List ℕ) → Waits m h p → next_event m h (Turn p) ≡ None }
 {
     only_calls_that_are_read_are_asked();
 }
