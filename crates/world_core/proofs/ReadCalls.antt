@@ -65,7 +65,7 @@ has_turn asks m h p servable lives waits =
     let d = deed_is h p (asking m h p) (asks m p (origin m p) (answers h p) servable) waits in
     (happening (Turn p) d.0, ap (λ (b : Bool). option_map (happening (Turn p)) (if b then deed_asked h p (asking m h p) else None)) lives ∙ ap (λ (o : Option Deed). option_map (happening (Turn p)) o) d.1)
 
-none_asked : (h : History) (p : List ℕ) (lives : Bool) (request : Asked) → request ≡ Receives true → option_map (happening (Turn p)) (if lives then deed_asked h p request else None) ≡ None
+none_asked : (h : History) (p : List ℕ) (lives : Bool) (request : Asked) → request ≡ Receive true → option_map (happening (Turn p)) (if lives then deed_asked h p request else None) ≡ None
 none_asked h p true request e = ap (λ (a : Asked). option_map (happening (Turn p)) (deed_asked h p a)) e
 none_asked h p false request e = refl
 
