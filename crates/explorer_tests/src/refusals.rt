@@ -1,8 +1,6 @@
 // The status and the line of each refusal, alone and as the whole program reports it.
 use core_tokens::ReadFault;
-use explorer_engine::{
-    InputFault, NAME, ReplayFault, RunFault, Verdict, run, status, write_fault,
-};
+use explorer_engine::{InputFault, NAME, ReplayFault, RunFault, Verdict, run, status, write_fault};
 use std::alloc::Global;
 use std::process::Abort;
 use std::test::Fail;
@@ -120,7 +118,14 @@ const SOUND: (u64, usize, u64) = (u64::MAX, 1000, u64::MAX);
 const RUNS: [(&[u8], &str, (u64, usize, u64), u8, &[u8], &[u8]); 11] = [
     (TABLE, "P P P", SOUND, 0, LINES, b""),
     (TABLE, "", SOUND, 0, b"", b""),
-    (b"module 'm", "P", SOUND, 2, b"", b"input: 1 BadToken at 7\n"),
+    (
+        b"module 'm",
+        "P",
+        SOUND,
+        2,
+        b"",
+        b"input: 1 BadToken at 7\n",
+    ),
     (TABLE, " P", SOUND, 2, b"", b"schedule: 1 BadStep at 0\n"),
     (TABLE, "P ", SOUND, 2, b"", b"schedule: 1 BadStep at 2\n"),
     (

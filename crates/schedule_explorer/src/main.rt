@@ -22,7 +22,13 @@ fn main(rt: HostRuntime) -> ExitCode {
     let mut input = Input::new(rt.stdin());
     let mut errors = Output::new(rt.stderr());
     let status = match BufWriter::new(alloc, rt.stdout()) {
-        Ok(writer) => run(alloc, &words, &mut input, &mut Output::new(writer), &mut errors),
+        Ok(writer) => run(
+            alloc,
+            &words,
+            &mut input,
+            &mut Output::new(writer),
+            &mut errors,
+        ),
         Err(_) => {
             let mut output = Output::new(rt.stdout());
             run(alloc, &words, &mut input, &mut output, &mut errors)
