@@ -13,7 +13,8 @@ use Rattle.core_tokens.specs.declared.token.Keyword.TheVariants as k
 use Rattle.core_grammar.specs.Grammar.{word, Spells}
 use Rattle.core_grammar.specs.Places.{IsOne, IsAt, IsPlace, IsLastEnd, IsFaultOf}
 use Rattle.core_tokens.specs.Within.{IsPlacedWithin, StandWithin}
-use Rattle.core_reader.specs.Reader.{SpellsModule, text_limit}
+use Rattle.core_tokens.specs.Text.{text_limit}
+use Rattle.core_reader.specs.Reader.{SpellsModule}
 
 -- the tokens of a text stand in it
 pub tokens_within : {stop : ℕ} {behind last : Bool} {bytes rest : List ℕ} {ps : List Piece} → Spelt stop behind bytes ps last rest → StandWithin stop ps

@@ -8,7 +8,8 @@ use Rattle.core_tokens.specs.Piece.{Piece}
 use Rattle.core_tree.specs.Syntax.{ModuleTree}
 use Rattle.core_tokens.specs.Tokens.{AreTokens, IsTokenFault}
 use Rattle.core_grammar.specs.Places.{IsFaultOf}
-use Rattle.core_reader.specs.Reader.{SpellsModule, text_limit}
+use Rattle.core_tokens.specs.Text.{text_limit}
+use Rattle.core_reader.specs.Reader.{SpellsModule}
 
 -- the text is of lawful length, and is UTF-8
 abbrev pub IsLegible : List ℕ → Type 0

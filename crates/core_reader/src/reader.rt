@@ -3,13 +3,14 @@ ghost use Rattle.std.specs.Prelude.{◌<◌, ◌≤◌, length, IfOk, IfErr, IsE
 ghost use Rattle.std.specs.Str.{IsUtf8};
 ghost use Rattle.std.specs.Str.Lossy.{utf8_valid_len};
 ghost use Rattle.core_tree.specs.Syntax.{ModuleTree};
+ghost use Rattle.core_tokens.specs.Text.{text_limit};
 ghost use Rattle.core_tokens.specs.Within.{IsPlacedWithin};
 ghost use Rattle.core_reader.specs.Reader.{SpellsModule};
 ghost use Rattle.core_reader.specs.Refusal.{IsRefusalOf};
 ghost use Rattle.core_grammar.specs.Whole.{IsReadAs};
 
 use crate::reading::read_tokens;
-use core_tokens::{ReadFault, TEXT_LIMIT, check_text, tokens};
+use core_tokens::{ReadFault, check_text, tokens};
 use core_tree::Module;
 use std::alloc::Global;
 
@@ -28,8 +29,8 @@ pub fn read_module(alloc: Global, text: &[u8]) -> Result<Module, ReadFault>
     // What a text says is read, and nothing else, unless memory runs out.
     ensures only { (m : ModuleTree) → SpellsModule text.now m → IsReadAs m result }
     // Length and encoding are judged first.
-    ensures long { TEXT_LIMIT < length text.now → IsErrOf result (ReadFault.TooLong TEXT_LIMIT) }
-    ensures ill { length text.now ≤ TEXT_LIMIT → ¬ (IsUtf8 text.now) → IsErrOf result (ReadFault.NotUtf8 (utf8_valid_len text.now)) }
+    ensures long { text_limit < length text.now → IsErrOf result (ReadFault.TooLong text_limit) }
+    ensures ill { length text.now ≤ text_limit → ¬ (IsUtf8 text.now) → IsErrOf result (ReadFault.NotUtf8 (utf8_valid_len text.now)) }
     // A refusal says what is so of the text.
     ensures refusal { IfErr result (IsRefusalOf text.now) }
     // Each refusal but that for memory names a place in the text, or its end.

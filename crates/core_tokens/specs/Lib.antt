@@ -1,4 +1,5 @@
 pub mod Piece
+pub mod Text
 pub mod TokenText
 pub mod Tokens
 pub mod Lexing
