@@ -3,16 +3,13 @@ ghost use Rattle.std.specs.Prelude.{◌≡◌};
 ghost use Rattle.world_core.specs.declared.fault.WorldFault.TheVariants.{Memory as MemoryFault};
 
 use std::alloc::{AllocError, AllocFailed};
-use thiserror::Error;
 
 /// Why a world takes no step.
-#[derive(Clone, Copy, Debug, PartialEq, Eq, Error)]
+#[derive(Clone, Copy, Debug, PartialEq, Eq)]
 pub enum WorldFault {
     /// The step is not enabled; the world is unchanged.
-    #[error("1 NotEnabled")]
     NotEnabled,
     /// There was no memory, in this call or an earlier one: the world is spent.
-    #[error("2 Memory")]
     Memory,
 }
 
