@@ -3,6 +3,8 @@
 #![tactic(auto)]
 
 #[cfg(test)]
+mod built;
+#[cfg(test)]
 mod command_words;
 #[cfg(test)]
 mod evaluation;
@@ -10,6 +12,8 @@ mod evaluation;
 mod input;
 #[cfg(test)]
 mod language;
+#[cfg(test)]
+mod large_worlds;
 #[cfg(test)]
 mod module_texts;
 #[cfg(test)]

@@ -3,6 +3,7 @@ use core_reader::read_tokens;
 use core_tokens::{Keyword, Lexeme, Mark, ReadFault, Token};
 use core_tree::Expr;
 use std::alloc::Global;
+use std::fmt::Write;
 use std::test::Fail;
 use term_core::Atom;
 
@@ -236,5 +237,21 @@ fn reads_a_long_list(rt: HostRuntime) -> Result<(), Fail> {
         all.push(Token { at: 2, lexeme })?;
     }
     assert!(rt; read_tokens(rt.alloc(), &all, 5).is_ok());
+    Ok(())
+}
+
+// More than a text of lawful length has room for.
+#[test]
+fn reads_70000_definitions(rt: HostRuntime) -> Result<(), Fail> {
+    let mut text = String::from_str(rt.alloc(), "module 'm' [ ] attributes [ ]")?;
+    for index in 0..70_000 {
+        write!(text, " 'f{index}' / 0 = fun ( ) -> 1")?;
+    }
+    text.push_str(" 'main' / 0 = fun ( ) -> 1 end")?;
+    let all = tokens(rt.alloc(), text.as_str())?;
+    let module = read_tokens(rt.alloc(), &all, text.len())
+        .ok()
+        .ok_or("the text is a module")?;
+    assert_eq!(rt; module.definitions.len(), 70_001);
     Ok(())
 }

@@ -2,6 +2,7 @@
 
 use std::alloc::{AllocError, Global};
 use std::process::Abort;
+use std::sync::Arc;
 use std::test::Fail;
 use term_core::{Pair, Term, Terms, list_onto, write_term};
 use test_streams::MemorySink;
@@ -51,6 +52,19 @@ fn copies_share_a_long_list(rt: HostRuntime) -> Result<(), Fail> {
 }
 
 #[test]
+fn a_million_heads_make_a_list(rt: HostRuntime) -> Result<(), Fail> {
+    let alloc = rt.alloc();
+    let mut heads = Vec::new(alloc);
+    for _head in 0..1_000_000 {
+        heads.push(Term::Int(7))?;
+    }
+    let list = list_onto(alloc, heads, Term::Nil)?;
+    assert_eq!(rt; list.nodes(), 2_000_001);
+    assert!(rt; list == sevens(alloc, 1_000_000)?);
+    Ok(())
+}
+
+#[test]
 fn a_tail_outlives_the_list_before_it(rt: HostRuntime) -> Result<(), Fail> {
     let alloc = rt.alloc();
     let tail = sevens(alloc, 2)?;
@@ -70,6 +84,30 @@ fn a_tuple_outlives_its_copy(rt: HostRuntime) -> Result<(), Fail> {
     drop(tuple);
     prints(&rt, alloc, &list.copy(alloc)?, b"[{1,[]}|{1,[]}]")?;
     prints(&rt, alloc, &list, b"[{1,[]}|{1,[]}]")
+}
+
+// The heads of a list, and what stands in the place of its end, are held by the test alone once the list is
+// dropped.
+#[test]
+fn a_dropped_list_drops_its_heads(rt: HostRuntime) -> Result<(), Fail> {
+    let alloc = rt.alloc();
+    let first = Term::tuple(alloc, two_terms(alloc)?)?;
+    let second = Term::tuple(alloc, two_terms(alloc)?)?;
+    let end = Term::tuple(alloc, two_terms(alloc)?)?;
+    let heads = vec![in alloc; first.copy(alloc)?, second.copy(alloc)?]?;
+    let list = list_onto(alloc, heads, end.copy(alloc)?)?;
+    drop(list);
+    for (held, place) in [
+        (first, "the first"),
+        (second, "the second"),
+        (end, "the end"),
+    ] {
+        let Term::Tuple(shared) = held else {
+            return Err("a tuple is one".into());
+        };
+        assert!(rt; Arc::into_inner(shared).is_some(), "{place}");
+    }
+    Ok(())
 }
 
 #[test]

@@ -1,6 +1,7 @@
 // Worlds of small modules, and what happens in them.
 ghost use Rattle.std.specs.Prelude.{◌≡◌, false, OnOk};
 
+use crate::built::{joined, repeated};
 use core_reader::{CallKind, Module, ReadFault, read_module};
 use std::alloc::{AllocError, Global};
 use std::test::Fail;
@@ -11,12 +12,8 @@ use world_core::{Deed, World, WorldFault};
 
 // The module `m` whose `main/0` has this body.
 fn program(alloc: Global, body: &str) -> Result<Module, ReadFault> {
-    let mut text = String::from_str(
-        alloc,
-        "module 'm' ['main'/0] attributes [] 'main'/0 = fun () -> ",
-    )?;
-    text.push_str(body)?;
-    text.push_str(" end")?;
+    let front = "module 'm' ['main'/0] attributes [] 'main'/0 = fun () -> ";
+    let text = joined(alloc, &[front, body, " end"])?;
     read_module(alloc, text.as_bytes())
 }
 
@@ -78,7 +75,7 @@ fn write_deed(deed: &Deed, sink: &mut Output<Vec<u8>>) -> Result<(), WriteFault>
 }
 
 // What happened last.
-fn last(alloc: Global, world: &World) -> Result<Vec<u8>, WriteFault> {
+pub(crate) fn last(alloc: Global, world: &World) -> Result<Vec<u8>, WriteFault> {
     let mut sink = Output::new(Vec::new(alloc));
     if let Some(event) = world.last_event() {
         write_deed(&event.deed, &mut sink)?;
@@ -87,7 +84,7 @@ fn last(alloc: Global, world: &World) -> Result<Vec<u8>, WriteFault> {
 }
 
 // The turn of the first process.
-fn turn(alloc: Global) -> Step {
+pub(crate) fn turn(alloc: Global) -> Step {
     Step::Turn(Pid(Vec::new(alloc)))
 }
 
@@ -217,14 +214,6 @@ const MADE: &str = "new 't' ['named_table'] -> 't'\n";
 
 const END: &str = "{'badarg',[]}\n";
 
-fn joined(alloc: Global, parts: &[&str]) -> Result<String, AllocError> {
-    let mut text = String::new(alloc);
-    for part in parts {
-        text.push_str(part)?;
-    }
-    Ok(text)
-}
-
 #[test]
 fn each_refusal_has_its_rule(rt: HostRuntime) -> Result<(), Fail> {
     for (body, refusal) in REFUSED {
@@ -302,12 +291,8 @@ fn other_steps_are_not_enabled(rt: HostRuntime) -> Result<(), Fail> {
 
 // A chain of so many `do`, each the second part of the one before it.
 fn chain(alloc: Global, count: usize) -> Result<String, AllocError> {
-    let mut body = String::new(alloc);
-    for _ in 0..count {
-        body.push_str("do 'a' ")?;
-    }
-    body.push_str("'a'")?;
-    Ok(body)
+    let front = repeated(alloc, "do 'a' ", count)?;
+    joined(alloc, &[front.as_str(), "'a'"])
 }
 
 #[test]

@@ -1,0 +1,62 @@
+// Worlds of many events, rows and tables: each event is the one that is wanted.
+use crate::worlds::{last, turn};
+use core_reader::read_module;
+use std::alloc::Global;
+use std::process::Abort;
+use std::test::Fail;
+use world_core::World;
+
+// Takes a turn, and asserts what happened.
+fn happens(rt: &impl Abort, alloc: Global, world: &mut World, want: &str) -> Result<(), Fail> {
+    world.step(alloc, &turn(alloc))?;
+    let text = last(alloc, world)?;
+    assert_eq!(rt; text.as_slice(), want.as_bytes());
+    Ok(())
+}
+
+// Puts 10,000 objects into one table, the last number first, and looks each up.
+const ROWS: &[u8] =
+    b"module 'm' [] attributes [] 'put'/1 = fun (N) -> case N of <0> when 'true' -> 'ok' <M> when 'true' -> do call 'ets':'insert'('t',{N,'x'}) apply 'put'/1(call 'erlang':'-'(N,1)) end 'get'/1 = fun (N) -> case N of <0> when 'true' -> 'ok' <M> when 'true' -> do call 'ets':'lookup'('t',N) apply 'get'/1(call 'erlang':'-'(N,1)) end 'main'/0 = fun () -> do call 'ets':'new'('t',['named_table']) do apply 'put'/1(10000) apply 'get'/1(10000) end";
+
+#[test]
+fn a_table_has_10000_rows_and_a_world_20000_events(rt: HostRuntime) -> Result<(), Fail> {
+    let alloc = rt.alloc();
+    let program = read_module(alloc, ROWS)?;
+    let mut world = World::open(alloc, &program)?;
+    happens(&rt, alloc, &mut world, "new 't' ['named_table'] -> 't'")?;
+    for number in (1..10_001).rev() {
+        let want = format!(in alloc; "insert 't' {{{number},'x'}} -> 'true'")?;
+        happens(&rt, alloc, &mut world, want.as_str())?;
+    }
+    for number in (1..10_001).rev() {
+        let want = format!(in alloc; "lookup 't' {number} -> [{{{number},'x'}}]")?;
+        happens(&rt, alloc, &mut world, want.as_str())?;
+    }
+    happens(&rt, alloc, &mut world, "'normal'")
+}
+
+// Makes 1,000 tables with an object in each, and looks each of these up, the last one first.
+const TABLES: &[u8] =
+    b"module 'm' [] attributes [] 'make'/2 = fun (N,Ts) -> case N of <0> when 'true' -> apply 'all'/1(Ts) <M> when 'true' -> let <T> = call 'ets':'new'('t',[]) in do call 'ets':'insert'(T,{'n',N}) apply 'make'/2(call 'erlang':'-'(N,1),[T|Ts]) end 'all'/1 = fun (Ts) -> case Ts of <[T|Us]> when 'true' -> do call 'ets':'lookup'(T,'n') apply 'all'/1(Us) <[]> when 'true' -> 'ok' end 'main'/0 = fun () -> apply 'make'/2(1000,[]) end";
+
+#[test]
+fn a_world_has_1000_tables(rt: HostRuntime) -> Result<(), Fail> {
+    let alloc = rt.alloc();
+    let program = read_module(alloc, TABLES)?;
+    let mut world = World::open(alloc, &program)?;
+    for index in 0..1_000u64 {
+        let number = 1_000u64.saturating_sub(index);
+        let turn = index.saturating_mul(2).saturating_add(1);
+        let want = format!(in alloc; "new 't' [] -> #P.{turn}")?;
+        happens(&rt, alloc, &mut world, want.as_str())?;
+        let want = format!(in alloc; "insert #P.{turn} {{'n',{number}}} -> 'true'")?;
+        happens(&rt, alloc, &mut world, want.as_str())?;
+    }
+    for index in (0..1_000u64).rev() {
+        let number = 1_000u64.saturating_sub(index);
+        let turn = index.saturating_mul(2).saturating_add(1);
+        let want = format!(in alloc; "lookup #P.{turn} 'n' -> [{{'n',{number}}}]")?;
+        happens(&rt, alloc, &mut world, want.as_str())?;
+    }
+    happens(&rt, alloc, &mut world, "'normal'")
+}
