@@ -25,7 +25,7 @@ limit = 10000
 abbrev pub counted : State → State
 counted s = record { answers = s.answers; made = s.made + 1 }
 
--- an application, where those in its body give what is told; one past the limit runs away, which nothing catches
+-- an application, where those in its body give what is reported; one past the limit runs away, which nothing catches
 abbrev pub applied_once : ModuleTree → List ℕ → (Function → List Meaning → State → Outcome) → Function → List Meaning → State → Outcome
 applied_once m own apply f arguments s =
     if nat_lt s.made limit then body_with (record { own = own; apply = apply }) (definition f m.definitions) arguments (counted s) else Stops Runaway

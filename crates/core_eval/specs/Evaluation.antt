@@ -106,7 +106,7 @@ class_name Error = name (codes "error")
 class_name Exit = name (codes "exit")
 class_name Throw = name (codes "throw")
 
--- the trace of an exception tells its class
+-- the trace of an exception reports its class
 abbrev pub trace_of : Class → Meaning
 trace_of class = Tuple (meanings_of (name (codes "$trace") ∷ class_name class ∷ []))
 
@@ -136,12 +136,12 @@ class_named m =
     else (if is_the_atom (codes "exit") m then Some Exit
     else (if is_the_atom (codes "throw") m then Some Throw else None))
 
--- the class that a trace tells
+-- the class that a trace reports
 abbrev pub class_in : Meaning → Option Class
 class_in (Tuple (Also tag (Also class NoMore))) = if is_the_atom (codes "$trace") tag then class_named class else None
 class_in m = None
 
--- an exception that was caught before is raised again, with the class that its trace tells
+-- an exception that was caught before is raised again, with the class that its trace reports
 abbrev pub raised_again : Option Class → Meaning → State → Outcome
 raised_again None reason s = error (codes "badarg") s
 raised_again (Some class) reason s = Raises class reason s
@@ -220,7 +220,7 @@ module _ (setting : Setting) where
         (λ class reason s'. within (bound caught_variables (caught_values (length caught_variables) class reason) []) env (λ inner s''. evaluate handler inner s'') s')
     evaluate (trees.Catch at t) env s = handled (evaluate t env s) Yields caught
 
-    -- the values of several expressions, each of which wants to be one, behind those that are there
+    -- the values of several expressions, each of which wants to be one, after those that are there
     pub evaluate_all : Trees → Environment → List Meaning → State → Outcome
     evaluate_all trees.NoMore env done s = Yields done s
     evaluate_all (trees.Also t ts) env done s = then_do (evaluate t env s) (one (λ v s'. evaluate_all ts env (done ++ v ∷ []) s'))

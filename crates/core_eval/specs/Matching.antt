@@ -73,7 +73,7 @@ abbrev mutual
   match_each (patterns.Also p ps) [] before = None
   match_each (patterns.Also p ps) (m ∷ ms) before = and_then (match p m before) (λ so_far. match_each ps ms so_far)
 
-  -- the first items of a list, and what is to match behind them
+  -- the first items of a list, and what is to match after them
   pub match_items : Patterns → (Meaning → Environment → Option Environment) → Meaning → Environment → Option Environment
   match_items patterns.NoMore behind m before = behind m before
   match_items (patterns.Also p ps) behind (Cons a b) before = and_then (match p a before) (λ so_far. match_items ps behind b so_far)

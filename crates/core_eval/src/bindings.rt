@@ -89,7 +89,7 @@ impl<'m> Bindings<'m> {
         None
     }
 
-    /// The same variables, or `AllocError` where memory is wanting.
+    /// The same variables, or `AllocError` if there is no memory for it.
     pub(crate) fn copy(&self, alloc: Global) -> Result<Bindings<'m>, AllocError>
         ensures { IfOk result (λ copied. copied ≡ self.now) }
     {

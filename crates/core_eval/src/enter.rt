@@ -218,7 +218,7 @@ fn dispatch<'m>(
     }
 }
 
-/// `primop 'match_fail'`: the error that its one argument tells.
+/// `primop 'match_fail'`: the error that its one argument reports.
 fn fail_match<'m>(alloc: Global, arguments: Terms) -> Result<Control<'m>, AllocError>
     ensures same { IfOk result (λ next. MeansIn next (λ setting s. called_with setting callees.MatchFail arguments s)) }
     ensures less { IfOk result (λ next. load next ≤ 2) }

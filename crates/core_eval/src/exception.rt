@@ -39,7 +39,7 @@ fn class_named(name: &Term) -> Option<Class>
     }
 }
 
-/// The trace of an exception, which tells its class.
+/// The trace of an exception, which reports its class.
 fn trace_of(alloc: Global, class: Class) -> Result<Term, AllocError>
     ensures { IfOk result (λ trace. meaning_of trace ≡ trace_of class) }
 {
@@ -50,7 +50,7 @@ fn trace_of(alloc: Global, class: Class) -> Result<Term, AllocError>
     )
 }
 
-/// The class that a trace tells.
+/// The class that a trace reports.
 fn class_in(trace: &Term) -> Option<Class>
     ensures { result ≡ class_in (meaning_of trace.now) }
 {
@@ -115,7 +115,7 @@ pub(crate) fn match_reason(alloc: Global, reason: Term) -> Result<Term, AllocErr
     }
 }
 
-/// An exception that was caught before, raised again with the class that its trace tells.
+/// An exception that was caught before, raised again with the class that its trace reports.
 pub(crate) fn raise_again<'m>(
     alloc: Global,
     trace: &Term,

@@ -26,9 +26,9 @@ pub(crate) enum Purpose<'m> {
 /// An expression of which one part is being evaluated.
 #[derive(Drop)]
 pub(crate) enum Frame<'m> {
-    /// One of several expressions: what they are for, the values of those before it, and those behind it.
+    /// One of several expressions: what they are for, the values of those before it, and those after it.
     Parts(Purpose<'m>, Terms, &'m [Expr]),
-    /// The tail behind these items of a list.
+    /// The tail after these items of a list.
     Tail(Terms),
     /// The values of a `let`: its variables and its body.
     Body(&'m [Variable], &'m Expr),
@@ -36,7 +36,7 @@ pub(crate) enum Frame<'m> {
     Second(&'m Expr),
     /// The values of a `case`, and its clauses.
     Clauses(&'m [Clause]),
-    /// The guard of a clause: what its patterns bind, its body, the clauses behind it, and the values of the
+    /// The guard of a clause: what its patterns bind, its body, the clauses after it, and the values of the
     /// `case`.
     Guard(Bindings<'m>, &'m Expr, &'m [Clause], Terms),
     /// What a `try` protects.
@@ -75,7 +75,7 @@ impl<'m> Frame<'m> {
         matches!(self, Frame::Kept(_) | Frame::Applied(_))
     }
 
-    /// The same frame, or `AllocError` where memory is wanting.
+    /// The same frame, or `AllocError` if there is no memory for it.
     pub(crate) fn copy(&self, alloc: Global) -> Result<Frame<'m>, AllocError>
         ensures { IfOk result (λ copied. hole_of copied ≡ hole_of self.now) }
     {

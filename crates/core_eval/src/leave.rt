@@ -167,7 +167,7 @@ fn choose<'m>(
     no_clause(alloc, values)
 }
 
-/// The error that no clause is taken: its reason tells the values.
+/// The error that no clause is taken: its reason reports the values.
 fn no_clause<'m>(alloc: Global, values: Terms) -> Result<Control<'m>, AllocError>
     ensures same { IfOk result (λ next. Means next (no_clause values)) }
     ensures less { IfOk result (λ next. load next ≡ 0) }

@@ -50,7 +50,7 @@ impl<'m> Model for Machine<'m> {
 /// Core Erlang 1.0.3; the Erlang manual, `erlang:spawn/3`). Where these name no function that the
 /// module exports, it stands at the end `{'undef',[]}`; the first process may begin with any function
 /// of the module, and is to begin with `main/0`. The arguments and the pid are taken over; the machine
-/// holds on to the module. `AllocError` where memory is wanting.
+/// holds on to the module. `AllocError` if there is no memory for it.
 pub fn start<'m>(
     alloc: Global,
     program: &'m Module,
@@ -85,7 +85,7 @@ impl<'m> Machine<'m> {
     }
 
     /// Runs on with an answer to the next request or the end. An answer that does not fit the request
-    /// changes nothing, nor does any answer at an end. `AllocError` where memory is wanting, and then the
+    /// changes nothing, nor does any answer at an end. `AllocError` if there is no memory for it, and then the
     /// machine is spent: from then on `resume` and `copy` answer `AllocError`.
     pub fn resume(&mut self, alloc: Global, answer: Answer) -> Result<(), AllocError>
         ensures goes_on { OnOk result ((later : List Answered) →
@@ -111,7 +111,7 @@ impl<'m> Machine<'m> {
         Ok(())
     }
 
-    /// The same machine, or `AllocError` where memory is wanting or the machine is spent.
+    /// The same machine, or `AllocError` if there is no memory for it or the machine is spent.
     pub fn copy(&self, alloc: Global) -> Result<Machine<'m>, AllocError>
         ensures same { IfOk result (λ copied. copied ≡ self.now) }
         ensures spent { is_spent self.now ≡ true → IsErr result }

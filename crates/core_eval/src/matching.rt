@@ -55,7 +55,7 @@ fn is_text(value: &Term, characters: &[char]) -> bool
 }
 
 /// Whether the value matches the pattern. Its variables, from left to right, come on top of the bindings;
-/// where it does not match, some of them may. `AllocError` where memory is wanting.
+/// where it does not match, some of them may. `AllocError` if there is no memory for it.
 #[cycle(matching)]
 pub(crate) fn matches<'m>(
     alloc: Global,
@@ -119,7 +119,7 @@ pub(crate) fn matches_each<'m>(
     Ok(true)
 }
 
-/// What stands in a list behind its first items, if these match the patterns.
+/// What stands in a list after its first items, if these match the patterns.
 #[cycle(matching)]
 fn matches_items<'m, 'v>(
     alloc: Global,

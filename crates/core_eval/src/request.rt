@@ -34,7 +34,7 @@ pub enum Answer {
 }
 
 impl Request {
-    /// The same request, or `AllocError` where memory is wanting.
+    /// The same request, or `AllocError` if there is no memory for it.
     pub fn copy(&self, alloc: Global) -> Result<Request, AllocError>
         ensures { IfOk result (λ copied. asked_of copied ≡ asked_of self.now) }
     {

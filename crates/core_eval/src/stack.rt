@@ -38,7 +38,7 @@ impl<'m> Stack<'m> {
         Stack(Vec::new(alloc))
     }
 
-    /// Puts a frame on top, or drops it with `AllocError` where memory is wanting.
+    /// Puts a frame on top, or drops it with `AllocError` if there is no memory for it.
     pub(crate) fn push(&mut self, frame: Frame<'m>) -> Result<(), AllocError>
         ensures { OnOk result (self.new ≡ hole_of frame.entry ∷ self.old) }
     {
@@ -91,7 +91,7 @@ impl<'m> Stack<'m> {
         }
     }
 
-    /// The same stack, or `AllocError` where memory is wanting.
+    /// The same stack, or `AllocError` if there is no memory for it.
     pub(crate) fn copy(&self, alloc: Global) -> Result<Stack<'m>, AllocError>
         ensures { IfOk result (λ copied. copied ≡ self.now) }
     {

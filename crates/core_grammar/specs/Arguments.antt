@@ -1,4 +1,4 @@
--- How many arguments stand in front, by the commas that stand in no further bracket.
+-- How many arguments follow, by the commas that stand in no further bracket.
 use Rattle.std.specs.Prelude.{ℕ, zero, suc, List, [], ◌∷◌}
 use Rattle.core_tokens.specs.declared.token.Mark.TheVariants as m
 use Rattle.core_tokens.specs.Piece.{Piece, Shape}
@@ -23,7 +23,7 @@ turn (lexemes.Mark m.Greater) = TurnsOut
 turn (lexemes.Mark m.Comma) = Separates
 turn shape = GoesBy
 
--- a token at this depth, where what stands behind it has so many commas by the depth that it stands at
+-- a token at this depth, where what stands after it has so many commas by the depth that it stands at
 abbrev pub counted : Turn → ℕ → (ℕ → ℕ) → ℕ
 counted TurnsIn depth behind = behind (suc depth)
 counted TurnsOut zero behind = 0
@@ -41,7 +41,7 @@ abbrev pub arguments_by : Shape → ℕ → ℕ
 arguments_by (lexemes.Mark m.RightParenthesis) n = 0
 arguments_by shape n = suc n
 
--- the number of arguments behind the parenthesis of a call: none where `)` stands in front, else one more than the commas between them, as three in `X, {Y, Z}, []) ..`
+-- the number of arguments after the parenthesis of a call: none where `)` comes next, else one more than the commas between them, as three in `X, {Y, Z}, []) ..`
 abbrev pub arguments : List Piece → ℕ
 arguments [] = 0
 arguments (p ∷ ps) = arguments_by p.shape (commas 0 (p ∷ ps))

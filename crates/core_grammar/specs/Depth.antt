@@ -31,7 +31,7 @@ BeginsPatternBy b = BeginsConstantBy b
 abbrev pub BeginsPattern : Shape → List Piece → Type 0
 BeginsPattern shape ps = BeginsPatternBy (beginning shape)
 
--- an atom with `/` behind it begins a function's name, and no expression
+-- an atom with `/` after it begins a function's name, and no expression
 abbrev pub BeginsExpressionBy : Beginning → List Piece → Type 0
 BeginsExpressionBy OfAtom ps = HasNoSlash ps
 BeginsExpressionBy OfOtherForm ps = Unit {0}
@@ -54,21 +54,21 @@ Front Begins at (p ∷ ps) = (p.at ≡ at) × Begins p.shape ps
 abbrev pub Nowhere : List Piece → Type 0
 Nowhere ps = ⊥
 
--- inside an item, or behind the item that is spelt
+-- inside an item, or after the item that is spelt
 pub data PartOf {X : Type 0} (Item : List Piece → X → List Piece → Type 0) (Deep : List Piece → Type 0) (Rest : X → List Piece → Type 0) : List Piece → Type 0 where
   goes_inside : {ps : List Piece} → Deep ps → PartOf Item Deep Rest ps
   goes_behind : {ps more : List Piece} {x : X} → Item ps x more → Rest x more → PartOf Item Deep Rest ps
 
--- behind a mark
+-- after a mark
 pub data PastMark (x : Mark) (Rest : List Piece → Type 0) : List Piece → Type 0 where
   passes_mark : {ps : List Piece} {at : ℕ} → Rest ps → PastMark x Rest (mark at x ∷ ps)
 
--- behind a keyword
+-- after a keyword
 pub data PastWord (x : Keyword) (Rest : List Piece → Type 0) : List Piece → Type 0 where
   passes_word : {ps : List Piece} {at : ℕ} → Rest ps → PastWord x Rest (word at x ∷ ps)
 
 module _ {X : Type 0} (Item : List Piece → X → List Piece → Type 0) (Deep : List Piece → Type 0) where
-  -- inside an item, or behind it in what follows each alike
+  -- inside an item, or after it in what follows each alike
   abbrev pub Part : (List Piece → Type 0) → List Piece → Type 0
   Part Rest ps = PartOf Item Deep (λ x. Rest) ps
 
@@ -81,19 +81,19 @@ module _ {X : Type 0} (Item : List Piece → X → List Piece → Type 0) (Deep 
   abbrev pub InCommas : List Piece → Type 0
   InCommas ps = (n : ℕ) × InItems n ps
 
-  -- inside one of the items of a list, or inside what stands behind its bar
+  -- inside one of the items of a list, or inside what stands after its bar
   abbrev pub InList : List Piece → Type 0
   InList ps = PartOf (Commas Item) InCommas (λ xs. PastMark m.Bar Deep) ps
 
-  -- inside one of some items that stand one directly behind the other
+  -- inside one of some items that stand one directly after the other
   pub data InRow : List Piece → Type 0 where
     goes_in_row : {ps more : List Piece} {xs : List X} → Row Item ps xs more → Deep more → InRow ps
 
--- behind an item
+-- after an item
 abbrev pub Past : {X : Type 0} → (List Piece → X → List Piece → Type 0) → (List Piece → Type 0) → List Piece → Type 0
 Past Item Rest ps = Part Item Nowhere Rest ps
 
--- in parentheses: inside what is annotated, or inside the constants behind it
+-- in parentheses: inside what is annotated, or inside the constants after it
 abbrev pub InAnnotation : {X : Type 0} → (List Piece → X → List Piece → Type 0) → (List Piece → Type 0) → (List Piece → Constant → List Piece → Type 0) → (List Piece → Type 0) → List Piece → Type 0
 InAnnotation Inner Deep Item DeepItem ps = PastMark m.LeftParenthesis (Part Inner Deep (PastMark m.Note (PastMark m.LeftBracket (InCommas Item DeepItem)))) ps
 
@@ -103,7 +103,7 @@ pub data InGroup {X : Type 0} (Inner : List Piece → X → List Piece → Type 
   in_list : {ps : List Piece} → PastMark m.LeftBracket (InList Inner Deep) ps → InGroup Inner Deep Item DeepItem ps
   in_annotation : {ps : List Piece} → InAnnotation Inner Deep Item DeepItem ps → InGroup Inner Deep Item DeepItem ps
 
--- behind a pattern that is a variable
+-- after a pattern that is a variable
 abbrev pub BehindVariable : (List Piece → Type 0) → Pattern → List Piece → Type 0
 BehindVariable Rest (patterns.Variable v) ps = Rest ps
 BehindVariable Rest q ps = ⊥
@@ -200,7 +200,7 @@ module _ (at : ℕ) where
   abbrev pub DeepAttribute : ℕ → List Piece → Type 0
   DeepAttribute n ps = Past BareAtom (PastMark m.Equals (DeepConstant n)) ps
 
-  -- behind the exports of the module `own`: inside the attributes or the definitions
+  -- after the exports of the module `own`: inside the attributes or the definitions
   abbrev pub BehindExports : ℕ → List ℕ → List Piece → Type 0
   BehindExports n own ps = PastWord k.Attributes (PastMark m.LeftBracket (Part (Enclosed (Attribute (ConstantIn n)) m.RightBracket) (InCommas (Attribute (ConstantIn n)) (DeepAttribute n)) (InRow (Definition own n) (DeepDefinition own n)))) ps
 

@@ -1,5 +1,5 @@
 -- Which tokens spell which tree (Core Erlang 1.0.3, "Grammar"): by cases on the forms, apart from any order of reading.
--- Item ps x rest says: the front of the tokens ps spells x, and rest is what stands behind it.
+-- Item ps x rest says: the front of the tokens ps spells x, and rest is what stands after it.
 use Rattle.std.specs.Prelude.{◌≡◌, ◌≢◌, ℕ, zero, suc, ◌<◌, ℤ, pos, List, [], ◌∷◌, length, codes}
 use Rattle.core_tree.specs.declared.call.CallKind.{CallKind}
 use Rattle.core_tree.specs.declared.pure.PureCall.{PureCall}
@@ -60,7 +60,7 @@ pub data Enclosed {X : Type 0} (Item : List Piece → X → List Piece → Type 
   spells_none : {rest : List Piece} {at : ℕ} → Enclosed Item close (mark at close ∷ rest) [] rest
   spells_some : {ps rest : List Piece} {at : ℕ} {xs : List X} → Commas Item ps xs (mark at close ∷ rest) → Enclosed Item close ps xs rest
 
--- any number of items, one directly behind the other
+-- any number of items, one directly after the other
 pub data Row {X : Type 0} (Item : List Piece → X → List Piece → Type 0) : List Piece → List X → List Piece → Type 0 where
   ends_here : {ps : List Piece} → Row Item ps [] ps
   goes_on : {ps more rest : List Piece} {x : X} {xs : List X} → Item ps x more → Row Item more xs rest → Row Item ps (x ∷ xs) rest
@@ -166,7 +166,7 @@ pub data PatternForm (Inner : List Piece → Pattern → List Piece → Type 0) 
       → PatternForm Inner Item (mark at m.LeftBracket ∷ ps) (patterns.Onto (patterns_of qs) q) rest
   matches_noted : {ps rest : List Piece} {q : Pattern} → InNote Inner Item ps q rest → PatternForm Inner Item ps q rest
 
--- no `=` stands in front
+-- no `=` comes next
 abbrev pub IsNoEquals : Shape → Type 0
 IsNoEquals (lexemes.Mark m.Equals) = ⊥
 IsNoEquals shape = Unit {0}
@@ -175,7 +175,7 @@ abbrev pub HasNoEquals : List Piece → Type 0
 HasNoEquals [] = Unit {0}
 HasNoEquals (p ∷ ps) = IsNoEquals p.shape
 
--- a variable with `=` behind it names what a pattern matches: it does not stand alone
+-- a variable with `=` after it names what a pattern matches: it does not stand alone
 abbrev pub StandsAlone : Pattern → List Piece → Type 0
 StandsAlone (patterns.Variable v) rest = HasNoEquals rest
 StandsAlone q rest = Unit {0}
@@ -226,7 +226,7 @@ pub data Operates : List ℕ → ℕ → Callee → Type 0 where
 
 -- ---- expressions
 
--- no `/` stands in front: an atom with one behind it begins a function's name
+-- no `/` comes next: an atom with one after it begins a function's name
 abbrev pub IsNoSlash : Shape → Type 0
 IsNoSlash (lexemes.Mark m.Slash) = ⊥
 IsNoSlash shape = Unit {0}

@@ -46,7 +46,7 @@ abbrev pub LacksEnd : List Piece → Type 0
 LacksEnd [] = Unit {0}
 LacksEnd (p ∷ ps) = (p.shape ≢ lexemes.Word k.End) × LacksEnd ps
 
--- the last word `end` of the tokens begins there: behind it stands no other
+-- the last word `end` of the tokens begins there: after it stands no other
 pub record IsLastEnd (ps : List Piece) (at : ℕ) : Type 0 where
   pub before : List Piece
   pub behind : List Piece

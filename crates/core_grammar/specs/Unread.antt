@@ -19,14 +19,14 @@ pub record SomeAre (Said : List Piece → Type 0) (ps : List Piece) : Type 0 whe
   pub stands : ps ≡ before ++ here
   pub said : Said here
 
--- this mark stands in front
+-- this mark comes next
 abbrev pub HasMark : Mark → List Piece → Type 0
 HasMark x [] = ⊥
 HasMark x (p ∷ ps) = p.shape ≡ lexemes.Mark x
 
 -- ---- functions as values
 
--- a token that begins a function as a value: `fun`, `letrec`, or an atom with `/` behind it, a function's name
+-- a token that begins a function as a value: `fun`, `letrec`, or an atom with `/` after it, a function's name
 abbrev pub BeginsFunctionBy : Beginning → List Piece → Type 0
 BeginsFunctionBy OfFunction ps = Unit {0}
 BeginsFunctionBy OfAtom ps = HasMark m.Slash ps
@@ -35,7 +35,7 @@ BeginsFunctionBy b ps = ⊥
 abbrev pub BeginsFunction : Shape → List Piece → Type 0
 BeginsFunction shape ps = BeginsFunctionBy (beginning shape) ps
 
--- a token that begins a value where a function's name should stand: an atom with the arguments behind it, or what begins an expression and is neither an atom nor `(`
+-- a token that begins a value where a function's name should stand: an atom with the arguments after it, or what begins an expression and is neither an atom nor `(`
 abbrev pub BeginsAppliedBy : Beginning → List Piece → Type 0
 BeginsAppliedBy OfAtom ps = HasMark m.LeftParenthesis ps
 BeginsAppliedBy b ps = IsNoNameBy b
@@ -53,7 +53,7 @@ HigherOrderAt ps at = SomeAre (Front BeginsFunction at) ps ⊎ SomeAre (AppliesV
 
 -- ---- other forms
 
--- behind `primop` stand a name and arguments of no operation that is read
+-- after `primop` stand a name and arguments of no operation that is read
 pub data IsNoOperation : List Piece → Type 0 where
   operates_nothing : {ps : List Piece} {at bt : ℕ} {name : List ℕ} → ((callee : Callee) → ¬ (Operates name (arguments ps) callee)) → IsNoOperation (atom at name ∷ mark bt m.LeftParenthesis ∷ ps)
 

@@ -1,4 +1,4 @@
--- A call that is not served: what the tokens behind its word `call` say of its two names and of the number of its arguments.
+-- A call that is not served: what the tokens after its word `call` say of its two names and of the number of its arguments.
 use Rattle.std.specs.Prelude.{◌≡◌, ℕ, List, [], ◌∷◌, ◌++◌}
 use Rattle.core_tokens.specs.declared.token.Keyword.TheVariants as k
 use Rattle.core_tokens.specs.declared.token.Mark.TheVariants as m
@@ -41,7 +41,7 @@ LacksName (p ∷ ps) = IsNoName p.shape
 
 -- ---- calls
 
--- what stands behind a word `call` in the module `own` is no call that is served: its module or its function is no atom, or nothing is called by the two names with as many arguments as stand in front
+-- what stands after a word `call` in the module `own` is no call that is served: its module or its function is no atom, or nothing is called by the two names with as many arguments as follow
 pub data IsNoCall (own : List ℕ) : List Piece → Type 0 where
   lacks_module : {qs : List Piece} → LacksName (within qs) → IsNoCall own qs
   lacks_function : (n : ℕ) {qs p1 : List Piece} {at : ℕ} {module_name : List ℕ} → AtomIn n qs module_name (mark at m.Colon ∷ p1) → LacksName (within p1) → IsNoCall own qs

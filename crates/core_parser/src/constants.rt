@@ -123,7 +123,7 @@ impl<'a> Parser<'a> {
         Ok(())
     }
 
-    /// What stands behind the brace of a tuple.
+    /// What stands after the brace of a tuple.
     #[cycle(constants)]
     #[tactic(auto, unfolding(core_grammar::specs::inside::Decoder::constant_tuple_at))]
     fn constant_tuple(&mut self, levels: u16) -> Result<Const, ReadFault>
@@ -147,7 +147,7 @@ impl<'a> Parser<'a> {
         Ok(items)
     }
 
-    /// What stands behind the bracket of a list.
+    /// What stands after the bracket of a list.
     #[cycle(constants)]
     #[tactic(auto, unfolding(core_grammar::specs::inside::Decoder::constant_list_at, core_grammar::specs::inside::Decoder::brackets_at))]
     fn constant_list(&mut self, levels: u16) -> Result<Const, ReadFault>

@@ -21,7 +21,7 @@ pub fn variable_of(alloc: Global, at: usize, name: &[u8]) -> Result<Variable, Al
 }
 
 impl<'a> Parser<'a> {
-    /// Steps over the parenthesis of an annotation, if one stands in front: it takes one of so many levels.
+    /// Steps over the parenthesis of an annotation, if one comes next: it takes one of so many levels.
     pub fn opens_note(&mut self, levels: u16) -> Result<bool, ReadFault>
         ensures { Opens levels result (state_of self.old) (state_of self.new) }
     {
@@ -35,7 +35,7 @@ impl<'a> Parser<'a> {
         Ok(true)
     }
 
-    /// What stands behind the atom of a function's name: `/ Integer`.
+    /// What stands after the atom of a function's name: `/ Integer`.
     #[tactic(auto, unfolding(core_grammar::specs::inside::Decoder::behind_atom_at))]
     pub fn behind_atom(&mut self, at: usize, name: Atom) -> Result<NamedFunction, ReadFault>
         ensures { MovesUnlessMemory (λ e. e) result (state_of self.new) (behind_atom_at at name (state_of self.old)) }

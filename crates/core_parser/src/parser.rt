@@ -103,7 +103,7 @@ impl<'a> Parser<'a> {
         self.refusal(ReadFault::TooDeep(self.place()))
     }
 
-    /// Whether the mark stands in front.
+    /// Whether the mark comes next.
     pub fn is_at_mark(&self, mark: Mark) -> bool
         ensures { result ≡ is_some (after_mark mark (state_of self.now).pieces) }
     {
@@ -119,7 +119,7 @@ impl<'a> Parser<'a> {
         }
     }
 
-    /// Whether the keyword stands in front.
+    /// Whether the keyword comes next.
     pub fn is_at_word(&self, word: Keyword) -> bool
         ensures { result ≡ is_some (after_word word (state_of self.now).pieces) }
     {
@@ -135,7 +135,7 @@ impl<'a> Parser<'a> {
         }
     }
 
-    /// Steps over the mark, if it stands in front.
+    /// Steps over the mark, if it comes next.
     pub fn skip_mark(&mut self, mark: Mark) -> bool
         ensures { Skips result (after_mark mark (state_of self.old).pieces) (state_of self.old) (state_of self.new) }
     {
@@ -156,7 +156,7 @@ impl<'a> Parser<'a> {
         false
     }
 
-    /// Steps over the keyword, if it stands in front.
+    /// Steps over the keyword, if it comes next.
     pub fn skip_word(&mut self, word: Keyword) -> bool
         ensures { Skips result (after_word word (state_of self.old).pieces) (state_of self.old) (state_of self.new) }
     {

@@ -129,7 +129,7 @@ impl<'a> Parser<'a> {
         Ok(pattern)
     }
 
-    /// What stands behind the brace of a tuple.
+    /// What stands after the brace of a tuple.
     #[cycle(patterns)]
     #[tactic(auto, unfolding(core_grammar::specs::inside::Decoder::pattern_tuple_at))]
     fn pattern_tuple(&mut self, levels: u16) -> Result<Pattern, ReadFault>
@@ -139,7 +139,7 @@ impl<'a> Parser<'a> {
         Ok(Pattern::Tuple(Patterns(items)))
     }
 
-    /// What stands behind the bracket of a list.
+    /// What stands after the bracket of a list.
     #[cycle(patterns)]
     #[tactic(auto, unfolding(core_grammar::specs::inside::Decoder::pattern_list_at, core_grammar::specs::inside::Decoder::brackets_at))]
     fn pattern_list(&mut self, levels: u16) -> Result<Pattern, ReadFault>

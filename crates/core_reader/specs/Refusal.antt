@@ -31,7 +31,7 @@ IsTrueOf text (fault.BadInteger place) = IsLegible text × IsTokenFault text (fa
 IsTrueOf text fault.Memory = Unit {0}
 IsTrueOf text f = IsFaultOfTokensOf text f
 
--- the fault refuses the text: what it says is so, and but for want of memory the text is that of no module
+-- the fault refuses the text: what it says is so, and but for lack of memory the text is that of no module
 pub record IsRefusalOf (text : List ℕ) (f : ReadFault) : Type 0 where
   pub says : IsTrueOf text f
   pub only : (m : ModuleTree) → SpellsModule text m → f ≡ fault.Memory

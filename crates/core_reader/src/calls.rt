@@ -214,7 +214,7 @@ impl<'a> FormReader<'a> {
         }
     }
 
-    /// What stands behind the atom of an `apply`: with arguments there the atom is a value that is applied.
+    /// What stands after the atom of an `apply`: with arguments there the atom is a value that is applied.
     fn behind_applied(&mut self, at: usize, name: Atom) -> Result<NamedFunction, ReadFault>
         ensures { MovesUnlessMemory (λ e. e) result (state_in self.new) (behind_applied_by at name (after_mark LeftParenthesis (state_in self.old).pieces) (state_in self.old)) }
     {
@@ -278,7 +278,7 @@ impl<'a> FormReader<'a> {
         }
     }
 
-    /// What stands behind the `apply` at `at`.
+    /// What stands after the `apply` at `at`.
     #[cycle(expressions)]
     #[tactic(auto, unfolding(core_grammar::specs::inside::DecoderForms::apply_at))]
     pub(crate) fn apply(&mut self, own: &Atom, levels: u16, at: usize) -> Result<Expr, ReadFault>
@@ -308,7 +308,7 @@ impl<'a> FormReader<'a> {
         Ok(arguments)
     }
 
-    /// What stands behind the `call` at `at`.
+    /// What stands after the `call` at `at`.
     #[cycle(expressions)]
     #[tactic(auto, unfolding(core_grammar::specs::inside::DecoderForms::call_at))]
     pub(crate) fn call(&mut self, own: &Atom, levels: u16, at: usize) -> Result<Expr, ReadFault>
@@ -323,7 +323,7 @@ impl<'a> FormReader<'a> {
         Ok(self.judged(at, Unserved::Call(at), callee, arguments))
     }
 
-    /// What stands behind the `primop` at `at`.
+    /// What stands after the `primop` at `at`.
     #[cycle(expressions)]
     #[tactic(auto, unfolding(core_grammar::specs::inside::DecoderForms::primop_at))]
     pub(crate) fn primop(&mut self, own: &Atom, levels: u16, at: usize) -> Result<Expr, ReadFault>

@@ -54,7 +54,7 @@ impl<'a> FormReader<'a> {
         Ok((guard, body))
     }
 
-    /// What stands behind the patterns of a clause.
+    /// What stands after the patterns of a clause.
     #[cycle(expressions)]
     fn behind_patterns(
         &mut self,
@@ -87,7 +87,7 @@ impl<'a> FormReader<'a> {
         }
     }
 
-    /// The start of a clause in the parentheses of an annotation: with `when` behind its patterns it is the
+    /// The start of a clause in the parentheses of an annotation: with `when` after its patterns it is the
     /// whole clause.
     #[cycle(expressions)]
     fn started(&mut self, own: &Atom, levels: u16, start: Start) -> Result<Start, ReadFault>
@@ -109,7 +109,7 @@ impl<'a> FormReader<'a> {
         Ok(self.started(own, levels, start)?)
     }
 
-    /// The start of a clause behind the parentheses of an annotation: a variable may be that of an alias.
+    /// The start of a clause after the parentheses of an annotation: a variable may be that of an alias.
     fn aliased(&mut self, own: &Atom, levels: u16, start: Start) -> Result<Start, ReadFault>
         ensures { MovesUnlessMemory start_of result (state_in self.new) (aliased own.now levels (expression_at own.now levels) (start_of start) (state_in self.old)) }
     {
@@ -189,7 +189,7 @@ impl<'a> FormReader<'a> {
         Err(self.parser.fault())
     }
 
-    /// What stands behind the value of a `case`.
+    /// What stands after the value of a `case`.
     #[cycle(expressions)]
     #[tactic(auto, unfolding(core_grammar::specs::inside::DecoderForms::choices_at))]
     fn choices(&mut self, own: &Atom, levels: u16) -> Result<Vec<Clause>, ReadFault>
@@ -202,7 +202,7 @@ impl<'a> FormReader<'a> {
         Ok(clauses)
     }
 
-    /// What stands behind the `case` at `at`.
+    /// What stands after the `case` at `at`.
     #[cycle(expressions)]
     pub(crate) fn case(&mut self, own: &Atom, levels: u16, at: usize) -> Result<Expr, ReadFault>
         ensures { MovesUnlessMemory tree_of result (state_in self.new) (case_at own.now levels (expression_at own.now levels) (start_at own.now levels) at (state_in self.old)) }

@@ -238,7 +238,7 @@ impl<'a> FormReader<'a> {
         }
     }
 
-    /// An expression that begins with a mark, with these tokens behind it.
+    /// An expression that begins with a mark, with these tokens after it.
     #[cycle(expressions)]
     fn mark_form(
         &mut self,
@@ -260,7 +260,7 @@ impl<'a> FormReader<'a> {
         }
     }
 
-    /// An expression that begins with the keyword at `at`, with these tokens behind it.
+    /// An expression that begins with the keyword at `at`, with these tokens after it.
     #[cycle(expressions)]
     fn word_form(
         &mut self,
@@ -287,7 +287,7 @@ impl<'a> FormReader<'a> {
         }
     }
 
-    /// An atom with these tokens behind it, if it begins no function's name.
+    /// An atom with these tokens after it, if it begins no function's name.
     fn name(&mut self, atom: &Atom, rest: &'a [Token]) -> Result<Expr, ReadFault>
         ensures { MovesUnlessMemory tree_of result (state_in self.new) (name_by (after_mark Slash (pieces rest.now)) atom.now (pieces rest.now) (state_in self.old)) }
     {
@@ -318,7 +318,7 @@ impl<'a> FormReader<'a> {
         Ok(expression)
     }
 
-    /// What stands behind the brace of a tuple.
+    /// What stands after the brace of a tuple.
     #[cycle(expressions)]
     #[tactic(auto, unfolding(core_grammar::specs::inside::DecoderForms::tuple_at))]
     fn tuple(&mut self, own: &Atom, levels: u16) -> Result<Expr, ReadFault>
@@ -328,7 +328,7 @@ impl<'a> FormReader<'a> {
         Ok(Expr::Tuple(Exprs(items)))
     }
 
-    /// What stands behind the bracket of a list.
+    /// What stands after the bracket of a list.
     #[cycle(expressions)]
     #[tactic(auto, unfolding(core_grammar::specs::inside::DecoderForms::list_at, core_grammar::specs::inside::Decoder::brackets_at))]
     fn list(&mut self, own: &Atom, levels: u16) -> Result<Expr, ReadFault>
@@ -347,7 +347,7 @@ impl<'a> FormReader<'a> {
         Ok(Expr::List(Exprs(items)))
     }
 
-    /// What stands behind the angle of a list of values.
+    /// What stands after the angle of a list of values.
     #[cycle(expressions)]
     #[tactic(auto, unfolding(core_grammar::specs::inside::DecoderForms::values_at))]
     fn values(&mut self, own: &Atom, levels: u16) -> Result<Expr, ReadFault>
@@ -357,7 +357,7 @@ impl<'a> FormReader<'a> {
         Ok(Expr::Values(Exprs(values)))
     }
 
-    /// An arrow, and the expression behind it.
+    /// An arrow, and the expression after it.
     #[cycle(expressions)]
     #[tactic(auto, unfolding(core_grammar::specs::inside::DecoderForms::body_at))]
     pub(crate) fn body(&mut self, own: &Atom, levels: u16) -> Result<Expr, ReadFault>
@@ -389,7 +389,7 @@ impl<'a> FormReader<'a> {
         Ok((value, body))
     }
 
-    /// What stands behind a `let`.
+    /// What stands after a `let`.
     #[cycle(expressions)]
     fn let_in(&mut self, own: &Atom, levels: u16) -> Result<Expr, ReadFault>
         ensures { MovesUnlessMemory tree_of result (state_in self.new) (let_at own.now levels (expression_at own.now levels) (state_in self.old)) }
@@ -399,7 +399,7 @@ impl<'a> FormReader<'a> {
         Ok(let_of(self.parser.alloc, variables, value, body)?)
     }
 
-    /// What stands behind a `do`.
+    /// What stands after a `do`.
     #[cycle(expressions)]
     #[tactic(auto, unfolding(core_grammar::specs::inside::DecoderForms::do_at))]
     fn do_then(&mut self, own: &Atom, levels: u16) -> Result<Expr, ReadFault>
@@ -445,7 +445,7 @@ impl<'a> FormReader<'a> {
         Ok((success, handler))
     }
 
-    /// What stands behind the `try` at `at`.
+    /// What stands after the `try` at `at`.
     #[cycle(expressions)]
     fn try_in(&mut self, own: &Atom, levels: u16, at: usize) -> Result<Expr, ReadFault>
         ensures { MovesUnlessMemory tree_of result (state_in self.new) (try_at own.now levels (expression_at own.now levels) at (state_in self.old)) }
@@ -455,7 +455,7 @@ impl<'a> FormReader<'a> {
         Ok(try_of(self.parser.alloc, at, value, success, handler)?)
     }
 
-    /// What stands behind the `catch` at `at`.
+    /// What stands after the `catch` at `at`.
     #[cycle(expressions)]
     #[tactic(auto, unfolding(core_grammar::specs::inside::DecoderForms::catch_at))]
     fn catch(&mut self, own: &Atom, levels: u16, at: usize) -> Result<Expr, ReadFault>

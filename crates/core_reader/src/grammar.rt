@@ -127,7 +127,7 @@ impl<'a> FormReader<'a> {
         Ok(function)
     }
 
-    /// What stands behind the name of a definition.
+    /// What stands after the name of a definition.
     #[tactic(auto, unfolding(core_grammar::specs::inside::DecoderModules::behind_name_at))]
     fn behind_name(
         &mut self,
@@ -151,7 +151,7 @@ impl<'a> FormReader<'a> {
         })
     }
 
-    /// The opening in the parentheses of an annotation: with `=` behind a name it is the whole definition.
+    /// The opening in the parentheses of an annotation: with `=` after a name it is the whole definition.
     fn opened(&mut self, own: &Atom, levels: u16, opening: Opening) -> Result<Opening, ReadFault>
         ensures { MovesUnlessMemory opening_of result (state_in self.new) (opened own.now levels (opening_of opening) (state_in self.old)) }
     {

@@ -67,7 +67,7 @@ fn check_variable(scope: &Scope, variable: &Variable) -> Result<(), ReadFault>
     }
 }
 
-/// Puts a variable behind those that are bound with it. The fault is `DuplicateVariable`, if one of them has
+/// Puts a variable after those that are bound with it. The fault is `DuplicateVariable`, if one of them has
 /// its name.
 fn bind<'a>(names: &mut IndexSet<&'a [u8]>, variable: &'a Variable) -> Result<(), ReadFault>
     ensures { AddsUnlessMemory (variable.now ∷ []) result (shown names.old.keys) (shown names.new.keys) }

@@ -1,4 +1,4 @@
--- How each token is spelt: the bytes that begin with it, what it is, and the bytes behind it (Core
+-- How each token is spelt: the bytes that begin with it, what it is, and the bytes after it (Core
 -- Erlang 1.0.3, "Lexical definitions").
 use Rattle.std.specs.Prelude.{◌≡◌, ◌≢◌, ℕ, ◌+◌, ◌-◌, ◌*◌, ℤ, pos, neg_ℤ, Bool, true, false, not, ◌||◌, ◌==◌, if◌then◌else◌, List, [], ◌∷◌, ◌++◌, Option, Some, None, fold, codes, encode_utf8, encode_utf8_all}
 use Rattle.std.specs.Char.{IsScalar, is_ascii_digit, is_ascii_lowercase, is_ascii_uppercase, is_ascii_alphanumeric}
@@ -129,7 +129,7 @@ pub record FirstCharacter (bytes : List ℕ) (c : ℕ) (rest : List ℕ) : Type 
   pub scalar : IsScalar c
   pub whole : bytes ≡ encode_utf8 c ++ rest
 
--- what a letter or a sign behind a backslash stands for
+-- what a letter or a sign after a backslash stands for
 abbrev pub escape_of : ℕ → Option ℕ
 escape_of c =
     if c == 98 then Some 8
@@ -152,7 +152,7 @@ pub data Octal : List ℕ → ℕ → List ℕ → Type 0 where
   two_digits : {rest : List ℕ} {a b : ℕ} → is_octal a ≡ true → is_octal b ≡ true → StopsAt is_octal rest → Octal (a ∷ b ∷ rest) (8 * (a - 48) + (b - 48)) rest
   three_digits : {rest : List ℕ} {a b c : ℕ} → is_octal a ≡ true → is_octal b ≡ true → is_octal c ≡ true → Octal (a ∷ b ∷ c ∷ rest) (8 * (8 * (a - 48) + (b - 48)) + (c - 48)) rest
 
--- what stands behind a backslash, and the character that it stands for
+-- what stands after a backslash, and the character that it stands for
 pub data Escape : List ℕ → ℕ → List ℕ → Type 0 where
   lettered : {rest : List ℕ} {c e : ℕ} → escape_of c ≡ Some e → Escape (c ∷ rest) e rest
   numbered : {bytes rest : List ℕ} {e : ℕ} → Octal bytes e rest → Escape bytes e rest
@@ -161,7 +161,7 @@ pub data Escape : List ℕ → ℕ → List ℕ → Type 0 where
 abbrev pub stands_raw : ℕ → ℕ → Bool
 stands_raw quote c = not ((c == quote) || ((c == 92) || is_line_end c))
 
--- what stands behind the opening quote up to the closing one: the characters that it stands for
+-- what stands after the opening quote up to the closing one: the characters that it stands for
 pub data Quoted (quote : ℕ) : List ℕ → List ℕ → List ℕ → Type 0 where
   closes : {rest : List ℕ} → Quoted quote (quote ∷ rest) [] rest
   stands : {bytes more characters rest : List ℕ} {c : ℕ} → FirstCharacter bytes c more → stands_raw quote c ≡ true → Quoted quote more characters rest → Quoted quote bytes (c ∷ characters) rest

@@ -8,7 +8,7 @@ use Rattle.core_tokens.specs.Piece as lexemes
 use Rattle.core_tokens.specs.TokenText.{is_blank, is_in_line, Run, TokenAt}
 use Rattle.term_core.specs.Integers.{has_64_bits}
 
--- the token is the mark `/`, behind which an integer is an arity
+-- the token is the mark `/`, after which an integer is an arity
 abbrev pub is_slash : Shape → Bool
 is_slash (lexemes.Mark mark.Slash) = true
 is_slash _ = false
@@ -18,7 +18,7 @@ abbrev pub fits_arity : ℤ → Bool
 fits_arity (pos n) = nat_lt n 256
 fits_arity (negsuc n) = false
 
--- an integer is in range: an arity behind `/`, and elsewhere one of 64 bits
+-- an integer is in range: an arity after `/`, and elsewhere one of 64 bits
 abbrev pub integer_in_range : Bool → ℤ → Bool
 integer_in_range true n = fits_arity n
 integer_in_range false n = has_64_bits n
@@ -53,7 +53,7 @@ BeginsBadInteger behind_slash bytes = (n : ℤ) × (rest : List ℕ) × TokenAt 
 abbrev pub TokensUpTo : List ℕ → ℕ → (Bool → List ℕ → Type 0) → Type 0
 TokensUpTo text place Fact = (ps : List Piece) × (last_slash : Bool) × (rest : List ℕ) × Spelt (length text) false text ps last_slash rest × (place ≡ length text - length rest) × (place < length text) × Fact last_slash rest
 
--- what a fault of the tokens says of the text: a place where no token begins, or where an integer is out of range, behind tokens alone
+-- what a fault of the tokens says of the text: a place where no token begins, or where an integer is out of range, after tokens alone
 abbrev pub IsTokenFault : List ℕ → ReadFault → Type 0
 IsTokenFault text (fault.BadToken place) = TokensUpTo text place (λ _ rest. BeginsNoToken rest)
 IsTokenFault text (fault.BadInteger place) = TokensUpTo text place BeginsBadInteger

@@ -52,7 +52,7 @@ pub enum CallKind {
     First,
     /// `ets:last/1`: the last key.
     Last,
-    /// `ets:next/2`: the key behind a key.
+    /// `ets:next/2`: the key after a key.
     Next,
     /// `ets:prev/2`: the key before a key.
     Prev,

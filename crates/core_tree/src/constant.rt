@@ -18,7 +18,7 @@ pub enum Const {
     Atom(Atom),
     /// `{c, ..}`: a tuple.
     Tuple(Consts),
-    /// `[c, ..]`: a list of any length, with nil behind it.
+    /// `[c, ..]`: a list of any length, with nil after it.
     List(Consts),
     /// `[c, .. | c]`: items in front of a constant.
     Onto(Box<OntoConst>),
@@ -52,13 +52,13 @@ impl Model for Consts {
     ghost size_decreases = { λ a h. Prim.omega (arith, most_constant_le a.0.items) };
 }
 
-/// The first items of a list and the constant behind them. Contracts see it as the pair of both.
+/// The first items of a list and the constant after them. Contracts see it as the pair of both.
 #[derive(Drop)]
 #[cycle(constant)]
 pub struct OntoConst {
     /// The items in front, at least one where they were read.
     pub items: Consts,
-    /// What stands behind them.
+    /// What stands after them.
     pub tail: Const,
 }
 

@@ -20,7 +20,7 @@ pub enum Pattern {
     Variable(Variable),
     /// `{p, ..}`: a tuple of as many parts.
     Tuple(Patterns),
-    /// `[p, ..]`: a list of as many items, with nil behind it.
+    /// `[p, ..]`: a list of as many items, with nil after it.
     List(Patterns),
     /// `[p, .. | p]`: items in front of what the last pattern matches.
     Onto(Box<OntoPattern>),
@@ -56,14 +56,14 @@ impl Model for Patterns {
     ghost size_decreases = { λ a h. Prim.omega (arith, most_pattern_le a.0.items) };
 }
 
-/// The patterns of the first items of a list and that of what stands behind them. Contracts see it as the
+/// The patterns of the first items of a list and that of what stands after them. Contracts see it as the
 /// pair of both.
 #[derive(Drop)]
 #[cycle(pattern)]
 pub struct OntoPattern {
     /// The patterns of the first items, at least one where they were read.
     pub items: Patterns,
-    /// The pattern of what stands behind them.
+    /// The pattern of what stands after them.
     pub tail: Pattern,
 }
 

@@ -3,7 +3,7 @@ ghost use Rattle.std.specs.Prelude.{◌≡◌};
 ghost use Rattle.core_tree.specs.Calls.{has_signature};
 ghost use Rattle.core_tree.specs.PureCalls.{pure_signature, pure_call_with};
 
-/// A call that takes part in no exchange with the world: its value, or what it raises, is told by its
+/// A call that takes part in no exchange with the world: its value, or what it raises, is reported by its
 /// arguments alone (Erlang reference manual, modules `erlang` and `lists`), but for `erlang:self/0`, which
 /// gives the pid of the process.
 #[derive(Clone, Copy, Debug, PartialEq, Eq, PartialOrd, Ord, Hash)]
@@ -44,9 +44,9 @@ pub enum PureCall {
     Less,
     /// `erlang:=</2`: whether a term stands before another or is equal to it.
     AtMost,
-    /// `erlang:>/2`: whether a term stands behind another.
+    /// `erlang:>/2`: whether a term stands after another.
     Greater,
-    /// `erlang:>=/2`: whether a term stands behind another or is equal to it.
+    /// `erlang:>=/2`: whether a term stands after another or is equal to it.
     AtLeast,
     /// `erlang:and/2`: whether both of two booleans are true.
     And,
@@ -90,7 +90,7 @@ pub enum PureCall {
     Tail,
     /// `erlang:length/1`: the number of a list's items.
     Length,
-    /// `erlang:++/2`: a list with a term behind it.
+    /// `erlang:++/2`: a list with a term after it.
     Append,
     /// `erlang:--/2`: a list without the items of another.
     Without,
@@ -116,7 +116,7 @@ pub enum PureCall {
     Reverse,
     /// `lists:member/2`: whether a list has an item.
     Member,
-    /// `lists:append/2`: a list with a term behind it.
+    /// `lists:append/2`: a list with a term after it.
     AppendLists,
 }
 

@@ -43,7 +43,7 @@ pub enum Expr {
     Variable(Variable),
     /// `{e, ..}`: a tuple.
     Tuple(Exprs),
-    /// `[e, ..]`: a list of any length, with nil behind it.
+    /// `[e, ..]`: a list of any length, with nil after it.
     List(Exprs),
     /// `[e, .. | e]`: items in front of a value.
     Onto(Box<Onto>),
@@ -92,13 +92,13 @@ impl Model for Exprs {
     ghost size_decreases = { λ a h. Prim.omega (arith, most_le a.0.items) };
 }
 
-/// The first items of a list and what stands behind them. Contracts see it as the pair of both.
+/// The first items of a list and what stands after them. Contracts see it as the pair of both.
 #[derive(Drop)]
 #[cycle(expr)]
 pub struct Onto {
     /// The first items, at least one where they were read.
     pub items: Exprs,
-    /// What stands behind them.
+    /// What stands after them.
     pub tail: Expr,
 }
 

@@ -27,7 +27,7 @@ pub record WritesNothing (old new : Option (List ℕ)) (failed : Bool) : Type 0 
   pub same : new ≡ old
   pub sound : failed ≡ false
 
--- the word is refused as a schedule: but for want of memory at its first bad step
+-- the word is refused as a schedule: but for lack of memory at its first bad step
 abbrev pub IsBadSchedule : List ℕ → ScheduleFault → Type 0
 IsBadSchedule word (schedule.BadStep at) = IsFirstBadStep word at
 IsBadSchedule word schedule.Memory = Unit {0}
@@ -46,7 +46,7 @@ pub record IsNoSchedule (input word : List ℕ) (old new : Option (List ℕ)) (f
   pub bad : IsBadSchedule word fault
   pub quiet : WritesNothing old new failed
 
--- a run replayed its schedule to the end; or the input was refused as a module, or could not be read, or the schedule was refused, and nothing was written; or the replay stopped at a step or for want of memory; or the output failed, at a write or at the flush
+-- a run replayed its schedule to the end; or the input was refused as a module, or could not be read, or the schedule was refused, and nothing was written; or the replay stopped at a step or for lack of memory; or the output failed, at a write or at the flush
 abbrev pub IsRunOf : (input word : List ℕ) → (old new : Option (List ℕ)) → Bool → Result Verdict RunFault → Type 0
 IsRunOf input word old new failed (Ok Done) = IsReplayed input word (λ m steps. Replays m steps old new failed (Ok tt))
 IsRunOf input word old new failed (Err (run.Input fault)) = IsRefusalOf input fault × WritesNothing old new failed

@@ -40,16 +40,16 @@ name_of_rule ShortObject = codes "ShortObject"
 abbrev pub text_of_rule : Rule → List ℕ
 text_of_rule rule = decimal (number_of_rule rule) ++ (codes " " ++ name_of_rule rule)
 
--- the owner of a table that is told
+-- the owner of a table that is reported
 abbrev pub text_of_told_owner : List ℕ → List ℕ
 text_of_told_owner pid = codes ", owner " ++ text_of_pid pid
 
--- the owner of a table, where it is told
+-- the owner of a table, where it is reported
 abbrev pub text_of_owner : Option (List ℕ) → List ℕ
 text_of_owner None = []
 text_of_owner (Some pid) = text_of_told_owner pid
 
--- an argument behind a comma
+-- an argument after a comma
 abbrev pub behind_comma : Meaning → List ℕ
 behind_comma argument = codes "," ++ text_of_term argument
 
@@ -67,7 +67,7 @@ text_of_call kind arguments = (signature kind).module_name ++ (codes ":" ++ ((si
 abbrev pub text_of_answer : CallKind → List Meaning → Meaning → List ℕ
 text_of_answer kind arguments answer = text_of_call kind arguments ++ (codes " -> " ++ text_of_term answer)
 
--- a call of a table that was refused, with the rule, and with the owner where it is told
+-- a call of a table that was refused, with the rule, and with the owner where it is reported
 abbrev pub text_of_refusal : CallKind → List Meaning → Rule → Option (List ℕ) → List ℕ
 text_of_refusal kind arguments rule owner = text_of_call kind arguments ++ (codes " -> badarg (" ++ (text_of_rule rule ++ (text_of_owner owner ++ codes ")")))
 

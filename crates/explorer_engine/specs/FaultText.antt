@@ -1,4 +1,4 @@
--- The line by which a refusal is told, as bytes.
+-- The line by which a refusal is reported, as bytes.
 use Rattle.std.specs.Prelude.{ℕ, List, ◌++◌, codes}
 use Rattle.std.specs.Fmt.{decimal}
 use Rattle.core_tokens.specs.declared.fault.ReadFault.{ReadFault}
@@ -10,7 +10,7 @@ use Rattle.explorer_engine.specs.declared.replay_fault.ReplayFault.TheVariants a
 use Rattle.explorer_engine.specs.declared.verdict.RunFault.{RunFault}
 use Rattle.explorer_engine.specs.declared.verdict.RunFault.TheVariants as run
 
--- a number behind words, to the end of the line
+-- a number after words, to the end of the line
 abbrev pub placed : List ℕ → ℕ → List ℕ
 placed words number = words ++ (decimal number ++ codes "\n")
 
@@ -38,7 +38,7 @@ abbrev pub text_of_schedule_fault : ScheduleFault → List ℕ
 text_of_schedule_fault (schedule.BadStep at) = placed (codes "schedule: 1 BadStep at ") at
 text_of_schedule_fault schedule.Memory = codes "schedule: 2 Memory\n"
 
--- what stopped a replay; a line that could not be written is told as for every output
+-- what stopped a replay; a line that could not be written is reported as for every output
 abbrev pub text_of_replay_fault : ReplayFault → List ℕ
 text_of_replay_fault (replay.NotEnabled step) = placed (codes "replay: 1 NotEnabled at step ") step
 text_of_replay_fault replay.Memory = codes "replay: 2 Memory\n"

@@ -16,7 +16,7 @@ pub record Written : Type 0 where
   pub failed : Bool
   pub flushed : Bool
 
--- the same of a stream before and after, by what it tells
+-- the same of a stream before and after, by what it reports
 abbrev pub written : {S : Type 0} → (S → Option (List ℕ)) → (S → Bool) → (S → Bool) → S → S → Written
 written contents has_failed is_flushed old new = record { old = contents old; new = contents new; failed = has_failed new; flushed = is_flushed new }
 

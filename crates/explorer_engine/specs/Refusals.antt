@@ -7,7 +7,7 @@ use Rattle.explorer_engine.specs.declared.replay_fault.ReplayFault.TheVariants a
 use Rattle.explorer_engine.specs.declared.verdict.RunFault.{RunFault}
 use Rattle.explorer_engine.specs.declared.verdict.RunFault.TheVariants as run
 
--- the want of memory while the input is read is one of reading the module
+-- the lack of memory while the input is read is one of reading the module
 abbrev pub refusal_of_input : InputFault → RunFault
 refusal_of_input input.ReadFailed = run.ReadFailed
 refusal_of_input input.Memory = run.Input read.Memory

@@ -36,7 +36,7 @@ stop m steps = stop_on m [] 1 steps
 abbrev pub transcript : ModuleTree → List Step → List ℕ
 transcript m steps = text_of_events (reached m steps)
 
--- a replay wrote the whole transcript and came to its end or to the step that is not enabled, or it broke off within it: for want of memory, or where the sink has failed
+-- a replay wrote the whole transcript and came to its end or to the step that is not enabled, or it broke off within it: for lack of memory, or where the sink has failed
 abbrev pub Replays : ModuleTree → List Step → (old new : Option (List ℕ)) → Bool → Result (Unit {0}) ReplayFault → Type 0
 Replays m steps old new failed (Ok done) = (stop m steps ≡ None) × WritesAll old new failed (transcript m steps)
 Replays m steps old new failed (Err (NotEnabled place)) = (stop m steps ≡ Some place) × WritesAll old new failed (transcript m steps)

@@ -11,17 +11,17 @@ use Rattle.explorer_engine.specs.declared.verdict.RunFault.TheVariants as run
 use Rattle.explorer_engine.specs.declared.verdict.Verdict.{Verdict}
 use Rattle.explorer_engine.specs.declared.verdict.Verdict.TheVariants.{Done}
 
--- a module that was refused, or the want of memory
+-- a module that was refused, or the lack of memory
 abbrev pub status_of_read_fault : ReadFault → ℕ
 status_of_read_fault read.Memory = 3
 status_of_read_fault _ = 2
 
--- a schedule that was refused, or the want of memory
+-- a schedule that was refused, or the lack of memory
 abbrev pub status_of_schedule_fault : ScheduleFault → ℕ
 status_of_schedule_fault (schedule.BadStep at) = 2
 status_of_schedule_fault schedule.Memory = 3
 
--- a step that is not enabled, the want of memory, or output that failed
+-- a step that is not enabled, the lack of memory, or output that failed
 abbrev pub status_of_replay_fault : ReplayFault → ℕ
 status_of_replay_fault (replay.NotEnabled step) = 2
 status_of_replay_fault replay.Memory = 3

@@ -20,7 +20,7 @@ use term_core::{Sink, Source, read_schedule};
 /// the text is that of no schedule, and then nothing was written; where both are refused it is the
 /// module's refusal. `Replay` where a step is not
 /// enabled, with the lines of the steps before it. `Output` where the sink has failed, at a write or at
-/// the flush, and a want of memory in each part as its own: then a beginning of the lines was written.
+/// the flush, and a lack of memory in each part as its own: then a beginning of the lines was written.
 pub fn run_replay<R: Source, W: Sink>(
     alloc: Global,
     source: &mut R,
@@ -30,7 +30,7 @@ pub fn run_replay<R: Source, W: Sink>(
     requires readable { R.has_failed source.old ≡ false }
     requires writable { W.has_failed sink.old ≡ false }
 
-    // Where the source tells its bytes.
+    // Where the source reports its bytes.
     ensures run { IfSome (R.remaining source.old) (λ input.
         IsRunOf input schedule.now (W.contents sink.old) (W.contents sink.new) (W.has_failed sink.new) result) }
 

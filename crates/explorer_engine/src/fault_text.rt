@@ -1,4 +1,4 @@
-// The line by which a refusal is told. No write takes memory.
+// The line by which a refusal is reported. No write takes memory.
 ghost use Rattle.std.specs.Prelude.{◌≡◌, false};
 ghost use Rattle.term_core.specs.Stream.{Writes};
 ghost use Rattle.explorer_engine.specs.FaultText.{placed, text_of_read_fault, text_of_schedule_fault, text_of_replay_fault, text_of_fault};
@@ -78,7 +78,7 @@ fn write_replay_fault<W: Sink>(sink: &mut W, fault: &ReplayFault) -> Result<(), 
     }
 }
 
-// Writes a line of words with a number behind them.
+// Writes a line of words with a number after them.
 fn write_placed<W: Sink>(sink: &mut W, words: &[u8], number: usize) -> Result<(), WriteFault>
     requires { W.has_failed sink.old ≡ false }
     ensures { Writes (W.contents sink.old) (W.contents sink.new) (W.has_failed sink.new) result (placed words.now number) }

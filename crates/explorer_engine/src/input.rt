@@ -86,7 +86,7 @@ fn zeros(alloc: Global, count: usize) -> Result<Vec<u8>, AllocError>
     vec![in alloc; 0; count]
 }
 
-// Puts what one read gives behind the bytes, and says how many there were: none only at the end.
+// Puts what one read gives after the bytes, and says how many there were: none only at the end.
 fn read_piece<R: Source>(
     source: &mut R,
     buffer: &mut [u8],

@@ -25,7 +25,7 @@ pub fn replays_are_runs()
 /// # Errors
 ///
 /// `NotEnabled` at the first step that is not enabled, by its place in the schedule from 1, and then
-/// the lines of the steps before it were written; `Memory` where memory was wanting, and `Write` where
+/// the lines of the steps before it were written; `Memory` where memory ran out, and `Write` where
 /// the sink failed: then a beginning of the lines was written.
 pub fn replay<W: Sink>(
     alloc: Global,

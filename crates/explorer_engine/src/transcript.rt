@@ -64,7 +64,7 @@ fn write_answer<W: Sink>(
     write_term(answer, sink)
 }
 
-// Writes a call of a table that was refused, with the rule, and with the owner where one is told.
+// Writes a call of a table that was refused, with the rule, and with the owner where one is reported.
 fn write_refusal<W: Sink>(
     sink: &mut W,
     kind: CallKind,
@@ -121,7 +121,7 @@ fn write_arguments<W: Sink>(sink: &mut W, arguments: &Terms) -> Result<(), Write
     Ok(())
 }
 
-// Writes an argument behind a comma.
+// Writes an argument after a comma.
 fn write_behind_comma<W: Sink>(sink: &mut W, argument: &Term) -> Result<(), WriteFault>
     requires { W.has_failed sink.old ≡ false }
     ensures { Writes (W.contents sink.old) (W.contents sink.new) (W.has_failed sink.new) result (behind_comma (meaning_of argument.now)) }
@@ -141,7 +141,7 @@ fn write_rule<W: Sink>(sink: &mut W, rule: Rule) -> Result<(), WriteFault>
     write_all(sink, name)
 }
 
-// Writes the owner of a table, where one is told.
+// Writes the owner of a table, where one is reported.
 fn write_owner<W: Sink>(sink: &mut W, owner: &Option<Pid>) -> Result<(), WriteFault>
     requires { W.has_failed sink.old ≡ false }
     ensures { Writes (W.contents sink.old) (W.contents sink.new) (W.has_failed sink.new) result (text_of_owner owner.now) }
@@ -152,7 +152,7 @@ fn write_owner<W: Sink>(sink: &mut W, owner: &Option<Pid>) -> Result<(), WriteFa
     }
 }
 
-// Writes an owner behind what stands before it.
+// Writes an owner after what stands before it.
 fn write_told_owner<W: Sink>(sink: &mut W, pid: &Pid) -> Result<(), WriteFault>
     requires { W.has_failed sink.old ≡ false }
     ensures { Writes (W.contents sink.old) (W.contents sink.new) (W.has_failed sink.new) result (text_of_told_owner pid.now) }

@@ -145,7 +145,7 @@ const RUNS: [(&[u8], &str, (u64, usize, u64), u8, &[u8], &[u8]); 11] = [
         b"",
         b"input: read failed\n",
     ),
-    // a write fails, and only the flush at the end, behind a whole replay and behind one that stopped
+    // a write fails, and only the flush at the end, after a whole replay and after one that stopped
     (
         TABLE,
         "P P P",

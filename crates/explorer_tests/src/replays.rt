@@ -154,7 +154,7 @@ const ROWS: [(&str, &str, &str, &str, u8); 25] = [
     ("module 'm", "P  P", "", "input: 1 BadToken at 7\n", 2),
 ];
 
-// The line that tells the outcome on standard error, or nothing.
+// The line that reports the outcome on standard error, or nothing.
 fn line_of(alloc: Global, outcome: &Result<Verdict, RunFault>) -> Result<Vec<u8>, AllocError> {
     let mut sink = MemorySink::with_room(alloc, 100)?;
     if let Err(fault) = outcome {

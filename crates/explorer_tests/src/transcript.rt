@@ -131,7 +131,7 @@ fn prints_served_calls(rt: HostRuntime) -> Result<(), Fail> {
     Ok(())
 }
 
-// Rules with the owner that is told, and the lines of their refusals.
+// Rules with the owner that is reported, and the lines of their refusals.
 const REFUSED: [(Rule, Option<&[u64]>, &[u8]); 10] = [
     (
         Rule::BadTable,

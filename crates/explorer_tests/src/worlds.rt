@@ -160,7 +160,7 @@ const REFUSED: [(&str, &str); 13] = [
     ),
 ];
 
-// The same behind a named table.
+// The same after a named table.
 const REFUSED_LATER: [(&str, &str); 11] = [
     (
         "call 'ets':'new'('t',['named_table'])",
@@ -266,7 +266,7 @@ fn served_calls_answer(rt: HostRuntime) -> Result<(), Fail> {
     Ok(())
 }
 
-// No step of another process, no delivery, and no step behind the end.
+// No step of another process, no delivery, and no step after the end.
 #[test]
 fn other_steps_are_not_enabled(rt: HostRuntime) -> Result<(), Fail> {
     let alloc = rt.alloc();

@@ -34,7 +34,7 @@ tail_of m = wrong_argument
 abbrev pub length_of : Meaning → Answer
 length_of list = if is_proper list then whole (pos (length (heads_of list))) else wrong_argument
 
--- `++/2` and `append/2`: any term may stand behind a proper list
+-- `++/2` and `append/2`: any term may stand after a proper list
 abbrev pub appended : Meaning → Meaning → Answer
 appended list behind = if is_proper list then Value (list_onto (heads_of list) behind) else wrong_argument
 

@@ -4,7 +4,7 @@ use Rattle.term_core.specs.Meaning.{Meaning}
 use Rattle.pure_calls.specs.declared.outcome.Class.TheVariants as classes
 use Rattle.pure_calls.specs.Answers.{Answer, Raised, error}
 
--- `error/1`, and `error/2`, whose second argument tells of the arguments of the caller and is not kept
+-- `error/1`, and `error/2`, whose second argument reports of the arguments of the caller and is not kept
 abbrev pub error_with : Meaning → Answer
 error_with reason = Raised classes.Error reason
 

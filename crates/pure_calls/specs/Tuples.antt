@@ -20,7 +20,7 @@ abbrev pub part_or_error : Option Meaning → Answer
 part_or_error (Some part) = Value part
 part_or_error None = wrong_argument
 
--- the part behind so many, if there are so many
+-- the part after so many, if there are so many
 abbrev pub part_behind : Option ℕ → List Meaning → Answer
 part_behind (Some n) parts = part_or_error (slice_get parts n)
 part_behind None parts = wrong_argument
@@ -29,7 +29,7 @@ part_behind None parts = wrong_argument
 abbrev pub element : Meaning → Meaning → Answer
 element index m = with_tuple (λ parts. part_behind (before_place (integer_in index) (length parts)) parts) (tuple_in m)
 
--- the tuple with another part behind so many, if there are so many
+-- the tuple with another part after so many, if there are so many
 abbrev pub replaced_behind : Option ℕ → List Meaning → Meaning → Answer
 replaced_behind (Some n) parts value = Value (Tuple (meanings_of (slice_set parts n value)))
 replaced_behind None parts value = wrong_argument

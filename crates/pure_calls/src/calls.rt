@@ -112,7 +112,7 @@ fn answer_to_three(
 /// integer outside 64 bits is the error `'system_limit'`; `lists:reverse/1` of what has no second cell and
 /// is no proper list is the error `'function_clause'`; `get_module_info` and a call with another number of
 /// arguments than it has are the error `'undef'`. Terms of any size are answered. The arguments are
-/// dropped. It fails with `AllocError` where memory is wanting.
+/// dropped. It fails with `AllocError` if there is no memory for it.
 pub fn answer(
     alloc: Global,
     own: &Pid,

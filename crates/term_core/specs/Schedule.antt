@@ -22,7 +22,7 @@ IsLawfulStep (Deliver from to) = IsLawfulPid from × IsLawfulPid to
 abbrev pub AreLawful : List Step → Type 0
 AreLawful steps = AllByRecursion IsLawfulStep steps
 
--- the texts of the steps, each with a blank behind it
+-- the texts of the steps, each with a blank after it
 abbrev pub steps_and_blanks : List Step → List ℕ
 steps_and_blanks steps = flat_map (λ step. text_of_step step ++ 32 ∷ []) steps
 
@@ -30,7 +30,7 @@ steps_and_blanks steps = flat_map (λ step. text_of_step step ++ 32 ∷ []) step
 abbrev pub first_word : List ℕ → List ℕ
 first_word bytes = before_first (λ byte. byte == 32) bytes
 
--- lawful steps, each with a blank behind it, stand before place `at` of the text, which is not empty, and the word there is the text of no lawful step
+-- lawful steps, each with a blank after it, stand before place `at` of the text, which is not empty, and the word there is the text of no lawful step
 pub record IsFirstBadStep (text : List ℕ) (at : ℕ) : Type 0 where
   pub before : List Step
   pub rest : List ℕ

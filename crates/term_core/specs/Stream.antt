@@ -1,4 +1,4 @@
--- What reads and writes do to the bytes of a stream, where it tells them.
+-- What reads and writes do to the bytes of a stream, where it reports them.
 use Rattle.std.specs.Prelude.{◌≡◌, ℕ, ◌==◌, List, ◌++◌, length, Bool, true, false, ◌&&◌, not, Option, Result, MatchResult, Ok, Err}
 use Rattle.std.specs.Io.KnownBytes.{Appends}
 

@@ -9,7 +9,7 @@ use Rattle.term_core.specs.Text.{text_of_pid}
 abbrev pub plain_byte : ℕ → List ℕ
 plain_byte c = if nat_lt c 32 then 92 ∷ (48 + c / 64) ∷ (48 + c / 8 % 8) ∷ (48 + c % 8) ∷ [] else c ∷ []
 
--- a byte of an atom as it is printed: `'` and `\` behind a backslash, 8 to 13, 27 and 127 by their letters, and all others plain
+-- a byte of an atom as it is printed: `'` and `\` after a backslash, 8 to 13, 27 and 127 by their letters, and all others plain
 abbrev pub printed_byte : ℕ → List ℕ
 printed_byte c =
     if c == 39 then 92 ∷ 39 ∷ [] else
@@ -28,7 +28,7 @@ printed_byte c =
 abbrev pub text_of_atom : List ℕ → List ℕ
 text_of_atom text = 39 ∷ (flat_map printed_byte text ++ 39 ∷ [])
 
--- `#`, the pid, and the number behind a dot
+-- `#`, the pid, and the number after a dot
 abbrev pub text_of_reference : List ℕ → ℕ → List ℕ
 text_of_reference pid number = 35 ∷ (text_of_pid pid ++ 46 ∷ decimal number)
 
@@ -47,7 +47,7 @@ abbrev mutual
   text_of_term Nil = 91 ∷ 93 ∷ []
   text_of_term (Cons head tail) = 91 ∷ (text_of_term head ++ text_of_tail tail)
 
-  -- what stands behind the head of a list cell
+  -- what stands after the head of a list cell
   pub text_of_tail : Meaning → List ℕ
   text_of_tail (Int n) = behind_bar (signed_decimal n)
   text_of_tail (Atom text) = behind_bar (text_of_atom text)
@@ -61,7 +61,7 @@ abbrev mutual
   text_of_tuple NoMore = 123 ∷ 125 ∷ []
   text_of_tuple (Also first others) = 123 ∷ (text_of_term first ++ text_of_others others)
 
-  -- what stands behind the first part of a tuple
+  -- what stands after the first part of a tuple
   pub text_of_others : Meanings → List ℕ
   text_of_others NoMore = 125 ∷ []
   text_of_others (Also first others) = 44 ∷ (text_of_term first ++ text_of_others others)

@@ -5,11 +5,11 @@ use Rattle.std.specs.Fmt.{decimal}
 use Rattle.term_core.specs.declared.step.Step.{Step}
 use Rattle.term_core.specs.declared.step.Step.TheVariants.{Turn, Deliver}
 
--- a number behind a dot
+-- a number after a dot
 abbrev pub dotted : ℕ → List ℕ
 dotted n = 46 ∷ decimal n
 
--- `P`, and each number of the pid behind a dot
+-- `P`, and each number of the pid after a dot
 abbrev pub text_of_pid : List ℕ → List ℕ
 text_of_pid numbers = 80 ∷ flat_map dotted numbers
 
@@ -22,7 +22,7 @@ abbrev pub text_of_step : Step → List ℕ
 text_of_step (Turn p) = text_of_pid p
 text_of_step (Deliver from to) = text_of_delivery from to
 
--- a step behind a blank
+-- a step after a blank
 abbrev pub behind_blank : Step → List ℕ
 behind_blank s = 32 ∷ text_of_step s
 

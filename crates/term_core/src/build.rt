@@ -17,7 +17,7 @@ impl Term {
         Ok(Term::Atom(Atom::new(alloc, text)?))
     }
 
-    /// The list cell of a head and a tail, or `AllocError` where memory is wanting, and then both are
+    /// The list cell of a head and a tail, or `AllocError` if there is no memory for it, and then both are
     /// dropped.
     pub fn cell(alloc: Global, head: Term, tail: Term) -> Result<Term, AllocError>
         ensures { IfOk result (λ cell. meaning_of cell ≡ terms.Cons (meaning_of head) (meaning_of tail)) }
@@ -25,7 +25,7 @@ impl Term {
         Ok(Term::Cons(Arc::new(alloc, Pair::new(head, tail))?))
     }
 
-    /// The tuple of these parts, or `AllocError` where memory is wanting, and then they are dropped.
+    /// The tuple of these parts, or `AllocError` if there is no memory for it, and then they are dropped.
     pub fn tuple(alloc: Global, parts: Terms) -> Result<Term, AllocError>
         ensures { IfOk result (λ tuple. meaning_of tuple ≡ terms.Tuple (meanings_of parts)) }
     {
@@ -33,7 +33,7 @@ impl Term {
     }
 }
 
-/// The list of these heads that goes on with the tail, or `AllocError` where memory is wanting, and
+/// The list of these heads that goes on with the tail, or `AllocError` if there is no memory for it, and
 /// then heads and tail are dropped.
 pub fn list_onto(alloc: Global, heads: Vec<Term>, tail: Term) -> Result<Term, AllocError>
     ensures { IfOk result (λ list. meaning_of list ≡ list_onto (map meaning_of heads.items) (meaning_of tail)) }

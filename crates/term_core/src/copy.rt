@@ -10,7 +10,7 @@ use std::alloc::{AllocError, Global};
 use std::sync::Arc;
 
 impl Atom {
-    /// The same atom, or `AllocError` where memory is wanting.
+    /// The same atom, or `AllocError` if there is no memory for it.
     pub fn copy(&self, alloc: Global) -> Result<Atom, AllocError>
         ensures { IfOk result (λ copied. copied ≡ self.now) }
     {
@@ -19,7 +19,7 @@ impl Atom {
 }
 
 impl Pid {
-    /// The same pid, or `AllocError` where memory is wanting.
+    /// The same pid, or `AllocError` if there is no memory for it.
     pub fn copy(&self, alloc: Global) -> Result<Pid, AllocError>
         ensures { IfOk result (λ copied. copied ≡ self.now) }
     {
@@ -28,7 +28,7 @@ impl Pid {
 }
 
 impl RefId {
-    /// The same reference, or `AllocError` where memory is wanting.
+    /// The same reference, or `AllocError` if there is no memory for it.
     pub fn copy(&self, alloc: Global) -> Result<RefId, AllocError>
         ensures { IfOk result (λ copied. copied ≡ self.now) }
     {
@@ -40,7 +40,7 @@ impl RefId {
 }
 
 impl Step {
-    /// The same step, or `AllocError` where memory is wanting.
+    /// The same step, or `AllocError` if there is no memory for it.
     pub fn copy(&self, alloc: Global) -> Result<Step, AllocError>
         ensures { IfOk result (λ copied. copied ≡ self.now) }
     {
@@ -52,7 +52,7 @@ impl Step {
 }
 
 impl Term {
-    /// The same term, or `AllocError` where memory is wanting. Lists and tuples are shared with it: of
+    /// The same term, or `AllocError` if there is no memory for it. Lists and tuples are shared with it: of
     /// them the copy takes no memory and one step, and fails only where so many copies are held that
     /// they can no longer be counted.
     pub fn copy(&self, alloc: Global) -> Result<Term, AllocError>
@@ -71,7 +71,7 @@ impl Term {
 }
 
 impl Terms {
-    /// The same terms, each a copy, or `AllocError` where memory is wanting.
+    /// The same terms, each a copy, or `AllocError` if there is no memory for it.
     pub fn copy(&self, alloc: Global) -> Result<Terms, AllocError>
         ensures { IfOk result (λ copied. copied ≡ self.now) }
     {

@@ -36,7 +36,7 @@ impl Terms {
         Terms { items, nodes }
     }
 
-    /// Adds a term at the end, or `AllocError` where memory is wanting: then the terms are as they were,
+    /// Adds a term at the end, or `AllocError` if there is no memory for it: then the terms are as they were,
     /// and the term is dropped.
     pub fn push(&mut self, term: Term) -> Result<(), AllocError>
         ensures pushed { OnOk result (self.new ≡ self.old ++ meaning_of term ∷ []) }

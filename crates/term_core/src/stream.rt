@@ -14,7 +14,7 @@ pub struct WriteFault;
 
 /// What bytes are read from, as `std::io::Read`, which also knows whether a read on it has failed.
 pub trait Source {
-    /// The bytes that reads will give from here on, where the source tells them.
+    /// The bytes that reads will give from here on, where the source reports them.
     ghost remaining: { Self → Option (List ℕ) } = { λ _. None };
 
     /// Whether a read on it has failed.
@@ -34,7 +34,7 @@ pub trait Source {
 
 /// What bytes are written to, as `std::io::Write`, which also knows whether a call on it has failed.
 pub trait Sink {
-    /// The bytes that the sink holds, where it tells them.
+    /// The bytes that the sink holds, where it reports them.
     ghost contents: { Self → Option (List ℕ) } = { λ _. None };
 
     /// Whether a call on it has failed: gave an error, or took no byte of some.
@@ -62,7 +62,7 @@ pub trait Sink {
         ensures { result ≡ has_failed self.now };
 }
 
-/// A reader of std as a source. It tells its bytes where the reader does: a slice does, standard input
+/// A reader of std as a source. It reports its bytes where the reader does: a slice does, standard input
 /// cannot.
 #[derive(Drop)]
 pub struct Input<R> {
@@ -101,7 +101,7 @@ impl<R: Read> Source for Input<R> {
     }
 }
 
-/// A writer of std as a sink. It tells its bytes where the writer does: a `Vec` does, standard output
+/// A writer of std as a sink. It reports its bytes where the writer does: a `Vec` does, standard output
 /// cannot.
 #[derive(Drop)]
 pub struct Output<W> {

@@ -44,7 +44,7 @@ pub fn write_pid<S: Sink>(pid: &Pid, sink: &mut S) -> Result<(), WriteFault>
     Ok(())
 }
 
-// Writes a number behind a dot.
+// Writes a number after a dot.
 fn write_dotted<S: Sink>(number: u64, sink: &mut S) -> Result<(), WriteFault>
     requires { S.has_failed sink.old ≡ false }
     ensures { Writes (S.contents sink.old) (S.contents sink.new) (S.has_failed sink.new) result (dotted number) }
@@ -154,7 +154,7 @@ pub fn write_schedule<S: Sink>(steps: &[Step], sink: &mut S) -> Result<(), Write
     Ok(())
 }
 
-// Writes a step behind a blank.
+// Writes a step after a blank.
 fn write_next_step<S: Sink>(step: &Step, sink: &mut S) -> Result<(), WriteFault>
     requires { S.has_failed sink.old ≡ false }
     ensures { Writes (S.contents sink.old) (S.contents sink.new) (S.has_failed sink.new) result (behind_blank step.now) }

@@ -11,7 +11,7 @@ use std::io;
 use std::io::ErrorKind;
 use term_core::{Sink, Source};
 
-/// A source over bytes in memory, which tells them. It hands out at most `piece` bytes a read, and
+/// A source over bytes in memory, which reports them. It hands out at most `piece` bytes a read, and
 /// fails at each read once `reads` reads were made.
 #[derive(Drop)]
 pub struct MemorySource<'a> {
@@ -105,7 +105,7 @@ impl Source for EndlessSource {
     }
 }
 
-/// A sink in memory, which tells its bytes. It takes at most `piece` bytes a write, and fails once it
+/// A sink in memory, which reports its bytes. It takes at most `piece` bytes a write, and fails once it
 /// has no room for a byte more. A flush of it fails once `flushes` flushes were made. Its memory is
 /// taken when it is made, and writes take none.
 #[derive(Drop)]
@@ -119,7 +119,7 @@ pub struct MemorySink {
 }
 
 impl MemorySink {
-    /// A sink with room for this many bytes, or `AllocError` where memory is wanting.
+    /// A sink with room for this many bytes, or `AllocError` if there is no memory for it.
     pub fn with_room(alloc: Global, room: usize) -> Result<MemorySink, AllocError>
         ensures empty { IfOk result (λ sink. sink.bytes.items ≡ []) }
         ensures room { IfOk result (λ sink. sink.room ≡ room) }
@@ -129,7 +129,7 @@ impl MemorySink {
     }
 
     /// A sink with room for this many bytes, which fails at each flush once `flushes` flushes were made,
-    /// or `AllocError` where memory is wanting.
+    /// or `AllocError` if there is no memory for it.
     pub fn with_flushes(alloc: Global, room: usize, flushes: u64) -> Result<MemorySink, AllocError>
         ensures empty { IfOk result (λ sink. sink.bytes.items ≡ []) }
         ensures room { IfOk result (λ sink. sink.room ≡ room) }
@@ -142,7 +142,7 @@ impl MemorySink {
     }
 
     /// A sink with room for this many bytes, which takes at most `piece` of them a write, or
-    /// `AllocError` where memory is wanting.
+    /// `AllocError` if there is no memory for it.
     pub fn in_pieces(alloc: Global, room: usize, piece: usize) -> Result<MemorySink, AllocError>
         ensures empty { IfOk result (λ sink. sink.bytes.items ≡ []) }
         ensures room { IfOk result (λ sink. sink.room ≡ room) }

@@ -1,4 +1,4 @@
--- What a history tells of the world: each definition searches the events backwards.
+-- What a history reports of the world: each definition searches the events backwards.
 use Rattle.std.specs.Prelude.{ℕ, ◌+◌, Bool, true, false, ◌&&◌, not, List, [], ◌∷◌, ◌++◌, Option, Some, None, if◌then◌else◌, codes}
 use Rattle.term_core.specs.Meaning.{Meaning, Atom}
 use Rattle.term_core.specs.declared.step.Step.{Step}

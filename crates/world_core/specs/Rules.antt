@@ -78,7 +78,7 @@ rule_for find caller (New name options) = if is_atom name then rule_of_options (
 rule_for find caller (Insert argument objects) = rule_on find caller Write argument (rule_of_objects (objects_of objects))
 rule_for find caller (Lookup argument key) = rule_on find caller Read argument None
 
--- the owner at that time, which is told with a refusal unless there is no table to it
+-- the owner at that time, which is reported with a refusal unless there is no table to it
 abbrev pub owner_at : Option Found → Option (List ℕ)
 owner_at None = None
 owner_at (Some found) = Some found.owner

@@ -24,7 +24,7 @@ origin m p = entry m.name (codes "main") []
 abbrev pub asking : ModuleTree → History → List ℕ → Asked
 asking m h p = ask m p (origin m p) (answers h p)
 
--- whether a refusal tells the owner: not where the table, the name or the options are at fault
+-- whether a refusal reports the owner: not where the table, the name or the options are at fault
 abbrev pub tells_owner : Rule → Bool
 tells_owner BadTable = false
 tells_owner NoTable = false
@@ -37,7 +37,7 @@ tells_owner NameTaken = false
 tells_owner NotObject = true
 tells_owner ShortObject = true
 
--- the owner, where the refusal tells it
+-- the owner, where the refusal reports it
 abbrev pub told_owner : Rule → Option (List ℕ) → Option (List ℕ)
 told_owner rule owner = if tells_owner rule then owner else None
 

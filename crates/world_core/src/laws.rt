@@ -67,7 +67,7 @@ pub fn living_processes_have_turns()
 }
 
 /// A call of a table that a living process asks is served, with its answer, where no rule fails, and
-/// else refused by the rule that does, with the owner then where that is told. So it is served exactly
+/// else refused by the rule that does, with the owner then where that is reported. So it is served exactly
 /// where no rule fails.
 pub fn calls_are_judged()
     ensures served { (m : ModuleTree) (h : History) (p : List ℕ) (kind : CallKind) (arguments : List Meaning) (call : TableCall) → IsAsked m h p kind arguments call → rule_of h p call ≡ None → next_event m h (Turn p) ≡ Some (happening (Turn p) (Served kind arguments (answer_of h p call))) }

@@ -51,7 +51,7 @@ fn badarg(alloc: Global) -> Result<Term, AllocError>
     Term::atom(alloc, "badarg")
 }
 
-/// The owner of the table that a refused call names, where the refusal tells it.
+/// The owner of the table that a refused call names, where the refusal reports it.
 fn told_owner(
     alloc: Global,
     tables: &Tables,

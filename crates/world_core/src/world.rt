@@ -21,7 +21,7 @@ use term_core::{Atom, Pid, Step, Terms};
 
 /// A world: the processes of a module, their tables, and what happened so far. Contracts see the
 /// module, the events, the latest first, and whether memory was wanting once; what the processes and
-/// the tables are is told by the events.
+/// the tables are is reported by the events.
 #[derive(Drop)]
 pub struct World<'m> {
     program: &'m Module,
@@ -79,7 +79,7 @@ impl<'m> World<'m> {
     ///
     /// # Errors
     ///
-    /// `Memory` where memory was wanting.
+    /// `Memory` where memory ran out.
     pub fn open(alloc: Global, program: &'m Module) -> Result<World<'m>, WorldFault>
         ensures { MatchResult result
             (λ world. world ≡ record { program = program.now; history = []; spent = false })
@@ -98,7 +98,7 @@ impl<'m> World<'m> {
     ///
     /// # Errors
     ///
-    /// `Memory` where memory was wanting, now or in an earlier step.
+    /// `Memory` where memory ran out, now or in an earlier step.
     pub fn enabled(&self, alloc: Global) -> Result<Vec<Step>, WorldFault>
         ensures exactly { IfOk result (λ steps. (step : Step) →
             Contains steps.items step ↔ IsSome (next_event self.now.program self.now.history step)) }

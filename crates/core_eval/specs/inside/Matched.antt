@@ -7,7 +7,7 @@ use Rattle.core_eval.specs.Matching.{Environment}
 abbrev pub IsMatch : Bool → Environment → Option Environment → Type 0
 IsMatch found bindings wanted = wanted ≡ (if found then Some bindings else None)
 
--- what matches behind the first items of a list, which left this tail, if they matched
+-- what matches after the first items of a list, which left this tail, if they matched
 abbrev pub behind_items : Option Meaning → (Meaning → Environment → Option Environment) → Environment → Option Environment
 behind_items None behind bindings = None
 behind_items (Some tail) behind bindings = behind tail bindings

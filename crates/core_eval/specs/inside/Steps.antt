@@ -52,7 +52,7 @@ load (Answer kind arguments) = 3
 load (Ask kind arguments) = 0
 load (Apply function arguments) = 0
 
--- the work that is left behind several expressions
+-- the work that is left after several expressions
 abbrev pub further : Purpose → List Meaning → ℕ
 further purposes.Tuple done = 0
 further purposes.List done = 0

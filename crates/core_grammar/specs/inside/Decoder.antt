@@ -101,7 +101,7 @@ abbrev pub is_word : Keyword → Shape → Bool
 is_word x (lexemes.Word y) = word_number y == word_number x
 is_word x shape = false
 
--- what stands behind the mark, if the mark stands in front
+-- what stands after the mark, if the mark comes next
 abbrev pub after_mark : Mark → List Piece → Option (List Piece)
 after_mark x [] = None
 after_mark x (p ∷ ps) = if is_mark x p.shape then Some ps else None
@@ -143,7 +143,7 @@ too_deep s = refusal s.refused (TooDeep (place_of s.stop s.pieces))
 
 -- ---- what a step over a token is
 
--- whether a token was stepped over that may stand in front
+-- whether a token was stepped over that may follow
 abbrev pub Skips : Bool → Option (List Piece) → State → State → Type 0
 Skips true behind old new = (behind ≡ Some new.pieces) × (new ≡ with_pieces old new.pieces)
 Skips false behind old new = (behind ≡ None) × (new ≡ old)
@@ -207,7 +207,7 @@ mention_by at shape = None
 unfoldable pub bare_variable_at : State → Read Mention
 bare_variable_at s = taken (λ p. mention_by p.at p.shape) s.pieces s (fault s)
 
--- what stands behind a function's atom
+-- what stands after a function's atom
 unfoldable pub behind_atom_at : ℕ → List ℕ → State → Read NamedAt
 behind_atom_at at t s = do
   s1 ← mark_at m.Slash s
@@ -269,7 +269,7 @@ module _ {X : Type 0} (item : State → Read X) where
     xs ← items_at s
     tail_at xs.0 (after_mark m.Bar xs.1.pieces) xs.1
 
-  -- what stands behind the bracket of a list
+  -- what stands after the bracket of a list
   unfoldable pub brackets_at : State → Read (List X × Option X)
   brackets_at s = brackets_by (after_mark m.RightBracket s.pieces) s
 
@@ -294,12 +294,12 @@ module _ {X : Type 0} (item : State → Read X) where
     xs ← more x.1
     Ok (x.0 ∷ xs.0, xs.1)
 
-  -- at most so many items one behind the other, as far as an `end`
+  -- at most so many items one after the other, as far as an `end`
   unfoldable pub row_at : ℕ → State → Read (List X)
   row_at zero s = Err (fault s)
   row_at (suc n) s = row_by (row_at n) (after_word k.End s.pieces) s
 
-  -- items one behind the other, as far as an `end`
+  -- items one after the other, as far as an `end`
   unfoldable pub rows_at : State → Read (List X)
   rows_at s = row_at (length s.pieces) s
 
@@ -480,7 +480,7 @@ module _ (inner : State → Read Pattern) (note : State → Read Constant) where
   unfoldable pub pattern_form_at : State → Read Pattern
   pattern_form_at s = pattern_form_by s.pieces s
 
-  -- a variable with `=` behind it names what the pattern behind that matches
+  -- a variable with `=` after it names what the pattern after that matches
   abbrev pub alias_by : Pattern → Option (List Piece) → State → Read Pattern
   alias_by (patterns.Variable v) (Some ps) s = do
     q ← inner (with_pieces s ps)

@@ -91,7 +91,7 @@ applied_fault s = refusal s.refused (applied_fault_of s.stop s.pieces)
 unfoldable pub applied_atom_at : State → Read (ℕ × List ℕ)
 applied_atom_at s = taken (λ p. named_by p.at p.shape) s.pieces s (applied_fault s)
 
--- an atom with its arguments behind it is no function's name, but a value that is applied
+-- an atom with its arguments after it is no function's name, but a value that is applied
 abbrev pub behind_applied_by : ℕ → List ℕ → Option (List Piece) → State → Read NamedAt
 behind_applied_by at t (Some ps) s = Err (refusal s.refused (HigherOrder at))
 behind_applied_by at t None s = behind_atom_at at t s
@@ -179,7 +179,7 @@ module _ (own : List ℕ) (n : ℕ) (inner : State → Read Tree) where
     ts ← closed_at inner m.Greater s
     Ok (trees.Values (trees_of ts.0), ts.1)
 
-  -- an arrow, and the expression behind it
+  -- an arrow, and the expression after it
   unfoldable pub body_at : State → Read Tree
   body_at s = do
     s1 ← mark_at m.Arrow s
@@ -191,7 +191,7 @@ module _ (own : List ℕ) (n : ℕ) (inner : State → Read Tree) where
     s1 ← word_at k.In s
     inner s1
 
-  -- the value of a `let` and its body, behind the variables
+  -- the value of a `let` and its body, after the variables
   unfoldable pub bound_at : State → Read (Tree × Tree)
   bound_at s = do
     s1 ← mark_at m.Equals s
@@ -287,7 +287,7 @@ module _ (own : List ℕ) (n : ℕ) (inner : State → Read Tree) where
     b ← body_at g.1
     Ok ((g.0, b.0), b.1)
 
-  -- what stands behind the patterns of a clause
+  -- what stands after the patterns of a clause
   unfoldable pub behind_patterns_at : List Pattern → State → Read ClauseTree
   behind_patterns_at qs s = do
     s1 ← word_at k.When s
@@ -302,7 +302,7 @@ module _ (own : List ℕ) (n : ℕ) (inner : State → Read Tree) where
   clause_of (ManyPatterns qs) s = behind_patterns_at qs s
   clause_of (WholeClause c) s = Ok (c, s)
 
-  -- in parentheses the start of a clause goes on to the whole of it, where `when` stands behind its patterns
+  -- in parentheses the start of a clause goes on to the whole of it, where `when` stands after its patterns
   abbrev pub start_by : Start → Option (List Piece) → State → Read Start
   start_by x None s = Ok (x, s)
   start_by x (Some ps) s = do
@@ -318,7 +318,7 @@ module _ (own : List ℕ) (n : ℕ) (inner : State → Read Tree) where
     x ← start s
     started x.0 (after_word k.When x.1.pieces) x.1
 
-  -- behind the parentheses of an annotation a variable may be that of an alias
+  -- after the parentheses of an annotation a variable may be that of an alias
   abbrev pub aliased : Start → State → Read Start
   aliased (OnePattern q) s = do
     p ← alias_at (pattern_at n) (constant_at n) q s
@@ -365,7 +365,7 @@ module _ (own : List ℕ) where
       cs ← rows_at clause_at s
       Ok (c ∷ cs.0, cs.1)
 
-    -- what stands behind the value of a `case`
+    -- what stands after the value of a `case`
     unfoldable pub choices_at : State → Read (List ClauseTree)
     choices_at s = do
       s1 ← word_at k.Of s

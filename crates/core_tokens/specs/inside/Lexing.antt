@@ -1,4 +1,4 @@
--- Reading one token from the left: what it is and the bytes behind it.
+-- Reading one token from the left: what it is and the bytes after it.
 use Rattle.std.specs.Prelude.{◌≡◌, ◌≢◌, ℕ, zero, suc, ◌+◌, ◌-◌, ◌*◌, ℤ, Bool, true, false, ◌||◌, ◌==◌, if◌then◌else◌, List, [], ◌∷◌, length, take, drop, take_while, Option, Some, None, min, Result, Ok, Err, unwrap_or, encode_utf8_all}
 use Rattle.std.specs.List.{prefix_len}
 use Rattle.std.specs.Option.{option_map, ok_or}
@@ -207,7 +207,7 @@ quoted_in (suc n) quote bytes = quoted_by (unit_at quote bytes) (quoted_in n quo
 abbrev pub quoted_at : ℕ → List ℕ → Result (List ℕ × List ℕ) TokenError
 quoted_at quote bytes = quoted_in (length bytes) quote bytes
 
--- the character or escape behind `$`
+-- the character or escape after `$`
 unfoldable pub dollar_at : List ℕ → Option (ℕ × List ℕ)
 dollar_at [] = None
 dollar_at (c ∷ bytes) = if c == 92 then escape_at bytes else character_at (c ∷ bytes)

@@ -8,7 +8,7 @@ ghost use Rattle.core_tokens.specs.inside.Lexing.{GivesUnlessMemory, only_charac
 use super::trouble::TokenError;
 use std::alloc::Global;
 
-// How many bytes behind this first one belong to its character.
+// How many bytes after this first one belong to its character.
 fn continuation_len(first: u8) -> usize
     ensures count { result ≡ continuation_len first }
     ensures bound { result ≤ 3 }
@@ -88,7 +88,7 @@ fn octal(text: &[u8]) -> Option<(u32, &[u8])>
     Some(longer_octal(second, rest))
 }
 
-// What a letter or a sign behind a backslash stands for.
+// What a letter or a sign after a backslash stands for.
 fn escape_letter(c: u8) -> Option<char>
     ensures { result ≡ escape_of c }
 {
@@ -109,7 +109,7 @@ fn escape_letter(c: u8) -> Option<char>
     }
 }
 
-/// The character of the escape behind a backslash, and what follows it.
+/// The character of the escape after a backslash, and what follows it.
 #[tactic(auto, unfolding(crate::specs::inside::Lexing::escape_at))]
 pub(crate) fn escape(text: &[u8]) -> Option<(char, &[u8])>
     ensures { option_map (λ x. (x.0, x.1.now)) result ≡ escape_at text.now }
@@ -195,7 +195,7 @@ pub(crate) fn string_of(alloc: Global, characters: &[char]) -> Result<String, To
     Ok(text)
 }
 
-/// The character or escape behind `$`, and what follows it.
+/// The character or escape after `$`, and what follows it.
 #[tactic(auto, unfolding(crate::specs::inside::Lexing::dollar_at))]
 pub(crate) fn dollar_character(text: &[u8]) -> Option<(char, &[u8])>
     ensures { option_map (λ x. (x.0, x.1.now)) result ≡ dollar_at text.now }

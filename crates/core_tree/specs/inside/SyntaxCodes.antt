@@ -226,7 +226,7 @@ abbrev other_clauses : Clauses → Clauses
 other_clauses trees.NoClause = trees.NoClause
 other_clauses (trees.Clause ps g b cs) = cs
 
--- what stands behind the three expressions of a `try`
+-- what stands after the three expressions of a `try`
 abbrev tail_of_try : Gv → Gv
 tail_of_try g = tail_in (tail_in (tail_in g))
 

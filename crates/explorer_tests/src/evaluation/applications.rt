@@ -166,7 +166,7 @@ const ROWS: [(&str, &str, &str); 8] = [
         "do apply 'f0'/1(\"aaaaaaaaa\") do call 'ets':'lookup'('t',1) call 'ets':'lookup'('t',apply 'f0'/1(\"aaaaaaaaa\"))",
         "lookup 't' 1\nlookup 't' 'done'\n'normal'",
     ),
-    // and with one more behind the answer
+    // and with one more after the answer
     (
         "anew_beyond",
         "do apply 'f0'/1(\"aaaaaaaaa\") do call 'ets':'lookup'('t',1) call 'ets':'lookup'('t',apply 'f1110'/1(\"aaaaaaaaa\"))",
@@ -206,7 +206,7 @@ fn begun(alloc: Global, program: &Module, name: &str) -> Result<Vec<u8>, Fail> {
     run_on(alloc, &mut machine)
 }
 
-// As the last thing that a link does, and with something left to do behind it.
+// As the last thing that a link does, and with something left to do after it.
 #[test]
 fn applications_go_on_up_to_the_limit(rt: HostRuntime) -> Result<(), Fail> {
     for (front, back) in [("", ""), ("do ", " 'done'")] {
@@ -234,7 +234,7 @@ fn deep(alloc: Global, opening: &str, closing: &str) -> Result<Module, Fail> {
     program_with(alloc, "", functions.as_str(), body)
 }
 
-// What opens a construct, what closes it, and what a process asks behind the answer in its depth.
+// What opens a construct, what closes it, and what a process asks after the answer in its depth.
 const CONSTRUCTS: [(&str, &str, &str); 3] = [
     ("do ", " 'done'", "insert 't' 'done'\n'normal'"),
     ("catch ", "", "insert 't' 1\n'normal'"),

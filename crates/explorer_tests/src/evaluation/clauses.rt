@@ -44,7 +44,7 @@ const CLAUSES: [(&str, &str); 8] = [
     ),
 ];
 
-// A case of a long tuple that no clause takes, behind its items.
+// A case of a long tuple that no clause takes, after its items.
 const NO_CLAUSE: &str = "1} of <4> when 'true' -> 0 end";
 
 #[test]

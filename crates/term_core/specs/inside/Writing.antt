@@ -99,7 +99,7 @@ writes_last start now new failed (Err e) rest whole o w = owes_break start now n
 pub owes_same : (start now : Option (List ℕ)) (rest other whole : List ℕ) → rest ≡ other → Owes start now rest whole → Owes start now other whole
 owes_same start now rest other whole e o = subst (λ (w : List ℕ). Owes start now w whole) e o
 
--- the text of one item, and then of those behind it
+-- the text of one item, and then of those after it
 pub owes_item : {X : Type 0} (f : X → List ℕ) (xs : List X) (i : ℕ) (d x : X) (start now : Option (List ℕ)) (tail whole : List ℕ) → i < length xs → x ≡ get_or xs i d → Owes start now (flat_map f (drop i xs) ++ tail) whole → Owes start now (f x ++ (flat_map f (drop (i + 1) xs) ++ tail)) whole
 owes_item f xs i d x start now tail whole h e o =
     owes_same start now _ _ whole (ap (λ w. w ++ tail) (at_drop_more (flat_map f) xs i d h ∙ ap (λ y. f y ++ flat_map f (drop (i + 1) xs)) (sym e)) ∙ append_assoc (f x) (flat_map f (drop (i + 1) xs)) tail) o

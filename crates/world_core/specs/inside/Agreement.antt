@@ -1,4 +1,4 @@
--- The records of the code are what the history tells.
+-- The records of the code are what the history reports.
 use Rattle.std.specs.Prelude.{◌≡◌, ℕ, false, List, [], ◌∷◌, ◌++◌, Some}
 use Rattle.core_tree.specs.Syntax.{ModuleTree}
 use Rattle.term_core.specs.Meaning.{Meaning}
@@ -24,19 +24,19 @@ pub record IsProcess (m : ModuleTree) (h : History) (p : Process) : Type 0 where
 abbrev pub AreTables : History → List (Meaning × Table) → Type 0
 AreTables h tables = (argument : Meaning) → find_in tables argument ≡ find h argument
 
--- a call of a table of a process was served or refused as the history tells, and the records of tables are those after it
+-- a call of a table of a process was served or refused as the history reports, and the records of tables are those after it
 pub record IsServed (h : History) (p : List ℕ) (asked : Asked) (deed : Deed) (tables : List (Meaning × Table)) : Type 0 where
   pub next : deed_asked h p asked ≡ Some deed
   pub finds : AreTables (happening (Turn p) deed ∷ h) tables
 
--- a turn of a process did what the history tells, and the records are those after it
+-- a turn of a process did what the history reports, and the records are those after it
 pub record IsTurn (m : ModuleTree) (h : History) (old new : Process) (deed : Deed) (tables : List (Meaning × Table)) : Type 0 where
   pub pid : new.pid ≡ old.pid
   pub next : deed_asked h old.pid (asking m h old.pid) ≡ Some deed
   pub process : IsProcess m (happening (Turn old.pid) deed ∷ h) new
   pub finds : AreTables (happening (Turn old.pid) deed ∷ h) tables
 
--- the records of a world are what its history tells, and the history is a run
+-- the records of a world are what its history reports, and the history is a run
 pub record IsWorld (m : ModuleTree) (h : History) (process : Process) (tables : List (Meaning × Table)) : Type 0 where
   pub first : process.pid ≡ []
   pub is_process : IsProcess m h process

@@ -78,7 +78,7 @@ fn insert_object(alloc: Global, rows: &mut Rows, parts: &Terms) -> Result<(), Al
 }
 
 /// Puts objects in, one tuple or the tuples of a list, one after the other, so that of two with one key
-/// the later one stays; or fails with `AllocError` where memory is wanting.
+/// the later one stays; or fails with `AllocError` if there is no memory for it.
 pub(crate) fn insert_objects(
     alloc: Global,
     rows: &mut Rows,

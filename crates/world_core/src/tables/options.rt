@@ -60,7 +60,7 @@ impl Settings {
         }
     }
 
-    /// The settings with one more option behind the others: a later protection replaces an earlier one.
+    /// The settings with one more option after the others: a later protection replaces an earlier one.
     fn with(self, option: TableOption) -> Settings
         ensures protection { result.protection ≡ unwrap_or (protection_in option) self.protection }
         ensures is_named { result.is_named ≡ (self.is_named || is_named_option option) }

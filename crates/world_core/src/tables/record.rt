@@ -24,7 +24,7 @@ impl Table {
     ghost use Rattle.world_core.specs.inside.Records.{found_in};
 
     /// A table without objects that this process makes in its turn of this number, or `AllocError`
-    /// where memory is wanting.
+    /// if there is no memory for it.
     pub(crate) fn new(
         alloc: Global,
         owner: &Pid,
@@ -44,7 +44,7 @@ impl Table {
         })
     }
 
-    /// Puts objects into the table, or fails with `AllocError` where memory is wanting.
+    /// Puts objects into the table, or fails with `AllocError` if there is no memory for it.
     pub(crate) fn insert(&mut self, alloc: Global, objects: &Term) -> Result<(), AllocError>
         ensures { OnOk result ((os : List Meaning) → objects_of (meaning_of objects.now) ≡ Some os → found_in self.new ≡ filled os (found_in self.old)) }
     {

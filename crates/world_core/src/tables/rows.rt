@@ -45,7 +45,7 @@ impl Rows {
     }
 
     /// Puts an object under its key, in the place of the one that was there (the Erlang manual,
-    /// `ets:insert/2`, type `set`), or drops it with `AllocError` where memory is wanting.
+    /// `ets:insert/2`, type `set`), or drops it with `AllocError` if there is no memory for it.
     pub(crate) fn insert(&mut self, key: Term, object: Terms) -> Result<(), AllocError>
         ensures { OnOk result ((other : Meaning) → objects_under self.new other
             ≡ (if same_term (meaning_of key) other then Tuple (meanings_of object) ∷ [] else objects_under self.old other)) }

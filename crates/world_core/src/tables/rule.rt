@@ -31,7 +31,7 @@ pub enum Rule {
 }
 
 impl Rule {
-    /// Whether a refusal by this rule tells the owner of the table: not where the table, the name or the
+    /// Whether a refusal by this rule reports the owner of the table: not where the table, the name or the
     /// options are at fault.
     pub fn tells_owner(self) -> bool
         ensures { result ≡ tells_owner self }

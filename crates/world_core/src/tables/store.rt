@@ -122,7 +122,7 @@ impl Tables {
     }
 
     /// Does what a call does that was judged, and gives its answer: a call of this process in its turn
-    /// of this number. It fails with `AllocError` where memory is wanting.
+    /// of this number. It fails with `AllocError` if there is no memory for it.
     pub(crate) fn apply(
         &mut self,
         alloc: Global,
