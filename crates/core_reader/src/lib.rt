@@ -7,8 +7,8 @@ mod expressions;
 mod form_reader;
 mod grammar;
 pub mod laws;
-pub mod read_module;
-pub mod read_tokens;
+pub mod module_text;
+pub mod module_tokens;
 
 pub use core_tokens::{ReadFault, check_text, tokens};
 pub use core_tree::{
@@ -16,5 +16,5 @@ pub use core_tree::{
     Definition, Do, Expr, Exprs, FunctionName, Let, Module, NamedFunction, Onto, OntoConst,
     OntoPattern, Pattern, Patterns, PureCall, Try, Variable,
 };
-pub use read_module::read_module;
-pub use read_tokens::read_tokens;
+pub use module_text::read_module;
+pub use module_tokens::read_tokens;

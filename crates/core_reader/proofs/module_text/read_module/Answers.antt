@@ -5,7 +5,7 @@ use Rattle.core_tokens.specs.Tokens.{AreTokens}
 use Rattle.core_tokens.specs.declared.token.Token.{Token}
 use Rattle.core_reader.proofs.WithinText.{says, said, tokens_within, faults_within}
 use Rattle.core_reader.proofs.Refusals.{tokens_refuse, reading_refuses}
-use Rattle.core_reader.proofs.read_module.read_module.Goals as goal
+use Rattle.core_reader.proofs.module_text.read_module.Goals as goal
 
 pub returns-in_err-check_text-clause-place : goal.returns-in_err-check_text-clause-place
 returns-in_err-check_text-clause-place c =

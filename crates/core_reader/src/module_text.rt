@@ -9,7 +9,7 @@ ghost use Rattle.core_reader.specs.ModuleText.{SpellsModule};
 ghost use Rattle.core_reader.specs.Refusal.{IsRefusalOf};
 ghost use Rattle.core_grammar.specs.Whole.{IsReadAs};
 
-use crate::read_tokens::read_tokens;
+use crate::module_tokens::read_tokens;
 use core_tokens::{ReadFault, check_text, tokens};
 use core_tree::Module;
 use std::alloc::Global;

@@ -2,7 +2,7 @@ use Rattle.std.proofs.lemmas.Result.{err_from_is_err_and}
 use Rattle.core_tokens.specs.Piece.{pieces}
 use Rattle.core_scopes.specs.Drafts.{draft_of}
 use Rattle.core_reader.proofs.ReadLaws.{is_spelt, is_lawful, is_only, fails_only, decoding_stands, scopes_stand}
-use Rattle.core_reader.proofs.read_tokens.read_tokens.Goals as goal
+use Rattle.core_reader.proofs.module_tokens.read_tokens.Goals as goal
 
 pub returns-in_err-draft-clause-only : goal.returns-in_err-draft-clause-only
 returns-in_err-draft-clause-only c = λ m h lawful.
