@@ -7,7 +7,8 @@ use Rattle.term_core.specs.declared.step.Step.TheVariants.{Turn}
 use Rattle.world_core.specs.Calls.{TableCall}
 use Rattle.world_core.specs.Events.{Deed, Served, Refused, Happening, History}
 use Rattle.world_core.specs.History.{rule_of, answer_of, owner_of}
-use Rattle.world_core.specs.Run.{asking, tells_owner, judged, deed_of_call, deed_asked, next_event, happening}
+use Rattle.world_core.specs.Run.{asking, judged, deed_of_call, deed_asked, next_event, happening}
+use Rattle.world_core.specs.Rules.{tells_owner}
 use Rattle.world_core.specs.Laws.{IsAsked}
 use Rattle.world_core.specs.declared.tables.rule.Rule.{Rule}
 use Rattle.world_core.proofs.Choices.{some_is}

@@ -1,18 +1,13 @@
 -- The objects of a set (ets manual, `insert/2`): tuples, each under its first element.
 use Rattle.std.specs.Prelude.{Bool, false, ◌||◌, List, [], ◌∷◌, Option, Some, None, option_map, is_none, if◌then◌else◌}
 use Rattle.std.specs.Option.{option_or}
-use Rattle.term_core.specs.Meaning.{Meaning, Meanings, Int, Atom, Ref, Pid, Tuple, Nil, Cons, NoMore, Also}
+use Rattle.term_core.specs.Meaning.{Meaning, Meanings, Tuple, Nil, Cons, NoMore, Also}
 use Rattle.world_core.specs.Names.{same_term}
 
 -- the tuple that a term is
 abbrev pub tuple_of : Meaning → Option Meaning
-tuple_of (Int n) = None
-tuple_of (Atom text) = None
-tuple_of (Ref p n) = None
-tuple_of (Pid p) = None
 tuple_of (Tuple parts) = Some (Tuple parts)
-tuple_of Nil = None
-tuple_of (Cons head tail) = None
+tuple_of m = None
 
 -- an object in front of others, if all are objects
 abbrev pub before_objects : Option Meaning → Option (List Meaning) → Option (List Meaning)
@@ -21,23 +16,16 @@ before_objects (Some o) others = option_map (λ os. o ∷ os) others
 
 -- the tuples of a proper list, if each item is one
 abbrev pub tuples_of : Meaning → Option (List Meaning)
-tuples_of (Int n) = None
-tuples_of (Atom text) = None
-tuples_of (Ref p n) = None
-tuples_of (Pid p) = None
-tuples_of (Tuple parts) = None
 tuples_of Nil = Some []
 tuples_of (Cons head tail) = before_objects (tuple_of head) (tuples_of tail)
+tuples_of m = None
 
 -- the objects to be put in: one tuple, or a proper list of tuples
 abbrev pub objects_of : Meaning → Option (List Meaning)
-objects_of (Int n) = None
-objects_of (Atom text) = None
-objects_of (Ref p n) = None
-objects_of (Pid p) = None
 objects_of (Tuple parts) = Some (Tuple parts ∷ [])
 objects_of Nil = Some []
 objects_of (Cons head tail) = tuples_of (Cons head tail)
+objects_of m = None
 
 -- the first part of a tuple
 abbrev pub first_part : Meanings → Option Meaning
@@ -46,13 +34,8 @@ first_part (Also first others) = Some first
 
 -- the key of an object, if it is long enough to have one
 abbrev pub key_of : Meaning → Option Meaning
-key_of (Int n) = None
-key_of (Atom text) = None
-key_of (Ref p n) = None
-key_of (Pid p) = None
 key_of (Tuple parts) = first_part parts
-key_of Nil = None
-key_of (Cons head tail) = None
+key_of m = None
 
 -- whether a key is this one
 abbrev pub is_key : Meaning → Option Meaning → Bool

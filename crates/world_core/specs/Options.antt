@@ -1,7 +1,7 @@
 -- The options of a new table (ets manual, `new/2`): `'set'`, the three protections and `'named_table'`, in any order and number.
 use Rattle.std.specs.Prelude.{ℕ, Bool, true, false, ◌||◌, List, [], ◌∷◌, Option, Some, None, option_map, if◌then◌else◌, bytes_eq, codes, unwrap_or}
 use Rattle.std.specs.Option.{option_or}
-use Rattle.term_core.specs.Meaning.{Meaning, Int, Atom, Ref, Pid, Tuple, Nil, Cons}
+use Rattle.term_core.specs.Meaning.{Meaning, Atom, Nil, Cons}
 use Rattle.world_core.specs.declared.tables.options.TableOption.{TableOption}
 use Rattle.world_core.specs.declared.tables.options.TableOption.TheVariants.{Set, Protects, Named}
 use Rattle.world_core.specs.declared.tables.options.Protection.{Protection}
@@ -18,13 +18,8 @@ named_option text =
 
 -- the option that a term is
 abbrev pub option_of : Meaning → Option TableOption
-option_of (Int n) = None
 option_of (Atom text) = named_option text
-option_of (Ref p n) = None
-option_of (Pid p) = None
-option_of (Tuple parts) = None
-option_of Nil = None
-option_of (Cons head tail) = None
+option_of m = None
 
 -- an option in front of others, if all are options
 abbrev pub before_options : Option TableOption → Option (List TableOption) → Option (List TableOption)
@@ -33,13 +28,9 @@ before_options (Some o) others = option_map (λ os. o ∷ os) others
 
 -- the options of a proper list, if each item is one
 abbrev pub options_of : Meaning → Option (List TableOption)
-options_of (Int n) = None
-options_of (Atom text) = None
-options_of (Ref p n) = None
-options_of (Pid p) = None
-options_of (Tuple parts) = None
 options_of Nil = Some []
 options_of (Cons head tail) = before_options (option_of head) (options_of tail)
+options_of m = None
 
 -- the protection that an option asks for
 abbrev pub protection_in : TableOption → Option Protection

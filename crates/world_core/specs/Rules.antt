@@ -1,7 +1,7 @@
 -- The rules by which a call of a table is served or refused (ets manual; "Access control"): the first that fails, in order.
 use Rattle.std.specs.Prelude.{ℕ, Bool, true, false, ◌&&◌, List, Option, Some, None, is_some, if◌then◌else◌}
 use Rattle.std.specs.Option.{option_or}
-use Rattle.term_core.specs.Meaning.{Meaning, Int, Atom, Ref, Pid, Tuple, Nil, Cons}
+use Rattle.term_core.specs.Meaning.{Meaning, Atom, Ref}
 use Rattle.world_core.specs.Names.{same_pid}
 use Rattle.world_core.specs.Calls.{TableCall, New, Insert, Lookup}
 use Rattle.world_core.specs.Options.{options_of, is_named}
@@ -37,13 +37,9 @@ allowed Write Private false = Some PrivateWrite
 
 -- whether a term can name a table: an atom or a reference
 abbrev pub is_table_argument : Meaning → Bool
-is_table_argument (Int n) = false
 is_table_argument (Atom text) = true
 is_table_argument (Ref p n) = true
-is_table_argument (Pid p) = false
-is_table_argument (Tuple parts) = false
-is_table_argument Nil = false
-is_table_argument (Cons head tail) = false
+is_table_argument m = false
 
 -- of a call with a table argument: the argument, what it finds, whether the caller may, and then the rules of the other arguments
 abbrev pub rule_at : Option Found → List ℕ → Class → Option Rule → Option Rule
@@ -58,16 +54,12 @@ abbrev pub rule_of_objects : Option (List Meaning) → Option Rule
 rule_of_objects None = Some NotObject
 rule_of_objects (Some objects) = if one_is_short objects then Some ShortObject else None
 
--- of a new table: its name, its options, and where it is to be found by its name whether that is free
+-- whether a term can be the name of a new table
 abbrev pub is_atom : Meaning → Bool
-is_atom (Int n) = false
 is_atom (Atom text) = true
-is_atom (Ref p n) = false
-is_atom (Pid p) = false
-is_atom (Tuple parts) = false
-is_atom Nil = false
-is_atom (Cons head tail) = false
+is_atom m = false
 
+-- of a new table: its name, its options, and where it is to be found by its name whether that is free
 abbrev pub rule_of_options : Bool → Option (List TableOption) → Option Rule
 rule_of_options is_taken None = Some BadOption
 rule_of_options is_taken (Some options) = if is_named options && is_taken then Some NameTaken else None
@@ -87,3 +79,20 @@ abbrev pub owner_for : Finder → TableCall → Option (List ℕ)
 owner_for find (New name options) = None
 owner_for find (Insert argument objects) = owner_at (find argument)
 owner_for find (Lookup argument key) = owner_at (find argument)
+
+-- whether a refusal reports the owner: not where the table, the name or the options are at fault
+abbrev pub tells_owner : Rule → Bool
+tells_owner BadTable = false
+tells_owner NoTable = false
+tells_owner PrivateRead = true
+tells_owner PrivateWrite = true
+tells_owner ProtectedWrite = true
+tells_owner BadName = false
+tells_owner BadOption = false
+tells_owner NameTaken = false
+tells_owner NotObject = true
+tells_owner ShortObject = true
+
+-- the owner, where the refusal reports it
+abbrev pub told_owner : Rule → Option (List ℕ) → Option (List ℕ)
+told_owner rule owner = if tells_owner rule then owner else None

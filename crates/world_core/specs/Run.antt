@@ -12,9 +12,9 @@ use Rattle.core_eval.specs.Asked.{Asked, Call, Receive}
 use Rattle.core_eval.specs.Asked as asked
 use Rattle.world_core.specs.Calls.{TableCall, table_call}
 use Rattle.world_core.specs.Events.{Deed, Served, Refused, Ended, RanAway, TimedOut, Happening, History}
+use Rattle.world_core.specs.Rules.{told_owner}
 use Rattle.world_core.specs.History.{alive, answers, rule_of, answer_of, owner_of}
 use Rattle.world_core.specs.declared.tables.rule.Rule.{Rule}
-use Rattle.world_core.specs.declared.tables.rule.Rule.TheVariants.{BadTable, NoTable, PrivateRead, PrivateWrite, ProtectedWrite, BadName, BadOption, NameTaken, NotObject, ShortObject}
 
 -- where a process begins: the first with `main/0`
 abbrev pub origin : ModuleTree → List ℕ → Entry
@@ -23,23 +23,6 @@ origin m p = entry m.name (codes "main") []
 -- what a process asks now
 abbrev pub asking : ModuleTree → History → List ℕ → Asked
 asking m h p = ask m p (origin m p) (answers h p)
-
--- whether a refusal reports the owner: not where the table, the name or the options are at fault
-abbrev pub tells_owner : Rule → Bool
-tells_owner BadTable = false
-tells_owner NoTable = false
-tells_owner PrivateRead = true
-tells_owner PrivateWrite = true
-tells_owner ProtectedWrite = true
-tells_owner BadName = false
-tells_owner BadOption = false
-tells_owner NameTaken = false
-tells_owner NotObject = true
-tells_owner ShortObject = true
-
--- the owner, where the refusal reports it
-abbrev pub told_owner : Rule → Option (List ℕ) → Option (List ℕ)
-told_owner rule owner = if tells_owner rule then owner else None
 
 -- a call of a table is served where no rule fails, and else refused by the one that does
 abbrev pub judged : CallKind → List Meaning → Option Rule → Option (List ℕ) → Meaning → Deed

@@ -13,7 +13,8 @@ ghost use Rattle.world_core.specs.Events.{Happening, History, Served, Refused};
 ghost use Rattle.world_core.specs.History.{alive, turns, found, owner, protection, rows, find, effect_of, rule_of, answer_of, owner_of};
 ghost use Rattle.world_core.specs.Laws.{IsRefusal, IsAsked, Waits, IsPut};
 ghost use Rattle.world_core.specs.Objects.{last_with, replaced};
-ghost use Rattle.world_core.specs.Run.{IsRun, run, schedule_of, next_event, happening, tells_owner};
+ghost use Rattle.world_core.specs.Run.{IsRun, run, schedule_of, next_event, happening};
+ghost use Rattle.world_core.specs.Rules.{tells_owner};
 ghost use Rattle.world_core.specs.declared.tables.rule.Rule.{Rule};
 
 use core_eval::laws::only_calls_that_are_read_are_asked;

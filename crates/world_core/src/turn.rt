@@ -13,7 +13,8 @@ ghost use Rattle.world_core.specs.Events.{History};
 ghost use Rattle.world_core.specs.History.{turns, answer_in};
 ghost use Rattle.world_core.specs.inside.Records.{find_in};
 ghost use Rattle.world_core.specs.Rules.{owner_for};
-ghost use Rattle.world_core.specs.Run.{is_answered, told_owner};
+ghost use Rattle.world_core.specs.Run.{is_answered};
+ghost use Rattle.world_core.specs.Rules.{told_owner};
 ghost use Rattle.world_core.specs.inside.TableCalls.{call_of};
 
 use crate::event::Deed;

@@ -1,6 +1,6 @@
 // The rules by which calls of tables are refused.
 ghost use Rattle.std.specs.Prelude.{◌≡◌};
-ghost use Rattle.world_core.specs.Run.{tells_owner};
+ghost use Rattle.world_core.specs.Rules.{tells_owner};
 
 /// Why a call of a table is refused with `badarg`. Of all rules that fail the first in this order is
 /// the one: the table argument, what it finds, who may call, and then the other arguments from left to
