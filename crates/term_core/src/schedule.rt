@@ -9,13 +9,16 @@ mod words;
 use crate::schedule::words::{read_step, split_before};
 use crate::step::Step;
 use std::alloc::{AllocError, AllocFailed, Global};
+use thiserror::Error;
 
 /// Why bytes are no schedule, or cannot be read as one.
-#[derive(Clone, Copy, Debug, PartialEq, Eq)]
+#[derive(Clone, Copy, Debug, PartialEq, Eq, Error)]
 pub enum ScheduleFault {
     /// The first byte, counted from 0, of the first step that is not one.
+    #[error("1 BadStep at {0}")]
     BadStep(usize),
     /// There was no memory.
+    #[error("2 Memory")]
     Memory,
 }
 
