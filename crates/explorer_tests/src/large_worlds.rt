@@ -1,16 +1,11 @@
 // Worlds of many events, rows and tables: each event is the one that is wanted.
-use crate::built::joined;
+use crate::built::{digits, joined};
 use crate::worlds::{last, turn};
 use core_reader::read_module;
-use std::alloc::{AllocError, Global};
+use std::alloc::Global;
 use std::process::Abort;
 use std::test::Fail;
 use world_core::World;
-
-// The digits of a number.
-fn digits(alloc: Global, number: u64) -> Result<String, AllocError> {
-    Ok(format!(in alloc; "{number}")?)
-}
 
 // Takes a turn, and asserts what happened: the text that these parts make.
 fn happens(rt: &impl Abort, alloc: Global, world: &mut World, want: &[&str]) -> Result<(), Fail> {

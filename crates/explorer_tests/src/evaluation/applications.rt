@@ -1,10 +1,9 @@
 // Applications of the module's own functions.
 use super::runs::{process, program_with, run_of, run_on};
-use crate::built::{joined, nested};
+use crate::built::{append, digits, joined, nested};
 use core_reader::Module;
 use core_tree::{Call, Callee, Definition, Expr, Exprs, FunctionName, NamedFunction, Variable};
 use std::alloc::Global;
-use std::fmt::Write;
 use std::test::Fail;
 use term_core::{Atom, Pid};
 
@@ -122,7 +121,7 @@ fn functions_see_no_other_variables_and_are_defined(rt: HostRuntime) -> Result<(
 // A chain of functions `f0/1` to `f1110/1`, each of which applies the next to its argument, and the last the
 // first; `f0/1` takes the first item off, and gives `'done'` where there is none. Applied to a list of n
 // items, `f0/1` makes 1,111 * n applications; another link makes 1,111 more but for its index.
-const LINKS: usize = 1_111;
+const LINKS: u64 = 1_111;
 
 // The name of a function with no parameter, its body, and what a process asks that begins with it.
 const ROWS: [(&str, &str, &str); 8] = [
@@ -178,11 +177,11 @@ const ROWS: [(&str, &str, &str); 8] = [
 fn links(alloc: Global, front: &str, back: &str) -> Result<String, Fail> {
     let mut text = String::new(alloc);
     for index in 1..LINKS {
-        let next = (index + 1) % LINKS;
-        write!(
-            text,
-            "'f{index}'/1 = fun (X) -> {front}apply 'f{next}'/1(X){back} "
-        )?;
+        let link = digits(alloc, index)?;
+        let next = digits(alloc, (index + 1) % LINKS)?;
+        let (link, next) = (link.as_str(), next.as_str());
+        append(&mut text, &["'f", link, "'/1 = fun (X) -> ", front])?;
+        append(&mut text, &["apply 'f", next, "'/1(X)", back, " "])?;
     }
     Ok(text)
 }
@@ -190,12 +189,16 @@ fn links(alloc: Global, front: &str, back: &str) -> Result<String, Fail> {
 // The functions of the rows, and the chain.
 fn chain(alloc: Global, front: &str, back: &str) -> Result<Module, Fail> {
     let mut functions = links(alloc, front, back)?;
-    write!(
-        functions,
-        "'f0'/1 = fun (X) -> case X of <[X|Y]> when 'true' -> {front}apply 'f1'/1(Y){back} <[]> when 'true' -> 'done' end "
-    )?;
+    let first = [
+        "'f0'/1 = fun (X) -> case X of <[X|Y]> when 'true' -> ",
+        front,
+        "apply 'f1'/1(Y)",
+        back,
+        " <[]> when 'true' -> 'done' end ",
+    ];
+    append(&mut functions, &first)?;
     for (name, body, _) in ROWS {
-        write!(functions, "'{name}'/0 = fun () -> {body} ")?;
+        append(&mut functions, &["'", name, "'/0 = fun () -> ", body, " "])?;
     }
     program_with(alloc, "", functions.as_str(), "0")
 }
