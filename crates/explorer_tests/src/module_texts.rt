@@ -1,5 +1,4 @@
 // Texts with the fault and the place that the rules give each, and whole modules.
-use crate::built::nested;
 use core_reader::{ReadFault, read_module};
 use std::alloc::Global;
 use std::process::Abort;
@@ -244,19 +243,6 @@ fn answers_long_texts(rt: HostRuntime) -> Result<(), Fail> {
     assert_eq!(rt; longest, Some(ReadFault::Expected(1_048_576)));
     text.push(b' ')?;
     let too_long = read_module(rt.alloc(), &text).err();
-    assert_eq!(rt; too_long, Some(ReadFault::TooLong(1_048_576)));
-    Ok(())
-}
-
-// A list of half a million integers fills the text.
-#[test]
-fn reads_a_module_of_a_million_tokens(rt: HostRuntime) -> Result<(), Fail> {
-    let front = "module 'm' [] attributes [] 'main'/0 = fun () -> [";
-    let mut text = nested(rt.alloc(), front, "1,", 524_260, "1] end", "")?;
-    assert_eq!(rt; text.len(), 1_048_576);
-    assert!(rt; read_module(rt.alloc(), text.as_bytes()).is_ok());
-    text.push(' ')?;
-    let too_long = read_module(rt.alloc(), text.as_bytes()).err();
     assert_eq!(rt; too_long, Some(ReadFault::TooLong(1_048_576)));
     Ok(())
 }

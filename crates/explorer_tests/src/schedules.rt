@@ -1,5 +1,4 @@
 // Texts that are schedules, and the first bad step of those that are none.
-use crate::built::nested;
 use std::alloc::Global;
 use std::test::Fail;
 use term_core::{ScheduleFault, Step, read_schedule};
@@ -35,14 +34,6 @@ fn reads_schedules(rt: HostRuntime) -> Result<(), Fail> {
         let words = described(rt.alloc(), &steps)?;
         assert_eq!(rt; words.as_str(), wanted);
     }
-    Ok(())
-}
-
-#[test]
-fn reads_a_schedule_of_100000_steps(rt: HostRuntime) -> Result<(), Fail> {
-    let text = nested(rt.alloc(), "", "P.7 ", 99_999, "P", "")?;
-    let steps = read_schedule(rt.alloc(), text.as_bytes())?;
-    assert_eq!(rt; steps.len(), 100_000);
     Ok(())
 }
 

@@ -52,19 +52,6 @@ fn copies_share_a_long_list(rt: HostRuntime) -> Result<(), Fail> {
 }
 
 #[test]
-fn a_million_heads_make_a_list(rt: HostRuntime) -> Result<(), Fail> {
-    let alloc = rt.alloc();
-    let mut heads = Vec::new(alloc);
-    for _head in 0..1_000_000 {
-        heads.push(Term::Int(7))?;
-    }
-    let list = list_onto(alloc, heads, Term::Nil)?;
-    assert_eq!(rt; list.nodes(), 2_000_001);
-    assert!(rt; list == sevens(alloc, 1_000_000)?);
-    Ok(())
-}
-
-#[test]
 fn a_tail_outlives_the_list_before_it(rt: HostRuntime) -> Result<(), Fail> {
     let alloc = rt.alloc();
     let tail = sevens(alloc, 2)?;

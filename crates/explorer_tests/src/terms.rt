@@ -56,25 +56,23 @@ fn prints_atomic_terms(rt: HostRuntime) -> Result<(), Fail> {
     )
 }
 
-// Atoms, and how they are printed.
-const ATOMS: [(&str, &[u8]); 8] = [
-    ("", b"''"),
-    ("named_table", b"'named_table'"),
-    ("it's", b"'it\\'s'"),
-    ("a\\b", b"'a\\\\b'"),
-    ("\x08\t\n\x0b\x0c\r", b"'\\b\\t\\n\\v\\f\\r'"),
-    ("\x1b\x7f", b"'\\e\\d'"),
-    (
-        "\x00\x01\x07\x0e\x1a\x1c\x1f",
-        b"'\\000\\001\\007\\016\\032\\034\\037'",
-    ),
-    (" \"$A", b"' \"$A'"),
-];
-
 #[test]
 fn prints_atoms_with_escapes(rt: HostRuntime) -> Result<(), Fail> {
     let alloc = rt.alloc();
-    for (text, printed) in ATOMS {
+    let table = [
+        ("", b"''".as_slice()),
+        ("named_table", b"'named_table'"),
+        ("it's", b"'it\\'s'"),
+        ("a\\b", b"'a\\\\b'"),
+        ("\x08\t\n\x0b\x0c\r", b"'\\b\\t\\n\\v\\f\\r'"),
+        ("\x1b\x7f", b"'\\e\\d'"),
+        (
+            "\x00\x01\x07\x0e\x1a\x1c\x1f",
+            b"'\\000\\001\\007\\016\\032\\034\\037'",
+        ),
+        (" \"$A", b"' \"$A'"),
+    ];
+    for (text, printed) in table {
         prints(&rt, alloc, &atom(alloc, text)?, printed)?;
     }
     Ok(())

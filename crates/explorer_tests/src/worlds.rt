@@ -1,7 +1,6 @@
 // Worlds of small modules, and what happens in them.
 ghost use Rattle.std.specs.Prelude.{◌≡◌, false, OnOk};
 
-use crate::built::{joined, repeated};
 use core_reader::{CallKind, Module, ReadFault, read_module};
 use std::alloc::{AllocError, Global};
 use std::test::Fail;
@@ -12,8 +11,12 @@ use world_core::{Deed, World, WorldFault};
 
 // The module `m` whose `main/0` has this body.
 fn program(alloc: Global, body: &str) -> Result<Module, ReadFault> {
-    let front = "module 'm' ['main'/0] attributes [] 'main'/0 = fun () -> ";
-    let text = joined(alloc, &[front, body, " end"])?;
+    let mut text = String::from_str(
+        alloc,
+        "module 'm' ['main'/0] attributes [] 'main'/0 = fun () -> ",
+    )?;
+    text.push_str(body)?;
+    text.push_str(" end")?;
     read_module(alloc, text.as_bytes())
 }
 
@@ -160,7 +163,7 @@ const REFUSED: [(&str, &str); 13] = [
     ),
 ];
 
-// The same after a named table.
+// The same behind a named table.
 const REFUSED_LATER: [(&str, &str); 11] = [
     (
         "call 'ets':'new'('t',['named_table'])",
@@ -214,6 +217,14 @@ const MADE: &str = "new 't' ['named_table'] -> 't'\n";
 
 const END: &str = "{'badarg',[]}\n";
 
+fn joined(alloc: Global, parts: &[&str]) -> Result<String, AllocError> {
+    let mut text = String::new(alloc);
+    for part in parts {
+        text.push_str(part)?;
+    }
+    Ok(text)
+}
+
 #[test]
 fn each_refusal_has_its_rule(rt: HostRuntime) -> Result<(), Fail> {
     for (body, refusal) in REFUSED {
@@ -266,7 +277,7 @@ fn served_calls_answer(rt: HostRuntime) -> Result<(), Fail> {
     Ok(())
 }
 
-// No step of another process, no delivery, and no step after the end.
+// No step of another process, no delivery, and no step behind the end.
 #[test]
 fn other_steps_are_not_enabled(rt: HostRuntime) -> Result<(), Fail> {
     let alloc = rt.alloc();
@@ -291,8 +302,12 @@ fn other_steps_are_not_enabled(rt: HostRuntime) -> Result<(), Fail> {
 
 // A chain of so many `do`, each the second part of the one before it.
 fn chain(alloc: Global, count: usize) -> Result<String, AllocError> {
-    let front = repeated(alloc, "do 'a' ", count)?;
-    joined(alloc, &[front.as_str(), "'a'"])
+    let mut body = String::new(alloc);
+    for _ in 0..count {
+        body.push_str("do 'a' ")?;
+    }
+    body.push_str("'a'")?;
+    Ok(body)
 }
 
 #[test]

@@ -1,128 +1,176 @@
 // Exceptions: how they end a process, and how they are caught and handled.
-use super::runs::asked;
-use crate::built::{joined, nested};
+use super::runs::{asked, module_of, run_of};
+use super::words::{LETTERS, TAKE, TWO, Word, build, last, put};
 use std::alloc::Global;
 use std::test::Fail;
 
-const AN_EXIT: &str = "primop 'raise'({'$trace','exit'},5)";
+// `raise({'$trace',class}, 5)`
+const AN_EXIT: [Word; 5] = [
+    Word::Name("$trace"),
+    Word::Name("exit"),
+    Word::Tuple(2),
+    Word::Int(5),
+    Word::Raise(2),
+];
 
-const A_THROW: &str = "primop 'raise'({'$trace','throw'},5)";
+const A_THROW: [Word; 5] = [
+    Word::Name("$trace"),
+    Word::Name("throw"),
+    Word::Tuple(2),
+    Word::Int(5),
+    Word::Raise(2),
+];
 
-const AN_ERROR: &str = "primop 'raise'({'$trace','error'},5)";
+const AN_ERROR: [Word; 5] = [
+    Word::Name("$trace"),
+    Word::Name("error"),
+    Word::Tuple(2),
+    Word::Int(5),
+    Word::Raise(2),
+];
 
-// A call, which is answered by 1.
-const LETTERS: &str = "call 'ets':'lookup'('t',\"aa\")";
+const NO_CLASS: [Word; 5] = [
+    Word::Name("$trace"),
+    Word::Name("fault"),
+    Word::Tuple(2),
+    Word::Int(5),
+    Word::Raise(2),
+];
 
-const TWO: &str = "<1,2>";
+const NO_TRACE: [Word; 5] = [
+    Word::Name("trace"),
+    Word::Name("exit"),
+    Word::Tuple(2),
+    Word::Int(5),
+    Word::Raise(2),
+];
+
+const FUNCTION_CLAUSE: [Word; 4] = [
+    Word::Name("function_clause"),
+    Word::Int(1),
+    Word::Tuple(2),
+    Word::Fail(1),
+];
+
+pub(crate) const BADMATCH: [Word; 4] = [
+    Word::Name("badmatch"),
+    Word::Int(1),
+    Word::Tuple(2),
+    Word::Fail(1),
+];
 
 // Exceptions that nothing catches, and what is asked.
-const ENDS: [(&str, &str); 7] = [
-    (AN_ERROR, "{5,[]}"),
-    (AN_EXIT, "5"),
-    (A_THROW, "{{'nocatch',5},[]}"),
-    ("primop 'raise'({'$trace','fault'},5)", "{'badarg',[]}"),
-    ("primop 'raise'({'trace','exit'},5)", "{'badarg',[]}"),
-    (
-        "primop 'match_fail'({'function_clause',1})",
-        "{'function_clause',[]}",
-    ),
-    ("primop 'match_fail'({'badmatch',1})", "{{'badmatch',1},[]}"),
+const ENDS: [(&[Word], &str); 7] = [
+    (&AN_ERROR, "{5,[]}"),
+    (&AN_EXIT, "5"),
+    (&A_THROW, "{{'nocatch',5},[]}"),
+    (&NO_CLASS, "{'badarg',[]}"),
+    (&NO_TRACE, "{'badarg',[]}"),
+    (&FUNCTION_CLAUSE, "{'function_clause',[]}"),
+    (&BADMATCH, "{{'badmatch',1},[]}"),
 ];
 
 #[test]
 fn ends_by_exceptions(rt: HostRuntime) -> Result<(), Fail> {
-    for (body, want) in ENDS {
-        let text = asked(rt.alloc(), body)?;
+    for (words, want) in ENDS {
+        let text = asked(rt.alloc(), words)?;
         assert_eq!(rt; text.as_slice(), want.as_bytes());
     }
     Ok(())
 }
 
-// What is asked where an expression stands between a front and a back.
-fn asked_within(alloc: Global, front: &str, inner: &str, back: &str) -> Result<Vec<u8>, Fail> {
-    let body = joined(alloc, &[front, inner, back])?;
-    asked(alloc, body.as_str())
+// What `take(catch e)` asks.
+fn caught_of(alloc: Global, words: &[Word]) -> Result<Vec<u8>, Fail> {
+    let mut parts = Vec::new(alloc);
+    parts.push(build(alloc, words)?)?;
+    put(alloc, &mut parts, Word::Catch)?;
+    put(alloc, &mut parts, TAKE)?;
+    let program = module_of(alloc, last(&mut parts))?;
+    run_of(alloc, &program)
 }
 
-// The call that takes what is caught.
-const CATCH: &str = "call 'ets':'lookup'('t',catch ";
+// What `take(try e of X -> X catch <X, Y, Z> -> {X, Y, Z})` asks, or the same with two variables.
+fn tried_of(alloc: Global, words: &[Word], count: usize) -> Result<Vec<u8>, Fail> {
+    let mut parts = Vec::new(alloc);
+    parts.push(build(alloc, words)?)?;
+    put(alloc, &mut parts, Word::Read)?;
+    put(alloc, &mut parts, Word::Read)?;
+    put(alloc, &mut parts, Word::ReadSecond)?;
+    if count > 2 {
+        put(alloc, &mut parts, Word::ReadThird)?;
+    }
+    put(alloc, &mut parts, Word::Tuple(count))?;
+    put(alloc, &mut parts, Word::Try(count))?;
+    put(alloc, &mut parts, TAKE)?;
+    let program = module_of(alloc, last(&mut parts))?;
+    run_of(alloc, &program)
+}
+
+// 9,995 nodes, which with what `catch` puts around are 10,000, and one more
+const WHOLE_ERROR: [Word; 6] = [
+    Word::Name("$trace"),
+    Word::Name("error"),
+    Word::Tuple(2),
+    Word::Ints(9_995),
+    Word::Tuple(9_995),
+    Word::Raise(2),
+];
+
+const LARGE_ERROR: [Word; 6] = [
+    Word::Name("$trace"),
+    Word::Name("error"),
+    Word::Tuple(2),
+    Word::Ints(9_996),
+    Word::Tuple(9_996),
+    Word::Raise(2),
+];
 
 // What is caught, and what is asked with it.
-const CATCHES: [(&str, &str); 5] = [
-    (AN_ERROR, "lookup 't' {'EXIT',{5,[]}}\n'normal'"),
-    (AN_EXIT, "lookup 't' {'EXIT',5}\n'normal'"),
-    (A_THROW, "lookup 't' 5\n'normal'"),
-    (LETTERS, "lookup 't' [97,97]\nlookup 't' 1\n'normal'"),
-    (TWO, "{'value_count',[]}"),
+const CATCHES: [(&[Word], &str); 6] = [
+    (&AN_ERROR, "take {'EXIT',{5,[]}}\n'normal'"),
+    (&AN_EXIT, "take {'EXIT',5}\n'normal'"),
+    (&A_THROW, "take 5\n'normal'"),
+    (&LETTERS, "take [97,97]\ntake 1\n'normal'"),
+    (&LARGE_ERROR, "{'system_limit',[]}"),
+    (&TWO, "{'value_count',[]}"),
 ];
 
 #[test]
 fn catches_exceptions(rt: HostRuntime) -> Result<(), Fail> {
-    for (inner, want) in CATCHES {
-        let text = asked_within(rt.alloc(), CATCH, inner, ")")?;
+    for (words, want) in CATCHES {
+        let text = caught_of(rt.alloc(), words)?;
         assert_eq!(rt; text.as_slice(), want.as_bytes());
     }
+    let whole = caught_of(rt.alloc(), WHOLE_ERROR.as_slice())?;
+    assert_eq!(rt; whole.starts_with(b"take {'EXIT',{{1,2,3"), true);
     Ok(())
 }
 
-// An error with a tuple of so many ones, and one more.
-fn long_error(alloc: Global, before_last: usize) -> Result<String, Fail> {
-    let front = "primop 'raise'({'$trace','error'},{";
-    Ok(nested(alloc, front, "1,", before_last, "1})", "")?)
-}
-
-// 9,996 nodes, which with what `catch` puts around are 10,000, and one more.
-#[test]
-fn what_is_caught_keeps_the_limit(rt: HostRuntime) -> Result<(), Fail> {
-    let whole = long_error(rt.alloc(), 9_994)?;
-    let text = asked_within(rt.alloc(), CATCH, whole.as_str(), ")")?;
-    assert!(rt; text.starts_with(b"lookup 't' {'EXIT',{{1,1,1"));
-    let large = long_error(rt.alloc(), 9_995)?;
-    let text = asked_within(rt.alloc(), CATCH, large.as_str(), ")")?;
-    assert_eq!(rt; text.as_slice(), b"{'system_limit',[]}".as_slice());
-    Ok(())
-}
-
-// The call that takes what a `try` gives, and its handlers of two and of three variables.
-const TRY: &str = "call 'ets':'lookup'('t',try ";
-
-const WITH_TWO: &str = " of <X> -> X catch <X,Y> -> {X,Y})";
-
-const WITH_THREE: &str = " of <X> -> X catch <X,Y,Z> -> {X,Y,Z})";
-
-// What is protected, the handler, and what is asked.
-const HANDLES: [(&str, &str, &str); 8] = [
-    (AN_ERROR, WITH_TWO, "lookup 't' {'error',5}\n'normal'"),
-    (AN_EXIT, WITH_TWO, "lookup 't' {'exit',5}\n'normal'"),
-    (A_THROW, WITH_TWO, "lookup 't' {'throw',5}\n'normal'"),
-    (
-        LETTERS,
-        WITH_TWO,
-        "lookup 't' [97,97]\nlookup 't' 1\n'normal'",
-    ),
+// What a handler of two variables takes.
+const HANDLES_TWO: [(&[Word], &str); 5] = [
+    (&AN_ERROR, "take {'error',5}\n'normal'"),
+    (&AN_EXIT, "take {'exit',5}\n'normal'"),
+    (&A_THROW, "take {'throw',5}\n'normal'"),
+    (&LETTERS, "take [97,97]\ntake 1\n'normal'"),
     // outside of what is protected
-    (TWO, WITH_TWO, "{'value_count',[]}"),
-    (
-        AN_ERROR,
-        WITH_THREE,
-        "lookup 't' {'error',5,{'$trace','error'}}\n'normal'",
-    ),
-    (
-        AN_EXIT,
-        WITH_THREE,
-        "lookup 't' {'exit',5,{'$trace','exit'}}\n'normal'",
-    ),
-    (
-        A_THROW,
-        WITH_THREE,
-        "lookup 't' {'throw',5,{'$trace','throw'}}\n'normal'",
-    ),
+    (&TWO, "{'value_count',[]}"),
+];
+
+// What a handler of three variables takes.
+const HANDLES_THREE: [(&[Word], &str); 3] = [
+    (&AN_ERROR, "take {'error',5,{'$trace','error'}}\n'normal'"),
+    (&AN_EXIT, "take {'exit',5,{'$trace','exit'}}\n'normal'"),
+    (&A_THROW, "take {'throw',5,{'$trace','throw'}}\n'normal'"),
 ];
 
 #[test]
 fn handles_exceptions(rt: HostRuntime) -> Result<(), Fail> {
-    for (inner, handler, want) in HANDLES {
-        let text = asked_within(rt.alloc(), TRY, inner, handler)?;
+    for (words, want) in HANDLES_TWO {
+        let text = tried_of(rt.alloc(), words, 2)?;
+        assert_eq!(rt; text.as_slice(), want.as_bytes());
+    }
+    for (words, want) in HANDLES_THREE {
+        let text = tried_of(rt.alloc(), words, 3)?;
         assert_eq!(rt; text.as_slice(), want.as_bytes());
     }
     Ok(())

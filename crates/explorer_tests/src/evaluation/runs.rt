@@ -1,36 +1,55 @@
-// Modules from texts, and what their processes ask, as text.
+// Modules of one function, and what their processes ask, as text.
 ghost use Rattle.std.specs.Prelude.{◌≡◌, false};
 
-use crate::built::joined;
+use super::words::{Word, build, function_name, variables};
 use core_eval::{Answer, Machine, Request, start};
-use core_reader::{CallKind, Module, read_module};
+use core_tree::{CallKind, Definition, Expr, FunctionName, Module};
+use indexmap::IndexMap;
 use std::alloc::{AllocError, Global};
 use std::test::Fail;
 use term_core::{Atom, Output, Pid, Term, Terms, WriteFault, write_all, write_term};
 
-// The module `m` with these exports and functions beside `'main'/0`, which has this body.
-pub(crate) fn program_with(
+// The functions of a module.
+pub(crate) type Definitions = IndexMap<FunctionName, Definition>;
+
+// One more function, of no parameter, of `X`, or of `X` and `Y`.
+pub(crate) fn define(
     alloc: Global,
-    exports: &str,
-    functions: &str,
-    body: &str,
-) -> Result<Module, Fail> {
-    let parts = [
-        "module 'm' [",
-        exports,
-        "] attributes [] ",
-        functions,
-        " 'main'/0 = fun () -> ",
+    definitions: &mut Definitions,
+    name: &str,
+    arity: u8,
+    body: Expr,
+) -> Result<(), AllocError> {
+    let parameters = match arity {
+        0 => Vec::new(alloc),
+        1 => variables(alloc, &[b"X"])?,
+        _ => variables(alloc, &[b"X", b"Y"])?,
+    };
+    let definition = Definition {
+        at: 0,
+        parameters,
         body,
-        " end",
-    ];
-    let text = joined(alloc, &parts)?;
-    Ok(read_module(alloc, text.as_bytes())?)
+    };
+    definitions.insert(function_name(alloc, name, arity)?, definition)?;
+    Ok(())
 }
 
-// The module `m` that exports nothing and defines `'main'/0` with this body.
-pub(crate) fn program(alloc: Global, body: &str) -> Result<Module, Fail> {
-    program_with(alloc, "", "", body)
+// The module `m` that exports nothing and defines `'main'/0`.
+pub(crate) fn module_of(alloc: Global, body: Expr) -> Result<Module, AllocError> {
+    let mut definitions = IndexMap::new(alloc);
+    define(alloc, &mut definitions, "main", 0, body)?;
+    module_with(alloc, definitions)
+}
+
+// The module `m` that exports nothing and has these definitions.
+pub(crate) fn module_with(alloc: Global, definitions: Definitions) -> Result<Module, AllocError> {
+    let name = Atom(String::from_str(alloc, "m")?);
+    Ok(Module {
+        name,
+        exports: Vec::new(alloc),
+        attributes: Vec::new(alloc),
+        definitions,
+    })
 }
 
 // A process at the function of `m` with this name.
@@ -91,8 +110,7 @@ pub(crate) fn run_of(alloc: Global, program: &Module) -> Result<Vec<u8>, Fail> {
     run_on(alloc, &mut machine)
 }
 
-// What the first process asks of the module whose `'main'/0` has this body.
-pub(crate) fn asked(alloc: Global, body: &str) -> Result<Vec<u8>, Fail> {
-    let program = program(alloc, body)?;
+pub(crate) fn asked(alloc: Global, words: &[Word]) -> Result<Vec<u8>, Fail> {
+    let program = module_of(alloc, build(alloc, words)?)?;
     run_of(alloc, &program)
 }

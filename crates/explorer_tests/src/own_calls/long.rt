@@ -1,4 +1,4 @@
-// Lists of 300,000 items.
+// Lists of a hundred thousand items.
 use super::words::own;
 use core_tree::PureCall;
 use pure_calls::{Outcome, answer};
@@ -6,7 +6,7 @@ use std::alloc::{AllocError, Global};
 use std::test::Fail;
 use term_core::{Term, Terms, list_onto};
 
-const COUNT: i64 = 300_000;
+const COUNT: i64 = 100_000;
 
 // The integers from 1 on, as a list.
 fn numbers(alloc: Global) -> Result<Term, AllocError> {
