@@ -263,14 +263,17 @@ impl<'a> Parser<'a> {
         match tokens {
             [
                 Token {
-                    lexeme: Lexeme::Integer(number @ 0..=255),
+                    lexeme: Lexeme::Integer(number),
                     ..
                 },
                 rest @ ..,
-            ] => {
-                self.tokens = rest;
-                Ok(*number as u8)
-            }
+            ] => match u8::try_from(*number) {
+                Ok(arity) => {
+                    self.tokens = rest;
+                    Ok(arity)
+                }
+                Err(_) => Err(self.fault()),
+            },
             _ => Err(self.fault()),
         }
     }

@@ -65,14 +65,14 @@ fn export_called(
 ) -> Option<Callee>
     ensures { option_map callee_of result ≡ export_called own.now module_name.now function_name arity }
 {
-    if own.0.as_str() == module_name.0.as_str() && arity < 256 {
-        Some(Callee::Exported(FunctionName {
-            name: function_name,
-            arity: arity as u8,
-        }))
-    } else {
-        None
+    if own.0.as_str() != module_name.0.as_str() {
+        return None;
     }
+    let arity = u8::try_from(arity).ok()?;
+    Some(Callee::Exported(FunctionName {
+        name: function_name,
+        arity,
+    }))
 }
 
 /// What a call in the module `own` calls, if the world does not serve it.

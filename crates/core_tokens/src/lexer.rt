@@ -102,7 +102,7 @@ fn may_follow_slash(lexeme: &Lexeme) -> bool
     ensures { result ≡ in_range true (shape_of lexeme.now) }
 {
     match lexeme {
-        Lexeme::Integer(number) => 0 <= *number && *number <= 255,
+        Lexeme::Integer(number) => u8::try_from(*number).is_ok(),
         _ => true,
     }
 }
