@@ -7,7 +7,7 @@ ghost use Rattle.core_grammar.specs.inside.DecoderModules.{attribute_at, bare_fu
 ghost use Rattle.core_scopes.specs.Drafts.{defined_of, draft_of};
 ghost use Rattle.core_reader.specs.inside.ReaderView.{state_in, fun_of, opening_of, front_of};
 
-use crate::form_reader::FormReader;
+use core_expressions::FormReader;
 use core_scopes::{Defined, Draft, Front};
 use core_tokens::{Keyword, Mark, ReadFault};
 use core_tree::{Attribute, Definition, Expr, NamedFunction, Variable};
@@ -32,15 +32,21 @@ pub(crate) enum Opening {
     Whole(Defined),
 }
 
-impl<'a> FormReader<'a> {
+/// Reads definitions and modules, with what reads expressions below it.
+#[derive(Drop)]
+pub(crate) struct ModuleReader<'a> {
+    pub forms: FormReader<'a>,
+}
+
+impl<'a> ModuleReader<'a> {
     /// `Atom = const`, of at most so many levels.
     #[tactic(auto, unfolding(core_grammar::specs::inside::DecoderModules::attribute_at))]
     fn attribute(&mut self, levels: u16) -> Result<Attribute, ReadFault>
         ensures { MovesUnlessMemory (λ a. a) result (state_in self.new) (attribute_at levels (state_in self.old)) }
     {
-        let name = self.parser.atom()?;
-        self.parser.mark(Mark::Equals)?;
-        let value = self.parser.constant(levels)?;
+        let name = self.forms.parser.atom()?;
+        self.forms.parser.mark(Mark::Equals)?;
+        let value = self.forms.parser.constant(levels)?;
         Ok(Attribute { name, value })
     }
 
@@ -48,15 +54,15 @@ impl<'a> FormReader<'a> {
     fn attribute_items(&mut self, levels: u16) -> Result<Vec<Attribute>, ReadFault>
         ensures { MovesUnlessMemory (λ v. v.items) result (state_in self.new) (items_at (attribute_at levels) (state_in self.old)) }
     {
-        let mut items = Vec::new(self.parser.alloc);
-        let count = self.parser.tokens.len();
+        let mut items = Vec::new(self.forms.parser.alloc);
+        let count = self.forms.parser.tokens.len();
         'items: for _taken in 0..count {
             items.push(self.attribute(levels)?)?;
-            if !self.parser.skip_mark(Mark::Comma) {
+            if !self.forms.parser.skip_mark(Mark::Comma) {
                 return Ok(items);
             }
         }
-        Err(self.parser.fault())
+        Err(self.forms.parser.fault())
     }
 
     /// Any number of attributes, and the closing bracket.
@@ -64,11 +70,11 @@ impl<'a> FormReader<'a> {
     fn attributes(&mut self, levels: u16) -> Result<Vec<Attribute>, ReadFault>
         ensures { MovesUnlessMemory (λ v. v.items) result (state_in self.new) (closed_at (attribute_at levels) RightBracket (state_in self.old)) }
     {
-        if self.parser.skip_mark(Mark::RightBracket) {
-            return Ok(Vec::new(self.parser.alloc));
+        if self.forms.parser.skip_mark(Mark::RightBracket) {
+            return Ok(Vec::new(self.forms.parser.alloc));
         }
         let items = self.attribute_items(levels)?;
-        self.parser.mark(Mark::RightBracket)?;
+        self.forms.parser.mark(Mark::RightBracket)?;
         Ok(items)
     }
 
@@ -76,15 +82,15 @@ impl<'a> FormReader<'a> {
     fn export_items(&mut self, levels: u16) -> Result<Vec<NamedFunction>, ReadFault>
         ensures { MovesUnlessMemory (λ v. v.items) result (state_in self.new) (items_at (function_name_at levels) (state_in self.old)) }
     {
-        let mut items = Vec::new(self.parser.alloc);
-        let count = self.parser.tokens.len();
+        let mut items = Vec::new(self.forms.parser.alloc);
+        let count = self.forms.parser.tokens.len();
         'items: for _taken in 0..count {
-            items.push(self.parser.function_name(levels)?)?;
-            if !self.parser.skip_mark(Mark::Comma) {
+            items.push(self.forms.parser.function_name(levels)?)?;
+            if !self.forms.parser.skip_mark(Mark::Comma) {
                 return Ok(items);
             }
         }
-        Err(self.parser.fault())
+        Err(self.forms.parser.fault())
     }
 
     /// Any number of names of functions, and the closing bracket.
@@ -92,11 +98,11 @@ impl<'a> FormReader<'a> {
     fn exports(&mut self, levels: u16) -> Result<Vec<NamedFunction>, ReadFault>
         ensures { MovesUnlessMemory (λ v. v.items) result (state_in self.new) (closed_at (function_name_at levels) RightBracket (state_in self.old)) }
     {
-        if self.parser.skip_mark(Mark::RightBracket) {
-            return Ok(Vec::new(self.parser.alloc));
+        if self.forms.parser.skip_mark(Mark::RightBracket) {
+            return Ok(Vec::new(self.forms.parser.alloc));
         }
         let items = self.export_items(levels)?;
-        self.parser.mark(Mark::RightBracket)?;
+        self.forms.parser.mark(Mark::RightBracket)?;
         Ok(items)
     }
 
@@ -105,12 +111,12 @@ impl<'a> FormReader<'a> {
     fn bare_fun(&mut self, own: &Atom, arity: u8, levels: u16) -> Result<Fun, ReadFault>
         ensures { MovesUnlessMemory fun_of result (state_in self.new) (bare_fun_at own.now arity levels (state_in self.old)) }
     {
-        self.parser.word(Keyword::Fun)?;
-        self.parser.mark(Mark::LeftParenthesis)?;
-        let parameters = self.parser.parameters(arity, levels)?;
-        self.parser.mark(Mark::RightParenthesis)?;
-        self.parser.mark(Mark::Arrow)?;
-        let body = self.expression(own, levels)?;
+        self.forms.parser.word(Keyword::Fun)?;
+        self.forms.parser.mark(Mark::LeftParenthesis)?;
+        let parameters = self.forms.parser.parameters(arity, levels)?;
+        self.forms.parser.mark(Mark::RightParenthesis)?;
+        self.forms.parser.mark(Mark::Arrow)?;
+        let body = self.forms.expression(own, levels)?;
         Ok(Fun { parameters, body })
     }
 
@@ -119,11 +125,11 @@ impl<'a> FormReader<'a> {
     fn fun(&mut self, own: &Atom, arity: u8, levels: u16) -> Result<Fun, ReadFault>
         ensures { MovesUnlessMemory fun_of result (state_in self.new) (fun_at own.now arity levels (state_in self.old)) }
     {
-        if !self.parser.opens_note(levels)? {
+        if !self.forms.parser.opens_note(levels)? {
             return Ok(self.bare_fun(own, arity, levels)?);
         }
         let function = self.fun(own, arity, levels - 1)?;
-        self.parser.note(levels - 1)?;
+        self.forms.parser.note(levels - 1)?;
         Ok(function)
     }
 
@@ -138,7 +144,7 @@ impl<'a> FormReader<'a> {
         ensures { MovesUnlessMemory defined_of result (state_in self.new) (behind_name_at own.now levels named (state_in self.old)) }
     {
         let NamedFunction { at, function } = named;
-        self.parser.mark(Mark::Equals)?;
+        self.forms.parser.mark(Mark::Equals)?;
         let Fun { parameters, body } = self.fun(own, function.arity, levels)?;
         let definition = Definition {
             at,
@@ -158,7 +164,7 @@ impl<'a> FormReader<'a> {
         match opening {
             Opening::Whole(defined) => Ok(Opening::Whole(defined)),
             Opening::Name(named) => {
-                if !self.parser.is_at_mark(Mark::Equals) {
+                if !self.forms.parser.is_at_mark(Mark::Equals) {
                     return Ok(Opening::Name(named));
                 }
                 Ok(Opening::Whole(self.behind_name(own, levels, named)?))
@@ -181,11 +187,11 @@ impl<'a> FormReader<'a> {
     fn opening(&mut self, own: &Atom, levels: u16) -> Result<Opening, ReadFault>
         ensures { MovesUnlessMemory opening_of result (state_in self.new) (opening_at own.now levels (state_in self.old)) }
     {
-        if !self.parser.opens_note(levels)? {
-            return Ok(Opening::Name(self.parser.bare_name()?));
+        if !self.forms.parser.opens_note(levels)? {
+            return Ok(Opening::Name(self.forms.parser.bare_name()?));
         }
         let opening = self.inside_opening(own, levels - 1)?;
-        self.parser.note(levels - 1).and(Ok(opening))
+        self.forms.parser.note(levels - 1).and(Ok(opening))
     }
 
     /// A definition of the module `own`, whose parts have at most so many levels.
@@ -203,15 +209,15 @@ impl<'a> FormReader<'a> {
     fn definitions(&mut self, own: &Atom, levels: u16) -> Result<Vec<Defined>, ReadFault>
         ensures { MovesUnlessMemory (λ v. map defined_of v.items) result (state_in self.new) (rows_at (definition_at own.now levels) (state_in self.old)) }
     {
-        let mut definitions = Vec::new(self.parser.alloc);
-        let count = self.parser.tokens.len();
+        let mut definitions = Vec::new(self.forms.parser.alloc);
+        let count = self.forms.parser.tokens.len();
         'definitions: for _taken in 0..count {
-            if self.parser.is_at_word(Keyword::End) {
+            if self.forms.parser.is_at_word(Keyword::End) {
                 return Ok(definitions);
             }
             definitions.push(self.definition(own, levels)?)?;
         }
-        Err(self.parser.fault())
+        Err(self.forms.parser.fault())
     }
 
     /// The name, the exports and the attributes.
@@ -219,12 +225,12 @@ impl<'a> FormReader<'a> {
     fn front(&mut self, levels: u16) -> Result<Front, ReadFault>
         ensures { MovesUnlessMemory front_of result (state_in self.new) (front_at levels (state_in self.old)) }
     {
-        self.parser.word(Keyword::Module)?;
-        let name = self.parser.atom()?;
-        self.parser.mark(Mark::LeftBracket)?;
+        self.forms.parser.word(Keyword::Module)?;
+        let name = self.forms.parser.atom()?;
+        self.forms.parser.mark(Mark::LeftBracket)?;
         let exports = self.exports(levels)?;
-        self.parser.word(Keyword::Attributes)?;
-        self.parser.mark(Mark::LeftBracket)?;
+        self.forms.parser.word(Keyword::Attributes)?;
+        self.forms.parser.mark(Mark::LeftBracket)?;
         let attributes = self.attributes(levels)?;
         Ok(Front {
             name,
@@ -240,8 +246,8 @@ impl<'a> FormReader<'a> {
     {
         let front = self.front(levels)?;
         let definitions = self.definitions(&front.name, levels)?;
-        let end = self.parser.place();
-        self.parser.word(Keyword::End)?;
+        let end = self.forms.parser.place();
+        self.forms.parser.word(Keyword::End)?;
         Ok(Draft {
             front,
             definitions,
@@ -253,11 +259,11 @@ impl<'a> FormReader<'a> {
     fn noted_module(&mut self, levels: u16) -> Result<Draft, ReadFault>
         ensures { MovesUnlessMemory draft_of result (state_in self.new) (noted_at bare_module_at levels (state_in self.old)) }
     {
-        if !self.parser.opens_note(levels)? {
+        if !self.forms.parser.opens_note(levels)? {
             return Ok(self.bare_module(levels)?);
         }
         let draft = self.noted_module(levels - 1)?;
-        self.parser.note(levels - 1)?;
+        self.forms.parser.note(levels - 1)?;
         Ok(draft)
     }
 
@@ -265,10 +271,10 @@ impl<'a> FormReader<'a> {
     fn ended(&self, draft: Draft) -> Result<Draft, ReadFault>
         ensures { GivesUnlessMemory draft_of result (ended (state_in self.now).pieces (state_in self.now).refused (draft_of draft) (state_in self.now)) }
     {
-        match (self.parser.tokens, self.parser.refused) {
+        match (self.forms.parser.tokens, self.forms.parser.refused) {
             ([], None) => Ok(draft),
             ([], Some(unserved)) => Err(unserved.fault()),
-            ([_, ..], _) => Err(self.parser.fault()),
+            ([_, ..], _) => Err(self.forms.parser.fault()),
         }
     }
 

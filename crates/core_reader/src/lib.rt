@@ -1,10 +1,6 @@
 // From the tokens of Core Erlang 1.0.3 to a module, and from the bytes of a text to its module.
 #![tactic(auto)]
 
-mod calls;
-mod clauses;
-mod expressions;
-mod form_reader;
 mod grammar;
 pub mod laws;
 pub mod module_text;

@@ -10,7 +10,8 @@ ghost use Rattle.core_scopes.specs.Scopes.{IsLawful};
 ghost use Rattle.core_scopes.specs.Outcomes.{GivesUnlessMemory};
 ghost use Rattle.core_grammar.specs.Whole.{start, IsReadAs};
 
-use crate::form_reader::FormReader;
+use crate::grammar::ModuleReader;
+use core_expressions::FormReader;
 use core_grammar::laws;
 use core_parser::Parser;
 use core_scopes::{Draft, closed_module};
@@ -22,13 +23,14 @@ use std::alloc::Global;
 fn drafted(alloc: Global, tokens: &[Token], length: usize) -> Result<Draft, ReadFault>
     ensures { GivesUnlessMemory draft_of result (module_at (start length (pieces tokens.now))) }
 {
-    let mut reader = FormReader {
-        parser: Parser {
-            alloc,
-            tokens,
-            refused: None,
-            length,
-        },
+    let parser = Parser {
+        alloc,
+        tokens,
+        refused: None,
+        length,
+    };
+    let mut reader = ModuleReader {
+        forms: FormReader { parser },
     };
     reader.module()
 }

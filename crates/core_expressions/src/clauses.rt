@@ -1,0 +1,214 @@
+// Clauses of `case` (Core Erlang 1.0.3, "Expressions"), each annotated any number of times.
+ghost use Rattle.std.specs.Prelude.{map, ◌∷◌, []};
+ghost use Rattle.core_tokens.specs.declared.token.Keyword.TheVariants.{When};
+ghost use Rattle.core_tokens.specs.declared.token.Mark.TheVariants.{Less};
+ghost use Rattle.core_tree.specs.Syntax.{clauses_of};
+ghost use Rattle.core_tree.specs.Expression as trees;
+ghost use Rattle.core_tree.specs.Tree.{pattern_of, tree_of};
+ghost use Rattle.core_grammar.specs.inside.Decoder.{BuildsUnlessMemory, MovesUnlessMemory, after_word, in_note_at, constant_at};
+ghost use Rattle.core_grammar.specs.inside.DecoderForms.{guarded_at, behind_patterns_at, clause_of, started, inside_start_at, aliased, noted_start_at, bare_start_at, start_at, clause_at, clauses_at, choices_at, case_at, expression_at};
+ghost use Rattle.core_expressions.specs.inside.FormView.{state_in, start_of};
+
+use crate::form_reader::FormReader;
+use core_tokens::{Keyword, Mark, ReadFault};
+use core_tree::{Case, Clause, Clauses, Expr, Pattern, Patterns};
+use std::alloc::Global;
+use term_core::Atom;
+
+/// What a clause begins with.
+#[derive(Drop)]
+pub(crate) enum Start {
+    /// One pattern.
+    One(Pattern),
+    /// Patterns in angles.
+    Many(Vec<Pattern>),
+    /// The whole clause, in the parentheses of an annotation.
+    Whole(Clause),
+}
+
+fn one_pattern(alloc: Global, pattern: Pattern) -> Result<Vec<Pattern>, ReadFault>
+    ensures { BuildsUnlessMemory (λ v. map pattern_of v.items) result (pattern_of pattern ∷ []) }
+{
+    let mut patterns = Vec::new(alloc);
+    patterns.push(pattern)?;
+    Ok(patterns)
+}
+
+fn case_of(alloc: Global, at: usize, value: Expr, clauses: Vec<Clause>) -> Result<Expr, ReadFault>
+    ensures { BuildsUnlessMemory tree_of result (trees.Case at (tree_of value) (clauses_of clauses.items)) }
+{
+    let clauses = Clauses(clauses);
+    Ok(Expr::Case(Box::new(alloc, Case { at, value, clauses })?))
+}
+
+impl<'a> FormReader<'a> {
+    /// The guard of a clause and its body: `when expr -> expr`.
+    #[cycle(expressions)]
+    #[tactic(auto, unfolding(core_grammar::specs::inside::DecoderForms::guarded_at))]
+    fn guarded(&mut self, own: &Atom, levels: u16) -> Result<(Expr, Expr), ReadFault>
+        ensures { MovesUnlessMemory (λ p. (tree_of p.0, tree_of p.1)) result (state_in self.new) (guarded_at own.now levels (expression_at own.now levels) (state_in self.old)) }
+    {
+        self.parser.word(Keyword::When)?;
+        let guard = self.expression(own, levels)?;
+        let body = self.body(own, levels)?;
+        Ok((guard, body))
+    }
+
+    /// What stands after the patterns of a clause.
+    #[cycle(expressions)]
+    fn behind_patterns(
+        &mut self,
+        own: &Atom,
+        levels: u16,
+        patterns: Vec<Pattern>,
+    ) -> Result<Clause, ReadFault>
+        ensures { MovesUnlessMemory (λ c. c) result (state_in self.new) (behind_patterns_at own.now levels (expression_at own.now levels) (map pattern_of patterns.items) (state_in self.old)) }
+    {
+        let (guard, body) = self.guarded(own, levels)?;
+        Ok(Clause {
+            patterns: Patterns(patterns),
+            guard,
+            body,
+        })
+    }
+
+    /// The start of a clause as a clause.
+    #[cycle(expressions)]
+    fn clause_of(&mut self, own: &Atom, levels: u16, start: Start) -> Result<Clause, ReadFault>
+        ensures { MovesUnlessMemory (λ c. c) result (state_in self.new) (clause_of own.now levels (expression_at own.now levels) (start_of start) (state_in self.old)) }
+    {
+        match start {
+            Start::One(pattern) => {
+                let patterns = one_pattern(self.parser.alloc, pattern)?;
+                Ok(self.behind_patterns(own, levels, patterns)?)
+            }
+            Start::Many(patterns) => Ok(self.behind_patterns(own, levels, patterns)?),
+            Start::Whole(clause) => Ok(clause),
+        }
+    }
+
+    /// The start of a clause in the parentheses of an annotation: with `when` after its patterns it is the
+    /// whole clause.
+    #[cycle(expressions)]
+    fn started(&mut self, own: &Atom, levels: u16, start: Start) -> Result<Start, ReadFault>
+        ensures { MovesUnlessMemory start_of result (state_in self.new) (started own.now levels (expression_at own.now levels) (start_of start) (after_word When (state_in self.old).pieces) (state_in self.old)) }
+    {
+        if !self.parser.is_at_word(Keyword::When) {
+            return Ok(start);
+        }
+        Ok(Start::Whole(self.clause_of(own, levels, start)?))
+    }
+
+    /// What stands in the parentheses of an annotation of a clause or of its patterns.
+    #[cycle(expressions)]
+    #[tactic(auto, unfolding(core_grammar::specs::inside::DecoderForms::inside_start_at))]
+    fn inside_start(&mut self, own: &Atom, levels: u16) -> Result<Start, ReadFault>
+        ensures { MovesUnlessMemory start_of result (state_in self.new) (inside_start_at own.now levels (expression_at own.now levels) (start_at own.now levels) (state_in self.old)) }
+    {
+        let start = self.start(own, levels)?;
+        Ok(self.started(own, levels, start)?)
+    }
+
+    /// The start of a clause after the parentheses of an annotation: a variable may be that of an alias.
+    fn aliased(&mut self, own: &Atom, levels: u16, start: Start) -> Result<Start, ReadFault>
+        ensures { MovesUnlessMemory start_of result (state_in self.new) (aliased own.now levels (expression_at own.now levels) (start_of start) (state_in self.old)) }
+    {
+        match start {
+            Start::One(pattern) => Ok(Start::One(self.parser.alias(pattern, levels)?)),
+            Start::Many(patterns) => Ok(Start::Many(patterns)),
+            Start::Whole(clause) => Ok(Start::Whole(clause)),
+        }
+    }
+
+    /// A start of a clause in the parentheses of an annotation, and the end of the annotation.
+    #[cycle(expressions)]
+    #[tactic(auto, unfolding(core_grammar::specs::inside::Decoder::in_note_at))]
+    fn start_in_note(&mut self, own: &Atom, levels: u16) -> Result<Start, ReadFault>
+        ensures { MovesUnlessMemory start_of result (state_in self.new) (in_note_at (constant_at levels) (inside_start_at own.now levels (expression_at own.now levels) (start_at own.now levels)) (state_in self.old)) }
+    {
+        let start = self.inside_start(own, levels)?;
+        self.parser.note(levels).and(Ok(start))
+    }
+
+    /// A start of a clause in the parentheses of an annotation, whose parts stand at so many levels.
+    #[cycle(expressions)]
+    #[tactic(auto, unfolding(core_grammar::specs::inside::DecoderForms::noted_start_at))]
+    fn noted_start(&mut self, own: &Atom, levels: u16) -> Result<Start, ReadFault>
+        ensures { MovesUnlessMemory start_of result (state_in self.new) (noted_start_at own.now levels (expression_at own.now levels) (start_at own.now levels) (state_in self.old)) }
+    {
+        let start = self.start_in_note(own, levels)?;
+        Ok(self.aliased(own, levels, start)?)
+    }
+
+    /// Patterns that no parenthesis stands before.
+    #[tactic(auto, unfolding(core_grammar::specs::inside::DecoderForms::bare_start_at))]
+    fn bare_start(&mut self, levels: u16) -> Result<Start, ReadFault>
+        ensures { MovesUnlessMemory start_of result (state_in self.new) (bare_start_at levels (state_in self.old)) }
+    {
+        if self.parser.skip_mark(Mark::Less) {
+            return Ok(Start::Many(self.parser.patterns(levels, Mark::Greater)?));
+        }
+        Ok(Start::One(self.parser.pattern(levels)?))
+    }
+
+    /// What a clause begins with, annotated in at most so many levels.
+    #[cycle(expressions)]
+    fn start(&mut self, own: &Atom, levels: u16) -> Result<Start, ReadFault>
+        ensures { MovesUnlessMemory start_of result (state_in self.new) (start_at own.now levels (state_in self.old)) }
+    {
+        if !self.parser.opens_note(levels)? {
+            return Ok(self.bare_start(levels)?);
+        }
+        Ok(self.noted_start(own, levels - 1)?)
+    }
+
+    /// A clause whose parts have at most so many levels.
+    #[cycle(expressions)]
+    #[tactic(auto, unfolding(core_grammar::specs::inside::DecoderForms::clause_at))]
+    fn clause(&mut self, own: &Atom, levels: u16) -> Result<Clause, ReadFault>
+        ensures { MovesUnlessMemory (λ c. c) result (state_in self.new) (clause_at own.now levels (expression_at own.now levels) (start_at own.now levels) (state_in self.old)) }
+    {
+        let start = self.start(own, levels)?;
+        Ok(self.clause_of(own, levels, start)?)
+    }
+
+    /// The clauses as far as the `end`, of which the first was read before.
+    #[cycle(expressions)]
+    fn clauses(&mut self, own: &Atom, levels: u16, first: Clause) -> Result<Vec<Clause>, ReadFault>
+        ensures { MovesUnlessMemory (λ v. v.items) result (state_in self.new) (clauses_at own.now levels (expression_at own.now levels) (start_at own.now levels) first (state_in self.old)) }
+    {
+        let mut clauses = Vec::new(self.parser.alloc);
+        clauses.push(first)?;
+        let count = self.parser.tokens.len();
+        'clauses: for _taken in 0..count {
+            if self.parser.is_at_word(Keyword::End) {
+                return Ok(clauses);
+            }
+            clauses.push(self.clause(own, levels)?)?;
+        }
+        Err(self.parser.fault())
+    }
+
+    /// What stands after the value of a `case`.
+    #[cycle(expressions)]
+    #[tactic(auto, unfolding(core_grammar::specs::inside::DecoderForms::choices_at))]
+    fn choices(&mut self, own: &Atom, levels: u16) -> Result<Vec<Clause>, ReadFault>
+        ensures { MovesUnlessMemory (λ v. v.items) result (state_in self.new) (choices_at own.now levels (expression_at own.now levels) (start_at own.now levels) (state_in self.old)) }
+    {
+        self.parser.word(Keyword::Of)?;
+        let first = self.clause(own, levels)?;
+        let clauses = self.clauses(own, levels, first)?;
+        self.parser.word(Keyword::End)?;
+        Ok(clauses)
+    }
+
+    /// What stands after the `case` at `at`.
+    #[cycle(expressions)]
+    pub(crate) fn case(&mut self, own: &Atom, levels: u16, at: usize) -> Result<Expr, ReadFault>
+        ensures { MovesUnlessMemory tree_of result (state_in self.new) (case_at own.now levels (expression_at own.now levels) (start_at own.now levels) at (state_in self.old)) }
+    {
+        let value = self.expression(own, levels)?;
+        let clauses = self.choices(own, levels)?;
+        Ok(case_of(self.parser.alloc, at, value, clauses)?)
+    }
+}

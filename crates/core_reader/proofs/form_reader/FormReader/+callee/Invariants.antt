@@ -1,4 +1,0 @@
-use Rattle.core_reader.proofs.form_reader.FormReader.+callee.Given as goal
-
-abbrev pub decreases-callee : goal.decreases-callee
-decreases-callee l = l.levels

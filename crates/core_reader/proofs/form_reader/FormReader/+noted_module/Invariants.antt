@@ -1,4 +1,0 @@
-use Rattle.core_reader.proofs.form_reader.FormReader.+noted_module.Given as goal
-
-abbrev pub decreases-noted_module : goal.decreases-noted_module
-decreases-noted_module l = l.levels

@@ -1,0 +1,25 @@
+use Rattle.std.proofs.Common.{sym, ap, ◌∙◌, arith, Err}
+use Rattle.std.proofs.lemmas.Result.{err_from_is_err_and}
+use Rattle.core_grammar.specs.inside.DecoderModules.{attribute_at}
+use Rattle.core_reader.specs.inside.ReaderView.{state_in}
+use Rattle.core_grammar.specs.inside.Loops.{begins, goes_on, ends, fails, is_out, pieces_length}
+use Rattle.core_reader.proofs.grammar.ModuleReader.attribute_items.Goals as goal
+
+pub items-init : goal.items-init
+items-init c = rw c.new-items.ensures.items (begins (attribute_at c.args.levels) _ (state_in c.args.self.now) (sym (pieces_length c.args.self.now.forms.parser.tokens.now)))
+
+pub returns-in_err-attribute : goal.returns-in_err-attribute
+returns-in_err-attribute c =
+    let p = err_from_is_err_and c.from_residual.result c.from_residual.ensures.1 in
+    rw (p.1, p.2) (fails (attribute_at c.args.levels) _ c.items.items.items _ c.items._taken (state_in c.items.self) _ (omega arith) c.in_err-attribute.ensures c.items.invariant)
+
+pub returns-then-not-skip_mark : goal.returns-then-not-skip_mark
+returns-then-not-skip_mark c =
+    rw c.in_ok-push.ensures.items (ends (attribute_at c.args.levels) c.items.items.items _ c.items._taken (state_in c.items.self) (state_in c.attribute.new.self) _ _ _ (omega arith) c.in_ok-attribute.ensures c.if-not-skip_mark.ensures c.items.invariant)
+
+pub items-preserved : goal.items-preserved
+items-preserved c =
+    rw c.in_ok-push.ensures.items (goes_on (attribute_at c.args.levels) c.items.items.items _ c.items._taken (state_in c.items.self) (state_in c.attribute.new.self) _ _ _ (omega arith) c.in_ok-attribute.ensures c.if-not-skip_mark.ensures c.items.invariant)
+
+pub returns : goal.returns
+returns c = λ _. is_out (attribute_at c.args.levels) c.items.items.items _ c.items._taken (state_in c.items.self) _ (omega arith) c.items.invariant ∙ ap Err (sym c.fault.ensures)
