@@ -97,7 +97,7 @@ impl<'m> Bindings<'m> {
         for binding in &self.0 {
             copied.push(Binding {
                 name: binding.name,
-                value: binding.value.copy(alloc)?,
+                value: binding.value.copy()?,
             })?;
         }
         Ok(Bindings(copied))

@@ -32,7 +32,7 @@ pub(crate) fn enter<'m>(
         Expr::Integer(number) => Ok(Control::Return(Term::Int(*number))),
         Expr::Character(character) => Ok(Control::Return(Term::Int(*character as i64))),
         Expr::Text(characters) => text(alloc, characters),
-        Expr::Atom(atom) => Ok(Control::Return(Term::Atom(atom.copy(alloc)?))),
+        Expr::Atom(atom) => Ok(Control::Return(Term::Atom(atom.copy()?))),
         Expr::Variable(variable) => value_of(alloc, stack, variable),
         Expr::Tuple(parts) => enter_parts(alloc, stack, Purpose::Tuple, parts.0.as_slice()),
         Expr::List(items) => enter_parts(alloc, stack, Purpose::List, items.0.as_slice()),
@@ -70,7 +70,7 @@ fn value_of<'m>(
         GoesOn stack.old stack.new next (λ setting s. value_or_error (lookup variable.now.name (scope stack.old)) s) 3) }
 {
     match stack.lookup(variable.name.as_slice()) {
-        Some(value) => Ok(Control::Return(value.copy(alloc)?)),
+        Some(value) => Ok(Control::Return(value.copy()?)),
         None => error(alloc, "unbound"),
     }
 }

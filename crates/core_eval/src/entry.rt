@@ -17,7 +17,6 @@ use term_core::{Atom, Pid, Terms};
 /// The definition of the function that a process begins with: in this module, and but for the first
 /// process one that it exports.
 pub(crate) fn first_definition<'m>(
-    alloc: Global,
     program: &'m Module,
     pid: &Pid,
     module_name: &Atom,
@@ -32,11 +31,11 @@ pub(crate) fn first_definition<'m>(
         return Ok(None);
     };
     let function = FunctionName {
-        name: function_name.copy(alloc)?,
+        name: function_name.copy()?,
         arity,
     };
-    if program.name.0 == module_name.0
-        && (pid.0.is_empty() || is_exported(program.exports.as_slice(), &function))
+    if program.name == *module_name
+        && (pid.numbers().is_empty() || is_exported(program.exports.as_slice(), &function))
     {
         Ok(definition_of(program, &function))
     } else {

@@ -158,7 +158,7 @@ fn choose<'m>(
     let mut left = clauses;
     while let Some((clause, others)) = left.split_first() {
         let mut bindings = Bindings::new(alloc);
-        if matches_each(alloc, &clause.patterns, &values, &mut bindings)? {
+        if matches_each(&clause.patterns, &values, &mut bindings)? {
             stack.push(Frame::Guard(bindings, &clause.body, others, values))?;
             return Ok(Control::Evaluate(&clause.guard));
         }

@@ -63,7 +63,7 @@ pub fn start<'m>(
         StandsAt machine (ask program.now pid (entry module_name.now function_name.now arguments))) }
 {
     let mut stack = Stack::new(alloc);
-    let found = first_definition(alloc, program, &pid, module_name, function_name, &arguments)?;
+    let found = first_definition(program, &pid, module_name, function_name, &arguments)?;
     let control = begin(alloc, &mut stack, found, arguments)?;
     let request = run(alloc, program, &pid, &mut stack, control)?;
     Ok(Machine {
@@ -121,7 +121,7 @@ impl<'m> Machine<'m> {
         }
         Ok(Machine {
             program: self.program,
-            pid: self.pid.copy(alloc)?,
+            pid: self.pid.copy()?,
             stack: self.stack.copy(alloc)?,
             request: self.request.copy(alloc)?,
             is_spent: false,

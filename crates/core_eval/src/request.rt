@@ -41,7 +41,7 @@ impl Request {
         Ok(match self {
             Request::Call(kind, arguments) => Request::Call(*kind, arguments.copy(alloc)?),
             Request::Receive { waits } => Request::Receive { waits: *waits },
-            Request::End(reason) => Request::End(reason.copy(alloc)?),
+            Request::End(reason) => Request::End(reason.copy()?),
             Request::Runaway => Request::Runaway,
         })
     }

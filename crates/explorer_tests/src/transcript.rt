@@ -23,7 +23,7 @@ enum Word {
 }
 
 fn atom(alloc: Global, text: &str) -> Result<Term, AllocError> {
-    Ok(Term::Atom(Atom(String::from_str(alloc, text)?)))
+    Term::atom(alloc, text)
 }
 
 fn object(alloc: Global, text: &str) -> Result<Term, AllocError> {
@@ -36,7 +36,7 @@ fn list_of(alloc: Global, item: Term) -> Result<Term, AllocError> {
 }
 
 fn pid(alloc: Global, numbers: &[u64]) -> Result<Pid, AllocError> {
-    Ok(Pid(Vec::from_slice(alloc, numbers)?))
+    Pid::new(alloc, Vec::from_slice(alloc, numbers)?)
 }
 
 fn term(alloc: Global, word: Word) -> Result<Term, AllocError> {
@@ -46,10 +46,7 @@ fn term(alloc: Global, word: Word) -> Result<Term, AllocError> {
         Word::Object(text) => object(alloc, text),
         Word::ListOfObject(text) => list_of(alloc, object(alloc, text)?),
         Word::First => Ok(Term::Pid(pid(alloc, &[])?)),
-        Word::Reference => Ok(Term::Ref(RefId {
-            pid: pid(alloc, &[])?,
-            number: 1,
-        })),
+        Word::Reference => Ok(Term::Ref(RefId::new(alloc, pid(alloc, &[])?, 1)?)),
     }
 }
 

@@ -15,7 +15,7 @@ fn answer_to_none(alloc: Global, own: &Pid, call: PureCall) -> Result<Outcome, A
     ensures { IfOk result (λ outcome. outcome_of outcome ≡ answer_to_none own.now call) }
 {
     match call {
-        PureCall::OwnPid => Ok(Outcome::Value(Term::Pid(own.copy(alloc)?))),
+        PureCall::OwnPid => Ok(Outcome::Value(Term::Pid(own.copy()?))),
         _ => raise::undefined(alloc),
     }
 }

@@ -43,7 +43,7 @@ fn heads(alloc: Global, list: &Term) -> Result<Vec<Term>, AllocError>
     let mut copied = Vec::new(alloc);
     let mut rest = list;
     while let Some(pair) = rest.as_cell() {
-        copied.push(pair.head().copy(alloc)?)?;
+        copied.push(pair.head().copy()?)?;
         rest = pair.tail();
     }
     Ok(copied)
@@ -68,7 +68,7 @@ pub(crate) fn head_of(alloc: Global, term: &Term) -> Result<Outcome, AllocError>
     ensures { IfOk result (λ outcome. outcome_of outcome ≡ head_of (meaning_of term.now)) }
 {
     match term.as_cell() {
-        Some(pair) => Ok(Outcome::Value(pair.head().copy(alloc)?)),
+        Some(pair) => Ok(Outcome::Value(pair.head().copy()?)),
         None => refuse(alloc, Refusal::BadArgument),
     }
 }
@@ -78,7 +78,7 @@ pub(crate) fn tail_of(alloc: Global, term: &Term) -> Result<Outcome, AllocError>
     ensures { IfOk result (λ outcome. outcome_of outcome ≡ tail_of (meaning_of term.now)) }
 {
     match term.as_cell() {
-        Some(pair) => Ok(Outcome::Value(pair.tail().copy(alloc)?)),
+        Some(pair) => Ok(Outcome::Value(pair.tail().copy()?)),
         None => refuse(alloc, Refusal::BadArgument),
     }
 }
@@ -102,7 +102,7 @@ pub(crate) fn appended(alloc: Global, list: &Term, behind: &Term) -> Result<Outc
         return refuse(alloc, Refusal::BadArgument);
     }
     let items = heads(alloc, list)?;
-    Ok(Outcome::Value(list_onto(alloc, items, behind.copy(alloc)?)?))
+    Ok(Outcome::Value(list_onto(alloc, items, behind.copy()?)?))
 }
 
 /// The place of the first item that is equal to a term, from 0.

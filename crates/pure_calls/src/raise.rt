@@ -12,21 +12,21 @@ use term_core::Term;
 pub(crate) fn error_with(alloc: Global, reason: &Term) -> Result<Outcome, AllocError>
     ensures { IfOk result (λ outcome. outcome_of outcome ≡ error_with (meaning_of reason.now)) }
 {
-    Ok(Outcome::Raised(Class::Error, reason.copy(alloc)?))
+    Ok(Outcome::Raised(Class::Error, reason.copy()?))
 }
 
 /// An exit with this reason.
 pub(crate) fn exit_with(alloc: Global, reason: &Term) -> Result<Outcome, AllocError>
     ensures { IfOk result (λ outcome. outcome_of outcome ≡ exit_with (meaning_of reason.now)) }
 {
-    Ok(Outcome::Raised(Class::Exit, reason.copy(alloc)?))
+    Ok(Outcome::Raised(Class::Exit, reason.copy()?))
 }
 
 /// A term that is thrown.
 pub(crate) fn throw_of(alloc: Global, term: &Term) -> Result<Outcome, AllocError>
     ensures { IfOk result (λ outcome. outcome_of outcome ≡ throw_of (meaning_of term.now)) }
 {
-    Ok(Outcome::Raised(Class::Throw, term.copy(alloc)?))
+    Ok(Outcome::Raised(Class::Throw, term.copy()?))
 }
 
 /// The error of what there is no function for.

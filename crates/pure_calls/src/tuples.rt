@@ -34,7 +34,7 @@ pub(crate) fn copies(alloc: Global, terms: &[Term]) -> Result<Vec<Term>, AllocEr
 {
     let mut copied = Vec::with_capacity(alloc, terms.len())?;
     for term in terms {
-        copied.push(term.copy(alloc)?)?;
+        copied.push(term.copy()?)?;
     }
     Ok(copied)
 }
@@ -48,7 +48,7 @@ pub(crate) fn element(alloc: Global, index: &Term, term: &Term) -> Result<Outcom
     };
     let parts = parts.as_slice();
     match before_place(index, parts.len()) {
-        Some(before) => Ok(Outcome::Value(parts[before].copy(alloc)?)),
+        Some(before) => Ok(Outcome::Value(parts[before].copy()?)),
         None => refuse(alloc, Refusal::BadArgument),
     }
 }
@@ -68,7 +68,7 @@ fn tuple_with(alloc: Global, parts: &[Term], place: usize, value: &Term) -> Resu
     ensures { IfOk result (λ term. meaning_of term ≡ Tuple (meanings_of (slice_set (map meaning_of parts.now) place (meaning_of value.now)))) }
 {
     let mut replaced = copies(alloc, parts)?;
-    replace(&mut replaced, place, value.copy(alloc)?);
+    replace(&mut replaced, place, value.copy()?);
     Term::tuple(alloc, Terms::from_vec(replaced))
 }
 

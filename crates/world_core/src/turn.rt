@@ -54,7 +54,6 @@ fn badarg(alloc: Global) -> Result<Term, AllocError>
 
 /// The owner of the table that a refused call names, where the refusal reports it.
 fn told_owner(
-    alloc: Global,
     tables: &Tables,
     call: &TableCall<'_>,
     rule: Rule,
@@ -62,7 +61,7 @@ fn told_owner(
     ensures { IfOk result (λ owner. owner ≡ told_owner rule (owner_for (find_in tables.now) (call_of call.now))) }
 {
     match tables.owner(call) {
-        Some(owner) if rule.tells_owner() => Ok(Some(owner.copy(alloc)?)),
+        Some(owner) if rule.tells_owner() => Ok(Some(owner.copy()?)),
         _ => Ok(None),
     }
 }
@@ -88,7 +87,7 @@ fn serve<'m>(
         unreachable!()
     };
     if let Some(rule) = tables.judge(caller, &call) {
-        let owner = told_owner(alloc, tables, &call, rule)?;
+        let owner = told_owner(tables, &call, rule)?;
         machine.resume(alloc, Answer::Raise(badarg(alloc)?))?;
         return Ok(Deed::Refused {
             kind,
@@ -98,7 +97,7 @@ fn serve<'m>(
         });
     }
     let answer = tables.apply(alloc, caller, number, &call)?;
-    machine.resume(alloc, Answer::Value(answer.copy(alloc)?))?;
+    machine.resume(alloc, Answer::Value(answer.copy()?))?;
     Ok(Deed::Served {
         kind,
         arguments,

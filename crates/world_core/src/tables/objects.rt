@@ -73,7 +73,7 @@ fn insert_object(alloc: Global, rows: &mut Rows, parts: &Terms) -> Result<(), Al
     let Some(key) = parts.as_slice().first() else {
         return Ok(());
     };
-    let key = key.copy(alloc)?;
+    let key = key.copy()?;
     rows.insert(key, parts.copy(alloc)?)
 }
 

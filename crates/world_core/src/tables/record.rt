@@ -34,11 +34,8 @@ impl Table {
         ensures { IfOk result (λ table. found_in table ≡ made (Ref owner.now number) owner.now protection) }
     {
         Ok(Table {
-            reference: RefId {
-                pid: owner.copy(alloc)?,
-                number,
-            },
-            owner: owner.copy(alloc)?,
+            reference: RefId::new(alloc, owner.copy()?, number)?,
+            owner: owner.copy()?,
             protection,
             rows: Rows::new(alloc),
         })

@@ -159,7 +159,7 @@ impl Tables {
     {
         let table = Table::new(alloc, caller, number, settings.protection)?;
         let handle = handle_of(alloc, caller, number, name, settings)?;
-        let answer = handle.copy(alloc)?;
+        let answer = handle.copy()?;
         self.0.insert(handle, table)?;
         Ok(answer)
     }
@@ -209,8 +209,7 @@ fn handle_of(
     ensures { IfOk result (λ handle. meaning_of handle ≡ (if settings.is_named then meaning_of name.now else Ref caller.now number)) }
 {
     if settings.is_named {
-        return name.copy(alloc);
+        return name.copy();
     }
-    let pid = caller.copy(alloc)?;
-    Ok(Term::Ref(RefId { pid, number }))
+    Ok(Term::Ref(RefId::new(alloc, caller.copy()?, number)?))
 }
