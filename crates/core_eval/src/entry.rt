@@ -12,7 +12,7 @@ use crate::frame::Frame;
 use crate::stack::Stack;
 use core_tree::{Definition, FunctionName, Module, NamedFunction};
 use std::alloc::{AllocError, Global};
-use term_core::{Atom, Pid, Terms};
+use term_core::{Atom, Pid, Terms, Word};
 
 /// The definition of the function that a process begins with: in this module, and but for the first
 /// process one that it exports.
@@ -70,14 +70,14 @@ pub(crate) fn begin<'m>(
     ensures small { keeps_on_top stack.old ≡ false → IfOk result (λ _. keeps_once stack.new ≡ true) }
 {
     let Some(definition) = function else {
-        return error(alloc, "undef");
+        return Ok(error(Word::Undefined));
     };
     match Bindings::of(alloc, definition.parameters.as_slice(), arguments)? {
         Some(bindings) => {
             stack.push(Frame::Applied(bindings))?;
             Ok(Control::Evaluate(&definition.body))
         }
-        None => error(alloc, "value_count"),
+        None => Ok(error(Word::ValueCount)),
     }
 }
 
@@ -94,6 +94,6 @@ pub(crate) fn apply<'m>(
         Begins stack.old stack.new next (definition function.now program.now.definitions) arguments) }
     ensures small { IfOk result (λ _. keeps_once stack.new ≡ true) }
 {
-    stack.bare();
+    stack.bare(alloc)?;
     begin(alloc, stack, definition_of(program, function), arguments)
 }

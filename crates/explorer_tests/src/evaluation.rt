@@ -197,7 +197,7 @@ fn refused(alloc: Global, machine: &mut Machine) -> Result<Vec<u8>, Fail> {
 fn copied(alloc: Global, machine: &Machine) -> Result<Vec<u8>, Fail> {
     let mut other = machine.copy(alloc)?;
     let mut text = run_on(alloc, &mut other)?;
-    let last = other.request().copy(alloc)?;
+    let last = other.request().copy()?;
     text.extend_from_slice(text_of(alloc, &last)?.as_slice())?;
     Ok(text)
 }

@@ -3,6 +3,7 @@ use core_tree::CallKind;
 use explorer_engine::write_event;
 use std::alloc::{AllocError, Global};
 use std::process::Abort;
+use std::sync::Arc;
 use std::test::Fail;
 use term_core::{Atom, Pid, RefId, Step, Term, Terms, list_onto};
 use test_streams::MemorySink;
@@ -120,7 +121,7 @@ fn prints_served_calls(rt: HostRuntime) -> Result<(), Fail> {
     for (kind, arguments, answer, line) in SERVED {
         let deed = Deed::Served {
             kind,
-            arguments: terms(alloc, arguments)?,
+            arguments: Arc::new(alloc, terms(alloc, arguments)?)?,
             answer: term(alloc, answer)?,
         };
         prints(&rt, alloc, 3, &[2], deed, line)?;
@@ -192,7 +193,7 @@ fn prints_refused_calls(rt: HostRuntime) -> Result<(), Fail> {
         };
         let deed = Deed::Refused {
             kind: CallKind::Lookup,
-            arguments: terms(alloc, &[Word::Name("t"), Word::Name("a")])?,
+            arguments: Arc::new(alloc, terms(alloc, &[Word::Name("t"), Word::Name("a")])?)?,
             rule,
             owner,
         };

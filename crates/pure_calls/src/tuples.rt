@@ -40,16 +40,16 @@ pub(crate) fn copies(alloc: Global, terms: &[Term]) -> Result<Vec<Term>, AllocEr
 }
 
 /// `element` of a place and a tuple.
-pub(crate) fn element(alloc: Global, index: &Term, term: &Term) -> Result<Outcome, AllocError>
+pub(crate) fn element(index: &Term, term: &Term) -> Result<Outcome, AllocError>
     ensures { IfOk result (λ outcome. outcome_of outcome ≡ element (meaning_of index.now) (meaning_of term.now)) }
 {
     let Some(parts) = term.as_tuple() else {
-        return refuse(alloc, Refusal::BadArgument);
+        return Ok(refuse(Refusal::BadArgument));
     };
     let parts = parts.as_slice();
     match before_place(index, parts.len()) {
         Some(before) => Ok(Outcome::Value(parts[before].copy()?)),
-        None => refuse(alloc, Refusal::BadArgument),
+        None => Ok(refuse(Refusal::BadArgument)),
     }
 }
 
@@ -82,12 +82,12 @@ pub(crate) fn with_element(
     ensures { IfOk result (λ outcome. outcome_of outcome ≡ with_element (meaning_of index.now) (meaning_of term.now) (meaning_of value.now)) }
 {
     let Some(parts) = term.as_tuple() else {
-        return refuse(alloc, Refusal::BadArgument);
+        return Ok(refuse(Refusal::BadArgument));
     };
     let parts = parts.as_slice();
     match before_place(index, parts.len()) {
         Some(place) => Ok(Outcome::Value(tuple_with(alloc, parts, place, value)?)),
-        None => refuse(alloc, Refusal::BadArgument),
+        None => Ok(refuse(Refusal::BadArgument)),
     }
 }
 
@@ -106,7 +106,7 @@ pub(crate) fn list_of_tuple(alloc: Global, term: &Term) -> Result<Outcome, Alloc
     ensures { IfOk result (λ outcome. outcome_of outcome ≡ list_of_tuple (meaning_of term.now)) }
 {
     let Some(parts) = term.as_tuple() else {
-        return refuse(alloc, Refusal::BadArgument);
+        return Ok(refuse(Refusal::BadArgument));
     };
     let items = copies(alloc, parts.as_slice())?;
     Ok(Outcome::Value(list_onto(alloc, items, Term::Nil)?))

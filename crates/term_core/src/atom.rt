@@ -1,24 +1,36 @@
 // Atoms.
 ghost use Rattle.std.specs.Prelude.{◌≡◌, IfOk, string_bytes};
+ghost use Rattle.term_core.specs.Words.{text_of_word};
 
+use crate::word::Word;
 use std::alloc::{AllocError, Global};
 use std::marker::Model;
 use std::sync::Arc;
+
+/// Where the text of an atom lies.
+#[derive(Drop)]
+pub(crate) enum Text {
+    /// In the program itself.
+    Known(Word),
+    /// In memory that its copies share.
+    Shared(Arc<String>),
+}
 
 /// An atom, which is its text. Contracts see it as the list of the text's UTF-8 bytes, whose order is
 /// the order of its characters (Core Erlang 1.0.3, "Atom"; the Erlang reference manual, "Atom"). Copies
 /// share the text.
 #[derive(Drop)]
 pub struct Atom {
-    pub(crate) text: Arc<String>,
+    pub(crate) text: Text,
 }
 
 impl Model for Atom {
-    ghost use Rattle.std.specs.Prelude.{ℕ, List, string_bytes};
+    ghost use Rattle.std.specs.Prelude.{ℕ, List};
+    ghost use Rattle.term_core.specs.inside.AtomTexts.{text_in};
 
     ghost Value = { List ℕ };
 
-    ghost view = { λ a. string_bytes a.text.value };
+    ghost view = { λ a. text_in a.text };
 }
 
 impl Atom {
@@ -35,14 +47,26 @@ impl Atom {
         ensures { IfOk result (λ atom. atom ≡ string_bytes text) }
     {
         Ok(Atom {
-            text: Arc::new(alloc, text)?,
+            text: Text::Shared(Arc::new(alloc, text)?),
         })
+    }
+
+    /// The atom of a word of the language. It takes no memory.
+    pub fn from_word(word: Word) -> Atom
+        ensures { result ≡ text_of_word word }
+    {
+        Atom {
+            text: Text::Known(word),
+        }
     }
 
     /// The text.
     pub fn as_str(&self) -> &str
         ensures { result.now ≡ self.now }
     {
-        self.text.as_str()
+        match &self.text {
+            Text::Known(word) => word.text(),
+            Text::Shared(text) => text.as_str(),
+        }
     }
 }

@@ -4,7 +4,7 @@
 ghost use Rattle.std.specs.Prelude.{◌≡◌, IfOk};
 ghost use Rattle.term_core.specs.Term.{meaning_of};
 
-use crate::atom::Atom;
+use crate::atom::{Atom, Text};
 use crate::pid::{Pid, RefId};
 use crate::step::Step;
 use crate::term::{Term, Terms};
@@ -16,9 +16,11 @@ impl Atom {
     pub fn copy(&self) -> Result<Atom, AllocError>
         ensures { IfOk result (λ copied. copied ≡ self.now) }
     {
-        Ok(Atom {
-            text: Arc::try_clone(&self.text)?,
-        })
+        let text = match &self.text {
+            Text::Known(word) => Text::Known(*word),
+            Text::Shared(text) => Text::Shared(Arc::try_clone(text)?),
+        };
+        Ok(Atom { text })
     }
 }
 

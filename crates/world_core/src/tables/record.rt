@@ -42,9 +42,9 @@ impl Table {
     }
 
     /// Puts objects into the table, or fails with `AllocError` if there is no memory for it.
-    pub(crate) fn insert(&mut self, alloc: Global, objects: &Term) -> Result<(), AllocError>
+    pub(crate) fn insert(&mut self, objects: &Term) -> Result<(), AllocError>
         ensures { OnOk result ((os : List Meaning) → objects_of (meaning_of objects.now) ≡ Some os → found_in self.new ≡ filled os (found_in self.old)) }
     {
-        insert_objects(alloc, &mut self.rows, objects)
+        insert_objects(&mut self.rows, objects)
     }
 }

@@ -6,5 +6,5 @@ use Rattle.world_core.proofs.turn.serve.Goals as goal
 
 pub returns-clause-served : goal.returns-clause-served
 returns-clause-served c = λ h.
-    served h c.args.caller.now c.args.number c.args.kind c.args.arguments (call_of c.in-Some.call) (meaning_of c.in_ok-answer.answer) c.args.tables.now c.apply.new.self
+    served h c.args.caller.now c.args.number c.args.kind c.args.arguments.value (call_of c.in-Some.call) (meaning_of c.in_ok-answer.answer) c.args.tables.now c.apply.new.self
     (sym c.in-Some.ensures) (sym c.in_default-judge.ensures) c.in_ok-answer.ensures.answer c.in_ok-answer.ensures.tables
