@@ -1,5 +1,5 @@
 #!/usr/bin/env python3
-"""Measures the built program on long modules and on long evaluations.
+"""Measures the built program on long modules, long evaluations and long schedules.
 
     benchmarks/measure.py [--program PATH] [--runs N]
 
@@ -26,13 +26,13 @@ DEPTH = 998
 
 
 class Row(NamedTuple):
-    """A module by its size, the schedule, and the transcript that has to come."""
+    """A module, a schedule and the transcript that has to come, each by the size."""
 
     name: str
     size: int
     module: Callable[[int], str]
-    schedule: str
-    transcript: str
+    schedule: Callable[[int], str]
+    transcript: Callable[[int], str]
 
 
 class Figure(NamedTuple):
@@ -130,55 +130,126 @@ def difference(size: int) -> str:
     return module(body, BUILD)
 
 
-NOTHING = ""
-NORMAL = "1 P ends 'normal'\n"
-TOO_LARGE = "1 P ends {'system_limit',[]}\n"
+FILL = """'fill'/1 = fun (N) ->
+  do call 'ets':'insert'('t',{N,N})
+  do call 'ets':'lookup'('t',N)
+  apply 'fill'/1(call 'erlang':'+'(N,1))"""
+
+SUM = """'sum'/2 = fun (N,Sum) ->
+  case N of
+    <0> when 'true' -> Sum
+    <M> when call 'erlang':'=:='(call 'erlang':'rem'(M,2),0) ->
+      apply 'sum'/2(call 'erlang':'-'(M,1),call 'erlang':'+'(Sum,M))
+    <M> when call 'erlang':'>'(M,0) ->
+      apply 'sum'/2(call 'erlang':'-'(M,1),call 'erlang':'-'(Sum,M))
+  end
+'rounds'/0 = fun () ->
+  let <Sum> = apply 'sum'/2(9990,0) in
+  do call 'ets':'lookup'('t',Sum)
+  apply 'rounds'/0()"""
+
+NEW = "call 'ets':'new'('t',['named_table'])"
+
+
+def fill(_turns: int) -> str:
+    """A table that grows by a row every second turn."""
+    return module(f"do {NEW} apply 'fill'/1(0)", FILL)
+
+
+def filled(turns: int) -> str:
+    lines = ["ets:new('t',['named_table']) -> 't'"]
+    for key in range(turns // 2):
+        lines.append(f"ets:insert('t',{{{key},{key}}}) -> 'true'")
+        lines.append(f"ets:lookup('t',{key}) -> [{{{key},{key}}}]")
+    return "".join(f"{place} P {line}\n" for place, line in enumerate(lines[:turns], 1))
+
+
+def rounds(_turns: int) -> str:
+    """Before each turn but the first, 9,990 applications of a sum with a case, guards and arithmetic."""
+    return module(f"do {NEW} apply 'rounds'/0()", SUM)
+
+
+def looked_up(turns: int) -> str:
+    first = "1 P ets:new('t',['named_table']) -> 't'\n"
+    later = (f"{place} P ets:lookup('t',4995) -> []\n" for place in range(2, turns + 1))
+    return first + "".join(later)
+
+
+def turns_of_first(turns: int) -> str:
+    return " ".join(["P"] * turns)
+
+
+def no_step(_size: int) -> str:
+    return ""
+
+
+def one_step(_size: int) -> str:
+    return "P"
+
+
+def nothing(_size: int) -> str:
+    return ""
+
+
+def normal(_size: int) -> str:
+    return "1 P ends 'normal'\n"
+
+
+def too_large(_size: int) -> str:
+    return "1 P ends {'system_limit',[]}\n"
 
 READING = [
-    Row("items of a list, each annotated", MODULE_BYTES, unused(annotated_items), "", NOTHING),
-    Row("lists nested 998 deep, side by side", MODULE_BYTES, unused(nested_lists), "", NOTHING),
-    Row("annotations nested 998 deep", MODULE_BYTES, unused(nested_annotations), "", NOTHING),
-    Row("one string", MODULE_BYTES, unused(string), "", NOTHING),
-    Row("one list of integers", MODULE_BYTES, unused(integers), "", NOTHING),
-    Row("definitions, their number", 50_000, definitions, "", NOTHING),
+    Row("items of a list, each annotated", MODULE_BYTES, unused(annotated_items), no_step, nothing),
+    Row("lists nested 998 deep, side by side", MODULE_BYTES, unused(nested_lists), no_step, nothing),
+    Row("annotations nested 998 deep", MODULE_BYTES, unused(nested_annotations), no_step, nothing),
+    Row("one string", MODULE_BYTES, unused(string), no_step, nothing),
+    Row("one list of integers", MODULE_BYTES, unused(integers), no_step, nothing),
+    Row("definitions, their number", 50_000, definitions, no_step, nothing),
 ]
 
 BUILDING = [
-    Row("lists nested 998 deep", MODULE_BYTES, evaluated(nested_lists), "P", TOO_LARGE),
-    Row("one string", MODULE_BYTES, evaluated(string), "P", TOO_LARGE),
-    Row("one list of integers", MODULE_BYTES, evaluated(integers), "P", TOO_LARGE),
+    Row("lists nested 998 deep", MODULE_BYTES, evaluated(nested_lists), one_step, too_large),
+    Row("one string", MODULE_BYTES, evaluated(string), one_step, too_large),
+    Row("one list of integers", MODULE_BYTES, evaluated(integers), one_step, too_large),
 ]
 
 EVALUATION = [
-    Row("a function that applies itself at its end", 9_999, count_down, "P", NORMAL),
-    Row("1 + f(N - 1), nested", 9_999, add_up, "P", NORMAL),
-    Row("a list built and reversed by own functions", 4_000, own_reverse, "P", NORMAL),
-    Row("a list built, and reversed by `lists:reverse`", 4_000, listed_reverse, "P", NORMAL),
-    Row("`--` of a list and its reverse", 4_990, difference, "P", NORMAL),
+    Row("a function that applies itself at its end", 9_999, count_down, one_step, normal),
+    Row("1 + f(N - 1), nested", 9_999, add_up, one_step, normal),
+    Row("a list built and reversed by own functions", 4_000, own_reverse, one_step, normal),
+    Row("a list built, and reversed by `lists:reverse`", 4_000, listed_reverse, one_step, normal),
+    Row("`--` of a list and its reverse", 4_990, difference, one_step, normal),
 ]
 
 
-def run(program: Path, row: Row, text: bytes) -> Figure:
+SCHEDULES = [
+    Row("`insert` and `lookup` in turns, the table growing", 60_000, fill, turns_of_first, filled),
+    Row("9,990 applications before each turn", 40, rounds, turns_of_first, looked_up),
+]
+
+
+def run(program: Path, row: Row, size: int) -> Figure:
     """One run of the program; its memory is told when it is waited for."""
+    text, schedule = row.module(size).encode(), row.schedule(size)
     with tempfile.TemporaryFile() as source, tempfile.TemporaryFile() as sink:
         source.write(text)
         source.seek(0)
         began = time.monotonic()
-        child = subprocess.Popen([program, "replay", row.schedule], stdin=source, stdout=sink)
+        child = subprocess.Popen([program, "replay", schedule], stdin=source, stdout=sink)
         _, status, usage = os.wait4(child.pid, 0)
         seconds = time.monotonic() - began
         child.returncode = os.waitstatus_to_exitcode(status)
         sink.seek(0)
         transcript = sink.read().decode()
-    if child.returncode != 0 or transcript != row.transcript:
-        sys.exit(f"{row.name}: status {child.returncode}, it printed {transcript!r}")
+    if child.returncode != 0 or transcript != row.transcript(size):
+        sys.exit(f"{row.name}: status {child.returncode}, it printed {transcript[:200]!r}")
     return Figure(seconds, usage.ru_maxrss / 1024)
 
 
 def fastest(program: Path, row: Row, runs: int) -> Tuple[Figure, Figure]:
     """The half and the whole, in turns, so that what else the machine does falls on both."""
-    texts = [row.module(size).encode() for size in (row.size // 2, row.size)]
-    halves, wholes = zip(*([run(program, row, text) for text in texts] for _ in range(runs)))
+    sizes = (row.size // 2, row.size)
+    halves, wholes = zip(*([run(program, row, size) for size in sizes] for _ in range(runs)))
     return min(halves), min(wholes)
 
 
@@ -216,6 +287,7 @@ def main() -> None:
     print_table(words.program, "read, bytes", READING, words.runs)
     print_table(words.program, "evaluated until it is too large, bytes", BUILDING, words.runs)
     print_table(words.program, "evaluated in one turn, items", EVALUATION, words.runs)
+    print_table(words.program, "replayed, turns", SCHEDULES, words.runs)
 
 
 if __name__ == "__main__":

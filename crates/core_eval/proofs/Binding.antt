@@ -20,13 +20,14 @@ values_of items = reverse (map meaning_of items)
 pub values_of-last : (items : List Term) (value : Term) → values_of (items ++ value ∷ []) ≡ meaning_of value ∷ values_of items
 values_of-last items value = ap reverse (map-append meaning_of items (value ∷ [])) ∙ reverse-append (map meaning_of items) (meaning_of value ∷ [])
 
-map-reverse : (items : List Term) → map meaning_of (reverse items) ≡ reverse (map meaning_of items)
-map-reverse [] = refl
-map-reverse (t ∷ ts) = ap (map meaning_of) (reverse-append (t ∷ []) ts) ∙ map-append meaning_of (reverse ts) (t ∷ []) ∙ ap (λ ms. ms ++ meaning_of t ∷ []) (map-reverse ts) ∙ sym (reverse-append (meaning_of t ∷ []) (map meaning_of ts))
+-- what is made of each of some items the other way round
+pub map-reverse : {A B : Type 0} (f : A → B) (items : List A) → map f (reverse items) ≡ reverse (map f items)
+map-reverse f [] = refl
+map-reverse f (x ∷ xs) = ap (map f) (reverse-append (x ∷ []) xs) ∙ map-append f (reverse xs) (x ∷ []) ∙ ap (λ ys. ys ++ f x ∷ []) (map-reverse f xs) ∙ sym (reverse-append (f x ∷ []) (map f xs))
 
 -- the values the other way round are those that are left
 pub values_of-reversed : (items reversed : List Term) (values : List Meaning) → map meaning_of items ≡ values → reversed ≡ reverse items → values_of reversed ≡ values
-values_of-reversed items reversed values e f = ap values_of f ∙ ap reverse (map-reverse items) ∙ reverse-reverse (map meaning_of items) ∙ e
+values_of-reversed items reversed values e f = ap values_of f ∙ ap reverse (map-reverse meaning_of items) ∙ reverse-reverse (map meaning_of items) ∙ e
 
 -- one more is bound
 pub binds_next : (left others : List Mention) (v : Mention) (items later : List Term) (value : Term) (before : Environment) (all : Option Environment) → left ≡ v ∷ others → items ≡ later ++ value ∷ [] → bound left (values_of items) before ≡ all → bound others (values_of later) ((v.name, meaning_of value) ∷ before) ≡ all
@@ -66,30 +67,49 @@ lookup_here name (b ∷ bs) env m e = here_by (pointwise ◌==◌ b.0 name) b.1 
 holes_of-last : (frames : List Frame) (frame : Frame) → holes_of (frames ++ frame ∷ []) ≡ hole_of frame ∷ holes_of frames
 holes_of-last frames frame = ap reverse (map-append hole_of frames (frame ∷ [])) ∙ reverse-append (map hole_of frames) (hole_of frame ∷ [])
 
-module _ (frames : List Frame) (left : ℕ) (frame : Frame) (lt : 0 < left) (le : left ≤ length frames) (is : frame ≡ get_or frames (left - 1) frame) where
-  top_frame : holes_of (take left frames) ≡ hole_of frame ∷ holes_of (take (left - 1) frames)
+module _ (frames : List Frame) (below : List Hole) (left : ℕ) (frame : Frame) (lt : 0 < left) (le : left ≤ length frames) (is : frame ≡ get_or frames (left - 1) frame) where
+  top_frame : holes_of (take left frames) ++ below ≡ hole_of frame ∷ (holes_of (take (left - 1) frames) ++ below)
   top_frame =
       let again : left ≡ left - 1 + 1 = omega (arith, lt) in
-      ap (λ (n : ℕ). holes_of (take n frames)) again
+      ap (λ (hs : List Hole). hs ++ below)
+      (ap (λ (n : ℕ). holes_of (take n frames)) again
       ∙ ap holes_of (take_more frames (left - 1) frame (omega (arith, lt, le)))
       ∙ ap (λ (f : Frame). holes_of (take (left - 1) frames ++ f ∷ [])) (sym is)
-      ∙ holes_of-last (take (left - 1) frames) frame
+      ∙ holes_of-last (take (left - 1) frames) frame)
 
   -- the variables below the top frame, where it hides them or not
   abbrev seen_below : Bool → Environment
-  seen_below b = if b then [] else scope (holes_of (take (left - 1) frames))
+  seen_below b = if b then [] else scope (holes_of (take (left - 1) frames) ++ below)
 
-  pub found_in_frame : (name : List ℕ) (m : Meaning) → lookup name (kept_in (hole_of frame)) ≡ Some m → lookup name (scope (holes_of (take left frames))) ≡ Some m
+  pub found_in_frame : (name : List ℕ) (m : Meaning) → lookup name (kept_in (hole_of frame)) ≡ Some m → lookup name (scope (holes_of (take left frames) ++ below)) ≡ Some m
   found_in_frame name m e = ap (λ (hs : List Hole). lookup name (scope hs)) top_frame ∙ lookup_here name (kept_in (hole_of frame)) (seen_below (hides (hole_of frame))) m e
 
-  beyond_frame : (name : List ℕ) (b : Bool) → lookup name (kept_in (hole_of frame)) ≡ None → hides (hole_of frame) ≡ b → lookup name (scope (holes_of (take left frames))) ≡ lookup name (seen_below b)
+  beyond_frame : (name : List ℕ) (b : Bool) → lookup name (kept_in (hole_of frame)) ≡ None → hides (hole_of frame) ≡ b → lookup name (scope (holes_of (take left frames) ++ below)) ≡ lookup name (seen_below b)
   beyond_frame name b e h =
       ap (λ (hs : List Hole). lookup name (scope hs)) top_frame
       ∙ lookup_over name (kept_in (hole_of frame)) (seen_below (hides (hole_of frame))) e
       ∙ ap (λ (c : Bool). lookup name (seen_below c)) h
 
-  pub not_in_frame : (name : List ℕ) → lookup name (kept_in (hole_of frame)) ≡ None → hides (hole_of frame) ≡ false → lookup name (scope (holes_of (take left frames))) ≡ lookup name (scope (holes_of (take (left - 1) frames)))
+  pub not_in_frame : (name : List ℕ) → lookup name (kept_in (hole_of frame)) ≡ None → hides (hole_of frame) ≡ false → lookup name (scope (holes_of (take left frames) ++ below)) ≡ lookup name (scope (holes_of (take (left - 1) frames) ++ below))
   not_in_frame name e h = beyond_frame name false e h
 
-  pub hidden_by_frame : (name : List ℕ) → lookup name (kept_in (hole_of frame)) ≡ None → hides (hole_of frame) ≡ true → lookup name (scope (holes_of (take left frames))) ≡ None
+  pub hidden_by_frame : (name : List ℕ) → lookup name (kept_in (hole_of frame)) ≡ None → hides (hole_of frame) ≡ true → lookup name (scope (holes_of (take left frames) ++ below)) ≡ None
   hidden_by_frame name e h = beyond_frame name true e h
+
+-- ---- layers
+
+-- the variables below a hole, where it hides them or not
+abbrev beyond_by : Bool → List Hole → Environment
+beyond_by b below = if b then [] else scope below
+
+pub found_on_top : (name : List ℕ) (hole : Hole) (below : List Hole) (m : Meaning) → lookup name (kept_in hole) ≡ Some m → lookup name (scope (hole ∷ below)) ≡ Some m
+found_on_top name hole below m e = lookup_here name (kept_in hole) (beyond_by (hides hole) below) m e
+
+beyond_top : (name : List ℕ) (hole : Hole) (below : List Hole) (b : Bool) → lookup name (kept_in hole) ≡ None → hides hole ≡ b → lookup name (scope (hole ∷ below)) ≡ lookup name (beyond_by b below)
+beyond_top name hole below b e h = lookup_over name (kept_in hole) (beyond_by (hides hole) below) e ∙ ap (λ (c : Bool). lookup name (beyond_by c below)) h
+
+pub not_on_top : (name : List ℕ) (hole : Hole) (below : List Hole) → lookup name (kept_in hole) ≡ None → hides hole ≡ false → lookup name (scope (hole ∷ below)) ≡ lookup name (scope below)
+not_on_top name hole below e h = beyond_top name hole below false e h
+
+pub hidden_by_top : (name : List ℕ) (hole : Hole) (below : List Hole) → lookup name (kept_in hole) ≡ None → hides hole ≡ true → lookup name (scope (hole ∷ below)) ≡ None
+hidden_by_top name hole below e h = beyond_top name hole below true e h

@@ -18,14 +18,12 @@ pub limited_error-over : (m : Meaning) (s : State) → node_limit < node_count m
 limited_error-over m s h = grind arith
 
 -- what is an error means the same as the error
-pub same_error : (r : Result Control AllocError) (text : List ℕ) (got : State → Outcome) → IfOk r (λ next. (setting : Setting) (holes : List Hole) (s : State) → going setting holes next s ≡ through setting holes (error text s)) → ((s : State) → got s ≡ error text s) → IfOk r (λ next. (setting : Setting) (holes : List Hole) (s : State) → going setting holes next s ≡ through setting holes (got s))
-same_error (Ok next) text got h e = λ setting holes s. h setting holes s ∙ ap (through setting holes) (sym (e s))
-same_error (Err e) text got h f = tt
+pub same_error : (next : Control) (text : List ℕ) (got : State → Outcome) → ((setting : Setting) (holes : List Hole) (s : State) → going setting holes next s ≡ through setting holes (error text s)) → ((s : State) → got s ≡ error text s) → (setting : Setting) (holes : List Hole) (s : State) → going setting holes next s ≡ through setting holes (got s)
+same_error next text got h e setting holes s = h setting holes s ∙ ap (through setting holes) (sym (e s))
 
 -- and so the machine goes on with it
-pub goes_on : (r : Result Control AllocError) (text : List ℕ) (got : Setting → State → Outcome) (old : List Hole) (left : ℕ) → IfOk r (λ next. (setting : Setting) (holes : List Hole) (s : State) → going setting holes next s ≡ through setting holes (error text s)) → IfOk r (λ next. load next ≡ 0) → ((setting : Setting) (s : State) → got setting s ≡ error text s) → 0 < left → IfOk r (λ next. GoesOn old old next got left)
-goes_on (Ok next) text got old left h l e p = record { same = λ setting s. h setting old s ∙ ap (through setting old) (sym (e setting s)); less = omega (arith, l) }
-goes_on (Err e) text got old left h l f p = tt
+pub goes_on : (next : Control) (text : List ℕ) (got : Setting → State → Outcome) (old : List Hole) (left : ℕ) → ((setting : Setting) (holes : List Hole) (s : State) → going setting holes next s ≡ through setting holes (error text s)) → load next ≡ 0 → ((setting : Setting) (s : State) → got setting s ≡ error text s) → 0 < left → GoesOn old old next got left
+goes_on next text got old left h l e p = record { same = λ setting s. h setting old s ∙ ap (through setting old) (sym (e setting s)); less = omega (arith, l) }
 
 -- where one value is wanted, any other number is an error
 miscounted : (go : Meaning → State → Outcome) (vs : List Meaning) (s : State) → (length vs ≡ 1 → ⊥) → one go vs s ≡ error (codes "value_count") s
@@ -53,8 +51,8 @@ filled-miscounted setting (holes.Kept bindings) env vs s w h = absurd w
 filled-miscounted setting (holes.Applied bindings) env vs s w h = absurd w
 
 -- a term in place of one that it is equal to
-pub same_limited : (r : Result Control AllocError) (m n : Meaning) → m ≡ n → IfOk r (λ next. (setting : Setting) (holes : List Hole) (s : State) → going setting holes next s ≡ through setting holes (limited m s)) → IfOk r (λ next. (setting : Setting) (holes : List Hole) (s : State) → going setting holes next s ≡ through setting holes (limited n s))
-same_limited r m n e h = subst (λ (x : Meaning). IfOk r (λ next. (setting : Setting) (holes : List Hole) (s : State) → going setting holes next s ≡ through setting holes (limited x s))) e h
+pub same_limited : (next : Control) (m n : Meaning) → m ≡ n → ((setting : Setting) (holes : List Hole) (s : State) → going setting holes next s ≡ through setting holes (limited m s)) → (setting : Setting) (holes : List Hole) (s : State) → going setting holes next s ≡ through setting holes (limited n s)
+same_limited next m n e h = subst (λ (x : Meaning). (setting : Setting) (holes : List Hole) (s : State) → going setting holes next s ≡ through setting holes (limited x s)) e h
 
 -- what means this on top of every stack goes on with it
 pub enters : (r : Result Control AllocError) (old : List Hole) (got : Setting → State → Outcome) (left : ℕ) → IfOk r (λ next. (setting : Setting) (holes : List Hole) (s : State) → going setting holes next s ≡ through setting holes (got setting s)) → IfOk r (λ next. load next ≤ 2) → 2 < left → IfOk r (λ next. GoesOn old old next got left)
@@ -62,8 +60,8 @@ enters (Ok next) old got left h l p = record { same = λ setting s. h setting ol
 enters (Err e) old got left h l p = tt
 
 -- the same of an error's reason
-pub same_limited_error : (r : Result Control AllocError) (m n : Meaning) → m ≡ n → IfOk r (λ next. (setting : Setting) (holes : List Hole) (s : State) → going setting holes next s ≡ through setting holes (limited_error m s)) → IfOk r (λ next. (setting : Setting) (holes : List Hole) (s : State) → going setting holes next s ≡ through setting holes (limited_error n s))
-same_limited_error r m n e h = subst (λ (x : Meaning). IfOk r (λ next. (setting : Setting) (holes : List Hole) (s : State) → going setting holes next s ≡ through setting holes (limited_error x s))) e h
+pub same_limited_error : (next : Control) (m n : Meaning) → m ≡ n → ((setting : Setting) (holes : List Hole) (s : State) → going setting holes next s ≡ through setting holes (limited_error m s)) → (setting : Setting) (holes : List Hole) (s : State) → going setting holes next s ≡ through setting holes (limited_error n s)
+same_limited_error next m n e h = subst (λ (x : Meaning). (setting : Setting) (holes : List Hole) (s : State) → going setting holes next s ≡ through setting holes (limited_error x s)) e h
 
 -- a trace is a tuple of two
 pub no_trace : (ms : List Meaning) → (length ms ≡ 2 → ⊥) → class_in (Tuple (meanings_of ms)) ≡ None

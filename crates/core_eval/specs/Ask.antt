@@ -1,5 +1,5 @@
 -- What a process of a module asks of the world, after the answers that it got so far.
-use Rattle.std.specs.Prelude.{ℕ, Bool, true, false, ◌==◌, ◌&&◌, ◌||◌, List, [], ◌∷◌, Option, None, if◌then◌else◌, nat_le, length, codes}
+use Rattle.std.specs.Prelude.{ℕ, Bool, true, false, ◌&&◌, ◌||◌, List, [], ◌∷◌, Option, None, if◌then◌else◌, nat_le, length, codes}
 use Rattle.std.specs.List.{list_any}
 use Rattle.term_core.specs.Kinds.{same_text}
 use Rattle.core_tree.specs.Syntax.{Mention, Tree, Function, NamedAt, ModuleTree}

@@ -1,6 +1,6 @@
 -- A stack of what is still to do, as contracts see it: each item is an expression with one part left out, and says what the whole gives once the part is there.
 use Rattle.std.specs.Prelude.{Bool, true, false, if◌then◌else◌, List, [], ◌∷◌, ◌++◌, length}
-use Rattle.core_tree.specs.Syntax.{Mention, Callee, Tree, ClauseTree, trees_of, clauses_of}
+use Rattle.core_tree.specs.Syntax.{Mention, Tree, ClauseTree, trees_of, clauses_of}
 use Rattle.term_core.specs.Meaning.{Meaning, Tuple, Nil, meanings_of}
 use Rattle.term_core.specs.Term.{list_onto}
 use Rattle.core_eval.specs.Asked.{Asked, Call, Receive, End, Runaway, Answered}

@@ -8,7 +8,7 @@ pub use Rattle.core_eval.specs.Asked.{Asked, Call, Receive, End, Runaway, Answer
 
 -- a request, without where it lies in memory
 abbrev pub asked_of : Request → Asked
-asked_of (requests.Call kind arguments) = Call kind arguments
+asked_of (requests.Call kind arguments) = Call kind arguments.value
 asked_of (requests.Receive waits) = Receive waits
 asked_of (requests.End reason) = End (meaning_of reason)
 asked_of requests.Runaway = Runaway

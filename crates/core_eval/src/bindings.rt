@@ -41,6 +41,13 @@ impl<'m> Bindings<'m> {
         Bindings(Vec::new(alloc))
     }
 
+    /// No variable, with room for so many, or `AllocError` if there is no memory for it.
+    fn with_room(alloc: Global, count: usize) -> Result<Bindings<'m>, AllocError>
+        ensures { IfOk result (λ bindings. bindings ≡ []) }
+    {
+        Ok(Bindings(Vec::with_capacity(alloc, count)?))
+    }
+
     /// One more variable, the innermost.
     pub(crate) fn push(&mut self, name: &'m [u8], value: Term) -> Result<(), AllocError>
         ensures { OnOk result (self.new ≡ (name.now, meaning_of value) ∷ self.old) }
@@ -57,7 +64,7 @@ impl<'m> Bindings<'m> {
     ) -> Result<Option<Bindings<'m>>, AllocError>
         ensures { IfOk result (λ bindings. bindings ≡ bound variables.now values []) }
     {
-        let mut bindings = Bindings::new(alloc);
+        let mut bindings = Bindings::with_room(alloc, variables.len())?;
         let mut left = variables;
         let mut later = values.into_vec();
         later.reverse();
@@ -97,7 +104,7 @@ impl<'m> Bindings<'m> {
         for binding in &self.0 {
             copied.push(Binding {
                 name: binding.name,
-                value: binding.value.copy(alloc)?,
+                value: binding.value.copy()?,
             })?;
         }
         Ok(Bindings(copied))

@@ -2,23 +2,24 @@
 ghost use Rattle.std.specs.Prelude.{◌≡◌, ◌≤◌, ◌++◌, ◌∷◌, [], IfOk};
 ghost use Rattle.term_core.specs.Meaning.{Tuple, meanings_of};
 ghost use Rattle.term_core.specs.Term.{meaning_of};
+ghost use Rattle.term_core.specs.Words.{text_of_word};
 ghost use Rattle.core_eval.specs.Evaluation.{error, limited, limited_error};
 ghost use Rattle.core_eval.specs.inside.Steps.{Means, load};
 
 use crate::control::Control;
 use pure_calls::Class;
 use std::alloc::{AllocError, Global};
-use term_core::{Term, Terms};
+use term_core::{Term, Terms, Word};
 
 /// The most nodes of a term that is built in evaluation.
 const NODE_LIMIT: u64 = 10_000;
 
-/// An error whose reason is the atom of this text.
-pub(crate) fn error<'m>(alloc: Global, text: &str) -> Result<Control<'m>, AllocError>
-    ensures same { IfOk result (λ next. Means next (error text.now)) }
-    ensures less { IfOk result (λ next. load next ≡ 0) }
+/// An error whose reason is this atom.
+pub(crate) fn error<'m>(word: Word) -> Control<'m>
+    ensures same { Means result (error (text_of_word word)) }
+    ensures less { load result ≡ 0 }
 {
-    Ok(Control::Raise(Class::Error, Term::atom(alloc, text)?))
+    Control::Raise(Class::Error, Term::word(word))
 }
 
 /// The tuple of two terms.
@@ -41,26 +42,26 @@ pub(crate) fn single(alloc: Global, term: Term) -> Result<Terms, AllocError>
 }
 
 /// The term, or the error `'system_limit'` in its place where it has too many nodes.
-pub(crate) fn limited<'m>(alloc: Global, term: Term) -> Result<Control<'m>, AllocError>
-    ensures same { IfOk result (λ next. Means next (limited (meaning_of term))) }
-    ensures less { IfOk result (λ next. load next ≤ 2) }
+pub(crate) fn limited<'m>(term: Term) -> Control<'m>
+    ensures same { Means result (limited (meaning_of term)) }
+    ensures less { load result ≤ 2 }
 {
     if term.nodes() <= NODE_LIMIT {
-        Ok(Control::Return(term))
+        Control::Return(term)
     } else {
-        error(alloc, "system_limit")
+        error(Word::SystemLimit)
     }
 }
 
 /// An error with the term as its reason, or the error `'system_limit'` where that has too many nodes.
-pub(crate) fn limited_error<'m>(alloc: Global, reason: Term) -> Result<Control<'m>, AllocError>
-    ensures same { IfOk result (λ next. Means next (limited_error (meaning_of reason))) }
-    ensures less { IfOk result (λ next. load next ≡ 0) }
+pub(crate) fn limited_error<'m>(reason: Term) -> Control<'m>
+    ensures same { Means result (limited_error (meaning_of reason)) }
+    ensures less { load result ≡ 0 }
 {
     if reason.nodes() <= NODE_LIMIT {
-        Ok(Control::Raise(Class::Error, reason))
+        Control::Raise(Class::Error, reason)
     } else {
-        error(alloc, "system_limit")
+        error(Word::SystemLimit)
     }
 }
 

@@ -18,7 +18,7 @@ use crate::stack::Stack;
 use core_tree::{Call, Callee, Case, Catch, Do, Expr, Let, Onto, Try, Variable};
 use pure_calls::Class;
 use std::alloc::{AllocError, Global};
-use term_core::{Term, Terms, list_onto};
+use term_core::{Term, Terms, Word, list_onto};
 
 /// Into an expression.
 pub(crate) fn enter<'m>(
@@ -32,8 +32,8 @@ pub(crate) fn enter<'m>(
         Expr::Integer(number) => Ok(Control::Return(Term::Int(*number))),
         Expr::Character(character) => Ok(Control::Return(Term::Int(*character as i64))),
         Expr::Text(characters) => text(alloc, characters),
-        Expr::Atom(atom) => Ok(Control::Return(Term::Atom(atom.copy(alloc)?))),
-        Expr::Variable(variable) => value_of(alloc, stack, variable),
+        Expr::Atom(atom) => Ok(Control::Return(Term::Atom(atom.copy()?))),
+        Expr::Variable(variable) => value_of(stack, variable),
         Expr::Tuple(parts) => enter_parts(alloc, stack, Purpose::Tuple, parts.0.as_slice()),
         Expr::List(items) => enter_parts(alloc, stack, Purpose::List, items.0.as_slice()),
         Expr::Onto(onto) => enter_onto(alloc, stack, onto),
@@ -57,21 +57,18 @@ fn enter_parts<'m>(
     ensures { IfOk result (λ next.
         GathersOn stack.old stack.new next (purpose_of purpose.entry) [] (map tree_of parts.now)) }
 {
-    gather(alloc, stack, purpose, Terms::new(alloc), parts)
+    let room = Vec::with_capacity(alloc, parts.len())?;
+    gather(alloc, stack, purpose, Terms::from_vec(room), parts)
 }
 
 /// The value of a variable.
-fn value_of<'m>(
-    alloc: Global,
-    stack: &mut Stack<'m>,
-    variable: &'m Variable,
-) -> Result<Control<'m>, AllocError>
+fn value_of<'m>(stack: &mut Stack<'m>, variable: &'m Variable) -> Result<Control<'m>, AllocError>
     ensures { IfOk result (λ next.
         GoesOn stack.old stack.new next (λ setting s. value_or_error (lookup variable.now.name (scope stack.old)) s) 3) }
 {
     match stack.lookup(variable.name.as_slice()) {
-        Some(value) => Ok(Control::Return(value.copy(alloc)?)),
-        None => error(alloc, "unbound"),
+        Some(value) => Ok(Control::Return(value.copy()?)),
+        None => Ok(error(Word::Unbound)),
     }
 }
 
@@ -141,7 +138,7 @@ fn text<'m>(alloc: Global, characters: &[char]) -> Result<Control<'m>, AllocErro
     'characters: for character in characters {
         numbers.push(Term::Int(*character as i64))?;
     }
-    limited(alloc, list_onto(alloc, numbers, Term::Nil)?)
+    Ok(limited(list_onto(alloc, numbers, Term::Nil)?))
 }
 
 /// Into the arguments of what is called.
@@ -188,61 +185,55 @@ fn complete<'m>(
         GathersOn stack.old stack.new next (purpose_of purpose.entry) done []) }
 {
     match purpose {
-        Purpose::Tuple => limited(alloc, Term::tuple(alloc, done)?),
-        Purpose::List => limited(alloc, list_onto(alloc, done.into_vec(), Term::Nil)?),
+        Purpose::Tuple => Ok(limited(Term::tuple(alloc, done)?)),
+        Purpose::List => Ok(limited(list_onto(alloc, done.into_vec(), Term::Nil)?)),
         Purpose::Onto(tail) => {
             stack.push(Frame::Tail(done))?;
             Ok(Control::Evaluate(tail))
         }
-        Purpose::Call(callee) => dispatch(alloc, callee, done),
+        Purpose::Call(callee) => Ok(dispatch(callee, done)),
         Purpose::Values => Ok(Control::Values(done)),
     }
 }
 
 /// What is called, applied to its arguments.
-fn dispatch<'m>(
-    alloc: Global,
-    callee: &'m Callee,
-    arguments: Terms,
-) -> Result<Control<'m>, AllocError>
-    ensures same { IfOk result (λ next. MeansIn next (λ setting s. called_with setting (callee_of callee.now) arguments s)) }
-    ensures less { IfOk result (λ next. load next ≤ 3) }
+fn dispatch<'m>(callee: &'m Callee, arguments: Terms) -> Control<'m>
+    ensures same { MeansIn result (λ setting s. called_with setting (callee_of callee.now) arguments s) }
+    ensures less { load result ≤ 3 }
 {
     match callee {
-        Callee::World(kind) => Ok(Control::Ask(*kind, arguments)),
-        Callee::Pure(kind) => Ok(Control::Answer(*kind, arguments)),
-        Callee::MatchFail => fail_match(alloc, arguments),
-        Callee::Raise => raise(alloc, arguments),
-        Callee::Exported(function) => Ok(Control::Apply(function, arguments)),
-        Callee::Defined(named) => Ok(Control::Apply(&named.function, arguments)),
+        Callee::World(kind) => Control::Ask(*kind, arguments),
+        Callee::Pure(kind) => Control::Answer(*kind, arguments),
+        Callee::MatchFail => fail_match(arguments),
+        Callee::Raise => raise(arguments),
+        Callee::Exported(function) => Control::Apply(function, arguments),
+        Callee::Defined(named) => Control::Apply(&named.function, arguments),
     }
 }
 
 /// `primop 'match_fail'`: the error that its one argument reports.
-fn fail_match<'m>(alloc: Global, arguments: Terms) -> Result<Control<'m>, AllocError>
-    ensures same { IfOk result (λ next. MeansIn next (λ setting s. called_with setting callees.MatchFail arguments s)) }
-    ensures less { IfOk result (λ next. load next ≤ 2) }
+fn fail_match<'m>(arguments: Terms) -> Control<'m>
+    ensures same { MeansIn result (λ setting s. called_with setting callees.MatchFail arguments s) }
+    ensures less { load result ≤ 2 }
 {
     let mut reasons = arguments.into_vec();
     match reasons.pop() {
-        Some(reason) if reasons.is_empty() => {
-            Ok(Control::Raise(Class::Error, match_reason(alloc, reason)?))
-        }
-        _ => error(alloc, "undef"),
+        Some(reason) if reasons.is_empty() => Control::Raise(Class::Error, match_reason(reason)),
+        _ => error(Word::Undefined),
     }
 }
 
 /// `primop 'raise'`: the exception that its two arguments tell, the trace and the reason.
-fn raise<'m>(alloc: Global, arguments: Terms) -> Result<Control<'m>, AllocError>
-    ensures same { IfOk result (λ next. MeansIn next (λ setting s. called_with setting callees.Raise arguments s)) }
-    ensures less { IfOk result (λ next. load next ≤ 2) }
+fn raise<'m>(arguments: Terms) -> Control<'m>
+    ensures same { MeansIn result (λ setting s. called_with setting callees.Raise arguments s) }
+    ensures less { load result ≤ 2 }
 {
     let mut parts = arguments.into_vec();
     if parts.len() != 2 {
-        return error(alloc, "undef");
+        return error(Word::Undefined);
     }
     match parts.pop() {
-        Some(reason) => raise_again(alloc, &parts[0], reason),
-        None => error(alloc, "undef"),
+        Some(reason) => raise_again(&parts[0], reason),
+        None => error(Word::Undefined),
     }
 }

@@ -12,12 +12,11 @@ use crate::frame::Frame;
 use crate::stack::Stack;
 use core_tree::{Definition, FunctionName, Module, NamedFunction};
 use std::alloc::{AllocError, Global};
-use term_core::{Atom, Pid, Terms};
+use term_core::{Atom, Pid, Terms, Word};
 
 /// The definition of the function that a process begins with: in this module, and but for the first
 /// process one that it exports.
 pub(crate) fn first_definition<'m>(
-    alloc: Global,
     program: &'m Module,
     pid: &Pid,
     module_name: &Atom,
@@ -32,11 +31,11 @@ pub(crate) fn first_definition<'m>(
         return Ok(None);
     };
     let function = FunctionName {
-        name: function_name.copy(alloc)?,
+        name: function_name.copy()?,
         arity,
     };
-    if program.name.0 == module_name.0
-        && (pid.0.is_empty() || is_exported(program.exports.as_slice(), &function))
+    if program.name == *module_name
+        && (pid.numbers().is_empty() || is_exported(program.exports.as_slice(), &function))
     {
         Ok(definition_of(program, &function))
     } else {
@@ -71,14 +70,14 @@ pub(crate) fn begin<'m>(
     ensures small { keeps_on_top stack.old ≡ false → IfOk result (λ _. keeps_once stack.new ≡ true) }
 {
     let Some(definition) = function else {
-        return error(alloc, "undef");
+        return Ok(error(Word::Undefined));
     };
     match Bindings::of(alloc, definition.parameters.as_slice(), arguments)? {
         Some(bindings) => {
             stack.push(Frame::Applied(bindings))?;
             Ok(Control::Evaluate(&definition.body))
         }
-        None => error(alloc, "value_count"),
+        None => Ok(error(Word::ValueCount)),
     }
 }
 
@@ -95,6 +94,6 @@ pub(crate) fn apply<'m>(
         Begins stack.old stack.new next (definition function.now program.now.definitions) arguments) }
     ensures small { IfOk result (λ _. keeps_once stack.new ≡ true) }
 {
-    stack.bare();
+    stack.bare(alloc)?;
     begin(alloc, stack, definition_of(program, function), arguments)
 }

@@ -11,16 +11,16 @@ use crate::control::Control;
 use crate::matching::begins_with;
 use pure_calls::Class;
 use std::alloc::{AllocError, Global};
-use term_core::{Term, Terms};
+use term_core::{Term, Terms, Word};
 
 /// The atom of a class.
-fn class_name(alloc: Global, class: Class) -> Result<Term, AllocError>
-    ensures { IfOk result (λ name. meaning_of name ≡ class_name class) }
+fn class_name(class: Class) -> Term
+    ensures { meaning_of result ≡ class_name class }
 {
     match class {
-        Class::Error => Term::atom(alloc, "error"),
-        Class::Exit => Term::atom(alloc, "exit"),
-        Class::Throw => Term::atom(alloc, "throw"),
+        Class::Error => Term::word(Word::Error),
+        Class::Exit => Term::word(Word::Exit),
+        Class::Throw => Term::word(Word::Throw),
     }
 }
 
@@ -43,11 +43,7 @@ fn class_named(name: &Term) -> Option<Class>
 fn trace_of(alloc: Global, class: Class) -> Result<Term, AllocError>
     ensures { IfOk result (λ trace. meaning_of trace ≡ trace_of class) }
 {
-    pair(
-        alloc,
-        Term::atom(alloc, "$trace")?,
-        class_name(alloc, class)?,
-    )
+    pair(alloc, Term::word(Word::TraceTag), class_name(class))
 }
 
 /// The class that a trace reports.
@@ -77,7 +73,7 @@ pub(crate) fn caught_values(
     ensures { IfOk result (λ values. values ≡ caught_values count class (meaning_of reason)) }
 {
     let mut values = Terms::new(alloc);
-    values.push(class_name(alloc, class)?)?;
+    values.push(class_name(class))?;
     values.push(reason)?;
     if count > 2 {
         values.push(trace_of(alloc, class)?)?;
@@ -97,36 +93,32 @@ pub(crate) fn caught<'m>(
     match class {
         Class::Error => {
             let told = pair(alloc, reason, Term::Nil)?;
-            limited(alloc, pair(alloc, Term::atom(alloc, "EXIT")?, told)?)
+            Ok(limited(pair(alloc, Term::word(Word::ExitTag), told)?))
         }
-        Class::Exit => limited(alloc, pair(alloc, Term::atom(alloc, "EXIT")?, reason)?),
+        Class::Exit => Ok(limited(pair(alloc, Term::word(Word::ExitTag), reason)?)),
         Class::Throw => Ok(Control::Return(reason)),
     }
 }
 
 /// The reason of a failed match: where the clauses of a function failed, their atom alone.
-pub(crate) fn match_reason(alloc: Global, reason: Term) -> Result<Term, AllocError>
-    ensures { IfOk result (λ failed. meaning_of failed ≡ match_reason (meaning_of reason)) }
+pub(crate) fn match_reason(reason: Term) -> Term
+    ensures { meaning_of result ≡ match_reason (meaning_of reason) }
 {
     if begins_with(&reason, "function_clause") {
-        Term::atom(alloc, "function_clause")
+        Term::word(Word::FunctionClause)
     } else {
-        Ok(reason)
+        reason
     }
 }
 
 /// An exception that was caught before, raised again with the class that its trace reports.
-pub(crate) fn raise_again<'m>(
-    alloc: Global,
-    trace: &Term,
-    reason: Term,
-) -> Result<Control<'m>, AllocError>
-    ensures same { IfOk result (λ next. Means next (raised_again (class_in (meaning_of trace.now)) (meaning_of reason))) }
-    ensures less { IfOk result (λ next. load next ≡ 0) }
+pub(crate) fn raise_again<'m>(trace: &Term, reason: Term) -> Control<'m>
+    ensures same { Means result (raised_again (class_in (meaning_of trace.now)) (meaning_of reason)) }
+    ensures less { load result ≡ 0 }
 {
     match class_in(trace) {
-        Some(class) => Ok(Control::Raise(class, reason)),
-        None => error(alloc, "badarg"),
+        Some(class) => Control::Raise(class, reason),
+        None => error(Word::BadArgument),
     }
 }
 
@@ -138,7 +130,7 @@ pub(crate) fn end_of(alloc: Global, class: Class, reason: Term) -> Result<Term, 
         Class::Error => pair(alloc, reason, Term::Nil),
         Class::Exit => Ok(reason),
         Class::Throw => {
-            let uncaught = pair(alloc, Term::atom(alloc, "nocatch")?, reason)?;
+            let uncaught = pair(alloc, Term::word(Word::NoCatch), reason)?;
             pair(alloc, uncaught, Term::Nil)
         }
     }

@@ -21,7 +21,7 @@ use crate::stack::Stack;
 use core_tree::{Clause, Expr, Try, Variable};
 use pure_calls::Class;
 use std::alloc::{AllocError, Global};
-use term_core::{Term, Terms, list_onto};
+use term_core::{Term, Terms, Word, list_onto};
 
 /// Out of an expression with its one value.
 pub(crate) fn leave<'m>(
@@ -43,8 +43,8 @@ pub(crate) fn leave<'m>(
             with_last(done, value)?,
             later,
         ),
-        Frame::Tail(items) => limited(alloc, list_onto(alloc, items.into_vec(), value)?),
-        Frame::Body(variables, body) => bind(alloc, stack, variables, body, single(alloc, value)?),
+        Frame::Tail(items) => Ok(limited(list_onto(alloc, items.into_vec(), value)?)),
+        Frame::Body(variables, body) => bind_one(alloc, stack, variables, body, value),
         Frame::Second(second) => Ok(Control::Evaluate(second)),
         Frame::Clauses(clauses) => choose(alloc, stack, clauses, single(alloc, value)?),
         Frame::Guard(bindings, body, others, values) if value.is_the_atom("true") => {
@@ -69,13 +69,13 @@ pub(crate) fn leave_with<'m>(
         (λ setting s. filled setting (hole_of frame.entry) (scope stack.old) (Yields values s))
         (2 + work_in (hole_of frame.entry))) }
 {
-    let mut items = values.into_vec();
-    if items.len() == 1 {
-        if let Some(value) = items.pop() {
-            return leave(alloc, stack, frame, value);
-        }
+    if values.len() != 1 {
+        return leave_several(alloc, stack, frame, values);
     }
-    leave_several(alloc, stack, frame, Terms::from_vec(items))
+    let Some(value) = values.into_vec().pop() else {
+        unreachable!()
+    };
+    leave(alloc, stack, frame, value)
 }
 
 /// Out of an expression with no value or with more than one.
@@ -92,9 +92,9 @@ fn leave_several<'m>(
         (2 + work_in (hole_of frame.entry))) }
 {
     match frame {
-        Frame::Parts(_, _, _) => error(alloc, "value_count"),
-        Frame::Tail(_) => error(alloc, "value_count"),
-        Frame::Second(_) => error(alloc, "value_count"),
+        Frame::Parts(_, _, _) => Ok(error(Word::ValueCount)),
+        Frame::Tail(_) => Ok(error(Word::ValueCount)),
+        Frame::Second(_) => Ok(error(Word::ValueCount)),
         Frame::Body(variables, body) => bind(alloc, stack, variables, body, values),
         Frame::Clauses(clauses) => choose(alloc, stack, clauses, values),
         Frame::Guard(_, _, others, judged) => choose(alloc, stack, others, judged),
@@ -158,7 +158,7 @@ fn choose<'m>(
     let mut left = clauses;
     while let Some((clause, others)) = left.split_first() {
         let mut bindings = Bindings::new(alloc);
-        if matches_each(alloc, &clause.patterns, &values, &mut bindings)? {
+        if matches_each(&clause.patterns, &values, &mut bindings)? {
             stack.push(Frame::Guard(bindings, &clause.body, others, values))?;
             return Ok(Control::Evaluate(&clause.guard));
         }
@@ -173,23 +173,21 @@ fn no_clause<'m>(alloc: Global, values: Terms) -> Result<Control<'m>, AllocError
     ensures less { IfOk result (λ next. load next ≡ 0) }
 {
     let whole = as_one(alloc, values)?;
-    limited_error(
-        alloc,
-        pair(alloc, Term::atom(alloc, "case_clause")?, whole)?,
-    )
+    let reason = pair(alloc, Term::word(Word::CaseClause), whole)?;
+    Ok(limited_error(reason))
 }
 
 /// Several values as one: what is one already, else the tuple of them.
 fn as_one(alloc: Global, values: Terms) -> Result<Term, AllocError>
     ensures { IfOk result (λ whole. meaning_of whole ≡ as_one values) }
 {
-    let mut items = values.into_vec();
-    if items.len() == 1 {
-        if let Some(value) = items.pop() {
-            return Ok(value);
-        }
+    if values.len() != 1 {
+        return Term::tuple(alloc, values);
     }
-    Term::tuple(alloc, Terms::from_vec(items))
+    let Some(value) = values.into_vec().pop() else {
+        unreachable!()
+    };
+    Ok(value)
 }
 
 /// Into a body with these values as its variables; another number of values than variables is an error.
@@ -207,6 +205,25 @@ fn bind<'m>(
             stack.push(Frame::Kept(bindings))?;
             Ok(Control::Evaluate(body))
         }
-        None => error(alloc, "value_count"),
+        None => Ok(error(Word::ValueCount)),
     }
+}
+
+/// Into a body with this one value, as `bind`: for one variable it makes no list of values.
+fn bind_one<'m>(
+    alloc: Global,
+    stack: &mut Stack<'m>,
+    variables: &'m [Variable],
+    body: &'m Expr,
+    value: Term,
+) -> Result<Control<'m>, AllocError>
+    ensures { IfOk result (λ next. EntersWith stack.old stack.new next variables.now (meaning_of value ∷ []) (tree_of body.now)) }
+{
+    let [variable] = variables else {
+        return bind(alloc, stack, variables, body, single(alloc, value)?);
+    };
+    let mut bindings = Bindings::new(alloc);
+    bindings.push(variable.name.as_slice(), value)?;
+    stack.push(Frame::Kept(bindings))?;
+    Ok(Control::Evaluate(body))
 }

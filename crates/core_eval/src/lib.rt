@@ -9,6 +9,7 @@ mod entry;
 mod exception;
 mod frame;
 pub mod laws;
+mod layers;
 mod leave;
 pub mod machine;
 mod matching;

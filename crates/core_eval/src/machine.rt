@@ -63,9 +63,10 @@ pub fn start<'m>(
         StandsAt machine (ask program.now pid (entry module_name.now function_name.now arguments))) }
 {
     let mut stack = Stack::new(alloc);
-    let found = first_definition(alloc, program, &pid, module_name, function_name, &arguments)?;
+    let found = first_definition(program, &pid, module_name, function_name, &arguments)?;
     let control = begin(alloc, &mut stack, found, arguments)?;
     let request = run(alloc, program, &pid, &mut stack, control)?;
+    stack.settle(alloc)?;
     Ok(Machine {
         program,
         pid,
@@ -107,11 +108,13 @@ impl<'m> Machine<'m> {
         };
         self.is_spent = true;
         self.request = run(alloc, self.program, &self.pid, &mut self.stack, control)?;
+        self.stack.settle(alloc)?;
         self.is_spent = false;
         Ok(())
     }
 
-    /// The same machine, or `AllocError` if there is no memory for it or the machine is spent.
+    /// The same machine, or `AllocError` if there is no memory for it or the machine is spent. The two
+    /// share their frames and the request: a copy takes one step however deep the stack is.
     pub fn copy(&self, alloc: Global) -> Result<Machine<'m>, AllocError>
         ensures same { IfOk result (λ copied. copied ≡ self.now) }
         ensures spent { is_spent self.now ≡ true → IsErr result }
@@ -121,9 +124,9 @@ impl<'m> Machine<'m> {
         }
         Ok(Machine {
             program: self.program,
-            pid: self.pid.copy(alloc)?,
+            pid: self.pid.copy()?,
             stack: self.stack.copy(alloc)?,
-            request: self.request.copy(alloc)?,
+            request: self.request.copy()?,
             is_spent: false,
         })
     }

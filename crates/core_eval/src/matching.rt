@@ -10,7 +10,7 @@ ghost use Rattle.core_eval.specs.inside.Matched.{IsMatch, behind_items};
 
 use crate::bindings::Bindings;
 use core_tree::{Alias, OntoPattern, Pattern, Patterns};
-use std::alloc::{AllocError, Global};
+use std::alloc::AllocError;
 use term_core::{Pair, Term, Terms};
 
 /// Whether the value is a tuple that begins with the atom of this text.
@@ -58,7 +58,6 @@ fn is_text(value: &Term, characters: &[char]) -> bool
 /// where it does not match, some of them may. `AllocError` if there is no memory for it.
 #[cycle(matching)]
 pub(crate) fn matches<'m>(
-    alloc: Global,
     pattern: &'m Pattern,
     value: &Term,
     bindings: &mut Bindings<'m>,
@@ -69,30 +68,30 @@ pub(crate) fn matches<'m>(
         Pattern::Integer(number) => Ok(is_integer(value, *number)),
         Pattern::Character(character) => Ok(is_integer(value, *character as i64)),
         Pattern::Text(characters) => Ok(is_text(value, characters)),
-        Pattern::Atom(atom) => Ok(value.is_the_atom(atom.0.as_str())),
+        Pattern::Atom(atom) => Ok(value.is_the_atom(atom.as_str())),
         Pattern::Variable(variable) => {
-            bindings.push(variable.name.as_slice(), value.copy(alloc)?)?;
+            bindings.push(variable.name.as_slice(), value.copy()?)?;
             Ok(true)
         }
         Pattern::Tuple(parts) => match value {
-            Term::Tuple(values) => matches_each(alloc, parts, values, bindings),
+            Term::Tuple(values) => matches_each(parts, values, bindings),
             _ => Ok(false),
         },
-        Pattern::List(items) => match matches_items(alloc, items, value, bindings)? {
+        Pattern::List(items) => match matches_items(items, value, bindings)? {
             Some(Term::Nil) => Ok(true),
             _ => Ok(false),
         },
         Pattern::Onto(onto) => {
             let onto: &'m OntoPattern = onto;
-            match matches_items(alloc, &onto.items, value, bindings)? {
-                Some(tail) => matches(alloc, &onto.tail, tail, bindings),
+            match matches_items(&onto.items, value, bindings)? {
+                Some(tail) => matches(&onto.tail, tail, bindings),
                 None => Ok(false),
             }
         }
         Pattern::Alias(alias) => {
             let alias: &'m Alias = alias;
-            bindings.push(alias.variable.name.as_slice(), value.copy(alloc)?)?;
-            matches(alloc, &alias.whole, value, bindings)
+            bindings.push(alias.variable.name.as_slice(), value.copy()?)?;
+            matches(&alias.whole, value, bindings)
         }
     }
 }
@@ -100,7 +99,6 @@ pub(crate) fn matches<'m>(
 /// Whether there are as many values as patterns, and each matches its own.
 #[cycle(matching)]
 pub(crate) fn matches_each<'m>(
-    alloc: Global,
     patterns: &'m Patterns,
     values: &Terms,
     bindings: &mut Bindings<'m>,
@@ -112,7 +110,7 @@ pub(crate) fn matches_each<'m>(
         return Ok(false);
     }
     for i in 0..patterns.0.len() {
-        if !matches(alloc, &patterns.0[i], &items[i], bindings)? {
+        if !matches(&patterns.0[i], &items[i], bindings)? {
             return Ok(false);
         }
     }
@@ -122,7 +120,6 @@ pub(crate) fn matches_each<'m>(
 /// What stands in a list after its first items, if these match the patterns.
 #[cycle(matching)]
 fn matches_items<'m, 'v>(
-    alloc: Global,
     patterns: &'m Patterns,
     value: &'v Term,
     bindings: &mut Bindings<'m>,
@@ -136,7 +133,7 @@ fn matches_items<'m, 'v>(
             return Ok(None);
         };
         let cell: &Pair = cell;
-        if !matches(alloc, pattern, cell.head(), bindings)? {
+        if !matches(pattern, cell.head(), bindings)? {
             return Ok(None);
         }
         left = cell.tail();

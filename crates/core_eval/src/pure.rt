@@ -23,7 +23,7 @@ pub(crate) fn answer_call<'m>(
     ensures less { IfOk result (λ next. load next ≤ 2) }
 {
     match answer(alloc, own, kind, arguments)? {
-        Outcome::Value(value) => limited(alloc, value),
+        Outcome::Value(value) => Ok(limited(value)),
         Outcome::Raised(class, reason) => Ok(Control::Raise(class, reason)),
     }
 }

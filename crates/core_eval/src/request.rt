@@ -3,14 +3,15 @@ ghost use Rattle.std.specs.Prelude.{◌≡◌, IfOk};
 ghost use Rattle.core_eval.specs.Requests.{asked_of};
 
 use core_tree::CallKind;
-use std::alloc::{AllocError, Global};
+use std::alloc::AllocError;
+use std::sync::Arc;
 use term_core::{Term, Terms};
 
 /// What a process that runs asks of the world.
 #[derive(Drop)]
 pub enum Request {
     /// A call of a process or of a table, with its arguments, as many as the call has.
-    Call(CallKind, Terms),
+    Call(CallKind, Arc<Terms>),
     /// A receive; it waits for ever where its timeout is `'infinity'`. No form that is read today asks it.
     Receive { waits: bool },
     /// The process has ended, with this reason.
@@ -34,14 +35,14 @@ pub enum Answer {
 }
 
 impl Request {
-    /// The same request, or `AllocError` if there is no memory for it.
-    pub fn copy(&self, alloc: Global) -> Result<Request, AllocError>
+    /// The same request, or `AllocError` where its copies can no longer be counted. It takes no memory.
+    pub fn copy(&self) -> Result<Request, AllocError>
         ensures { IfOk result (λ copied. asked_of copied ≡ asked_of self.now) }
     {
         Ok(match self {
-            Request::Call(kind, arguments) => Request::Call(*kind, arguments.copy(alloc)?),
+            Request::Call(kind, arguments) => Request::Call(*kind, Arc::try_clone(arguments)?),
             Request::Receive { waits } => Request::Receive { waits: *waits },
-            Request::End(reason) => Request::End(reason.copy(alloc)?),
+            Request::End(reason) => Request::End(reason.copy()?),
             Request::Runaway => Request::Runaway,
         })
     }

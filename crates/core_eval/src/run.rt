@@ -18,7 +18,8 @@ use crate::request::Request;
 use crate::stack::Stack;
 use core_tree::Module;
 use std::alloc::{AllocError, Global};
-use term_core::{Pid, Term};
+use std::sync::Arc;
+use term_core::{Pid, Term, Word};
 
 /// The most applications between two requests.
 const APPLICATION_LIMIT: usize = 10_000;
@@ -65,22 +66,23 @@ fn advance<'m>(
     loop {
         control = match control {
             Control::Evaluate(expression) => enter(alloc, stack, expression)?,
-            Control::Return(value) => match stack.pop() {
+            Control::Return(value) => match stack.pop(alloc)? {
                 Some(frame) => leave(alloc, stack, frame, value)?,
-                None => return Ok(Pause::Request(Request::End(Term::atom(alloc, "normal")?))),
+                None => return Ok(Pause::Request(Request::End(Term::word(Word::Normal)))),
             },
             Control::Values(values) => {
-                let Some(frame) = stack.pop() else {
-                    return Ok(Pause::Request(Request::End(Term::atom(alloc, "normal")?)));
+                let Some(frame) = stack.pop(alloc)? else {
+                    return Ok(Pause::Request(Request::End(Term::word(Word::Normal))));
                 };
                 leave_with(alloc, stack, frame, values)?
             }
-            Control::Raise(class, reason) => match stack.pop() {
+            Control::Raise(class, reason) => match stack.pop(alloc)? {
                 Some(frame) => leave_raised(alloc, stack, frame, class, reason)?,
                 None => return Ok(Pause::Request(Request::End(end_of(alloc, class, reason)?))),
             },
             Control::Answer(kind, arguments) => answer_call(alloc, own, kind, arguments)?,
             Control::Ask(kind, arguments) => {
+                let arguments = Arc::new(alloc, arguments)?;
                 return Ok(Pause::Request(Request::Call(kind, arguments)));
             }
             Control::Apply(function, arguments) => {

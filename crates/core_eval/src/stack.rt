@@ -7,13 +7,19 @@ ghost use Rattle.core_eval.specs.inside.Steps.{IsBared, keeps_on_top};
 ghost use Rattle.term_core.specs.Term.{meaning_of};
 
 use crate::frame::Frame;
+use crate::layers::Layers;
 use std::alloc::{AllocError, Global};
 use std::marker::Model;
+use std::mem::replace;
 use term_core::Term;
 
-/// The frames, the innermost last. Contracts see them as the list of what they leave out, the innermost first.
+/// Frames: those that were put on top since the stack was settled, the innermost last, and below them those
+/// that its copies share. Contracts see them as the list of what they leave out, the innermost first.
 #[derive(Drop)]
-pub(crate) struct Stack<'m>(Vec<Frame<'m>>);
+pub(crate) struct Stack<'m> {
+    top: Vec<Frame<'m>>,
+    below: Layers<'m>,
+}
 
 impl<'m> Model for Stack<'m> {
     ghost use Rattle.std.specs.Prelude.{List};
@@ -25,9 +31,9 @@ impl<'m> Model for Stack<'m> {
 
     ghost coded = { coded_list coded_hole };
 
-    ghost use Rattle.core_eval.specs.inside.Frames.{holes_of};
+    ghost use Rattle.core_eval.specs.inside.Layers.{holes_onto};
 
-    ghost view = { λ s. holes_of s.0.items };
+    ghost view = { λ s. holes_onto s.top.items s.below };
 }
 
 impl<'m> Stack<'m> {
@@ -35,33 +41,40 @@ impl<'m> Stack<'m> {
     pub(crate) fn new(alloc: Global) -> Stack<'m>
         ensures { result ≡ [] }
     {
-        Stack(Vec::new(alloc))
+        Stack {
+            top: Vec::new(alloc),
+            below: Layers::End,
+        }
     }
 
     /// Puts a frame on top, or drops it with `AllocError` if there is no memory for it.
     pub(crate) fn push(&mut self, frame: Frame<'m>) -> Result<(), AllocError>
         ensures { OnOk result (self.new ≡ hole_of frame.entry ∷ self.old) }
     {
-        self.0.push(frame)?;
+        self.top.push(frame)?;
         Ok(())
     }
 
-    /// Takes the top frame.
-    pub(crate) fn pop(&mut self) -> Option<Frame<'m>>
-        ensures { MatchOption result ((self.old ≡ []) × (self.new ≡ [])) (λ frame.
-            self.old ≡ hole_of frame ∷ self.new) }
+    /// Takes the top frame, or fails with `AllocError` if there is no memory for a copy of a frame that
+    /// others share.
+    pub(crate) fn pop(&mut self, alloc: Global) -> Result<Option<Frame<'m>>, AllocError>
+        ensures { IfOk result (λ popped. MatchOption popped ((self.old ≡ []) × (self.new ≡ [])) (λ frame.
+            self.old ≡ hole_of frame ∷ self.new)) }
     {
-        self.0.pop()
+        match self.top.pop() {
+            Some(frame) => Ok(Some(frame)),
+            None => self.below.pop(alloc),
+        }
     }
 
     /// The value of the innermost variable in scope of this name.
     pub(crate) fn lookup(&self, name: &[u8]) -> Option<&Term>
         ensures { option_map (λ found. meaning_of found.now) result ≡ lookup name.now (scope self.now) }
     {
-        let mut left = self.0.len();
+        let mut left = self.top.len();
         while left > 0 {
             left -= 1;
-            let frame = &self.0[left];
+            let frame = &self.top[left];
             if let Some(value) = frame.lookup(name) {
                 return Some(value);
             }
@@ -69,36 +82,49 @@ impl<'m> Stack<'m> {
                 return None;
             }
         }
-        None
+        self.below.lookup(name)
     }
 
     /// Whether the frame on top does nothing but keep variables.
     fn keeps_on_top(&self) -> bool
         ensures { result ≡ keeps_on_top self.now }
     {
-        match self.0.last() {
+        match self.top.last() {
             Some(frame) => frame.only_keeps(),
-            None => false,
+            None => self.below.keeps_on_top(),
         }
     }
 
-    /// Pops the scope frames on top: a function body does not see its caller's variables.
-    pub(crate) fn bare(&mut self)
-        ensures { IsBared self.old self.new }
+    /// Pops the scope frames on top: a function body does not see its caller's variables. `AllocError` as
+    /// `pop`.
+    pub(crate) fn bare(&mut self, alloc: Global) -> Result<(), AllocError>
+        ensures { OnOk result (IsBared self.old self.new) }
     {
         'kept: while self.keeps_on_top() {
-            let _frame = self.pop();
+            let _frame = self.pop(alloc)?;
         }
+        Ok(())
+    }
+
+    /// Lets copies share all frames: from then on a copy takes no memory and one step, until a frame is
+    /// put on top. `AllocError` if there is no memory for it, and then frames are lost.
+    pub(crate) fn settle(&mut self, alloc: Global) -> Result<(), AllocError>
+        ensures { OnOk result (self.new ≡ self.old) }
+    {
+        let below = replace(&mut self.below, Layers::End);
+        self.below = below.with_all(alloc, &mut self.top)?;
+        Ok(())
     }
 
     /// The same stack, or `AllocError` if there is no memory for it.
     pub(crate) fn copy(&self, alloc: Global) -> Result<Stack<'m>, AllocError>
         ensures { IfOk result (λ copied. copied ≡ self.now) }
     {
-        let mut frames = Vec::with_capacity(alloc, self.0.len())?;
-        for frame in &self.0 {
-            frames.push(frame.copy(alloc)?)?;
+        let mut top = Vec::with_capacity(alloc, self.top.len())?;
+        for frame in &self.top {
+            top.push(frame.copy(alloc)?)?;
         }
-        Ok(Stack(frames))
+        let below = self.below.copy()?;
+        Ok(Stack { top, below })
     }
 }

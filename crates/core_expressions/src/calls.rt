@@ -9,7 +9,7 @@ ghost use Rattle.core_expressions.specs.inside.FormView.{state_in};
 
 use crate::expressions::{begins_expression, is_function};
 use crate::form_reader::FormReader;
-use core_parser::{Unserved, atom_copy, is_foreign};
+use core_parser::{Unserved, is_foreign};
 use core_tokens::{Lexeme, Mark, ReadFault, Token};
 use core_tree::{Call, CallKind, Callee, Expr, Exprs, FunctionName, NamedFunction, PureCall};
 use term_core::Atom;
@@ -65,7 +65,7 @@ fn export_called(
 ) -> Option<Callee>
     ensures { option_map callee_of result ≡ export_called own.now module_name.now function_name arity }
 {
-    if own.0.as_str() != module_name.0.as_str() {
+    if own != module_name {
         return None;
     }
     let arity = u8::try_from(arity).ok()?;
@@ -96,8 +96,8 @@ fn unlisted_called(
 fn callee_named(own: &Atom, module_name: &Atom, function_name: Atom, arity: usize) -> Option<Callee>
     ensures { option_map callee_of result ≡ callee_named own.now module_name.now function_name arity }
 {
-    let module_text = module_name.0.as_str();
-    match CallKind::named(module_text, function_name.0.as_str(), arity) {
+    let module_text = module_name.as_str();
+    match CallKind::named(module_text, function_name.as_str(), arity) {
         Some(kind) => {
             if is_read(kind) {
                 Some(Callee::World(kind))
@@ -106,7 +106,7 @@ fn callee_named(own: &Atom, module_name: &Atom, function_name: Atom, arity: usiz
             }
         }
         None => {
-            let pure = PureCall::named(module_text, function_name.0.as_str(), arity);
+            let pure = PureCall::named(module_text, function_name.as_str(), arity);
             unlisted_called(own, module_name, function_name, arity, pure)
         }
     }
@@ -117,9 +117,9 @@ fn callee_named(own: &Atom, module_name: &Atom, function_name: Atom, arity: usiz
 fn operation_named(name: &Atom, arity: usize) -> Option<Callee>
     ensures { option_map callee_of result ≡ operation_named name.now arity }
 {
-    if name.0.as_str() == "match_fail" && arity == 1 {
+    if name.as_str() == "match_fail" && arity == 1 {
         Some(Callee::MatchFail)
-    } else if name.0.as_str() == "raise" && arity == 2 {
+    } else if name.as_str() == "raise" && arity == 2 {
         Some(Callee::Raise)
     } else {
         None
@@ -166,7 +166,7 @@ impl<'a> FormReader<'a> {
                 rest @ ..,
             ] => {
                 self.parser.tokens = rest;
-                Ok(atom_copy(self.parser.alloc, atom)?)
+                Ok(atom.copy()?)
             }
             _ => Err(self.callee_fault(at)),
         }
@@ -208,7 +208,7 @@ impl<'a> FormReader<'a> {
                 rest @ ..,
             ] => {
                 self.parser.tokens = rest;
-                Ok((*at, atom_copy(self.parser.alloc, atom)?))
+                Ok((*at, atom.copy()?))
             }
             _ => Err(self.applied_fault()),
         }

@@ -11,7 +11,7 @@ ghost use Rattle.core_grammar.specs.inside.DecoderForms.{is_function, begins_exp
 ghost use Rattle.core_expressions.specs.inside.FormView.{state_in, branch_of};
 
 use crate::form_reader::FormReader;
-use core_parser::{atom_copy, is_foreign, variable_of};
+use core_parser::{is_foreign, variable_of};
 use core_tokens::{Keyword, Lexeme, Mark, ReadFault, Token};
 use core_tree::{Catch, Do, Expr, Exprs, Let, Onto, Try, Variable};
 use std::alloc::Global;
@@ -306,7 +306,7 @@ impl<'a> FormReader<'a> {
             return Err(self.expression_fault());
         }
         self.parser.tokens = rest;
-        Ok(Expr::Atom(atom_copy(self.parser.alloc, atom)?))
+        Ok(Expr::Atom(atom.copy()?))
     }
 
     /// What stands in the parentheses of an annotated expression, and the end of the annotation.

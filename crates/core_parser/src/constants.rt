@@ -7,7 +7,7 @@ ghost use Rattle.core_grammar.specs.inside.Decoder.{BuildsUnlessMemory, MovesUnl
 ghost use Rattle.core_parser.specs.inside.ParserView.{state_of};
 ghost use Rattle.core_tree.specs.Tree.{constant_of};
 
-use crate::parser::{Parser, atom_copy, is_foreign};
+use crate::parser::{Parser, is_foreign};
 use core_tokens::{Lexeme, Mark, ReadFault, Token};
 use core_tree::{Const, Consts, OntoConst};
 use std::alloc::Global;
@@ -90,7 +90,7 @@ impl<'a> Parser<'a> {
                     Lexeme::Integer(number) => Ok(Const::Integer(*number)),
                     Lexeme::Character(character) => Ok(Const::Character(*character)),
                     Lexeme::Text(text) => Ok(Const::Text(Vec::from_slice(self.alloc, text)?)),
-                    Lexeme::Atom(atom) => Ok(Const::Atom(atom_copy(self.alloc, atom)?)),
+                    Lexeme::Atom(atom) => Ok(Const::Atom(atom.copy()?)),
                     Lexeme::Mark(Mark::LeftBrace) => Ok(self.constant_tuple(levels)?),
                     Lexeme::Mark(Mark::LeftBracket) => Ok(self.constant_list(levels)?),
                     Lexeme::Mark(Mark::LeftParenthesis) => Ok(self.constant_in_note(levels)?),

@@ -9,4 +9,4 @@ mod patterns;
 
 pub use core_grammar::Unserved;
 pub use names::variable_of;
-pub use parser::{Parser, atom_copy, is_foreign};
+pub use parser::{Parser, is_foreign};

@@ -59,13 +59,6 @@ fn fault_of(length: usize, tokens: &[Token]) -> ReadFault
     }
 }
 
-/// A copy of an atom.
-pub fn atom_copy(alloc: Global, atom: &Atom) -> Result<Atom, AllocError>
-    ensures { IfOk result (λ a. a ≡ atom.now) }
-{
-    Ok(Atom(atom.0.clone()?))
-}
-
 impl<'a> Parser<'a> {
     /// The fault, unless something that was read whole is not served.
     pub fn refusal(&self, fault: ReadFault) -> ReadFault
@@ -227,7 +220,7 @@ impl<'a> Parser<'a> {
                 rest @ ..,
             ] => {
                 self.tokens = rest;
-                Ok(atom_copy(self.alloc, atom)?)
+                Ok(atom.copy()?)
             }
             _ => Err(self.fault()),
         }
@@ -248,7 +241,7 @@ impl<'a> Parser<'a> {
                 rest @ ..,
             ] => {
                 self.tokens = rest;
-                Ok((*at, atom_copy(self.alloc, atom)?))
+                Ok((*at, atom.copy()?))
             }
             _ => Err(self.fault()),
         }

@@ -9,7 +9,7 @@ ghost use Rattle.core_parser.specs.inside.ParserView.{state_of};
 
 use crate::constants::begins_constant;
 use crate::names::variable_of;
-use crate::parser::{Parser, atom_copy, is_foreign};
+use crate::parser::{Parser, is_foreign};
 use core_tokens::{Lexeme, Mark, ReadFault, Token};
 use core_tree::{Alias, OntoPattern, Pattern, Patterns, Variable};
 use std::alloc::Global;
@@ -106,7 +106,7 @@ impl<'a> Parser<'a> {
                     Lexeme::Integer(number) => Ok(Pattern::Integer(*number)),
                     Lexeme::Character(character) => Ok(Pattern::Character(*character)),
                     Lexeme::Text(text) => Ok(Pattern::Text(Vec::from_slice(self.alloc, text)?)),
-                    Lexeme::Atom(atom) => Ok(Pattern::Atom(atom_copy(self.alloc, atom)?)),
+                    Lexeme::Atom(atom) => Ok(Pattern::Atom(atom.copy()?)),
                     Lexeme::Variable(name) => {
                         Ok(Pattern::Variable(variable_of(self.alloc, token.at, name)?))
                     }

@@ -43,7 +43,7 @@ fn atom_token(alloc: Global, text: &[u8]) -> Result<(Lexeme, &[u8]), TokenError>
 {
     let (characters, rest) = quoted::quoted(alloc, b'\'', text)?;
     let name = quoted::string_of(alloc, &characters)?;
-    Ok((Lexeme::Atom(Atom(name)), rest))
+    Ok((Lexeme::Atom(Atom::from_string(alloc, name)?), rest))
 }
 
 // The string of what stands after a double quote.

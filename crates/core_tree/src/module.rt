@@ -38,7 +38,7 @@ impl PartialEq for FunctionName {
     ghost laws = { Prim.search (comparing, rules) };
 
     fn eq(&self, other: &FunctionName) -> bool {
-        self.name.0 == other.name.0 && self.arity == other.arity
+        self.name == other.name && self.arity == other.arity
     }
 }
 
@@ -60,7 +60,7 @@ impl Hash for FunctionName {
     ghost respects_eq = { Prim.search (hashing, rules) };
 
     fn hash<H: Hasher>(&self, state: &mut H) {
-        self.name.0.hash(state);
+        self.name.hash(state);
         self.arity.hash(state);
     }
 }

@@ -85,7 +85,7 @@ fn same_pattern(a: &Pattern, b: &Pattern) -> bool
         (Pattern::Integer(m), Pattern::Integer(n)) => m == n,
         (Pattern::Character(c), Pattern::Character(d)) => c == d,
         (Pattern::Text(t), Pattern::Text(u)) => t == u,
-        (Pattern::Atom(t), Pattern::Atom(u)) => t.0 == u.0,
+        (Pattern::Atom(t), Pattern::Atom(u)) => t == u,
         (Pattern::Variable(v), Pattern::Variable(w)) => v == w,
         (Pattern::Tuple(ps), Pattern::Tuple(qs)) => same_patterns(ps, qs),
         (Pattern::List(ps), Pattern::List(qs)) => same_patterns(ps, qs),
@@ -134,7 +134,7 @@ fn same_expr(a: &Expr, b: &Expr) -> bool
         (Expr::Integer(m), Expr::Integer(n)) => m == n,
         (Expr::Character(c), Expr::Character(d)) => c == d,
         (Expr::Text(t), Expr::Text(u)) => t == u,
-        (Expr::Atom(t), Expr::Atom(u)) => t.0 == u.0,
+        (Expr::Atom(t), Expr::Atom(u)) => t == u,
         (Expr::Variable(v), Expr::Variable(w)) => v == w,
         (Expr::Tuple(xs), Expr::Tuple(ys)) => same_exprs(xs, ys),
         (Expr::List(xs), Expr::List(ys)) => same_exprs(xs, ys),
@@ -253,7 +253,7 @@ fn same_const(a: &Const, b: &Const) -> bool
         (Const::Integer(m), Const::Integer(n)) => m == n,
         (Const::Character(c), Const::Character(d)) => c == d,
         (Const::Text(t), Const::Text(u)) => t == u,
-        (Const::Atom(t), Const::Atom(u)) => t.0 == u.0,
+        (Const::Atom(t), Const::Atom(u)) => t == u,
         (Const::Tuple(cs), Const::Tuple(ds)) => same_consts(cs, ds),
         (Const::List(cs), Const::List(ds)) => same_consts(cs, ds),
         (Const::Onto(p), Const::Onto(q)) => same_onto_const(p, q),
@@ -291,7 +291,7 @@ impl PartialEq for Attribute {
 
     /// Whether the two have one name and one value.
     fn eq(&self, other: &Attribute) -> bool {
-        self.name.0 == other.name.0 && same_const(&self.value, &other.value)
+        self.name == other.name && same_const(&self.value, &other.value)
     }
 }
 
@@ -327,7 +327,7 @@ fn same_definitions(
 fn same_modules(a: &Module, b: &Module) -> bool
     ensures { result ≡ same_module a.now b.now }
 {
-    a.name.0 == b.name.0
+    a.name == b.name
         && a.exports == b.exports
         && a.attributes == b.attributes
         && same_definitions(&a.definitions, &b.definitions)

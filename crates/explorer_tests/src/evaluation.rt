@@ -188,7 +188,7 @@ fn evaluates_strings_and_values(rt: HostRuntime) -> Result<(), Fail> {
 fn refused(alloc: Global, machine: &mut Machine) -> Result<Vec<u8>, Fail> {
     machine.resume(alloc, Answer::TimedOut)?;
     machine.resume(alloc, Answer::Message(Term::Nil))?;
-    let badarg = Atom(String::from_str(alloc, "badarg")?);
+    let badarg = Atom::new(alloc, "badarg")?;
     machine.resume(alloc, Answer::Raise(Term::Atom(badarg)))?;
     run_on(alloc, machine)
 }
@@ -197,7 +197,7 @@ fn refused(alloc: Global, machine: &mut Machine) -> Result<Vec<u8>, Fail> {
 fn copied(alloc: Global, machine: &Machine) -> Result<Vec<u8>, Fail> {
     let mut other = machine.copy(alloc)?;
     let mut text = run_on(alloc, &mut other)?;
-    let last = other.request().copy(alloc)?;
+    let last = other.request().copy()?;
     text.extend_from_slice(text_of(alloc, &last)?.as_slice())?;
     Ok(text)
 }
@@ -207,7 +207,7 @@ const CALLS: [Word; 3] = [Word::Int(1), FIRST, TAKE];
 #[test]
 fn refused_calls_end_the_process(rt: HostRuntime) -> Result<(), Fail> {
     let program = module_of(rt.alloc(), build(rt.alloc(), CALLS.as_slice())?)?;
-    let mut machine = process(rt.alloc(), &program, Pid(Vec::new(rt.alloc())), "main")?;
+    let mut machine = process(rt.alloc(), &program, Pid::new(rt.alloc(), Vec::new(rt.alloc()))?, "main")?;
     let other = copied(rt.alloc(), &machine)?;
     assert_eq!(rt;
         other.as_slice(),
@@ -221,7 +221,7 @@ fn refused_calls_end_the_process(rt: HostRuntime) -> Result<(), Fail> {
 // What another process asks that is to begin with this function.
 fn other(alloc: Global, name: &str) -> Result<Vec<u8>, Fail> {
     let program = module_of(alloc, Expr::Integer(0))?;
-    let pid = Pid(Vec::from_slice(alloc, &[1])?);
+    let pid = Pid::new(alloc, Vec::from_slice(alloc, &[1])?)?;
     let mut machine = process(alloc, &program, pid, name)?;
     run_on(alloc, &mut machine)
 }

@@ -9,7 +9,7 @@ use world_core::World;
 
 // Takes a turn, and asserts what happened: the text that these parts make.
 fn happens(rt: &impl Abort, alloc: Global, world: &mut World, want: &[&str]) -> Result<(), Fail> {
-    world.step(alloc, &turn(alloc))?;
+    world.step(alloc, &turn(alloc)?)?;
     let text = last(alloc, world)?;
     let want = joined(alloc, want)?;
     assert_eq!(rt; text.as_slice(), want.as_bytes());

@@ -55,7 +55,7 @@ fn lexeme(alloc: Global, word: &str) -> Result<Lexeme, Fail> {
         let text = quoted
             .strip_suffix('\'')
             .ok_or("an atom ends with a quote")?;
-        return Ok(Lexeme::Atom(Atom(String::from_str(alloc, text)?)));
+        return Ok(Lexeme::Atom(Atom::new(alloc, text)?));
     }
     match word {
         "0" => Ok(Lexeme::Integer(0)),
@@ -85,12 +85,12 @@ fn reads_a_module(rt: HostRuntime) -> Result<(), Fail> {
     let module = read_tokens(rt.alloc(), &all, text.len())
         .ok()
         .ok_or("the text is a module")?;
-    assert_eq!(rt; module.name.0.as_str(), "m");
+    assert_eq!(rt; module.name.as_str(), "m");
     assert_eq!(rt; module.exports.len(), 1);
     assert_eq!(rt; module.attributes.len(), 1);
     assert_eq!(rt; module.definitions.len(), 1);
     for (name, definition) in &module.definitions {
-        assert_eq!(rt; name.name.0.as_str(), "main");
+        assert_eq!(rt; name.name.as_str(), "main");
         assert_eq!(rt; name.arity, 0);
         assert_eq!(rt; definition.at, 67);
         assert!(rt; matches!(definition.body, Expr::Let(_)));

@@ -8,8 +8,8 @@ fn described(alloc: Global, steps: &[Step]) -> Result<String, Fail> {
     let mut text = String::new(alloc);
     for step in steps {
         let words = match step {
-            Step::Turn(pid) => format!(in alloc; "turn {:?};", pid.0)?,
-            Step::Deliver(from, to) => format!(in alloc; "from {:?} to {:?};", from.0, to.0)?,
+            Step::Turn(pid) => format!(in alloc; "turn {:?};", pid.numbers())?,
+            Step::Deliver(from, to) => format!(in alloc; "from {:?} to {:?};", from.numbers(), to.numbers())?,
         };
         text.push_str(words.as_str())?;
     }

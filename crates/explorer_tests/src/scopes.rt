@@ -9,7 +9,7 @@ use std::test::Fail;
 use term_core::Atom;
 
 fn atom(alloc: Global, text: &str) -> Result<Atom, Fail> {
-    Ok(Atom(String::from_str(alloc, text)?))
+    Atom::new(alloc, text)
 }
 
 fn variable(alloc: Global, at: usize, name: &str) -> Result<Variable, Fail> {
@@ -118,7 +118,7 @@ fn hands_out_a_closed_module(rt: HostRuntime) -> Result<(), Fail> {
         let module = closed_module(rt.alloc(), draft(rt.alloc(), Words { read, ..CLOSED })?)
             .ok()
             .ok_or("the module is closed")?;
-        assert_eq!(rt; module.name.0.as_str(), "m");
+        assert_eq!(rt; module.name.as_str(), "m");
         assert_eq!(rt; module.exports.len(), 1);
         let mut places = module
             .definitions

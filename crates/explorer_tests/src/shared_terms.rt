@@ -36,10 +36,10 @@ fn two_terms(alloc: Global) -> Result<Terms, AllocError> {
 fn copies_share_a_long_list(rt: HostRuntime) -> Result<(), Fail> {
     let alloc = rt.alloc();
     let list = sevens(alloc, 1_000_000)?;
-    let kept = list.copy(alloc)?;
+    let kept = list.copy()?;
     let mut copies = Vec::new(alloc);
     for _copy in 0..1_000 {
-        copies.push(list.copy(alloc)?)?;
+        copies.push(list.copy()?)?;
     }
     drop(list);
     drop(copies);
@@ -55,8 +55,8 @@ fn copies_share_a_long_list(rt: HostRuntime) -> Result<(), Fail> {
 fn a_tail_outlives_the_list_before_it(rt: HostRuntime) -> Result<(), Fail> {
     let alloc = rt.alloc();
     let tail = sevens(alloc, 2)?;
-    let one = Term::cell(alloc, Term::Int(1), tail.copy(alloc)?)?;
-    let two = Term::cell(alloc, Term::Int(2), tail.copy(alloc)?)?;
+    let one = Term::cell(alloc, Term::Int(1), tail.copy()?)?;
+    let two = Term::cell(alloc, Term::Int(2), tail.copy()?)?;
     drop(tail);
     prints(&rt, alloc, &one, b"[1,7,7]")?;
     drop(one);
@@ -67,9 +67,9 @@ fn a_tail_outlives_the_list_before_it(rt: HostRuntime) -> Result<(), Fail> {
 fn a_tuple_outlives_its_copy(rt: HostRuntime) -> Result<(), Fail> {
     let alloc = rt.alloc();
     let tuple = Term::tuple(alloc, two_terms(alloc)?)?;
-    let list = Term::cell(alloc, tuple.copy(alloc)?, tuple.copy(alloc)?)?;
+    let list = Term::cell(alloc, tuple.copy()?, tuple.copy()?)?;
     drop(tuple);
-    prints(&rt, alloc, &list.copy(alloc)?, b"[{1,[]}|{1,[]}]")?;
+    prints(&rt, alloc, &list.copy()?, b"[{1,[]}|{1,[]}]")?;
     prints(&rt, alloc, &list, b"[{1,[]}|{1,[]}]")
 }
 
@@ -81,8 +81,8 @@ fn a_dropped_list_drops_its_heads(rt: HostRuntime) -> Result<(), Fail> {
     let first = Term::tuple(alloc, two_terms(alloc)?)?;
     let second = Term::tuple(alloc, two_terms(alloc)?)?;
     let end = Term::tuple(alloc, two_terms(alloc)?)?;
-    let heads = vec![in alloc; first.copy(alloc)?, second.copy(alloc)?]?;
-    let list = list_onto(alloc, heads, end.copy(alloc)?)?;
+    let heads = vec![in alloc; first.copy()?, second.copy()?]?;
+    let list = list_onto(alloc, heads, end.copy()?)?;
     drop(list);
     for (held, place) in [
         (first, "the first"),
@@ -109,10 +109,10 @@ fn terms_know_their_sizes(rt: HostRuntime) -> Result<(), Fail> {
     assert_eq!(rt; parts.nodes(), 5);
     let cell = Term::cell(alloc, Term::tuple(alloc, parts)?, Term::Int(9))?;
     assert_eq!(rt; cell.nodes(), 8);
-    let heads = vec![in alloc; cell.copy(alloc)?, Term::tuple(alloc, Terms::new(alloc))?]?;
+    let heads = vec![in alloc; cell.copy()?, Term::tuple(alloc, Terms::new(alloc))?]?;
     let list = list_onto(alloc, heads, cell)?;
     assert_eq!(rt; list.nodes(), 19);
-    let both = Terms::from_vec(vec![in alloc; list.copy(alloc)?, list]?);
+    let both = Terms::from_vec(vec![in alloc; list.copy()?, list]?);
     assert_eq!(rt; both.nodes(), 38);
     assert_eq!(rt; Term::tuple(alloc, both)?.nodes(), 39);
     Ok(())

@@ -8,16 +8,16 @@ use std::test::Fail;
 use term_core::{Atom, Pair, Pid, RefId, Step, Term, Terms, compare_schedules};
 
 fn pid(alloc: Global, numbers: &[u64]) -> Result<Pid, AllocError> {
-    Ok(Pid(numbers.to_vec(alloc)?))
+    Pid::new(alloc, numbers.to_vec(alloc)?)
 }
 
 fn atom(alloc: Global, text: &str) -> Result<Term, AllocError> {
-    Ok(Term::Atom(Atom(String::from_str(alloc, text)?)))
+    Term::atom(alloc, text)
 }
 
 fn reference(alloc: Global, numbers: &[u64], number: u64) -> Result<Term, AllocError> {
     let pid = pid(alloc, numbers)?;
-    Ok(Term::Ref(RefId { pid, number }))
+    Ok(Term::Ref(RefId::new(alloc, pid, number)?))
 }
 
 fn integers(alloc: Global, numbers: &[i64]) -> Result<Terms, AllocError> {
@@ -139,7 +139,7 @@ fn turn(alloc: Global, number: u64) -> Result<Step, AllocError> {
     if number > 0 {
         numbers.push(number)?;
     }
-    Ok(Step::Turn(Pid(numbers)))
+    Ok(Step::Turn(Pid::new(alloc, numbers)?))
 }
 
 fn delivery(alloc: Global, from: &[u64], to: &[u64]) -> Result<Step, AllocError> {

@@ -8,11 +8,11 @@ use term_core::{
 use test_streams::MemorySink;
 
 fn atom(alloc: Global, text: &str) -> Result<Term, AllocError> {
-    Ok(Term::Atom(Atom(String::from_str(alloc, text)?)))
+    Term::atom(alloc, text)
 }
 
 fn pid(alloc: Global, numbers: &[u64]) -> Result<Pid, AllocError> {
-    Ok(Pid(Vec::from_slice(alloc, numbers)?))
+    Pid::new(alloc, Vec::from_slice(alloc, numbers)?)
 }
 
 fn tuple(alloc: Global, parts: Vec<Term>) -> Result<Term, AllocError> {
@@ -39,15 +39,9 @@ fn prints_atomic_terms(rt: HostRuntime) -> Result<(), Fail> {
     prints(&rt, alloc, &Term::Nil, b"[]")?;
     prints(&rt, alloc, &Term::Pid(pid(alloc, &[])?), b"P")?;
     prints(&rt, alloc, &Term::Pid(pid(alloc, &[2, 1])?), b"P.2.1")?;
-    let first = RefId {
-        pid: pid(alloc, &[])?,
-        number: 2,
-    };
+    let first = RefId::new(alloc, pid(alloc, &[])?, 2)?;
     prints(&rt, alloc, &Term::Ref(first), b"#P.2")?;
-    let last = RefId {
-        pid: pid(alloc, &[10, 3])?,
-        number: u64::MAX,
-    };
+    let last = RefId::new(alloc, pid(alloc, &[10, 3])?, u64::MAX)?;
     prints(
         &rt,
         alloc,
@@ -119,10 +113,7 @@ fn breaks_off_where_the_sink_fails(rt: HostRuntime) -> Result<(), Fail> {
     let alloc = rt.alloc();
     let whole = b"[{'a',1}|#P.7]";
     let pair = tuple(alloc, vec![in alloc; atom(alloc, "a")?, Term::Int(1)]?)?;
-    let tail = Term::Ref(RefId {
-        pid: pid(alloc, &[])?,
-        number: 7,
-    });
+    let tail = Term::Ref(RefId::new(alloc, pid(alloc, &[])?, 7)?);
     let term = list_onto(alloc, vec![in alloc; pair]?, tail)?;
     for room in 0..whole.len() {
         let mut sink = MemorySink::with_room(alloc, room)?;
@@ -139,28 +130,22 @@ fn breaks_off_where_the_sink_fails(rt: HostRuntime) -> Result<(), Fail> {
 #[test]
 fn copies_names_and_steps(rt: HostRuntime) -> Result<(), Fail> {
     let alloc = rt.alloc();
-    let name = Atom(String::from_str(alloc, "it's")?);
-    assert!(rt; name.copy(alloc)? == name);
+    let name = Atom::new(alloc, "it's")?;
+    assert!(rt; name.copy()? == name);
     let process = pid(alloc, &[2, 1])?;
-    assert!(rt; process.copy(alloc)? == process);
-    let reference = RefId {
-        pid: pid(alloc, &[3])?,
-        number: 7,
-    };
-    assert!(rt; reference.copy(alloc)? == reference);
+    assert!(rt; process.copy()? == process);
+    let reference = RefId::new(alloc, pid(alloc, &[3])?, 7)?;
+    assert!(rt; reference.copy()? == reference);
     let turn = Step::Turn(pid(alloc, &[2])?);
-    assert!(rt; turn.copy(alloc)? == turn);
+    assert!(rt; turn.copy()? == turn);
     let delivery = Step::Deliver(pid(alloc, &[2])?, pid(alloc, &[1])?);
-    assert!(rt; delivery.copy(alloc)? == delivery);
+    assert!(rt; delivery.copy()? == delivery);
     Ok(())
 }
 
 // One term of each kind.
 fn each_kind(alloc: Global) -> Result<Vec<Term>, AllocError> {
-    let reference = RefId {
-        pid: pid(alloc, &[3])?,
-        number: 7,
-    };
+    let reference = RefId::new(alloc, pid(alloc, &[3])?, 7)?;
     let pair = tuple(alloc, vec![in alloc; atom(alloc, "a")?, Term::Int(1)]?)?;
     let list = list_onto(alloc, vec![in alloc; pair, Term::Nil]?, atom(alloc, "t")?)?;
     let name = atom(alloc, "b")?;
@@ -182,7 +167,7 @@ fn copies_each_kind_of_term(rt: HostRuntime) -> Result<(), Fail> {
     let parts = Terms::from_vec(each_kind(alloc)?);
     assert!(rt; parts.copy(alloc)? == parts);
     let list = list_onto(alloc, each_kind(alloc)?, Term::tuple(alloc, parts)?)?;
-    let copied = list.copy(alloc)?;
+    let copied = list.copy()?;
     assert!(rt; copied == list);
     let text =
         b"[-1,'b',#P.3.7,P.2.1,{},[],[{'a',1},[]|'t']|{-1,'b',#P.3.7,P.2.1,{},[],[{'a',1},[]|'t']}]";
@@ -216,7 +201,7 @@ fn walks_long_lists(rt: HostRuntime) -> Result<(), Fail> {
     let alloc = rt.alloc();
     let list = long_list(alloc, 1_000_000)?;
     assert_eq!(rt; list.nodes(), 2_000_001);
-    let copied = list.copy(alloc)?;
+    let copied = list.copy()?;
     assert!(rt; copied == list);
     let mut sink = MemorySink::with_room(alloc, 2_000_001)?;
     assert!(rt; write_term(&copied, &mut sink).is_ok());
@@ -229,7 +214,7 @@ fn walks_deep_terms(rt: HostRuntime) -> Result<(), Fail> {
     let alloc = rt.alloc();
     let term = deep_term(alloc, 10_000)?;
     assert_eq!(rt; term.nodes(), 15_001);
-    let copied = term.copy(alloc)?;
+    let copied = term.copy()?;
     assert!(rt; copied == term);
     let mut sink = MemorySink::with_room(alloc, 20_001)?;
     assert!(rt; write_term(&copied, &mut sink).is_ok());

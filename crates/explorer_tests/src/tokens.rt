@@ -13,7 +13,7 @@ fn put(out: &mut String, token: &Token) -> Result<(), Fail> {
     match &token.lexeme {
         Lexeme::Word(keyword) => write!(out, "{keyword:?} ")?,
         Lexeme::Mark(mark) => write!(out, "{mark:?} ")?,
-        Lexeme::Atom(Atom(name)) => write!(out, "'{name}' ")?,
+        Lexeme::Atom(atom) => write!(out, "'{}' ", atom.as_str())?,
         Lexeme::Variable(name) => {
             for c in name {
                 out.push(char::from(*c))?;

@@ -3,6 +3,7 @@ use core_tree::CallKind;
 use explorer_engine::write_event;
 use std::alloc::{AllocError, Global};
 use std::process::Abort;
+use std::sync::Arc;
 use std::test::Fail;
 use term_core::{Atom, Pid, RefId, Step, Term, Terms, list_onto};
 use test_streams::MemorySink;
@@ -23,7 +24,7 @@ enum Word {
 }
 
 fn atom(alloc: Global, text: &str) -> Result<Term, AllocError> {
-    Ok(Term::Atom(Atom(String::from_str(alloc, text)?)))
+    Term::atom(alloc, text)
 }
 
 fn object(alloc: Global, text: &str) -> Result<Term, AllocError> {
@@ -36,7 +37,7 @@ fn list_of(alloc: Global, item: Term) -> Result<Term, AllocError> {
 }
 
 fn pid(alloc: Global, numbers: &[u64]) -> Result<Pid, AllocError> {
-    Ok(Pid(Vec::from_slice(alloc, numbers)?))
+    Pid::new(alloc, Vec::from_slice(alloc, numbers)?)
 }
 
 fn term(alloc: Global, word: Word) -> Result<Term, AllocError> {
@@ -46,10 +47,7 @@ fn term(alloc: Global, word: Word) -> Result<Term, AllocError> {
         Word::Object(text) => object(alloc, text),
         Word::ListOfObject(text) => list_of(alloc, object(alloc, text)?),
         Word::First => Ok(Term::Pid(pid(alloc, &[])?)),
-        Word::Reference => Ok(Term::Ref(RefId {
-            pid: pid(alloc, &[])?,
-            number: 1,
-        })),
+        Word::Reference => Ok(Term::Ref(RefId::new(alloc, pid(alloc, &[])?, 1)?)),
     }
 }
 
@@ -123,7 +121,7 @@ fn prints_served_calls(rt: HostRuntime) -> Result<(), Fail> {
     for (kind, arguments, answer, line) in SERVED {
         let deed = Deed::Served {
             kind,
-            arguments: terms(alloc, arguments)?,
+            arguments: Arc::new(alloc, terms(alloc, arguments)?)?,
             answer: term(alloc, answer)?,
         };
         prints(&rt, alloc, 3, &[2], deed, line)?;
@@ -195,7 +193,7 @@ fn prints_refused_calls(rt: HostRuntime) -> Result<(), Fail> {
         };
         let deed = Deed::Refused {
             kind: CallKind::Lookup,
-            arguments: terms(alloc, &[Word::Name("t"), Word::Name("a")])?,
+            arguments: Arc::new(alloc, terms(alloc, &[Word::Name("t"), Word::Name("a")])?)?,
             rule,
             owner,
         };

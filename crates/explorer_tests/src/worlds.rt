@@ -87,8 +87,8 @@ pub(crate) fn last(alloc: Global, world: &World) -> Result<Vec<u8>, WriteFault> 
 }
 
 // The turn of the first process.
-pub(crate) fn turn(alloc: Global) -> Step {
-    Step::Turn(Pid(Vec::new(alloc)))
+pub(crate) fn turn(alloc: Global) -> Result<Step, AllocError> {
+    Ok(Step::Turn(Pid::new(alloc, Vec::new(alloc))?))
 }
 
 // What happens in a world up to its end, one event a line.
@@ -96,7 +96,7 @@ fn run_on(alloc: Global, world: &mut World) -> Result<Vec<u8>, Fail> {
     let mut text = Vec::new(alloc);
     for _ in 0..20 {
         if !world.enabled(alloc)?.is_empty() {
-            world.step(alloc, &turn(alloc))?;
+            world.step(alloc, &turn(alloc)?)?;
             text.extend_from_slice(last(alloc, world)?.as_slice())?;
             text.push(b'\n')?;
         }
@@ -283,16 +283,16 @@ fn other_steps_are_not_enabled(rt: HostRuntime) -> Result<(), Fail> {
     let alloc = rt.alloc();
     let program = program(alloc, "'ok'")?;
     let mut world = World::open(alloc, &program)?;
-    let child = Step::Turn(Pid(Vec::from_slice(alloc, &[1])?));
-    let first = Pid(Vec::new(alloc));
-    let delivery = Step::Deliver(Pid(Vec::new(alloc)), first);
+    let child = Step::Turn(Pid::new(alloc, Vec::from_slice(alloc, &[1])?)?);
+    let first = Pid::new(alloc, Vec::new(alloc))?;
+    let delivery = Step::Deliver(Pid::new(alloc, Vec::new(alloc))?, first);
     assert!(rt; world.last_event().is_none());
     assert_eq!(rt; world.step(alloc, &child), Err(WorldFault::NotEnabled));
     assert_eq!(rt; world.step(alloc, &delivery), Err(WorldFault::NotEnabled));
     let text = run_on(alloc, &mut world)?;
     assert_eq!(rt; text.as_slice(), b"'normal'\n".as_slice());
     assert_eq!(rt;
-        world.step(alloc, &turn(alloc)),
+        world.step(alloc, &turn(alloc)?),
         Err(WorldFault::NotEnabled)
     );
     let again = last(alloc, &world)?;

@@ -1,6 +1,6 @@
 -- Tuples (Erlang reference manual, module erlang, `element/2`, `setelement/3`, `tuple_size/1`, `tuple_to_list/1`). Places count from 1.
 use Rattle.std.specs.Prelude.{ℕ, suc, ℤ, pos, nat_lt, slice_get, slice_set, List, length, Option, Some, None, if◌then◌else◌}
-use Rattle.term_core.specs.Meaning.{Meaning, Tuple, Nil, meanings_of, parts_of}
+use Rattle.term_core.specs.Meaning.{Meaning, Tuple, Nil, meanings_of}
 use Rattle.term_core.specs.Term.{list_onto}
 use Rattle.term_core.specs.Kinds.{tuple_in}
 use Rattle.pure_calls.specs.Answers.{Answer, Value, integer_in, whole, wrong_argument}

@@ -11,12 +11,12 @@ use std::alloc::{AllocError, Global};
 use term_core::{Pid, Term, Terms};
 
 /// What a call without arguments gives.
-fn answer_to_none(alloc: Global, own: &Pid, call: PureCall) -> Result<Outcome, AllocError>
+fn answer_to_none(own: &Pid, call: PureCall) -> Result<Outcome, AllocError>
     ensures { IfOk result (λ outcome. outcome_of outcome ≡ answer_to_none own.now call) }
 {
     match call {
-        PureCall::OwnPid => Ok(Outcome::Value(Term::Pid(own.copy(alloc)?))),
-        _ => raise::undefined(alloc),
+        PureCall::OwnPid => Ok(Outcome::Value(Term::Pid(own.copy()?))),
+        _ => Ok(raise::undefined()),
     }
 }
 
@@ -25,32 +25,32 @@ fn answer_to_one(alloc: Global, call: PureCall, a: &Term) -> Result<Outcome, All
     ensures { IfOk result (λ outcome. outcome_of outcome ≡ answer_to_one call (meaning_of a.now)) }
 {
     match call {
-        PureCall::Keep => integer_or_refusal(alloc, arithmetic::plus_of(a)),
-        PureCall::Negate => integer_or_refusal(alloc, arithmetic::negative(a)),
-        PureCall::Absolute => integer_or_refusal(alloc, arithmetic::absolute(a)),
-        PureCall::BitNot => integer_or_refusal(alloc, arithmetic::bit_not(a)),
-        PureCall::Not => truth_or_refusal(alloc, compare::negation(a)),
-        PureCall::IsInteger => truth_or_refusal(alloc, Ok(kinds::is_integer(a))),
-        PureCall::IsNumber => truth_or_refusal(alloc, Ok(kinds::is_integer(a))),
-        PureCall::IsAtom => truth_or_refusal(alloc, Ok(kinds::is_atom(a))),
-        PureCall::IsBoolean => truth_or_refusal(alloc, Ok(kinds::is_boolean(a))),
-        PureCall::IsTuple => truth_or_refusal(alloc, Ok(kinds::is_tuple(a))),
-        PureCall::IsList => truth_or_refusal(alloc, Ok(kinds::is_list(a))),
-        PureCall::IsPid => truth_or_refusal(alloc, Ok(kinds::is_pid(a))),
-        PureCall::IsReference => truth_or_refusal(alloc, Ok(kinds::is_reference(a))),
-        PureCall::IsFloat => truth_or_refusal(alloc, Ok(false)),
-        PureCall::IsBinary => truth_or_refusal(alloc, Ok(false)),
-        PureCall::TupleSize => integer_or_refusal(alloc, tuples::size_of_tuple(a)),
-        PureCall::Head => lists::head_of(alloc, a),
-        PureCall::Tail => lists::tail_of(alloc, a),
-        PureCall::Length => integer_or_refusal(alloc, lists::length_of(a)),
+        PureCall::Keep => Ok(integer_or_refusal(arithmetic::plus_of(a))),
+        PureCall::Negate => Ok(integer_or_refusal(arithmetic::negative(a))),
+        PureCall::Absolute => Ok(integer_or_refusal(arithmetic::absolute(a))),
+        PureCall::BitNot => Ok(integer_or_refusal(arithmetic::bit_not(a))),
+        PureCall::Not => Ok(truth_or_refusal(compare::negation(a))),
+        PureCall::IsInteger => Ok(truth_or_refusal(Ok(kinds::is_integer(a)))),
+        PureCall::IsNumber => Ok(truth_or_refusal(Ok(kinds::is_integer(a)))),
+        PureCall::IsAtom => Ok(truth_or_refusal(Ok(kinds::is_atom(a)))),
+        PureCall::IsBoolean => Ok(truth_or_refusal(Ok(kinds::is_boolean(a)))),
+        PureCall::IsTuple => Ok(truth_or_refusal(Ok(kinds::is_tuple(a)))),
+        PureCall::IsList => Ok(truth_or_refusal(Ok(kinds::is_list(a)))),
+        PureCall::IsPid => Ok(truth_or_refusal(Ok(kinds::is_pid(a)))),
+        PureCall::IsReference => Ok(truth_or_refusal(Ok(kinds::is_reference(a)))),
+        PureCall::IsFloat => Ok(truth_or_refusal(Ok(false))),
+        PureCall::IsBinary => Ok(truth_or_refusal(Ok(false))),
+        PureCall::TupleSize => Ok(integer_or_refusal(tuples::size_of_tuple(a))),
+        PureCall::Head => lists::head_of(a),
+        PureCall::Tail => lists::tail_of(a),
+        PureCall::Length => Ok(integer_or_refusal(lists::length_of(a))),
         PureCall::TupleToList => tuples::list_of_tuple(alloc, a),
         PureCall::ListToTuple => lists::tuple_of_list(alloc, a),
-        PureCall::Error => raise::error_with(alloc, a),
-        PureCall::Exit => raise::exit_with(alloc, a),
-        PureCall::Throw => raise::throw_of(alloc, a),
+        PureCall::Error => raise::error_with(a),
+        PureCall::Exit => raise::exit_with(a),
+        PureCall::Throw => raise::throw_of(a),
         PureCall::Reverse => lists::reversed(alloc, a),
-        _ => raise::undefined(alloc),
+        _ => Ok(raise::undefined()),
     }
 }
 
@@ -59,32 +59,32 @@ fn answer_to_two(alloc: Global, call: PureCall, a: &Term, b: &Term) -> Result<Ou
     ensures { IfOk result (λ outcome. outcome_of outcome ≡ answer_to_two call (meaning_of a.now) (meaning_of b.now)) }
 {
     match call {
-        PureCall::Add => integer_or_refusal(alloc, arithmetic::sum(a, b)),
-        PureCall::Subtract => integer_or_refusal(alloc, arithmetic::difference(a, b)),
-        PureCall::Multiply => integer_or_refusal(alloc, arithmetic::product(a, b)),
-        PureCall::Divide => integer_or_refusal(alloc, arithmetic::quotient(a, b)),
-        PureCall::Remainder => integer_or_refusal(alloc, arithmetic::remainder(a, b)),
-        PureCall::BitAnd => integer_or_refusal(alloc, arithmetic::bit_and(a, b)),
-        PureCall::BitOr => integer_or_refusal(alloc, arithmetic::bit_or(a, b)),
-        PureCall::BitXor => integer_or_refusal(alloc, arithmetic::bit_xor(a, b)),
-        PureCall::Equal => truth_or_refusal(alloc, Ok(compare::are_equal(a, b))),
-        PureCall::NotEqual => truth_or_refusal(alloc, Ok(compare::are_different(a, b))),
-        PureCall::Same => truth_or_refusal(alloc, Ok(compare::are_equal(a, b))),
-        PureCall::NotSame => truth_or_refusal(alloc, Ok(compare::are_different(a, b))),
-        PureCall::Less => truth_or_refusal(alloc, Ok(compare::is_less(a, b))),
-        PureCall::AtMost => truth_or_refusal(alloc, Ok(compare::is_at_most(a, b))),
-        PureCall::Greater => truth_or_refusal(alloc, Ok(compare::is_greater(a, b))),
-        PureCall::AtLeast => truth_or_refusal(alloc, Ok(compare::is_at_least(a, b))),
-        PureCall::And => truth_or_refusal(alloc, compare::conjunction(a, b)),
-        PureCall::Or => truth_or_refusal(alloc, compare::disjunction(a, b)),
-        PureCall::Xor => truth_or_refusal(alloc, compare::exclusion(a, b)),
-        PureCall::Element => tuples::element(alloc, a, b),
+        PureCall::Add => Ok(integer_or_refusal(arithmetic::sum(a, b))),
+        PureCall::Subtract => Ok(integer_or_refusal(arithmetic::difference(a, b))),
+        PureCall::Multiply => Ok(integer_or_refusal(arithmetic::product(a, b))),
+        PureCall::Divide => Ok(integer_or_refusal(arithmetic::quotient(a, b))),
+        PureCall::Remainder => Ok(integer_or_refusal(arithmetic::remainder(a, b))),
+        PureCall::BitAnd => Ok(integer_or_refusal(arithmetic::bit_and(a, b))),
+        PureCall::BitOr => Ok(integer_or_refusal(arithmetic::bit_or(a, b))),
+        PureCall::BitXor => Ok(integer_or_refusal(arithmetic::bit_xor(a, b))),
+        PureCall::Equal => Ok(truth_or_refusal(Ok(compare::are_equal(a, b)))),
+        PureCall::NotEqual => Ok(truth_or_refusal(Ok(compare::are_different(a, b)))),
+        PureCall::Same => Ok(truth_or_refusal(Ok(compare::are_equal(a, b)))),
+        PureCall::NotSame => Ok(truth_or_refusal(Ok(compare::are_different(a, b)))),
+        PureCall::Less => Ok(truth_or_refusal(Ok(compare::is_less(a, b)))),
+        PureCall::AtMost => Ok(truth_or_refusal(Ok(compare::is_at_most(a, b)))),
+        PureCall::Greater => Ok(truth_or_refusal(Ok(compare::is_greater(a, b)))),
+        PureCall::AtLeast => Ok(truth_or_refusal(Ok(compare::is_at_least(a, b)))),
+        PureCall::And => Ok(truth_or_refusal(compare::conjunction(a, b))),
+        PureCall::Or => Ok(truth_or_refusal(compare::disjunction(a, b))),
+        PureCall::Xor => Ok(truth_or_refusal(compare::exclusion(a, b))),
+        PureCall::Element => tuples::element(a, b),
         PureCall::Append => lists::appended(alloc, a, b),
         PureCall::Without => lists::subtracted(alloc, a, b),
-        PureCall::ErrorWith => raise::error_with(alloc, a),
-        PureCall::Member => truth_or_refusal(alloc, lists::membership(a, b)),
+        PureCall::ErrorWith => raise::error_with(a),
+        PureCall::Member => Ok(truth_or_refusal(lists::membership(a, b))),
         PureCall::AppendLists => lists::appended(alloc, a, b),
-        _ => raise::undefined(alloc),
+        _ => Ok(raise::undefined()),
     }
 }
 
@@ -99,9 +99,9 @@ fn answer_to_three(
     ensures { IfOk result (λ outcome. outcome_of outcome ≡ answer_to_three call (meaning_of a.now) (meaning_of b.now) (meaning_of c.now)) }
 {
     match call {
-        PureCall::IsRecord => truth_or_refusal(alloc, kinds::record_test(a, b, c)),
+        PureCall::IsRecord => Ok(truth_or_refusal(kinds::record_test(a, b, c))),
         PureCall::SetElement => tuples::with_element(alloc, a, b, c),
-        _ => raise::undefined(alloc),
+        _ => Ok(raise::undefined()),
     }
 }
 
@@ -122,10 +122,10 @@ pub fn answer(
     ensures { IfOk result (λ outcome. outcome_of outcome ≡ answer_of own.now call arguments) }
 {
     match arguments.as_slice() {
-        [] => answer_to_none(alloc, own, call),
+        [] => answer_to_none(own, call),
         [a] => answer_to_one(alloc, call, a),
         [a, b] => answer_to_two(alloc, call, a, b),
         [a, b, c] => answer_to_three(alloc, call, a, b, c),
-        _ => raise::undefined(alloc),
+        _ => Ok(raise::undefined()),
     }
 }

@@ -43,7 +43,7 @@ fn heads(alloc: Global, list: &Term) -> Result<Vec<Term>, AllocError>
     let mut copied = Vec::new(alloc);
     let mut rest = list;
     while let Some(pair) = rest.as_cell() {
-        copied.push(pair.head().copy(alloc)?)?;
+        copied.push(pair.head().copy()?)?;
         rest = pair.tail();
     }
     Ok(copied)
@@ -64,22 +64,22 @@ fn one_equals(wanted: &Term, list: &Term) -> bool
 }
 
 /// `hd` of a term.
-pub(crate) fn head_of(alloc: Global, term: &Term) -> Result<Outcome, AllocError>
+pub(crate) fn head_of(term: &Term) -> Result<Outcome, AllocError>
     ensures { IfOk result (λ outcome. outcome_of outcome ≡ head_of (meaning_of term.now)) }
 {
     match term.as_cell() {
-        Some(pair) => Ok(Outcome::Value(pair.head().copy(alloc)?)),
-        None => refuse(alloc, Refusal::BadArgument),
+        Some(pair) => Ok(Outcome::Value(pair.head().copy()?)),
+        None => Ok(refuse(Refusal::BadArgument)),
     }
 }
 
 /// `tl` of a term.
-pub(crate) fn tail_of(alloc: Global, term: &Term) -> Result<Outcome, AllocError>
+pub(crate) fn tail_of(term: &Term) -> Result<Outcome, AllocError>
     ensures { IfOk result (λ outcome. outcome_of outcome ≡ tail_of (meaning_of term.now)) }
 {
     match term.as_cell() {
-        Some(pair) => Ok(Outcome::Value(pair.tail().copy(alloc)?)),
-        None => refuse(alloc, Refusal::BadArgument),
+        Some(pair) => Ok(Outcome::Value(pair.tail().copy()?)),
+        None => Ok(refuse(Refusal::BadArgument)),
     }
 }
 
@@ -99,10 +99,10 @@ pub(crate) fn appended(alloc: Global, list: &Term, behind: &Term) -> Result<Outc
     ensures { IfOk result (λ outcome. outcome_of outcome ≡ appended (meaning_of list.now) (meaning_of behind.now)) }
 {
     if !is_proper(list) {
-        return refuse(alloc, Refusal::BadArgument);
+        return Ok(refuse(Refusal::BadArgument));
     }
     let items = heads(alloc, list)?;
-    Ok(Outcome::Value(list_onto(alloc, items, behind.copy(alloc)?)?))
+    Ok(Outcome::Value(list_onto(alloc, items, behind.copy()?)?))
 }
 
 /// The place of the first item that is equal to a term, from 0.
@@ -142,7 +142,7 @@ pub(crate) fn subtracted(alloc: Global, list: &Term, taken: &Term) -> Result<Out
     ensures { IfOk result (λ outcome. outcome_of outcome ≡ subtracted (meaning_of list.now) (meaning_of taken.now)) }
 {
     if !(is_proper(list) && is_proper(taken)) {
-        return refuse(alloc, Refusal::BadArgument);
+        return Ok(refuse(Refusal::BadArgument));
     }
     let mut items = heads(alloc, list)?;
     remove_each(&mut items, taken);
@@ -154,7 +154,7 @@ pub(crate) fn tuple_of_list(alloc: Global, list: &Term) -> Result<Outcome, Alloc
     ensures { IfOk result (λ outcome. outcome_of outcome ≡ tuple_of_list (meaning_of list.now)) }
 {
     if !is_proper(list) {
-        return refuse(alloc, Refusal::BadArgument);
+        return Ok(refuse(Refusal::BadArgument));
     }
     let items = heads(alloc, list)?;
     Ok(Outcome::Value(Term::tuple(alloc, Terms::from_vec(items))?))
@@ -167,9 +167,9 @@ pub(crate) fn reversed(alloc: Global, list: &Term) -> Result<Outcome, AllocError
 {
     if !is_proper(list) {
         if cells(list) < 2 {
-            return refuse(alloc, Refusal::FunctionClause);
+            return Ok(refuse(Refusal::FunctionClause));
         }
-        return refuse(alloc, Refusal::BadArgument);
+        return Ok(refuse(Refusal::BadArgument));
     }
     let mut items = heads(alloc, list)?;
     items.reverse();

@@ -1,11 +1,11 @@
 // What a call gives, and why it is refused.
-ghost use Rattle.std.specs.Prelude.{◌≡◌, IfOk};
+ghost use Rattle.std.specs.Prelude.{◌≡◌};
 ghost use Rattle.term_core.specs.Term.{meaning_of};
+ghost use Rattle.term_core.specs.Words.{text_of_word};
 ghost use Rattle.pure_calls.specs.Outcomes.{integer_or_refusal, outcome_of, refusal_name, refused, truth_or_refusal};
 ghost use Rattle.pure_calls.specs.Answers.{truth};
 
-use std::alloc::{AllocError, Global};
-use term_core::Term;
+use term_core::{Term, Word};
 
 /// The class of an exception (Erlang reference manual, "Errors and Error Handling").
 #[derive(Clone, Copy)]
@@ -38,60 +38,54 @@ pub(crate) enum Refusal {
 }
 
 impl Refusal {
-    /// The text of the reason.
-    fn name(self) -> &'static str
-        ensures { result.now ≡ refusal_name self }
+    /// The reason.
+    fn word(self) -> Word
+        ensures { text_of_word result ≡ refusal_name self }
     {
         match self {
-            Refusal::BadArgument => "badarg",
-            Refusal::BadArithmetic => "badarith",
-            Refusal::FunctionClause => "function_clause",
-            Refusal::SystemLimit => "system_limit",
-            Refusal::Undefined => "undef",
+            Refusal::BadArgument => Word::BadArgument,
+            Refusal::BadArithmetic => Word::BadArithmetic,
+            Refusal::FunctionClause => Word::FunctionClause,
+            Refusal::SystemLimit => Word::SystemLimit,
+            Refusal::Undefined => Word::Undefined,
         }
     }
 }
 
 /// The error of a refused call.
-pub(crate) fn refuse(alloc: Global, refusal: Refusal) -> Result<Outcome, AllocError>
-    ensures { IfOk result (λ outcome. outcome_of outcome ≡ refused refusal) }
+pub(crate) fn refuse(refusal: Refusal) -> Outcome
+    ensures { outcome_of result ≡ refused refusal }
 {
-    Ok(Outcome::Raised(Class::Error, Term::atom(alloc, refusal.name())?))
+    Outcome::Raised(Class::Error, Term::word(refusal.word()))
 }
 
 /// The atom of a boolean.
-fn truth(alloc: Global, is_true: bool) -> Result<Term, AllocError>
-    ensures { IfOk result (λ atom. meaning_of atom ≡ truth is_true) }
+fn truth(is_true: bool) -> Term
+    ensures { meaning_of result ≡ truth is_true }
 {
     if is_true {
-        Term::atom(alloc, "true")
+        Term::word(Word::True)
     } else {
-        Term::atom(alloc, "false")
+        Term::word(Word::False)
     }
 }
 
 /// An integer, or the error of a refused call.
-pub(crate) fn integer_or_refusal(
-    alloc: Global,
-    number: Result<i64, Refusal>,
-) -> Result<Outcome, AllocError>
-    ensures { IfOk result (λ outcome. outcome_of outcome ≡ integer_or_refusal number) }
+pub(crate) fn integer_or_refusal(number: Result<i64, Refusal>) -> Outcome
+    ensures { outcome_of result ≡ integer_or_refusal number }
 {
     match number {
-        Ok(number) => Ok(Outcome::Value(Term::Int(number))),
-        Err(refusal) => refuse(alloc, refusal),
+        Ok(number) => Outcome::Value(Term::Int(number)),
+        Err(refusal) => refuse(refusal),
     }
 }
 
 /// A boolean, or the error of a refused call.
-pub(crate) fn truth_or_refusal(
-    alloc: Global,
-    is_true: Result<bool, Refusal>,
-) -> Result<Outcome, AllocError>
-    ensures { IfOk result (λ outcome. outcome_of outcome ≡ truth_or_refusal is_true) }
+pub(crate) fn truth_or_refusal(is_true: Result<bool, Refusal>) -> Outcome
+    ensures { outcome_of result ≡ truth_or_refusal is_true }
 {
     match is_true {
-        Ok(is_true) => Ok(Outcome::Value(truth(alloc, is_true)?)),
-        Err(refusal) => refuse(alloc, refusal),
+        Ok(is_true) => Outcome::Value(truth(is_true)),
+        Err(refusal) => refuse(refusal),
     }
 }

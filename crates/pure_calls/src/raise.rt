@@ -5,33 +5,33 @@ ghost use Rattle.pure_calls.specs.Outcomes.{outcome_of};
 ghost use Rattle.pure_calls.specs.Raising.{error_with, exit_with, throw_of, undefined};
 
 use crate::outcome::{Class, Outcome, Refusal, refuse};
-use std::alloc::{AllocError, Global};
+use std::alloc::AllocError;
 use term_core::Term;
 
 /// An error with this reason.
-pub(crate) fn error_with(alloc: Global, reason: &Term) -> Result<Outcome, AllocError>
+pub(crate) fn error_with(reason: &Term) -> Result<Outcome, AllocError>
     ensures { IfOk result (λ outcome. outcome_of outcome ≡ error_with (meaning_of reason.now)) }
 {
-    Ok(Outcome::Raised(Class::Error, reason.copy(alloc)?))
+    Ok(Outcome::Raised(Class::Error, reason.copy()?))
 }
 
 /// An exit with this reason.
-pub(crate) fn exit_with(alloc: Global, reason: &Term) -> Result<Outcome, AllocError>
+pub(crate) fn exit_with(reason: &Term) -> Result<Outcome, AllocError>
     ensures { IfOk result (λ outcome. outcome_of outcome ≡ exit_with (meaning_of reason.now)) }
 {
-    Ok(Outcome::Raised(Class::Exit, reason.copy(alloc)?))
+    Ok(Outcome::Raised(Class::Exit, reason.copy()?))
 }
 
 /// A term that is thrown.
-pub(crate) fn throw_of(alloc: Global, term: &Term) -> Result<Outcome, AllocError>
+pub(crate) fn throw_of(term: &Term) -> Result<Outcome, AllocError>
     ensures { IfOk result (λ outcome. outcome_of outcome ≡ throw_of (meaning_of term.now)) }
 {
-    Ok(Outcome::Raised(Class::Throw, term.copy(alloc)?))
+    Ok(Outcome::Raised(Class::Throw, term.copy()?))
 }
 
 /// The error of what there is no function for.
-pub(crate) fn undefined(alloc: Global) -> Result<Outcome, AllocError>
-    ensures { IfOk result (λ outcome. outcome_of outcome ≡ undefined) }
+pub(crate) fn undefined() -> Outcome
+    ensures { outcome_of result ≡ undefined }
 {
-    refuse(alloc, Refusal::Undefined)
+    refuse(Refusal::Undefined)
 }

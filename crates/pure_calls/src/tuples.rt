@@ -34,22 +34,22 @@ pub(crate) fn copies(alloc: Global, terms: &[Term]) -> Result<Vec<Term>, AllocEr
 {
     let mut copied = Vec::with_capacity(alloc, terms.len())?;
     for term in terms {
-        copied.push(term.copy(alloc)?)?;
+        copied.push(term.copy()?)?;
     }
     Ok(copied)
 }
 
 /// `element` of a place and a tuple.
-pub(crate) fn element(alloc: Global, index: &Term, term: &Term) -> Result<Outcome, AllocError>
+pub(crate) fn element(index: &Term, term: &Term) -> Result<Outcome, AllocError>
     ensures { IfOk result (λ outcome. outcome_of outcome ≡ element (meaning_of index.now) (meaning_of term.now)) }
 {
     let Some(parts) = term.as_tuple() else {
-        return refuse(alloc, Refusal::BadArgument);
+        return Ok(refuse(Refusal::BadArgument));
     };
     let parts = parts.as_slice();
     match before_place(index, parts.len()) {
-        Some(before) => Ok(Outcome::Value(parts[before].copy(alloc)?)),
-        None => refuse(alloc, Refusal::BadArgument),
+        Some(before) => Ok(Outcome::Value(parts[before].copy()?)),
+        None => Ok(refuse(Refusal::BadArgument)),
     }
 }
 
@@ -68,7 +68,7 @@ fn tuple_with(alloc: Global, parts: &[Term], place: usize, value: &Term) -> Resu
     ensures { IfOk result (λ term. meaning_of term ≡ Tuple (meanings_of (slice_set (map meaning_of parts.now) place (meaning_of value.now)))) }
 {
     let mut replaced = copies(alloc, parts)?;
-    replace(&mut replaced, place, value.copy(alloc)?);
+    replace(&mut replaced, place, value.copy()?);
     Term::tuple(alloc, Terms::from_vec(replaced))
 }
 
@@ -82,12 +82,12 @@ pub(crate) fn with_element(
     ensures { IfOk result (λ outcome. outcome_of outcome ≡ with_element (meaning_of index.now) (meaning_of term.now) (meaning_of value.now)) }
 {
     let Some(parts) = term.as_tuple() else {
-        return refuse(alloc, Refusal::BadArgument);
+        return Ok(refuse(Refusal::BadArgument));
     };
     let parts = parts.as_slice();
     match before_place(index, parts.len()) {
         Some(place) => Ok(Outcome::Value(tuple_with(alloc, parts, place, value)?)),
-        None => refuse(alloc, Refusal::BadArgument),
+        None => Ok(refuse(Refusal::BadArgument)),
     }
 }
 
@@ -106,7 +106,7 @@ pub(crate) fn list_of_tuple(alloc: Global, term: &Term) -> Result<Outcome, Alloc
     ensures { IfOk result (λ outcome. outcome_of outcome ≡ list_of_tuple (meaning_of term.now)) }
 {
     let Some(parts) = term.as_tuple() else {
-        return refuse(alloc, Refusal::BadArgument);
+        return Ok(refuse(Refusal::BadArgument));
     };
     let items = copies(alloc, parts.as_slice())?;
     Ok(Outcome::Value(list_onto(alloc, items, Term::Nil)?))

@@ -1,5 +1,5 @@
 -- What `==` tells: the two are the same.
-use Rattle.std.proofs.Common.{◌≡◌, ◌↔◌, Bool, List, IsTrue, sym, ap, ◌∙◌}
+use Rattle.std.proofs.Common.{◌≡◌, ◌↔◌, Bool, ℕ, List, IsTrue, sym, ap, ◌∙◌}
 use Rattle.std.specs.declared.cmp.Ordering.{Ordering}
 use Rattle.std.specs.declared.cmp.Ordering.TheVariants.{Equal}
 use Rattle.std.specs.Ordering.{is_eq, eq_by_cmp}
@@ -9,7 +9,6 @@ use Rattle.term_core.specs.Order.{order_of_terms, order_of_pairs, order_of_items
 use Rattle.term_core.specs.inside.OrderLaws.{terms_total, pairs_total, items_total, same_term, same_pair, same_items}
 use Rattle.term_core.specs.StepOrder.{order_of_reference_ids, order_of_steps}
 use Rattle.term_core.specs.inside.StepOrderLaws.{reference_ids_total, same_reference_id, steps_total, same_step}
-use Rattle.term_core.specs.declared.pid.RefId.{RefId}
 use Rattle.term_core.specs.declared.step.Step.{Step}
 
 -- `==` by a total order that is Equal only of the same
@@ -30,7 +29,7 @@ pub items_same : (a b : List Meaning) (r : Bool) → r ≡ eq_by_cmp order_of_it
 items_same = by_order items_total same_items
 
 -- references
-pub reference_ids_same : (a b : RefId) (r : Bool) → r ≡ eq_by_cmp order_of_reference_ids a b → IsTrue r ↔ (a ≡ b)
+pub reference_ids_same : (a b : List ℕ × ℕ) (r : Bool) → r ≡ eq_by_cmp order_of_reference_ids a b → IsTrue r ↔ (a ≡ b)
 reference_ids_same = by_order reference_ids_total same_reference_id
 
 -- steps

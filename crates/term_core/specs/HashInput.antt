@@ -2,9 +2,7 @@
 use Rattle.std.specs.Prelude.{ℕ, List, [], ◌++◌, length}
 use Rattle.std.specs.Hash as fed
 use Rattle.std.specs.Hash.{HashWrites}
-use Rattle.std.specs.List.{flat_map}
 use Rattle.term_core.specs.Meaning.{Meaning, Meanings, Int, Atom, Ref, Pid, Tuple, Nil, Cons, NoMore, Also, parts_of}
-use Rattle.term_core.specs.declared.pid.RefId.{RefId}
 use Rattle.term_core.specs.declared.step.Step.{Step}
 use Rattle.term_core.specs.declared.step.Step.TheVariants.{Turn, Deliver}
 
@@ -41,8 +39,8 @@ abbrev pub writes_of_pair : Meaning × Meaning → HashWrites
 writes_of_pair p = writes_of_term p.0 ++ writes_of_term p.1
 
 -- a reference as a value
-abbrev pub writes_of_reference_id : RefId → HashWrites
-writes_of_reference_id r = writes_of_reference r.pid r.number
+abbrev pub writes_of_reference_id : List ℕ × ℕ → HashWrites
+writes_of_reference_id r = writes_of_reference r.0 r.1
 
 -- a step: whether it is a turn or a delivery, and its pids
 abbrev pub writes_of_step : Step → HashWrites

@@ -1,4 +1,5 @@
 pub mod Meaning
+pub mod Words
 pub mod Term
 pub mod Kinds
 pub mod Integers

@@ -1,17 +1,16 @@
 -- The order of references, steps and schedules.
-use Rattle.std.specs.Prelude.{List, length}
+use Rattle.std.specs.Prelude.{ℕ, List, length}
 use Rattle.std.specs.declared.cmp.Ordering.{Ordering}
 use Rattle.std.specs.declared.cmp.Ordering.TheVariants.{Less, Greater}
 use Rattle.std.specs.Ordering.{nat_cmp, ordering_then}
 use Rattle.std.specs.Cmp.Lexicographic.{slice_cmp}
 use Rattle.term_core.specs.Order.{order_of_lists, order_of_references}
-use Rattle.term_core.specs.declared.pid.RefId.{RefId}
 use Rattle.term_core.specs.declared.step.Step.{Step}
 use Rattle.term_core.specs.declared.step.Step.TheVariants.{Turn, Deliver}
 
 -- references by pid, then by number
-abbrev pub order_of_reference_ids : RefId → RefId → Ordering
-order_of_reference_ids a b = order_of_references a.pid a.number b.pid b.number
+abbrev pub order_of_reference_ids : List ℕ × ℕ → List ℕ × ℕ → Ordering
+order_of_reference_ids a b = order_of_references a.0 a.1 b.0 b.1
 
 -- turns by pid, then deliveries by from, then to
 abbrev pub order_of_steps : Step → Step → Ordering

@@ -8,7 +8,7 @@ use Rattle.term_core.specs.declared.term.Term.TheVariants.{Int, Atom, Ref, Pid, 
 abbrev pub meaning_of : Term → Meaning
 meaning_of (Int n) = terms.Int n
 meaning_of (Atom a) = terms.Atom a
-meaning_of (Ref r) = terms.Ref r.pid r.number
+meaning_of (Ref r) = terms.Ref r.0 r.1
 meaning_of (Pid p) = terms.Pid p
 meaning_of (Tuple ts) = terms.Tuple (meanings_of ts.value)
 meaning_of Nil = terms.Nil

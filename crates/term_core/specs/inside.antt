@@ -1,4 +1,5 @@
 pub mod MeaningCodes
+pub mod AtomTexts
 pub mod Depth
 pub mod OrderLaws
 pub mod StepOrderLaws

@@ -3,9 +3,11 @@ ghost use Rattle.std.specs.Prelude.{◌≡◌, IfOk, map};
 ghost use Rattle.term_core.specs.Meaning as terms;
 ghost use Rattle.term_core.specs.Meaning.{meanings_of};
 ghost use Rattle.term_core.specs.Term.{meaning_of, list_onto};
+ghost use Rattle.term_core.specs.Words.{text_of_word};
 
 use crate::atom::Atom;
 use crate::term::{Pair, Term, Terms};
+use crate::word::Word;
 use std::alloc::{AllocError, Global};
 use std::sync::Arc;
 
@@ -15,6 +17,13 @@ impl Term {
         ensures { IfOk result (λ atom. meaning_of atom ≡ terms.Atom text.now) }
     {
         Ok(Term::Atom(Atom::new(alloc, text)?))
+    }
+
+    /// The atom of a word of the language. It takes no memory.
+    pub fn word(word: Word) -> Term
+        ensures { meaning_of result ≡ terms.Atom (text_of_word word) }
+    {
+        Term::Atom(Atom::from_word(word))
     }
 
     /// The list cell of a head and a tail, or `AllocError` if there is no memory for it, and then both are

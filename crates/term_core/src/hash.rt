@@ -74,7 +74,7 @@ impl Hash for Atom {
 
     /// Feeds the text.
     fn hash<H: Hasher>(&self, state: &mut H) {
-        self.0.as_str().hash(state);
+        self.as_str().hash(state);
     }
 }
 
@@ -85,7 +85,7 @@ impl Hash for Pid {
 
     /// Feeds how many numbers there are, and each of them.
     fn hash<H: Hasher>(&self, state: &mut H) {
-        self.0.as_slice().hash(state);
+        self.numbers().hash(state);
     }
 }
 
@@ -96,8 +96,8 @@ impl Hash for RefId {
 
     /// Feeds the pid, and the number.
     fn hash<H: Hasher>(&self, state: &mut H) {
-        self.pid.hash(state);
-        self.number.hash(state);
+        self.pid().hash(state);
+        self.number().hash(state);
     }
 }
 

@@ -11,7 +11,7 @@ impl Term {
         ensures { result ≡ is_the_atom text.now (meaning_of self.now) }
     {
         match self {
-            Term::Atom(atom) => atom.0.as_str() == text,
+            Term::Atom(atom) => atom.as_str() == text,
             _ => false,
         }
     }

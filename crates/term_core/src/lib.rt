@@ -17,6 +17,7 @@ pub mod stream;
 pub mod term;
 pub mod term_text;
 pub mod text;
+pub mod word;
 
 pub use atom::Atom;
 pub use build::list_onto;
@@ -30,3 +31,4 @@ pub use term_text::write_term;
 pub use text::{
     write_atom, write_integer, write_number, write_pid, write_reference, write_schedule, write_step,
 };
+pub use word::Word;

@@ -38,7 +38,7 @@ pub fn write_pid<S: Sink>(pid: &Pid, sink: &mut S) -> Result<(), WriteFault>
     ensures { Writes (S.contents sink.old) (S.contents sink.new) (S.has_failed sink.new) result (text_of_pid pid.now) }
 {
     write_all(sink, b"P")?;
-    for number in &pid.0 {
+    for number in pid.numbers() {
         write_dotted(*number, sink)?;
     }
     Ok(())
@@ -57,11 +57,11 @@ fn write_dotted<S: Sink>(number: u64, sink: &mut S) -> Result<(), WriteFault>
 /// beginning of the text was written.
 pub fn write_reference<S: Sink>(reference: &RefId, sink: &mut S) -> Result<(), WriteFault>
     requires { S.has_failed sink.old ≡ false }
-    ensures { Writes (S.contents sink.old) (S.contents sink.new) (S.has_failed sink.new) result (text_of_reference reference.now.pid reference.now.number) }
+    ensures { Writes (S.contents sink.old) (S.contents sink.new) (S.has_failed sink.new) result (text_of_reference reference.now.0 reference.now.1) }
 {
     write_all(sink, b"#")?;
-    write_pid(&reference.pid, sink)?;
-    write_dotted(reference.number, sink)
+    write_pid(reference.pid(), sink)?;
+    write_dotted(reference.number(), sink)
 }
 
 /// Writes an atom in single quotes, with escapes. `WriteFault` comes only where the sink has failed,
@@ -71,7 +71,8 @@ pub fn write_atom<S: Sink>(atom: &Atom, sink: &mut S) -> Result<(), WriteFault>
     ensures { Writes (S.contents sink.old) (S.contents sink.new) (S.has_failed sink.new) result (text_of_atom atom.now) }
 {
     write_all(sink, b"'")?;
-    let bytes = atom.0.as_bytes();
+    let text = atom.as_str();
+    let bytes = text.as_bytes();
     for byte in bytes {
         write_atom_byte(*byte, sink)?;
     }

@@ -8,8 +8,8 @@ use Rattle.world_core.specs.declared.event.Event.{Event}
 
 -- what a step did
 abbrev pub deed_seen : Stored → Deed
-deed_seen (stored.Served kind arguments answer) = Served kind arguments (meaning_of answer)
-deed_seen (stored.Refused kind arguments rule owner) = Refused kind arguments rule owner
+deed_seen (stored.Served kind arguments answer) = Served kind arguments.value (meaning_of answer)
+deed_seen (stored.Refused kind arguments rule owner) = Refused kind arguments.value rule owner
 deed_seen (stored.Ended reason) = Ended (meaning_of reason)
 deed_seen stored.RanAway = RanAway
 deed_seen stored.TimedOut = TimedOut

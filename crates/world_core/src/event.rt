@@ -1,6 +1,7 @@
 // What happened in a world.
 use crate::tables::rule::Rule;
 use core_tree::CallKind;
+use std::sync::Arc;
 use term_core::{Pid, Step, Term, Terms};
 
 /// What a step did.
@@ -9,13 +10,13 @@ pub enum Deed {
     /// A call was served.
     Served {
         kind: CallKind,
-        arguments: Terms,
+        arguments: Arc<Terms>,
         answer: Term,
     },
     /// A call of a table was refused with `badarg`.
     Refused {
         kind: CallKind,
-        arguments: Terms,
+        arguments: Arc<Terms>,
         rule: Rule,
         /// The table's owner then; none where the table, the name or the options were at fault.
         owner: Option<Pid>,

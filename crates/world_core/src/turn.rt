@@ -25,7 +25,8 @@ use crate::tables::store::Tables;
 use core_eval::{Answer, Machine, Request};
 use core_tree::CallKind;
 use std::alloc::{AllocError, Global};
-use term_core::{Pid, Term, Terms};
+use std::sync::Arc;
+use term_core::{Pid, Term, Terms, Word};
 
 /// Whether the request can be answered now; a receive without a timeout cannot.
 fn is_answered(request: &Request) -> bool
@@ -46,15 +47,14 @@ pub(crate) fn is_enabled(process: &Process<'_>) -> bool
 }
 
 /// The reason of the error that a refused call raises.
-fn badarg(alloc: Global) -> Result<Term, AllocError>
-    ensures { IfOk result (λ reason. meaning_of reason ≡ Atom (codes "badarg")) }
+fn badarg() -> Term
+    ensures { meaning_of result ≡ Atom (codes "badarg") }
 {
-    Term::atom(alloc, "badarg")
+    Term::word(Word::BadArgument)
 }
 
 /// The owner of the table that a refused call names, where the refusal reports it.
 fn told_owner(
-    alloc: Global,
     tables: &Tables,
     call: &TableCall<'_>,
     rule: Rule,
@@ -62,7 +62,7 @@ fn told_owner(
     ensures { IfOk result (λ owner. owner ≡ told_owner rule (owner_for (find_in tables.now) (call_of call.now))) }
 {
     match tables.owner(call) {
-        Some(owner) if rule.tells_owner() => Ok(Some(owner.copy(alloc)?)),
+        Some(owner) if rule.tells_owner() => Ok(Some(owner.copy()?)),
         _ => Ok(None),
     }
 }
@@ -75,11 +75,11 @@ fn serve<'m>(
     caller: &Pid,
     number: u64,
     kind: CallKind,
-    arguments: Terms,
+    arguments: Arc<Terms>,
 ) -> Result<Deed, AllocError>
-    requires { is_some (table_call kind arguments) ≡ true }
+    requires { is_some (table_call kind arguments.value) ≡ true }
     ensures served { IfOk result (λ deed. (h : History) → AreTables h tables.old → number ≡ turns h caller.now + 1
-        → IsServed h caller.now (Call kind arguments) (deed_seen deed) tables.new) }
+        → IsServed h caller.now (Call kind arguments.value) (deed_seen deed) tables.new) }
     ensures machine { IfOk result (λ deed. (later : List Answered)
         → after machine.new later ≡ after machine.old (answer_in (deed_seen deed) ++ later)) }
     ensures lives { OnOk result (is_spent machine.new ≡ false) }
@@ -88,8 +88,8 @@ fn serve<'m>(
         unreachable!()
     };
     if let Some(rule) = tables.judge(caller, &call) {
-        let owner = told_owner(alloc, tables, &call, rule)?;
-        machine.resume(alloc, Answer::Raise(badarg(alloc)?))?;
+        let owner = told_owner(tables, &call, rule)?;
+        machine.resume(alloc, Answer::Raise(badarg()))?;
         return Ok(Deed::Refused {
             kind,
             arguments,
@@ -98,7 +98,7 @@ fn serve<'m>(
         });
     }
     let answer = tables.apply(alloc, caller, number, &call)?;
-    machine.resume(alloc, Answer::Value(answer.copy(alloc)?))?;
+    machine.resume(alloc, Answer::Value(answer.copy()?))?;
     Ok(Deed::Served {
         kind,
         arguments,
@@ -117,7 +117,7 @@ pub(crate) fn turn<'m>(
     ensures { IfOk result (λ deed. (m : ModuleTree) → (h : History) → IsProcess m h process.old → AreTables h tables.old
         → IsTurn m h process.old process.new (deed_seen deed) tables.new) }
 {
-    let request = process.machine.request().copy(alloc)?;
+    let request = process.machine.request().copy()?;
     process.turns += 1;
     match request {
         Request::Call(kind, arguments) => {

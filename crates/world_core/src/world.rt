@@ -53,10 +53,10 @@ fn first_process<'m>(alloc: Global, program: &'m Module) -> Result<Process<'m>, 
 {
     let main = Atom::new(alloc, "main")?;
     let arguments = Terms::new(alloc);
-    let pid = Pid(Vec::new(alloc));
-    let machine = start(alloc, program, pid, &program.name, &main, arguments)?;
+    let pid = Pid::new(alloc, Vec::new(alloc))?;
+    let machine = start(alloc, program, pid.copy()?, &program.name, &main, arguments)?;
     Ok(Process {
-        pid: Pid(Vec::new(alloc)),
+        pid,
         machine,
         turns: 0,
         is_alive: true,
@@ -114,7 +114,7 @@ impl<'m> World<'m> {
         if !is_enabled(&self.process) {
             return Ok(steps);
         }
-        steps.push(Step::Turn(self.process.pid.copy(alloc)?))?;
+        steps.push(Step::Turn(self.process.pid.copy()?))?;
         Ok(steps)
     }
 
@@ -144,7 +144,7 @@ impl<'m> World<'m> {
         }
         self.is_spent = true;
         let deed = turn(alloc, &mut self.process, &mut self.tables)?;
-        let step = step.copy(alloc)?;
+        let step = step.copy()?;
         self.events.push(Event { step, deed })?;
         self.is_spent = false;
         Ok(())

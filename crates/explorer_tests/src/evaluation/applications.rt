@@ -284,7 +284,7 @@ const ROWS: [Row; 8] = [
 
 // What the first process asks that begins with this function.
 fn begun(alloc: Global, program: &Module, name: &str) -> Result<Vec<u8>, Fail> {
-    let mut machine = process(alloc, program, Pid(Vec::new(alloc)), name)?;
+    let mut machine = process(alloc, program, Pid::new(alloc, Vec::new(alloc))?, name)?;
     run_on(alloc, &mut machine)
 }
 

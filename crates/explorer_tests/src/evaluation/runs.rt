@@ -43,7 +43,7 @@ pub(crate) fn module_of(alloc: Global, body: Expr) -> Result<Module, AllocError>
 
 // The module `m` that exports nothing and has these definitions.
 pub(crate) fn module_with(alloc: Global, definitions: Definitions) -> Result<Module, AllocError> {
-    let name = Atom(String::from_str(alloc, "m")?);
+    let name = Atom::new(alloc, "m")?;
     Ok(Module {
         name,
         exports: Vec::new(alloc),
@@ -59,7 +59,7 @@ pub(crate) fn process<'m>(
     pid: Pid,
     name: &str,
 ) -> Result<Machine<'m>, AllocError> {
-    let function_name = Atom(String::from_str(alloc, name)?);
+    let function_name = Atom::new(alloc, name)?;
     let none = Terms::new(alloc);
     start(alloc, program, pid, &program.name, &function_name, none)
 }
@@ -106,7 +106,7 @@ pub(crate) fn run_on(alloc: Global, machine: &mut Machine) -> Result<Vec<u8>, Fa
 
 // What the first process of the module asks.
 pub(crate) fn run_of(alloc: Global, program: &Module) -> Result<Vec<u8>, Fail> {
-    let mut machine = process(alloc, program, Pid(Vec::new(alloc)), "main")?;
+    let mut machine = process(alloc, program, Pid::new(alloc, Vec::new(alloc))?, "main")?;
     run_on(alloc, &mut machine)
 }
 

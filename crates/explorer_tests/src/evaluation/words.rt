@@ -184,7 +184,7 @@ fn add_look(alloc: Global, parts: &mut Vec<Pattern>, look: Look) -> Result<(), A
         Look::Int(number) => Pattern::Integer(number),
         Look::Letter => Pattern::Character('a'),
         Look::Letters(count) => letters_pattern(alloc, count)?,
-        Look::Name(text) => Pattern::Atom(Atom(String::from_str(alloc, text)?)),
+        Look::Name(text) => Pattern::Atom(Atom::new(alloc, text)?),
         Look::First => Pattern::Variable(variable(alloc, b"X")?),
         Look::Second => Pattern::Variable(variable(alloc, b"Y")?),
         Look::Tuple(count) => Pattern::Tuple(take_patterns(alloc, parts, count)?),
@@ -280,7 +280,7 @@ pub(crate) fn function_name(
     name: &str,
     arity: u8,
 ) -> Result<FunctionName, AllocError> {
-    let name = Atom(String::from_str(alloc, name)?);
+    let name = Atom::new(alloc, name)?;
     Ok(FunctionName { name, arity })
 }
 
@@ -324,7 +324,7 @@ pub(crate) fn put(alloc: Global, parts: &mut Vec<Expr>, word: Word) -> Result<()
         Word::LetTwo => let_of(alloc, parts, &[b"X", b"Y"])?,
         Word::Do => do_of(alloc, parts)?,
         Word::Call(kind, count) => call_of(alloc, parts, kind, count)?,
-        Word::Name(text) => Expr::Atom(Atom(String::from_str(alloc, text)?)),
+        Word::Name(text) => Expr::Atom(Atom::new(alloc, text)?),
         Word::Letter => Expr::Character('a'),
         Word::Case(clauses) => case_of(alloc, parts, clauses)?,
         Word::Try(count) => try_of(alloc, parts, count)?,

@@ -23,12 +23,12 @@ pub(crate) enum Word {
 }
 
 pub(crate) fn own(alloc: Global) -> Result<Pid, AllocError> {
-    Ok(Pid([1].to_vec(alloc)?))
+    Pid::new(alloc, [1].to_vec(alloc)?)
 }
 
 fn reference(alloc: Global) -> Result<Term, AllocError> {
     let pid = own(alloc)?;
-    Ok(Term::Ref(RefId { pid, number: 2 }))
+    Ok(Term::Ref(RefId::new(alloc, pid, 2)?))
 }
 
 fn last(terms: &mut Vec<Term>) -> Term {
@@ -48,7 +48,7 @@ fn take(alloc: Global, terms: &mut Vec<Term>, count: usize) -> Result<Vec<Term>,
 fn add(alloc: Global, terms: &mut Vec<Term>, word: Word) -> Result<(), AllocError> {
     let term = match word {
         Word::Int(number) => Term::Int(number),
-        Word::Name(text) => Term::Atom(Atom(String::from_str(alloc, text)?)),
+        Word::Name(text) => Term::Atom(Atom::new(alloc, text)?),
         Word::Own => Term::Pid(own(alloc)?),
         Word::Reference => reference(alloc)?,
         Word::Tuple(count) => Term::tuple(alloc, Terms::from_vec(take(alloc, terms, count)?))?,

@@ -1,5 +1,5 @@
 -- The orders of references, steps and schedules are total, and answer Equal only where the two are the same.
-use Rattle.std.specs.Prelude.{◌≡◌, ◌∷◌, [], List, ℤ, pos, length}
+use Rattle.std.specs.Prelude.{◌≡◌, ◌∷◌, [], ℕ, List, ℤ, pos, length}
 use Rattle.std.proofs.Common.{refl, ◌∙◌, subst}
 use Rattle.std.specs.declared.cmp.Ordering.TheVariants.{Equal}
 use Rattle.std.specs.Ordering.{ordering_then}
@@ -7,19 +7,18 @@ use Rattle.std.specs.Cmp.{IsTotalOrder, nat_cmp_total, int_cmp_total, on_total, 
 use Rattle.std.specs.Cmp.Lexicographic.{slice_cmp, lists_total, nat_list_cmp_total}
 use Rattle.term_core.specs.Order.{order_of_lists}
 use Rattle.term_core.specs.StepOrder.{order_of_reference_ids, order_of_steps, order_of_schedules}
-use Rattle.term_core.specs.declared.pid.RefId.{RefId}
 use Rattle.term_core.specs.declared.step.Step.{Step}
 use Rattle.term_core.specs.declared.step.Step.TheVariants.{Turn, Deliver}
 use Rattle.term_core.specs.inside.OrderLaws.{first_Equal, second_Equal, then_Equal, same_list, same_number, list_code, code_cmp, code_cmp-list}
 
 -- the order of references is total
 pub reference_ids_total : IsTotalOrder order_of_reference_ids
-reference_ids_total = then_total (on_total (λ r. r.pid) nat_list_cmp_total) (on_total (λ r. r.number) nat_cmp_total)
+reference_ids_total = then_total (on_total (λ r. r.0) nat_list_cmp_total) (on_total (λ r. r.1) nat_cmp_total)
 
 -- Equal references are the same
-pub same_reference_id : (a b : RefId) → order_of_reference_ids a b ≡ Equal → a ≡ b
+pub same_reference_id : (a b : List ℕ × ℕ) → order_of_reference_ids a b ≡ Equal → a ≡ b
 same_reference_id a b e =
-    λ i. record { pid = same_list a.pid b.pid (first_Equal _ _ e) i; number = same_number a.number b.number (second_Equal _ _ e) i }
+    λ i. (same_list a.0 b.0 (first_Equal _ _ e) i, same_number a.1 b.1 (second_Equal _ _ e) i)
 
 -- a code that no other step's begins
 abbrev step_code : Step → List ℤ

@@ -21,7 +21,7 @@ impl PartialEq for Atom {
         ensures value { result ≡ bytes_eq self.now other.now }
         ensures same { IsTrue result ↔ (self.now ≡ other.now) }
     {
-        self.0.as_str() == other.0.as_str()
+        self.as_str() == other.as_str()
     }
 }
 
@@ -50,7 +50,7 @@ impl Ord for Atom {
 
     /// By the UTF-8 bytes of their texts, which is the order of their characters. It takes no memory.
     fn cmp(&self, other: &Atom) -> Ordering {
-        self.0.as_str().cmp(other.0.as_str())
+        self.as_str().cmp(other.as_str())
     }
 }
 
@@ -64,7 +64,7 @@ impl PartialEq for Pid {
         ensures value { result ≡ bytes_eq self.now other.now }
         ensures same { IsTrue result ↔ (self.now ≡ other.now) }
     {
-        self.0.as_slice() == other.0.as_slice()
+        self.numbers() == other.numbers()
     }
 }
 
@@ -94,7 +94,7 @@ impl Ord for Pid {
     /// By their numbers, of which the first that differs decides; a pid comes before its longer ones.
     /// It takes no memory.
     fn cmp(&self, other: &Pid) -> Ordering {
-        self.0.as_slice().cmp(other.0.as_slice())
+        self.numbers().cmp(other.numbers())
     }
 }
 
@@ -137,7 +137,7 @@ impl Ord for RefId {
 
     /// By pid, then by number. It takes no memory.
     fn cmp(&self, other: &RefId) -> Ordering {
-        let pids = self.pid.cmp(&other.pid);
-        pids.then_with(|| self.number.cmp(&other.number))
+        let pids = self.pid().cmp(other.pid());
+        pids.then_with(|| self.number().cmp(&other.number()))
     }
 }

@@ -67,7 +67,7 @@ fn read_pid(alloc: Global, text: &[u8]) -> Result<Option<Pid>, AllocError>
         numbers.push(number)?;
         rest = next;
     }
-    Ok(Some(Pid(numbers)))
+    Ok(Some(Pid::new(alloc, numbers)?))
 }
 
 /// The number that these digits are, or `None` where they are none.

@@ -7,7 +7,7 @@ use Rattle.world_core.specs.inside.Stored.{entry_at, objects_under}
 
 -- what a record says
 abbrev pub found_in : Table → Found
-found_in t = record { table = Ref t.reference.pid t.reference.number; owner = t.owner; protection = t.protection; rows = objects_under t.rows }
+found_in t = record { table = Ref t.reference.0 t.reference.1; owner = t.owner; protection = t.protection; rows = objects_under t.rows }
 
 -- what each argument finds among the records
 abbrev pub find_in : List (Meaning × Table) → Meaning → Option Found

@@ -7,14 +7,15 @@ ghost use Rattle.world_core.specs.Rules.{rule_of_objects};
 ghost use Rattle.world_core.specs.inside.Stored.{objects_under};
 ghost use Rattle.world_core.specs.declared.tables.rule.Rule.TheVariants.{ShortObject};
 
-use crate::tables::rows::Rows;
+use crate::tables::rows::{Object, Rows};
 use crate::tables::rule::Rule;
-use std::alloc::{AllocError, Global};
+use std::alloc::AllocError;
+use std::sync::Arc;
 use term_core::{Pair, Term, Terms};
 
 /// The parts of the tuple that a term is.
-fn tuple_of(term: &Term) -> Option<&Terms>
-    ensures { option_map (λ parts. Tuple (meanings_of parts.now)) result ≡ tuple_of (meaning_of term.now) }
+fn tuple_of(term: &Term) -> Option<&Arc<Terms>>
+    ensures { option_map (λ parts. Tuple (meanings_of parts.now.value)) result ≡ tuple_of (meaning_of term.now) }
 {
     match term {
         Term::Tuple(parts) => Some(parts),
@@ -66,35 +67,31 @@ pub(crate) fn rule_of_objects(objects: &Term) -> Option<Rule>
 }
 
 /// Puts an object with these parts in, unless it is too short to have a key.
-fn insert_object(alloc: Global, rows: &mut Rows, parts: &Terms) -> Result<(), AllocError>
+fn insert_object(rows: &mut Rows, parts: &Arc<Terms>) -> Result<(), AllocError>
     ensures { OnOk result ((key : Meaning) →
-        objects_under rows.new key ≡ replaced (last_with key (Tuple (meanings_of parts.now) ∷ [])) (objects_under rows.old key)) }
+        objects_under rows.new key ≡ replaced (last_with key (Tuple (meanings_of parts.now.value) ∷ [])) (objects_under rows.old key)) }
 {
     let Some(key) = parts.as_slice().first() else {
         return Ok(());
     };
-    let key = key.copy(alloc)?;
-    rows.insert(key, parts.copy(alloc)?)
+    let key = key.copy()?;
+    rows.insert(key, Object::new(parts)?)
 }
 
 /// Puts objects in, one tuple or the tuples of a list, one after the other, so that of two with one key
 /// the later one stays; or fails with `AllocError` if there is no memory for it.
-pub(crate) fn insert_objects(
-    alloc: Global,
-    rows: &mut Rows,
-    objects: &Term,
-) -> Result<(), AllocError>
+pub(crate) fn insert_objects(rows: &mut Rows, objects: &Term) -> Result<(), AllocError>
     ensures { OnOk result ((os : List Meaning) → objects_of (meaning_of objects.now) ≡ Some os → (key : Meaning) →
         objects_under rows.new key ≡ replaced (last_with key os) (objects_under rows.old key)) }
 {
     if let Term::Tuple(parts) = objects {
-        return insert_object(alloc, rows, parts);
+        return insert_object(rows, parts);
     }
     let mut rest = objects;
     while let Term::Cons(cell) = rest {
         let pair: &Pair = cell;
         if let Some(parts) = tuple_of(pair.head()) {
-            insert_object(alloc, rows, parts)?;
+            insert_object(rows, parts)?;
         }
         rest = pair.tail();
     }

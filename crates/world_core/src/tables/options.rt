@@ -39,7 +39,7 @@ fn option_of(term: &Term) -> Option<TableOption>
     let Term::Atom(atom) = term else {
         return None;
     };
-    match atom.0.as_str() {
+    match atom.as_str() {
         "set" => Some(TableOption::Set),
         "public" => Some(TableOption::Protects(Protection::Public)),
         "protected" => Some(TableOption::Protects(Protection::Protected)),

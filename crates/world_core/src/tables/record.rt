@@ -34,20 +34,17 @@ impl Table {
         ensures { IfOk result (λ table. found_in table ≡ made (Ref owner.now number) owner.now protection) }
     {
         Ok(Table {
-            reference: RefId {
-                pid: owner.copy(alloc)?,
-                number,
-            },
-            owner: owner.copy(alloc)?,
+            reference: RefId::new(alloc, owner.copy()?, number)?,
+            owner: owner.copy()?,
             protection,
             rows: Rows::new(alloc),
         })
     }
 
     /// Puts objects into the table, or fails with `AllocError` if there is no memory for it.
-    pub(crate) fn insert(&mut self, alloc: Global, objects: &Term) -> Result<(), AllocError>
+    pub(crate) fn insert(&mut self, objects: &Term) -> Result<(), AllocError>
         ensures { OnOk result ((os : List Meaning) → objects_of (meaning_of objects.now) ≡ Some os → found_in self.new ≡ filled os (found_in self.old)) }
     {
-        insert_objects(alloc, &mut self.rows, objects)
+        insert_objects(&mut self.rows, objects)
     }
 }

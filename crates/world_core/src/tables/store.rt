@@ -15,11 +15,12 @@ use crate::tables::call::TableCall;
 use crate::tables::objects::rule_of_objects;
 use crate::tables::options::{Settings, settings_by, settings_of};
 use crate::tables::record::Table;
+use crate::tables::rows::Object;
 use crate::tables::rule::Rule;
 use indexmap::IndexMap;
 use std::alloc::{AllocError, Global};
 use std::marker::Model;
-use term_core::{Pid, RefId, Term, Terms};
+use term_core::{Pid, RefId, Term, Word};
 
 /// The tables, each under its handle: the name of a named table, and the reference of another one.
 /// Contracts see each handle with its record.
@@ -139,7 +140,7 @@ impl Tables {
             TableCall::New { name, options } => {
                 self.create(alloc, caller, number, name, settings_by(options))
             }
-            TableCall::Insert { table, objects } => self.insert(alloc, table, objects),
+            TableCall::Insert { table, objects } => self.insert(table, objects),
             TableCall::Lookup { table, key } => self.lookup(alloc, table, key),
         }
     }
@@ -159,26 +160,25 @@ impl Tables {
     {
         let table = Table::new(alloc, caller, number, settings.protection)?;
         let handle = handle_of(alloc, caller, number, name, settings)?;
-        let answer = handle.copy(alloc)?;
+        let answer = handle.copy()?;
         self.0.insert(handle, table)?;
         Ok(answer)
     }
 
     /// Puts objects into the table that an argument finds, and gives `'true'`.
-    fn insert(&mut self, alloc: Global, argument: &Term, objects: &Term) -> Result<Term, AllocError>
+    fn insert(&mut self, argument: &Term, objects: &Term) -> Result<Term, AllocError>
         ensures answer { IfOk result (λ answer. meaning_of answer ≡ Atom (codes "true")) }
         ensures tables { OnOk result ((os : List Meaning) → objects_of (meaning_of objects.now) ≡ Some os → (other : Meaning) →
             find_in self.new other ≡ changed (Puts (meaning_of argument.now) os) (find_in self.old) other) }
     {
-        let answer = Term::atom(alloc, "true")?;
         if let Some(table) = self.0.get_mut(argument) {
-            table.insert(alloc, objects)?;
+            table.insert(objects)?;
         }
-        Ok(answer)
+        Ok(Term::word(Word::True))
     }
 
-    /// The parts of the object under a key in the table that an argument finds.
-    fn object_at(&self, argument: &Term, key: &Term) -> Option<&Terms>
+    /// The object under a key in the table that an argument finds.
+    fn object_at(&self, argument: &Term, key: &Term) -> Option<&Object>
         ensures { object_of (option_copied result) ≡ objects_at (find_in self.now (meaning_of argument.now)) (meaning_of key.now) }
     {
         let table = self.get(argument)?;
@@ -189,11 +189,10 @@ impl Tables {
     fn lookup(&self, alloc: Global, argument: &Term, key: &Term) -> Result<Term, AllocError>
         ensures { IfOk result (λ answer. meaning_of answer ≡ list_onto (objects_at (find_in self.now (meaning_of argument.now)) (meaning_of key.now)) Nil) }
     {
-        let Some(parts) = self.object_at(argument, key) else {
-            return Ok(Term::Nil);
-        };
-        let object = Term::tuple(alloc, parts.copy(alloc)?)?;
-        Term::cell(alloc, object, Term::Nil)
+        match self.object_at(argument, key) {
+            Some(object) => Term::cell(alloc, object.term()?, Term::Nil),
+            None => Ok(Term::Nil),
+        }
     }
 }
 
@@ -209,8 +208,7 @@ fn handle_of(
     ensures { IfOk result (λ handle. meaning_of handle ≡ (if settings.is_named then meaning_of name.now else Ref caller.now number)) }
 {
     if settings.is_named {
-        return name.copy(alloc);
+        return name.copy();
     }
-    let pid = caller.copy(alloc)?;
-    Ok(Term::Ref(RefId { pid, number }))
+    Ok(Term::Ref(RefId::new(alloc, caller.copy()?, number)?))
 }

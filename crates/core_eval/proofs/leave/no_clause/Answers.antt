@@ -8,5 +8,5 @@ use Rattle.core_eval.proofs.leave.no_clause.Goals as goal
 pub returns-clause-same : goal.returns-clause-same
 returns-clause-same c =
     same_limited_error _ _ (Tuple (meanings_of (name (codes "case_clause") ∷ as_one c.args.values ∷ [])))
-    (c.in_ok-pair.ensures ∙ (λ i. Tuple (meanings_of (c.in_ok-atom.ensures i ∷ c.in_ok-whole.ensures i ∷ []))))
+    (c.in_ok-reason.ensures ∙ (λ i. Tuple (meanings_of (c.word.ensures i ∷ c.in_ok-whole.ensures i ∷ []))))
     c.limited_error.ensures.same

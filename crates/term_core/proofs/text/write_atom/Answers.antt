@@ -13,7 +13,7 @@ returns-in_err-write_all g c =
 pub loop-byte-init : goal.loop-byte-init
 loop-byte-init g c =
     let w = c.in_ok-write_all.ensures in
-    let same = ap (λ bs. flat_map printed_byte bs ++ 39 ∷ []) (sym (c.as_bytes-bytes.ensures.value ∙ c.atom.view_is)) in
+    let same = ap (λ bs. flat_map printed_byte bs ++ 39 ∷ []) (sym (c.as_bytes-bytes.ensures.value ∙ c.as_str-text.ensures)) in
     (w.sound, owes_same _ _ _ _ _ same (owes_less _ _ _ (39 ∷ []) _ _ (owes_all _ _) w.appends))
 
 pub returns-in_err-write_atom_byte : goal.returns-in_err-write_atom_byte

@@ -13,7 +13,7 @@ returns-in_err-write_all g c =
 pub loop-number-init : goal.loop-number-init
 loop-number-init g c =
     let w = c.in_ok-write_all.ensures in
-    let same = ap (flat_map dotted) (sym (c.deref-number-items.ensures.value ∙ c.pid.view_is)) ∙ sym (append-nil _) in
+    let same = ap (flat_map dotted) (sym c.numbers-number-items.ensures) ∙ sym (append-nil _) in
     (w.sound, owes_same _ _ _ _ _ same (owes_less _ _ _ (80 ∷ []) _ _ (owes_all _ _) w.appends))
 
 pub returns-in_err-write_dotted : goal.returns-in_err-write_dotted

@@ -12,9 +12,9 @@ pub returns-in_err-write_pid : goal.returns-in_err-write_pid
 returns-in_err-write_pid g c =
     let p = err_from_is_err_and c.from_residual-in_err-write_pid.result c.from_residual-in_err-write_pid.ensures.1 in
     let o = owes_less _ _ _ (35 ∷ []) _ _ (owes_all _ _) c.in_ok-write_all.ensures.appends in
-    breaks_at _ _ _ _ _ _ p.1 (owes_break_in _ _ _ _ _ _ _ o c.in_err-write_pid.ensures)
+    breaks_at _ _ _ _ _ _ p.1 (owes_break_in _ _ _ _ _ _ _ o (rw c.pid.ensures at c.in_err-write_pid.ensures))
 
 pub returns : goal.returns
 returns g c =
     let o = owes_less _ _ _ (35 ∷ []) _ _ (owes_all _ _) c.in_ok-write_all.ensures.appends in
-    writes_last _ _ _ _ _ _ _ (owes_less _ _ _ _ _ _ o c.in_ok-write_pid.ensures.appends) c.write_dotted.ensures
+    writes_last _ _ _ _ _ _ _ (owes_less _ _ _ _ _ _ o (rw c.pid.ensures at c.in_ok-write_pid.ensures).appends) (rw c.number.ensures at c.write_dotted.ensures)

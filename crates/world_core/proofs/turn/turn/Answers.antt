@@ -6,7 +6,7 @@ use Rattle.world_core.proofs.turn.turn.Goals as goal
 
 pub returns-in_ok-deed-in-Call : goal.returns-in_ok-deed-in-Call
 returns-in_ok-deed-in-Call c = λ m h.
-    turned_by_call m h c.args.process.now c.serve.new.machine c.in-Call.kind c.in-Call.arguments (deed_seen c.in_ok-deed-in-Call.deed) c.args.tables.now c.serve.new.tables
+    turned_by_call m h c.args.process.now c.serve.new.machine c.in-Call.kind c.in-Call.arguments.value (deed_seen c.in_ok-deed-in-Call.deed) c.args.tables.now c.serve.new.tables
     (sym c.request.ensures ∙ sym c.in_ok-request.ensures ∙ ap asked_of c.in-Call.is)
     c.in_ok-deed-in-Call.ensures.served c.in_ok-deed-in-Call.ensures.machine c.in_ok-deed-in-Call.ensures.lives
 

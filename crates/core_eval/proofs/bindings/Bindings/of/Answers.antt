@@ -5,7 +5,7 @@ use Rattle.core_eval.proofs.bindings.Bindings.of.Goals as goal
 
 pub loop-value-init : goal.loop-value-init
 loop-value-init c =
-    ap (λ before. bound c.args.variables.now (values_of c.reverse.new.self.items) before) c.new-bindings.ensures
+    ap (λ before. bound c.args.variables.now (values_of c.reverse.new.self.items) before) c.in_ok-bindings.ensures
     ∙ ap (λ ms. bound c.args.variables.now ms []) (values_of-reversed c.into_vec-later.result.items c.reverse.new.self.items c.args.values c.into_vec-later.ensures c.reverse.ensures.items)
 
 pub returns : goal.returns

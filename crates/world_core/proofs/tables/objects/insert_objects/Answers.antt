@@ -14,7 +14,7 @@ loop-rest-preserved c =
     let all = meaning_of c.args.objects.now in
     let cell = ap meaning_of c.in-Cons.is ∙ sym (ap (λ (p : Meaning × Meaning). Cons p.0 p.1) c.deref-pair.ensures) ∙ sym (λ i. Cons (c.head.ensures i) (c.tail-rest.ensures i)) in
     elim c.match-tuple_of.branch [
-      | in-Some+in_ok-insert_object w ↦ puts_in_on all _ _ _ c.args.rows.now c.loop-rest.rows c.match-tuple_of.rows cell w.in-Some.parts.now w.in-Some.ensures
+      | in-Some+in_ok-insert_object w ↦ puts_in_on all _ _ _ c.args.rows.now c.loop-rest.rows c.match-tuple_of.rows cell w.in-Some.parts.now.value w.in-Some.ensures
           (λ key. ap (λ (rows : List (Meaning × List Meaning)). objects_under rows key) w.rows-is ∙ w.in_ok-insert_object.ensures key)
           c.loop-rest.invariant
       | in_default-tuple_of w ↦ puts_in_nothing all _ _ _ c.args.rows.now c.loop-rest.rows c.match-tuple_of.rows cell w.in_default-tuple_of.ensures c.loop-rest.invariant
