@@ -1,195 +1,100 @@
-// Small modules built by hand, and what their processes ask.
+// Small modules, and what their processes ask.
 mod applications;
 mod clauses;
 mod exceptions;
 mod own_calls;
 mod runs;
-mod words;
 
+use crate::built::nested;
+use crate::requests::text_of;
+use crate::term_words::pid;
 use core_eval::{Answer, Machine};
-use core_tree::{CallKind, Expr};
-use runs::{asked, module_of, process, run_of, run_on, text_of};
-use std::alloc::{AllocError, Global};
+use runs::{Long, MAIN, ask_all, ask_long, asks, first_process, process, program, run_on};
+use std::alloc::Global;
 use std::test::Fail;
-use term_core::{Atom, Pid, Term};
-use words::{FIRST, LETTERS, TAKE, TWO, Word, build, last, put};
+use term_core::Term;
 
-// A call in each place of a tuple, a list, a list with a tail, a `do`, a `let` and a call.
-const EACH_PLACE: [Word; 24] = [
-    Word::Int(101),
-    FIRST,
-    Word::Int(102),
-    FIRST,
-    Word::Tuple(2),
-    Word::Int(103),
-    FIRST,
-    Word::Int(104),
-    FIRST,
-    Word::List(2),
-    Word::Int(105),
-    FIRST,
-    Word::Int(106),
-    FIRST,
-    Word::Onto(1),
-    Word::Int(107),
-    FIRST,
-    Word::Int(108),
-    FIRST,
-    Word::Read,
-    Word::Let,
-    Word::Do,
-    Word::Call(CallKind::Insert, 4),
-    TAKE,
+// Bodies, and what a process with such a body asks; each request is answered by its number.
+const IN_ORDER: [(&str, &str); 2] = [
+    // a call in each place of a tuple, a list, a list with a tail, a `do`, a `let` and a call
+    (
+        "call 'ets':'lookup'('t',call 'ets':'insert'({call 'ets':'lookup'('t',101),call 'ets':'lookup'('t',102)},[[call 'ets':'lookup'('t',103),call 'ets':'lookup'('t',104)],[call 'ets':'lookup'('t',105)|call 'ets':'lookup'('t',106)]|do call 'ets':'lookup'('t',107) let <X> = call 'ets':'lookup'('t',108) in X]))",
+        "lookup 't' 101\nlookup 't' 102\nlookup 't' 103\nlookup 't' 104\nlookup 't' 105\nlookup 't' 106\nlookup 't' 107\nlookup 't' 108\ninsert {1,2} [[3,4],[5|6]|8]\nlookup 't' 9\n'normal'",
+    ),
+    // the outer variable is 1, the inner 2
+    (
+        "let <X> = 1 in do let <X> = 2 in call 'ets':'lookup'('t',X) call 'ets':'lookup'('t',X)",
+        "lookup 't' 2\nlookup 't' 1\n'normal'",
+    ),
 ];
 
-// The outer variable is 1, the inner 2.
-const SHADOWS: [Word; 9] = [
-    Word::Int(1),
-    Word::Int(2),
-    Word::Read,
-    TAKE,
-    Word::Let,
-    Word::Read,
-    TAKE,
-    Word::Do,
-    Word::Let,
-];
-
-// 10,000 nodes: a tuple and 9,999 integers
-const WHOLE_TUPLE: [Word; 2] = [Word::Ints(9_999), Word::Tuple(9_999)];
-// 10,001 nodes
-const LARGE_TUPLE: [Word; 2] = [Word::Ints(10_000), Word::Tuple(10_000)];
-// 10,000 nodes: 4,999 cells, 4,998 integers, a tuple of one integer, and nil
-const WHOLE_LIST: [Word; 4] = [
-    Word::Ints(4_998),
-    Word::Int(1),
-    Word::Tuple(1),
-    Word::List(4_999),
-];
-// 10,001 nodes: 5,000 cells, 5,000 integers, and nil
-const LARGE_LIST: [Word; 2] = [Word::Ints(5_000), Word::List(5_000)];
-// the same, with nil as the tail
-const LARGE_ONTO: [Word; 3] = [Word::Ints(5_000), Word::List(0), Word::Onto(5_000)];
-
-// What a process asks whose body has a call in each place.
-const ORDER: &str =
-    "first 101\nfirst 102\nfirst 103\nfirst 104\nfirst 105\nfirst 106\nfirst 107\nfirst 108\ninsert {1,2} [3,4] [5|6] 8\ntake 9\n'normal'";
-
-// Expressions, and what a process with such a body asks.
-const IN_ORDER: [(&[Word], &str); 7] = [
-    (&EACH_PLACE, ORDER),
-    (&SHADOWS, "take 2\ntake 1\n'normal'"),
-    (&WHOLE_TUPLE, "'normal'"),
-    (&LARGE_TUPLE, "{'system_limit',[]}"),
-    (&WHOLE_LIST, "'normal'"),
-    (&LARGE_LIST, "{'system_limit',[]}"),
-    (&LARGE_ONTO, "{'system_limit',[]}"),
+// Long bodies: the front, what is repeated, how often, and the rest; and what is asked.
+const UP_TO_THE_LIMIT: [Long; 7] = [
+    // 10,000 nodes: a tuple and 9,999 integers
+    ("{", "1,", 9_998, "1}", "'normal'"),
+    ("{", "1,", 9_999, "1}", "{'system_limit',[]}"),
+    // 10,000 nodes: 4,999 cells, 4,998 integers, a tuple of one integer, and nil
+    ("[", "1,", 4_998, "{1}]", "'normal'"),
+    // 10,001 nodes: 5,000 cells, 5,000 integers, and nil
+    ("[", "1,", 4_999, "1]", "{'system_limit',[]}"),
+    // the same, with nil as the tail
+    ("[", "1,", 4_999, "1|[]]", "{'system_limit',[]}"),
+    // 9,999 nodes, and 10,001
+    ("\"", "a", 4_999, "\"", "'normal'"),
+    ("\"", "a", 5_000, "\"", "{'system_limit',[]}"),
 ];
 
 #[test]
 fn evaluates(rt: HostRuntime) -> Result<(), Fail> {
-    for (words, want) in IN_ORDER {
-        let text = asked(rt.alloc(), words)?;
-        assert_eq!(rt; text.as_slice(), want.as_bytes());
-    }
-    Ok(())
+    ask_all(&rt, rt.alloc(), MAIN, &IN_ORDER)?;
+    ask_long(&rt, rt.alloc(), &UP_TO_THE_LIMIT)
 }
 
 // A `do` in a `do`, a thousand deep; it is the first part of the outer one, or the second.
-fn deep(alloc: Global, is_first: bool) -> Result<Expr, AllocError> {
-    let mut parts = Vec::new(alloc);
-    put(alloc, &mut parts, Word::Int(7))?;
-    for _ in 0..999 {
-        put(alloc, &mut parts, Word::Int(7))?;
-        if !is_first {
-            parts.reverse();
-        }
-        put(alloc, &mut parts, Word::Do)?;
-    }
-    Ok(last(&mut parts))
-}
-
-fn deeply(alloc: Global, is_first: bool) -> Result<Vec<u8>, Fail> {
-    let program = module_of(alloc, deep(alloc, is_first)?)?;
-    run_of(alloc, &program)
-}
+const DEEP: [(&str, &str); 2] = [("do ", " 7"), ("do 7 ", "")];
 
 #[test]
 fn a_thousand_levels_run(rt: HostRuntime) -> Result<(), Fail> {
-    for is_first in [true, false] {
-        let text = deeply(rt.alloc(), is_first)?;
-        assert_eq!(rt; text.as_slice(), b"'normal'".as_slice());
+    for (opening, closing) in DEEP {
+        let body = nested(rt.alloc(), "", opening, 999, "7", closing)?;
+        asks(&rt, rt.alloc(), MAIN, body.as_str(), "'normal'")?;
     }
     Ok(())
 }
-
-// `let <X, Y> = <1, 2> in call(Y, X)`
-const TWO_VALUES: [Word; 7] = [
-    Word::Int(1),
-    Word::Int(2),
-    Word::Values(2),
-    Word::ReadSecond,
-    Word::Read,
-    Word::Call(CallKind::Insert, 2),
-    Word::LetTwo,
-];
-
-// 9,999 nodes, and 10,001
-const WHOLE_TEXT: [Word; 1] = [Word::Letters(4_999)];
-
-const LARGE_TEXT: [Word; 1] = [Word::Letters(5_000)];
-
-const NONE: [Word; 1] = [Word::Values(0)];
-
-const ONE: [Word; 3] = [Word::Int(1), Word::Values(1), TAKE];
-
-const TWO_ARGUMENTS: [Word; 4] = [Word::Int(1), Word::Int(2), Word::Values(2), TAKE];
-
-const TWO_FOR_ONE: [Word; 5] = [
-    Word::Int(1),
-    Word::Int(2),
-    Word::Values(2),
-    Word::Read,
-    Word::Let,
-];
-
-const ONE_FOR_TWO: [Word; 3] = [Word::Int(1), Word::Read, Word::LetTwo];
-
-const DO_NONE: [Word; 3] = [Word::Values(0), Word::Int(7), Word::Do];
 
 // The end of a process that got another number of values than it wants.
 const WRONG_COUNT: &str = "{'value_count',[]}";
 
 // Strings and several values, and what is asked.
-const STRINGS_AND_VALUES: [(&[Word], &str); 11] = [
-    (&LETTERS, "take [97,97]\n'normal'"),
-    (&WHOLE_TEXT, "'normal'"),
-    (&LARGE_TEXT, "{'system_limit',[]}"),
-    (&TWO_VALUES, "insert 2 1\n'normal'"),
-    (&TWO, "'normal'"),
-    (&NONE, "'normal'"),
-    (&ONE, "take 1\n'normal'"),
-    (&TWO_ARGUMENTS, WRONG_COUNT),
-    (&TWO_FOR_ONE, WRONG_COUNT),
-    (&ONE_FOR_TWO, WRONG_COUNT),
-    (&DO_NONE, WRONG_COUNT),
+const STRINGS_AND_VALUES: [(&str, &str); 9] = [
+    (
+        "call 'ets':'lookup'('t',\"aa\")",
+        "lookup 't' [97,97]\n'normal'",
+    ),
+    (
+        "let <X,Y> = <1,2> in call 'ets':'insert'(Y,X)",
+        "insert 2 1\n'normal'",
+    ),
+    ("<1,2>", "'normal'"),
+    ("<>", "'normal'"),
+    ("call 'ets':'lookup'('t',<1>)", "lookup 't' 1\n'normal'"),
+    ("call 'ets':'lookup'('t',<1,2>)", WRONG_COUNT),
+    ("let <X> = <1,2> in X", WRONG_COUNT),
+    ("let <X,Y> = 1 in X", WRONG_COUNT),
+    ("do <> 7", WRONG_COUNT),
 ];
 
 #[test]
 fn evaluates_strings_and_values(rt: HostRuntime) -> Result<(), Fail> {
-    for (words, want) in STRINGS_AND_VALUES {
-        let text = asked(rt.alloc(), words)?;
-        assert_eq!(rt; text.as_slice(), want.as_bytes());
-    }
-    Ok(())
+    ask_all(&rt, rt.alloc(), MAIN, &STRINGS_AND_VALUES)
 }
 
 // Answers that do not fit, and then a refusal.
 fn refused(alloc: Global, machine: &mut Machine) -> Result<Vec<u8>, Fail> {
     machine.resume(alloc, Answer::TimedOut)?;
     machine.resume(alloc, Answer::Message(Term::Nil))?;
-    let badarg = Atom::new(alloc, "badarg")?;
-    machine.resume(alloc, Answer::Raise(Term::Atom(badarg)))?;
+    let badarg = Term::atom(alloc, "badarg")?;
+    machine.resume(alloc, Answer::Raise(badarg))?;
     run_on(alloc, machine)
 }
 
@@ -202,33 +107,44 @@ fn copied(alloc: Global, machine: &Machine) -> Result<Vec<u8>, Fail> {
     Ok(text)
 }
 
-const CALLS: [Word; 3] = [Word::Int(1), FIRST, TAKE];
+const CALLS: &str = "call 'ets':'lookup'('t',call 'ets':'lookup'('t',5))";
 
 #[test]
 fn refused_calls_end_the_process(rt: HostRuntime) -> Result<(), Fail> {
-    let program = module_of(rt.alloc(), build(rt.alloc(), CALLS.as_slice())?)?;
-    let mut machine = process(rt.alloc(), &program, Pid::new(rt.alloc(), Vec::new(rt.alloc()))?, "main")?;
-    let other = copied(rt.alloc(), &machine)?;
-    assert_eq!(rt;
-        other.as_slice(),
-        b"first 1\ntake 1\n'normal''normal'".as_slice()
-    );
+    let program = program(rt.alloc(), MAIN, CALLS)?;
+    let mut machine = first_process(rt.alloc(), &program, "main")?;
     let text = refused(rt.alloc(), &mut machine)?;
     assert_eq!(rt; text.as_slice(), b"{'badarg',[]}".as_slice());
     Ok(())
 }
 
-// What another process asks that is to begin with this function.
+#[test]
+fn a_copy_asks_the_same(rt: HostRuntime) -> Result<(), Fail> {
+    let program = program(rt.alloc(), MAIN, CALLS)?;
+    let machine = first_process(rt.alloc(), &program, "main")?;
+    let text = copied(rt.alloc(), &machine)?;
+    assert_eq!(rt;
+        text.as_slice(),
+        b"lookup 't' 5\nlookup 't' 1\n'normal''normal'".as_slice()
+    );
+    Ok(())
+}
+
+const CHILD: [u64; 1] = [1];
+
+// What the process `P.1` asks that is to begin with this function.
 fn other(alloc: Global, name: &str) -> Result<Vec<u8>, Fail> {
-    let program = module_of(alloc, Expr::Integer(0))?;
-    let pid = Pid::new(alloc, Vec::from_slice(alloc, &[1])?)?;
-    let mut machine = process(alloc, &program, pid, name)?;
+    let program = program(alloc, MAIN, "0")?;
+    let mut machine = process(alloc, &program, pid(alloc, &CHILD)?, name)?;
     run_on(alloc, &mut machine)
 }
 
+// A function that is not exported, and one that is not there.
+const NOT_EXPORTED: [&str; 2] = ["main", "none"];
+
 #[test]
 fn other_processes_begin_at_exports(rt: HostRuntime) -> Result<(), Fail> {
-    for name in ["main", "none"] {
+    for name in NOT_EXPORTED {
         let text = other(rt.alloc(), name)?;
         assert_eq!(rt; text.as_slice(), b"{'undef',[]}".as_slice());
     }

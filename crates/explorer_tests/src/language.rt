@@ -273,19 +273,33 @@ const PLACES: [(&[u8], &[u8], usize); 14] = [
     (b"primop 'match_fail'(", b")", 0),
 ];
 
+// Asserts that a text is read, twice to the same module.
+fn reads_alike(rt: &impl Abort, alloc: Global, text: &[u8]) -> Result<(), Fail> {
+    let first = read_module(alloc, text)?;
+    assert!(rt; first == read_module(alloc, text)?);
+    Ok(())
+}
+
+// Asserts that a form is read a thousand levels deep, and not one level deeper.
+fn nests(
+    rt: &impl Abort,
+    alloc: Global,
+    front: &[u8],
+    back: &[u8],
+    before: usize,
+) -> Result<(), Fail> {
+    let (text, _) = around(alloc, 999, front, b"1", back)?;
+    reads_alike(rt, alloc, text.as_slice())?;
+    let (text, place) = around(alloc, 1_000, front, b"1", back)?;
+    let fault = ReadFault::TooDeep(place.saturating_sub(before));
+    assert_eq!(rt; read_module(alloc, text.as_slice()).err(), Some(fault));
+    Ok(())
+}
+
 #[test]
 fn nests_a_thousand_levels_in_every_place(rt: HostRuntime) -> Result<(), Fail> {
     for (front, back, before) in PLACES {
-        let (text, _) = around(rt.alloc(), 999, front, b"1", back)?;
-        let first = read_module(rt.alloc(), text.as_slice())?;
-        let second = read_module(rt.alloc(), text.as_slice())?;
-        assert!(rt; first == second);
-        let (text, place) = around(rt.alloc(), 1_000, front, b"1", back)?;
-        let answer = read_module(rt.alloc(), text.as_slice()).err();
-        assert_eq!(rt;
-            answer,
-            Some(ReadFault::TooDeep(place.saturating_sub(before)))
-        );
+        nests(&rt, rt.alloc(), front, back, before)?;
     }
     Ok(())
 }

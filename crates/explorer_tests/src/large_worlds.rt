@@ -1,27 +1,47 @@
 // Worlds of many events, rows and tables: each event is the one that is wanted.
-use crate::built::{digits, joined};
+use crate::built::push_number;
 use crate::worlds::{last, turn};
 use core_reader::read_module;
-use std::alloc::Global;
+use std::alloc::{AllocError, Global};
 use std::process::Abort;
 use std::test::Fail;
 use world_core::World;
 
-// Takes a turn, and asserts what happened: the text that these parts make.
-fn happens(rt: &impl Abort, alloc: Global, world: &mut World, want: &[&str]) -> Result<(), Fail> {
+// Takes a turn, and asserts what happened.
+fn happens(rt: &impl Abort, alloc: Global, world: &mut World, want: &str) -> Result<(), Fail> {
     world.step(alloc, &turn(alloc)?)?;
     let text = last(alloc, world)?;
-    let want = joined(alloc, want)?;
     assert_eq!(rt; text.as_slice(), want.as_bytes());
     Ok(())
+}
+
+// A number between two texts.
+fn line(alloc: Global, before: &str, number: u64, after: &str) -> Result<String, AllocError> {
+    let mut text = String::new(alloc);
+    push_number(alloc, &mut text, before, number, after)?;
+    Ok(text)
+}
+
+// Two numbers between three texts.
+fn line_of_two(
+    alloc: Global,
+    before: &str,
+    first: u64,
+    between: &str,
+    second: u64,
+    after: &str,
+) -> Result<String, AllocError> {
+    let mut text = line(alloc, before, first, between)?;
+    push_number(alloc, &mut text, "", second, after)?;
+    Ok(text)
 }
 
 // Puts an object under each number from `count` down to 1.
 fn puts(rt: &impl Abort, alloc: Global, world: &mut World, count: u64) -> Result<(), Fail> {
     for index in 0..count {
-        let number = digits(alloc, count.saturating_sub(index))?;
-        let want = ["insert 't' {", number.as_str(), ",'x'} -> 'true'"];
-        happens(rt, alloc, world, &want)?;
+        let number = count.saturating_sub(index);
+        let want = line(alloc, "insert 't' {", number, ",'x'} -> 'true'")?;
+        happens(rt, alloc, world, want.as_str())?;
     }
     Ok(())
 }
@@ -29,10 +49,9 @@ fn puts(rt: &impl Abort, alloc: Global, world: &mut World, count: u64) -> Result
 // Looks each of them up.
 fn gets(rt: &impl Abort, alloc: Global, world: &mut World, count: u64) -> Result<(), Fail> {
     for index in 0..count {
-        let number = digits(alloc, count.saturating_sub(index))?;
-        let number = number.as_str();
-        let want = ["lookup 't' ", number, " -> [{", number, ",'x'}]"];
-        happens(rt, alloc, world, &want)?;
+        let number = count.saturating_sub(index);
+        let want = line_of_two(alloc, "lookup 't' ", number, " -> [{", number, ",'x'}]")?;
+        happens(rt, alloc, world, want.as_str())?;
     }
     Ok(())
 }
@@ -46,21 +65,21 @@ fn a_table_has_10000_rows_and_a_world_20000_events(rt: HostRuntime) -> Result<()
     let alloc = rt.alloc();
     let program = read_module(alloc, ROWS)?;
     let mut world = World::open(alloc, &program)?;
-    happens(&rt, alloc, &mut world, &["new 't' ['named_table'] -> 't'"])?;
+    happens(&rt, alloc, &mut world, "new 't' ['named_table'] -> 't'")?;
     puts(&rt, alloc, &mut world, 10_000)?;
     gets(&rt, alloc, &mut world, 10_000)?;
-    happens(&rt, alloc, &mut world, &["'normal'"])
+    happens(&rt, alloc, &mut world, "'normal'")
 }
 
 // Makes a table with the number of each turn in it, `count` down to 1: table k is made by turn 2k - 1.
 fn makes(rt: &impl Abort, alloc: Global, world: &mut World, count: u64) -> Result<(), Fail> {
     for index in 0..count {
-        let number = digits(alloc, count.saturating_sub(index))?;
-        let turn = digits(alloc, index.saturating_mul(2).saturating_add(1))?;
-        let (number, turn) = (number.as_str(), turn.as_str());
-        happens(rt, alloc, world, &["new 't' [] -> #P.", turn])?;
-        let want = ["insert #P.", turn, " {'n',", number, "} -> 'true'"];
-        happens(rt, alloc, world, &want)?;
+        let number = count.saturating_sub(index);
+        let turn = index.saturating_mul(2).saturating_add(1);
+        let want = line(alloc, "new 't' [] -> #P.", turn, "")?;
+        happens(rt, alloc, world, want.as_str())?;
+        let want = line_of_two(alloc, "insert #P.", turn, " {'n',", number, "} -> 'true'")?;
+        happens(rt, alloc, world, want.as_str())?;
     }
     Ok(())
 }
@@ -68,12 +87,11 @@ fn makes(rt: &impl Abort, alloc: Global, world: &mut World, count: u64) -> Resul
 // Looks up the number in each table, the last one first.
 fn finds(rt: &impl Abort, alloc: Global, world: &mut World, count: u64) -> Result<(), Fail> {
     for index in 0..count {
-        let number = digits(alloc, index.saturating_add(1))?;
-        let before = count.saturating_sub(index).saturating_sub(1);
-        let turn = digits(alloc, before.saturating_mul(2).saturating_add(1))?;
-        let (number, turn) = (number.as_str(), turn.as_str());
-        let want = ["lookup #P.", turn, " 'n' -> [{'n',", number, "}]"];
-        happens(rt, alloc, world, &want)?;
+        let number = index.saturating_add(1);
+        let before = count.saturating_sub(number);
+        let turn = before.saturating_mul(2).saturating_add(1);
+        let want = line_of_two(alloc, "lookup #P.", turn, " 'n' -> [{'n',", number, "}]")?;
+        happens(rt, alloc, world, want.as_str())?;
     }
     Ok(())
 }
@@ -89,5 +107,5 @@ fn a_world_has_1000_tables(rt: HostRuntime) -> Result<(), Fail> {
     let mut world = World::open(alloc, &program)?;
     makes(&rt, alloc, &mut world, 1_000)?;
     finds(&rt, alloc, &mut world, 1_000)?;
-    happens(&rt, alloc, &mut world, &["'normal'"])
+    happens(&rt, alloc, &mut world, "'normal'")
 }

@@ -13,6 +13,8 @@ mod input;
 #[cfg(test)]
 mod language;
 #[cfg(test)]
+mod large_terms;
+#[cfg(test)]
 mod large_worlds;
 #[cfg(test)]
 mod module_texts;
@@ -25,6 +27,8 @@ mod refusals;
 #[cfg(test)]
 mod replays;
 #[cfg(test)]
+mod requests;
+#[cfg(test)]
 mod schedules;
 #[cfg(test)]
 mod scopes;
@@ -34,6 +38,8 @@ mod shared_terms;
 mod streams;
 #[cfg(test)]
 mod term_order;
+#[cfg(test)]
+mod term_words;
 #[cfg(test)]
 mod terms;
 #[cfg(test)]

@@ -1,4 +1,5 @@
 // Texts with the fault and the place that the rules give each, and whole modules.
+use crate::built::nested;
 use core_reader::{ReadFault, read_module};
 use std::alloc::Global;
 use std::process::Abort;
@@ -172,7 +173,7 @@ fn names_forms_that_are_not_read(rt: HostRuntime) {
 }
 
 // Faults of the scopes.
-const FAULTS_OF_SCOPES: [(&[u8], ReadFault); 14] = [
+const FAULTS_OF_SCOPES: [(&[u8], ReadFault); 19] = [
     (b"module 'm' [] attributes [] end", ReadFault::NoMain(28)),
     (
         b"module 'm' ['main'/0] attributes [] 'main'/0 = fun () -> 'ok' 'main'/0 = fun () -> 'ok' end",
@@ -226,6 +227,27 @@ const FAULTS_OF_SCOPES: [(&[u8], ReadFault); 14] = [
         b"( ( module 'm' ['f'/1] attributes [] 'f'/1 = fun (X) -> case X of <Y> when 'true' -> case Y of <Z> when 'true' -> Z end end end -| ['end',{'end',\"end\"}] ) -| [( 'end' -| [] )] )",
         ReadFault::NoMain(124),
     ),
+    // one module, of which one name was changed in each
+    (
+        b"module 'm' ['f'/0] attributes [] 'main'/0 = fun () -> apply 'f'/0() 'g'/0 = fun () -> let <X,Z> = <1,2> in case 3 of <Y> when 'true' -> X end end",
+        ReadFault::NoFunction(12),
+    ),
+    (
+        b"module 'm' ['f'/0] attributes [] 'f'/0 = fun () -> apply 'f'/0() 'f'/0 = fun () -> let <X,Z> = <1,2> in case 3 of <Y> when 'true' -> X end end",
+        ReadFault::DuplicateFunction(65),
+    ),
+    (
+        b"module 'm' ['f'/0] attributes [] 'main'/0 = fun () -> apply 'f'/0() 'f'/0 = fun () -> let <X,X> = <1,2> in case 3 of <Y> when 'true' -> X end end",
+        ReadFault::DuplicateVariable(93),
+    ),
+    (
+        b"module 'm' ['f'/0] attributes [] 'main'/0 = fun () -> apply 'f'/0() 'f'/0 = fun () -> let <X,Z> = <1,2> in case 3 of <Y> when 'true' -> Q end end",
+        ReadFault::Unbound(136),
+    ),
+    (
+        b"module 'm' ['f'/0] attributes [] 'start'/0 = fun () -> apply 'f'/0() 'f'/0 = fun () -> let <X,Z> = <1,2> in case 3 of <Y> when 'true' -> X end end",
+        ReadFault::NoMain(143),
+    ),
 ];
 
 #[test]
@@ -243,6 +265,19 @@ fn answers_long_texts(rt: HostRuntime) -> Result<(), Fail> {
     assert_eq!(rt; longest, Some(ReadFault::Expected(1_048_576)));
     text.push(b' ')?;
     let too_long = read_module(rt.alloc(), &text).err();
+    assert_eq!(rt; too_long, Some(ReadFault::TooLong(1_048_576)));
+    Ok(())
+}
+
+// A list of half a million integers fills the text.
+#[test]
+fn reads_a_module_of_a_million_tokens(rt: HostRuntime) -> Result<(), Fail> {
+    let front = "module 'm' [] attributes [] 'main'/0 = fun () -> [";
+    let mut text = nested(rt.alloc(), front, "1,", 524_260, "1] end", "")?;
+    assert_eq!(rt; text.len(), 1_048_576);
+    assert!(rt; read_module(rt.alloc(), text.as_bytes()).is_ok());
+    text.push(' ')?;
+    let too_long = read_module(rt.alloc(), text.as_bytes()).err();
     assert_eq!(rt; too_long, Some(ReadFault::TooLong(1_048_576)));
     Ok(())
 }

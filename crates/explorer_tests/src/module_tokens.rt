@@ -1,90 +1,23 @@
-// Modules read from tokens that are written by hand.
-use core_reader::read_tokens;
-use core_tokens::{Keyword, Lexeme, Mark, ReadFault, Token};
+// Modules read from tokens, also from those of more than a text of lawful length.
+use crate::built::{between, nested, push_number};
+use core_reader::{Module, read_tokens};
+use core_tokens::{ReadFault, tokens};
 use core_tree::Expr;
-use std::alloc::Global;
-use std::fmt::Write;
+use std::alloc::{AllocError, Global};
 use std::test::Fail;
-use term_core::Atom;
 
-fn keyword(word: &str) -> Option<Keyword> {
-    match word {
-        "module" => Some(Keyword::Module),
-        "attributes" => Some(Keyword::Attributes),
-        "end" => Some(Keyword::End),
-        "fun" => Some(Keyword::Fun),
-        "let" => Some(Keyword::Let),
-        "in" => Some(Keyword::In),
-        "case" => Some(Keyword::Case),
-        "call" => Some(Keyword::Call),
-        "do" => Some(Keyword::Do),
-        _ => None,
-    }
+// What the tokens of a text spell.
+fn read(alloc: Global, text: &str) -> Result<Module, ReadFault> {
+    let all = tokens(alloc, text.as_bytes())?;
+    read_tokens(alloc, &all, text.len())
 }
 
-fn mark(word: &str) -> Option<Mark> {
-    match word {
-        "(" => Some(Mark::LeftParenthesis),
-        ")" => Some(Mark::RightParenthesis),
-        "[" => Some(Mark::LeftBracket),
-        "]" => Some(Mark::RightBracket),
-        "{" => Some(Mark::LeftBrace),
-        "}" => Some(Mark::RightBrace),
-        "<" => Some(Mark::Less),
-        ">" => Some(Mark::Greater),
-        "," => Some(Mark::Comma),
-        "|" => Some(Mark::Bar),
-        "=" => Some(Mark::Equals),
-        "/" => Some(Mark::Slash),
-        ":" => Some(Mark::Colon),
-        "->" => Some(Mark::Arrow),
-        "#" => Some(Mark::Hash),
-        _ => None,
-    }
-}
-
-/// The token of a word; a word in quotes is an atom, and `0`, `1` and `2` are the integers here.
-fn lexeme(alloc: Global, word: &str) -> Result<Lexeme, Fail> {
-    if let Some(found) = keyword(word) {
-        return Ok(Lexeme::Word(found));
-    }
-    if let Some(found) = mark(word) {
-        return Ok(Lexeme::Mark(found));
-    }
-    if let Some(quoted) = word.strip_prefix('\'') {
-        let text = quoted
-            .strip_suffix('\'')
-            .ok_or("an atom ends with a quote")?;
-        return Ok(Lexeme::Atom(Atom::new(alloc, text)?));
-    }
-    match word {
-        "0" => Ok(Lexeme::Integer(0)),
-        "1" => Ok(Lexeme::Integer(1)),
-        "2" => Ok(Lexeme::Integer(2)),
-        _ => Ok(Lexeme::Variable(Vec::from_slice(alloc, word.as_bytes())?)),
-    }
-}
-
-/// The tokens of a text in which one blank stands between any two.
-fn tokens(alloc: Global, text: &str) -> Result<Vec<Token>, Fail> {
-    let mut all = Vec::new(alloc);
-    let mut at: usize = 0;
-    for word in text.split(' ') {
-        let lexeme = lexeme(alloc, word)?;
-        all.push(Token { at, lexeme })?;
-        at = at.saturating_add(word.len()).saturating_add(1);
-    }
-    Ok(all)
-}
+const MODULE: &str =
+    "module 'm' [ 'main' / 0 ] attributes [ 'a' = { 1 , [ 'x' | 2 ] } ] 'main' / 0 = fun ( ) -> let < X > = call 'ets' : 'new' ( 't' , [ ] ) in X end";
 
 #[test]
 fn reads_a_module(rt: HostRuntime) -> Result<(), Fail> {
-    let text =
-        "module 'm' [ 'main' / 0 ] attributes [ 'a' = { 1 , [ 'x' | 2 ] } ] 'main' / 0 = fun ( ) -> let < X > = call 'ets' : 'new' ( 't' , [ ] ) in X end";
-    let all = tokens(rt.alloc(), text)?;
-    let module = read_tokens(rt.alloc(), &all, text.len())
-        .ok()
-        .ok_or("the text is a module")?;
+    let module = read(rt.alloc(), MODULE)?;
     assert_eq!(rt; module.name.as_str(), "m");
     assert_eq!(rt; module.exports.len(), 1);
     assert_eq!(rt; module.attributes.len(), 1);
@@ -98,7 +31,7 @@ fn reads_a_module(rt: HostRuntime) -> Result<(), Fail> {
     Ok(())
 }
 
-// Words of texts that are no modules, and the first fault.
+// Texts that are no modules, and the first fault.
 const FAULTS: [(&str, ReadFault); 16] = [
     ("module 'm' [ ] attributes [ ] end", ReadFault::NoMain(30)),
     (
@@ -161,97 +94,63 @@ const FAULTS: [(&str, ReadFault); 16] = [
 ];
 
 #[test]
-fn finds_the_first_fault(rt: HostRuntime) -> Result<(), Fail> {
+fn finds_the_first_fault(rt: HostRuntime) {
     for (text, fault) in FAULTS {
-        let all = tokens(rt.alloc(), text)?;
-        let found = read_tokens(rt.alloc(), &all, text.len()).err();
-        assert_eq!(rt; found, Some(fault), "{text}");
+        assert_eq!(rt; read(rt.alloc(), text).err(), Some(fault), "{text}");
     }
-    Ok(())
 }
 
-/// The tokens of a module whose body is so many lists, one in another, around an integer.
-fn nested(alloc: Global, depth: usize) -> Result<Vec<Token>, Fail> {
-    let mut all = tokens(
-        alloc,
-        "module 'm' [ ] attributes [ ] 'main' / 0 = fun ( ) ->",
-    )?;
-    for _ in 0..depth {
-        all.push(Token {
-            at: 1,
-            lexeme: Lexeme::Mark(Mark::LeftBracket),
-        })?;
-    }
-    all.push(Token {
-        at: 2,
-        lexeme: Lexeme::Integer(1),
-    })?;
-    for _ in 0..depth {
-        all.push(Token {
-            at: 3,
-            lexeme: Lexeme::Mark(Mark::RightBracket),
-        })?;
-    }
-    all.push(Token {
-        at: 4,
-        lexeme: Lexeme::Word(Keyword::End),
-    })?;
-    Ok(all)
+// What stands before a body, which begins at 54.
+const FRONT: &str = "module 'm' [ ] attributes [ ] 'main' / 0 = fun ( ) -> ";
+
+// The module whose body is so many lists, one in another, around an integer.
+fn in_lists(alloc: Global, depth: usize) -> Result<String, AllocError> {
+    let body = nested(alloc, "", "[", depth, "1", "]")?;
+    between(alloc, FRONT, body.as_str(), " end")
 }
+
+// How many lists, and the fault.
+const DEPTHS: [(usize, Option<ReadFault>); 3] = [
+    (999, None),
+    // the integer opens level 1,001
+    (1_000, Some(ReadFault::TooDeep(1_054))),
+    // the last bracket opens it
+    (1_001, Some(ReadFault::TooDeep(1_054))),
+];
 
 #[test]
 fn nests_a_thousand_levels(rt: HostRuntime) -> Result<(), Fail> {
-    let all = nested(rt.alloc(), 999)?;
-    assert!(rt; read_tokens(rt.alloc(), &all, 5).is_ok());
-    let all = nested(rt.alloc(), 1_000)?;
-    assert_eq!(rt;
-        read_tokens(rt.alloc(), &all, 5).err(),
-        Some(ReadFault::TooDeep(2))
-    );
-    let all = nested(rt.alloc(), 1_001)?;
-    assert_eq!(rt;
-        read_tokens(rt.alloc(), &all, 5).err(),
-        Some(ReadFault::TooDeep(1))
-    );
+    for (depth, fault) in DEPTHS {
+        let text = in_lists(rt.alloc(), depth)?;
+        assert_eq!(rt; read(rt.alloc(), text.as_str()).err(), fault);
+    }
     Ok(())
 }
 
 #[test]
 fn reads_a_long_list(rt: HostRuntime) -> Result<(), Fail> {
-    let mut all = tokens(
-        rt.alloc(),
-        "module 'm' [ ] attributes [ ] 'main' / 0 = fun ( ) -> [ 1",
-    )?;
-    for _ in 0..100_000 {
-        all.push(Token {
-            at: 1,
-            lexeme: Lexeme::Mark(Mark::Comma),
-        })?;
-        all.push(Token {
-            at: 1,
-            lexeme: Lexeme::Integer(1),
-        })?;
-    }
-    for word in ["]", "end"] {
-        let lexeme = lexeme(rt.alloc(), word)?;
-        all.push(Token { at: 2, lexeme })?;
-    }
-    assert!(rt; read_tokens(rt.alloc(), &all, 5).is_ok());
+    let body = nested(rt.alloc(), "[", "1,", 100_000, "1]", "")?;
+    let text = between(rt.alloc(), FRONT, body.as_str(), " end")?;
+    assert_eq!(rt; read(rt.alloc(), text.as_str()).err(), None);
     Ok(())
+}
+
+// So many definitions.
+fn definitions(alloc: Global, count: u64) -> Result<String, AllocError> {
+    let mut text = String::new(alloc);
+    for number in 0..count {
+        push_number(alloc, &mut text, "'f", number, "'/0 = fun () -> 1 ")?;
+    }
+    Ok(text)
 }
 
 // More than a text of lawful length has room for.
 #[test]
 fn reads_70000_definitions(rt: HostRuntime) -> Result<(), Fail> {
-    let mut text = String::from_str(rt.alloc(), "module 'm' [ ] attributes [ ]")?;
-    for index in 0..70_000 {
-        write!(text, " 'f{index}' / 0 = fun ( ) -> 1")?;
-    }
-    text.push_str(" 'main' / 0 = fun ( ) -> 1 end")?;
-    let all = tokens(rt.alloc(), text.as_str())?;
-    let module = read_tokens(rt.alloc(), &all, text.len())
-        .ok()
-        .ok_or("the text is a module")?;
+    let front = "module 'm' [] attributes [] 'main'/0 = fun () -> 1 ";
+    let definitions = definitions(rt.alloc(), 70_000)?;
+    let text = between(rt.alloc(), front, definitions.as_str(), "end")?;
+    let module = read(rt.alloc(), text.as_str())?;
     assert_eq!(rt; module.definitions.len(), 70_001);
     Ok(())
 }

@@ -3,12 +3,13 @@ mod long;
 mod rows;
 mod words;
 
+use crate::term_words::terms;
 use core_tree::PURE_CALLS;
 use rows::{COMPARISONS, EACH, KINDS, LISTS, NUMBERS, RAISING, Row, TUPLES};
 use std::alloc::Global;
 use std::process::Abort;
 use std::test::Fail;
-use words::{answered, terms};
+use words::answered;
 
 fn check(rt: &impl Abort, alloc: Global, rows: &[Row]) -> Result<(), Fail> {
     for (call, words, want) in rows {

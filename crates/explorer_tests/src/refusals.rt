@@ -1,7 +1,7 @@
 // The status and the line of each refusal, alone and as the whole program reports it.
 use core_tokens::ReadFault;
 use explorer_engine::{InputFault, NAME, ReplayFault, RunFault, Verdict, run, status, write_fault};
-use std::alloc::Global;
+use std::alloc::{AllocError, Global};
 use std::process::Abort;
 use std::test::Fail;
 use term_core::ScheduleFault;
@@ -181,17 +181,30 @@ const RUNS: [(&[u8], &str, (u64, usize, u64), u8, &[u8], &[u8]); 11] = [
     ),
 ];
 
+// The status, the output and what is reported of a run of a module and a schedule, where the streams allow so
+// many reads, so many bytes of output, and so many flushes of it.
+fn reported(
+    alloc: Global,
+    module: &[u8],
+    schedule: &str,
+    allowed: (u64, usize, u64),
+) -> Result<(u8, Vec<u8>, Vec<u8>), AllocError> {
+    let (reads, room, flushes) = allowed;
+    let mut input = MemorySource::in_pieces(module, usize::MAX, reads);
+    let mut output = MemorySink::with_flushes(alloc, room, flushes)?;
+    let mut errors = MemorySink::with_room(alloc, 100)?;
+    let words = [NAME, "replay", schedule];
+    let status = run(alloc, &words, &mut input, &mut output, &mut errors);
+    Ok((status, output.bytes, errors.bytes))
+}
+
 #[test]
 fn reports_a_run_by_its_status_and_its_line(rt: HostRuntime) -> Result<(), Fail> {
-    for (module, schedule, (reads, room, flushes), number, lines, line) in RUNS {
-        let mut input = MemorySource::in_pieces(module, usize::MAX, reads);
-        let mut output = MemorySink::with_flushes(rt.alloc(), room, flushes)?;
-        let mut errors = MemorySink::with_room(rt.alloc(), 100)?;
-        let words = [NAME, "replay", schedule];
-        let found = run(rt.alloc(), &words, &mut input, &mut output, &mut errors);
-        assert_eq!(rt; found, number, "{schedule}");
-        assert_eq!(rt; output.bytes.as_slice(), lines);
-        assert_eq!(rt; errors.bytes.as_slice(), line);
+    for (module, schedule, allowed, number, lines, line) in RUNS {
+        let (status, output, errors) = reported(rt.alloc(), module, schedule, allowed)?;
+        assert_eq!(rt; status, number, "{schedule}");
+        assert_eq!(rt; output.as_slice(), lines);
+        assert_eq!(rt; errors.as_slice(), line);
     }
     Ok(())
 }

@@ -1,30 +1,51 @@
 // Texts that are schedules, and the first bad step of those that are none.
+use crate::built::{nested, push_number};
 use std::alloc::Global;
+use std::process::Abort;
 use std::test::Fail;
-use term_core::{ScheduleFault, Step, read_schedule};
+use term_core::{Pid, ScheduleFault, Step, read_schedule, write_schedule, write_step};
+use test_streams::MemorySink;
 
-// The steps in other words: each pid as the list of its numbers.
+// The numbers of a pid, each after a blank.
+fn describe(alloc: Global, text: &mut String, pid: &Pid) -> Result<(), Fail> {
+    for number in pid.numbers() {
+        push_number(alloc, text, " ", *number, "")?;
+    }
+    Ok(())
+}
+
+// The steps in other words.
 fn described(alloc: Global, steps: &[Step]) -> Result<String, Fail> {
     let mut text = String::new(alloc);
     for step in steps {
-        let words = match step {
-            Step::Turn(pid) => format!(in alloc; "turn {:?};", pid.numbers())?,
-            Step::Deliver(from, to) => format!(in alloc; "from {:?} to {:?};", from.numbers(), to.numbers())?,
-        };
-        text.push_str(words.as_str())?;
+        match step {
+            Step::Turn(pid) => {
+                text.push_str("turn")?;
+                describe(alloc, &mut text, pid)?;
+            }
+            Step::Deliver(from, to) => {
+                text.push_str("from")?;
+                describe(alloc, &mut text, from)?;
+                text.push_str(" to")?;
+                describe(alloc, &mut text, to)?;
+            }
+        }
+        text.push(';')?;
     }
     Ok(text)
 }
 
 // Texts of schedules, and their steps in other words.
-const SCHEDULES: [(&[u8], &str); 7] = [
+const SCHEDULES: [(&[u8], &str); 9] = [
     (b"", ""),
-    (b"P", "turn [];"),
-    (b"P P.1", "turn [];turn [1];"),
-    (b"P.2.1", "turn [2, 1];"),
-    (b"P>P.1 P.1>P", "from [] to [1];from [1] to [];"),
-    (b"P.10>P.9.10", "from [10] to [9, 10];"),
-    (b"P.18446744073709551615", "turn [18446744073709551615];"),
+    (b"P", "turn;"),
+    (b"P P.1", "turn;turn 1;"),
+    (b"P.2.1", "turn 2 1;"),
+    (b"P>P.1 P.1>P", "from to 1;from 1 to;"),
+    (b"P>P.1", "from to 1;"),
+    (b"P P.2 P>P.1", "turn;turn 2;from to 1;"),
+    (b"P.10>P.9.10", "from 10 to 9 10;"),
+    (b"P.18446744073709551615", "turn 18446744073709551615;"),
 ];
 
 #[test]
@@ -35,6 +56,54 @@ fn reads_schedules(rt: HostRuntime) -> Result<(), Fail> {
         assert_eq!(rt; words.as_str(), wanted);
     }
     Ok(())
+}
+
+// Asserts that the schedule is written so, and no byte more.
+fn writes(rt: &impl Abort, alloc: Global, steps: &[Step], text: &[u8]) -> Result<(), Fail> {
+    let mut sink = MemorySink::with_room(alloc, text.len())?;
+    assert!(rt; write_schedule(steps, &mut sink).is_ok());
+    assert_eq!(rt; sink.bytes.as_slice(), text);
+    Ok(())
+}
+
+#[test]
+fn writes_schedules(rt: HostRuntime) -> Result<(), Fail> {
+    for (text, _) in SCHEDULES {
+        let steps = read_schedule(rt.alloc(), text)?;
+        writes(&rt, rt.alloc(), &steps, text)?;
+    }
+    Ok(())
+}
+
+// Asserts that the copy of the step is the same, and is written so.
+fn copies(rt: &impl Abort, alloc: Global, step: &Step, text: &[u8]) -> Result<(), Fail> {
+    let copied = step.copy()?;
+    assert!(rt; copied == *step);
+    let mut sink = MemorySink::with_room(alloc, 100)?;
+    assert!(rt; write_step(&copied, &mut sink).is_ok());
+    assert_eq!(rt; sink.bytes.as_slice(), text);
+    Ok(())
+}
+
+// Schedules of one step.
+const STEPS: [&[u8]; 4] = [b"P", b"P.2", b"P>P.1", b"P.2>P.1"];
+
+#[test]
+fn copies_and_writes_steps(rt: HostRuntime) -> Result<(), Fail> {
+    for text in STEPS {
+        let steps = read_schedule(rt.alloc(), text)?;
+        let step = steps.first().ok_or("a schedule has a step")?;
+        copies(&rt, rt.alloc(), step, text)?;
+    }
+    Ok(())
+}
+
+#[test]
+fn reads_a_schedule_of_100000_steps(rt: HostRuntime) -> Result<(), Fail> {
+    let text = nested(rt.alloc(), "", "P.7 ", 99_999, "P", "")?;
+    let steps = read_schedule(rt.alloc(), text.as_bytes())?;
+    assert_eq!(rt; steps.len(), 100_000);
+    writes(&rt, rt.alloc(), &steps, text.as_bytes())
 }
 
 // Texts of no schedule, and the place of the first bad step.
@@ -65,9 +134,17 @@ fn names_the_first_bad_step(rt: HostRuntime) {
     }
 }
 
+// The faults, and their texts.
+const FAULTS: [(ScheduleFault, &str); 2] = [
+    (ScheduleFault::BadStep(2), "1 BadStep at 2"),
+    (ScheduleFault::Memory, "2 Memory"),
+];
+
 #[test]
 fn writes_faults(rt: HostRuntime) -> Result<(), Fail> {
-    let text = format!(in rt.alloc(); "{}, {}", ScheduleFault::BadStep(2), ScheduleFault::Memory)?;
-    assert_eq!(rt; text.as_str(), "1 BadStep at 2, 2 Memory");
+    for (fault, want) in FAULTS {
+        let text = format!(in rt.alloc(); "{fault}")?;
+        assert_eq!(rt; text.as_str(), want);
+    }
     Ok(())
 }

@@ -1,178 +1,68 @@
+// Modules as the grammar reads them, and whether they are closed.
+use core_reader::read_module;
 use core_scopes::{Defined, Draft, Front, closed_module};
 use core_tokens::ReadFault;
-use core_tree::{
-    Call, Callee, Case, Clause, Clauses, Definition, Expr, Exprs, FunctionName, Let, NamedFunction,
-    Pattern, Patterns, Variable,
-};
-use std::alloc::Global;
+use core_tree::Module;
+use std::alloc::{AllocError, Global};
 use std::test::Fail;
-use term_core::Atom;
 
-fn atom(alloc: Global, text: &str) -> Result<Atom, Fail> {
-    Atom::new(alloc, text)
-}
-
-fn variable(alloc: Global, at: usize, name: &str) -> Result<Variable, Fail> {
-    let name = Vec::from_slice(alloc, name.as_bytes())?;
-    Ok(Variable { at, name })
-}
-
-fn named(alloc: Global, at: usize, name: &str) -> Result<NamedFunction, Fail> {
-    let name = atom(alloc, name)?;
-    let function = FunctionName { name, arity: 0 };
-    Ok(NamedFunction { at, function })
-}
-
-/// A function without parameters, whose name stands at the place.
-fn defined(alloc: Global, at: usize, name: &str, body: Expr) -> Result<Defined, Fail> {
-    let function = named(alloc, at, name)?.function;
-    let definition = Definition {
-        at,
-        parameters: Vec::new(alloc),
-        body,
-    };
-    Ok(Defined {
-        function,
-        definition,
-    })
-}
-
-/// `apply 'f'/0()` at 12, with its name at 13.
-fn apply(alloc: Global) -> Result<Expr, Fail> {
-    let callee = Callee::Defined(named(alloc, 13, "f")?);
-    let arguments = Exprs(Vec::new(alloc));
-    let call = Call {
-        at: 12,
-        callee,
-        arguments,
-    };
-    Ok(Expr::Call(call))
-}
-
-/// `case 1 of Y when 'true' -> read`, with `Y` at 22 and the variable that is read at 23.
-fn case(alloc: Global, read: &str) -> Result<Expr, Fail> {
-    let patterns = Patterns(vec![in alloc; Pattern::Variable(variable(alloc, 22, "Y")?)]?);
-    let clause = Clause {
-        patterns,
-        guard: Expr::Atom(atom(alloc, "true")?),
-        body: Expr::Variable(variable(alloc, 23, read)?),
-    };
-    let clauses = Clauses(vec![in alloc; clause]?);
-    let case = Case {
-        at: 21,
-        value: Expr::Integer(1),
-        clauses,
-    };
-    Ok(Expr::Case(Box::new(alloc, case)?))
-}
-
-/// `let <X, other> = 1 in case ..`, with its variables at 18 and 19.
-fn binding(alloc: Global, other: &str, read: &str) -> Result<Expr, Fail> {
-    let first = variable(alloc, 18, "X")?;
-    let second = variable(alloc, 19, other)?;
-    let binding = Let {
-        variables: vec![in alloc; first, second]?,
-        value: Expr::Integer(1),
-        body: case(alloc, read)?,
-    };
-    Ok(Expr::Let(Box::new(alloc, binding)?))
-}
-
-/// The names in a module.
-#[derive(Clone, Copy)]
-struct Words {
-    first: &'static str,
-    second: &'static str,
-    other: &'static str,
-    read: &'static str,
-}
-
-const CLOSED: Words = Words {
-    first: "main",
-    second: "f",
-    other: "Z",
-    read: "X",
-};
-
-/// A module that exports `'f'/0` at 4 and has two definitions, at 10 and 16; its last `end` is at 30.
-fn draft(alloc: Global, words: Words) -> Result<Draft, Fail> {
-    let exported = named(alloc, 4, "f")?;
+// A module that was read, as the grammar reads it; its last `end` is said to stand at 30.
+fn draft_of(alloc: Global, module: Module) -> Result<Draft, AllocError> {
     let front = Front {
-        name: atom(alloc, "m")?,
-        exports: vec![in alloc; exported]?,
-        attributes: Vec::new(alloc),
+        name: module.name,
+        exports: module.exports,
+        attributes: module.attributes,
     };
-    let first = defined(alloc, 10, words.first, apply(alloc)?)?;
-    let body = binding(alloc, words.other, words.read)?;
-    let second = defined(alloc, 16, words.second, body)?;
+    let mut definitions = Vec::new(alloc);
+    for (function, definition) in module.definitions {
+        definitions.push(Defined {
+            function,
+            definition,
+        })?;
+    }
     Ok(Draft {
         front,
-        definitions: vec![in alloc; first, second]?,
+        definitions,
         end: 30,
     })
 }
 
+// An outer variable, a second one and an inner one are read, and a function is applied.
+const CLOSED: &[u8] =
+    b"module 'm' ['f'/0] attributes ['a' = 1] 'main'/0 = fun () -> apply 'f'/0() 'f'/0 = fun () -> let <X,Z> = <1,2> in case 3 of <Y> when 'true' -> {X,Y,Z} end end";
+
 #[test]
 fn hands_out_a_closed_module(rt: HostRuntime) -> Result<(), Fail> {
-    for read in ["X", "Y", "Z"] {
-        let module = closed_module(rt.alloc(), draft(rt.alloc(), Words { read, ..CLOSED })?)
-            .ok()
-            .ok_or("the module is closed")?;
-        assert_eq!(rt; module.name.as_str(), "m");
-        assert_eq!(rt; module.exports.len(), 1);
-        let mut places = module
-            .definitions
-            .iter()
-            .map(|(_, definition)| definition.at);
-        assert_eq!(rt; places.next(), Some(10));
-        assert_eq!(rt; places.next(), Some(16));
-        assert_eq!(rt; places.next(), None);
-    }
+    let module = read_module(rt.alloc(), CLOSED)?;
+    let closed = closed_module(rt.alloc(), draft_of(rt.alloc(), module)?)?;
+    assert!(rt; closed == read_module(rt.alloc(), CLOSED)?);
     Ok(())
 }
 
+// How many definitions are taken away from the end, and then the fault.
+const FAULTS: [(usize, &[u8], ReadFault); 3] = [
+    (1, CLOSED, ReadFault::NoFunction(12)),
+    (2, CLOSED, ReadFault::NoFunction(12)),
+    (
+        1,
+        b"module 'm' [] attributes [] 'main'/0 = fun () -> 1 end",
+        ReadFault::NoMain(30),
+    ),
+];
+
+// The fault of a module without so many of its definitions.
+fn fault_without(alloc: Global, text: &[u8], count: usize) -> Result<Option<ReadFault>, Fail> {
+    let mut draft = draft_of(alloc, read_module(alloc, text)?)?;
+    let kept = draft.definitions.len().saturating_sub(count);
+    draft.definitions.truncate(kept);
+    Ok(closed_module(alloc, draft).err())
+}
+
 #[test]
-fn names_the_first_fault(rt: HostRuntime) -> Result<(), Fail> {
-    let cases = [
-        (
-            Words {
-                second: "g",
-                ..CLOSED
-            },
-            ReadFault::NoFunction(4),
-        ),
-        (
-            Words {
-                first: "f",
-                ..CLOSED
-            },
-            ReadFault::DuplicateFunction(16),
-        ),
-        (
-            Words {
-                other: "X",
-                ..CLOSED
-            },
-            ReadFault::DuplicateVariable(19),
-        ),
-        (
-            Words {
-                read: "Q",
-                ..CLOSED
-            },
-            ReadFault::Unbound(23),
-        ),
-        (
-            Words {
-                first: "start",
-                ..CLOSED
-            },
-            ReadFault::NoMain(30),
-        ),
-    ];
-    for (words, fault) in cases {
-        let found = closed_module(rt.alloc(), draft(rt.alloc(), words)?);
-        assert_eq!(rt; found.err(), Some(fault));
+fn names_what_is_not_defined(rt: HostRuntime) -> Result<(), Fail> {
+    for (count, text, fault) in FAULTS {
+        let found = fault_without(rt.alloc(), text, count)?;
+        assert_eq!(rt; found, Some(fault));
     }
     Ok(())
 }

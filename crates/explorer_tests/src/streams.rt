@@ -1,28 +1,38 @@
 // Sources that hand out few bytes a read, fail, or never end, and sinks that fail at a flush.
 use std::io;
 use std::io::{BufWriter, ErrorKind, Write};
+use std::process::Abort;
 use std::test::Fail;
 use term_core::{Output, Sink, Source};
 use test_streams::{EndlessSource, MemorySink, MemorySource};
 
+// Asserts what one read of 8 bytes at most hands out.
+fn reads(rt: &impl Abort, source: &mut impl Source, want: &[u8]) -> Result<(), Fail> {
+    let mut buffer = [0u8; 8];
+    let count = source.read(&mut buffer)?;
+    assert_eq!(rt; count, want.len());
+    assert!(rt; buffer.starts_with(want));
+    Ok(())
+}
+
 #[test]
 fn reads_in_pieces(rt: HostRuntime) -> Result<(), Fail> {
     let mut source = MemorySource::in_pieces(b"abc", 2, 2);
-    let mut buffer = [0u8; 8];
-    assert_eq!(rt; source.read(&mut buffer)?, 2);
-    assert_eq!(rt; &buffer[..2], b"ab".as_slice());
-    assert_eq!(rt; source.read(&mut buffer)?, 1);
-    assert_eq!(rt; buffer[0], b'c');
+    reads(&rt, &mut source, b"ab")?;
+    reads(&rt, &mut source, b"c")?;
     assert!(rt; !source.failed());
-    assert!(rt; source.read(&mut buffer).is_err());
+    assert!(rt; source.read(&mut []).is_err());
     assert!(rt; source.failed());
-    let mut endless = EndlessSource { byte: b' ' };
-    assert_eq!(rt; endless.read(&mut buffer)?, 8);
-    assert_eq!(rt; buffer, [b' '; 8]);
-    let mut whole = MemorySource::new(b"xyz");
-    assert_eq!(rt; whole.read(&mut buffer)?, 3);
-    assert_eq!(rt; whole.read(&mut buffer)?, 0);
     Ok(())
+}
+
+#[test]
+fn reads_to_the_end_and_without_end(rt: HostRuntime) -> Result<(), Fail> {
+    let mut endless = EndlessSource { byte: b' ' };
+    reads(&rt, &mut endless, b"        ")?;
+    let mut whole = MemorySource::new(b"xyz");
+    reads(&rt, &mut whole, b"xyz")?;
+    reads(&rt, &mut whole, b"")
 }
 
 #[test]
@@ -60,6 +70,11 @@ fn an_output_flushes_its_writer(rt: HostRuntime) -> Result<(), Fail> {
     assert!(rt; output.writer.get_ref().is_empty());
     assert!(rt; output.flush().is_ok());
     assert_eq!(rt; output.writer.get_ref().as_slice(), b"ab".as_slice());
+    Ok(())
+}
+
+#[test]
+fn an_output_tells_that_its_writer_cannot_be_flushed(rt: HostRuntime) -> Result<(), Fail> {
     let mut stuck = Output::new(BufWriter::new(rt.alloc(), Unflushed)?);
     assert_eq!(rt; stuck.write(b"ab")?, 2);
     assert!(rt; stuck.flush().is_err());

@@ -206,6 +206,41 @@ fn reads_tokens(rt: HostRuntime) -> Result<(), Fail> {
     expect_all(&rt, alloc, &QUOTES)
 }
 
+// The faults, and their texts.
+const FAULTS: [(ReadFault, &str); 16] = [
+    (ReadFault::BadToken(21), "1 BadToken at 21"),
+    (ReadFault::Expected(22), "2 Expected at 22"),
+    (ReadFault::Unbound(23), "3 Unbound at 23"),
+    (
+        ReadFault::DuplicateVariable(24),
+        "4 DuplicateVariable at 24",
+    ),
+    (
+        ReadFault::DuplicateFunction(25),
+        "5 DuplicateFunction at 25",
+    ),
+    (ReadFault::NoFunction(26), "6 NoFunction at 26"),
+    (ReadFault::HigherOrder(27), "7 HigherOrder at 27"),
+    (ReadFault::UnsupportedCall(28), "8 UnsupportedCall at 28"),
+    (ReadFault::EffectInGuard(29), "9 EffectInGuard at 29"),
+    (ReadFault::TooDeep(30), "10 TooDeep at 30"),
+    (ReadFault::BadInteger(31), "11 BadInteger at 31"),
+    (ReadFault::NotUtf8(32), "12 NotUtf8 at 32"),
+    (ReadFault::NoMain(33), "13 NoMain at 33"),
+    (ReadFault::UnsupportedForm(34), "14 UnsupportedForm at 34"),
+    (ReadFault::Memory, "15 Memory"),
+    (ReadFault::TooLong(36), "16 TooLong at 36"),
+];
+
+#[test]
+fn writes_faults(rt: HostRuntime) -> Result<(), Fail> {
+    for (fault, want) in FAULTS {
+        let text = format!(in rt.alloc(); "{fault}")?;
+        assert_eq!(rt; text.as_str(), want);
+    }
+    Ok(())
+}
+
 // A byte so many times over.
 fn repeated(alloc: Global, byte: u8, count: usize) -> Result<Vec<u8>, Fail> {
     let mut bytes = Vec::new(alloc);

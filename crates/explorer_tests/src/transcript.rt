@@ -1,63 +1,18 @@
 // The lines of events made by hand, byte for byte.
+use crate::term_words::Word::{Int, List, Name, Pid, Ref, Tuple};
+use crate::term_words::{Word, pid, term, terms};
 use core_tree::CallKind;
 use explorer_engine::write_event;
 use std::alloc::{AllocError, Global};
 use std::process::Abort;
 use std::sync::Arc;
 use std::test::Fail;
-use term_core::{Atom, Pid, RefId, Step, Term, Terms, list_onto};
+use term_core::{Step, Term};
 use test_streams::MemorySink;
 use world_core::{Deed, Event, Rule};
 
-// An argument or an answer.
-#[derive(Clone, Copy)]
-enum Word {
-    Name(&'static str),
-    // a list of this name alone
-    ListOf(&'static str),
-    // a pair of this name and 1
-    Object(&'static str),
-    // a list of that pair alone
-    ListOfObject(&'static str),
-    First,
-    Reference,
-}
-
-fn atom(alloc: Global, text: &str) -> Result<Term, AllocError> {
-    Term::atom(alloc, text)
-}
-
-fn object(alloc: Global, text: &str) -> Result<Term, AllocError> {
-    let parts = vec![in alloc; atom(alloc, text)?, Term::Int(1)]?;
-    Term::tuple(alloc, Terms::from_vec(parts))
-}
-
-fn list_of(alloc: Global, item: Term) -> Result<Term, AllocError> {
-    list_onto(alloc, vec![in alloc; item]?, Term::Nil)
-}
-
-fn pid(alloc: Global, numbers: &[u64]) -> Result<Pid, AllocError> {
-    Pid::new(alloc, Vec::from_slice(alloc, numbers)?)
-}
-
-fn term(alloc: Global, word: Word) -> Result<Term, AllocError> {
-    match word {
-        Word::Name(text) => atom(alloc, text),
-        Word::ListOf(text) => list_of(alloc, atom(alloc, text)?),
-        Word::Object(text) => object(alloc, text),
-        Word::ListOfObject(text) => list_of(alloc, object(alloc, text)?),
-        Word::First => Ok(Term::Pid(pid(alloc, &[])?)),
-        Word::Reference => Ok(Term::Ref(RefId::new(alloc, pid(alloc, &[])?, 1)?)),
-    }
-}
-
-fn terms(alloc: Global, words: &[Word]) -> Result<Terms, AllocError> {
-    let mut made = Terms::new(alloc);
-    for word in words {
-        made.push(term(alloc, *word)?)?;
-    }
-    Ok(made)
-}
+// How many bytes a sink takes at a time.
+const PIECES: [usize; 2] = [1, 1000];
 
 // Asserts that the line is written so, in one write or in many.
 fn prints(
@@ -72,59 +27,68 @@ fn prints(
         step: Step::Turn(pid(alloc, process)?),
         deed,
     };
-    for piece in [1, 1000] {
+    for piece in PIECES {
         let mut sink = MemorySink::in_pieces(alloc, 1000, piece)?;
-        let result = write_event(&mut sink, number, &event);
-        assert!(rt; result.is_ok());
+        assert!(rt; write_event(&mut sink, number, &event).is_ok());
         assert_eq!(rt; sink.bytes.as_slice(), line);
     }
     Ok(())
 }
 
 // Served calls with their arguments and answers, and their lines.
-const SERVED: [(CallKind, &[Word], Word, &[u8]); 5] = [
+const SERVED: [(CallKind, &[Word], &[Word], &[u8]); 5] = [
     (
         CallKind::New,
-        &[Word::Name("t"), Word::ListOf("named_table")],
-        Word::Name("t"),
+        &[Name("t"), Name("named_table"), List(1)],
+        &[Name("t")],
         b"3 P.2 ets:new('t',['named_table']) -> 't'\n",
     ),
     (
         CallKind::Insert,
-        &[Word::Name("t"), Word::Object("a")],
-        Word::Name("true"),
+        &[Name("t"), Name("a"), Int(1), Tuple(2)],
+        &[Name("true")],
         b"3 P.2 ets:insert('t',{'a',1}) -> 'true'\n",
     ),
     (
         CallKind::Lookup,
-        &[Word::Name("t"), Word::Name("a")],
-        Word::ListOfObject("a"),
+        &[Name("t"), Name("a")],
+        &[Name("a"), Int(1), Tuple(2), List(1)],
         b"3 P.2 ets:lookup('t','a') -> [{'a',1}]\n",
     ),
     (
         CallKind::Bang,
-        &[Word::First, Word::Name("b")],
-        Word::Name("b"),
+        &[Pid(&[]), Name("b")],
+        &[Name("b")],
         b"3 P.2 erlang:!(P,'b') -> 'b'\n",
     ),
     (
         CallKind::MakeRef,
         &[],
-        Word::Reference,
+        &[Ref(&[], 1)],
         b"3 P.2 erlang:make_ref() -> #P.1\n",
     ),
 ];
 
+fn served(
+    alloc: Global,
+    kind: CallKind,
+    arguments: &[Word],
+    answer: &[Word],
+) -> Result<Deed, AllocError> {
+    let arguments = Arc::new(alloc, terms(alloc, arguments)?)?;
+    let answer = term(alloc, answer)?;
+    Ok(Deed::Served {
+        kind,
+        arguments,
+        answer,
+    })
+}
+
 #[test]
 fn prints_served_calls(rt: HostRuntime) -> Result<(), Fail> {
-    let alloc = rt.alloc();
     for (kind, arguments, answer, line) in SERVED {
-        let deed = Deed::Served {
-            kind,
-            arguments: Arc::new(alloc, terms(alloc, arguments)?)?,
-            answer: term(alloc, answer)?,
-        };
-        prints(&rt, alloc, 3, &[2], deed, line)?;
+        let deed = served(rt.alloc(), kind, arguments, answer)?;
+        prints(&rt, rt.alloc(), 3, &[2], deed, line)?;
     }
     Ok(())
 }
@@ -183,30 +147,42 @@ const REFUSED: [(Rule, Option<&[u64]>, &[u8]); 10] = [
     ),
 ];
 
+// The call that is refused.
+const REFUSED_CALL: [Word; 2] = [Name("t"), Name("a")];
+
+fn refused(alloc: Global, rule: Rule, numbers: Option<&[u64]>) -> Result<Deed, AllocError> {
+    let owner = match numbers {
+        Some(numbers) => Some(pid(alloc, numbers)?),
+        None => None,
+    };
+    Ok(Deed::Refused {
+        kind: CallKind::Lookup,
+        arguments: Arc::new(alloc, terms(alloc, &REFUSED_CALL)?)?,
+        rule,
+        owner,
+    })
+}
+
 #[test]
 fn prints_refused_calls(rt: HostRuntime) -> Result<(), Fail> {
-    let alloc = rt.alloc();
     for (rule, owner, line) in REFUSED {
-        let owner = match owner {
-            Some(numbers) => Some(pid(alloc, numbers)?),
-            None => None,
-        };
-        let deed = Deed::Refused {
-            kind: CallKind::Lookup,
-            arguments: Arc::new(alloc, terms(alloc, &[Word::Name("t"), Word::Name("a")])?)?,
-            rule,
-            owner,
-        };
-        prints(&rt, alloc, 1, &[], deed, line)?;
+        let deed = refused(rt.alloc(), rule, owner)?;
+        prints(&rt, rt.alloc(), 1, &[], deed, line)?;
     }
     Ok(())
 }
 
 #[test]
 fn prints_ends_and_waits(rt: HostRuntime) -> Result<(), Fail> {
-    let alloc = rt.alloc();
-    let end = Deed::Ended(atom(alloc, "normal")?);
-    prints(&rt, alloc, 4, &[], end, b"4 P ends 'normal'\n")?;
-    prints(&rt, alloc, 1, &[], Deed::RanAway, b"1 P runs away\n")?;
-    prints(&rt, alloc, 4, &[1], Deed::TimedOut, b"4 P.1 times out\n")
+    let end = Deed::Ended(Term::atom(rt.alloc(), "normal")?);
+    prints(&rt, rt.alloc(), 4, &[], end, b"4 P ends 'normal'\n")?;
+    prints(&rt, rt.alloc(), 1, &[], Deed::RanAway, b"1 P runs away\n")?;
+    prints(
+        &rt,
+        rt.alloc(),
+        4,
+        &[1],
+        Deed::TimedOut,
+        b"4 P.1 times out\n",
+    )
 }

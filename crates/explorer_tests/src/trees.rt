@@ -1,5 +1,5 @@
 // Names of calls, and modules that are the same or are not.
-use crate::built::joined;
+use crate::built::between;
 use core_reader::read_module;
 use core_tree::{
     Call, CallKind, Callee, Case, Clauses, Definition, Expr, Exprs, FunctionName, Module,
@@ -159,7 +159,7 @@ const WHOLE: [&str; 6] = [
 
 // The functions that the other modules have, but for the one with the expression.
 const FUNCTIONS: &str =
-    "'main'/0 = fun () -> 1 'f'/1 = fun (A) -> 1 'f'/2 = fun (A,B) -> 1 'g'/1 = fun (A) -> 1 'h'/2 = fun (A,B) -> ";
+    " 'main'/0 = fun () -> 1 'f'/1 = fun (A) -> 1 'f'/2 = fun (A,B) -> 1 'g'/1 = fun (A) -> 1 'h'/2 = fun (A,B) -> ";
 
 // A module whose tokens stand so many blanks further on; its parts are a front, and an expression between two
 // texts.
@@ -171,18 +171,12 @@ fn module_of(
     expression: &str,
     after: &str,
 ) -> Result<Module, Fail> {
-    let parts = [
-        shift,
-        "module 'm' ",
-        front,
-        " ",
-        FUNCTIONS,
-        before,
-        expression,
-        after,
-        " end",
-    ];
-    let text = joined(alloc, &parts)?;
+    let mut text = between(alloc, shift, "module 'm' ", front)?;
+    text.push_str(FUNCTIONS)?;
+    text.push_str(before)?;
+    text.push_str(expression)?;
+    text.push_str(after)?;
+    text.push_str(" end")?;
     Ok(read_module(alloc, text.as_bytes())?)
 }
 
@@ -201,7 +195,7 @@ fn modules(alloc: Global, shift: &str) -> Result<Vec<Module>, Fail> {
         all.push(module_of(alloc, shift, front, "", "0", "")?)?;
     }
     for whole in WHOLE {
-        let text = joined(alloc, &[shift, whole])?;
+        let text = between(alloc, shift, whole, "")?;
         all.push(read_module(alloc, text.as_bytes())?)?;
     }
     Ok(all)
@@ -228,7 +222,7 @@ fn compares_modules_but_for_places(rt: HostRuntime) -> Result<(), Fail> {
 // What is compared below differs in one part alone, as no two texts do.
 
 fn atom(alloc: Global, text: &str) -> Result<Atom, Fail> {
-    Atom::new(alloc, text)
+    Ok(Atom::new(alloc, text)?)
 }
 
 fn function(alloc: Global, name: &str, arity: u8) -> Result<FunctionName, Fail> {

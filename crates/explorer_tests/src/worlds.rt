@@ -1,39 +1,23 @@
 // Worlds of small modules, and what happens in them.
-ghost use Rattle.std.specs.Prelude.{◌≡◌, false, OnOk};
+ghost use Rattle.std.specs.Prelude.{◌≡◌, false};
 
-use core_reader::{CallKind, Module, ReadFault, read_module};
+use crate::built::{between, nested};
+use crate::requests::write_call;
+use crate::term_words::pid;
+use core_reader::{Module, ReadFault, read_module};
 use std::alloc::{AllocError, Global};
+use std::process::Abort;
 use std::test::Fail;
-use term_core::{
-    Output, Pid, Step, Terms, WriteFault, write_all, write_number, write_pid, write_term,
-};
+use term_core::{Output, Pid, Step, WriteFault, write_all, write_number, write_pid, write_term};
 use world_core::{Deed, World, WorldFault};
+
+// What stands before the body of `main/0`, which begins at 57.
+const FRONT: &str = "module 'm' ['main'/0] attributes [] 'main'/0 = fun () -> ";
 
 // The module `m` whose `main/0` has this body.
 fn program(alloc: Global, body: &str) -> Result<Module, ReadFault> {
-    let mut text = String::from_str(
-        alloc,
-        "module 'm' ['main'/0] attributes [] 'main'/0 = fun () -> ",
-    )?;
-    text.push_str(body)?;
-    text.push_str(" end")?;
+    let text = between(alloc, FRONT, body, " end")?;
     read_module(alloc, text.as_bytes())
-}
-
-fn write_call(
-    kind: CallKind,
-    arguments: &Terms,
-    sink: &mut Output<Vec<u8>>,
-) -> Result<(), WriteFault>
-    requires { sink.old.has_failed ≡ false }
-    ensures { OnOk result (sink.new.has_failed ≡ false) }
-{
-    write_all(sink, kind.function_name().as_bytes())?;
-    for argument in arguments.as_slice() {
-        write_all(sink, b" ")?;
-        write_term(argument, sink)?;
-    }
-    Ok(())
 }
 
 fn write_owner(owner: &Option<Pid>, sink: &mut Output<Vec<u8>>) -> Result<(), WriteFault>
@@ -104,10 +88,13 @@ fn run_on(alloc: Global, world: &mut World) -> Result<Vec<u8>, Fail> {
     Ok(text)
 }
 
-fn run(alloc: Global, body: &str) -> Result<Vec<u8>, Fail> {
+// Asserts what happens in the world of the module with this body.
+fn happens(rt: &impl Abort, alloc: Global, body: &str, want: &str) -> Result<(), Fail> {
     let program = program(alloc, body)?;
     let mut world = World::open(alloc, &program)?;
-    run_on(alloc, &mut world)
+    let text = run_on(alloc, &mut world)?;
+    assert_eq!(rt; text.as_slice(), want.as_bytes());
+    Ok(())
 }
 
 // A call and its refusal, which ends the process.
@@ -163,7 +150,7 @@ const REFUSED: [(&str, &str); 13] = [
     ),
 ];
 
-// The same behind a named table.
+// The same after a named table.
 const REFUSED_LATER: [(&str, &str); 11] = [
     (
         "call 'ets':'new'('t',['named_table'])",
@@ -217,19 +204,11 @@ const MADE: &str = "new 't' ['named_table'] -> 't'\n";
 
 const END: &str = "{'badarg',[]}\n";
 
-fn joined(alloc: Global, parts: &[&str]) -> Result<String, AllocError> {
-    let mut text = String::new(alloc);
-    for part in parts {
-        text.push_str(part)?;
-    }
-    Ok(text)
-}
-
 #[test]
 fn each_refusal_has_its_rule(rt: HostRuntime) -> Result<(), Fail> {
     for (body, refusal) in REFUSED {
-        let want = joined(rt.alloc(), &[refusal, END])?;
-        assert_eq!(rt; run(rt.alloc(), body)?.as_slice(), want.as_bytes());
+        let want = between(rt.alloc(), "", refusal, END)?;
+        happens(&rt, rt.alloc(), body, want.as_str())?;
     }
     Ok(())
 }
@@ -237,9 +216,9 @@ fn each_refusal_has_its_rule(rt: HostRuntime) -> Result<(), Fail> {
 #[test]
 fn each_refusal_of_a_table_has_its_rule(rt: HostRuntime) -> Result<(), Fail> {
     for (body, refusal) in REFUSED_LATER {
-        let body = joined(rt.alloc(), &[NAMED, body])?;
-        let want = joined(rt.alloc(), &[MADE, refusal, END])?;
-        assert_eq!(rt; run(rt.alloc(), body.as_str())?.as_slice(), want.as_bytes());
+        let body = between(rt.alloc(), NAMED, body, "")?;
+        let want = between(rt.alloc(), MADE, refusal, END)?;
+        happens(&rt, rt.alloc(), body.as_str(), want.as_str())?;
     }
     Ok(())
 }
@@ -272,52 +251,54 @@ const SERVED: [(&str, &str); 6] = [
 #[test]
 fn served_calls_answer(rt: HostRuntime) -> Result<(), Fail> {
     for (body, want) in SERVED {
-        assert_eq!(rt; run(rt.alloc(), body)?.as_slice(), want.as_bytes());
+        happens(&rt, rt.alloc(), body, want)?;
     }
     Ok(())
 }
 
-// No step of another process, no delivery, and no step behind the end.
+const CHILD: [u64; 1] = [1];
+
+// Asserts that this step is not enabled.
+fn is_not_enabled(rt: &impl Abort, alloc: Global, world: &mut World, step: &Step) {
+    assert_eq!(rt; world.step(alloc, step), Err(WorldFault::NotEnabled));
+}
+
+fn delivery(alloc: Global) -> Result<Step, AllocError> {
+    let first = Pid::new(alloc, Vec::new(alloc))?;
+    Ok(Step::Deliver(first.copy()?, first))
+}
+
+// No step of another process, no delivery, and no step after the end.
 #[test]
 fn other_steps_are_not_enabled(rt: HostRuntime) -> Result<(), Fail> {
-    let alloc = rt.alloc();
-    let program = program(alloc, "'ok'")?;
-    let mut world = World::open(alloc, &program)?;
-    let child = Step::Turn(Pid::new(alloc, Vec::from_slice(alloc, &[1])?)?);
-    let first = Pid::new(alloc, Vec::new(alloc))?;
-    let delivery = Step::Deliver(Pid::new(alloc, Vec::new(alloc))?, first);
+    let program = program(rt.alloc(), "'ok'")?;
+    let mut world = World::open(rt.alloc(), &program)?;
     assert!(rt; world.last_event().is_none());
-    assert_eq!(rt; world.step(alloc, &child), Err(WorldFault::NotEnabled));
-    assert_eq!(rt; world.step(alloc, &delivery), Err(WorldFault::NotEnabled));
-    let text = run_on(alloc, &mut world)?;
+    let child = Step::Turn(pid(rt.alloc(), &CHILD)?);
+    is_not_enabled(&rt, rt.alloc(), &mut world, &child);
+    is_not_enabled(&rt, rt.alloc(), &mut world, &delivery(rt.alloc())?);
+    let text = run_on(rt.alloc(), &mut world)?;
     assert_eq!(rt; text.as_slice(), b"'normal'\n".as_slice());
-    assert_eq!(rt;
-        world.step(alloc, &turn(alloc)?),
-        Err(WorldFault::NotEnabled)
-    );
-    let again = last(alloc, &world)?;
+    is_not_enabled(&rt, rt.alloc(), &mut world, &turn(rt.alloc())?);
+    let again = last(rt.alloc(), &world)?;
     assert_eq!(rt; again.as_slice(), b"'normal'".as_slice());
     Ok(())
 }
 
-// A chain of so many `do`, each the second part of the one before it.
-fn chain(alloc: Global, count: usize) -> Result<String, AllocError> {
-    let mut body = String::new(alloc);
-    for _ in 0..count {
-        body.push_str("do 'a' ")?;
-    }
-    body.push_str("'a'")?;
-    Ok(body)
+// A chain of 999 `do`, each the second part of the one before it.
+#[test]
+fn a_chain_of_do_runs(rt: HostRuntime) -> Result<(), Fail> {
+    let body = nested(rt.alloc(), "", "do 'a' ", 999, "'a'", "")?;
+    happens(&rt, rt.alloc(), body.as_str(), "'normal'\n")
 }
 
+const LONGER: [usize; 2] = [1_000, 100_000];
+
+// The atom in the `do` of level 1,000 opens level 1,001: 57 + 999 * 7 + 3.
 #[test]
 fn a_chain_of_do_is_bounded_by_the_reader(rt: HostRuntime) -> Result<(), Fail> {
-    let body = chain(rt.alloc(), 999)?;
-    let text = run(rt.alloc(), body.as_str())?;
-    assert_eq!(rt; text.as_slice(), b"'normal'\n".as_slice());
-    // The atom in the `do` of level 1,000 opens level 1,001: 57 + 999 * 7 + 3.
-    for count in [1_000, 100_000] {
-        let body = chain(rt.alloc(), count)?;
+    for count in LONGER {
+        let body = nested(rt.alloc(), "", "do 'a' ", count, "'a'", "")?;
         let fault = program(rt.alloc(), body.as_str()).err();
         assert_eq!(rt; fault, Some(ReadFault::TooDeep(7_053)), "{count}");
     }

@@ -1,136 +1,124 @@
 // Applications of the module's own functions.
-use super::runs::{Definitions, define, module_with, process, run_of, run_on};
-use super::words::{FIRST, LETTERS, Look, TAKE, TRUE, TWO, Word, build, last, link_name, put};
-use core_tree::{CallKind, Expr, Module};
-use indexmap::IndexMap;
+use super::runs::{MAIN, ask_all, begins, first_process, program, run_on};
+use crate::built::{between, nested, push_number};
+use core_eval::Machine;
+use core_reader::Module;
+use core_tree::{Call, Callee, Definition, Expr, Exprs, FunctionName, NamedFunction, Variable};
 use std::alloc::{AllocError, Global};
+use std::process::Abort;
 use std::test::Fail;
-use term_core::Pid;
+use term_core::Atom;
 
-// A function: its name, its number of parameters, which are `X` and `Y`, and its body.
-type Function = (&'static str, u8, &'static [Word]);
-
-const SWAP: [Word; 3] = [Word::ReadSecond, Word::Read, Word::Tuple(2)];
-
-const TAKE_ITS_ONE: [Word; 2] = [Word::Read, TAKE];
-
-const FREE: [Word; 1] = [Word::Read];
-
-const FAILS: [Word; 2] = [Word::Int(5), Word::Fail(1)];
-
-// the items of `X`, one by one
-const EACH: [Word; 10] = [
-    Word::Read,
-    TRUE,
-    Word::Read,
-    TAKE,
-    Word::ReadSecond,
-    Word::Apply("each", 1),
-    Word::Do,
-    TRUE,
-    Word::Name("done"),
-    Word::Case(&[
-        &[Look::First, Look::Second, Look::Onto(1)],
-        &[Look::List(0)],
-    ]),
-];
-
-const FUNCTIONS: [Function; 7] = [
-    ("swap", 2, &SWAP),
-    ("take", 1, &TAKE_ITS_ONE),
-    ("free", 0, &FREE),
-    ("two", 0, &TWO),
-    ("fails", 0, &FAILS),
-    ("letters", 0, &LETTERS),
-    ("each", 1, &EACH),
-];
-
-// What the first process asks of a module with these functions and this body of `main/0`.
-fn applied(alloc: Global, main: &[Word]) -> Result<Vec<u8>, Fail> {
-    let mut definitions = IndexMap::new(alloc);
-    define(alloc, &mut definitions, "main", 0, build(alloc, main)?)?;
-    for (name, arity, words) in FUNCTIONS {
-        define(alloc, &mut definitions, name, arity, build(alloc, words)?)?;
-    }
-    let program = module_with(alloc, definitions)?;
-    run_of(alloc, &program)
-}
-
-// `take(apply 'swap'/2(1, 2))`, and the same by `call 'm':'swap'`
-const APPLY: [Word; 4] = [Word::Int(1), Word::Int(2), Word::Apply("swap", 2), TAKE];
-
-const CALL: [Word; 4] = [Word::Int(1), Word::Int(2), Word::CallOwn("swap", 2), TAKE];
-
-// `let X = 1 in do apply 'take'/1(3) take(X)`
-const HIDES: [Word; 7] = [
-    Word::Int(1),
-    Word::Int(3),
-    Word::Apply("take", 1),
-    Word::Read,
-    TAKE,
-    Word::Do,
-    Word::Let,
-];
-
-// `let X = 1 in apply 'free'/0()`; no module that was read has such a function
-const SEES: [Word; 3] = [Word::Int(1), Word::Apply("free", 0), Word::Let];
-
-// `let <X, Y> = apply 'two'/0() in insert(Y, X)`
-const PASSES: [Word; 5] = [
-    Word::Apply("two", 0),
-    Word::ReadSecond,
-    Word::Read,
-    Word::Call(CallKind::Insert, 2),
-    Word::LetTwo,
-];
-
-const ENDS_WITH_TWO: [Word; 1] = [Word::Apply("two", 0)];
-
-const WANTS_ONE: [Word; 2] = [Word::Apply("two", 0), TAKE];
-
-const UNCAUGHT: [Word; 1] = [Word::Apply("fails", 0)];
-
-const CAUGHT: [Word; 3] = [Word::CallOwn("fails", 0), Word::Catch, TAKE];
-
-// the answer to the call in the function is its value
-const ANSWERED: [Word; 2] = [Word::Apply("letters", 0), TAKE];
-
-const RECURSION: [Word; 6] = [
-    Word::Int(7),
-    Word::Int(8),
-    Word::Int(9),
-    Word::List(3),
-    Word::Apply("each", 1),
-    TAKE,
-];
-
-// Not there, and not with as many arguments: no module that was read has such an application.
-const UNDEFINED: [Word; 1] = [Word::Apply("none", 0)];
-
-const MISCOUNTED: [Word; 2] = [Word::Int(1), Word::Apply("swap", 1)];
+// Functions, of which `swap` and `fails` are exported.
+const FUNCTIONS: &str =
+    "module 'm' ['swap'/2,'fails'/0] attributes [] 'swap'/2 = fun (X,Y) -> {Y,X} 'take'/1 = fun (X) -> call 'ets':'lookup'('t',X) 'free'/0 = fun () -> 0 'two'/0 = fun () -> <1,2> 'fails'/0 = fun () -> primop 'match_fail'(5) 'letters'/0 = fun () -> call 'ets':'lookup'('t',\"aa\") 'each'/1 = fun (X) -> case X of <[X|Y]> when 'true' -> do call 'ets':'lookup'('t',X) apply 'each'/1(Y) <[]> when 'true' -> 'done' end 'main'/0 = fun () -> ";
 
 // Applications, and what is asked.
-const APPLICATIONS: [(&[Word], &str); 13] = [
-    (&APPLY, "take {2,1}\n'normal'"),
-    (&CALL, "take {2,1}\n'normal'"),
-    (&HIDES, "take 3\ntake 1\n'normal'"),
-    (&SEES, "{'unbound',[]}"),
-    (&PASSES, "insert 2 1\n'normal'"),
-    (&ENDS_WITH_TWO, "'normal'"),
-    (&WANTS_ONE, "{'value_count',[]}"),
-    (&UNCAUGHT, "{5,[]}"),
-    (&CAUGHT, "take {'EXIT',{5,[]}}\n'normal'"),
-    (&ANSWERED, "take [97,97]\ntake 1\n'normal'"),
-    (&RECURSION, "take 7\ntake 8\ntake 9\ntake 'done'\n'normal'"),
-    (&UNDEFINED, "{'undef',[]}"),
-    (&MISCOUNTED, "{'undef',[]}"),
+const APPLICATIONS: [(&str, &str); 10] = [
+    (
+        "call 'ets':'lookup'('t',apply 'swap'/2(1,2))",
+        "lookup 't' {2,1}\n'normal'",
+    ),
+    (
+        "call 'ets':'lookup'('t',call 'm':'swap'(1,2))",
+        "lookup 't' {2,1}\n'normal'",
+    ),
+    (
+        "let <X> = 1 in do apply 'take'/1(3) call 'ets':'lookup'('t',X)",
+        "lookup 't' 3\nlookup 't' 1\n'normal'",
+    ),
+    (
+        "let <X,Y> = apply 'two'/0() in call 'ets':'insert'(Y,X)",
+        "insert 2 1\n'normal'",
+    ),
+    ("apply 'two'/0()", "'normal'"),
+    (
+        "call 'ets':'lookup'('t',apply 'two'/0())",
+        "{'value_count',[]}",
+    ),
+    ("apply 'fails'/0()", "{5,[]}"),
+    (
+        "call 'ets':'lookup'('t',catch call 'm':'fails'())",
+        "lookup 't' {'EXIT',{5,[]}}\n'normal'",
+    ),
+    // the answer to the call in the function is its value
+    (
+        "call 'ets':'lookup'('t',apply 'letters'/0())",
+        "lookup 't' [97,97]\nlookup 't' 1\n'normal'",
+    ),
+    (
+        "call 'ets':'lookup'('t',apply 'each'/1([7,8,9]))",
+        "lookup 't' 7\nlookup 't' 8\nlookup 't' 9\nlookup 't' 'done'\n'normal'",
+    ),
 ];
 
 #[test]
 fn functions_are_applied(rt: HostRuntime) -> Result<(), Fail> {
-    for (words, want) in APPLICATIONS {
-        let text = applied(rt.alloc(), words)?;
-        assert_eq!(rt; text.as_slice(), want.as_bytes());
+    ask_all(&rt, rt.alloc(), FUNCTIONS, &APPLICATIONS)
+}
+
+fn function(alloc: Global, name: &str, arity: u8) -> Result<FunctionName, AllocError> {
+    let name = Atom::new(alloc, name)?;
+    Ok(FunctionName { name, arity })
+}
+
+// So many ones.
+fn ones(alloc: Global, count: u8) -> Result<Exprs, AllocError> {
+    let mut arguments = Vec::new(alloc);
+    for _ in 0..count {
+        arguments.push(Expr::Integer(1))?;
+    }
+    Ok(Exprs(arguments))
+}
+
+// An application to ones of a function of this name and number of arguments.
+fn application(alloc: Global, name: &str, arity: u8) -> Result<Expr, AllocError> {
+    let arguments = ones(alloc, arity)?;
+    let function = function(alloc, name, arity)?;
+    Ok(Expr::Call(Call {
+        at: 0,
+        callee: Callee::Defined(NamedFunction { at: 0, function }),
+        arguments,
+    }))
+}
+
+fn variable(alloc: Global, name: &str) -> Result<Expr, AllocError> {
+    let name = Vec::from_slice(alloc, name.as_bytes())?;
+    Ok(Expr::Variable(Variable { at: 0, name }))
+}
+
+// The module where the function with this name and no parameters has another body.
+fn redefined(alloc: Global, body: &str, name: &str, other: Expr) -> Result<Module, Fail> {
+    let mut program = program(alloc, FUNCTIONS, body)?;
+    let definition = Definition {
+        at: 0,
+        parameters: Vec::new(alloc),
+        body: other,
+    };
+    let name = function(alloc, name, 0)?;
+    program.definitions.insert(name, definition)?;
+    Ok(program)
+}
+
+// No module that is read has such a function: it sees the variables of its caller.
+#[test]
+fn functions_see_no_other_variables(rt: HostRuntime) -> Result<(), Fail> {
+    let other = variable(rt.alloc(), "X")?;
+    let body = "let <X> = 1 in apply 'free'/0()";
+    let program = redefined(rt.alloc(), body, "free", other)?;
+    begins(&rt, rt.alloc(), &program, "main", "{'unbound',[]}")
+}
+
+// Functions that are not there, or with another number of arguments.
+const UNDEFINED: [(&str, u8); 3] = [("none", 0), ("swap", 1), ("swap", 0)];
+
+// No module that is read has such an application.
+#[test]
+fn applied_functions_are_defined(rt: HostRuntime) -> Result<(), Fail> {
+    for (name, arity) in UNDEFINED {
+        let other = application(rt.alloc(), name, arity)?;
+        let program = redefined(rt.alloc(), "0", "main", other)?;
+        begins(&rt, rt.alloc(), &program, "main", "{'undef',[]}")?;
     }
     Ok(())
 }
@@ -138,172 +126,174 @@ fn functions_are_applied(rt: HostRuntime) -> Result<(), Fail> {
 // A chain of functions `f0/1` to `f1110/1`, each of which applies the next to its argument, and the last the
 // first; `f0/1` takes the first item off, and gives `'done'` where there is none. Applied to a list of n
 // items, `f0/1` makes 1,111 * n applications; another link makes 1,111 more but for its index.
-const LINKS: usize = 1_111;
-
-const FIRST_LINK: [Word; 7] = [
-    Word::Read,
-    TRUE,
-    Word::ReadSecond,
-    Word::Link(1),
-    TRUE,
-    Word::Name("done"),
-    Word::Case(&[
-        &[Look::First, Look::Second, Look::Onto(1)],
-        &[Look::List(0)],
-    ]),
-];
-
-// the same, where something is left to do behind each application
-const FIRST_OF_NEST: [Word; 9] = [
-    Word::Read,
-    TRUE,
-    Word::ReadSecond,
-    Word::Link(1),
-    Word::Name("done"),
-    Word::Do,
-    TRUE,
-    Word::Name("done"),
-    Word::Case(&[
-        &[Look::First, Look::Second, Look::Onto(1)],
-        &[Look::List(0)],
-    ]),
-];
-
-// The body of a function that applies the link of this index.
-fn link_to(alloc: Global, index: usize, is_nest: bool) -> Result<Expr, AllocError> {
-    let mut parts = Vec::new(alloc);
-    put(alloc, &mut parts, Word::Read)?;
-    put(alloc, &mut parts, Word::Link(index))?;
-    if is_nest {
-        put(alloc, &mut parts, Word::Name("done"))?;
-        put(alloc, &mut parts, Word::Do)?;
-    }
-    Ok(last(&mut parts))
-}
-
-fn add_chain(
-    alloc: Global,
-    definitions: &mut Definitions,
-    is_nest: bool,
-) -> Result<(), AllocError> {
-    let first = if is_nest {
-        build(alloc, FIRST_OF_NEST.as_slice())?
-    } else {
-        build(alloc, FIRST_LINK.as_slice())?
-    };
-    define(alloc, definitions, "f0", 1, first)?;
-    for index in 1..LINKS {
-        let name = link_name(alloc, index)?;
-        let body = link_to(alloc, (index + 1) % LINKS, is_nest)?;
-        define(alloc, definitions, name.as_str(), 1, body)?;
-    }
-    Ok(())
-}
-
-// The chain, and before it a function for each of these bodies, by which a process may begin.
-fn chain(alloc: Global, rows: &[Row], is_nest: bool) -> Result<Module, AllocError> {
-    let mut definitions = IndexMap::new(alloc);
-    for (name, words, _) in rows {
-        define(alloc, &mut definitions, name, 0, build(alloc, words)?)?;
-    }
-    add_chain(alloc, &mut definitions, is_nest)?;
-    module_with(alloc, definitions)
-}
+// The number of the last link.
+const LAST: u64 = 1_110;
 
 // The name of a function with no parameter, its body, and what a process asks that begins with it.
-type Row = (&'static str, &'static [Word], &'static str);
-
-// `take(apply 'f1'/1(X))` at a string of 8 letters: 1 + 1,110 + 8 * 1,111 applications
-const BELOW: [Word; 3] = [Word::Letters(8), Word::Link(1), TAKE];
-
-// `f0` at 9 letters: 1 + 9 * 1,111 applications
-const AT_THE_LIMIT: [Word; 3] = [Word::Letters(9), Word::Link(0), TAKE];
-
-// `f1110` at 9 letters: 1 + 1 + 9 * 1,111 applications
-const BEYOND: [Word; 3] = [Word::Letters(9), Word::Link(1_110), TAKE];
-
-const BEYOND_IN_CATCH: [Word; 4] = [Word::Letters(9), Word::Link(1_110), Word::Catch, TAKE];
-
-const BEYOND_IN_TRY: [Word; 8] = [
-    Word::Letters(9),
-    Word::Link(1_110),
-    Word::Read,
-    Word::Read,
-    Word::ReadSecond,
-    Word::Tuple(2),
-    Word::Try(2),
-    TAKE,
+const ROWS: [(&str, &str, &str); 8] = [
+    // 1 + 1,110 + 8 * 1,111 applications
+    (
+        "below",
+        "call 'ets':'lookup'('t',apply 'f1'/1(\"aaaaaaaa\"))",
+        "lookup 't' 'done'\n'normal'",
+    ),
+    // 1 + 9 * 1,111 applications
+    (
+        "at",
+        "call 'ets':'lookup'('t',apply 'f0'/1(\"aaaaaaaaa\"))",
+        "lookup 't' 'done'\n'normal'",
+    ),
+    // 1 + 1 + 9 * 1,111 applications
+    (
+        "beyond",
+        "call 'ets':'lookup'('t',apply 'f1110'/1(\"aaaaaaaaa\"))",
+        "runs away",
+    ),
+    (
+        "caught",
+        "call 'ets':'lookup'('t',catch apply 'f1110'/1(\"aaaaaaaaa\"))",
+        "runs away",
+    ),
+    (
+        "tried",
+        "call 'ets':'lookup'('t',try apply 'f1110'/1(\"aaaaaaaaa\") of <X> -> X catch <X,Y> -> {X,Y})",
+        "runs away",
+    ),
+    // the limit's number of applications, and one before them
+    (
+        "twice",
+        "do apply 'f0'/1(\"\") call 'ets':'lookup'('t',apply 'f0'/1(\"aaaaaaaaa\"))",
+        "runs away",
+    ),
+    // the limit's number of applications, an answer, and the limit's number again
+    (
+        "anew",
+        "do apply 'f0'/1(\"aaaaaaaaa\") do call 'ets':'lookup'('t',1) call 'ets':'lookup'('t',apply 'f0'/1(\"aaaaaaaaa\"))",
+        "lookup 't' 1\nlookup 't' 'done'\n'normal'",
+    ),
+    // and with one more after the answer
+    (
+        "anew_beyond",
+        "do apply 'f0'/1(\"aaaaaaaaa\") do call 'ets':'lookup'('t',1) call 'ets':'lookup'('t',apply 'f1110'/1(\"aaaaaaaaa\"))",
+        "lookup 't' 1\nruns away",
+    ),
 ];
 
-// the limit's number of applications, and one before them
-const TWICE: [Word; 6] = [
-    Word::Letters(0),
-    Word::Link(0),
-    Word::Letters(9),
-    Word::Link(0),
-    TAKE,
-    Word::Do,
-];
-
-// the limit's number of applications, an answer, and the limit's number again
-const ANEW: [Word; 9] = [
-    Word::Letters(9),
-    Word::Link(0),
-    Word::Int(1),
-    FIRST,
-    Word::Letters(9),
-    Word::Link(0),
-    TAKE,
-    Word::Do,
-    Word::Do,
-];
-
-// and with one more behind the answer
-const ANEW_BEYOND: [Word; 9] = [
-    Word::Letters(9),
-    Word::Link(0),
-    Word::Int(1),
-    FIRST,
-    Word::Letters(9),
-    Word::Link(1_110),
-    TAKE,
-    Word::Do,
-    Word::Do,
-];
-
-const ROWS: [Row; 8] = [
-    ("below", &BELOW, "take 'done'\n'normal'"),
-    ("at", &AT_THE_LIMIT, "take 'done'\n'normal'"),
-    ("beyond", &BEYOND, "runs away"),
-    ("caught", &BEYOND_IN_CATCH, "runs away"),
-    ("tried", &BEYOND_IN_TRY, "runs away"),
-    ("twice", &TWICE, "runs away"),
-    ("anew", &ANEW, "first 1\ntake 'done'\n'normal'"),
-    ("anew_beyond", &ANEW_BEYOND, "first 1\nruns away"),
-];
-
-// What the first process asks that begins with this function.
-fn begun(alloc: Global, program: &Module, name: &str) -> Result<Vec<u8>, Fail> {
-    let mut machine = process(alloc, program, Pid::new(alloc, Vec::new(alloc))?, name)?;
-    run_on(alloc, &mut machine)
+// A link that applies the next within what stands around it.
+fn push_link(
+    alloc: Global,
+    text: &mut String,
+    link: u64,
+    next: u64,
+    around: (&str, &str),
+) -> Result<(), AllocError> {
+    let (front, back) = around;
+    push_number(alloc, text, "'f", link, "'/1 = fun (X) -> ")?;
+    text.push_str(front)?;
+    push_number(alloc, text, "apply 'f", next, "'/1(X)")?;
+    text.push_str(back)?;
+    text.push(' ')
 }
 
-#[test]
-fn loops_go_on_up_to_the_limit(rt: HostRuntime) -> Result<(), Fail> {
-    let program = chain(rt.alloc(), ROWS.as_slice(), false)?;
+// The links from the second on.
+fn push_links(alloc: Global, text: &mut String, around: (&str, &str)) -> Result<(), AllocError> {
+    for link in 1..LAST {
+        push_link(alloc, text, link, link + 1, around)?;
+    }
+    push_link(alloc, text, LAST, 0, around)
+}
+
+// The functions of the rows.
+fn push_rows(text: &mut String) -> Result<(), AllocError> {
+    for (name, body, _) in ROWS {
+        text.push_str("'")?;
+        text.push_str(name)?;
+        text.push_str("'/0 = fun () -> ")?;
+        text.push_str(body)?;
+        text.push(' ')?;
+    }
+    Ok(())
+}
+
+// The functions of the rows, and the chain.
+fn chain(alloc: Global, around: (&str, &str)) -> Result<Module, Fail> {
+    let first = "module 'm' [] attributes [] 'f0'/1 = fun (X) -> case X of <[X|Y]> when 'true' -> ";
+    let mut text = nested(alloc, first, around.0, 1, "apply 'f1'/1(Y)", around.1)?;
+    text.push_str(" <[]> when 'true' -> 'done' end ")?;
+    push_links(alloc, &mut text, around)?;
+    push_rows(&mut text)?;
+    text.push_str("'main'/0 = fun () -> ")?;
+    program(alloc, text.as_str(), "0")
+}
+
+// As the last thing that a link does, and with something left to do after it.
+const AROUND: [(&str, &str); 2] = [("", ""), ("do ", " 'done'")];
+
+fn go_on(rt: &impl Abort, alloc: Global, program: &Module) -> Result<(), Fail> {
     for (name, _, want) in ROWS {
-        let text = begun(rt.alloc(), &program, name)?;
-        assert_eq!(rt; text.as_slice(), want.as_bytes());
+        begins(rt, alloc, program, name, want)?;
     }
     Ok(())
 }
 
 #[test]
-fn nests_go_on_up_to_the_limit(rt: HostRuntime) -> Result<(), Fail> {
-    let program = chain(rt.alloc(), ROWS.as_slice(), true)?;
-    for (name, _, want) in ROWS {
-        let text = begun(rt.alloc(), &program, name)?;
-        assert_eq!(rt; text.as_slice(), want.as_bytes());
+fn applications_go_on_up_to_the_limit(rt: HostRuntime) -> Result<(), Fail> {
+    for around in AROUND {
+        let program = chain(rt.alloc(), around)?;
+        go_on(&rt, rt.alloc(), &program)?;
+    }
+    Ok(())
+}
+
+// A function that applies itself within 20 constructs until its argument is 0, and asks then: at 9,000 some
+// 200,000 frames are on the stack.
+const DEEP: &str =
+    "module 'm' [] attributes [] 'f'/1 = fun (N) -> case N of <0> when 'true' -> call 'ets':'lookup'('t','deep') <M> when 'true' -> ";
+
+fn deep(alloc: Global, opening: &str, closing: &str) -> Result<Module, Fail> {
+    let applied = "apply 'f'/1(call 'erlang':'-'(N,1))";
+    let mut front = nested(alloc, DEEP, opening, 20, applied, closing)?;
+    front.push_str(" end 'main'/0 = fun () -> ")?;
+    let body = "call 'ets':'insert'('t',apply 'f'/1(9000))";
+    program(alloc, front.as_str(), body)
+}
+
+// What opens a construct, what closes it, and what a process asks, the answer in its depth among it.
+const CONSTRUCTS: [(&str, &str, &str); 3] = [
+    (
+        "do ",
+        " 'done'",
+        "lookup 't' 'deep'\ninsert 't' 'done'\n'normal'",
+    ),
+    ("catch ", "", "lookup 't' 'deep'\ninsert 't' 1\n'normal'"),
+    (
+        "let <X> = ",
+        " in X",
+        "lookup 't' 'deep'\ninsert 't' 1\n'normal'",
+    ),
+];
+
+// Asserts what a machine asks to its end.
+fn ends(rt: &impl Abort, alloc: Global, machine: &mut Machine, want: &str) -> Result<(), Fail> {
+    let text = run_on(alloc, machine)?;
+    assert_eq!(rt; text.as_slice(), want.as_bytes());
+    Ok(())
+}
+
+// One copy is dropped in its depth, and one goes on after the machine has ended.
+fn is_kept(rt: &impl Abort, alloc: Global, program: &Module, want: &str) -> Result<(), Fail> {
+    let mut machine = first_process(alloc, program, "main")?;
+    let mut copied = machine.copy(alloc)?;
+    drop(machine.copy(alloc)?);
+    ends(rt, alloc, &mut machine, want)?;
+    ends(rt, alloc, &mut copied, want)
+}
+
+#[test]
+fn a_stack_of_200000_frames_is_kept_copied_and_dropped(rt: HostRuntime) -> Result<(), Fail> {
+    for (opening, closing, want) in CONSTRUCTS {
+        let program = deep(rt.alloc(), opening, closing)?;
+        is_kept(&rt, rt.alloc(), &program, want)?;
     }
     Ok(())
 }

@@ -1,201 +1,64 @@
 // Clauses, patterns and guards.
-use super::runs::asked;
-use super::words::{Look, TAKE, TRUE, Word};
-use core_tree::CallKind;
+use super::runs::{Long, MAIN, ask_all, ask_long, asks};
+use crate::built::nested;
 use std::test::Fail;
 
-// `case 2 of <1> -> take(1) <2> -> take(2) <X> -> take(3) end`
-const SECOND_CLAUSE: [Word; 11] = [
-    Word::Int(2),
-    TRUE,
-    Word::Int(1),
-    TAKE,
-    TRUE,
-    Word::Int(2),
-    TAKE,
-    TRUE,
-    Word::Int(3),
-    TAKE,
-    Word::Case(&[&[Look::Int(1)], &[Look::Int(2)], &[Look::First]]),
-];
-
-// a guard that gives something else, one that raises, one that gives two values, and one that holds
-const GUARDS: [Word; 16] = [
-    Word::Int(1),
-    Word::Name("false"),
-    Word::Int(1),
-    Word::Int(7),
-    Word::Fail(1),
-    Word::Int(2),
-    TRUE,
-    TRUE,
-    Word::Values(2),
-    Word::Int(3),
-    Word::Int(4),
-    Word::Int(4),
-    TRUE,
-    Word::Read,
-    TAKE,
-    Word::Case(&[
-        &[Look::First],
-        &[Look::First],
-        &[Look::First],
-        &[Look::First],
-        &[Look::First],
-    ]),
-];
-
-// of `{1,'b',97,[97,97],[3,4|5]}` every part; `X` is the whole of the last, and `Y` its tail
-pub(crate) const EVERY_PATTERN: [Word; 18] = [
-    Word::Int(1),
-    Word::Name("b"),
-    Word::Letter,
-    Word::Letters(2),
-    Word::Int(3),
-    Word::Int(4),
-    Word::Int(5),
-    Word::Onto(2),
-    Word::Tuple(5),
-    TRUE,
-    Word::Int(0),
-    TRUE,
-    Word::Read,
-    Word::ReadSecond,
-    Word::Call(CallKind::Insert, 2),
-    TRUE,
-    Word::Int(9),
-    Word::Case(&[
-        &[
-            Look::Int(1),
-            Look::Name("c"),
-            Look::Letter,
-            Look::First,
-            Look::Second,
-            Look::Tuple(5),
-        ],
-        &[
-            Look::Int(1),
-            Look::Name("b"),
-            Look::Letter,
-            Look::Letters(2),
-            Look::Int(3),
-            Look::Int(4),
-            Look::Second,
-            Look::Onto(2),
-            Look::Alias,
-            Look::Tuple(5),
-        ],
-        &[Look::First],
-    ]),
-];
-
-// `X` is 1 outside; a clause that binds it to 2 does not match after all, and the next one reads it
-const FAILED_CLAUSE: [Word; 12] = [
-    Word::Int(1),
-    Word::Int(2),
-    Word::Int(3),
-    Word::Tuple(2),
-    TRUE,
-    Word::Int(0),
-    TRUE,
-    Word::Read,
-    TAKE,
-    Word::Case(&[
-        &[Look::First, Look::Int(4), Look::Tuple(2)],
-        &[Look::Second],
-    ]),
-    Word::Let,
-    TAKE,
-];
-
-// patterns of lists that do not match: a list that is too short, one that is too long, an improper one
-const LISTS: [Word; 13] = [
-    Word::Int(1),
-    Word::Int(2),
-    Word::List(2),
-    TRUE,
-    Word::Int(1),
-    TRUE,
-    Word::Int(3),
-    TRUE,
-    Word::Int(5),
-    TRUE,
-    Word::Int(2),
-    Word::Case(&[
-        &[Look::First, Look::List(1)],
-        &[Look::First, Look::First, Look::First, Look::List(3)],
-        &[Look::Letters(2)],
-        &[Look::Int(1), Look::Int(2), Look::List(2)],
-    ]),
-    TAKE,
-];
-
-// two values: a clause with one pattern does not match
-const TWO_PATTERNS: [Word; 9] = [
-    Word::Int(1),
-    Word::Int(2),
-    Word::Values(2),
-    TRUE,
-    Word::Int(0),
-    TRUE,
-    Word::ReadSecond,
-    Word::Case(&[&[Look::First], &[Look::First, Look::Second]]),
-    TAKE,
-];
-
-const NO_CLAUSE: [Word; 4] = [
-    Word::Int(5),
-    TRUE,
-    Word::Int(0),
-    Word::Case(&[&[Look::Int(4)]]),
-];
-
-const NO_CLAUSE_OF_TWO: [Word; 6] = [
-    Word::Int(5),
-    Word::Int(6),
-    Word::Values(2),
-    TRUE,
-    Word::Int(0),
-    Word::Case(&[&[Look::First]]),
-];
-
-// 9,997 nodes and the tuple with its atom: 10,000 in all, and one more
-const WHOLE_CASE: [Word; 5] = [
-    Word::Ints(9_997),
-    Word::Tuple(9_997),
-    TRUE,
-    Word::Int(0),
-    Word::Case(&[&[Look::Int(4)]]),
-];
-
-const LARGE_CASE: [Word; 5] = [
-    Word::Ints(9_998),
-    Word::Tuple(9_998),
-    TRUE,
-    Word::Int(0),
-    Word::Case(&[&[Look::Int(4)]]),
-];
-
 // Clauses, and what is asked.
-const CLAUSES: [(&[Word], &str); 9] = [
-    (&SECOND_CLAUSE, "take 2\n'normal'"),
-    (&GUARDS, "take 1\n'normal'"),
-    (&EVERY_PATTERN, "insert [3,4|5] 5\n'normal'"),
-    (&FAILED_CLAUSE, "take 1\ntake 1\n'normal'"),
-    (&LISTS, "take 2\n'normal'"),
-    (&TWO_PATTERNS, "take 2\n'normal'"),
-    (&NO_CLAUSE, "{{'case_clause',5},[]}"),
-    (&NO_CLAUSE_OF_TWO, "{{'case_clause',{5,6}},[]}"),
-    (&LARGE_CASE, "{'system_limit',[]}"),
+const CLAUSES: [(&str, &str); 8] = [
+    (
+        "case 2 of <1> when 'true' -> call 'ets':'lookup'('t',1) <2> when 'true' -> call 'ets':'lookup'('t',2) <X> when 'true' -> call 'ets':'lookup'('t',3) end",
+        "lookup 't' 2\n'normal'",
+    ),
+    // a guard that gives something else, one that raises, one that gives two values, and one that holds
+    (
+        "case 1 of <X> when 'false' -> 1 <X> when call 'erlang':'error'(7) -> 2 <X> when <'true','true'> -> 3 <X> when 4 -> 4 <X> when 'true' -> call 'ets':'lookup'('t',X) end",
+        "lookup 't' 1\n'normal'",
+    ),
+    // every part; `X` is the whole of the last, and `Y` its tail
+    (
+        "case {1,'b',$a,\"aa\",[3,4|5]} of <{1,'c',$a,X,Y}> when 'true' -> 0 <{1,'b',$a,\"aa\",X = [3,4|Y]}> when 'true' -> call 'ets':'insert'(X,Y) <X> when 'true' -> 9 end",
+        "insert [3,4|5] 5\n'normal'",
+    ),
+    // `X` is 1 outside; a clause that binds it to 2 does not match after all, and the next one reads it
+    (
+        "call 'ets':'lookup'('t',let <X> = 1 in case {2,3} of <{X,4}> when 'true' -> 0 <Y> when 'true' -> call 'ets':'lookup'('t',X) end)",
+        "lookup 't' 1\nlookup 't' 1\n'normal'",
+    ),
+    // patterns of lists that do not match: one that is too short, one that is too long, other letters
+    (
+        "call 'ets':'lookup'('t',case [1,2] of <[X]> when 'true' -> 1 <[X,Y,Z]> when 'true' -> 3 <\"aa\"> when 'true' -> 5 <[1,2]> when 'true' -> 2 end)",
+        "lookup 't' 2\n'normal'",
+    ),
+    // two values: a clause with one pattern does not match
+    (
+        "call 'ets':'lookup'('t',case <1,2> of <X> when 'true' -> 0 <X,Y> when 'true' -> Y end)",
+        "lookup 't' 2\n'normal'",
+    ),
+    (
+        "case 5 of <4> when 'true' -> 0 end",
+        "{{'case_clause',5},[]}",
+    ),
+    (
+        "case <5,6> of <X> when 'true' -> 0 end",
+        "{{'case_clause',{5,6}},[]}",
+    ),
 ];
 
 #[test]
 fn takes_the_first_clause(rt: HostRuntime) -> Result<(), Fail> {
-    for (words, want) in CLAUSES {
-        let text = asked(rt.alloc(), words)?;
-        assert_eq!(rt; text.as_slice(), want.as_bytes());
-    }
-    let whole = asked(rt.alloc(), WHOLE_CASE.as_slice())?;
-    assert_eq!(rt; whole.starts_with(b"{{'case_clause',{1,2,3"), true);
-    Ok(())
+    ask_all(&rt, rt.alloc(), MAIN, &CLAUSES)
+}
+
+// A case of a long tuple that no clause takes, after its items.
+const NO_CLAUSE: &str = "1} of <4> when 'true' -> 0 end";
+
+const TOO_LONG: [Long; 1] = [("case {", "1,", 9_997, NO_CLAUSE, "{'system_limit',[]}")];
+
+// 9,997 items and the tuple, and the tuple with its atom around it: 10,000 nodes in all, and one more.
+#[test]
+fn a_case_without_a_clause_keeps_the_limit(rt: HostRuntime) -> Result<(), Fail> {
+    let body = nested(rt.alloc(), "case {", "1,", 9_996, NO_CLAUSE, "")?;
+    let want = nested(rt.alloc(), "{{'case_clause',{", "1,", 9_996, "1}},[]}", "")?;
+    asks(&rt, rt.alloc(), MAIN, body.as_str(), want.as_str())?;
+    ask_long(&rt, rt.alloc(), &TOO_LONG)
 }

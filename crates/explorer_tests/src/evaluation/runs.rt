@@ -1,55 +1,20 @@
-// Modules of one function, and what their processes ask, as text.
-ghost use Rattle.std.specs.Prelude.{◌≡◌, false};
-
-use super::words::{Word, build, function_name, variables};
+// Modules from texts, and what their processes ask, as text.
+use crate::built::{between, nested};
+use crate::requests::text_of;
 use core_eval::{Answer, Machine, Request, start};
-use core_tree::{CallKind, Definition, Expr, FunctionName, Module};
-use indexmap::IndexMap;
+use core_reader::{Module, read_module};
 use std::alloc::{AllocError, Global};
+use std::process::Abort;
 use std::test::Fail;
-use term_core::{Atom, Output, Pid, Term, Terms, WriteFault, write_all, write_term};
+use term_core::{Atom, Pid, Term, Terms};
 
-// The functions of a module.
-pub(crate) type Definitions = IndexMap<FunctionName, Definition>;
+// What stands before the body of `'main'/0`, where the module `m` has no other function.
+pub(crate) const MAIN: &str = "module 'm' [] attributes [] 'main'/0 = fun () -> ";
 
-// One more function, of no parameter, of `X`, or of `X` and `Y`.
-pub(crate) fn define(
-    alloc: Global,
-    definitions: &mut Definitions,
-    name: &str,
-    arity: u8,
-    body: Expr,
-) -> Result<(), AllocError> {
-    let parameters = match arity {
-        0 => Vec::new(alloc),
-        1 => variables(alloc, &[b"X"])?,
-        _ => variables(alloc, &[b"X", b"Y"])?,
-    };
-    let definition = Definition {
-        at: 0,
-        parameters,
-        body,
-    };
-    definitions.insert(function_name(alloc, name, arity)?, definition)?;
-    Ok(())
-}
-
-// The module `m` that exports nothing and defines `'main'/0`.
-pub(crate) fn module_of(alloc: Global, body: Expr) -> Result<Module, AllocError> {
-    let mut definitions = IndexMap::new(alloc);
-    define(alloc, &mut definitions, "main", 0, body)?;
-    module_with(alloc, definitions)
-}
-
-// The module `m` that exports nothing and has these definitions.
-pub(crate) fn module_with(alloc: Global, definitions: Definitions) -> Result<Module, AllocError> {
-    let name = Atom::new(alloc, "m")?;
-    Ok(Module {
-        name,
-        exports: Vec::new(alloc),
-        attributes: Vec::new(alloc),
-        definitions,
-    })
+// The module whose last function has this body, and what stands before it.
+pub(crate) fn program(alloc: Global, front: &str, body: &str) -> Result<Module, Fail> {
+    let text = between(alloc, front, body, " end")?;
+    Ok(read_module(alloc, text.as_bytes())?)
 }
 
 // A process at the function of `m` with this name.
@@ -64,31 +29,13 @@ pub(crate) fn process<'m>(
     start(alloc, program, pid, &program.name, &function_name, none)
 }
 
-fn write_call(
-    kind: CallKind,
-    arguments: &Terms,
-    sink: &mut Output<Vec<u8>>,
-) -> Result<(), WriteFault>
-    requires { sink.old.has_failed ≡ false }
-{
-    write_all(sink, kind.function_name().as_bytes())?;
-    for argument in arguments.as_slice() {
-        write_all(sink, b" ")?;
-        write_term(argument, sink)?;
-    }
-    Ok(())
-}
-
-// The name of a call and its arguments, or the reason of an end.
-pub(crate) fn text_of(alloc: Global, request: &Request) -> Result<Vec<u8>, WriteFault> {
-    let mut sink = Output::new(Vec::new(alloc));
-    match request {
-        Request::Call(kind, arguments) => write_call(*kind, arguments, &mut sink)?,
-        Request::Receive { .. } => write_all(&mut sink, b"receives")?,
-        Request::End(reason) => write_term(reason, &mut sink)?,
-        Request::Runaway => write_all(&mut sink, b"runs away")?,
-    }
-    Ok(sink.writer)
+// The first process of the module, at the function with this name.
+pub(crate) fn first_process<'m>(
+    alloc: Global,
+    program: &'m Module,
+    name: &str,
+) -> Result<Machine<'m>, AllocError> {
+    process(alloc, program, Pid::new(alloc, Vec::new(alloc))?, name)
 }
 
 // What the machine asks, one request a line; each call is answered by its number.
@@ -104,13 +51,73 @@ pub(crate) fn run_on(alloc: Global, machine: &mut Machine) -> Result<Vec<u8>, Fa
     Ok(text)
 }
 
-// What the first process of the module asks.
-pub(crate) fn run_of(alloc: Global, program: &Module) -> Result<Vec<u8>, Fail> {
-    let mut machine = process(alloc, program, Pid::new(alloc, Vec::new(alloc))?, "main")?;
-    run_on(alloc, &mut machine)
+// Asserts what the first process asks that begins with the function of this name.
+pub(crate) fn begins(
+    rt: &impl Abort,
+    alloc: Global,
+    program: &Module,
+    name: &str,
+    want: &str,
+) -> Result<(), Fail> {
+    let mut machine = first_process(alloc, program, name)?;
+    let text = run_on(alloc, &mut machine)?;
+    assert_eq!(rt; text.as_slice(), want.as_bytes());
+    Ok(())
 }
 
-pub(crate) fn asked(alloc: Global, words: &[Word]) -> Result<Vec<u8>, Fail> {
-    let program = module_of(alloc, build(alloc, words)?)?;
-    run_of(alloc, &program)
+// Asserts what the first process asks of the module with this front and this last body.
+pub(crate) fn asks(
+    rt: &impl Abort,
+    alloc: Global,
+    front: &str,
+    body: &str,
+    want: &str,
+) -> Result<(), Fail> {
+    let program = program(alloc, front, body)?;
+    begins(rt, alloc, &program, "main", want)
+}
+
+// Asserts what is asked for each of these bodies.
+pub(crate) fn ask_all(
+    rt: &impl Abort,
+    alloc: Global,
+    front: &str,
+    rows: &[(&str, &str)],
+) -> Result<(), Fail> {
+    for (body, want) in rows {
+        asks(rt, alloc, front, body, want)?;
+    }
+    Ok(())
+}
+
+// A long body: its front, what is repeated, how often, and the rest; and what is asked.
+pub(crate) type Long = (
+    &'static str,
+    &'static str,
+    usize,
+    &'static str,
+    &'static str,
+);
+
+// Asserts what is asked for each of these bodies of `'main'/0`.
+pub(crate) fn ask_long(rt: &impl Abort, alloc: Global, rows: &[Long]) -> Result<(), Fail> {
+    for (front, unit, count, back, want) in rows {
+        let body = nested(alloc, front, unit, *count, back, "")?;
+        asks(rt, alloc, MAIN, body.as_str(), want)?;
+    }
+    Ok(())
+}
+
+// Asserts what is asked where each of these expressions stands between this front and its back.
+pub(crate) fn ask_within(
+    rt: &impl Abort,
+    alloc: Global,
+    front: &str,
+    rows: &[(&str, &str, &str)],
+) -> Result<(), Fail> {
+    for (inner, back, want) in rows {
+        let body = between(alloc, front, inner, back)?;
+        asks(rt, alloc, MAIN, body.as_str(), want)?;
+    }
+    Ok(())
 }

@@ -1,7 +1,12 @@
 // A call, its arguments, and what it answers: a value, or a class and a reason.
-use super::words::Word;
-use super::words::Word::{Int, List, Name, Onto, Own, Reference, Tuple};
+use crate::term_words::Word;
+use crate::term_words::Word::{Int, List, Name, Onto, Pid, Ref, Tuple};
 use core_tree::PureCall;
+
+// The pid of the process that calls, and a reference.
+const OWN: Word = Pid(&[1]);
+
+const REFERENCE: Word = Ref(&[1], 2);
 
 pub(crate) type Row = (PureCall, &'static [Word], &'static str);
 
@@ -37,8 +42,8 @@ pub(crate) const EACH: [Row; 55] = [
     (PureCall::IsBoolean, &[Name("false")], "'true'"),
     (PureCall::IsTuple, &[Tuple(0)], "'true'"),
     (PureCall::IsList, &[List(0)], "'true'"),
-    (PureCall::IsPid, &[Own], "'true'"),
-    (PureCall::IsReference, &[Reference], "'true'"),
+    (PureCall::IsPid, &[OWN], "'true'"),
+    (PureCall::IsReference, &[REFERENCE], "'true'"),
     (PureCall::IsFloat, &[Int(1)], "'false'"),
     (PureCall::IsBinary, &[List(0)], "'false'"),
     (
@@ -262,7 +267,7 @@ pub(crate) const COMPARISONS: [Row; 27] = [
     (PureCall::Greater, &[Int(1), Int(1)], "'false'"),
     (PureCall::AtLeast, &[Name("a"), Int(1)], "'true'"),
     (PureCall::AtLeast, &[Int(1), Int(2)], "'false'"),
-    (PureCall::Less, &[Reference, Own], "'true'"),
+    (PureCall::Less, &[REFERENCE, OWN], "'true'"),
     (PureCall::And, &[Name("true"), Name("true")], "'true'"),
     (PureCall::And, &[Name("true"), Int(1)], "error 'badarg'"),
     (
@@ -302,8 +307,8 @@ pub(crate) const KINDS: [Row; 25] = [
     (PureCall::IsList, &[Int(1), List(1)], "'true'"),
     (PureCall::IsList, &[Int(1), Int(2), Onto(1)], "'true'"),
     (PureCall::IsList, &[Tuple(0)], "'false'"),
-    (PureCall::IsPid, &[Reference], "'false'"),
-    (PureCall::IsReference, &[Own], "'false'"),
+    (PureCall::IsPid, &[REFERENCE], "'false'"),
+    (PureCall::IsReference, &[OWN], "'false'"),
     (PureCall::IsFloat, &[Tuple(0)], "'false'"),
     (PureCall::IsBinary, &[Name("a")], "'false'"),
     (
@@ -612,7 +617,7 @@ pub(crate) const RAISING: [Row; 12] = [
         "error {1}",
     ),
     (PureCall::Exit, &[Int(1), List(1)], "exit [1]"),
-    (PureCall::Throw, &[Own], "throw P.1"),
+    (PureCall::Throw, &[OWN], "throw P.1"),
     (PureCall::Add, &[Int(1)], "error 'undef'"),
     (PureCall::Add, &[Int(1), Int(2), Int(3)], "error 'undef'"),
     (PureCall::OwnPid, &[Int(1)], "error 'undef'"),

@@ -1,6 +1,0 @@
-use Rattle.std.proofs.Common.{◌≡◌, false}
-use Rattle.explorer_tests.proofs.evaluation.runs.write_call.Given as goal
-
--- the sink has not failed
-abbrev pub invariant-loop-argument : goal.invariant-loop-argument
-invariant-loop-argument l = l.sink.has_failed ≡ false
