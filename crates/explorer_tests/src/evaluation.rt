@@ -207,7 +207,12 @@ const CALLS: [Word; 3] = [Word::Int(1), FIRST, TAKE];
 #[test]
 fn refused_calls_end_the_process(rt: HostRuntime) -> Result<(), Fail> {
     let program = module_of(rt.alloc(), build(rt.alloc(), CALLS.as_slice())?)?;
-    let mut machine = process(rt.alloc(), &program, Pid::new(rt.alloc(), Vec::new(rt.alloc()))?, "main")?;
+    let mut machine = process(
+        rt.alloc(),
+        &program,
+        Pid::new(rt.alloc(), Vec::new(rt.alloc()))?,
+        "main",
+    )?;
     let other = copied(rt.alloc(), &machine)?;
     assert_eq!(rt;
         other.as_slice(),

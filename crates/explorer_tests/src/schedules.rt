@@ -9,7 +9,11 @@ fn described(alloc: Global, steps: &[Step]) -> Result<String, Fail> {
     for step in steps {
         let words = match step {
             Step::Turn(pid) => format!(in alloc; "turn {:?};", pid.numbers())?,
-            Step::Deliver(from, to) => format!(in alloc; "from {:?} to {:?};", from.numbers(), to.numbers())?,
+            Step::Deliver(from, to) => format!(in alloc;
+                "from {:?} to {:?};",
+                from.numbers(),
+                to.numbers()
+            )?,
         };
         text.push_str(words.as_str())?;
     }
