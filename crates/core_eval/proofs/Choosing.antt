@@ -2,15 +2,14 @@
 use Rattle.std.proofs.Common.{◌≡◌, ◌+◌, ◌*◌, ◌≤◌, List, [], ◌∷◌, ◌++◌, length, ap, ◌∙◌, sym, arith, IfOk, Result, Ok, Err}
 use Rattle.std.specs.Prelude.{Option, Some, None}
 use Rattle.std.specs.declared.alloc.AllocError.{AllocError}
-use Rattle.core_tree.specs.Syntax.{Tree, ClauseTree, patterns_of, clauses_of}
+use Rattle.core_tree.specs.Syntax.{ClauseTree, patterns_of, clauses_of}
 use Rattle.core_tree.specs.inside.Sizes.{size_of, size_of_clause_list}
 use Rattle.term_core.specs.Meaning.{Meaning}
 use Rattle.core_eval.specs.declared.control.Control.{Control}
 use Rattle.core_eval.specs.Matching.{Environment, match_each}
 use Rattle.core_eval.specs.Evaluation.{State, Outcome, Setting, evaluate, choose, guarded, no_clause, taken}
 use Rattle.core_eval.specs.Holes.{Hole, scope, through}
-use Rattle.core_eval.specs.Holes as holes
-use Rattle.core_eval.specs.inside.Steps.{going, load, work, GoesOn}
+use Rattle.core_eval.specs.inside.Steps.{going, load, work, GoesOn, Judges}
 
 -- the clauses that are left choose as all of them do, in the same place and for the same values
 pub record IsLeft (old new : List Hole) (all left : List ClauseTree) (values kept : List Meaning) : Type 0 where
@@ -36,21 +35,24 @@ picked o bindings env go others s e = ap (λ (p : Option Environment). taken p e
 passed_over : (o : Option Environment) (env : Environment) (go : Environment → State → Outcome) (others : State → Outcome) (s : State) → o ≡ None → taken o env go others s ≡ others s
 passed_over o env go others s e = ap (λ (p : Option Environment). taken p env go others s) e
 
-pub clause_taken : (next : Control) (old new top : List Hole) (all left others : List ClauseTree) (c : ClauseTree) (guard body : Tree) (values kept : List Meaning) (bindings : Environment)
+pub clause_taken : (r : Result Control AllocError) (old new top : List Hole) (all left others : List ClauseTree) (c : ClauseTree) (values kept : List Meaning) (bindings : Environment)
     → IsLeft old new all left values kept → left ≡ c ∷ others → match_each (patterns_of c.patterns) kept [] ≡ Some bindings
-    → top ≡ holes.Guard bindings body others kept ∷ new → guard ≡ c.guard → body ≡ c.body
-    → ((setting : Setting) (holes : List Hole) (s : State) → going setting holes next s ≡ through setting holes (evaluate setting guard (scope holes) s)) → load next ≡ 4 * size_of guard
-    → GoesOn old top next (λ setting s. choose setting (clauses_of all) values (scope old) s) (2 + 4 * size_of_clause_list all)
-clause_taken next old new top all left others c guard body values kept bindings h el em et eg eb same less = record {
+    → IfOk r (λ next. Judges new top next bindings c others kept)
+    → IfOk r (λ next. GoesOn old top next (λ setting s. choose setting (clauses_of all) values (scope old) s) (2 + 4 * size_of_clause_list all))
+clause_taken (Ok next) old new top all left others c values kept bindings h el em j = record {
   same = λ setting s.
       let chosen : choose setting (clauses_of left) values (scope old) s ≡ guarded (evaluate setting c.guard (bindings ++ scope old) s) (λ s'. evaluate setting c.body (bindings ++ scope old) s') (λ s'. choose setting (clauses_of others) values (scope old) s') =
       ap (λ (cs : List ClauseTree). choose setting (clauses_of cs) values (scope old) s) el
       ∙ picked (match_each (patterns_of c.patterns) values []) bindings (scope old) _ _ s (ap (λ vs. match_each (patterns_of c.patterns) vs []) (sym h.same) ∙ em) in
-      same setting top s ∙ rw (et, h.stays, h.same, eg, eb) (ap (through setting old) (sym chosen ∙ h.picks setting s));
+      j.same setting s
+      ∙ ap (λ hs. through setting hs (guarded (evaluate setting c.guard (bindings ++ scope hs) s) (λ s'. evaluate setting c.body (bindings ++ scope hs) s') (λ s'. choose setting (clauses_of others) kept (scope hs) s'))) h.stays
+      ∙ ap (λ vs. through setting old (guarded (evaluate setting c.guard (bindings ++ scope old) s) (λ s'. evaluate setting c.body (bindings ++ scope old) s') (λ s'. choose setting (clauses_of others) vs (scope old) s'))) h.same
+      ∙ ap (through setting old) (sym chosen ∙ h.picks setting s);
   less =
       let size : size_of_clause_list left ≡ 1 + (size_of c.guard + (size_of c.body + size_of_clause_list others)) = ap size_of_clause_list el in
-      omega (arith, less, ap work et, ap work h.stays, ap size_of eg, ap size_of eb, size, h.fewer);
+      omega (arith, j.less, ap work h.stays, size, h.fewer);
 }
+clause_taken (Err e) old new top all left others c values kept bindings h el em j = tt
 
 pub next_left : (old new : List Hole) (all left others : List ClauseTree) (c : ClauseTree) (values kept : List Meaning) → IsLeft old new all left values kept → left ≡ c ∷ others → match_each (patterns_of c.patterns) kept [] ≡ None → IsLeft old new all others values kept
 next_left old new all left others c values kept h el em = record {

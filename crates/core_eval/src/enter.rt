@@ -1,14 +1,15 @@
 // The steps of the machine into an expression.
-ghost use Rattle.std.specs.Prelude.{◌≤◌, [], IfOk, map};
+ghost use Rattle.std.specs.Prelude.{◌≤◌, [], IfOk, IfSome, map};
 ghost use Rattle.core_tree.specs.Syntax.{trees_of, clauses_of};
 ghost use Rattle.core_tree.specs.Expression as trees;
 ghost use Rattle.core_tree.specs.Callee as callees;
 ghost use Rattle.core_tree.specs.Tree.{callee_of, tree_of};
+ghost use Rattle.term_core.specs.Term.{meaning_of};
 ghost use Rattle.core_eval.specs.Evaluation.{called_with, limited, value_or_error};
 ghost use Rattle.core_eval.specs.Matching.{lookup, text_of};
 ghost use Rattle.core_eval.specs.inside.Frames.{purpose_of};
 ghost use Rattle.core_eval.specs.Holes.{scope};
-ghost use Rattle.core_eval.specs.inside.Steps.{GoesOn, Means, MeansIn, Enters, GathersOn, load};
+ghost use Rattle.core_eval.specs.inside.Steps.{GoesOn, Means, MeansIn, Enters, GathersOn, IsValueOf, Skips, load};
 
 use crate::build::{error, limited};
 use crate::control::Control;
@@ -154,8 +155,59 @@ fn enter_call<'m>(
     enter_parts(alloc, stack, purpose, call.arguments.0.as_slice())
 }
 
-/// To the next of several expressions, or to what their values are for.
+/// To the next of several expressions that takes a step of its own, or to what their values are for.
 pub(crate) fn gather<'m>(
+    alloc: Global,
+    stack: &mut Stack<'m>,
+    purpose: Purpose<'m>,
+    done: Terms,
+    later: &'m [Expr],
+) -> Result<Control<'m>, AllocError>
+    ensures { IfOk result (λ next.
+        GathersOn stack.old stack.new next (purpose_of purpose.entry) done (map tree_of later.now)) }
+{
+    let mut done = done;
+    let left = take_simple(stack, &mut done, later)?;
+    enter_next(alloc, stack, purpose, done, left)
+}
+
+/// Adds the values of the first expressions that are simple, and gives the others.
+fn take_simple<'m>(
+    stack: &Stack<'m>,
+    done: &mut Terms,
+    later: &'m [Expr],
+) -> Result<&'m [Expr], AllocError>
+    ensures { IfOk result (λ left. Skips (scope stack.now) done.old (map tree_of later.now) done.new (map tree_of left.now)) }
+{
+    let mut left = later;
+    'parts: while let Some((first, others)) = left.split_first() {
+        let Some(value) = simple_value(stack, first)? else {
+            return Ok(left);
+        };
+        done.push(value)?;
+        left = others;
+    }
+    Ok(left)
+}
+
+/// The value of a number, an atom, or a variable that is bound.
+fn simple_value(stack: &Stack<'_>, expression: &Expr) -> Result<Option<Term>, AllocError>
+    ensures { IfOk result (λ found. IfSome found (λ value. IsValueOf (scope stack.now) (tree_of expression.now) (meaning_of value))) }
+{
+    match expression {
+        Expr::Integer(number) => Ok(Some(Term::Int(*number))),
+        Expr::Character(character) => Ok(Some(Term::Int(*character as i64))),
+        Expr::Atom(atom) => Ok(Some(Term::Atom(atom.copy()?))),
+        Expr::Variable(variable) => match stack.lookup(variable.name.as_slice()) {
+            Some(value) => Ok(Some(value.copy()?)),
+            None => Ok(None),
+        },
+        _ => Ok(None),
+    }
+}
+
+/// Into the next of several expressions, or to what their values are for.
+fn enter_next<'m>(
     alloc: Global,
     stack: &mut Stack<'m>,
     purpose: Purpose<'m>,

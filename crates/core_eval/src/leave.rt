@@ -1,6 +1,7 @@
 // The steps of the machine out of an expression, with its values or with what it raises, to what the frame
 // above it leaves to do.
-ghost use Rattle.std.specs.Prelude.{◌≡◌, ◌+◌, ◌*◌, ◌∷◌, [], IfOk, length};
+ghost use Rattle.std.specs.Prelude.{◌≡◌, ◌+◌, ◌*◌, ◌∷◌, [], IfOk, IsTrue, codes, length};
+ghost use Rattle.core_tree.specs.Expression as trees;
 ghost use Rattle.core_tree.specs.Syntax.{clauses_of};
 ghost use Rattle.core_tree.specs.inside.Sizes.{size_of_clause_list};
 ghost use Rattle.core_tree.specs.Tree.{tree_of};
@@ -8,7 +9,7 @@ ghost use Rattle.term_core.specs.Term.{meaning_of};
 ghost use Rattle.core_eval.specs.Evaluation.{Raises, Yields, as_one, choose, no_clause};
 ghost use Rattle.core_eval.specs.inside.Frames.{hole_of};
 ghost use Rattle.core_eval.specs.Holes.{scope, filled};
-ghost use Rattle.core_eval.specs.inside.Steps.{EntersWith, GoesOn, Means, load, work_in};
+ghost use Rattle.core_eval.specs.inside.Steps.{EntersWith, GoesOn, Judges, Means, load, work_in};
 
 use crate::bindings::Bindings;
 use crate::build::{error, limited, limited_error, pair, single, with_last};
@@ -159,12 +160,39 @@ fn choose<'m>(
     while let Some((clause, others)) = left.split_first() {
         let mut bindings = Bindings::new(alloc);
         if matches_each(&clause.patterns, &values, &mut bindings)? {
-            stack.push(Frame::Guard(bindings, &clause.body, others, values))?;
-            return Ok(Control::Evaluate(&clause.guard));
+            return judge(stack, bindings, clause, others, values);
         }
         left = others;
     }
     no_clause(alloc, values)
+}
+
+/// Into the guard of a clause that the values match, or where that is `'true'` into its body.
+fn judge<'m>(
+    stack: &mut Stack<'m>,
+    bindings: Bindings<'m>,
+    clause: &'m Clause,
+    others: &'m [Clause],
+    values: Terms,
+) -> Result<Control<'m>, AllocError>
+    ensures { IfOk result (λ next. Judges stack.old stack.new next bindings.entry clause.now others.now values) }
+{
+    if is_true(&clause.guard) {
+        stack.push(Frame::Kept(bindings))?;
+        return Ok(Control::Evaluate(&clause.body));
+    }
+    stack.push(Frame::Guard(bindings, &clause.body, others, values))?;
+    Ok(Control::Evaluate(&clause.guard))
+}
+
+/// Whether an expression is the atom `'true'`.
+fn is_true(expression: &Expr) -> bool
+    ensures { IsTrue result → tree_of expression.now ≡ trees.Atom (codes "true") }
+{
+    match expression {
+        Expr::Atom(atom) => atom.as_str() == "true",
+        _ => false,
+    }
 }
 
 /// The error that no clause is taken: its reason reports the values.

@@ -54,11 +54,7 @@ fn badarg() -> Term
 }
 
 /// The owner of the table that a refused call names, where the refusal reports it.
-fn told_owner(
-    tables: &Tables,
-    call: &TableCall<'_>,
-    rule: Rule,
-) -> Result<Option<Pid>, AllocError>
+fn told_owner(tables: &Tables, call: &TableCall<'_>, rule: Rule) -> Result<Option<Pid>, AllocError>
     ensures { IfOk result (λ owner. owner ≡ told_owner rule (owner_for (find_in tables.now) (call_of call.now))) }
 {
     match tables.owner(call) {

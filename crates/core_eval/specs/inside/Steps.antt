@@ -1,6 +1,6 @@
 -- The steps of the code: what it has on top of its stack means something as a whole, and the work that is left grows less.
-use Rattle.std.specs.Prelude.{ℕ, ◌+◌, ◌*◌, ◌<◌, ◌≡◌, List, [], ◌∷◌, Bool, true, false, not, ◌&&◌, Option}
-use Rattle.core_tree.specs.Syntax.{Mention, Tree, trees_of}
+use Rattle.std.specs.Prelude.{ℕ, ◌+◌, ◌*◌, ◌<◌, ◌≤◌, ◌≡◌, List, [], ◌∷◌, ◌++◌, Bool, true, false, not, ◌&&◌, Option}
+use Rattle.core_tree.specs.Syntax.{Mention, Tree, ClauseTree, clauses_of, trees_of}
 use Rattle.core_tree.specs.inside.Sizes.{size_of, size_of_list, size_of_clause_list}
 use Rattle.core_tree.specs.Tree.{tree_of}
 use Rattle.term_core.specs.Meaning.{Meaning}
@@ -10,7 +10,7 @@ use Rattle.core_eval.specs.declared.control.Control.TheVariants.{Evaluate, Retur
 use Rattle.core_eval.specs.declared.control.Pause.{Pause}
 use Rattle.core_eval.specs.declared.control.Pause.TheVariants as pauses
 use Rattle.core_eval.specs.Matching.{Environment, bound}
-use Rattle.core_eval.specs.Evaluation.{State, Outcome, Yields, Raises, Setting, then_do, called, limited_answer, within, evaluate, evaluate_all}
+use Rattle.core_eval.specs.Evaluation.{State, Outcome, Yields, Raises, Setting, then_do, called, choose, guarded, limited_answer, within, evaluate, evaluate_all}
 use Rattle.pure_calls.specs.Calls.{answer_of}
 use Rattle.core_eval.specs.Applications.{body_with}
 use Rattle.core_eval.specs.Ask.{request_of}
@@ -105,9 +105,25 @@ gathered setting purpose done later env s = then_do (evaluate_all setting (trees
 abbrev pub GathersOn : List Hole → List Hole → Control → Purpose → List Meaning → List Tree → Type 0
 GathersOn old new next purpose done later = GoesOn old new next (λ setting s. gathered setting purpose done later (scope old) s) (4 + (4 * size_of_list later + further purpose done))
 
+-- an expression has this value, and no step is taken for it
+abbrev pub IsValueOf : Environment → Tree → Meaning → Type 0
+IsValueOf env t m = (setting : Setting) (s : State) → evaluate setting t env s ≡ Yields (m ∷ []) s
+
+-- with more values there already, the expressions that are left gather what all do
+pub record Skips (env : Environment) (done : List Meaning) (later : List Tree) (more : List Meaning) (left : List Tree) : Type 0 where
+  pub same : (setting : Setting) (purpose : Purpose) (s : State) → gathered setting purpose more left env s ≡ gathered setting purpose done later env s
+  pub fewer : size_of_list left ≤ size_of_list later
+
 -- what is on top of the new stack is the evaluation of a body in the old one, with these values bound to variables
 abbrev pub EntersWith : List Hole → List Hole → Control → List Mention → List Meaning → Tree → Type 0
 EntersWith old new next variables values body = GoesOn old new next (λ setting s. within (bound variables values []) (scope old) (λ env s'. evaluate setting body env s') s) (2 + 4 * size_of body)
+
+-- what is on top of the new stack judges a clause that matched in the old one: its guard, and then its body or the clauses after it
+abbrev pub Judges : List Hole → List Hole → Control → Environment → ClauseTree → List ClauseTree → List Meaning → Type 0
+Judges old new next bindings clause others values =
+    GoesOn old new next
+    (λ setting s. guarded (evaluate setting clause.guard (bindings ++ scope old) s) (λ s'. evaluate setting clause.body (bindings ++ scope old) s') (λ s'. choose setting (clauses_of others) values (scope old) s'))
+    (3 + (4 * size_of clause.guard + (4 * size_of clause.body + 4 * size_of_clause_list others)))
 
 -- what is on top of the new stack is the body of a function with these arguments in the old one
 abbrev pub Begins : List Hole → List Hole → Control → Option (List Mention × Tree) → List Meaning → Type 0

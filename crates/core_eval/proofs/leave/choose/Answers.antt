@@ -1,7 +1,6 @@
-use Rattle.std.proofs.Common.{◌≡◌, ◌∙◌, [], ap, sym, refl, if◌then◌else◌}
+use Rattle.std.proofs.Common.{◌≡◌, ◌∙◌, [], ap, sym, if◌then◌else◌}
 use Rattle.std.specs.Prelude.{Some, None}
 use Rattle.core_tree.specs.Syntax.{ClauseTree, patterns_of}
-use Rattle.core_tree.specs.Tree.{tree_of}
 use Rattle.core_eval.specs.Matching.{match_each}
 use Rattle.core_eval.proofs.Choosing.{none_taken, clause_taken}
 use Rattle.core_eval.proofs.leave.choose.Goals as goal
@@ -13,9 +12,8 @@ returns-then-branch c =
     ∙ ap (λ before. match_each (patterns_of c.clause.inside.patterns) c.loop-clause.values before) (sym c.new-bindings.ensures)
     ∙ c.in_ok-matches_each.ensures
     ∙ ap (λ b. if b then Some c.matches_each.new.bindings else None) c.if-branch.true in
-    clause_taken _ _ c.loop-clause.stack c.push.new.self _ c.loop-clause.left.now c.in-Some.others.now c.in-Some.clause.now (tree_of c.clause.inside.guard) (tree_of c.clause.inside.body) _ c.loop-clause.values c.matches_each.new.bindings
-    c.loop-clause.invariant c.in-Some.ensures.cases.0 found c.in_ok-push.ensures
-    (ap (λ (d : ClauseTree). d.guard) c.clause.view_is) (ap (λ (d : ClauseTree). d.body) c.clause.view_is) (λ setting holes s. refl) refl
+    clause_taken c.judge.result _ c.loop-clause.stack c.judge.new.stack _ c.loop-clause.left.now c.in-Some.others.now c.in-Some.clause.now _ c.loop-clause.values c.matches_each.new.bindings
+    c.loop-clause.invariant c.in-Some.ensures.cases.0 found c.judge.ensures
 
 pub returns : goal.returns
 returns c =
