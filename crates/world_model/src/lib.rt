@@ -1,0 +1,6 @@
+// The explored world as definitions, and the laws of these definitions. The only code are the enums that
+// definitions and later code share.
+#![tactic(auto)]
+
+pub mod rule;
+pub mod table;
