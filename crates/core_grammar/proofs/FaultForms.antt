@@ -390,6 +390,7 @@ module _ (all : List Piece) (end : ℕ) where
 
   -- where no atom and no `(` stands in front of what begins an expression, the name is missing
   lacks_name : (shape : Shape) (at : ℕ) (ps : List Piece) → atom_in shape ≡ None → cond (is_mark m.LeftParenthesis shape) (Some ps) None ≡ None → (is_function shape [] || begins_expression shape) ≡ true → LacksName (within (record { at = at; shape = shape } ∷ ps))
+  unfolding beginning
   lacks_name (lexemes.Integer n) at ps e none is = tt
   lacks_name (lexemes.Character c) at ps e none is = tt
   lacks_name (lexemes.Text cs) at ps e none is = tt
@@ -481,6 +482,7 @@ module _ (all : List Piece) (end : ℕ) where
 
   -- so is an atom with its arguments behind it
   atom_applied : (shape : Shape) (at : ℕ) (ps : List Piece) (x : ℕ × List ℕ) → named_by at shape ≡ Some x → HasMark m.LeftParenthesis ps → Front BeginsApplied x.0 (within (record { at = at; shape = shape } ∷ ps))
+  unfolding beginning
   atom_applied (lexemes.Atom t) at ps x e h = let same : (at, t) ≡ x = cc in (ap (λ (y : ℕ × List ℕ). y.0) same, h)
   atom_applied shape at ps x e h = absurd cc
 

@@ -15,6 +15,7 @@ use Rattle.core_grammar.specs.declared.unserved.Unserved.TheVariants as unserved
 use Rattle.core_grammar.specs.Grammar.{word}
 use Rattle.core_grammar.specs.UnservedCalls.{UnservedCallAt}
 use Rattle.core_grammar.specs.Unread.{BeginsUnread, HigherOrderAt, UnreadAt}
+use Rattle.core_grammar.specs.Beginnings.{beginning}
 use Rattle.core_grammar.specs.Places.{IsOne, IsAt, IsPlace, OpensAt}
 use Rattle.core_scopes.specs.Outcomes.{◌>>=◌}
 use Rattle.core_grammar.specs.inside.Decoder.{State, Read, with_pieces, is_mark, is_word, after_mark, after_word, fault_of_unserved, refusal, is_foreign, fault_of, fault, place_of, too_deep, passed, mark_at, word_at, taken_by, taken, atom_in, atom_at, named_by, placed_atom_at, arity_in, arity_at, mention_by, bare_variable_at, behind_atom_at, bare_name_at, comma_at, more_at, commas_at, items_at, closed_by, closed_at, tail_at, brackets_by, brackets_at, item_of, exactly_at, row_by, row_at, rows_at}
@@ -129,7 +130,7 @@ module _ (all : List Piece) (end : ℕ) where
 
   -- a parenthesis that opens a level past the last
   pub too_deep_fine : (s : State) (at : ℕ) (ps : List Piece) → Good s → s.pieces ≡ record { at = at; shape = lexemes.Mark m.LeftParenthesis } ∷ ps → Fault (too_deep s)
-  unfolding too_deep
+  unfolding too_deep beginning
   too_deep_fine s at ps g e =
       let p : Piece = record { at = at; shape = lexemes.Mark m.LeftParenthesis } in
       let one : IsOne s.pieces p = subst (λ (qs : List Piece). IsOne qs p) (sym e) (inl refl) in

@@ -14,7 +14,7 @@ pub data Beginning : Type 0 where
   OfFunction : Beginning
   OfNothing : Beginning
 
-abbrev pub beginning : Shape → Beginning
+unfoldable pub beginning : Shape → Beginning
 beginning (lexemes.Integer n) = OfValue
 beginning (lexemes.Character c) = OfValue
 beginning (lexemes.Text cs) = OfValue

@@ -13,6 +13,7 @@ use core_tree::{Const, Consts, OntoConst};
 use std::alloc::Global;
 
 /// Whether a constant begins with the token.
+#[tactic(auto, unfolding(core_grammar::specs::Beginnings::beginning))]
 pub(crate) fn begins_constant(lexeme: &Lexeme) -> bool
     ensures { result ≡ begins_constant (shape_of lexeme.now) }
 {

@@ -14,6 +14,7 @@ use core_tokens::{Lexeme, Mark, ReadFault, Token};
 use core_tree::{Alias, OntoPattern, Pattern, Patterns, Variable};
 use std::alloc::Global;
 
+#[tactic(auto, unfolding(core_grammar::specs::Beginnings::beginning))]
 fn begins_pattern(lexeme: &Lexeme) -> bool
     ensures { result ≡ begins_pattern (shape_of lexeme.now) }
 {

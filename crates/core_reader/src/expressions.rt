@@ -18,6 +18,7 @@ use std::alloc::Global;
 use term_core::Atom;
 
 /// Whether an expression begins with the token.
+#[tactic(auto, unfolding(core_grammar::specs::Beginnings::beginning))]
 pub(crate) fn begins_expression(lexeme: &Lexeme) -> bool
     ensures { result ≡ begins_expression (shape_of lexeme.now) }
 {
@@ -45,6 +46,7 @@ pub(crate) fn begins_expression(lexeme: &Lexeme) -> bool
 }
 
 /// Whether a function as a value begins with these tokens: `fun`, `letrec`, or a function's name.
+#[tactic(auto, unfolding(core_grammar::specs::Beginnings::beginning))]
 pub(crate) fn is_function(lexeme: &Lexeme, rest: &[Token]) -> bool
     ensures { result ≡ is_function (shape_of lexeme.now) (pieces rest.now) }
 {
