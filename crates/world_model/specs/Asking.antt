@@ -1,9 +1,10 @@
 -- The program that a module is.
 use Rattle.std.specs.Prelude.{false, [], codes}
 use Rattle.core_tree.specs.Syntax.{ModuleTree}
-use Rattle.core_eval.specs.Asked.{Asked, Call, Receive, End, Runaway}
 use Rattle.core_eval.specs.Ask.{Entry, entry, ask}
-use Rattle.world_model.specs.Requests.{Origin, Main, Spawned, Request, Calls, Receives, Ends, RunsAway, Program}
+use Rattle.core_eval.specs.Asked.{Asked, Call, Receive, End, Runaway}
+use Rattle.world_model.specs.Requests.{Request, Origin, Main, Spawned, Calls, Receives, Ends, RunsAway, Program}
+use Rattle.world_model.specs.World.{answers}
 
 -- the first process begins in `main/0` of the module
 abbrev pub entry_of : ModuleTree → Origin → Entry

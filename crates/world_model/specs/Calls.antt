@@ -1,13 +1,13 @@
 -- The calls as they are understood: which call, and what each argument is. An argument that is not of its kind is None.
-use Rattle.std.specs.Prelude.{ℕ, ℤ, Bool, true, false, List, [], ◌∷◌, Option, Some, None, option_map, option_and_then, if◌then◌else◌, codes}
+use Rattle.std.specs.Prelude.{None, ℕ, ℤ, Bool, true, false, List, [], ◌∷◌, Option, Some, option_map, option_and_then, if◌then◌else◌, codes}
+use Rattle.term_core.specs.Meaning.{Meaning}
 use Rattle.core_tree.specs.declared.call.CallKind.{CallKind}
 use Rattle.core_tree.specs.declared.call.CallKind.TheVariants as kinds
-use Rattle.term_core.specs.Meaning.{Meaning}
-use Rattle.world_model.specs.Names.{Pid, Ref, Name}
-use Rattle.world_model.specs.Terms.{atom_in, process_in, reference_in, integer_in, boolean_in, parts_in, items_in, each_in, is_atom, position_of, positive_in}
+use Rattle.world_model.specs.Names.{Name, Pid, Ref}
 use Rattle.world_model.specs.Requests.{Origin, Spawned}
-use Rattle.world_model.specs.Tables.{Heir, TableOption, options_of, heirs_of, found_beside}
 use Rattle.world_model.specs.Rows.{Key, Object}
+use Rattle.world_model.specs.Tables.{Heir, TableOption, options_of, heirs_of, found_beside}
+use Rattle.world_model.specs.Terms.{atom_in, process, process_in, reference_in, integer_in, boolean_in, parts_in, items_in, each_in, is_atom, position_of, positive_in}
 use Rattle.world_model.specs.declared.table.Item.{Item}
 use Rattle.world_model.specs.declared.table.Item.TheVariants as items
 
@@ -62,7 +62,7 @@ pub data TableCall : Type 0 where
 pub data Call : Type 0 where
   Spawn : (way : SpawnWay) (origin : Option Origin) → Call
   Send : (to : Destination) (message : Meaning) → Call
-  Exit : (to : Option Pid) (reason : Meaning) → Call
+  SendExit : (to : Option Pid) (reason : Meaning) → Call
   Link : (to : Option Pid) → Call
   Unlink : (from : Option Pid) → Call
   -- whether the first argument is `'process'`
@@ -180,7 +180,7 @@ call_of_one kind a = Misfit
 abbrev pub call_of_two : CallKind → Meaning → Meaning → Call
 call_of_two kinds.Bang to message = Send (destination_of to) message
 call_of_two kinds.Send to message = Send (destination_of to) message
-call_of_two kinds.Exit to reason = Exit (process_in to) reason
+call_of_two kinds.Exit to reason = SendExit (process_in to) reason
 call_of_two kinds.Monitor type whom = Monitor (is_atom (codes "process") type) (process_in whom)
 call_of_two kinds.DemonitorWith ref options = Demonitor (reference_in ref) (flushes_of options)
 call_of_two kinds.ProcessFlag flag value = Flag (flag_of flag value)

@@ -2,12 +2,12 @@
 use Rattle.std.specs.Prelude.{ℕ, Bool, false, ◌&&◌, List, Option}
 use Rattle.term_core.specs.Meaning.{Meaning}
 use Rattle.core_eval.specs.Asked.{Answered}
-use Rattle.world_model.specs.Names.{Pid, Ref, Name, same_pid, same_ref, same_name}
-use Rattle.world_model.specs.Requests.{Origin}
 use Rattle.world_model.specs.Events.{Signal}
-use Rattle.world_model.specs.Tables as tables
+use Rattle.world_model.specs.Names.{Name, Pid, Ref, same_pid, same_ref, same_name}
+use Rattle.world_model.specs.Requests.{Origin}
 use Rattle.world_model.specs.Rows as rows
 use Rattle.world_model.specs.Rows.{Key, Object, same_key}
+use Rattle.world_model.specs.Tables as tables
 
 pub data Cell : Type 0 where
   -- the course of a process, whether it lives, whether it traps exits, and its mailbox

@@ -1,20 +1,20 @@
 -- What an event may change: each change is of one cell.
-use Rattle.std.specs.Prelude.{ℕ, ◌+◌, Bool, true, false, List, [], ◌∷◌, ◌++◌, Option, Some, None, option_map, if◌then◌else◌}
+use Rattle.std.specs.FinMap.{empty}
+use Rattle.std.specs.Prelude.{◌+◌, Bool, true, false, List, [], ◌∷◌, ◌++◌, Option, Some, None, option_map, if◌then◌else◌}
 use Rattle.std.specs.declared.cmp.Ordering.{Ordering}
 use Rattle.std.specs.declared.cmp.Ordering.TheVariants.{Less, Equal, Greater}
-use Rattle.std.specs.FinMap.{empty}
 use Rattle.term_core.specs.Meaning.{Meaning}
 use Rattle.term_core.specs.Order.{order_of_lists}
 use Rattle.term_core.specs.StepOrder.{order_of_reference_ids}
 use Rattle.core_eval.specs.Asked.{Answered}
-use Rattle.world_model.specs.Names.{Pid, Ref, Name, same_pid, same_ref, same_term}
-use Rattle.world_model.specs.Terms.{parts_in, reference}
-use Rattle.world_model.specs.Requests.{Origin}
+use Rattle.world_model.specs.Cells.{Table, Rows, Row, Cell, Machine, Alive, Trap, Mailbox, Front, Tail, Links, Watchers, Watch, Holder, NameOf, TableName, Owned, meet, Content, Contents}
 use Rattle.world_model.specs.Events.{Signal}
+use Rattle.world_model.specs.Names.{Name, Pid, Ref, same_pid, same_ref, same_term}
+use Rattle.world_model.specs.Requests.{Origin}
+use Rattle.world_model.specs.Rows.{Key, RowChange, rewritten, rows_rewritten}
 use Rattle.world_model.specs.Tables as tables
 use Rattle.world_model.specs.Tables.{Heir, owned_by, with_heir}
-use Rattle.world_model.specs.Rows.{Key, RowChange, rewritten, rows_rewritten}
-use Rattle.world_model.specs.Cells.{Cell, Machine, Alive, Trap, Mailbox, Front, Tail, Links, Watchers, Watch, Holder, NameOf, TableName, Table, Row, Rows, Owned, meet, Content, Contents}
+use Rattle.world_model.specs.Terms.{reference, parts_in, before}
 
 pub data Change : Type 0 where
   -- a process begins, takes a turn with what it is answered, or halts; it lives, or dies; it traps exits or not

@@ -1,13 +1,13 @@
 -- The end of a process (Erlang reference manual, "Processes": "Process Termination"; ets manual, `new/2`: heir), with the cells that it reads.
 use Rattle.std.specs.Prelude.{List, [], ◌∷◌, ◌++◌, Option, Some, None, if◌then◌else◌, map}
 use Rattle.term_core.specs.Meaning.{Meaning}
-use Rattle.world_model.specs.Names.{Pid, Ref, Name}
+use Rattle.world_model.specs.Cells.{Table, Cell, Alive, Links, Watchers, NameOf, Owned, Contents}
+use Rattle.world_model.specs.Changes.{Change, Halts, Dies, Puts, Wipes, Goes, Frees, Passes, Gains, Empties, Vacates, Bares, changed}
 use Rattle.world_model.specs.Events.{Message, LinkExit, Down}
+use Rattle.world_model.specs.Names.{Name, Pid, Ref}
+use Rattle.world_model.specs.Signals.{transfer_message, put_if}
 use Rattle.world_model.specs.Tables as tables
 use Rattle.world_model.specs.Tables.{Heir, handle_of}
-use Rattle.world_model.specs.Cells.{Cell, Alive, Links, Watchers, NameOf, Table, Owned, Contents}
-use Rattle.world_model.specs.Changes.{Change, Halts, Dies, Puts, Wipes, Goes, Frees, Passes, Gains, Empties, Vacates, Bares, changed}
-use Rattle.world_model.specs.Signals.{transfer_message, put_if}
 
 -- ---- tables
 

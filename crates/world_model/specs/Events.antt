@@ -1,8 +1,8 @@
 -- What happens: signals, what they do, and the events of a history.
 use Rattle.std.specs.Prelude.{List, Option}
-use Rattle.core_tree.specs.declared.call.CallKind.{CallKind}
 use Rattle.term_core.specs.Meaning.{Meaning}
 use Rattle.term_core.specs.declared.step.Step.{Step}
+use Rattle.core_tree.specs.declared.call.CallKind.{CallKind}
 use Rattle.world_model.specs.Names.{Pid, Ref}
 use Rattle.world_model.specs.declared.rule.Rule.{Rule}
 

@@ -1,15 +1,15 @@
 -- What a table argument finds, and who may call (ets manual, "Table Access Control").
 use Rattle.std.specs.Prelude.{Bool, true, false, List, [], ◌∷◌, Option, Some, None, if◌then◌else◌}
+use Rattle.world_model.specs.Calls.{TableArgument, ByName, ByReference, ByNothing, TableCall, Lookup, Member, LookupElement, First, Last, Next, Prev, ToList, Insert, InsertNew, DeleteTable, DeleteKey, DeleteObject, DeleteAll, Take, UpdateCounter, UpdateElement, GiveAway, SetOptions, Info}
+use Rattle.world_model.specs.Cells.{Table, Cell, TableName, Contents}
 use Rattle.world_model.specs.Names.{Pid, Ref, same_pid}
 use Rattle.world_model.specs.Tables as tables
-use Rattle.world_model.specs.Calls.{TableArgument, ByName, ByReference, ByNothing, TableCall, Lookup, Member, LookupElement, First, Last, Next, Prev, ToList, Insert, InsertNew, DeleteTable, DeleteKey, DeleteObject, DeleteAll, Take, UpdateCounter, UpdateElement, GiveAway, SetOptions, Info}
-use Rattle.world_model.specs.Cells.{Cell, TableName, Table, Contents}
 use Rattle.world_model.specs.declared.rule.Rule.{Rule}
 use Rattle.world_model.specs.declared.rule.Rule.TheVariants.{NoTable, PrivateRead, PrivateWrite, ProtectedWrite, NotOwner}
 use Rattle.world_model.specs.declared.table.Class.{Class}
 use Rattle.world_model.specs.declared.table.Class.TheVariants.{Read, Write, Owners, Open}
 use Rattle.world_model.specs.declared.table.Protection.{Protection}
-use Rattle.world_model.specs.declared.table.Protection.TheVariants.{Public, Protected, Private}
+use Rattle.world_model.specs.declared.table.Protection.TheVariants.{Private, Protected, Public}
 
 -- a table that is found: the reference of its creation, and the table as it is
 pub record Found : Type 0 where

@@ -1,10 +1,10 @@
 -- Footprints, when two steps are independent, and when two schedules are equivalent.
 use Rattle.std.specs.List.{list_any}
-use Rattle.std.specs.Prelude.{◌&&◌, ◌∷◌, ◌≡◌, ◌++◌, List, Option, None, [], Some, map, Bool, not, true}
+use Rattle.std.specs.Prelude.{List, ◌&&◌, ◌∷◌, ◌≡◌, ◌++◌, Option, None, [], Some, map, Bool, not, true}
 use Rattle.term_core.specs.declared.step.Step.{Step}
 use Rattle.world_model.specs.Cells.{Cell, meet}
 use Rattle.world_model.specs.Changes.{cell_of}
-use Rattle.world_model.specs.Events.{History, Event}
+use Rattle.world_model.specs.Events.{Event, History}
 use Rattle.world_model.specs.Requests.{Program}
 use Rattle.world_model.specs.Run.{changes, next_event, is_enabled, run}
 use Rattle.world_model.specs.Steps.{reads}

@@ -1,8 +1,8 @@
 -- How a call of a table is judged (ets manual): by one rule, the first that fails.
 use Rattle.std.specs.Option.{option_or}
-use Rattle.std.specs.Prelude.{◌++◌, if◌then◌else◌, ◌∷◌, Bool, false, Option, true, option_map, None, codes, [], Some, List}
+use Rattle.std.specs.Prelude.{Option, ◌++◌, if◌then◌else◌, ◌∷◌, Bool, false, true, option_map, None, codes, [], Some, List}
 use Rattle.world_model.specs.Calls.{TableCall, GiveAway, TableArgument}
-use Rattle.world_model.specs.Cells.{Contents, Cell, Alive}
+use Rattle.world_model.specs.Cells.{Cell, Contents, Alive}
 use Rattle.world_model.specs.Events.{Refusal, ByRule}
 use Rattle.world_model.specs.Found.{Found, rule_of_none, class_of, allowed_at, find, is_table_argument, reads_of_find}
 use Rattle.world_model.specs.Names.{Pid}
@@ -11,7 +11,6 @@ use Rattle.world_model.specs.TableLines as lines
 use Rattle.world_model.specs.TableLines.{unless, table_line, rows_read}
 use Rattle.world_model.specs.Terms.{atom}
 use Rattle.world_model.specs.Touch.{cells_of}
-use Rattle.world_model.specs.World.{found}
 use Rattle.world_model.specs.declared.rule.Rule.{Rule}
 use Rattle.world_model.specs.declared.rule.Rule.TheVariants.{BadTable, NoTable, BadName, BadOption, NameTaken}
 

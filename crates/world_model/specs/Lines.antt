@@ -1,7 +1,7 @@
 -- The calls line by line: why each is refused, and where it is not its answer and its changes; and the cells that it reads (Erlang manual, module `erlang`; `new/2` and the calls of tables module `ets`).
 use Rattle.std.specs.Prelude.{◌∷◌, None, [], Some, false, true, codes}
-use Rattle.world_model.specs.Calls.{Call, Spawn, Send, ToNobody, ToProcess, ToName, Exit, Link, Unlink, Monitor, Demonitor, Flag, Register, Unregister, WhereIs, IsAlive, MakeRef, New, OnTable, Misfit}
-use Rattle.world_model.specs.Cells.{Contents, Machine, Holder, Links, Alive, Trap, Watch, NameOf, Front, Tail, TableName}
+use Rattle.world_model.specs.Calls.{Link, New, Call, Spawn, Send, ToNobody, ToProcess, ToName, SendExit, Unlink, Monitor, Demonitor, Flag, Register, Unregister, WhereIs, IsAlive, MakeRef, OnTable, Misfit}
+use Rattle.world_model.specs.Cells.{Alive, Contents, Machine, Holder, Links, Trap, Watch, NameOf, Front, Tail, TableName}
 use Rattle.world_model.specs.Changes.{Traps}
 use Rattle.world_model.specs.Events.{ByRule}
 use Rattle.world_model.specs.Judging.{on_table_line}
@@ -10,7 +10,6 @@ use Rattle.world_model.specs.NewTables.{new_line, new_rule}
 use Rattle.world_model.specs.ProcessLines.{CallLine, badarg, spawn_line, serves, read_of_target, sent, serves_unless, unless_held, holder_read, sent_to_holder, exited, link_line, link_way, monitor_line, ref_of, demonitor_reads, demonitor_line, register_line, unregister_line}
 use Rattle.world_model.specs.Signals.{pair_goes}
 use Rattle.world_model.specs.Terms.{ok, truth, process_or, reference}
-use Rattle.world_model.specs.World.{traps}
 use Rattle.world_model.specs.declared.rule.Rule.TheVariants.{BadName}
 
 -- a spawn needs a module, a function and a proper list of arguments; what is no exported function ends at once
@@ -23,8 +22,8 @@ line v p (Send ToNobody message) = badarg []
 line v p (Send (ToProcess q) message) = serves (read_of_target (same_pid p q) p q) message (sent (same_pid p q) v p q message)
 line v p (Send (ToName name) message) = serves_unless (unless_held (v (Holder name))) (Holder name ∷ holder_read p (v (Holder name))) message (sent_to_holder v p (v (Holder name)) message)
 -- exit/2
-line v p (Exit None reason) = badarg []
-line v p (Exit (Some q) reason) = serves (read_of_target (same_pid p q) p q) ok (exited (same_pid p q) v p q reason)
+line v p (SendExit None reason) = badarg []
+line v p (SendExit (Some q) reason) = serves (read_of_target (same_pid p q) p q) ok (exited (same_pid p q) v p q reason)
 -- link/1
 line v p (Link None) = badarg []
 line v p (Link (Some q)) = link_line p q (link_way p q (v (Links p)) (v (Alive q)) (v (Trap p)))

@@ -1,6 +1,6 @@
 -- Names: of processes, of what they create, and those that programs give; and when two are the same.
-use Rattle.std.specs.Prelude.{ℕ, Bool, List, bytes_eq, ◌==◌, ◌&&◌}
 use Rattle.std.specs.Ordering.{eq_by_cmp}
+use Rattle.std.specs.Prelude.{ℕ, Bool, List, bytes_eq, ◌==◌, ◌&&◌}
 use Rattle.term_core.specs.Meaning.{Meaning}
 use Rattle.term_core.specs.Order.{order_of_terms}
 use Rattle.term_core.specs.declared.pid.RefId.{RefId}

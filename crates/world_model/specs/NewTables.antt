@@ -3,11 +3,10 @@ use Rattle.std.specs.Prelude.{◌∷◌, if◌then◌else◌, Bool, Option, fals
 use Rattle.world_model.specs.Cells.{Cell, TableName}
 use Rattle.world_model.specs.Changes.{Change, Means, Makes, Gains}
 use Rattle.world_model.specs.Events.{Refusal, ByRule}
-use Rattle.world_model.specs.Names.{Ref, Name, Pid}
+use Rattle.world_model.specs.Names.{Name, Ref, Pid}
 use Rattle.world_model.specs.ProcessLines.{CallLine, serves_unless}
 use Rattle.world_model.specs.Tables.{TableOption, is_named, table_of, handle_of}
 use Rattle.world_model.specs.Terms.{ok}
-use Rattle.world_model.specs.World.{owner}
 use Rattle.world_model.specs.declared.rule.Rule.{Rule}
 use Rattle.world_model.specs.declared.rule.Rule.TheVariants.{NameTaken, BadOption}
 

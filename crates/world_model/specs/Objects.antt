@@ -1,9 +1,9 @@
 -- Objects that are put in and taken out, and their elements (ets manual, `insert/2`, `insert_new/2`, `delete_object/2`, `lookup_element/3`, `update_counter/3`, `update_element/3`).
 use Rattle.std.specs.List.{list_any}
 use Rattle.std.specs.Option.{option_or}
-use Rattle.std.specs.Prelude.{◌++◌, ◌||◌, ◌+ℤ◌, if◌then◌else◌, ◌+◌, ◌==◌, ◌∷◌, ℕ, Option, List, pos, None, Some, [], option_map, Bool, not, true, false, ℤ, option_and_then}
+use Rattle.std.specs.Prelude.{List, Option, ◌++◌, ◌||◌, ◌+ℤ◌, ℤ, if◌then◌else◌, ◌+◌, ◌==◌, ◌∷◌, ℕ, pos, None, Some, [], option_map, Bool, not, true, false, option_and_then}
 use Rattle.term_core.specs.Integers.{has_64_bits}
-use Rattle.term_core.specs.Meaning.{Meaning, Int}
+use Rattle.term_core.specs.Meaning.{Int, Meaning}
 use Rattle.world_model.specs.Calls.{InsertNew, has_items, Increment, Behind, AtPlace, NotGiven}
 use Rattle.world_model.specs.Cells.{Contents, Row}
 use Rattle.world_model.specs.Changes.{Change, Writes}

@@ -1,19 +1,16 @@
 -- What a line of the calls is, and the parts of the lines of processes, each of the values that it reads (Erlang manual, module `erlang`).
 use Rattle.std.specs.List.{list_any}
-use Rattle.std.specs.Prelude.{◌++◌, if◌then◌else◌, ◌+◌, ◌&&◌, ◌∷◌, ◌||◌, Option, List, None, Some, [], ℕ, not, Bool, codes, true, false, is_some}
+use Rattle.std.specs.Prelude.{List, ◌++◌, if◌then◌else◌, ◌+◌, ◌&&◌, ◌∷◌, ◌||◌, Option, None, Some, [], ℕ, not, Bool, codes, true, false, is_some}
 use Rattle.term_core.specs.Meaning.{Meaning}
-use Rattle.world_model.specs.Calls.{SpawnWay, Alone, Linked, Watched, Exit}
-use Rattle.world_model.specs.Cells.{Cell, Course, Contents, Machine, Watch, Trap, Alive, Links, Watchers, Holder, NameOf}
+use Rattle.world_model.specs.Calls.{SpawnWay, Alone, Linked, Watched}
+use Rattle.world_model.specs.Cells.{Cell, Watch, Course, Contents, Machine, Trap, Alive, Links, Watchers, Holder, NameOf}
 use Rattle.world_model.specs.Changes.{Change, Joins, Watches, Draws, Begins, Lives, Mails, Touches, Puts, Unwatches, Sheds, Flushes, Holds, Bears, Vacates, Bares}
 use Rattle.world_model.specs.Ends.{alive_if}
-use Rattle.world_model.specs.Events.{Refusal, Badarg, Message, NoProcess, LinkExit, Down}
-use Rattle.world_model.specs.Names.{Ref, Pid, same_pid, Name, same_name}
+use Rattle.world_model.specs.Events.{Refusal, Badarg, Message, Exit, NoProcess, LinkExit, Down}
+use Rattle.world_model.specs.Names.{Name, Ref, Pid, same_pid, same_name}
 use Rattle.world_model.specs.Requests.{Origin}
-use Rattle.world_model.specs.Run.{changes}
 use Rattle.world_model.specs.Signals.{put_if, exit_message}
-use Rattle.world_model.specs.Steps.{reads}
 use Rattle.world_model.specs.Terms.{process, ok, number, tuple, reference, atom}
-use Rattle.world_model.specs.World.{holder, traps}
 
 pub record CallLine : Type 0 where
   pub refusal : Option Refusal

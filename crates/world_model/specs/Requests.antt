@@ -1,9 +1,9 @@
 -- What a process asks of the world, and what a program is to the world.
 use Rattle.std.specs.Prelude.{Bool, List}
-use Rattle.core_tree.specs.declared.call.CallKind.{CallKind}
 use Rattle.term_core.specs.Meaning.{Meaning}
+use Rattle.core_tree.specs.declared.call.CallKind.{CallKind}
 use Rattle.core_eval.specs.Asked.{Answered}
-use Rattle.world_model.specs.Names.{Pid, Name}
+use Rattle.world_model.specs.Names.{Name, Pid}
 
 -- where a process begins: the first in `main/0`, another in the function with the arguments of its spawn
 pub data Origin : Type 0 where

@@ -1,7 +1,7 @@
 -- Rows: the objects of a table under their keys (ets manual, `insert/2`).
 use Rattle.std.specs.FinMap.{insert, FinMap, get, remove, values}
 use Rattle.std.specs.List.{filter, list_any, filter_map}
-use Rattle.std.specs.Prelude.{ℕ, ◌-◌, Bool, not, ◌==◌, List, [], ◌∷◌, ◌++◌, Option, Some, None, is_some, if◌then◌else◌, map}
+use Rattle.std.specs.Prelude.{List, map, ℕ, ◌-◌, Bool, not, ◌==◌, [], ◌∷◌, ◌++◌, Option, Some, None, is_some, if◌then◌else◌}
 use Rattle.term_core.specs.Meaning.{Meaning}
 use Rattle.term_core.specs.Order.{order_of_terms}
 use Rattle.world_model.specs.Names.{same_term}

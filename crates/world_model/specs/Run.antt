@@ -1,11 +1,11 @@
 -- The next event of each step, which steps are enabled, and the history of a schedule.
 use Rattle.std.specs.List.{filter, filter_map}
-use Rattle.std.specs.Prelude.{◌∷◌, ◌≡◌, Option, option_map, map, Bool, is_some, List, None, Some, [], reverse}
+use Rattle.std.specs.Prelude.{List, map, ◌∷◌, ◌≡◌, Option, option_map, Bool, is_some, None, Some, [], reverse}
 use Rattle.term_core.specs.StepOrder.{order_of_steps}
 use Rattle.term_core.specs.declared.step.Step.{Step}
 use Rattle.term_core.specs.declared.step.Step.TheVariants.{Turn, Deliver}
 use Rattle.world_model.specs.Changes.{Change, Lives, Puts, set_in_order}
-use Rattle.world_model.specs.Events.{event, History, Event}
+use Rattle.world_model.specs.Events.{event, Event, History}
 use Rattle.world_model.specs.Names.{Pid}
 use Rattle.world_model.specs.Requests.{Program}
 use Rattle.world_model.specs.Steps.{next_deed, changes_by}

@@ -1,16 +1,16 @@
 -- What a history shows: ends, deadlocks, runaways and refusals, and which of these are errors.
 use Rattle.std.specs.List.{filter}
-use Rattle.std.specs.Prelude.{◌&&◌, ◌∷◌, if◌then◌else◌, ◌++◌, not, List, ℕ, Option, [], Contains, Bool, true, false}
+use Rattle.std.specs.Prelude.{List, ◌&&◌, ◌∷◌, if◌then◌else◌, ◌++◌, not, ℕ, Option, [], Contains, Bool, true, false}
 use Rattle.term_core.specs.Meaning.{Meaning}
 use Rattle.term_core.specs.declared.step.Step.{Step}
 use Rattle.term_core.specs.declared.step.Step.TheVariants.{Turn, Deliver}
 use Rattle.core_tree.specs.declared.call.CallKind.{CallKind}
-use Rattle.world_model.specs.Events.{Badarg, NoProcess, ByRule, Fate, Arrives, IsIgnored, IsDropped, Kills, Deed, Refused, Ended, EndedItself, RanAway, Delivered, History}
+use Rattle.world_model.specs.Events.{Refused, Refusal, Badarg, NoProcess, ByRule, Fate, Arrives, IsIgnored, IsDropped, Kills, Deed, Ended, EndedItself, RanAway, Delivered, History}
 use Rattle.world_model.specs.Names.{Pid}
 use Rattle.world_model.specs.Requests.{Program}
 use Rattle.world_model.specs.Run.{enabled_steps, living}
 use Rattle.world_model.specs.Signals.{is_normal}
-use Rattle.world_model.specs.World.{owner, turns}
+use Rattle.world_model.specs.World.{turns}
 use Rattle.world_model.specs.declared.rule.Rule.{Rule}
 use Rattle.world_model.specs.declared.rule.Rule.TheVariants.{PrivateRead, PrivateWrite, ProtectedWrite, NotOwner}
 
@@ -19,7 +19,7 @@ pub data Identity : Type 0 where
   End : (p : Pid) (reason : Meaning) → Identity
   Deadlock : (processes : List Pid) → Identity
   Runaway : (p : Pid) → Identity
-  Refusal : (p : Pid) (request : ℕ) (kind : CallKind) (arguments : List Meaning) (rule : Rule) (owner : Option Pid) → Identity
+  RefusedCall : (p : Pid) (request : ℕ) (kind : CallKind) (arguments : List Meaning) (rule : Rule) (told : Option Pid) → Identity
 
 -- ---- of the last event
 
@@ -29,7 +29,7 @@ unless_normal p reason = if is_normal reason then [] else End p reason ∷ []
 abbrev pub shown_by_refusal : Pid → ℕ → CallKind → List Meaning → Refusal → List Identity
 shown_by_refusal p request kind arguments Badarg = []
 shown_by_refusal p request kind arguments NoProcess = []
-shown_by_refusal p request kind arguments (ByRule rule owner) = Refusal p request kind arguments rule owner ∷ []
+shown_by_refusal p request kind arguments (ByRule rule told) = RefusedCall p request kind arguments rule told ∷ []
 
 abbrev pub shown_by_fate : Pid → Fate → List Identity
 shown_by_fate r (Arrives message) = []
@@ -86,10 +86,10 @@ abbrev pub is_error : Flags → Identity → Bool
 is_error flags (End p reason) = true
 is_error flags (Deadlock ps) = not flags.allow_deadlock
 is_error flags (Runaway p) = true
-is_error flags (Refusal p request kind arguments rule owner) = flags.strict_access && is_of_access rule
+is_error flags (RefusedCall p request kind arguments rule told) = flags.strict_access && is_of_access rule
 
 abbrev pub is_refusal : Identity → Bool
-is_refusal (Refusal p request kind arguments rule owner) = true
+is_refusal (RefusedCall p request kind arguments rule told) = true
 is_refusal i = false
 
 abbrev pub errors_of : Flags → Program → History → List Identity

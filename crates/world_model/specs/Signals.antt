@@ -1,12 +1,12 @@
 -- Signals that are put, the messages that the world itself makes, and what a signal does where it takes effect (Erlang reference manual, "Processes").
-use Rattle.std.specs.Prelude.{Bool, not, ◌&&◌, List, [], ◌∷◌, Option, Some, None, is_some, if◌then◌else◌, codes, drop}
 use Rattle.std.specs.List.{list_any}
+use Rattle.std.specs.Prelude.{Bool, not, ◌&&◌, List, [], ◌∷◌, Option, Some, None, is_some, if◌then◌else◌, codes, drop, false}
 use Rattle.term_core.specs.Meaning.{Meaning}
-use Rattle.world_model.specs.Names.{Pid, Ref, same_pid}
-use Rattle.world_model.specs.Terms.{atom, process, reference, tuple, is_atom}
-use Rattle.world_model.specs.Events.{Signal, Message, Exit, LinkExit, Down, Fate, Arrives, IsIgnored, IsDropped, Kills}
-use Rattle.world_model.specs.Cells.{Cell, Trap, Front, Tail, Links, Watchers, Watch, Alive, Contents}
+use Rattle.world_model.specs.Cells.{Cell, Trap, Front, Tail, Links, Watch, Watchers, Contents}
 use Rattle.world_model.specs.Changes.{Change, Puts, Parts, Unwatches, Sheds}
+use Rattle.world_model.specs.Events.{Signal, Message, Exit, LinkExit, Down, Fate, Arrives, IsIgnored, IsDropped, Kills}
+use Rattle.world_model.specs.Names.{Pid, Ref, same_pid}
+use Rattle.world_model.specs.Terms.{reference, atom, process, tuple, is_atom}
 
 -- ---- messages of the world
 

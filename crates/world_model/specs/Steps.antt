@@ -5,18 +5,17 @@ use Rattle.term_core.specs.declared.step.Step.{Step}
 use Rattle.term_core.specs.declared.step.Step.TheVariants.{Turn, Deliver}
 use Rattle.core_tree.specs.declared.call.CallKind.{CallKind}
 use Rattle.core_eval.specs.Asked as answered
-use Rattle.world_model.specs.Calls.{Call, Exit, IsAlive, call_of}
-use Rattle.world_model.specs.Cells.{Contents, Trap, Alive, Mailbox, Course, Cell, Machine, Front}
+use Rattle.world_model.specs.Calls.{Call, SendExit, IsAlive, call_of}
+use Rattle.world_model.specs.Cells.{Cell, Alive, Contents, Trap, Mailbox, Course, Machine, Front}
 use Rattle.world_model.specs.Changes.{Change, Turns, Picks, Mails, Fetches, after}
 use Rattle.world_model.specs.Ends.{ends, reads_of_end}
-use Rattle.world_model.specs.Events.{Fate, Arrives, IsIgnored, IsDropped, Kills, Refusal, Deed, Served, Refused, Ended, EndedItself, Received, TimedOut, RanAway, Badarg, NoProcess, ByRule, Delivered, Signal}
+use Rattle.world_model.specs.Events.{Signal, Fate, Arrives, IsIgnored, IsDropped, Kills, Refusal, Deed, Served, Refused, Ended, EndedItself, Received, TimedOut, RanAway, Badarg, NoProcess, ByRule, Delivered}
 use Rattle.world_model.specs.Lines.{line}
-use Rattle.world_model.specs.Names.{Pid, same_pid, Name}
+use Rattle.world_model.specs.Names.{Name, Pid, same_pid}
 use Rattle.world_model.specs.ProcessLines.{badarg, noproc}
-use Rattle.world_model.specs.Requests.{Request, Calls, Receives, Ends, RunsAway, Program}
+use Rattle.world_model.specs.Requests.{Ends, Request, Calls, Receives, RunsAway, Program}
 use Rattle.world_model.specs.Signals.{exit_fate, first_of, waiting_in, fate_of, goes_with, reads_of_fate}
 use Rattle.world_model.specs.Terms.{atom}
-use Rattle.world_model.specs.World.{traps, owner}
 
 -- ---- calls
 
@@ -31,7 +30,7 @@ abbrev pub own_end : Bool → Bool → Pid → Meaning → Option Meaning
 own_end is_own traps p reason = if is_own then killing (exit_fate traps true p reason) else None
 
 abbrev pub ends_itself : Contents → Pid → Call → Option Meaning
-ends_itself v p (Exit (Some q) reason) = own_end (same_pid p q) (v (Trap p)) p reason
+ends_itself v p (SendExit (Some q) reason) = own_end (same_pid p q) (v (Trap p)) p reason
 ends_itself v p call = None
 
 -- `is_process_alive/1` of a process that lives waits until the caller's own signals to it have arrived

@@ -9,10 +9,10 @@ use Rattle.world_model.specs.Found.{Found}
 use Rattle.world_model.specs.Names.{Pid}
 use Rattle.world_model.specs.Objects.{objects_rule, stores, given, counter_rule, sum_of, place_of, keys_asked, element_rule, element_answer, one_present, one_object, removes, update_rule, alters}
 use Rattle.world_model.specs.Owning.{destroyed, target_rule, gives_to, heirs_rule, heirs_set}
-use Rattle.world_model.specs.Rows.{Object, Key, Alters, tuples, all_objects, Clears}
+use Rattle.world_model.specs.Rows.{Key, Object, Alters, tuples, all_objects, Clears}
 use Rattle.world_model.specs.Signals.{first_of}
 use Rattle.world_model.specs.Tables as tables
-use Rattle.world_model.specs.Terms.{truth, ok}
+use Rattle.world_model.specs.Terms.{ok, truth}
 use Rattle.world_model.specs.Touch.{Touch, RowsOfKeys, EachRow, NoRow}
 use Rattle.world_model.specs.Walks.{read_by_item, key_or_end, last_key, walk_rule, key_after, key_before, item_rule, item_value}
 use Rattle.world_model.specs.declared.rule.Rule.{Rule}

@@ -1,8 +1,8 @@
 -- Tables: their settings and options (ets manual, `new/2`).
-use Rattle.std.specs.Prelude.{ℕ, Bool, true, false, ◌||◌, List, [], ◌∷◌, Option, Some, None, option_map, unwrap_or, if◌then◌else◌, codes}
 use Rattle.std.specs.List.{list_any}
+use Rattle.std.specs.Prelude.{ℕ, Bool, true, false, List, [], ◌∷◌, Option, Some, None, option_map, unwrap_or, if◌then◌else◌, codes}
 use Rattle.term_core.specs.Meaning.{Meaning}
-use Rattle.world_model.specs.Names.{Pid, Ref, Name, same_name}
+use Rattle.world_model.specs.Names.{Name, Pid, Ref, same_name}
 use Rattle.world_model.specs.Terms.{atom, reference, atom_in, process_in, parts_in, is_atom, positive_in, each_in}
 use Rattle.world_model.specs.declared.table.Kind.{Kind}
 use Rattle.world_model.specs.declared.table.Kind.TheVariants.{Set, OrderedSet, Bag, DuplicateBag}

@@ -2,7 +2,7 @@
 use Rattle.std.specs.FinMap.{keys, contains_key}
 use Rattle.std.specs.List.{filter}
 use Rattle.std.specs.Ordering.{is_lt, is_gt}
-use Rattle.std.specs.Prelude.{◌||◌, if◌then◌else◌, List, Option, reverse, None, codes, Some, length}
+use Rattle.std.specs.Prelude.{List, ◌||◌, if◌then◌else◌, Option, reverse, None, codes, Some, length}
 use Rattle.term_core.specs.Meaning.{Meaning}
 use Rattle.term_core.specs.Order.{order_of_terms}
 use Rattle.world_model.specs.Cells.{Rows, Contents}

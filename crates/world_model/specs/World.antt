@@ -5,14 +5,14 @@ use Rattle.term_core.specs.Meaning.{Meaning}
 use Rattle.term_core.specs.declared.step.Step.{Step}
 use Rattle.core_eval.specs.Ask.{is_first}
 use Rattle.core_eval.specs.Asked.{Answered}
-use Rattle.world_model.specs.Calls.{TableArgument, TableCall, Call}
+use Rattle.world_model.specs.Calls.{Call, TableArgument, TableCall}
 use Rattle.world_model.specs.Cells.{Table, Row, Rows, Contents, Machine, Alive, Trap, Mailbox, Front, Tail, Links, Watch, Watchers, Holder, NameOf, TableName, Owned}
 use Rattle.world_model.specs.Changes.{after}
 use Rattle.world_model.specs.Events.{Deed, History, Signal, Refusal}
-use Rattle.world_model.specs.Found.{find, Found}
+use Rattle.world_model.specs.Found.{Found, find}
 use Rattle.world_model.specs.Judging.{table_rule}
 use Rattle.world_model.specs.Lines.{line}
-use Rattle.world_model.specs.Names.{Name, Pid, Ref}
+use Rattle.world_model.specs.Names.{Name, Ref, Pid}
 use Rattle.world_model.specs.Requests.{Main}
 use Rattle.world_model.specs.Rows.{Key, Object, Rows as RowsOf}
 use Rattle.world_model.specs.Signals.{waiting_in}
