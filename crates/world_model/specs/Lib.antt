@@ -25,3 +25,7 @@ pub mod Run
 pub mod Independence
 pub mod Shown
 pub mod Asking
+pub mod Modules
+pub mod Happenings
+pub mod TableExamples
+pub mod ProcessExamples

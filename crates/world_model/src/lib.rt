@@ -2,5 +2,6 @@
 // definitions and later code share.
 #![tactic(auto)]
 
+pub mod laws;
 pub mod rule;
 pub mod table;

@@ -1,0 +1,2 @@
+// The laws of the explored world.
+pub mod examples;
