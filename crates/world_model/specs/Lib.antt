@@ -23,6 +23,8 @@ pub mod Steps
 pub mod World
 pub mod Run
 pub mod Independence
+pub mod Frames
+pub mod Commuting
 pub mod Shown
 pub mod Asking
 pub mod Modules

@@ -32,8 +32,8 @@ unless rule answer changes = record { rule = rule; answer = answer; changes = ch
 
 
 -- where a key is there nothing is put in
-abbrev pub new_line : Bool → Found → Option (List Object) → Line
-new_line present f objects = unless (objects_rule f.table.position objects) (truth (not present)) (if present then [] else stores f (given objects))
+abbrev pub insert_new_line : Bool → Found → Option (List Object) → Line
+insert_new_line present f objects = unless (objects_rule f.table.position objects) (truth (not present)) (if present then [] else stores f (given objects))
 
 -- the sum is put in the place of what was there
 abbrev pub counter_line : Found → Key → Increment → List Object → Line
@@ -83,7 +83,7 @@ table_line v p f ToList = gives (tuples (all_objects (v (Rows f.ref)))) []
 -- insert/2
 table_line v p f (Insert objects) = unless (objects_rule f.table.position objects) ok (stores f (given objects))
 -- insert_new/2
-table_line v p f (InsertNew objects) = new_line (one_present v f.ref (keys_asked p f objects)) f objects
+table_line v p f (InsertNew objects) = insert_new_line (one_present v f.ref (keys_asked p f objects)) f objects
 -- delete/1
 table_line v p f DeleteTable = gives ok (destroyed f)
 -- delete/2

@@ -1,2 +1,3 @@
 // The laws of the explored world.
+pub mod commuting;
 pub mod examples;
