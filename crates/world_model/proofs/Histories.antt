@@ -34,11 +34,11 @@ meets_are ks (c ∷ cs) = λ i. touches_are ks c i || meets_are ks cs i
 
 -- ---- an event by its deed
 
-deed_is : (s : Step) (o : Option Deed) (e : Event) → option_map (event s) o ≡ Some e → o ≡ Some e.deed
+pub deed_is : (s : Step) (o : Option Deed) (e : Event) → option_map (event s) o ≡ Some e → o ≡ Some e.deed
 deed_is s None e now = absurd cc
 deed_is s (Some d) e now = ap (option_map (λ x. x.deed)) now
 
-step_is : (s : Step) (o : Option Deed) (e : Event) → option_map (event s) o ≡ Some e → s ≡ e.step
+pub step_is : (s : Step) (o : Option Deed) (e : Event) → option_map (event s) o ≡ Some e → s ≡ e.step
 step_is s None e now = absurd cc
 step_is s (Some d) e now = ap (λ x. (unwrap_or x e).step) now
 

@@ -26,6 +26,8 @@ pub mod Independence
 pub mod Frames
 pub mod Commuting
 pub mod Shown
+pub mod StepLaws
+pub mod TableLaws
 pub mod Asking
 pub mod Modules
 pub mod Happenings

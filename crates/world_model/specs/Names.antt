@@ -1,6 +1,6 @@
 -- Names: of processes, of what they create, and those that programs give; and when two are the same.
 use Rattle.std.specs.Ordering.{eq_by_cmp}
-use Rattle.std.specs.Prelude.{ℕ, Bool, List, bytes_eq, ◌==◌, ◌&&◌}
+use Rattle.std.specs.Prelude.{◌≡◌, ◌∷◌, ◌⊎◌, ℕ, Bool, List, bytes_eq, ◌==◌, ◌&&◌, []}
 use Rattle.term_core.specs.Meaning.{Meaning}
 use Rattle.term_core.specs.Order.{order_of_terms}
 use Rattle.term_core.specs.declared.pid.RefId.{RefId}
@@ -29,3 +29,8 @@ same_ref a b = same_pid a.pid b.pid && a.number == b.number
 -- two terms are the same where neither comes before the other (Erlang reference manual, "Term Comparisons")
 abbrev pub same_term : Meaning → Meaning → Bool
 same_term a b = eq_by_cmp order_of_terms a b
+
+-- whether something is one of several
+abbrev pub IsAmong : {A : Type 0} → A → List A → Type 0
+IsAmong x [] = ⊥
+IsAmong x (y ∷ ys) = (y ≡ x) ⊎ IsAmong x ys

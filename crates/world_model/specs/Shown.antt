@@ -1,12 +1,12 @@
 -- What a history shows: ends, deadlocks, runaways and refusals, and which of these are errors.
 use Rattle.std.specs.List.{filter}
-use Rattle.std.specs.Prelude.{List, ◌&&◌, ◌∷◌, if◌then◌else◌, ◌++◌, not, ℕ, Option, [], Contains, Bool, true, false}
+use Rattle.std.specs.Prelude.{List, ◌&&◌, ◌∷◌, if◌then◌else◌, ◌++◌, not, ℕ, Option, [], Bool, true, false}
 use Rattle.term_core.specs.Meaning.{Meaning}
 use Rattle.term_core.specs.declared.step.Step.{Step}
 use Rattle.term_core.specs.declared.step.Step.TheVariants.{Turn, Deliver}
 use Rattle.core_tree.specs.declared.call.CallKind.{CallKind}
 use Rattle.world_model.specs.Events.{Refused, Refusal, Badarg, NoProcess, ByRule, Fate, Arrives, IsIgnored, IsDropped, Kills, Deed, Ended, EndedItself, RanAway, Delivered, History}
-use Rattle.world_model.specs.Names.{Pid}
+use Rattle.world_model.specs.Names.{Pid, IsAmong}
 use Rattle.world_model.specs.Requests.{Program}
 use Rattle.world_model.specs.Run.{enabled_steps, living}
 use Rattle.world_model.specs.Signals.{is_normal}
@@ -66,7 +66,7 @@ abbrev pub shown : Program → History → List Identity
 shown a h = shown_last h ++ deadlock_of (enabled_steps a h) (living h)
 
 abbrev pub Shows : Program → History → Identity → Type 0
-Shows a h i = Contains (shown a h) i
+Shows a h i = IsAmong i (shown a h)
 
 -- ---- errors and refusals
 

@@ -1,3 +1,5 @@
 // The laws of the explored world.
 pub mod commuting;
 pub mod examples;
+pub mod steps;
+pub mod tables;
