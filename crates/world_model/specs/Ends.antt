@@ -25,8 +25,9 @@ abbrev pub passed : Pid → Ref → tables.Table → Heir → List Change
 passed p t table None = Goes t ∷ Wipes t ∷ name_freed table
 passed p t table (Some heir) = Passes t heir.0 ∷ Gains heir.0 t ∷ Puts p heir.0 (Message (transfer_message (handle_of t table) p heir.1)) ∷ []
 
+-- what is there no more stays away
 abbrev pub table_passes : Contents → Pid → Ref → Option tables.Table → List Change
-table_passes v p t None = []
+table_passes v p t None = Goes t ∷ Wipes t ∷ []
 table_passes v p t (Some table) = passed p t table (living_heir v table.heir)
 
 abbrev pub tables_pass : Contents → Pid → List Ref → List Change

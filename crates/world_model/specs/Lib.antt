@@ -28,6 +28,9 @@ pub mod Commuting
 pub mod Shown
 pub mod StepLaws
 pub mod TableLaws
+pub mod Told
+pub mod RowsLeft
+pub mod Owners
 pub mod Asking
 pub mod Modules
 pub mod Happenings

@@ -1,5 +1,6 @@
 // The laws of the explored world.
 pub mod commuting;
 pub mod examples;
+pub mod processes;
 pub mod steps;
 pub mod tables;
