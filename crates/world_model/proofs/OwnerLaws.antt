@@ -94,7 +94,7 @@ one_passes : (v : Contents) (p : Pid) (u t : Ref) (o : Option tables.Table) (w :
 one_passes v p u t None w = refl
 one_passes v p u t (Some table_) w = passed_by p u t table_ (living_heir v table_.heir) w
 
-turned_ref : (t u : Ref) (b : Bool) → same_ref u t ≡ b → same_ref t u ≡ b
+pub turned_ref : (t u : Ref) (b : Bool) → same_ref u t ≡ b → same_ref t u ≡ b
 turned_ref t u true e = ap (same_ref t) (refs_same u t e) ∙ ref_itself t
 turned_ref t u false e =
     elim (either_is (same_ref t u)) [
@@ -126,7 +126,7 @@ module _ (p : Pid) (t : Ref) (c : Cell) (f : Heir → Content c → Content c) (
       ∙ (λ i. if sym (turned_ref t u (same_ref u t) refl) i || list_any (same_ref t) us then f (heir_at v t) (w c) else w c)
 
 -- the rest of an end writes neither tables nor rows
-abbrev rest_sorts : List ℕ
+abbrev pub rest_sorts : List ℕ
 rest_sorts = 5 ∷ 9 ∷ 10 ∷ 13 ∷ []
 
 partners_off : (v : Contents) (p : Pid) (reason : Meaning) (qs : List Pid) → AllAmong rest_sorts (partners_told v p reason qs)
@@ -141,7 +141,7 @@ name_off : (p : Pid) (o : Option Name) → AllAmong rest_sorts (name_left p o)
 name_off p None = (refl, tt)
 name_off p (Some n) = (refl, (refl, tt))
 
-rest_off : (c : Cell) (v w : Contents) (p : Pid) (reason : Meaning) → is_among rest_sorts c ≡ false → after (left_by v p reason) w c ≡ after (tables_pass v p (v (Owned p))) w c
+pub rest_off : (c : Cell) (v w : Contents) (p : Pid) (reason : Meaning) → is_among rest_sorts c ≡ false → after (left_by v p reason) w c ≡ after (tables_pass v p (v (Owned p))) w c
 rest_off c v w p reason other =
     let partners = partners_told v p reason (v (Links p)) in
     let watchers = watchers_told v p reason (v (Watchers p)) in

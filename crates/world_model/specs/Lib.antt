@@ -31,6 +31,7 @@ pub mod TableLaws
 pub mod Told
 pub mod RowsLeft
 pub mod Owners
+pub mod RunLaws
 pub mod Asking
 pub mod Modules
 pub mod Happenings

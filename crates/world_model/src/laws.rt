@@ -2,5 +2,6 @@
 pub mod commuting;
 pub mod examples;
 pub mod processes;
+pub mod runs;
 pub mod steps;
 pub mod tables;
