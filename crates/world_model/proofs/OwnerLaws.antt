@@ -102,7 +102,7 @@ turned_ref t u false e =
       | inr other ↦ other
     ]
 
-abbrev heir_at : Contents → Ref → Heir
+abbrev pub heir_at : Contents → Ref → Heir
 heir_at v t = living_heir v (heir_named (v (Table t)))
 
 -- a cell that each table's passing renews where the table is this one

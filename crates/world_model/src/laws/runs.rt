@@ -1,5 +1,5 @@
 // What holds of every history that really happens.
-ghost use Rattle.world_model.specs.RunLaws.{NamesAreNew, NamesMeanTheirs, FindsOne};
+ghost use Rattle.world_model.specs.RunLaws.{NamesAreNew, NamesMeanTheirs, FindsOne, OwnersLive};
 
 /// Names do not repeat: what a process creates next, and later, has the name of nothing that there was.
 pub fn names_do_not_repeat()
@@ -10,4 +10,9 @@ pub fn names_do_not_repeat()
 pub fn arguments_find_one_table()
     ensures names { NamesMeanTheirs }
     ensures one { FindsOne }
+{}
+
+/// Each table that is found has one owner, and that lives.
+pub fn tables_have_owners()
+    ensures { OwnersLive }
 {}
