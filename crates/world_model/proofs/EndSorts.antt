@@ -55,7 +55,7 @@ left_among v p reason =
     let watchers = watchers_told v p reason (v (Watchers p)) in
     let name = name_left p (v (NameOf p)) in
     among_both end_sorts (tables_pass v p (v (Owned p))) (Empties p ∷ (partners ++ (watchers ++ name))) (tables_among v p (v (Owned p)))
-      (refl, among_both end_sorts partners (watchers ++ name) (partners_among v p reason (v (Links p))) (among_both end_sorts watchers name (watchers_among v p reason (v (Watchers p))) (name_among p (v (NameOf p)))))
+    (refl, among_both end_sorts partners (watchers ++ name) (partners_among v p reason (v (Links p))) (among_both end_sorts watchers name (watchers_among v p reason (v (Watchers p))) (name_among p (v (NameOf p)))))
 
 -- an end leaves all cells of other sorts as they are, but for its own course and life
 pub end_leaves : (v w : Contents) (p : Pid) (reason : Meaning) (c : Cell) → is_among end_sorts c ≡ false → after (ends v p reason) w c ≡ changed (Dies p) (changed (Halts p reason) w) c

@@ -1,6 +1,6 @@
 -- Names do not repeat.
 use Rattle.std.proofs.Common.{◌∙◌, ◌≡◌, Bool, true, false, ℕ, [], ◌∷◌, ◌++◌, length, length-append, ap, Some, None, refl, if◌then◌else◌, arith, inl, inr, true≢false, sym}
-use Rattle.std.specs.Prelude.{◌&&◌, ◌≢◌, ◌<◌, ◌+◌, ◌⊎◌, List, Option, option_map}
+use Rattle.std.specs.Prelude.{◌&&◌, ◌<◌, ◌+◌, ◌⊎◌, List, Option, option_map}
 use Rattle.term_core.specs.Meaning.{Meaning}
 use Rattle.term_core.specs.declared.step.Step.{Step}
 use Rattle.term_core.specs.declared.step.Step.TheVariants.{Turn, Deliver}
@@ -15,9 +15,8 @@ use Rattle.world_model.specs.Requests.{Program}
 use Rattle.world_model.specs.Run.{next_event, IsRun}
 use Rattle.world_model.specs.RunLaws.{NamesAreNew}
 use Rattle.world_model.specs.Steps.{deed_asked, asked}
-use Rattle.world_model.specs.Terms.{number}
 use Rattle.world_model.specs.Told.{is_it, begun_by_call, begun_in, is_turn_of, is_of_turn, ended_in}
-use Rattle.world_model.specs.World.{contents, turns, table, alive}
+use Rattle.world_model.specs.World.{contents, turns, alive}
 use Rattle.world_model.proofs.Lives.{turns_told, alive_told}
 use Rattle.world_model.proofs.Meeting.{refs_same, pids_same, pid_itself, both}
 use Rattle.world_model.proofs.Unmade.{makes_by, watches_by, makes_in, watches_in, table_none, watch_none}

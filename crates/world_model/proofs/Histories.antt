@@ -8,13 +8,12 @@ use Rattle.world_model.specs.Commuting.{TellTheSame, Commutes, IndependentCommut
 use Rattle.world_model.specs.Events.{Event, event, Deed, History}
 use Rattle.world_model.specs.Found.{find}
 use Rattle.world_model.specs.Frames.{LeavesOthers, ReadsSettle}
-use Rattle.world_model.specs.Independence.{one_meets, some_meet, are_apart, written, footprint}
+use Rattle.world_model.specs.Independence.{one_meets, some_meet, are_apart, written}
 use Rattle.world_model.specs.Judging.{table_rule}
 use Rattle.world_model.specs.Lines.{line}
 use Rattle.world_model.specs.Requests.{Program}
 use Rattle.world_model.specs.Run.{next_event}
 use Rattle.world_model.specs.Steps.{reads, changes_by, next_deed}
-use Rattle.world_model.specs.World as world
 use Rattle.world_model.specs.World.{contents}
 use Rattle.world_model.proofs.Commuting.{stays, follows}
 use Rattle.world_model.proofs.Held.{steps_commute}
@@ -161,11 +160,11 @@ reads_settle a h g step agree =
       event = happens;
       footprint = λ i. record { reads = same.1 i; writes = writes i };
       contents = λ e now c here.
-        let deed = deed_is step (next_deed a (contents h) step) e now in
-        let is = step_is step (next_deed a (contents h) step) e now in
-        let theirs = event_is (contents g) step (next_deed a (contents g) step) e.deed (changes_by (contents h) step e.deed) (sym same.0 ∙ outcome_is a h step e.deed deed) in
-        follows (changes_by (contents h) e.step e.deed) (contents h) (contents g) c here
-        ∙ ap (λ s. after (changes_by (contents h) s e.deed) (contents g) c) (sym is)
-        ∙ ap (λ ks. after ks (contents g) c) (sym theirs.1)
-        ∙ ap (λ s. after (changes_by (contents g) s e.deed) (contents g) c) is;
+          let deed = deed_is step (next_deed a (contents h) step) e now in
+          let is = step_is step (next_deed a (contents h) step) e now in
+          let theirs = event_is (contents g) step (next_deed a (contents g) step) e.deed (changes_by (contents h) step e.deed) (sym same.0 ∙ outcome_is a h step e.deed deed) in
+          follows (changes_by (contents h) e.step e.deed) (contents h) (contents g) c here
+          ∙ ap (λ s. after (changes_by (contents h) s e.deed) (contents g) c) (sym is)
+          ∙ ap (λ ks. after ks (contents g) c) (sym theirs.1)
+          ∙ ap (λ s. after (changes_by (contents g) s e.deed) (contents g) c) is;
     }

@@ -3,7 +3,7 @@ use Rattle.std.proofs.Common.{◌≡◌, Bool, true, false, ◌&&◌, ◌==◌, 
 use Rattle.std.specs.Prelude.{bytes_eq}
 use Rattle.std.proofs.lemmas.Slice.Eq.{bytes_eq-Decides}
 use Rattle.std.proofs.lemmas.Bool.{eqb-true, eq-eqb}
-use Rattle.world_model.specs.Names.{Pid, Ref, same_pid, same_ref}
+use Rattle.world_model.specs.Names.{Ref, same_pid, same_ref}
 use Rattle.world_model.specs.Cells.{Cell, Machine, Alive, Trap, Watchers, Watch, Holder, NameOf, Mailbox, Front, Tail, Links, TableName, Table, Row, Rows, Owned, meet}
 
 pub both : (a b : Bool) → (a && b) ≡ true → (a ≡ true) × (b ≡ true)

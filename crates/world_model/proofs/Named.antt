@@ -1,10 +1,9 @@
 -- A name that means a table is that table's own, so no two arguments find one table.
 use Rattle.std.proofs.Common.{◌≡◌, Bool, true, false, ◌&&◌, List, [], ◌∷◌, map, ap, Option, Some, None, refl, sym, ◌∙◌, if◌then◌else◌, true≢false, subst, arith}
-use Rattle.std.specs.Prelude.{◌+◌, ◌≢◌, unwrap_or, option_map}
+use Rattle.std.specs.Prelude.{◌+◌, unwrap_or, option_map}
 use Rattle.term_core.specs.Meaning.{Meaning}
 use Rattle.term_core.specs.declared.step.Step.{Step}
 use Rattle.term_core.specs.declared.step.Step.TheVariants.{Turn, Deliver}
-use Rattle.core_eval.specs.Asked as answered
 use Rattle.world_model.specs.Calls.{Call, TableArgument, ByName, ByReference, ByNothing, TableCall, DeleteTable, GiveAway, SetOptions, New, OnTable, call_of}
 use Rattle.world_model.specs.Cells.{Table, Cell, Contents, TableName, Owned}
 use Rattle.world_model.specs.Changes.{after, Frees, Inherits, changed, Touches, Goes, Wipes, Loses, Makes, Gains, Dies, Halts, Fetches}
@@ -25,7 +24,7 @@ use Rattle.world_model.specs.Steps.{changes_of_fate, changes_by, runaway}
 use Rattle.world_model.specs.TableLines.{table_line}
 use Rattle.world_model.specs.Tables as tables
 use Rattle.world_model.specs.Tables.{is_named, owned_by, Heir, with_heir, TableOption, table_of}
-use Rattle.world_model.specs.World.{table, found, contents, turns}
+use Rattle.world_model.specs.World.{found, contents, turns}
 use Rattle.world_model.specs.declared.rule.Rule.{Rule}
 use Rattle.world_model.proofs.Commuting.{either_way, stays, follows}
 use Rattle.world_model.proofs.EndSorts.{after_both}
@@ -270,9 +269,9 @@ one_goes : (v w : Contents) (p : Pid) (u : Ref) (x : tables.Table) (heir : Heir)
 unfolding AreOf
 one_goes v w p u x None is was = record {
   named = goes_named w (after (passed p u x None) w) u x
-    (λ y there. let by = was.of u y there in let same = table_is by.0 x (sym by.1 ∙ is) in (by.2 ∙ ap (λ q. q.name) same, by.3 ∙ ap (λ q. q.is_named) same))
-    (λ m. freed_at x.is_named x.name m (after (Goes u ∷ Wipes u ∷ []) w))
-    (λ t. freed_table x.is_named x.name (after (Goes u ∷ Wipes u ∷ []) w) t) was.named;
+      (λ y there. let by = was.of u y there in let same = table_is by.0 x (sym by.1 ∙ is) in (by.2 ∙ ap (λ q. q.name) same, by.3 ∙ ap (λ q. q.is_named) same))
+      (λ m. freed_at x.is_named x.name m (after (Goes u ∷ Wipes u ∷ []) w))
+      (λ t. freed_table x.is_named x.name (after (Goes u ∷ Wipes u ∷ []) w) t) was.named;
   of = λ t y now. of_gone v w u t (same_ref u t) y was.of (sym (freed_table x.is_named x.name (after (Goes u ∷ Wipes u ∷ []) w) t) ∙ now);
 }
 one_goes v w p u x (Some heir) is was = record {
@@ -349,7 +348,7 @@ event_named v (Deliver s r) (Delivered x f) free before_ =
     let w = changed (Fetches s r) v in
     let mid = same_named v (after ks v) (λ n. stays ks v (TableName n) (goes_names s r n x)) (λ t. stays ks v (Table t) (goes_tables s r t x)) before_ in
     subst Holds_ (λ i c. sym (after_both ks (changes_of_fate (after ks v) r f) w c) i)
-      (fate_named (after ks v) (after ks w) r f (λ n. follows ks w v (TableName n) refl) (λ t. follows ks w v (Table t) refl) mid)
+    (fate_named (after ks v) (after ks w) r f (λ n. follows ks w v (TableName n) refl) (λ t. follows ks w v (Table t) refl) mid)
 event_named v (Deliver s r) deed free before_ = before_
 
 run_named : (a : Program) (h : History) → IsRun a h → Holds_ (contents h)

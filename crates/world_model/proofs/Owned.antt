@@ -2,7 +2,7 @@
 use Rattle.std.proofs.Common.{◌≡◌, Bool, true, false, ◌||◌, List, [], ◌∷◌, ap, Some, refl, sym, ◌∙◌, inl, inr, if◌then◌else◌, true≢false, subst}
 use Rattle.std.specs.List.{list_any}
 use Rattle.std.specs.Option.{option_or}
-use Rattle.std.specs.Prelude.{Option, ◌++◌, ◌≢◌, unwrap_or, None, option_map, map, ℕ}
+use Rattle.std.specs.Prelude.{Option, ◌++◌, unwrap_or, None, option_map, map, ℕ}
 use Rattle.std.specs.declared.cmp.Ordering.{Ordering}
 use Rattle.std.specs.declared.cmp.Ordering.TheVariants.{Less, Equal, Greater}
 use Rattle.term_core.specs.Meaning.{Meaning}
@@ -432,7 +432,7 @@ event_owned v (Deliver s r) (Delivered x f) lives unrefused before_ =
     let ks = goes_with s r x in
     let w = changed (Fetches s r) v in
     subst AreOwned (λ i c. sym (after_both ks (changes_of_fate (after ks v) r f) w c) i)
-      (fate_owned (after ks v) (after ks w) r f (λ t. follows ks w v (Table t) refl) (λ q. follows ks w v (Owned q) refl) (λ q. follows ks w v (Alive q) refl) (goes_owned s r x v before_))
+    (fate_owned (after ks v) (after ks w) r f (λ t. follows ks w v (Table t) refl) (λ q. follows ks w v (Owned q) refl) (λ q. follows ks w v (Alive q) refl) (goes_owned s r x v before_))
 event_owned v (Deliver s r) deed lives unrefused before_ = before_
 
 -- what a deed says of a call that was served

@@ -1,7 +1,7 @@
 -- What each event leaves of a table.
 use Rattle.std.proofs.Common.{◌≡◌, Bool, true, false, ◌||◌, List, [], ◌∷◌, ◌++◌, map, ap, Option, Some, None, refl, sym, ◌∙◌, inl, inr, if◌then◌else◌, true≢false}
 use Rattle.std.specs.List.{list_any}
-use Rattle.std.specs.Prelude.{◌≢◌, option_map, ℕ}
+use Rattle.std.specs.Prelude.{option_map, ℕ}
 use Rattle.term_core.specs.Meaning.{Meaning}
 use Rattle.core_eval.specs.Asked as answered
 use Rattle.world_model.specs.Calls.{TableCall, DeleteTable, GiveAway, SetOptions}

@@ -15,7 +15,6 @@ use Rattle.world_model.specs.Owning.{heirs_set}
 use Rattle.world_model.specs.Rows.{stored, Object, Key, parts_at, part_at, same_key, rewritten, Removes, altered}
 use Rattle.world_model.specs.RowsLeft.{rows_in, unless_present, key_of_object, WritesRows, under_key, is_key, stored_all, rows_left, LeavesRows, replaced, KeepsTheLast, last_with}
 use Rattle.world_model.specs.TableLines.{table_line}
-use Rattle.world_model.specs.Tables as tables
 use Rattle.world_model.specs.Tables.{Heir, is_bag}
 use Rattle.world_model.specs.Touch.{cells_of}
 use Rattle.world_model.specs.World.{contents}

@@ -4,7 +4,6 @@ use Rattle.std.specs.Prelude.{option_map}
 use Rattle.term_core.specs.Meaning.{Meaning}
 use Rattle.term_core.specs.declared.step.Step.{Step}
 use Rattle.term_core.specs.declared.step.Step.TheVariants.{Turn, Deliver}
-use Rattle.core_eval.specs.Asked as answered
 use Rattle.world_model.specs.Calls.{Call, New, call_of, TableCall, DeleteTable, GiveAway, SetOptions, OnTable, Spawn, Monitor, SpawnWay, Alone, Linked, Watched, Demonitor}
 use Rattle.world_model.specs.Cells.{Table, Contents, meet, TableName, Watch, Watchers, Alive}
 use Rattle.world_model.specs.Changes.{after, Inherits, changed, Frees, Goes, Wipes, Loses, Dies, Halts, Fetches, Unwatches, Sheds, Touches}

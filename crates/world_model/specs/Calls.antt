@@ -7,7 +7,7 @@ use Rattle.world_model.specs.Names.{Name, Pid, Ref}
 use Rattle.world_model.specs.Requests.{Origin, Spawned}
 use Rattle.world_model.specs.Rows.{Key, Object}
 use Rattle.world_model.specs.Tables.{Heir, TableOption, options_of, heirs_of, found_beside}
-use Rattle.world_model.specs.Terms.{atom_in, process, process_in, reference_in, integer_in, boolean_in, parts_in, items_in, each_in, is_atom, position_of, positive_in}
+use Rattle.world_model.specs.Terms.{atom_in, process_in, reference_in, integer_in, boolean_in, parts_in, items_in, each_in, is_atom, position_of, positive_in}
 use Rattle.world_model.specs.declared.table.Item.{Item}
 use Rattle.world_model.specs.declared.table.Item.TheVariants as items
 

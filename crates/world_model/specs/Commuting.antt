@@ -9,7 +9,6 @@ use Rattle.world_model.specs.Names.{Pid, Ref, Name}
 use Rattle.world_model.specs.Requests.{Program}
 use Rattle.world_model.specs.Rows.{Key}
 use Rattle.world_model.specs.Run.{next_event}
-use Rattle.world_model.specs.Tables as tables
 use Rattle.world_model.specs.World.{table, alive, turns, answers, traps, waiting, mailbox, linked, watched, holder, found, owner, settings, heir, rows, all_rows, rule_of, refusal_of, answer_of, contents}
 
 -- two histories tell the same, of each process, each channel, each name and each table

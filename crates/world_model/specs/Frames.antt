@@ -3,7 +3,7 @@ use Rattle.std.specs.Prelude.{◌≡◌, false, List, [], ◌∷◌, Some, map}
 use Rattle.term_core.specs.declared.step.Step.{Step}
 use Rattle.world_model.specs.Cells.{Contents, Cell, Front}
 use Rattle.world_model.specs.Changes.{cell_of}
-use Rattle.world_model.specs.Events.{event, History, Event}
+use Rattle.world_model.specs.Events.{History, Event}
 use Rattle.world_model.specs.Independence.{one_meets, footprint}
 use Rattle.world_model.specs.Requests.{Program}
 use Rattle.world_model.specs.Run.{changes, next_event}

@@ -6,7 +6,6 @@ use Rattle.term_core.specs.declared.step.Step.TheVariants.{Turn}
 use Rattle.core_tree.specs.Syntax.{ModuleTree}
 use Rattle.core_tree.specs.declared.call.CallKind.{CallKind}
 use Rattle.core_tree.specs.declared.call.CallKind.TheVariants as kinds
-use Rattle.core_tree.specs.declared.pure.PureCall.TheVariants as pures
 use Rattle.world_model.specs.Asking.{program_of}
 use Rattle.world_model.specs.Events.{Event, event, History, Served, Refused, ByRule, Ended}
 use Rattle.world_model.specs.Names.{Name, Pid}

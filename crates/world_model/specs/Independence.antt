@@ -8,7 +8,6 @@ use Rattle.world_model.specs.Events.{Event, History}
 use Rattle.world_model.specs.Requests.{Program}
 use Rattle.world_model.specs.Run.{changes, next_event, is_enabled, run}
 use Rattle.world_model.specs.Steps.{reads}
-use Rattle.world_model.specs.Terms.{before}
 use Rattle.world_model.specs.World.{contents}
 
 -- ---- footprints

@@ -6,7 +6,6 @@ use Rattle.core_tree.specs.Syntax.{Mention, NamedAt, DefinitionTree, Tree, Modul
 use Rattle.core_tree.specs.declared.call.CallKind.{CallKind}
 use Rattle.core_tree.specs.declared.call.CallKind.TheVariants as kinds
 use Rattle.core_tree.specs.declared.pure.PureCall.{PureCall}
-use Rattle.core_tree.specs.declared.pure.PureCall.TheVariants as pures
 use Rattle.world_model.specs.Names.{Name}
 
 abbrev pub the_atom : Name → Tree

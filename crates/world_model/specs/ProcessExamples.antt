@@ -1,5 +1,5 @@
 -- Small modules with several processes, and what happens by their schedules.
-use Rattle.std.specs.Prelude.{◌∷◌, codes, [], true, false}
+use Rattle.std.specs.Prelude.{◌∷◌, codes, [], false}
 use Rattle.term_core.specs.Meaning.{Meaning}
 use Rattle.term_core.specs.declared.step.Step.TheVariants.{Turn, Deliver}
 use Rattle.core_tree.specs.Syntax.{ModuleTree, Tree, DefinitionTree}
@@ -9,9 +9,8 @@ use Rattle.world_model.specs.Events.{Exit, event, Delivered, Message, Arrives, K
 use Rattle.world_model.specs.Happenings.{P, Happens, P_2, serves_it, spawned, P_1, EndsWith, ends_it, error_of, R_1, normal, HasNoRun}
 use Rattle.world_model.specs.Modules.{the, ask_for, the_atom, child, function, the_list, module_of, main, let_, compute, then_, spawn_child}
 use Rattle.world_model.specs.Names.{Ref, Name}
-use Rattle.world_model.specs.ProcessLines.{noproc}
 use Rattle.world_model.specs.Signals.{exit_message, down_message}
-use Rattle.world_model.specs.Terms.{process, atom, number, tuple, ok, truth}
+use Rattle.world_model.specs.Terms.{process, atom, tuple, ok, truth}
 
 abbrev pub to_kill : Tree
 to_kill = ask_for kinds.Exit (the (codes "C") ∷ the_atom (codes "kill") ∷ [])

@@ -10,7 +10,7 @@ use Rattle.world_model.specs.Events.{Refusal, Badarg, Message, Exit, NoProcess, 
 use Rattle.world_model.specs.Names.{Name, Ref, Pid, same_pid, same_name}
 use Rattle.world_model.specs.Requests.{Origin}
 use Rattle.world_model.specs.Signals.{put_if, exit_message}
-use Rattle.world_model.specs.Terms.{process, ok, number, tuple, reference, atom}
+use Rattle.world_model.specs.Terms.{process, ok, tuple, reference, atom}
 
 pub record CallLine : Type 0 where
   pub refusal : Option Refusal

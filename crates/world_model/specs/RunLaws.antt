@@ -8,7 +8,6 @@ use Rattle.world_model.specs.Names.{Name, Pid, Ref}
 use Rattle.world_model.specs.Requests.{Program}
 use Rattle.world_model.specs.Run.{IsRun}
 use Rattle.world_model.specs.Tables as tables
-use Rattle.world_model.specs.Terms.{number}
 use Rattle.world_model.specs.World.{table, alive, turns, watched, found, contents, owner}
 
 -- ---- names do not repeat

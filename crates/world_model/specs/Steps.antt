@@ -12,7 +12,6 @@ use Rattle.world_model.specs.Ends.{ends, reads_of_end}
 use Rattle.world_model.specs.Events.{Signal, Fate, Arrives, IsIgnored, IsDropped, Kills, Refusal, Deed, Served, Refused, Ended, EndedItself, Received, TimedOut, RanAway, Badarg, NoProcess, ByRule, Delivered}
 use Rattle.world_model.specs.Lines.{line}
 use Rattle.world_model.specs.Names.{Name, Pid, same_pid}
-use Rattle.world_model.specs.ProcessLines.{badarg, noproc}
 use Rattle.world_model.specs.Requests.{Ends, Request, Calls, Receives, RunsAway, Program}
 use Rattle.world_model.specs.Signals.{exit_fate, first_of, waiting_in, fate_of, goes_with, reads_of_fate}
 use Rattle.world_model.specs.Terms.{atom}

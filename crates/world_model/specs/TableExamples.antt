@@ -9,10 +9,8 @@ use Rattle.core_tree.specs.declared.pure.PureCall.TheVariants as pures
 use Rattle.world_model.specs.Events.{event, Delivered, Message, Arrives}
 use Rattle.world_model.specs.Happenings.{t, P, Happens, made_it, serves_it, a_1, ends_it, normal, HasNoRun, EndsWith, P_2, refuses_it, error_of, spawned, P_1, P_3}
 use Rattle.world_model.specs.Modules.{the, module_of, main, then_, new_table, put_one, look_up, spawn_child, child, let_, ask_for, the_table, the_atom, the_tuple, the_list, function, mention, compute}
-use Rattle.world_model.specs.ProcessLines.{badarg}
 use Rattle.world_model.specs.Signals.{transfer_message}
 use Rattle.world_model.specs.Terms.{ok, atom, list_of, process, tuple}
-use Rattle.world_model.specs.World.{heir}
 use Rattle.world_model.specs.declared.rule.Rule.TheVariants.{ProtectedWrite, NoTable, PrivateRead, PrivateWrite, ShortObject, NotOwner, BadItem, OwnTarget}
 
 -- ---- a table is made, written and read by its owner

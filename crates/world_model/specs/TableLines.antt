@@ -11,7 +11,6 @@ use Rattle.world_model.specs.Objects.{objects_rule, stores, given, counter_rule,
 use Rattle.world_model.specs.Owning.{destroyed, target_rule, gives_to, heirs_rule, heirs_set}
 use Rattle.world_model.specs.Rows.{Key, Object, Alters, tuples, all_objects, Clears}
 use Rattle.world_model.specs.Signals.{first_of}
-use Rattle.world_model.specs.Tables as tables
 use Rattle.world_model.specs.Terms.{ok, truth}
 use Rattle.world_model.specs.Touch.{Touch, RowsOfKeys, EachRow, NoRow}
 use Rattle.world_model.specs.Walks.{read_by_item, key_or_end, last_key, walk_rule, key_after, key_before, item_rule, item_value}
@@ -29,7 +28,6 @@ gives answer changes = record { rule = None; answer = answer; changes = changes 
 -- a line that a rule may break
 abbrev pub unless : Option Rule → Meaning → List Change → Line
 unless rule answer changes = record { rule = rule; answer = answer; changes = changes }
-
 
 -- where a key is there nothing is put in
 abbrev pub insert_new_line : Bool → Found → Option (List Object) → Line

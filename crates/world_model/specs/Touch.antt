@@ -1,5 +1,4 @@
 -- Rows as a call may touch them: none, some, or all.
-use Rattle.std.specs.FinMap.{keys}
 use Rattle.std.specs.Prelude.{◌∷◌, List, [], map}
 use Rattle.world_model.specs.Cells.{Row, Rows, Cell}
 use Rattle.world_model.specs.Names.{Ref}

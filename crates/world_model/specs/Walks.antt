@@ -12,7 +12,6 @@ use Rattle.world_model.specs.Names.{Name}
 use Rattle.world_model.specs.Rows as rows
 use Rattle.world_model.specs.Rows.{Key, all_objects}
 use Rattle.world_model.specs.Signals.{first_of}
-use Rattle.world_model.specs.Tables as tables
 use Rattle.world_model.specs.Tables.{is_ordered}
 use Rattle.world_model.specs.Terms.{atom, ok, process, number, process_or, truth}
 use Rattle.world_model.specs.Touch.{Touch, EachRow, NoRow}
