@@ -1,27 +1,28 @@
 -- A served call writes cells of its sorts alone.
 use Rattle.std.proofs.Common.{◌∙◌, refl, sym, ap, true≢false}
 use Rattle.std.specs.List.{list_any}
-use Rattle.std.specs.Prelude.{◌∷◌, ◌==◌, ◌≡◌, ◌++◌, if◌then◌else◌, ◌||◌, List, ℕ, [], true, Bool, false, Option, None, Some, map}
+use Rattle.std.specs.Prelude.{◌≢◌, true, false, List, ◌∷◌, ◌==◌, ◌≡◌, ◌++◌, if◌then◌else◌, ◌||◌, ℕ, [], Bool, Option, None, Some, map}
 use Rattle.term_core.specs.Meaning.{Meaning}
-use Rattle.world_model.specs.Calls.{Spawn, SpawnWay, Alone, Link, Linked, Watched, TableCall, Call, Insert, InsertNew, New, DeleteTable, DeleteKey, DeleteObject, DeleteAll, Take, UpdateCounter, UpdateElement, GiveAway, SetOptions, Send, ToNobody, ToProcess, ToName, SendExit, Unlink, Monitor, Demonitor, Flag, Register, Unregister, WhereIs, IsAlive, MakeRef, OnTable, Misfit, First}
-use Rattle.world_model.specs.Cells.{meet, Cell, Row, Watch, Tail, Contents, Alive, Holder, Links, Trap, TableName, Machine, Mailbox}
+use Rattle.world_model.specs.Calls.{Call, Spawn, SpawnWay, Alone, Link, Linked, Watched, TableCall, Insert, InsertNew, New, DeleteTable, DeleteKey, DeleteObject, DeleteAll, Take, UpdateCounter, UpdateElement, GiveAway, SetOptions, Send, ToNobody, ToProcess, ToName, SendExit, Unlink, Monitor, Demonitor, Flag, Register, Unregister, WhereIs, IsAlive, MakeRef, OnTable, Misfit, First}
+use Rattle.world_model.specs.Cells.{Watch, Alive, Cell, meet, Row, Tail, Contents, Holder, Links, Trap, TableName, Machine, Mailbox, Front}
 use Rattle.world_model.specs.Changes.{Change, cell_of, Inherits, after}
 use Rattle.world_model.specs.Ends.{name_freed}
-use Rattle.world_model.specs.Events.{Signal, Message, Exit}
+use Rattle.world_model.specs.Events.{Exit, Signal, Message}
 use Rattle.world_model.specs.Found.{Found, find}
 use Rattle.world_model.specs.Judging.{found_line}
 use Rattle.world_model.specs.Lines.{line}
-use Rattle.world_model.specs.Names.{Pid, Ref, same_pid, Name}
+use Rattle.world_model.specs.Names.{Name, Ref, Pid, same_pid}
 use Rattle.world_model.specs.NewTables.{new_line, new_rule}
 use Rattle.world_model.specs.Objects.{stored_at, stores, removed_at, given, one_present, keys_asked}
 use Rattle.world_model.specs.Owning.{heirs_set}
-use Rattle.world_model.specs.ProcessLines.{bound, sent, exited, sent_to_holder, LinkWay, link_changes, Stands, Pairs, PairsGone, Fails, gone_told, watch_ends, flushed, unregister_line, next_child, next_ref, link_way}
+use Rattle.world_model.specs.ProcessLines.{sent, bound, exited, sent_to_holder, LinkWay, link_changes, Stands, Pairs, PairsGone, Fails, gone_told, watch_ends, flushed, unregister_line, next_child, next_ref, link_way}
 use Rattle.world_model.specs.Requests.{Origin}
-use Rattle.world_model.specs.Rows.{Object, Key, part_at}
+use Rattle.world_model.specs.Rows.{Key, Object, part_at}
 use Rattle.world_model.specs.Signals.{put_if}
 use Rattle.world_model.specs.TableLines.{table_line}
 use Rattle.world_model.specs.Tables as tables
 use Rattle.world_model.specs.Tables.{Heir, is_named, TableOption}
+use Rattle.world_model.specs.World.{table}
 use Rattle.world_model.specs.declared.rule.Rule.{Rule}
 use Rattle.world_model.proofs.Commuting.{stays}
 use Rattle.world_model.proofs.Meeting.{whole, whole_same}
@@ -218,3 +219,7 @@ no_watch call ref = refl
 pub no_holder : (call : TableCall) (n : Name) → is_among (table_sorts call) (Holder n) ≡ false
 no_holder First n = refl
 no_holder call n = refl
+
+pub no_front : (call : TableCall) (s r : Pid) → is_among (table_sorts call) (Front s r) ≡ false
+no_front First s r = refl
+no_front call s r = refl

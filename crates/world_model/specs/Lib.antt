@@ -29,6 +29,8 @@ pub mod Shown
 pub mod StepLaws
 pub mod TableLaws
 pub mod Told
+pub mod Bonds
+pub mod Mail
 pub mod RowsLeft
 pub mod Owners
 pub mod RunLaws
