@@ -4,7 +4,6 @@ use Rattle.std.specs.Prelude.{ℕ}
 use Rattle.term_core.specs.Meaning.{Meaning}
 use Rattle.term_core.specs.declared.step.Step.{Step}
 use Rattle.term_core.specs.declared.step.Step.TheVariants.{Deliver, Turn}
-use Rattle.core_eval.specs.Asked as answered
 use Rattle.world_model.specs.Bonds.{paired_by_way, linked_by_call, way_now, linked_in, LinkedIsTold, watched_by_call, watched_in, WatchedIsTold, vacated, held_by_call, name_of_ended, held_in, HolderIsTold}
 use Rattle.world_model.specs.Calls.{Link, Call, Spawn, Alone, Linked, Watched, Unlink, OnTable, call_of, Monitor, Demonitor, Register, Unregister}
 use Rattle.world_model.specs.Cells.{Links, Table, Contents, Watch, Watchers, Alive, Holder, NameOf, Owned}

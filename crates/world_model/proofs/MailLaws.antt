@@ -3,7 +3,6 @@ use Rattle.std.proofs.Common.{◌≡◌, Bool, true, false, ◌&&◌, ℕ, zero,
 use Rattle.term_core.specs.Meaning.{Meaning}
 use Rattle.term_core.specs.declared.step.Step.{Step}
 use Rattle.term_core.specs.declared.step.Step.TheVariants.{Deliver, Turn}
-use Rattle.core_eval.specs.Asked as answered
 use Rattle.world_model.specs.Calls.{Call, Send, ToNobody, ToProcess, ToName, SendExit, Demonitor, OnTable, call_of}
 use Rattle.world_model.specs.Cells.{Mailbox, Contents, Alive, Watch, Watchers, Holder, Tail, meet, Front}
 use Rattle.world_model.specs.Changes.{after, Unwatches, Sheds, Touches, Flushes, without_first, is_of_watch, changed, Turns, Fetches, Change, Puts}

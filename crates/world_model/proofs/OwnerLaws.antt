@@ -51,7 +51,7 @@ freed_keep false name w t = refl
 off : (v w : Contents) (p : Pid) (f : Found) (call : TableCall) → is_among (table_sorts call) (Table f.ref) ≡ false → after (table_line v p f call).changes w (Table f.ref) ≡ w (Table f.ref)
 off v w p f call other = stays (table_line v p f call).changes w (Table f.ref) (untouched_by (table_sorts call) (table_line v p f call).changes (Table f.ref) (table_among v p f call) other)
 
-call_keeps : (v w : Contents) (p : Pid) (f : Found) (call : TableCall) → after (table_line v p f call).changes w (Table f.ref) ≡ table_left call (w (Table f.ref))
+pub call_keeps : (v w : Contents) (p : Pid) (f : Found) (call : TableCall) → after (table_line v p f call).changes w (Table f.ref) ≡ table_left call (w (Table f.ref))
 call_keeps v w p f DeleteTable = freed_keep f.table.is_named f.table.name (after (Goes f.ref ∷ Wipes f.ref ∷ Loses f.table.owner f.ref ∷ []) w) f.ref ∙ here f.ref None (w (Table f.ref))
 call_keeps v w p f (GiveAway None gift_) = refl
 call_keeps v w p f (GiveAway (Some to) gift_) = here f.ref (option_map (owned_by to) (w (Table f.ref))) (w (Table f.ref))
@@ -182,7 +182,7 @@ one_wipes : (v : Contents) (p : Pid) (u t : Ref) (k : Key) (o : Option tables.Ta
 one_wipes v p u t k None w = refl
 one_wipes v p u t k (Some table_) w = row_by p u t k table_ (living_heir v table_.heir) w
 
-rows_pass : (v w : Contents) (p : Pid) (reason : Meaning) (t : Ref) (k : Key) → after (left_by v p reason) w (Row t k) ≡ (if list_any (same_ref t) (v (Owned p)) then row_passed (heir_at v t) (w (Row t k)) else w (Row t k))
+pub rows_pass : (v w : Contents) (p : Pid) (reason : Meaning) (t : Ref) (k : Key) → after (left_by v p reason) w (Row t k) ≡ (if list_any (same_ref t) (v (Owned p)) then row_passed (heir_at v t) (w (Row t k)) else w (Row t k))
 rows_pass v w p reason t k = rest_off (Row t k) v w p reason refl ∙ all_pass p t (Row t k) row_passed rows_twice (λ v u o x. one_wipes v p u t k o x) v (v (Owned p)) w
 
 pub passes_rows : PassesRows

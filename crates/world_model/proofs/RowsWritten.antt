@@ -133,7 +133,7 @@ same_twice : (b : Bool) (xs : List Object) → xs ≡ under_key b xs xs
 same_twice true xs = refl
 same_twice false xs = refl
 
-call_leaves_rows : (v w : Contents) (p : Pid) (f : Found) (call : TableCall) (k : Key) → after (table_line v p f call).changes w (Row f.ref k) ≡ rows_left v p f call k (w (Row f.ref k))
+pub call_leaves_rows : (v w : Contents) (p : Pid) (f : Found) (call : TableCall) (k : Key) → after (table_line v p f call).changes w (Row f.ref k) ≡ rows_left v p f call k (w (Row f.ref k))
 call_leaves_rows v w p f (Insert objects) k = stores_leave f (given objects) w k
 call_leaves_rows v w p f (InsertNew objects) k = new_leaves f (given objects) w k (one_present v f.ref (keys_asked p f objects))
 call_leaves_rows v w p f DeleteTable k = freed_leaves f.table.is_named f.table.name (after (Goes f.ref ∷ Wipes f.ref ∷ Loses f.table.owner f.ref ∷ []) w) f.ref k ∙ wiped_here f.ref (w (Row f.ref k))

@@ -33,6 +33,7 @@ pub mod Bonds
 pub mod Mail
 pub mod RowsLeft
 pub mod Owners
+pub mod TablesTold
 pub mod RunLaws
 pub mod Asking
 pub mod Modules

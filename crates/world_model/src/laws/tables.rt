@@ -1,6 +1,7 @@
 // The laws of calls of tables.
 ghost use Rattle.world_model.specs.Owners.{LeavesTable, MakesTable, PassesTables, PassesRows};
 ghost use Rattle.world_model.specs.RowsLeft.{WritesRows, LeavesRows, KeepsTheLast};
+ghost use Rattle.world_model.specs.TablesTold.{TableIsTold, RowsAreTold};
 ghost use Rattle.world_model.specs.TableLaws.{ServedWhereNone, RefusedByRule, ServedOnlyWhereNone, RefusedLeaves, RefusedFinds, AreRows, AreByKey, AreWalked};
 
 /// A call of a table is served, with its answer, exactly where no rule fails, and else refused by the one
@@ -48,4 +49,10 @@ pub fn calls_leave_tables()
 pub fn ends_pass_tables()
     ensures tables { PassesTables }
     ensures rows { PassesRows }
+{}
+
+/// What each table is, and its rows, after every event, by what they were before it.
+pub fn tables_are_told()
+    ensures table { TableIsTold }
+    ensures rows { RowsAreTold }
 {}
