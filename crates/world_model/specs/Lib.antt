@@ -40,3 +40,4 @@ pub mod Modules
 pub mod Happenings
 pub mod TableExamples
 pub mod ProcessExamples
+pub mod ReceiveExamples

@@ -1,4 +1,5 @@
 // Small modules, and what happens by their schedules.
+ghost use Rattle.world_model.specs.ReceiveExamples.{WaitsForIts, TakesItsFirst, TakesTheOther, TakesTheOlder, ComesToTimeout};
 ghost use Rattle.world_model.specs.TableExamples.{WritesItsTable, HasNoNinth, StrangerIsRefused, StrangerFindsNone, StrangerEnds, OldOwnerIsRefused, HeirIsTold, HeirWrites, NoHeirNoTable, PresentOwnerCounts, PrivateIsUnread, StrangerBeforeObject, OwnerOfShort, OwnersCall, InfoOfNone, ItemIsUnknown, GiftToItself};
 ghost use Rattle.world_model.specs.ProcessExamples.{SecondIsHeard, UndefinedEnds, KillEnds, KillIsTold, EndIsTold, NameIsServed, LateLinkFails, LateLinkEnds, ItWaits, ThenItIsGone};
 
@@ -87,4 +88,15 @@ pub fn late_links_fail()
 pub fn signals_come_first()
     ensures waits { ItWaits }
     ensures gone { ThenItIsGone }
+{}
+
+/// A receive takes the oldest message that it selects; where there is none, it waits, or comes to its
+/// timeout.
+#[tactic(auto, unfolding(crate::specs::World::contents))]
+pub fn receives_select()
+    ensures waits { WaitsForIts }
+    ensures first { TakesItsFirst }
+    ensures other { TakesTheOther }
+    ensures older { TakesTheOlder }
+    ensures timeout { ComesToTimeout }
 {}
