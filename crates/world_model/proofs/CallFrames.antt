@@ -1,0 +1,96 @@
+-- The law of frames of each call: contents that agree on what its line reads give it the same line.
+use Rattle.std.proofs.Common.{◌∙◌, refl, ap, subst}
+use Rattle.std.specs.Prelude.{if◌then◌else◌, ◌≡◌, ◌∷◌, Bool, true, false, Option, None, Some, [], List, codes}
+use Rattle.term_core.specs.Meaning.{Meaning}
+use Rattle.world_model.specs.Calls.{Call, Spawn, Send, ToNobody, ToProcess, ToName, SendExit, Link, Unlink, Monitor, Demonitor, Flag, Register, Unregister, WhereIs, IsAlive, MakeRef, New, OnTable, Misfit}
+use Rattle.world_model.specs.Cells.{Contents, TableName, Holder, Machine, Trap, Alive, Front, Tail}
+use Rattle.world_model.specs.Changes.{Traps}
+use Rattle.world_model.specs.Events.{Message, Exit}
+use Rattle.world_model.specs.Frames.{AgreeOn}
+use Rattle.world_model.specs.Lines.{line}
+use Rattle.world_model.specs.Names.{Pid, same_pid, Name, Ref}
+use Rattle.world_model.specs.NewTables.{name_taken, new_reads, new_rule, new_line}
+use Rattle.world_model.specs.ProcessLines.{sent, read_of_target, exited, holder_read, sent_to_holder, unregister_line, register_line, spawn_line, serves, serves_unless, unless_held, link_line, link_way, monitor_line, ref_of, badarg, demonitor_reads, demonitor_line}
+use Rattle.world_model.specs.Signals.{put_if}
+use Rattle.world_model.specs.Tables.{TableOption, is_named}
+use Rattle.world_model.specs.Terms.{ok, truth, process_or, reference}
+use Rattle.world_model.specs.declared.rule.Rule.{Rule}
+use Rattle.world_model.proofs.TableFrames.{on_table_framed}
+
+-- ---- signals that are put
+
+sent_framed : (v w : Contents) (p to : Pid) (m : Meaning) (b : Bool) → AgreeOn v w (read_of_target b p to) → sent b v p to m ≡ sent b w p to m
+sent_framed v w p to m true agree = refl
+sent_framed v w p to m false agree = λ i. put_if (agree.0.0 i) p to (Message m)
+
+exited_framed : (v w : Contents) (p to : Pid) (r : Meaning) (b : Bool) → AgreeOn v w (read_of_target b p to) → exited b v p to r ≡ exited b w p to r
+exited_framed v w p to r true agree = refl
+exited_framed v w p to r false agree = λ i. put_if (agree.0.0 i) p to (Exit r)
+
+holder_framed : (v w : Contents) (p : Pid) (o : Option Pid) (m : Meaning) → AgreeOn v w (holder_read p o) → sent_to_holder v p o m ≡ sent_to_holder w p o m
+holder_framed v w p None m agree = refl
+holder_framed v w p (Some to) m agree = sent_framed v w p to m (same_pid p to) agree
+
+-- ---- names
+
+taken_framed : (v w : Contents) (name : Name) (b : Bool) → AgreeOn v w (if b then TableName name ∷ [] else []) → name_taken b (v (TableName name)) ≡ name_taken b (w (TableName name))
+taken_framed v w name true agree = ap (name_taken true) agree.0.0
+taken_framed v w name false agree = refl
+
+new_framed : (v w : Contents) (name : Name) (options : Option (List TableOption)) → AgreeOn v w (new_reads name options) → new_rule options (v (TableName name)) ≡ new_rule options (w (TableName name))
+new_framed v w name None agree = refl
+new_framed v w name (Some os) agree = taken_framed v w name (is_named os) agree
+
+new_reads_are : (p : Pid) (t : Ref) (name : Name) (options : Option (List TableOption)) (rule : Option Rule) → (new_line p t name options rule).reads ≡ new_reads name options
+new_reads_are p t name None rule = refl
+new_reads_are p t name (Some os) rule = refl
+
+-- ---- the lines
+
+-- whoever holds the name, it is read
+by_holder : (v w : Contents) (name : Name) (o : Option Pid) → AgreeOn v w (unregister_line name o).reads → v (Holder name) ≡ w (Holder name)
+by_holder v w name None agree = agree.0.0
+by_holder v w name (Some q) agree = agree.0.0
+
+unregister_framed : (v w : Contents) (name : Name) → AgreeOn v w (unregister_line name (v (Holder name))).reads → unregister_line name (v (Holder name)) ≡ unregister_line name (w (Holder name))
+unregister_framed v w name agree = ap (unregister_line name) (by_holder v w name (v (Holder name)) agree)
+
+pub call_framed : (v w : Contents) (p : Pid) (call : Call) → v (Machine p) ≡ w (Machine p) → AgreeOn v w (line v p call).reads → line v p call ≡ line w p call
+call_framed v w p (Spawn way None) machine agree = refl
+call_framed v w p (Spawn way (Some origin)) machine agree = ap (spawn_line way origin p) machine
+call_framed v w p (Send ToNobody m) machine agree = refl
+call_framed v w p (Send (ToProcess q) m) machine agree = ap (serves (read_of_target (same_pid p q) p q) m) (sent_framed v w p q m (same_pid p q) agree)
+call_framed v w p (Send (ToName name) m) machine agree =
+    let holder = agree.0.0 in
+    λ i. serves_unless (unless_held (holder i)) (Holder name ∷ holder_read p (holder i)) m ((holder_framed v w p (v (Holder name)) m agree.1 ∙ ap (λ o. sent_to_holder w p o m) holder) i)
+call_framed v w p (SendExit None reason) machine agree = refl
+call_framed v w p (SendExit (Some q) reason) machine agree = ap (serves (read_of_target (same_pid p q) p q) ok) (exited_framed v w p q reason (same_pid p q) agree)
+call_framed v w p (Link None) machine agree = refl
+call_framed v w p (Link (Some q)) machine agree = λ i. link_line p q (link_way p q (agree.1.1.0.0 i) (agree.0.0 i) (agree.1.0.0 i))
+call_framed v w p (Unlink None) machine agree = refl
+call_framed v w p (Unlink (Some q)) machine agree = refl
+call_framed v w p (Monitor is_process None) machine agree = refl
+call_framed v w p (Monitor false (Some q)) machine agree = refl
+call_framed v w p (Monitor true (Some q)) machine agree = λ i. monitor_line p q (ref_of p (machine i)) (agree.0.0 i)
+call_framed v w p (Demonitor None flushes) machine agree = refl
+call_framed v w p (Demonitor (Some ref) None) machine agree = λ i. badarg (demonitor_reads ref (agree.0.0 i))
+call_framed v w p (Demonitor (Some ref) (Some flushes)) machine agree = λ i. demonitor_line p ref flushes (agree.0.0 i)
+call_framed v w p (Flag None) machine agree = refl
+call_framed v w p (Flag (Some traps)) machine agree = λ i. serves (Trap p ∷ []) (truth (agree.0.0 i)) (Traps p traps ∷ [])
+call_framed v w p (Register None None) machine agree = refl
+call_framed v w p (Register None (Some q)) machine agree = refl
+call_framed v w p (Register (Some name) None) machine agree = refl
+call_framed v w p (Register (Some name) (Some q)) machine agree = λ i. register_line name q (agree.0.0 i) (agree.1.0.0 i) (agree.1.1.0.0 i)
+call_framed v w p (Unregister None) machine agree = refl
+call_framed v w p (Unregister (Some name)) machine agree = unregister_framed v w name agree
+call_framed v w p (WhereIs None) machine agree = refl
+call_framed v w p (WhereIs (Some name)) machine agree = λ i. serves (Holder name ∷ []) (process_or (codes "undefined") (agree.0.0 i)) []
+call_framed v w p (IsAlive None) machine agree = refl
+call_framed v w p (IsAlive (Some q)) machine agree = λ i. serves (Alive q ∷ Front p q ∷ Tail p q ∷ []) (truth (agree.0.0 i)) []
+call_framed v w p MakeRef machine agree = λ i. serves [] (reference (ref_of p (machine i))) []
+call_framed v w p (New None options) machine agree = refl
+call_framed v w p (New (Some name) options) machine agree =
+    let rule = new_framed v w name options (subst (AgreeOn v w) (new_reads_are p (ref_of p (v (Machine p))) name options (new_rule options (v (TableName name)))) agree) in
+    λ i. new_line p (ref_of p (machine i)) name options (rule i)
+call_framed v w p (OnTable argument call) machine agree = on_table_framed v w p argument call agree
+call_framed v w p Misfit machine agree = refl

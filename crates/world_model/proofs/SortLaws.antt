@@ -1,0 +1,225 @@
+-- A served call writes cells of its sorts alone.
+use Rattle.std.proofs.Common.{◌∙◌, refl, sym, ap, true≢false}
+use Rattle.std.specs.List.{list_any}
+use Rattle.std.specs.Prelude.{true, false, List, ◌∷◌, ◌==◌, ◌≡◌, ◌++◌, if◌then◌else◌, ◌||◌, ℕ, [], Bool, Option, None, Some, map}
+use Rattle.term_core.specs.Meaning.{Meaning}
+use Rattle.world_model.specs.Calls.{Call, Spawn, SpawnWay, Alone, Link, Linked, Watched, TableCall, Insert, InsertNew, New, DeleteTable, DeleteKey, DeleteObject, DeleteAll, Take, UpdateCounter, UpdateElement, GiveAway, SetOptions, Send, ToNobody, ToProcess, ToName, SendExit, Unlink, Monitor, Demonitor, Flag, Register, Unregister, WhereIs, IsAlive, MakeRef, OnTable, Misfit, First}
+use Rattle.world_model.specs.Cells.{Watch, Alive, Cell, meet, Row, Tail, Contents, Holder, Links, Trap, TableName, Machine, Mailbox, Front}
+use Rattle.world_model.specs.Changes.{Change, cell_of, Inherits, after}
+use Rattle.world_model.specs.Ends.{name_freed}
+use Rattle.world_model.specs.Events.{Exit, Signal, Message}
+use Rattle.world_model.specs.Found.{Found, find}
+use Rattle.world_model.specs.Judging.{found_line}
+use Rattle.world_model.specs.Lines.{line}
+use Rattle.world_model.specs.Names.{Name, Ref, Pid, same_pid}
+use Rattle.world_model.specs.NewTables.{new_line, new_rule}
+use Rattle.world_model.specs.Objects.{stored_at, stores, removed_at, given, one_present, keys_asked}
+use Rattle.world_model.specs.Owning.{heirs_set}
+use Rattle.world_model.specs.ProcessLines.{sent, bound, exited, sent_to_holder, LinkWay, link_changes, Stands, Pairs, PairsGone, Fails, gone_told, watch_ends, flushed, unregister_line, next_child, next_ref, link_way}
+use Rattle.world_model.specs.Requests.{Origin}
+use Rattle.world_model.specs.Rows.{Key, Object, part_at}
+use Rattle.world_model.specs.Signals.{put_if}
+use Rattle.world_model.specs.TableLines.{table_line}
+use Rattle.world_model.specs.Tables as tables
+use Rattle.world_model.specs.Tables.{Heir, is_named, TableOption}
+use Rattle.world_model.specs.World.{table}
+use Rattle.world_model.specs.declared.rule.Rule.{Rule}
+use Rattle.world_model.proofs.Commuting.{stays}
+use Rattle.world_model.proofs.Meeting.{whole, whole_same}
+use Rattle.world_model.proofs.Outcomes.{touches}
+use Rattle.world_model.proofs.Sorts.{is_among, sort_of, sorts_of, table_sorts}
+
+abbrev pub AllAmong : List ℕ → List Change → Type 0
+AllAmong sorts [] = Unit {0}
+AllAmong sorts (k ∷ ks) = (is_among sorts (cell_of k) ≡ true) × AllAmong sorts ks
+
+pub among_both : (sorts : List ℕ) (ks ls : List Change) → AllAmong sorts ks → AllAmong sorts ls → AllAmong sorts (ks ++ ls)
+among_both sorts [] ls first second = second
+among_both sorts (k ∷ ks) ls first second = (first.0, among_both sorts ks ls first.1 second)
+
+pub among_if : (sorts : List ℕ) (b : Bool) (ks ls : List Change) → AllAmong sorts ks → AllAmong sorts ls → AllAmong sorts (if b then ks else ls)
+among_if sorts true ks ls first second = first
+among_if sorts false ks ls first second = second
+
+-- cells that meet are of one sort
+sort_of_whole : (c : Cell) → sort_of (whole c) ≡ sort_of c
+sort_of_whole (Row t k) = refl
+sort_of_whole c = refl
+
+pub sorts_same : (a b : Cell) → meet a b ≡ true → sort_of a ≡ sort_of b
+sorts_same a b e = sym (sort_of_whole a) ∙ ap sort_of (whole_same a b e) ∙ sort_of_whole b
+
+other_cell : (sorts : List ℕ) (k : Change) (c : Cell) (b : Bool) → meet (cell_of k) c ≡ b → is_among sorts (cell_of k) ≡ true → is_among sorts c ≡ false → b ≡ false
+other_cell sorts k c true same here other = absurd (true≢false (sym here ∙ ap (λ x. list_any (λ n. n == x) sorts) (sorts_same (cell_of k) c same) ∙ other))
+other_cell sorts k c false same here other = refl
+
+pub untouched_by : (sorts : List ℕ) (ks : List Change) (c : Cell) → AllAmong sorts ks → is_among sorts c ≡ false → touches ks c ≡ false
+untouched_by sorts [] c all other = refl
+untouched_by sorts (k ∷ ks) c all other = ap (λ b. b || touches ks c) (other_cell sorts k c (meet (cell_of k) c) refl all.0 other) ∙ untouched_by sorts ks c all.1 other
+
+-- ---- the calls
+
+bound_among : (way : SpawnWay) (p child : Pid) (ref : Ref) (origin : Option Origin) → AllAmong (sorts_of (Spawn way origin)) (bound way p child ref)
+bound_among Alone p child ref origin = tt
+bound_among Linked p child ref origin = (refl, (refl, tt))
+bound_among Watched p child ref origin = (refl, (refl, tt))
+
+pub put_among : (sorts : List ℕ) (b : Bool) (s r : Pid) (x : Signal) → is_among sorts (Tail s r) ≡ true → AllAmong sorts (put_if b s r x)
+put_among sorts true s r x is = (is, tt)
+put_among sorts false s r x is = tt
+
+sent_among : (b : Bool) (v : Contents) (p to : Pid) (m : Meaning) → AllAmong (3 ∷ 5 ∷ []) (sent b v p to m)
+sent_among true v p to m = (refl, tt)
+sent_among false v p to m = put_among (3 ∷ 5 ∷ []) (v (Alive to)) p to (Message m) refl
+
+exited_among : (b : Bool) (v : Contents) (p to : Pid) (m : Meaning) → AllAmong (3 ∷ 5 ∷ []) (exited b v p to m)
+exited_among true v p to m = (refl, tt)
+exited_among false v p to m = put_among (3 ∷ 5 ∷ []) (v (Alive to)) p to (Exit m) refl
+
+holder_among : (v : Contents) (p : Pid) (o : Option Pid) (m : Meaning) → AllAmong (3 ∷ 5 ∷ []) (sent_to_holder v p o m)
+holder_among v p None m = tt
+holder_among v p (Some to) m = sent_among (same_pid p to) v p to m
+
+link_among : (p q : Pid) (way : LinkWay) → AllAmong (6 ∷ 5 ∷ []) (link_changes p q way)
+link_among p q Stands = (refl, (refl, tt))
+link_among p q Pairs = (refl, (refl, tt))
+link_among p q PairsGone = (refl, (refl, (refl, tt)))
+link_among p q Fails = tt
+
+gone_among : (b : Bool) (p q : Pid) (ref : Ref) → AllAmong (8 ∷ 7 ∷ 5 ∷ []) (gone_told b p q ref)
+gone_among true p q ref = tt
+gone_among false p q ref = (refl, tt)
+
+watch_among : (p : Pid) (ref : Ref) (o : Option Pid) → AllAmong (8 ∷ 7 ∷ 3 ∷ []) (watch_ends p ref o)
+watch_among p ref None = (refl, tt)
+watch_among p ref (Some q) = among_if (8 ∷ 7 ∷ 3 ∷ []) (same_pid ref.pid p) _ _ (refl, (refl, tt)) (refl, (refl, tt))
+
+flushed_among : (b : Bool) (p : Pid) (ref : Ref) → AllAmong (8 ∷ 7 ∷ 3 ∷ []) (flushed b p ref)
+flushed_among true p ref = (refl, tt)
+flushed_among false p ref = tt
+
+unregistered_among : (n : Name) (o : Option Pid) → AllAmong (9 ∷ 10 ∷ []) (unregister_line n o).changes
+unregistered_among n None = tt
+unregistered_among n (Some q) = (refl, (refl, tt))
+
+stored_among : (f : Found) (o : Object) (k : Option Key) → AllAmong (14 ∷ []) (stored_at f o k)
+stored_among f o None = tt
+stored_among f o (Some k) = (refl, tt)
+
+stores_among : (f : Found) (os : List Object) → AllAmong (14 ∷ []) (stores f os)
+stores_among f [] = tt
+stores_among f (o ∷ os) = among_both (14 ∷ []) (stored_at f o (part_at f.table.position o)) (stores f os) (stored_among f o (part_at f.table.position o)) (stores_among f os)
+
+removed_among : (f : Found) (o : Object) (k : Option Key) → AllAmong (14 ∷ []) (removed_at f o k)
+removed_among f o None = tt
+removed_among f o (Some k) = (refl, tt)
+
+heirs_among : (t : Ref) (hs : List Heir) → AllAmong (12 ∷ []) (map (Inherits t) hs)
+heirs_among t [] = tt
+heirs_among t (h ∷ hs) = (refl, heirs_among t hs)
+
+set_among : (t : Ref) (hs : List Heir) → AllAmong (12 ∷ []) (heirs_set t hs)
+set_among t [] = (refl, tt)
+set_among t (h ∷ hs) = heirs_among t (h ∷ hs)
+
+freed_among : (table : tables.Table) → AllAmong (12 ∷ 14 ∷ 13 ∷ 11 ∷ []) (name_freed table)
+freed_among table = among_if (12 ∷ 14 ∷ 13 ∷ 11 ∷ []) table.is_named _ _ (refl, tt) tt
+
+pub table_among : (v : Contents) (p : Pid) (f : Found) (call : TableCall) → AllAmong (table_sorts call) (table_line v p f call).changes
+table_among v p f (Insert objects) = stores_among f (given objects)
+table_among v p f (InsertNew objects) = among_if (14 ∷ []) (one_present v f.ref (keys_asked p f objects)) [] (stores f (given objects)) tt (stores_among f (given objects))
+table_among v p f DeleteTable = (refl, (refl, (refl, freed_among f.table)))
+table_among v p f (DeleteKey key) = (refl, tt)
+table_among v p f (DeleteObject None) = tt
+table_among v p f (DeleteObject (Some o)) = removed_among f o (part_at f.table.position o)
+table_among v p f DeleteAll = (refl, tt)
+table_among v p f (Take key) = (refl, tt)
+table_among v p f (UpdateCounter key increment) = (refl, tt)
+table_among v p f (UpdateElement key None) = tt
+table_among v p f (UpdateElement key (Some change)) = (refl, tt)
+table_among v p f (GiveAway None gift_) = tt
+table_among v p f (GiveAway (Some to) gift_) = (refl, (refl, (refl, (refl, tt))))
+table_among v p f (SetOptions None) = (refl, tt)
+table_among v p f (SetOptions (Some hs)) = set_among f.ref hs
+table_among v p f call = tt
+
+found_among : (v : Contents) (p : Pid) (call : TableCall) (o : Option Found) → AllAmong (table_sorts call) (found_line v p call o).changes
+found_among v p call None = tt
+found_among v p call (Some f) = table_among v p f call
+
+made_among : (p : Pid) (t : Ref) (name : Name) (options : Option (List TableOption)) (rule : Option Rule) → AllAmong (12 ∷ 11 ∷ 13 ∷ []) (new_line p t name options rule).changes
+made_among p t name None rule = tt
+made_among p t name (Some os) rule = (refl, (refl, among_if (12 ∷ 11 ∷ 13 ∷ []) (is_named os) _ _ (refl, tt) tt))
+
+pub call_among : (v : Contents) (p : Pid) (call : Call) → AllAmong (sorts_of call) (line v p call).changes
+call_among v p (Spawn way None) = tt
+call_among v p (Spawn way (Some origin)) = (refl, (refl, bound_among way p (next_child v p) (next_ref v p) (Some origin)))
+call_among v p (Send ToNobody m) = tt
+call_among v p (Send (ToProcess q) m) = sent_among (same_pid p q) v p q m
+call_among v p (Send (ToName name) m) = holder_among v p (v (Holder name)) m
+call_among v p (SendExit None reason) = tt
+call_among v p (SendExit (Some q) reason) = exited_among (same_pid p q) v p q reason
+call_among v p (Link None) = tt
+call_among v p (Link (Some q)) = link_among p q (link_way p q (v (Links p)) (v (Alive q)) (v (Trap p)))
+call_among v p (Unlink None) = tt
+call_among v p (Unlink (Some q)) = (refl, (refl, tt))
+call_among v p (Monitor is_process None) = tt
+call_among v p (Monitor false (Some q)) = tt
+call_among v p (Monitor true (Some q)) = (refl, (refl, gone_among (v (Alive q)) p q (next_ref v p)))
+call_among v p (Demonitor None flushes) = tt
+call_among v p (Demonitor (Some ref) None) = tt
+call_among v p (Demonitor (Some ref) (Some flushes)) = among_both (8 ∷ 7 ∷ 3 ∷ []) (watch_ends p ref (v (Watch ref))) (flushed flushes p ref) (watch_among p ref (v (Watch ref))) (flushed_among flushes p ref)
+call_among v p (Flag None) = tt
+call_among v p (Flag (Some b)) = (refl, tt)
+call_among v p (Register None None) = tt
+call_among v p (Register None (Some q)) = tt
+call_among v p (Register (Some n) None) = tt
+call_among v p (Register (Some n) (Some q)) = (refl, (refl, tt))
+call_among v p (Unregister None) = tt
+call_among v p (Unregister (Some n)) = unregistered_among n (v (Holder n))
+call_among v p (WhereIs None) = tt
+call_among v p (WhereIs (Some n)) = tt
+call_among v p (IsAlive None) = tt
+call_among v p (IsAlive (Some q)) = tt
+call_among v p MakeRef = tt
+call_among v p (New None options) = tt
+call_among v p (New (Some name) options) = made_among p (next_ref v p) name options (new_rule options (v (TableName name)))
+call_among v p (OnTable argument call) = found_among v p call (find v argument)
+call_among v p Misfit = tt
+
+-- so a cell of another sort contains what it did
+pub call_leaves : (v w : Contents) (p : Pid) (call : Call) (c : Cell) → is_among (sorts_of call) c ≡ false → after (line v p call).changes w c ≡ w c
+call_leaves v w p call c other = stays (line v p call).changes w c (untouched_by (sorts_of call) (line v p call).changes c (call_among v p call) other)
+
+-- a call of a table takes no life, sets no flag, and so on
+pub no_life : (call : TableCall) (q : Pid) → is_among (table_sorts call) (Alive q) ≡ false
+no_life First q = refl
+no_life call q = refl
+
+pub no_flag : (call : TableCall) (q : Pid) → is_among (table_sorts call) (Trap q) ≡ false
+no_flag First q = refl
+no_flag call q = refl
+
+pub no_course : (call : TableCall) (q : Pid) → is_among (table_sorts call) (Machine q) ≡ false
+no_course First q = refl
+no_course call q = refl
+
+pub no_mail : (call : TableCall) (q : Pid) → is_among (table_sorts call) (Mailbox q) ≡ false
+no_mail First q = refl
+no_mail call q = refl
+
+pub no_link : (call : TableCall) (q : Pid) → is_among (table_sorts call) (Links q) ≡ false
+no_link First q = refl
+no_link call q = refl
+
+pub no_watch : (call : TableCall) (ref : Ref) → is_among (table_sorts call) (Watch ref) ≡ false
+no_watch First ref = refl
+no_watch call ref = refl
+
+pub no_holder : (call : TableCall) (n : Name) → is_among (table_sorts call) (Holder n) ≡ false
+no_holder First n = refl
+no_holder call n = refl
+
+pub no_front : (call : TableCall) (s r : Pid) → is_among (table_sorts call) (Front s r) ≡ false
+no_front First s r = refl
+no_front call s r = refl

@@ -1,0 +1,221 @@
+-- The calls as they are understood: which call, and what each argument is. An argument that is not of its kind is None.
+use Rattle.std.specs.Prelude.{None, ℕ, ℤ, Bool, true, false, List, [], ◌∷◌, Option, Some, option_map, option_and_then, if◌then◌else◌, codes}
+use Rattle.term_core.specs.Meaning.{Meaning}
+use Rattle.core_tree.specs.declared.call.CallKind.{CallKind}
+use Rattle.core_tree.specs.declared.call.CallKind.TheVariants as kinds
+use Rattle.world_model.specs.Names.{Name, Pid, Ref}
+use Rattle.world_model.specs.Requests.{Origin, Spawned}
+use Rattle.world_model.specs.Rows.{Key, Object}
+use Rattle.world_model.specs.Tables.{Heir, TableOption, options_of, heirs_of, found_beside}
+use Rattle.world_model.specs.Terms.{atom_in, process_in, reference_in, integer_in, boolean_in, parts_in, items_in, each_in, is_atom, position_of, positive_in}
+use Rattle.world_model.specs.declared.table.Item.{Item}
+use Rattle.world_model.specs.declared.table.Item.TheVariants as items
+
+-- what a spawn adds: nothing, a link, or a watch
+pub data SpawnWay : Type 0 where
+  Alone : SpawnWay
+  Linked : SpawnWay
+  Watched : SpawnWay
+
+-- whom a message is for: a process, the holder of a name, or nobody
+pub data Destination : Type 0 where
+  ToProcess : (q : Pid) → Destination
+  ToName : (name : Name) → Destination
+  ToNobody : Destination
+
+-- by what a table is called: a name, a reference, or what is neither
+pub data TableArgument : Type 0 where
+  ByName : (name : Name) → TableArgument
+  ByReference : (t : Ref) → TableArgument
+  ByNothing : TableArgument
+
+-- what `update_counter/3` adds: an integer behind the key, an integer at a position, or what is neither
+pub data Increment : Type 0 where
+  Behind : (n : ℤ) → Increment
+  AtPlace : (position : ℕ) (n : ℤ) → Increment
+  NotGiven : Increment
+
+-- a call with a table argument (Erlang manual, module `ets`)
+pub data TableCall : Type 0 where
+  Lookup : (key : Key) → TableCall
+  Member : (key : Key) → TableCall
+  LookupElement : (key : Key) (position : Option ℕ) → TableCall
+  First : TableCall
+  Last : TableCall
+  Next : (key : Key) → TableCall
+  Prev : (key : Key) → TableCall
+  ToList : TableCall
+  Insert : (objects : Option (List Object)) → TableCall
+  InsertNew : (objects : Option (List Object)) → TableCall
+  DeleteTable : TableCall
+  DeleteKey : (key : Key) → TableCall
+  DeleteObject : (object : Option Object) → TableCall
+  DeleteAll : TableCall
+  Take : (key : Key) → TableCall
+  UpdateCounter : (key : Key) (increment : Increment) → TableCall
+  UpdateElement : (key : Key) (change : Option (ℕ × Meaning)) → TableCall
+  GiveAway : (to : Option Pid) (gift : Meaning) → TableCall
+  SetOptions : (heirs : Option (List Heir)) → TableCall
+  Info : (item : Option Item) → TableCall
+
+-- a call of the world (Erlang manual, module `erlang`; the last two lines module `ets`)
+pub data Call : Type 0 where
+  Spawn : (way : SpawnWay) (origin : Option Origin) → Call
+  Send : (to : Destination) (message : Meaning) → Call
+  SendExit : (to : Option Pid) (reason : Meaning) → Call
+  Link : (to : Option Pid) → Call
+  Unlink : (from : Option Pid) → Call
+  -- whether the first argument is `'process'`
+  Monitor : (is_process : Bool) (whom : Option Pid) → Call
+  -- whether the message goes too, if the options are such
+  Demonitor : (ref : Option Ref) (flushes : Option Bool) → Call
+  -- the value, if the flag is `'trap_exit'` and the value a boolean
+  Flag : (traps : Option Bool) → Call
+  Register : (name : Option Name) (whom : Option Pid) → Call
+  Unregister : (name : Option Name) → Call
+  WhereIs : (name : Option Name) → Call
+  IsAlive : (whom : Option Pid) → Call
+  MakeRef : Call
+  New : (name : Option Name) (options : Option (List TableOption)) → Call
+  OnTable : (argument : TableArgument) (call : TableCall) → Call
+  -- a call with another number of arguments than it has: no module that is read asks one
+  Misfit : Call
+
+-- ---- arguments of processes
+
+abbrev pub origin_of : Option Name → Option Name → Option (List Meaning) → Option Origin
+origin_of (Some module_name) (Some function_name) (Some arguments) = Some (Spawned module_name function_name arguments)
+origin_of m f arguments = None
+
+abbrev pub destination_by : Option Pid → Option Name → Destination
+destination_by (Some q) name = ToProcess q
+destination_by None (Some name) = ToName name
+destination_by None None = ToNobody
+
+abbrev pub destination_of : Meaning → Destination
+destination_of m = destination_by (process_in m) (atom_in m)
+
+-- `[]`, or a list of `'flush'`
+abbrev pub flush_in : Meaning → Option Unit
+flush_in m = if is_atom (codes "flush") m then Some tt else None
+
+abbrev pub has_items : {A : Type 0} → List A → Bool
+has_items [] = false
+has_items (x ∷ xs) = true
+
+abbrev pub flushes_of : Meaning → Option Bool
+flushes_of options = option_map has_items (each_in flush_in options)
+
+abbrev pub flag_of : Meaning → Meaning → Option Bool
+flag_of flag value = if is_atom (codes "trap_exit") flag then boolean_in value else None
+
+-- ---- arguments of tables
+
+abbrev pub argument_by : Option Name → Option Ref → TableArgument
+argument_by (Some name) ref = ByName name
+argument_by None (Some ref) = ByReference ref
+argument_by None None = ByNothing
+
+abbrev pub argument_of : Meaning → TableArgument
+argument_of m = argument_by (atom_in m) (reference_in m)
+
+-- one tuple, or a proper list of tuples
+abbrev pub objects_by : Meaning → Option Object → Option (List Object)
+objects_by m (Some object) = Some (object ∷ [])
+objects_by m None = each_in parts_in m
+
+abbrev pub objects_of : Meaning → Option (List Object)
+objects_of m = objects_by m (parts_in m)
+
+-- an integer, or a pair of integers
+abbrev pub increment_at : Option ℤ → Option ℤ → Increment
+increment_at (Some position) (Some n) = AtPlace (position_of position) n
+increment_at position n = NotGiven
+
+abbrev pub increment_of_parts : List Meaning → Increment
+increment_of_parts (position ∷ n ∷ []) = increment_at (integer_in position) (integer_in n)
+increment_of_parts parts = NotGiven
+
+abbrev pub increment_by : Option ℤ → Option (List Meaning) → Increment
+increment_by (Some n) parts = Behind n
+increment_by None (Some parts) = increment_of_parts parts
+increment_by None None = NotGiven
+
+abbrev pub increment_of : Meaning → Increment
+increment_of m = increment_by (integer_in m) (parts_in m)
+
+-- a pair with an integer first: where, and what is to be there
+abbrev pub change_of_parts : List Meaning → Option (ℕ × Meaning)
+change_of_parts (position ∷ value ∷ []) = option_map (λ n. (position_of n, value)) (integer_in position)
+change_of_parts parts = None
+
+abbrev pub change_of : Meaning → Option (ℕ × Meaning)
+change_of m = option_and_then change_of_parts (parts_in m)
+
+-- the items of `info/2`
+abbrev pub known_items : List (Name × Item)
+known_items =
+    (codes "name", items.Name) ∷ (codes "type", items.Type) ∷ (codes "protection", items.Protection) ∷ (codes "owner", items.Owner)
+    ∷ (codes "size", items.Size) ∷ (codes "keypos", items.Position) ∷ (codes "heir", items.Heir) ∷ (codes "named_table", items.NamedTable) ∷ []
+
+abbrev pub item_of : Meaning → Option Item
+item_of m = option_and_then (λ text. found_beside text known_items) (atom_in m)
+
+-- ---- which call it is, by the number of its arguments
+
+abbrev pub call_of_one : CallKind → Meaning → Call
+call_of_one kinds.Link to = Link (process_in to)
+call_of_one kinds.Unlink from = Unlink (process_in from)
+call_of_one kinds.Demonitor ref = Demonitor (reference_in ref) (Some false)
+call_of_one kinds.Unregister name = Unregister (atom_in name)
+call_of_one kinds.Whereis name = WhereIs (atom_in name)
+call_of_one kinds.IsProcessAlive whom = IsAlive (process_in whom)
+call_of_one kinds.First table = OnTable (argument_of table) First
+call_of_one kinds.Last table = OnTable (argument_of table) Last
+call_of_one kinds.TableToList table = OnTable (argument_of table) ToList
+call_of_one kinds.DeleteTable table = OnTable (argument_of table) DeleteTable
+call_of_one kinds.DeleteAllObjects table = OnTable (argument_of table) DeleteAll
+call_of_one kind a = Misfit
+
+abbrev pub call_of_two : CallKind → Meaning → Meaning → Call
+call_of_two kinds.Bang to message = Send (destination_of to) message
+call_of_two kinds.Send to message = Send (destination_of to) message
+call_of_two kinds.Exit to reason = SendExit (process_in to) reason
+call_of_two kinds.Monitor type whom = Monitor (is_atom (codes "process") type) (process_in whom)
+call_of_two kinds.DemonitorWith ref options = Demonitor (reference_in ref) (flushes_of options)
+call_of_two kinds.ProcessFlag flag value = Flag (flag_of flag value)
+call_of_two kinds.Register name whom = Register (atom_in name) (process_in whom)
+call_of_two kinds.New name options = New (atom_in name) (options_of options)
+call_of_two kinds.Lookup table key = OnTable (argument_of table) (Lookup key)
+call_of_two kinds.Member table key = OnTable (argument_of table) (Member key)
+call_of_two kinds.Next table key = OnTable (argument_of table) (Next key)
+call_of_two kinds.Prev table key = OnTable (argument_of table) (Prev key)
+call_of_two kinds.Insert table objects = OnTable (argument_of table) (Insert (objects_of objects))
+call_of_two kinds.InsertNew table objects = OnTable (argument_of table) (InsertNew (objects_of objects))
+call_of_two kinds.DeleteKey table key = OnTable (argument_of table) (DeleteKey key)
+call_of_two kinds.DeleteObject table object = OnTable (argument_of table) (DeleteObject (parts_in object))
+call_of_two kinds.Take table key = OnTable (argument_of table) (Take key)
+call_of_two kinds.SetOptions table options = OnTable (argument_of table) (SetOptions (heirs_of options))
+call_of_two kinds.Info table item = OnTable (argument_of table) (Info (item_of item))
+call_of_two kind a b = Misfit
+
+abbrev pub call_of_three : CallKind → Meaning → Meaning → Meaning → Call
+call_of_three kinds.Spawn m f arguments = Spawn Alone (origin_of (atom_in m) (atom_in f) (items_in arguments))
+call_of_three kinds.SpawnLink m f arguments = Spawn Linked (origin_of (atom_in m) (atom_in f) (items_in arguments))
+call_of_three kinds.SpawnMonitor m f arguments = Spawn Watched (origin_of (atom_in m) (atom_in f) (items_in arguments))
+call_of_three kinds.LookupElement table key position = OnTable (argument_of table) (LookupElement key (positive_in position))
+call_of_three kinds.UpdateCounter table key increment = OnTable (argument_of table) (UpdateCounter key (increment_of increment))
+call_of_three kinds.UpdateElement table key change = OnTable (argument_of table) (UpdateElement key (change_of change))
+call_of_three kinds.GiveAway table to gift = OnTable (argument_of table) (GiveAway (process_in to) gift)
+call_of_three kind a b c = Misfit
+
+abbrev pub call_of_none : CallKind → Call
+call_of_none kinds.MakeRef = MakeRef
+call_of_none kind = Misfit
+
+abbrev pub call_of : CallKind → List Meaning → Call
+call_of kind [] = call_of_none kind
+call_of kind (a ∷ []) = call_of_one kind a
+call_of kind (a ∷ b ∷ []) = call_of_two kind a b
+call_of kind (a ∷ b ∷ c ∷ []) = call_of_three kind a b c
+call_of kind (a ∷ b ∷ c ∷ d ∷ more) = Misfit

@@ -1,0 +1,65 @@
+-- The calls line by line: why each is refused, and where it is not its answer and its changes; and the cells that it reads (Erlang manual, module `erlang`; `new/2` and the calls of tables module `ets`).
+use Rattle.std.specs.Prelude.{◌∷◌, None, [], Some, false, true, codes}
+use Rattle.world_model.specs.Calls.{Link, New, Call, Spawn, Send, ToNobody, ToProcess, ToName, SendExit, Unlink, Monitor, Demonitor, Flag, Register, Unregister, WhereIs, IsAlive, MakeRef, OnTable, Misfit}
+use Rattle.world_model.specs.Cells.{Alive, Contents, Machine, Holder, Links, Trap, Watch, NameOf, Front, Tail, TableName}
+use Rattle.world_model.specs.Changes.{Traps}
+use Rattle.world_model.specs.Events.{ByRule}
+use Rattle.world_model.specs.Judging.{on_table_line}
+use Rattle.world_model.specs.Names.{Pid, same_pid}
+use Rattle.world_model.specs.NewTables.{new_line, new_rule}
+use Rattle.world_model.specs.ProcessLines.{CallLine, badarg, spawn_line, serves, read_of_target, sent, serves_unless, unless_held, holder_read, sent_to_holder, exited, link_line, link_way, monitor_line, ref_of, demonitor_reads, demonitor_line, register_line, unregister_line}
+use Rattle.world_model.specs.Signals.{pair_goes}
+use Rattle.world_model.specs.Terms.{ok, truth, process_or, reference}
+use Rattle.world_model.specs.declared.rule.Rule.TheVariants.{BadName}
+
+-- a spawn needs a module, a function and a proper list of arguments; what is no exported function ends at once
+abbrev pub line : Contents → Pid → Call → CallLine
+-- spawn/3, spawn_link/3, spawn_monitor/3
+line v p (Spawn way None) = badarg []
+line v p (Spawn way (Some origin)) = spawn_line way origin p (v (Machine p))
+-- '!'/2, send/2
+line v p (Send ToNobody message) = badarg []
+line v p (Send (ToProcess q) message) = serves (read_of_target (same_pid p q) p q) message (sent (same_pid p q) v p q message)
+line v p (Send (ToName name) message) = serves_unless (unless_held (v (Holder name))) (Holder name ∷ holder_read p (v (Holder name))) message (sent_to_holder v p (v (Holder name)) message)
+-- exit/2
+line v p (SendExit None reason) = badarg []
+line v p (SendExit (Some q) reason) = serves (read_of_target (same_pid p q) p q) ok (exited (same_pid p q) v p q reason)
+-- link/1
+line v p (Link None) = badarg []
+line v p (Link (Some q)) = link_line p q (link_way p q (v (Links p)) (v (Alive q)) (v (Trap p)))
+-- unlink/1
+line v p (Unlink None) = badarg []
+line v p (Unlink (Some q)) = serves (Alive q ∷ []) ok (pair_goes p q)
+-- monitor/2
+line v p (Monitor is_process None) = badarg []
+line v p (Monitor false (Some q)) = badarg (Alive q ∷ [])
+line v p (Monitor true (Some q)) = monitor_line p q (ref_of p (v (Machine p))) (v (Alive q))
+-- demonitor/1, demonitor/2
+line v p (Demonitor None flushes) = badarg []
+line v p (Demonitor (Some ref) None) = badarg (demonitor_reads ref (v (Watch ref)))
+line v p (Demonitor (Some ref) (Some flushes)) = demonitor_line p ref flushes (v (Watch ref))
+-- process_flag/2
+line v p (Flag None) = badarg []
+line v p (Flag (Some traps)) = serves (Trap p ∷ []) (truth (v (Trap p))) (Traps p traps ∷ [])
+-- register/2
+line v p (Register None None) = badarg []
+line v p (Register None (Some q)) = badarg (Alive q ∷ NameOf q ∷ [])
+line v p (Register (Some name) None) = badarg (Holder name ∷ [])
+line v p (Register (Some name) (Some q)) = register_line name q (v (Alive q)) (v (Holder name)) (v (NameOf q))
+-- unregister/1
+line v p (Unregister None) = badarg []
+line v p (Unregister (Some name)) = unregister_line name (v (Holder name))
+-- whereis/1
+line v p (WhereIs None) = badarg []
+line v p (WhereIs (Some name)) = serves (Holder name ∷ []) (process_or (codes "undefined") (v (Holder name))) []
+-- is_process_alive/1, which waits as said with its turn
+line v p (IsAlive None) = badarg []
+line v p (IsAlive (Some q)) = serves (Alive q ∷ Front p q ∷ Tail p q ∷ []) (truth (v (Alive q))) []
+-- make_ref/0
+line v p MakeRef = serves [] (reference (ref_of p (v (Machine p)))) []
+-- ets: new/2
+line v p (New None options) = serves_unless (Some (ByRule BadName None)) [] ok []
+line v p (New (Some name) options) = new_line p (ref_of p (v (Machine p))) name options (new_rule options (v (TableName name)))
+-- ets: the calls with a table argument
+line v p (OnTable argument call) = on_table_line v p argument call
+line v p Misfit = badarg []

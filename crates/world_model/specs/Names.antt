@@ -1,0 +1,36 @@
+-- Names: of processes, of what they create, and those that programs give; and when two are the same.
+use Rattle.std.specs.Ordering.{eq_by_cmp}
+use Rattle.std.specs.Prelude.{◌≡◌, ◌∷◌, ◌⊎◌, ℕ, Bool, List, bytes_eq, ◌==◌, ◌&&◌, []}
+use Rattle.term_core.specs.Meaning.{Meaning}
+use Rattle.term_core.specs.Order.{order_of_terms}
+use Rattle.term_core.specs.declared.pid.RefId.{RefId}
+
+-- a process: the first is [], and what request k of process p spawns is p with k at its end
+abbrev pub Pid : Type 0
+Pid = List ℕ
+
+-- what a process created, a table, a watch or a bare reference: the process and the number of its request
+abbrev pub Ref : Type 0
+Ref = RefId
+
+-- a name that a program gives: the text of an atom
+abbrev pub Name : Type 0
+Name = List ℕ
+
+abbrev pub same_pid : Pid → Pid → Bool
+same_pid p q = bytes_eq p q
+
+abbrev pub same_name : Name → Name → Bool
+same_name a b = bytes_eq a b
+
+abbrev pub same_ref : Ref → Ref → Bool
+same_ref a b = same_pid a.pid b.pid && a.number == b.number
+
+-- two terms are the same where neither comes before the other (Erlang reference manual, "Term Comparisons")
+abbrev pub same_term : Meaning → Meaning → Bool
+same_term a b = eq_by_cmp order_of_terms a b
+
+-- whether something is one of several
+abbrev pub IsAmong : {A : Type 0} → A → List A → Type 0
+IsAmong x [] = ⊥
+IsAmong x (y ∷ ys) = (y ≡ x) ⊎ IsAmong x ys

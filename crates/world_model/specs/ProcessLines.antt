@@ -1,0 +1,169 @@
+-- What a line of the calls is, and the parts of the lines of processes, each of the values that it reads (Erlang manual, module `erlang`).
+use Rattle.std.specs.List.{list_any}
+use Rattle.std.specs.Prelude.{List, ◌++◌, if◌then◌else◌, ◌+◌, ◌&&◌, ◌∷◌, ◌||◌, Option, None, Some, [], ℕ, not, Bool, codes, true, false, is_some}
+use Rattle.term_core.specs.Meaning.{Meaning}
+use Rattle.world_model.specs.Calls.{SpawnWay, Alone, Linked, Watched}
+use Rattle.world_model.specs.Cells.{Cell, Watch, Course, Contents, Machine, Trap, Alive, Links, Watchers, Holder, NameOf}
+use Rattle.world_model.specs.Changes.{Change, Joins, Watches, Draws, Begins, Lives, Mails, Touches, Puts, Unwatches, Sheds, Flushes, Holds, Bears, Vacates, Bares}
+use Rattle.world_model.specs.Ends.{alive_if}
+use Rattle.world_model.specs.Events.{Refusal, Badarg, Message, Exit, NoProcess, LinkExit, Down}
+use Rattle.world_model.specs.Names.{Name, Ref, Pid, same_pid, same_name}
+use Rattle.world_model.specs.Requests.{Origin}
+use Rattle.world_model.specs.Signals.{put_if, exit_message}
+use Rattle.world_model.specs.Terms.{process, ok, tuple, reference, atom}
+
+pub record CallLine : Type 0 where
+  pub refusal : Option Refusal
+  pub answer : Meaning
+  pub changes : List Change
+  pub reads : List Cell
+
+-- a line that is always served
+abbrev pub serves : List Cell → Meaning → List Change → CallLine
+serves reads answer changes = record { refusal = None; answer = answer; changes = changes; reads = reads }
+
+-- a line that may be refused
+abbrev pub serves_unless : Option Refusal → List Cell → Meaning → List Change → CallLine
+serves_unless refusal reads answer changes = record { refusal = refusal; answer = answer; changes = changes; reads = reads }
+
+-- a line that is always refused
+abbrev pub badarg : List Cell → CallLine
+badarg reads = record { refusal = Some Badarg; answer = ok; changes = []; reads = reads }
+
+-- ---- names of what a process creates
+
+-- the next number of a process
+abbrev pub next_number : Course → ℕ
+next_number course = course.turns + 1
+
+abbrev pub child_of : Pid → Course → Pid
+child_of p course = p ++ (next_number course ∷ [])
+
+abbrev pub ref_of : Pid → Course → Ref
+ref_of p course = record { pid = p; number = next_number course }
+
+abbrev pub next_child : Contents → Pid → Pid
+next_child v p = child_of p (v (Machine p))
+
+abbrev pub next_ref : Contents → Pid → Ref
+next_ref v p = ref_of p (v (Machine p))
+
+-- ---- spawn
+
+abbrev pub pair_begins : Pid → Pid → List Change
+pair_begins p q = Joins p q ∷ Joins q p ∷ []
+
+abbrev pub watch_begins : Ref → Pid → List Change
+watch_begins ref q = Watches ref q ∷ Draws q ref ∷ []
+
+abbrev pub bound : SpawnWay → Pid → Pid → Ref → List Change
+bound Alone p child ref = []
+bound Linked p child ref = pair_begins p child
+bound Watched p child ref = watch_begins ref child
+
+abbrev pub child_told : SpawnWay → Pid → Ref → Meaning
+child_told Alone child ref = process child
+child_told Linked child ref = process child
+child_told Watched child ref = tuple (process child ∷ reference ref ∷ [])
+
+abbrev pub spawn_line : SpawnWay → Origin → Pid → Course → CallLine
+spawn_line way origin p course = serves [] (child_told way (child_of p course) (ref_of p course)) (Begins (child_of p course) origin ∷ Lives (child_of p course) ∷ bound way p (child_of p course) (ref_of p course))
+
+-- ---- signals to another, and to oneself, where they take effect at once
+
+abbrev pub read_of_target : Bool → Pid → Pid → List Cell
+read_of_target is_own p to = if is_own then Trap p ∷ [] else Alive to ∷ []
+
+abbrev pub sent : Bool → Contents → Pid → Pid → Meaning → List Change
+sent is_own v p to message = if is_own then Mails p message ∷ [] else put_if (v (Alive to)) p to (Message message)
+
+-- a send to a name
+abbrev pub sent_to_holder : Contents → Pid → Option Pid → Meaning → List Change
+sent_to_holder v p None message = []
+sent_to_holder v p (Some to) message = sent (same_pid p to) v p to message
+
+abbrev pub unless_held : Option Pid → Option Refusal
+unless_held None = Some Badarg
+unless_held (Some q) = None
+
+abbrev pub holder_read : Pid → Option Pid → List Cell
+holder_read p None = []
+holder_read p (Some to) = read_of_target (same_pid p to) p to
+
+-- an exit signal to oneself that does not end its caller is a message
+abbrev pub exited : Bool → Contents → Pid → Pid → Meaning → List Change
+exited is_own v p to reason = if is_own then Mails p (exit_message p reason) ∷ [] else put_if (v (Alive to)) p to (Exit reason)
+
+-- ---- links
+
+-- what `link/1` comes to: the pair is there or it is oneself; a pair; a pair with one that is gone, which tells so; or nothing
+pub data LinkWay : Type 0 where
+  Stands : LinkWay
+  Pairs : LinkWay
+  PairsGone : LinkWay
+  Fails : LinkWay
+
+abbrev pub link_way : Pid → Pid → List Pid → Bool → Bool → LinkWay
+link_way p q partners lives traps =
+    if same_pid p q || list_any (same_pid q) partners then Stands else
+    (if lives then Pairs else
+    (if traps then PairsGone else Fails))
+
+abbrev pub noproc : Meaning
+noproc = atom (codes "noproc")
+
+abbrev pub link_refusal : LinkWay → Option Refusal
+link_refusal Stands = None
+link_refusal Pairs = None
+link_refusal PairsGone = None
+link_refusal Fails = Some NoProcess
+
+abbrev pub link_changes : Pid → Pid → LinkWay → List Change
+link_changes p q Stands = Touches (Links p) ∷ Touches (Links q) ∷ []
+link_changes p q Pairs = pair_begins p q
+link_changes p q PairsGone = pair_begins p q ++ (Puts q p (LinkExit noproc) ∷ [])
+link_changes p q Fails = []
+
+abbrev pub link_line : Pid → Pid → LinkWay → CallLine
+link_line p q way = serves_unless (link_refusal way) (Alive q ∷ Trap p ∷ Links p ∷ []) ok (link_changes p q way)
+
+-- ---- watches
+
+-- of one that is gone the message comes at once
+abbrev pub gone_told : Bool → Pid → Pid → Ref → List Change
+gone_told true p q ref = []
+gone_told false p q ref = Puts q p (Down ref noproc) ∷ []
+
+abbrev pub monitor_line : Pid → Pid → Ref → Bool → CallLine
+monitor_line p q ref lives = serves (Alive q ∷ []) (reference ref) (watch_begins ref q ++ gone_told lives p q ref)
+
+-- a watch ends if the caller made it
+abbrev pub watch_ends : Pid → Ref → Option Pid → List Change
+watch_ends p ref None = Touches (Watch ref) ∷ []
+watch_ends p ref (Some q) = if same_pid ref.pid p then Unwatches ref ∷ Sheds q ref ∷ [] else Touches (Watch ref) ∷ Touches (Watchers q) ∷ []
+
+abbrev pub flushed : Bool → Pid → Ref → List Change
+flushed false p ref = []
+flushed true p ref = Flushes p ref ∷ []
+
+abbrev pub demonitor_reads : Ref → Option Pid → List Cell
+demonitor_reads ref target = Watch ref ∷ alive_if target
+
+abbrev pub demonitor_line : Pid → Ref → Bool → Option Pid → CallLine
+demonitor_line p ref flushes target = serves (demonitor_reads ref target) ok (watch_ends p ref target ++ flushed flushes p ref)
+
+-- ---- names
+
+abbrev pub is_undefined : Name → Bool
+is_undefined name = same_name name (codes "undefined")
+
+-- the process lives, and neither has the other
+abbrev pub register_refusal : Name → Bool → Option Pid → Option Name → Option Refusal
+register_refusal name lives holder other = if lives && (not (is_undefined name) && (not (is_some holder) && not (is_some other))) then None else Some Badarg
+
+abbrev pub register_line : Name → Pid → Bool → Option Pid → Option Name → CallLine
+register_line name q lives holder other = serves_unless (register_refusal name lives holder other) (Alive q ∷ Holder name ∷ NameOf q ∷ []) ok (Holds name q ∷ Bears q name ∷ [])
+
+abbrev pub unregister_line : Name → Option Pid → CallLine
+unregister_line name None = badarg (Holder name ∷ [])
+unregister_line name (Some q) = serves (Holder name ∷ Alive q ∷ []) ok (Vacates name ∷ Bares q ∷ [])

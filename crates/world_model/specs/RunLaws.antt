@@ -1,0 +1,37 @@
+-- What holds of every history that really happens.
+use Rattle.std.specs.Prelude.{◌<◌, ◌++◌, ◌∷◌, ◌≡◌, ℕ, [], false, None, Some, true}
+use Rattle.world_model.specs.Calls.{TableArgument}
+use Rattle.world_model.specs.Cells.{TableName}
+use Rattle.world_model.specs.Events.{History}
+use Rattle.world_model.specs.Found.{Found}
+use Rattle.world_model.specs.Names.{Name, Pid, Ref}
+use Rattle.world_model.specs.Requests.{Program}
+use Rattle.world_model.specs.Run.{IsRun}
+use Rattle.world_model.specs.Tables as tables
+use Rattle.world_model.specs.World.{table, alive, turns, watched, found, contents, owner}
+
+-- ---- names do not repeat
+
+-- the names of what a process creates next, and later, are those of nothing yet
+pub record IsUnused (h : History) (p : Pid) (n : ℕ) : Type 0 where
+  pub child : alive h (p ++ (n ∷ [])) ≡ false
+  pub course : turns h (p ++ (n ∷ [])) ≡ 0
+  pub table : table h (record { pid = p; number = n }) ≡ None
+  pub watch : watched h (record { pid = p; number = n }) ≡ None
+
+abbrev pub NamesAreNew : Type 0
+NamesAreNew = (a : Program) (h : History) (p : Pid) (n : ℕ) → IsRun a h → turns h p < n → IsUnused h p n
+
+-- ---- what is found
+
+-- a name that means a table is that table's own, and it is found by it
+abbrev pub NamesMeanTheirs : Type 0
+NamesMeanTheirs = (a : Program) (h : History) (name : Name) (t : Ref) → IsRun a h → contents h (TableName name) ≡ Some t → (table_ : tables.Table) × (table h t ≡ Some table_) × (table_.is_named ≡ true) × (table_.name ≡ name)
+
+-- no two arguments find one table
+abbrev pub FindsOne : Type 0
+FindsOne = (a : Program) (h : History) (one other : TableArgument) (f g : Found) → IsRun a h → found h one ≡ Some f → found h other ≡ Some g → f.ref ≡ g.ref → one ≡ other
+
+-- each table that is found has an owner, which lives
+abbrev pub OwnersLive : Type 0
+OwnersLive = (a : Program) (h : History) (argument : TableArgument) (f : Found) → IsRun a h → found h argument ≡ Some f → (owner h f.ref ≡ Some f.table.owner) × (alive h f.table.owner ≡ true)

@@ -1,0 +1,81 @@
+-- Signals that are put, the messages that the world itself makes, and what a signal does where it takes effect (Erlang reference manual, "Processes").
+use Rattle.std.specs.List.{list_any}
+use Rattle.std.specs.Prelude.{Bool, not, ◌&&◌, List, [], ◌∷◌, Option, Some, None, is_some, if◌then◌else◌, codes, drop, false}
+use Rattle.term_core.specs.Meaning.{Meaning}
+use Rattle.world_model.specs.Cells.{Cell, Trap, Front, Tail, Links, Watch, Watchers, Contents}
+use Rattle.world_model.specs.Changes.{Change, Puts, Parts, Unwatches, Sheds}
+use Rattle.world_model.specs.Events.{Signal, Message, Exit, LinkExit, Down, Fate, Arrives, IsIgnored, IsDropped, Kills}
+use Rattle.world_model.specs.Names.{Pid, Ref, same_pid}
+use Rattle.world_model.specs.Terms.{reference, atom, process, tuple, is_atom}
+
+-- ---- messages of the world
+
+-- the message for an exit signal ("Receiving Exit Signals")
+abbrev pub exit_message : Pid → Meaning → Meaning
+exit_message s reason = tuple (atom (codes "EXIT") ∷ process s ∷ reason ∷ [])
+
+-- the message of a watch (erlang manual, `monitor/2`)
+abbrev pub down_message : Ref → Pid → Meaning → Meaning
+down_message ref s reason = tuple (atom (codes "DOWN") ∷ reference ref ∷ atom (codes "process") ∷ process s ∷ reason ∷ [])
+
+-- the message to a new owner (ets manual, `give_away/3`)
+abbrev pub transfer_message : Meaning → Pid → Meaning → Meaning
+transfer_message handle from gift = tuple (atom (codes "ETS-TRANSFER") ∷ handle ∷ process from ∷ gift ∷ [])
+
+-- ---- channels
+
+-- the signals on their way: those that were put, less those that were delivered
+abbrev pub waiting_in : Contents → Pid → Pid → List Signal
+waiting_in v s r = drop (v (Front s r)) (v (Tail s r))
+
+abbrev pub first_of : {A : Type 0} → List A → Option A
+first_of [] = None
+first_of (x ∷ xs) = Some x
+
+-- a signal is put for a process that lives
+abbrev pub put_if : Bool → Pid → Pid → Signal → List Change
+put_if lives s r signal = if lives then Puts s r signal ∷ [] else []
+
+-- ---- what becomes of a signal
+
+abbrev pub is_normal : Meaning → Bool
+is_normal reason = is_atom (codes "normal") reason
+
+-- a process that traps exits gets a message; reason 'normal' is ignored, but from itself; any other ends it
+abbrev pub as_exit : Bool → Bool → Pid → Meaning → Fate
+as_exit traps is_own s reason = if traps then Arrives (exit_message s reason) else (if is_normal reason && not is_own then IsIgnored else Kills reason)
+
+-- of `exit/2`, where 'kill' always ends, with 'killed'
+abbrev pub exit_fate : Bool → Bool → Pid → Meaning → Fate
+exit_fate traps is_own s reason = if is_atom (codes "kill") reason then Kills (atom (codes "killed")) else as_exit traps is_own s reason
+
+-- of a link that stands no more nothing comes
+abbrev pub link_fate : Bool → Bool → Pid → Meaning → Fate
+link_fate stands traps s reason = if stands then as_exit traps false s reason else IsDropped
+
+-- of a watch that stands no more nothing comes
+abbrev pub down_fate : Option Pid → Ref → Pid → Meaning → Fate
+down_fate target ref s reason = if is_some target then Arrives (down_message ref s reason) else IsDropped
+
+abbrev pub fate_of : Contents → Pid → Pid → Signal → Fate
+fate_of v s r (Message message) = Arrives message
+fate_of v s r (Exit reason) = exit_fate (v (Trap r)) false s reason
+fate_of v s r (LinkExit reason) = link_fate (list_any (same_pid s) (v (Links r))) (v (Trap r)) s reason
+fate_of v s r (Down ref reason) = down_fate (v (Watch ref)) ref s reason
+
+-- what it reads for that
+abbrev pub reads_of_fate : Pid → Pid → Signal → List Cell
+reads_of_fate s r (Message message) = []
+reads_of_fate s r (Exit reason) = Trap r ∷ []
+reads_of_fate s r (LinkExit reason) = Trap r ∷ Links r ∷ Links s ∷ []
+reads_of_fate s r (Down ref reason) = Watch ref ∷ Watchers s ∷ []
+
+-- what goes with a signal, whatever becomes of it: the link, or the watch
+abbrev pub pair_goes : Pid → Pid → List Change
+pair_goes p q = Parts p q ∷ Parts q p ∷ []
+
+abbrev pub goes_with : Pid → Pid → Signal → List Change
+goes_with s r (Message message) = []
+goes_with s r (Exit reason) = []
+goes_with s r (LinkExit reason) = pair_goes s r
+goes_with s r (Down ref reason) = Unwatches ref ∷ Sheds s ref ∷ []

@@ -1,0 +1,102 @@
+// Small modules, and what happens by their schedules.
+ghost use Rattle.world_model.specs.ReceiveExamples.{WaitsForIts, TakesItsFirst, TakesTheOther, TakesTheOlder, ComesToTimeout};
+ghost use Rattle.world_model.specs.TableExamples.{WritesItsTable, HasNoNinth, StrangerIsRefused, StrangerFindsNone, StrangerEnds, OldOwnerIsRefused, HeirIsTold, HeirWrites, NoHeirNoTable, PresentOwnerCounts, PrivateIsUnread, StrangerBeforeObject, OwnerOfShort, OwnersCall, InfoOfNone, ItemIsUnknown, GiftToItself};
+ghost use Rattle.world_model.specs.ProcessExamples.{SecondIsHeard, UndefinedEnds, KillEnds, KillIsTold, EndIsTold, NameIsServed, LateLinkFails, LateLinkEnds, ItWaits, ThenItIsGone};
+
+/// A process makes a table, writes it, reads it and ends.
+#[tactic(auto, unfolding(crate::specs::World::contents))]
+pub fn owners_write_their_tables()
+    ensures happens { WritesItsTable }
+    ensures no_other { HasNoNinth }
+{}
+
+/// Another process may not write a protected table, and finds none once its owner has ended.
+#[tactic(auto, unfolding(crate::specs::World::contents))]
+pub fn strangers_are_refused()
+    ensures protected { StrangerIsRefused }
+    ensures gone { StrangerFindsNone }
+    ensures ends { StrangerEnds }
+{}
+
+/// Who gave a table away may not write it any more.
+#[tactic(auto, unfolding(crate::specs::World::contents))]
+pub fn old_owners_are_refused()
+    ensures { OldOwnerIsRefused }
+{}
+
+/// A table goes to its heir, which is told, and its rows with it; with no heir that lives it is gone.
+#[tactic(auto, unfolding(crate::specs::World::contents))]
+pub fn heirs_get_tables()
+    ensures told { HeirIsTold }
+    ensures rows { HeirWrites }
+    ensures gone { NoHeirNoTable }
+{}
+
+/// Not who once made a table of this name is its owner, but who made the present one.
+#[tactic(auto, unfolding(crate::specs::World::contents))]
+pub fn present_owners_count()
+    ensures { PresentOwnerCounts }
+{}
+
+/// Who may call is looked at before the other arguments.
+#[tactic(auto, unfolding(crate::specs::World::contents))]
+pub fn rules_come_in_order()
+    ensures read { PrivateIsUnread }
+    ensures stranger { StrangerBeforeObject }
+    ensures owner { OwnerOfShort }
+    ensures owners { OwnersCall }
+    ensures none { InfoOfNone }
+    ensures item { ItemIsUnknown }
+    ensures gift { GiftToItself }
+{}
+
+/// Messages come in the order of their deliveries, not of their sends.
+#[tactic(auto, unfolding(crate::specs::World::contents))]
+pub fn messages_are_delivered()
+    ensures heard { SecondIsHeard }
+    ensures named { NameIsServed }
+{}
+
+/// What is no exported function of the module ends with the error undef.
+#[tactic(auto, unfolding(crate::specs::World::contents))]
+pub fn strange_functions_end()
+    ensures { UndefinedEnds }
+{}
+
+/// An exit signal with reason kill ends any process; that a linked one ended so is told like any reason.
+#[tactic(auto, unfolding(crate::specs::World::contents))]
+pub fn kills_end()
+    ensures kills { KillEnds }
+    ensures told { KillIsTold }
+{}
+
+/// The end of a watched process is told.
+#[tactic(auto, unfolding(crate::specs::World::contents))]
+pub fn ends_are_told()
+    ensures { EndIsTold }
+{}
+
+/// A link to a process that is gone fails.
+#[tactic(auto, unfolding(crate::specs::World::contents))]
+pub fn late_links_fail()
+    ensures fails { LateLinkFails }
+    ensures ends { LateLinkEnds }
+{}
+
+/// Whether a process lives is asked after one's own signals to it.
+#[tactic(auto, unfolding(crate::specs::World::contents))]
+pub fn signals_come_first()
+    ensures waits { ItWaits }
+    ensures gone { ThenItIsGone }
+{}
+
+/// A receive takes the oldest message that it selects; where there is none, it waits, or comes to its
+/// timeout.
+#[tactic(auto, unfolding(crate::specs::World::contents))]
+pub fn receives_select()
+    ensures waits { WaitsForIts }
+    ensures first { TakesItsFirst }
+    ensures other { TakesTheOther }
+    ensures older { TakesTheOlder }
+    ensures timeout { ComesToTimeout }
+{}

@@ -1,0 +1,18 @@
+// What holds of every history that really happens.
+ghost use Rattle.world_model.specs.RunLaws.{NamesAreNew, NamesMeanTheirs, FindsOne, OwnersLive};
+
+/// Names do not repeat: what a process creates next, and later, has the name of nothing that there was.
+pub fn names_do_not_repeat()
+    ensures { NamesAreNew }
+{}
+
+/// A name that means a table is that table's own, and no two arguments find one table.
+pub fn arguments_find_one_table()
+    ensures names { NamesMeanTheirs }
+    ensures one { FindsOne }
+{}
+
+/// Each table that is found has one owner, and that lives.
+pub fn tables_have_owners()
+    ensures { OwnersLive }
+{}

@@ -1,0 +1,7 @@
+// The explored world as definitions, and the laws of these definitions. The only code are the enums that
+// definitions and later code share.
+#![tactic(auto)]
+
+pub mod laws;
+pub mod rule;
+pub mod table;
