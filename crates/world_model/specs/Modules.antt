@@ -33,11 +33,11 @@ ask_for kind arguments = trees.Call 0 (callees.World kind) (trees_of arguments)
 abbrev pub compute : PureCall → List Tree → Tree
 compute kind arguments = trees.Call 0 (callees.Pure kind) (trees_of arguments)
 
-abbrev pub then_ : Tree → Tree → Tree
-then_ first second = trees.Do first second
+abbrev pub in_turn : Tree → Tree → Tree
+in_turn first second = trees.Do first second
 
-abbrev pub let_ : Name → Tree → Tree → Tree
-let_ name value body = trees.Let (mention name ∷ []) value body
+abbrev pub with_result : Name → Tree → Tree → Tree
+with_result name value body = trees.Let (mention name ∷ []) value body
 
 -- the function of this name with these parameters
 abbrev pub signed : Name → List Name → NamedAt

@@ -32,7 +32,7 @@ table_left call there = there
 abbrev pub LeavesTable : Type 0
 LeavesTable = (h : History) (p : Pid) (kind : CallKind) (arguments : List Meaning) (argument : TableArgument) (call : TableCall) (answer : Meaning) (f : Found) → call_of kind arguments ≡ OnTable argument call → found h argument ≡ Some f → table (event (Turn p) (Served kind arguments answer) ∷ h) f.ref ≡ table_left call (table h f.ref)
 
--- a served `new/2` makes its table, of the caller, without rows of its own making
+-- a served `new/2` makes its table, and its caller is the owner
 abbrev pub MakesTable : Type 0
 MakesTable = (h : History) (p : Pid) (kind : CallKind) (arguments : List Meaning) (name : Name) (os : List TableOption) (answer : Meaning) → call_of kind arguments ≡ New (Some name) (Some os) → table (event (Turn p) (Served kind arguments answer) ∷ h) (next_ref (contents h) p) ≡ Some (table_of p name os)
 

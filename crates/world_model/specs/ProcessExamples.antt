@@ -7,7 +7,7 @@ use Rattle.core_tree.specs.declared.call.CallKind.TheVariants as kinds
 use Rattle.core_tree.specs.declared.pure.PureCall.TheVariants as pures
 use Rattle.world_model.specs.Events.{Exit, event, Delivered, Message, Arrives, Kills, LinkExit, Down, Refused, NoProcess}
 use Rattle.world_model.specs.Happenings.{P, Happens, P_2, serves_it, spawned, P_1, EndsWith, ends_it, error_of, R_1, normal, HasNoRun}
-use Rattle.world_model.specs.Modules.{the, ask_for, the_atom, child, function, the_list, module_of, main, let_, compute, then_, spawn_child}
+use Rattle.world_model.specs.Modules.{the, ask_for, the_atom, child, function, the_list, module_of, main, with_result, compute, in_turn, spawn_child}
 use Rattle.world_model.specs.Names.{Ref, Name}
 use Rattle.world_model.specs.Signals.{exit_message, down_message}
 use Rattle.world_model.specs.Terms.{process, atom, tuple, ok, truth}
@@ -30,7 +30,7 @@ abbrev pub spawn_with : Name → Tree
 spawn_with text = ask_for kinds.Spawn (the_atom (codes "m") ∷ the_atom (codes "c") ∷ the_list (the (codes "Me") ∷ the_atom text ∷ []) ∷ [])
 
 abbrev pub hears : ModuleTree
-hears = module_of (main (let_ (codes "Me") (compute pures.OwnPid []) (then_ (spawn_with (codes "a")) (spawn_with (codes "b")))) ∷ send_x ∷ [])
+hears = module_of (main (with_result (codes "Me") (compute pures.OwnPid []) (in_turn (spawn_with (codes "a")) (spawn_with (codes "b")))) ∷ send_x ∷ [])
 
 abbrev pub SecondIsHeard : Type 0
 SecondIsHeard = Happens hears (Turn P ∷ Turn P ∷ Turn P_2 ∷ Deliver P_2 P ∷ []) (
@@ -47,13 +47,13 @@ UndefinedEnds = EndsWith (module_of (main (ask_for kinds.Spawn (the_atom (codes 
 -- ---- 'kill' ends also who traps exits; the reason 'kill' of a linked process does not
 
 abbrev pub kills : ModuleTree
-kills = module_of (main (let_ (codes "C") spawn_child to_kill) ∷ child trap ∷ [])
+kills = module_of (main (with_result (codes "C") spawn_child to_kill) ∷ child trap ∷ [])
 
 abbrev pub KillEnds : Type 0
 KillEnds = EndsWith kills (Turn P ∷ Turn P_1 ∷ Turn P ∷ Deliver P P_1 ∷ []) (event (Deliver P P_1) (Delivered (Exit kill) (Kills (atom (codes "killed")))))
 
 abbrev pub linked_kill : ModuleTree
-linked_kill = module_of (main (then_ trap (ask_for kinds.SpawnLink (the_atom (codes "m") ∷ the_atom (codes "c") ∷ the_list [] ∷ []))) ∷ child (compute pures.Exit (the_atom (codes "kill") ∷ [])) ∷ [])
+linked_kill = module_of (main (in_turn trap (ask_for kinds.SpawnLink (the_atom (codes "m") ∷ the_atom (codes "c") ∷ the_list [] ∷ []))) ∷ child (compute pures.Exit (the_atom (codes "kill") ∷ [])) ∷ [])
 
 abbrev pub KillIsTold : Type 0
 KillIsTold = EndsWith linked_kill (Turn P ∷ Turn P ∷ Turn P_2 ∷ Deliver P_2 P ∷ []) (event (Deliver P_2 P) (Delivered (LinkExit kill) (Arrives (exit_message P_2 kill))))
@@ -76,7 +76,7 @@ EndIsTold = Happens watches (Turn P ∷ Turn P_1 ∷ Deliver P_1 P ∷ []) (
 -- ---- a name, and a message to its holder, which is the sender
 
 abbrev pub names_itself : ModuleTree
-names_itself = module_of (main (then_ (ask_for kinds.Register (the_atom (codes "n") ∷ compute pures.OwnPid [] ∷ [])) (ask_for kinds.Bang (the_atom (codes "n") ∷ the_atom (codes "x") ∷ []))) ∷ [])
+names_itself = module_of (main (in_turn (ask_for kinds.Register (the_atom (codes "n") ∷ compute pures.OwnPid [] ∷ [])) (ask_for kinds.Bang (the_atom (codes "n") ∷ the_atom (codes "x") ∷ []))) ∷ [])
 
 abbrev pub NameIsServed : Type 0
 NameIsServed = Happens names_itself (Turn P ∷ Turn P ∷ []) (
@@ -87,7 +87,7 @@ NameIsServed = Happens names_itself (Turn P ∷ Turn P ∷ []) (
 -- ---- a link to one that is gone raises 'noproc' where exits are not trapped
 
 abbrev pub links_late : ModuleTree
-links_late = module_of (main (let_ (codes "C") spawn_child (ask_for kinds.Link (the (codes "C") ∷ []))) ∷ child (the_atom (codes "x")) ∷ [])
+links_late = module_of (main (with_result (codes "C") spawn_child (ask_for kinds.Link (the (codes "C") ∷ []))) ∷ child (the_atom (codes "x")) ∷ [])
 
 abbrev pub LateLinkFails : Type 0
 LateLinkFails = EndsWith links_late (Turn P ∷ Turn P_1 ∷ Turn P ∷ []) (event (Turn P) (Refused kinds.Link (process P_1 ∷ []) NoProcess))
@@ -98,7 +98,7 @@ LateLinkEnds = EndsWith links_late (Turn P ∷ Turn P_1 ∷ Turn P ∷ Turn P �
 -- ---- whether a process lives is answered once one's own signals to it have arrived
 
 abbrev pub asks_after : ModuleTree
-asks_after = module_of (main (let_ (codes "C") spawn_child (then_ to_kill (ask_for kinds.IsProcessAlive (the (codes "C") ∷ [])))) ∷ child (the_atom (codes "x")) ∷ [])
+asks_after = module_of (main (with_result (codes "C") spawn_child (in_turn to_kill (ask_for kinds.IsProcessAlive (the (codes "C") ∷ [])))) ∷ child (the_atom (codes "x")) ∷ [])
 
 abbrev pub ItWaits : Type 0
 ItWaits = HasNoRun asks_after (Turn P ∷ Turn P ∷ Turn P ∷ [])

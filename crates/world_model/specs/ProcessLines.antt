@@ -18,15 +18,15 @@ pub record CallLine : Type 0 where
   pub changes : List Change
   pub reads : List Cell
 
--- a line that is always served
+-- a line that is always served: the cells that it reads, its answer, its changes
 abbrev pub serves : List Cell → Meaning → List Change → CallLine
 serves reads answer changes = record { refusal = None; answer = answer; changes = changes; reads = reads }
 
--- a line that may be refused
+-- a line that may be refused: why it is, and then as above
 abbrev pub serves_unless : Option Refusal → List Cell → Meaning → List Change → CallLine
 serves_unless refusal reads answer changes = record { refusal = refusal; answer = answer; changes = changes; reads = reads }
 
--- a line that is always refused
+-- a line that is always refused, with the cells that it reads
 abbrev pub badarg : List Cell → CallLine
 badarg reads = record { refusal = Some Badarg; answer = ok; changes = []; reads = reads }
 

@@ -26,7 +26,7 @@ NamesAreNew = (a : Program) (h : History) (p : Pid) (n : ℕ) → IsRun a h → 
 
 -- a name that means a table is that table's own, and it is found by it
 abbrev pub NamesMeanTheirs : Type 0
-NamesMeanTheirs = (a : Program) (h : History) (name : Name) (t : Ref) → IsRun a h → contents h (TableName name) ≡ Some t → (table_ : tables.Table) × (table h t ≡ Some table_) × (table_.is_named ≡ true) × (table_.name ≡ name)
+NamesMeanTheirs = (a : Program) (h : History) (name : Name) (t : Ref) → IsRun a h → contents h (TableName name) ≡ Some t → (state : tables.Table) × (table h t ≡ Some state) × (state.is_named ≡ true) × (state.name ≡ name)
 
 -- no two arguments find one table
 abbrev pub FindsOne : Type 0

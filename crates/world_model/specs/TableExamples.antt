@@ -8,7 +8,7 @@ use Rattle.core_tree.specs.declared.call.CallKind.TheVariants as kinds
 use Rattle.core_tree.specs.declared.pure.PureCall.TheVariants as pures
 use Rattle.world_model.specs.Events.{event, Delivered, Message, Arrives}
 use Rattle.world_model.specs.Happenings.{t, P, Happens, made_it, serves_it, a_1, ends_it, normal, HasNoRun, EndsWith, P_2, refuses_it, error_of, spawned, P_1, P_3}
-use Rattle.world_model.specs.Modules.{the, module_of, main, then_, new_table, put_one, look_up, spawn_child, child, let_, ask_for, the_table, the_atom, the_tuple, the_list, function, mention, compute}
+use Rattle.world_model.specs.Modules.{the, module_of, main, in_turn, new_table, put_one, look_up, spawn_child, child, with_result, ask_for, the_table, the_atom, the_tuple, the_list, function, mention, compute}
 use Rattle.world_model.specs.Signals.{transfer_message}
 use Rattle.world_model.specs.Terms.{ok, atom, list_of, process, tuple}
 use Rattle.world_model.specs.declared.rule.Rule.TheVariants.{ProtectedWrite, NoTable, PrivateRead, PrivateWrite, ShortObject, NotOwner, BadItem, OwnTarget}
@@ -16,7 +16,7 @@ use Rattle.world_model.specs.declared.rule.Rule.TheVariants.{ProtectedWrite, NoT
 -- ---- a table is made, written and read by its owner
 
 abbrev pub writes : ModuleTree
-writes = module_of (main (then_ (new_table []) (then_ put_one look_up)) ∷ [])
+writes = module_of (main (in_turn (new_table []) (in_turn put_one look_up)) ∷ [])
 
 abbrev pub WritesItsTable : Type 0
 WritesItsTable = Happens writes (Turn P ∷ Turn P ∷ Turn P ∷ Turn P ∷ []) (
@@ -33,7 +33,7 @@ HasNoNinth = HasNoRun writes (Turn P ∷ Turn (9 ∷ []) ∷ [])
 -- ---- another process writes a protected table: it is refused, by the owner's protection while that lives, and as there is no table once it ended
 
 abbrev pub stranger : ModuleTree
-stranger = module_of (main (then_ (new_table []) spawn_child) ∷ child put_one ∷ [])
+stranger = module_of (main (in_turn (new_table []) spawn_child) ∷ child put_one ∷ [])
 
 abbrev pub StrangerIsRefused : Type 0
 StrangerIsRefused = EndsWith stranger (Turn P ∷ Turn P ∷ Turn P_2 ∷ []) (refuses_it P_2 kinds.Insert (t ∷ a_1 ∷ []) ProtectedWrite (Some P))
@@ -47,7 +47,7 @@ StrangerEnds = EndsWith stranger (Turn P ∷ Turn P ∷ Turn P_2 ∷ Turn P_2 �
 -- ---- a table is given away: its old owner writes it no more
 
 abbrev pub gives : ModuleTree
-gives = module_of (main (then_ (new_table []) (let_ (codes "C") spawn_child (then_ (ask_for kinds.GiveAway (the_table ∷ the (codes "C") ∷ the_atom (codes "d") ∷ [])) put_one))) ∷ child (the_atom (codes "x")) ∷ [])
+gives = module_of (main (in_turn (new_table []) (with_result (codes "C") spawn_child (in_turn (ask_for kinds.GiveAway (the_table ∷ the (codes "C") ∷ the_atom (codes "d") ∷ [])) put_one))) ∷ child (the_atom (codes "x")) ∷ [])
 
 abbrev pub gift : Meaning
 gift = transfer_message t P (atom (codes "d"))
@@ -64,7 +64,7 @@ OldOwnerIsRefused = Happens gives (Turn P ∷ Turn P ∷ Turn P ∷ Turn P ∷ D
 -- ---- an end passes its table to an heir that lives, and destroys it else
 
 abbrev pub bequeaths : ModuleTree
-bequeaths = module_of (main (let_ (codes "C") spawn_child (then_ (new_table (the_tuple (the_atom (codes "heir") ∷ the (codes "C") ∷ the_atom (codes "d") ∷ []) ∷ [])) (ask_for kinds.Spawn (the_atom (codes "m") ∷ the_atom (codes "d") ∷ the_list [] ∷ [])))) ∷ child put_one ∷ function (codes "d") [] look_up ∷ [])
+bequeaths = module_of (main (with_result (codes "C") spawn_child (in_turn (new_table (the_tuple (the_atom (codes "heir") ∷ the (codes "C") ∷ the_atom (codes "d") ∷ []) ∷ [])) (ask_for kinds.Spawn (the_atom (codes "m") ∷ the_atom (codes "d") ∷ the_list [] ∷ [])))) ∷ child put_one ∷ function (codes "d") [] look_up ∷ [])
 
 abbrev pub HeirIsTold : Type 0
 HeirIsTold = EndsWith bequeaths (Turn P ∷ Turn P ∷ Turn P ∷ Turn P ∷ Deliver P P_1 ∷ []) (event (Deliver P P_1) (Delivered (Message gift) (Arrives gift)))
@@ -78,7 +78,7 @@ NoHeirNoTable = EndsWith bequeaths (Turn P ∷ Turn P ∷ Turn P ∷ Turn P_1 �
 -- ---- a name that is free again may mean the table of another
 
 abbrev pub renames : ModuleTree
-renames = module_of (main (then_ (new_table []) (then_ (ask_for kinds.DeleteTable (the_table ∷ [])) (then_ spawn_child put_one))) ∷ child (new_table []) ∷ [])
+renames = module_of (main (in_turn (new_table []) (in_turn (ask_for kinds.DeleteTable (the_table ∷ [])) (in_turn spawn_child put_one))) ∷ child (new_table []) ∷ [])
 
 abbrev pub PresentOwnerCounts : Type 0
 PresentOwnerCounts = EndsWith renames (Turn P ∷ Turn P ∷ Turn P ∷ Turn P_3 ∷ Turn P ∷ []) (refuses_it P kinds.Insert (t ∷ a_1 ∷ []) ProtectedWrite (Some P_3))
@@ -86,7 +86,7 @@ PresentOwnerCounts = EndsWith renames (Turn P ∷ Turn P ∷ Turn P ∷ Turn P_3
 -- ---- protections come before arguments, and arguments before their objects
 
 abbrev pub hides : Tree → ModuleTree
-hides body = module_of (main (then_ (new_table (the_atom (codes "private") ∷ [])) spawn_child) ∷ child body ∷ [])
+hides body = module_of (main (in_turn (new_table (the_atom (codes "private") ∷ [])) spawn_child) ∷ child body ∷ [])
 
 abbrev pub PrivateIsUnread : Type 0
 PrivateIsUnread = EndsWith (hides (trees.Try 0 look_up (mention (codes "X") ∷ []) (the (codes "X")) (mention (codes "K") ∷ mention (codes "R") ∷ []) (the_atom (codes "none")))) (Turn P ∷ Turn P ∷ Turn P_2 ∷ []) (refuses_it P_2 kinds.Lookup (t ∷ atom (codes "a") ∷ []) PrivateRead (Some P))
@@ -98,7 +98,7 @@ abbrev pub StrangerBeforeObject : Type 0
 StrangerBeforeObject = EndsWith (hides put_short) (Turn P ∷ Turn P ∷ Turn P_2 ∷ []) (refuses_it P_2 kinds.Insert (t ∷ tuple [] ∷ []) PrivateWrite (Some P))
 
 abbrev pub OwnerOfShort : Type 0
-OwnerOfShort = EndsWith (module_of (main (then_ (new_table []) put_short) ∷ [])) (Turn P ∷ Turn P ∷ []) (refuses_it P kinds.Insert (t ∷ tuple [] ∷ []) ShortObject (Some P))
+OwnerOfShort = EndsWith (module_of (main (in_turn (new_table []) put_short) ∷ [])) (Turn P ∷ Turn P ∷ []) (refuses_it P kinds.Insert (t ∷ tuple [] ∷ []) ShortObject (Some P))
 
 abbrev pub to_no_heir : Tree
 to_no_heir = ask_for kinds.SetOptions (the_table ∷ the_tuple (the_atom (codes "heir") ∷ the_atom (codes "none") ∷ []) ∷ [])
@@ -113,7 +113,7 @@ abbrev pub InfoOfNone : Type 0
 InfoOfNone = EndsWith (module_of (main ask_x ∷ [])) (Turn P ∷ []) (serves_it P kinds.Info (t ∷ atom (codes "x") ∷ []) (atom (codes "undefined")))
 
 abbrev pub ItemIsUnknown : Type 0
-ItemIsUnknown = EndsWith (module_of (main (then_ (new_table []) ask_x) ∷ [])) (Turn P ∷ Turn P ∷ []) (refuses_it P kinds.Info (t ∷ atom (codes "x") ∷ []) BadItem (Some P))
+ItemIsUnknown = EndsWith (module_of (main (in_turn (new_table []) ask_x) ∷ [])) (Turn P ∷ Turn P ∷ []) (refuses_it P kinds.Info (t ∷ atom (codes "x") ∷ []) BadItem (Some P))
 
 abbrev pub GiftToItself : Type 0
-GiftToItself = EndsWith (module_of (main (then_ (new_table []) (ask_for kinds.GiveAway (the_table ∷ compute pures.OwnPid [] ∷ the_atom (codes "d") ∷ []))) ∷ [])) (Turn P ∷ Turn P ∷ []) (refuses_it P kinds.GiveAway (t ∷ process P ∷ atom (codes "d") ∷ []) OwnTarget (Some P))
+GiftToItself = EndsWith (module_of (main (in_turn (new_table []) (ask_for kinds.GiveAway (the_table ∷ compute pures.OwnPid [] ∷ the_atom (codes "d") ∷ []))) ∷ [])) (Turn P ∷ Turn P ∷ []) (refuses_it P kinds.GiveAway (t ∷ process P ∷ atom (codes "d") ∷ []) OwnTarget (Some P))

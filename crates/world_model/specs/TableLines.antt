@@ -21,11 +21,11 @@ pub record Line : Type 0 where
   pub answer : Meaning
   pub changes : List Change
 
--- a line that no argument breaks
+-- a line that no argument breaks: its answer, its changes
 abbrev pub gives : Meaning → List Change → Line
 gives answer changes = record { rule = None; answer = answer; changes = changes }
 
--- a line that a rule may break
+-- a line that a rule may break: the rule if it does, and then as above
 abbrev pub unless : Option Rule → Meaning → List Change → Line
 unless rule answer changes = record { rule = rule; answer = answer; changes = changes }
 

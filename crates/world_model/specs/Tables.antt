@@ -73,7 +73,7 @@ heir_if false heir = None
 
 abbrev pub heir_of_parts : List Meaning → Option Heir
 heir_of_parts (word ∷ none ∷ []) = if is_atom (codes "heir") word then heir_if (is_atom (codes "none") none) None else None
-heir_of_parts (word ∷ to ∷ data_ ∷ []) = if is_atom (codes "heir") word then option_map (λ p. Some (p, data_)) (process_in to) else None
+heir_of_parts (word ∷ to ∷ gift ∷ []) = if is_atom (codes "heir") word then option_map (λ p. Some (p, gift)) (process_in to) else None
 heir_of_parts parts = None
 
 -- the heir option that a term is
@@ -122,8 +122,8 @@ heirs_of m = heirs_or m (heir_option m)
 -- ---- settings: of several options of one kind the last counts
 
 abbrev pub last_asked : {A : Type 0} → (TableOption → Option A) → A → List TableOption → A
-last_asked asked else_ [] = else_
-last_asked asked else_ (o ∷ os) = last_asked asked (unwrap_or (asked o) else_) os
+last_asked asked otherwise [] = otherwise
+last_asked asked otherwise (o ∷ os) = last_asked asked (unwrap_or (asked o) otherwise) os
 
 abbrev pub kind_in : TableOption → Option Kind
 kind_in (OfKind kind) = Some kind
