@@ -9,7 +9,7 @@ use std::test::Fail;
 use term_core::Atom;
 
 fn atom(alloc: Global, text: &str) -> Result<Atom, Fail> {
-    Atom::new(alloc, text)
+    Ok(Atom::new(alloc, text)?)
 }
 
 fn variable(alloc: Global, at: usize, name: &str) -> Result<Variable, Fail> {

@@ -228,7 +228,7 @@ fn compares_modules_but_for_places(rt: HostRuntime) -> Result<(), Fail> {
 // What is compared below differs in one part alone, as no two texts do.
 
 fn atom(alloc: Global, text: &str) -> Result<Atom, Fail> {
-    Atom::new(alloc, text)
+    Ok(Atom::new(alloc, text)?)
 }
 
 fn function(alloc: Global, name: &str, arity: u8) -> Result<FunctionName, Fail> {
