@@ -6,7 +6,6 @@ use Rattle.std.specs.Prelude.{Option, ◌++◌, unwrap_or, None, option_map, map
 use Rattle.std.specs.declared.cmp.Ordering.{Ordering}
 use Rattle.std.specs.declared.cmp.Ordering.TheVariants.{Less, Equal, Greater}
 use Rattle.term_core.specs.Meaning.{Meaning}
-use Rattle.term_core.specs.StepOrder.{order_of_reference_ids}
 use Rattle.term_core.specs.inside.StepOrderLaws.{same_reference_id}
 use Rattle.term_core.specs.declared.step.Step.{Step}
 use Rattle.term_core.specs.declared.step.Step.TheVariants.{Turn, Deliver}
@@ -21,7 +20,7 @@ use Rattle.world_model.specs.Events.{Event, LinkExit, Exit, Down, Signal, Messag
 use Rattle.world_model.specs.Found.{Found, allowed_at, find, is_table_argument}
 use Rattle.world_model.specs.Judging.{found_line, refusal_by, table_rule}
 use Rattle.world_model.specs.Lines.{line}
-use Rattle.world_model.specs.Names.{same_ref, Name, Ref, Pid, same_pid}
+use Rattle.world_model.specs.Names.{same_ref, Name, Ref, Pid, same_pid, order_of_refs}
 use Rattle.world_model.specs.NewTables.{means_if, new_line, new_rule}
 use Rattle.world_model.specs.Owners.{heir_named, table_passed}
 use Rattle.world_model.specs.Owning.{heirs_set, gift_rule}
@@ -58,28 +57,30 @@ same_refs : (t u : Ref) → t ≡ u → same_ref t u ≡ true
 same_refs t u is = ap (same_ref t) (sym is) ∙ ref_itself t
 
 -- what is put among others is there
-here_by : (t u : Ref) (us : List Ref) (r : Ordering) → order_of_reference_ids t u ≡ r → list_any (same_ref t) (set_in_order order_of_reference_ids t us) ≡ true → list_any (same_ref t) (set_before r t u us (set_in_order order_of_reference_ids t us)) ≡ true
+here_by : (t u : Ref) (us : List Ref) (r : Ordering) → order_of_refs t u ≡ r → list_any (same_ref t) (set_in_order order_of_refs t us) ≡ true → list_any (same_ref t) (set_before r t u us (set_in_order order_of_refs t us)) ≡ true
 here_by t u us Less is rest = ap (λ b. b || list_any (same_ref t) (u ∷ us)) (ref_itself t)
-here_by t u us Equal is rest = ap (λ b. b || list_any (same_ref t) us) (same_refs t u (same_reference_id t u is))
+here_by t u us Equal is rest =
+    let same : t ≡ u = ap (λ (r : Pid × ℕ). record { pid = r.0; number = r.1 }) (same_reference_id (t.pid, t.number) (u.pid, u.number) is) in
+    ap (λ b. b || list_any (same_ref t) us) (same_refs t u same)
 here_by t u us Greater is rest = or_true (same_ref t u) _ rest
 
-is_put : (t : Ref) (us : List Ref) → list_any (same_ref t) (set_in_order order_of_reference_ids t us) ≡ true
+is_put : (t : Ref) (us : List Ref) → list_any (same_ref t) (set_in_order order_of_refs t us) ≡ true
 is_put t [] = ap (λ b. b || false) (ref_itself t)
-is_put t (u ∷ us) = here_by t u us (order_of_reference_ids t u) refl (is_put t us)
+is_put t (u ∷ us) = here_by t u us (order_of_refs t u) refl (is_put t us)
 
 -- and the others stay
 left_or : (a b c : Bool) → (b ≡ true → c ≡ true) → (a || b) ≡ true → (a || c) ≡ true
 left_or true b c f is = refl
 left_or false b c f is = f is
 
-stay_by : (t x u : Ref) (us : List Ref) (r : Ordering) → (list_any (same_ref t) us ≡ true → list_any (same_ref t) (set_in_order order_of_reference_ids x us) ≡ true) → list_any (same_ref t) (u ∷ us) ≡ true → list_any (same_ref t) (set_before r x u us (set_in_order order_of_reference_ids x us)) ≡ true
+stay_by : (t x u : Ref) (us : List Ref) (r : Ordering) → (list_any (same_ref t) us ≡ true → list_any (same_ref t) (set_in_order order_of_refs x us) ≡ true) → list_any (same_ref t) (u ∷ us) ≡ true → list_any (same_ref t) (set_before r x u us (set_in_order order_of_refs x us)) ≡ true
 stay_by t x u us Less rest there = or_true (same_ref t x) _ there
 stay_by t x u us Equal rest there = there
 stay_by t x u us Greater rest there = left_or (same_ref t u) (list_any (same_ref t) us) _ rest there
 
-stays_put : (t x : Ref) (us : List Ref) → list_any (same_ref t) us ≡ true → list_any (same_ref t) (set_in_order order_of_reference_ids x us) ≡ true
+stays_put : (t x : Ref) (us : List Ref) → list_any (same_ref t) us ≡ true → list_any (same_ref t) (set_in_order order_of_refs x us) ≡ true
 stays_put t x [] there = absurd (true≢false (sym there))
-stays_put t x (u ∷ us) there = stay_by t x u us (order_of_reference_ids x u) (stays_put t x us) there
+stays_put t x (u ∷ us) there = stay_by t x u us (order_of_refs x u) (stays_put t x us) there
 
 -- one that another leaves stays
 stays_without : (t x : Ref) (us : List Ref) → same_ref x t ≡ false → list_any (same_ref t) us ≡ true → list_any (same_ref t) (without_first (same_ref x) us) ≡ true
@@ -135,7 +136,7 @@ kept_if true t u us other there = stays_without t u us other there
 kept_if false t u us other there = there
 
 -- and another's gain
-gained_if : (b : Bool) (t u : Ref) (us : List Ref) → list_any (same_ref t) us ≡ true → list_any (same_ref t) (if b then set_in_order order_of_reference_ids u us else us) ≡ true
+gained_if : (b : Bool) (t u : Ref) (us : List Ref) → list_any (same_ref t) us ≡ true → list_any (same_ref t) (if b then set_in_order order_of_refs u us else us) ≡ true
 gained_if true t u us there = stays_put t u us there
 gained_if false t u us there = there
 
@@ -146,14 +147,14 @@ deleted_by w f t x false is now before_ =
     let was = before_ t x now in
     (was.lives, kept_if (same_pid f.table.owner x.owner) t f.ref (w (Owned x.owner)) is was.has)
 
-given_by : (w : Contents) (f : Found) (to : Pid) (t : Ref) (x : tables.Table) (b : Bool) (o : Option tables.Table) → o ≡ w (Table t) → same_ref f.ref t ≡ b → w (Alive to) ≡ true → (if b then option_map (owned_by to) o else o) ≡ Some x → AreOwned w → (w (Alive x.owner) ≡ true) × (list_any (same_ref t) (if same_pid to x.owner then set_in_order order_of_reference_ids f.ref (if same_pid f.table.owner x.owner then without_first (same_ref f.ref) (w (Owned x.owner)) else w (Owned x.owner)) else (if same_pid f.table.owner x.owner then without_first (same_ref f.ref) (w (Owned x.owner)) else w (Owned x.owner))) ≡ true)
+given_by : (w : Contents) (f : Found) (to : Pid) (t : Ref) (x : tables.Table) (b : Bool) (o : Option tables.Table) → o ≡ w (Table t) → same_ref f.ref t ≡ b → w (Alive to) ≡ true → (if b then option_map (owned_by to) o else o) ≡ Some x → AreOwned w → (w (Alive x.owner) ≡ true) × (list_any (same_ref t) (if same_pid to x.owner then set_in_order order_of_refs f.ref (if same_pid f.table.owner x.owner then without_first (same_ref f.ref) (w (Owned x.owner)) else w (Owned x.owner)) else (if same_pid f.table.owner x.owner then without_first (same_ref f.ref) (w (Owned x.owner)) else w (Owned x.owner))) ≡ true)
 unfolding AreOwned
 given_by w f to t x true None same is lives now before_ = absurd (no_table now)
 given_by w f to t x true (Some y) same is lives now before_ =
     let mine : to ≡ x.owner = owner_is (owned_by to y) x now in
     let there = ap (same_pid to) (sym mine) ∙ pid_itself to in
     let us = if same_pid f.table.owner x.owner then without_first (same_ref f.ref) (w (Owned x.owner)) else w (Owned x.owner) in
-    (ap (λ q. w (Alive q)) (sym mine) ∙ lives, ap (λ b. list_any (same_ref t) (if b then set_in_order order_of_reference_ids f.ref us else us)) there ∙ ap (λ r. list_any (same_ref t) (set_in_order order_of_reference_ids r us)) (refs_same f.ref t is) ∙ is_put t us)
+    (ap (λ q. w (Alive q)) (sym mine) ∙ lives, ap (λ b. list_any (same_ref t) (if b then set_in_order order_of_refs f.ref us else us)) there ∙ ap (λ r. list_any (same_ref t) (set_in_order order_of_refs r us)) (refs_same f.ref t is) ∙ is_put t us)
 given_by w f to t x false o same is lives now before_ =
     let was = before_ t x (sym same ∙ now) in
     (was.lives, gained_if (same_pid to x.owner) t f.ref _ (kept_if (same_pid f.table.owner x.owner) t f.ref (w (Owned x.owner)) is was.has))
@@ -225,12 +226,12 @@ means_lives : (b : Bool) (name : Name) (u : Ref) (w : Contents) (q : Pid) → af
 means_lives true name u w q = refl
 means_lives false name u w q = refl
 
-made_by_owner : (w : Contents) (p : Pid) (u t : Ref) (new_ x : tables.Table) (b : Bool) → new_.owner ≡ p → same_ref u t ≡ b → w (Alive p) ≡ true → (if b then Some new_ else w (Table t)) ≡ Some x → AreOwned w → (w (Alive x.owner) ≡ true) × (list_any (same_ref t) (if same_pid p x.owner then set_in_order order_of_reference_ids u (w (Owned x.owner)) else w (Owned x.owner)) ≡ true)
+made_by_owner : (w : Contents) (p : Pid) (u t : Ref) (new_ x : tables.Table) (b : Bool) → new_.owner ≡ p → same_ref u t ≡ b → w (Alive p) ≡ true → (if b then Some new_ else w (Table t)) ≡ Some x → AreOwned w → (w (Alive x.owner) ≡ true) × (list_any (same_ref t) (if same_pid p x.owner then set_in_order order_of_refs u (w (Owned x.owner)) else w (Owned x.owner)) ≡ true)
 unfolding AreOwned
 made_by_owner w p u t new_ x true own is lives now before_ =
     let mine : p ≡ x.owner = sym own ∙ owner_is new_ x now in
     let there = ap (same_pid p) (sym mine) ∙ pid_itself p in
-    (ap (λ q. w (Alive q)) (sym mine) ∙ lives, ap (λ b. list_any (same_ref t) (if b then set_in_order order_of_reference_ids u (w (Owned x.owner)) else w (Owned x.owner))) there ∙ ap (λ r. list_any (same_ref t) (set_in_order order_of_reference_ids r (w (Owned x.owner)))) (refs_same u t is) ∙ is_put t (w (Owned x.owner)))
+    (ap (λ q. w (Alive q)) (sym mine) ∙ lives, ap (λ b. list_any (same_ref t) (if b then set_in_order order_of_refs u (w (Owned x.owner)) else w (Owned x.owner))) there ∙ ap (λ r. list_any (same_ref t) (set_in_order order_of_refs r (w (Owned x.owner)))) (refs_same u t is) ∙ is_put t (w (Owned x.owner)))
 made_by_owner w p u t new_ x false own is lives now before_ =
     let was = before_ t x now in
     (was.lives, gained_if (same_pid p x.owner) t u (w (Owned x.owner)) was.has)
@@ -303,7 +304,7 @@ heir_gains p u t x None h w same is = absurd (no_table is)
 heir_gains p u t x (Some heir) h w same is =
     let to : heir.0 ≡ h.0 = ap (λ y. (unwrap_or y heir).0) is in
     let here_ = ap (same_pid heir.0) (sym to) ∙ pid_itself heir.0 in
-    ap (λ b. list_any (same_ref t) (if b then set_in_order order_of_reference_ids u (w (Owned h.0)) else w (Owned h.0))) here_ ∙ ap (λ r. list_any (same_ref t) (set_in_order order_of_reference_ids r (w (Owned h.0)))) same ∙ is_put t (w (Owned h.0))
+    ap (λ b. list_any (same_ref t) (if b then set_in_order order_of_refs u (w (Owned h.0)) else w (Owned h.0))) here_ ∙ ap (λ r. list_any (same_ref t) (set_in_order order_of_refs r (w (Owned h.0)))) same ∙ is_put t (w (Owned h.0))
 
 one_gains : (v w : Contents) (p : Pid) (u t : Ref) (o : Option tables.Table) (h : Pid × Meaning) → u ≡ t → living_heir v (heir_named o) ≡ Some h → list_any (same_ref t) (after (table_passes v p u o) w (Owned h.0)) ≡ true
 one_gains v w p u t None h same is = absurd (no_table is)

@@ -5,11 +5,10 @@ use Rattle.std.specs.declared.cmp.Ordering.{Ordering}
 use Rattle.std.specs.declared.cmp.Ordering.TheVariants.{Less, Equal, Greater}
 use Rattle.term_core.specs.Meaning.{Meaning}
 use Rattle.term_core.specs.Order.{order_of_lists}
-use Rattle.term_core.specs.StepOrder.{order_of_reference_ids}
 use Rattle.core_eval.specs.Asked.{Answered}
 use Rattle.world_model.specs.Cells.{Table, Rows, Row, Cell, Machine, Alive, Trap, Mailbox, Front, Tail, Links, Watchers, Watch, Holder, NameOf, TableName, Owned, meet, Content, Contents}
 use Rattle.world_model.specs.Events.{Signal}
-use Rattle.world_model.specs.Names.{Name, Pid, Ref, same_pid, same_ref, same_term}
+use Rattle.world_model.specs.Names.{Name, Pid, Ref, same_pid, same_ref, same_term, order_of_refs}
 use Rattle.world_model.specs.Requests.{Origin}
 use Rattle.world_model.specs.Rows.{Key, RowChange, rewritten, rows_rewritten}
 use Rattle.world_model.specs.Tables as tables
@@ -140,7 +139,7 @@ renewed (Joins q partner) (Links p) before = set_in_order order_of_lists partner
 renewed (Parts q partner) (Links p) before = without_first (same_pid partner) before
 renewed (Watches a target) (Watch b) before = Some target
 renewed (Unwatches a) (Watch b) before = None
-renewed (Draws q ref) (Watchers p) before = set_in_order order_of_reference_ids ref before
+renewed (Draws q ref) (Watchers p) before = set_in_order order_of_refs ref before
 renewed (Sheds q ref) (Watchers p) before = without_first (same_ref ref) before
 renewed (Holds n holder) (Holder m) before = Some holder
 renewed (Vacates n) (Holder m) before = None
@@ -156,7 +155,7 @@ renewed (Inherits u heir) (Table t) before = option_map (with_heir heir) before
 renewed (Goes u) (Table t) before = None
 renewed (Means m t) (TableName n) before = Some t
 renewed (Frees m) (TableName n) before = None
-renewed (Gains q t) (Owned p) before = set_in_order order_of_reference_ids t before
+renewed (Gains q t) (Owned p) before = set_in_order order_of_refs t before
 renewed (Loses q t) (Owned p) before = without_first (same_ref t) before
 renewed (Empties q) (Owned p) before = []
 renewed change c before = before

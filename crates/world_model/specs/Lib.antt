@@ -41,3 +41,4 @@ pub mod Happenings
 pub mod TableExamples
 pub mod ProcessExamples
 pub mod ReceiveExamples
+pub mod ShownExamples

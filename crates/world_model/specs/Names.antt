@@ -3,15 +3,17 @@ use Rattle.std.specs.Ordering.{eq_by_cmp}
 use Rattle.std.specs.Prelude.{◌≡◌, ◌∷◌, ◌⊎◌, ℕ, Bool, List, bytes_eq, ◌==◌, ◌&&◌, []}
 use Rattle.term_core.specs.Meaning.{Meaning}
 use Rattle.term_core.specs.Order.{order_of_terms}
-use Rattle.term_core.specs.declared.pid.RefId.{RefId}
+use Rattle.term_core.specs.StepOrder.{order_of_reference_ids}
+use Rattle.std.specs.declared.cmp.Ordering.{Ordering}
 
 -- a process: the first is [], and what request k of process p spawns is p with k at its end
 abbrev pub Pid : Type 0
 Pid = List ℕ
 
 -- what a process created, a table, a watch or a bare reference: the process and the number of its request
-abbrev pub Ref : Type 0
-Ref = RefId
+pub record Ref : Type 0 where
+  pub pid : Pid
+  pub number : ℕ
 
 -- a name that a program gives: the text of an atom
 abbrev pub Name : Type 0
@@ -25,6 +27,10 @@ same_name a b = bytes_eq a b
 
 abbrev pub same_ref : Ref → Ref → Bool
 same_ref a b = same_pid a.pid b.pid && a.number == b.number
+
+-- by their processes, and then by their numbers
+abbrev pub order_of_refs : Ref → Ref → Ordering
+order_of_refs a b = order_of_reference_ids (a.pid, a.number) (b.pid, b.number)
 
 -- two terms are the same where neither comes before the other (Erlang reference manual, "Term Comparisons")
 abbrev pub same_term : Meaning → Meaning → Bool

@@ -1,4 +1,5 @@
 // Small modules, and what happens by their schedules.
+ghost use Rattle.world_model.specs.ShownExamples.{RefusalIsShown, RefusalIsListed, RefusalIsNoError, RefusalIsErrorIfStrict, EndIsError, NormalEndShowsNothing};
 ghost use Rattle.world_model.specs.ReceiveExamples.{WaitsForIts, TakesItsFirst, TakesTheOther, TakesTheOlder, ComesToTimeout};
 ghost use Rattle.world_model.specs.TableExamples.{WritesItsTable, HasNoNinth, StrangerIsRefused, StrangerFindsNone, StrangerEnds, OldOwnerIsRefused, HeirIsTold, HeirWrites, NoHeirNoTable, PresentOwnerCounts, PrivateIsUnread, StrangerBeforeObject, OwnerOfShort, OwnersCall, InfoOfNone, ItemIsUnknown, GiftToItself};
 ghost use Rattle.world_model.specs.ProcessExamples.{SecondIsHeard, UndefinedEnds, KillEnds, KillIsTold, EndIsTold, NameIsServed, LateLinkFails, LateLinkEnds, ItWaits, ThenItIsGone};
@@ -99,4 +100,16 @@ pub fn receives_select()
     ensures other { TakesTheOther }
     ensures older { TakesTheOlder }
     ensures timeout { ComesToTimeout }
+{}
+
+/// A refused call is shown and listed, and is an error where access is strict; an end with another reason
+/// than normal is an error; an end with that reason shows nothing.
+#[tactic(auto, unfolding(crate::specs::World::contents))]
+pub fn identities_are_shown()
+    ensures refusal { RefusalIsShown }
+    ensures listed { RefusalIsListed }
+    ensures no_error { RefusalIsNoError }
+    ensures strict { RefusalIsErrorIfStrict }
+    ensures end { EndIsError }
+    ensures normal { NormalEndShowsNothing }
 {}
