@@ -1,5 +1,6 @@
 pub mod Meaning
 pub mod Words
+pub mod AtomTexts
 pub mod Term
 pub mod Kinds
 pub mod Integers

@@ -1,5 +1,4 @@
 pub mod MeaningCodes
-pub mod AtomTexts
 pub mod Depth
 pub mod OrderLaws
 pub mod StepOrderLaws

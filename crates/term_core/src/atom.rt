@@ -26,7 +26,7 @@ pub struct Atom {
 
 impl Model for Atom {
     ghost use Rattle.std.specs.Prelude.{ℕ, List};
-    ghost use Rattle.term_core.specs.inside.AtomTexts.{text_in};
+    ghost use Rattle.term_core.specs.AtomTexts.{text_in};
 
     ghost Value = { List ℕ };
 
