@@ -9,14 +9,13 @@ use Rattle.term_core.specs.Meaning.{Meaning}
 use Rattle.term_core.specs.inside.StepOrderLaws.{same_reference_id}
 use Rattle.term_core.specs.declared.step.Step.{Step}
 use Rattle.term_core.specs.declared.step.Step.TheVariants.{Turn, Deliver}
-use Rattle.core_tree.specs.declared.call.CallKind.{CallKind}
 use Rattle.core_eval.specs.Asked as answered
 use Rattle.core_eval.specs.Asked.{Answered}
 use Rattle.world_model.specs.Calls.{Call, TableCall, DeleteTable, GiveAway, SetOptions, Spawn, SpawnWay, Alone, Linked, Watched, New, OnTable, call_of}
-use Rattle.world_model.specs.Cells.{Table, Cell, Owned, Contents, Alive, TableName, Links, Watchers, NameOf, Mailbox, Machine}
+use Rattle.world_model.specs.Cells.{Table, Cell, Owned, Contents, Alive, TableName, Links, Watchers, NameOf}
 use Rattle.world_model.specs.Changes.{set_in_order, set_before, without_first, after, Frees, Inherits, changed, Touches, Goes, Wipes, Loses, Makes, Gains, Lives, Begins, Empties, Dies, Halts, Turns, Fetches}
 use Rattle.world_model.specs.Ends.{living_heir, passed, table_passes, tables_pass, partners_told, watchers_told, name_left, left_by, ends}
-use Rattle.world_model.specs.Events.{Event, LinkExit, Exit, Down, Signal, Message, Fate, Arrives, IsIgnored, IsDropped, Kills, Deed, Served, Refused, Ended, EndedItself, Received, TimedOut, RanAway, Delivered, Refusal, History}
+use Rattle.world_model.specs.Events.{LinkExit, Exit, Down, Signal, Message, Fate, Arrives, IsIgnored, IsDropped, Kills, Deed, Served, Refused, Ended, EndedItself, Received, TimedOut, RanAway, Delivered, History}
 use Rattle.world_model.specs.Found.{Found, allowed_at, find, is_table_argument}
 use Rattle.world_model.specs.Judging.{found_line, refusal_by, table_rule}
 use Rattle.world_model.specs.Lines.{line}
@@ -25,11 +24,11 @@ use Rattle.world_model.specs.NewTables.{means_if, new_line, new_rule}
 use Rattle.world_model.specs.Owners.{heir_named, table_passed}
 use Rattle.world_model.specs.Owning.{heirs_set, gift_rule}
 use Rattle.world_model.specs.ProcessLines.{bound, next_child, next_ref}
-use Rattle.world_model.specs.Requests.{Calls, Ends, Request, Receives, RunsAway, Program}
-use Rattle.world_model.specs.Run.{next_event, IsRun}
+use Rattle.world_model.specs.Requests.{Program}
+use Rattle.world_model.specs.Run.{IsRun}
 use Rattle.world_model.specs.RunLaws.{OwnersLive}
 use Rattle.world_model.specs.Signals.{put_if, goes_with}
-use Rattle.world_model.specs.Steps.{changes_of_fate, changes_by, runaway, judged, ended_or, received, asked, deed_asked, ends_itself, must_wait, selected_of, next_deed, raised_by}
+use Rattle.world_model.specs.Steps.{changes_of_fate, changes_by, runaway, raised_by}
 use Rattle.world_model.specs.TableLines.{table_line}
 use Rattle.world_model.specs.Tables as tables
 use Rattle.world_model.specs.Tables.{owned_by, Heir, with_heir, is_named, TableOption, table_of}
@@ -40,10 +39,10 @@ use Rattle.world_model.specs.declared.rule.Rule.TheVariants.{BadTable}
 use Rattle.world_model.proofs.Commuting.{either_is, stays, either_way, follows}
 use Rattle.world_model.proofs.EndSorts.{after_both, alive_after_end}
 use Rattle.world_model.proofs.Fresh.{turns_live}
-use Rattle.world_model.proofs.Histories.{deed_is}
 use Rattle.world_model.proofs.Meeting.{ref_itself, refs_same, pid_itself, pids_same}
 use Rattle.world_model.proofs.Named.{found_there}
 use Rattle.world_model.proofs.OwnerLaws.{turned_ref, heir_at, end_passes}
+use Rattle.world_model.proofs.Served.{Unrefused, unrefused_in}
 use Rattle.world_model.proofs.SortLaws.{untouched_by, table_among, call_leaves, AllAmong, among_both, put_among}
 use Rattle.world_model.proofs.Sorts.{is_among, table_sorts}
 
@@ -413,10 +412,6 @@ fate_owned v w r IsIgnored all owned_ lives before_ = owned_same v w all owned_ 
 fate_owned v w r IsDropped all owned_ lives before_ = owned_same v w all owned_ (λ q there. lives q ∙ there) before_
 fate_owned v w r (Kills reason) all owned_ lives before_ = end_owned v w r reason all owned_ lives before_
 
--- a served call was not refused
-abbrev Unrefused : Contents → Step → Deed → Type 0
-Unrefused v step deed = (p : Pid) (kind : CallKind) (arguments : List Meaning) (answer : Meaning) → step ≡ Turn p → deed ≡ Served kind arguments answer → (line v p (call_of kind arguments)).refusal ≡ None
-
 turned_owned : (v : Contents) (p : Pid) (xs : List Answered) → AreOwned v → AreOwned (changed (Turns p xs) v)
 turned_owned v p xs before_ = owned_same v (changed (Turns p xs) v) (λ t. refl) (λ q. refl) (λ q there. there) before_
 
@@ -435,52 +430,6 @@ event_owned v (Deliver s r) (Delivered x f) lives unrefused before_ =
     subst AreOwned (λ i c. sym (after_both ks (changes_of_fate (after ks v) r f) w c) i)
     (fate_owned (after ks v) (after ks w) r f (λ t. follows ks w v (Table t) refl) (λ q. follows ks w v (Owned q) refl) (λ q. follows ks w v (Alive q) refl) (goes_owned s r x v before_))
 event_owned v (Deliver s r) deed lives unrefused before_ = before_
-
--- what a deed says of a call that was served
-served_in : Deed → Option (CallKind × List Meaning)
-served_in (Served kind arguments answer) = Some (kind, arguments)
-served_in deed = None
-
-judged_served : (kind : CallKind) (arguments : List Meaning) (o : Option Refusal) (x : Meaning) (k : CallKind) (xs : List Meaning) → served_in (judged kind arguments o x) ≡ Some (k, xs) → (o ≡ None) × (kind ≡ k) × (arguments ≡ xs)
-unfolding served_in
-judged_served kind arguments None x k xs is = (refl, ap (λ o. (unwrap_or {T = CallKind × List Meaning} o (kind, arguments)).0) is, ap (λ o. (unwrap_or {T = CallKind × List Meaning} o (kind, arguments)).1) is)
-judged_served kind arguments (Some refusal) x k xs is = absurd cc
-
-ended_served : (kind : CallKind) (arguments : List Meaning) (end : Option Meaning) (o : Option Refusal) (x : Meaning) (k : CallKind) (xs : List Meaning) → served_in (ended_or kind arguments end (judged kind arguments o x)) ≡ Some (k, xs) → (o ≡ None) × (kind ≡ k) × (arguments ≡ xs)
-unfolding served_in
-ended_served kind arguments None o x k xs is = judged_served kind arguments o x k xs is
-ended_served kind arguments (Some reason) o x k xs is = absurd cc
-
-waited_served : (b : Bool) (d e : Deed) (k : CallKind) (xs : List Meaning) → (if b then None else Some d) ≡ Some e → served_in e ≡ Some (k, xs) → served_in d ≡ Some (k, xs)
-unfolding served_in
-waited_served true d e k xs now is = absurd cc
-waited_served false d e k xs now is = ap (λ o. served_in (unwrap_or o d)) now ∙ is
-
-received_served : (waits : Bool) (o : Option Meaning) (e : Deed) (k : CallKind) (xs : List Meaning) → received waits o ≡ Some e → served_in e ≡ Some (k, xs) → ⊥
-unfolding served_in
-received_served waits (Some m) e k xs now is = no_table (ap (λ o. served_in (unwrap_or o (Received m))) now ∙ is)
-received_served true None e k xs now is = absurd cc
-received_served false None e k xs now is = no_table (ap (λ o. served_in (unwrap_or o TimedOut)) now ∙ is)
-
-asked_served : (v : Contents) (p : Pid) (q : Request) (e : Deed) (k : CallKind) (xs : List Meaning) → deed_asked v p q ≡ Some e → served_in e ≡ Some (k, xs) → (line v p (call_of k xs)).refusal ≡ None
-unfolding served_in
-asked_served v p (Calls kind arguments) e k xs now is =
-    let call = call_of kind arguments in
-    let by = ended_served kind arguments (ends_itself v p call) (line v p call).refusal (line v p call).answer k xs (waited_served (must_wait v p call) (ended_or kind arguments (ends_itself v p call) (judged kind arguments (line v p call).refusal (line v p call).answer)) e k xs now is) in
-    (λ i. (line v p (call_of (sym by.1 i) (sym by.2 i))).refusal) ∙ by.0
-asked_served v p (Receives waits selects) e k xs now is = absurd (received_served waits (selected_of selects (v (Mailbox p))) e k xs now is)
-asked_served v p (Ends reason) e k xs now is = absurd (no_table (ap (λ o. served_in (unwrap_or o (Ended reason))) now ∙ is))
-asked_served v p RunsAway e k xs now is = absurd (no_table (ap (λ o. served_in (unwrap_or o RanAway)) now ∙ is))
-
-turn_served : (v : Contents) (b : Bool) (p : Pid) (q : Request) (e : Deed) (k : CallKind) (xs : List Meaning) → (if b then deed_asked v p q else None) ≡ Some e → served_in e ≡ Some (k, xs) → (line v p (call_of k xs)).refusal ≡ None
-turn_served v true p q e k xs now is = asked_served v p q e k xs now is
-turn_served v false p q e k xs now is = absurd cc
-
-unrefused_in : (a : Program) (h : History) (step : Step) (e : Event) → next_event a h step ≡ Some e → Unrefused (contents h) step e.deed
-unfolding served_in
-unrefused_in a h step e now = λ p kind arguments answer is deed.
-    let there : next_deed a (contents h) (Turn p) ≡ Some e.deed = ap (next_deed a (contents h)) (sym is) ∙ deed_is step (next_deed a (contents h) step) e now in
-    turn_served (contents h) (contents h (Alive p)) p (asked a p (contents h (Machine p))) e.deed kind arguments there (ap served_in deed)
 
 run_owned : (a : Program) (h : History) → IsRun a h → AreOwned (contents h)
 unfolding contents AreOwned

@@ -35,6 +35,7 @@ pub mod RowsLeft
 pub mod Owners
 pub mod TablesTold
 pub mod RunLaws
+pub mod FoundTold
 pub mod Asking
 pub mod Modules
 pub mod Happenings
@@ -42,3 +43,7 @@ pub mod TableExamples
 pub mod ProcessExamples
 pub mod ReceiveExamples
 pub mod ShownExamples
+pub mod Orders
+pub mod OrderExamples
+pub mod LeftExamples
+pub mod RowExamples

@@ -1,5 +1,5 @@
 -- What the histories of small modules show.
-use Rattle.std.specs.Prelude.{◌≡◌, ◌∷◌, [], List, Option, Some, None, true, false, option_map, codes}
+use Rattle.std.specs.Prelude.{◌≡◌, ◌∷◌, [], List, Some, true, false, option_map, codes}
 use Rattle.term_core.specs.declared.step.Step.{Step}
 use Rattle.term_core.specs.declared.step.Step.TheVariants.{Turn}
 use Rattle.core_tree.specs.Syntax.{ModuleTree}
@@ -7,7 +7,7 @@ use Rattle.core_tree.specs.declared.call.CallKind.TheVariants as kinds
 use Rattle.world_model.specs.Asking.{program_of}
 use Rattle.world_model.specs.Happenings.{P, P_2, t, a_1, error_of}
 use Rattle.world_model.specs.Run.{run}
-use Rattle.world_model.specs.Shown.{Identity, End, Deadlock, RefusedCall, Flags, shown, errors_of, refusals_of}
+use Rattle.world_model.specs.Shown.{Identity, End, RefusedCall, Flags, shown, errors_of, refusals_of}
 use Rattle.world_model.specs.TableExamples.{writes, stranger}
 use Rattle.world_model.specs.declared.rule.Rule.TheVariants.{ProtectedWrite}
 

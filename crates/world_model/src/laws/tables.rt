@@ -1,4 +1,5 @@
 // The laws of calls of tables.
+ghost use Rattle.world_model.specs.FoundTold.{TablesAreFound, FoundAreThere, FoundIsTold};
 ghost use Rattle.world_model.specs.Owners.{LeavesTable, MakesTable, PassesTables, PassesRows};
 ghost use Rattle.world_model.specs.RowsLeft.{WritesRows, LeavesRows, KeepsTheLast};
 ghost use Rattle.world_model.specs.TablesTold.{TableIsTold, RowsAreTold};
@@ -55,4 +56,13 @@ pub fn ends_pass_tables()
 pub fn tables_are_told()
     ensures table { TableIsTold }
     ensures rows { RowsAreTold }
+{}
+
+/// What an argument finds: each table that is there is found by its name or its reference, what is found is
+/// there, and after an event an argument finds the table that was made for it, or else the one that it found
+/// before, unless that is gone.
+pub fn finding_is_told()
+    ensures all { TablesAreFound }
+    ensures only { FoundAreThere }
+    ensures told { FoundIsTold }
 {}

@@ -1,0 +1,54 @@
+// What calls of small modules answer of their rows, and what ends, deletes and names leave.
+ghost use Rattle.world_model.specs.LeftExamples.{NamedHasNoReference, DeletedIsNotFound, DeletedHasNoOwner, DeletedHasNoRows, OwnHeirIsNone, NameGoesWithItsHolder};
+ghost use Rattle.world_model.specs.RowExamples.{BagHoldsEachOnce, BagGivesEachElement, BagHasNoCounter, DuplicateBagHoldsAll, SetKeepsTheLast, AllOrNothing, ShortHasNoPlace, ShortHasNoKey, SumHasItsRange, CounterCounts};
+
+/// A table that is found by its name is not found by its reference.
+#[tactic(auto, unfolding(crate::specs::World::contents))]
+pub fn named_tables_have_no_reference()
+    ensures { NamedHasNoReference }
+{}
+
+/// A deleted table is not found, and has no owner and no rows.
+#[tactic(auto, unfolding(crate::specs::World::contents))]
+pub fn deleted_tables_are_gone()
+    ensures found { DeletedIsNotFound }
+    ensures owner { DeletedHasNoOwner }
+    ensures rows { DeletedHasNoRows }
+{}
+
+/// Who ends is no heir of its own table.
+#[tactic(auto, unfolding(crate::specs::World::contents))]
+pub fn nobody_inherits_from_itself()
+    ensures { OwnHeirIsNone }
+{}
+
+/// The name of a process goes with it.
+#[tactic(auto, unfolding(crate::specs::World::contents))]
+pub fn names_go_with_their_holders()
+    ensures { NameGoesWithItsHolder }
+{}
+
+/// A bag holds an object once, a duplicate_bag as often as it came, a set the last under each key.
+#[tactic(auto, unfolding(crate::specs::World::contents))]
+pub fn kinds_hold_their_objects()
+    ensures bag { BagHoldsEachOnce }
+    ensures elements { BagGivesEachElement }
+    ensures counter { BagHasNoCounter }
+    ensures duplicates { DuplicateBagHoldsAll }
+    ensures set { SetKeepsTheLast }
+{}
+
+/// Where one key is there, an insert_new of a list puts nothing in.
+#[tactic(auto, unfolding(crate::specs::World::contents))]
+pub fn insert_new_is_all_or_nothing()
+    ensures { AllOrNothing }
+{}
+
+/// Keys may stand at another place; sums have 64 bits.
+#[tactic(auto, unfolding(crate::specs::World::contents))]
+pub fn places_and_sums_have_their_range()
+    ensures place { ShortHasNoPlace }
+    ensures key { ShortHasNoKey }
+    ensures range { SumHasItsRange }
+    ensures sum { CounterCounts }
+{}
