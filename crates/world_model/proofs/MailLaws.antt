@@ -210,4 +210,4 @@ unfolding contents IsCounted
 waiting_told a h e s r is =
     let ks = changes_by (contents h) e.step e.deed in
     (λ i. drop (front_told (contents h) e.step e.deed s r i) (tail_told ks (contents h) s r i))
-    ∙ drop_more (contents h (Front s r)) (delivers e.step e.deed s r) (contents h (Tail s r)) (signals_to s r ks) (run_counted a h is.1 s r)
+    ∙ drop_more (contents h (Front s r)) (delivers e.step e.deed s r) (contents h (Tail s r)) (signals_to s r ks) (run_counted a h is s r)

@@ -58,6 +58,6 @@ abbrev pub delivers : Step → Deed → Pid → Pid → ℕ
 delivers (Deliver t u) (Delivered signal fate) s r = if same_pid t s && same_pid u r then 1 else 0
 delivers step deed s r = 0
 
--- the signals on their way: those that were, and those that are put, but for the one in front that is delivered
+-- the signals on their way, after any event of what really happened: those that were, and those that are put, but for the one in front that is delivered
 abbrev pub WaitingIsTold : Type 0
-WaitingIsTold = (a : Program) (h : History) (e : Event) (s r : Pid) → IsRun a (e ∷ h) → waiting (e ∷ h) s r ≡ drop (delivers e.step e.deed s r) (waiting h s r ++ puts h e s r)
+WaitingIsTold = (a : Program) (h : History) (e : Event) (s r : Pid) → IsRun a h → waiting (e ∷ h) s r ≡ drop (delivers e.step e.deed s r) (waiting h s r ++ puts h e s r)
