@@ -10,7 +10,7 @@ use Rattle.world_model.specs.Modules.{the, the_atom, the_tuple, the_table, ask_f
 use Rattle.world_model.specs.OrderExamples.{a, me_as_n}
 use Rattle.world_model.specs.Orders.{OrderMatters, Tells}
 use Rattle.world_model.specs.ProcessExamples.{first_ref}
-use Rattle.world_model.specs.TableExamples.{writes}
+use Rattle.world_model.specs.TableExamples.{writes, bequeaths}
 use Rattle.world_model.specs.Terms.{atom, process}
 use Rattle.world_model.specs.World.{found, rows, owner}
 use Rattle.world_model.specs.declared.rule.Rule.TheVariants.{NoTable}
@@ -41,6 +41,10 @@ own_heir = module_of (main (with_result (codes "Me") (compute pures.OwnPid []) (
 
 abbrev pub OwnHeirIsNone : Type 0
 OwnHeirIsNone = EndsWith own_heir (Turn P ∷ Turn P ∷ Turn P ∷ Turn P_2 ∷ []) (refuses_it P_2 kinds.Lookup (t ∷ a ∷ []) NoTable None)
+
+-- and who has ended is no heir: the child of `bequeaths`, which is refused its write, ends before its parent does
+abbrev pub DeadHeirIsNone : Type 0
+DeadHeirIsNone = Tells (λ h. found h (ByName (codes "t"))) bequeaths (Turn P ∷ Turn P ∷ Turn P ∷ Turn P_1 ∷ Turn P_1 ∷ Turn P ∷ []) None
 
 -- ---- with a process its name goes
 

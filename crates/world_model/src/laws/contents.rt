@@ -1,5 +1,5 @@
 // What calls of small modules answer of their rows, and what ends, deletes and names leave.
-ghost use Rattle.world_model.specs.LeftExamples.{NamedHasNoReference, DeletedIsNotFound, DeletedHasNoOwner, DeletedHasNoRows, OwnHeirIsNone, NameGoesWithItsHolder};
+ghost use Rattle.world_model.specs.LeftExamples.{NamedHasNoReference, DeletedIsNotFound, DeletedHasNoOwner, DeletedHasNoRows, OwnHeirIsNone, DeadHeirIsNone, NameGoesWithItsHolder};
 ghost use Rattle.world_model.specs.RowExamples.{BagHoldsEachOnce, BagGivesEachElement, BagHasNoCounter, DuplicateBagHoldsAll, SetKeepsTheLast, AllOrNothing, ShortHasNoPlace, ShortHasNoKey, SumHasItsRange, CounterCounts};
 
 /// A table that is found by its name is not found by its reference.
@@ -20,6 +20,12 @@ pub fn deleted_tables_are_gone()
 #[tactic(auto, unfolding(crate::specs::World::contents))]
 pub fn nobody_inherits_from_itself()
     ensures { OwnHeirIsNone }
+{}
+
+/// Nor is who has ended before.
+#[tactic(auto, unfolding(crate::specs::World::contents))]
+pub fn the_dead_inherit_nothing()
+    ensures { DeadHeirIsNone }
 {}
 
 /// The name of a process goes with it.
