@@ -1,0 +1,4 @@
+// What the tree of schedules covers, over the explored world, as definitions and laws.
+#![tactic(auto)]
+
+pub mod laws;
