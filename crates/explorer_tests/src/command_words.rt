@@ -1,7 +1,7 @@
 // The words of the command line.
 use explorer_engine::{NAME, Words, read_words, run};
 use std::test::Fail;
-use test_streams::{MemorySink, MemorySource};
+use test_support::{MemorySink, MemorySource};
 
 // Blanks stand as they are.
 #[test]

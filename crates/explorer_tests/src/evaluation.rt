@@ -5,14 +5,13 @@ mod exceptions;
 mod own_calls;
 mod runs;
 
-use crate::built::nested;
 use crate::requests::text_of;
-use crate::term_words::pid;
 use core_eval::{Answer, Machine};
 use runs::{Long, MAIN, ask_all, ask_long, asks, first_process, process, program, run_on};
 use std::alloc::Global;
 use std::test::Fail;
-use term_core::Term;
+use term_core::{Pid, Term};
+use test_support::nested;
 
 // Bodies, and what a process with such a body asks; each request is answered by its number.
 const IN_ORDER: [(&str, &str); 2] = [
@@ -135,7 +134,8 @@ const CHILD: [u64; 1] = [1];
 // What the process `P.1` asks that is to begin with this function.
 fn other(alloc: Global, name: &str) -> Result<Vec<u8>, Fail> {
     let program = program(alloc, MAIN, "0")?;
-    let mut machine = process(alloc, &program, pid(alloc, &CHILD)?, name)?;
+    let child = Pid::new(alloc, Vec::from_slice(alloc, &CHILD)?)?;
+    let mut machine = process(alloc, &program, child, name)?;
     run_on(alloc, &mut machine)
 }
 

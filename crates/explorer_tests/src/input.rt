@@ -2,7 +2,7 @@
 use explorer_engine::{InputFault, read_input};
 use std::test::Fail;
 use term_core::Source;
-use test_streams::{EndlessSource, MemorySource};
+use test_support::{EndlessSource, MemorySource};
 
 #[test]
 fn reads_to_the_end(rt: HostRuntime) -> Result<(), Fail> {

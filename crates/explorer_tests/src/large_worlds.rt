@@ -1,8 +1,7 @@
 // Worlds of many events, rows and tables: each event is the one that is wanted.
-use crate::built::push_number;
 use crate::worlds::{last, turn};
 use core_reader::read_module;
-use std::alloc::{AllocError, Global};
+use std::alloc::Global;
 use std::process::Abort;
 use std::test::Fail;
 use world_core::World;
@@ -15,32 +14,11 @@ fn happens(rt: &impl Abort, alloc: Global, world: &mut World, want: &str) -> Res
     Ok(())
 }
 
-// A number between two texts.
-fn line(alloc: Global, before: &str, number: u64, after: &str) -> Result<String, AllocError> {
-    let mut text = String::new(alloc);
-    push_number(alloc, &mut text, before, number, after)?;
-    Ok(text)
-}
-
-// Two numbers between three texts.
-fn line_of_two(
-    alloc: Global,
-    before: &str,
-    first: u64,
-    between: &str,
-    second: u64,
-    after: &str,
-) -> Result<String, AllocError> {
-    let mut text = line(alloc, before, first, between)?;
-    push_number(alloc, &mut text, "", second, after)?;
-    Ok(text)
-}
-
 // Puts an object under each number from `count` down to 1.
 fn puts(rt: &impl Abort, alloc: Global, world: &mut World, count: u64) -> Result<(), Fail> {
     for index in 0..count {
         let number = count.saturating_sub(index);
-        let want = line(alloc, "insert 't' {", number, ",'x'} -> 'true'")?;
+        let want = format!(in alloc; "insert 't' {{{number},'x'}} -> 'true'")?;
         happens(rt, alloc, world, want.as_str())?;
     }
     Ok(())
@@ -50,7 +28,7 @@ fn puts(rt: &impl Abort, alloc: Global, world: &mut World, count: u64) -> Result
 fn gets(rt: &impl Abort, alloc: Global, world: &mut World, count: u64) -> Result<(), Fail> {
     for index in 0..count {
         let number = count.saturating_sub(index);
-        let want = line_of_two(alloc, "lookup 't' ", number, " -> [{", number, ",'x'}]")?;
+        let want = format!(in alloc; "lookup 't' {number} -> [{{{number},'x'}}]")?;
         happens(rt, alloc, world, want.as_str())?;
     }
     Ok(())
@@ -76,9 +54,9 @@ fn makes(rt: &impl Abort, alloc: Global, world: &mut World, count: u64) -> Resul
     for index in 0..count {
         let number = count.saturating_sub(index);
         let turn = index.saturating_mul(2).saturating_add(1);
-        let want = line(alloc, "new 't' [] -> #P.", turn, "")?;
+        let want = format!(in alloc; "new 't' [] -> #P.{turn}")?;
         happens(rt, alloc, world, want.as_str())?;
-        let want = line_of_two(alloc, "insert #P.", turn, " {'n',", number, "} -> 'true'")?;
+        let want = format!(in alloc; "insert #P.{turn} {{'n',{number}}} -> 'true'")?;
         happens(rt, alloc, world, want.as_str())?;
     }
     Ok(())
@@ -90,7 +68,7 @@ fn finds(rt: &impl Abort, alloc: Global, world: &mut World, count: u64) -> Resul
         let number = index.saturating_add(1);
         let before = count.saturating_sub(number);
         let turn = before.saturating_mul(2).saturating_add(1);
-        let want = line_of_two(alloc, "lookup #P.", turn, " 'n' -> [{'n',", number, "}]")?;
+        let want = format!(in alloc; "lookup #P.{turn} 'n' -> [{{'n',{number}}}]")?;
         happens(rt, alloc, world, want.as_str())?;
     }
     Ok(())

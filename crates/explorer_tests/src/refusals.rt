@@ -5,7 +5,7 @@ use std::alloc::{AllocError, Global};
 use std::process::Abort;
 use std::test::Fail;
 use term_core::ScheduleFault;
-use test_streams::{MemorySink, MemorySource};
+use test_support::{MemorySink, MemorySource};
 
 // Refusals with their status and their line.
 const REFUSALS: [(RunFault, u8, &[u8]); 9] = [

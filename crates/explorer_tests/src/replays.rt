@@ -2,7 +2,7 @@
 use explorer_engine::{RunFault, Verdict, run_replay, status, write_fault};
 use std::alloc::{AllocError, Global};
 use std::test::Fail;
-use test_streams::{MemorySink, MemorySource};
+use test_support::{MemorySink, MemorySource};
 
 // A process that makes a table, and writes and reads an object of it.
 const TABLE: &str =

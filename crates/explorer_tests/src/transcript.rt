@@ -1,18 +1,20 @@
 // The lines of events made by hand, byte for byte.
-use crate::term_words::Word::{Int, List, Name, Pid, Ref, Tuple};
-use crate::term_words::{Word, pid, term, terms};
 use core_tree::CallKind;
 use explorer_engine::write_event;
 use std::alloc::{AllocError, Global};
 use std::process::Abort;
 use std::sync::Arc;
 use std::test::Fail;
-use term_core::{Step, Term};
-use test_streams::MemorySink;
+use term_core::{Pid, RefId, Step, Term, Terms, list_onto};
+use test_support::MemorySink;
 use world_core::{Deed, Event, Rule};
 
 // How many bytes a sink takes at a time.
 const PIECES: [usize; 2] = [1, 1000];
+
+fn pid(alloc: Global, numbers: &[u64]) -> Result<Pid, AllocError> {
+    Pid::new(alloc, Vec::from_slice(alloc, numbers)?)
+}
 
 // Asserts that the line is written so, in one write or in many.
 fn prints(
@@ -35,62 +37,77 @@ fn prints(
     Ok(())
 }
 
-// Served calls with their arguments and answers, and their lines.
-const SERVED: [(CallKind, &[Word], &[Word], &[u8]); 5] = [
-    (
-        CallKind::New,
-        &[Name("t"), Name("named_table"), List(1)],
-        &[Name("t")],
-        b"3 P.2 ets:new('t',['named_table']) -> 't'\n",
-    ),
-    (
-        CallKind::Insert,
-        &[Name("t"), Name("a"), Int(1), Tuple(2)],
-        &[Name("true")],
-        b"3 P.2 ets:insert('t',{'a',1}) -> 'true'\n",
-    ),
-    (
-        CallKind::Lookup,
-        &[Name("t"), Name("a")],
-        &[Name("a"), Int(1), Tuple(2), List(1)],
-        b"3 P.2 ets:lookup('t','a') -> [{'a',1}]\n",
-    ),
-    (
-        CallKind::Bang,
-        &[Pid(&[]), Name("b")],
-        &[Name("b")],
-        b"3 P.2 erlang:!(P,'b') -> 'b'\n",
-    ),
-    (
-        CallKind::MakeRef,
-        &[],
-        &[Ref(&[], 1)],
-        b"3 P.2 erlang:make_ref() -> #P.1\n",
-    ),
-];
-
 fn served(
     alloc: Global,
     kind: CallKind,
-    arguments: &[Word],
-    answer: &[Word],
+    arguments: Vec<Term>,
+    answer: Term,
 ) -> Result<Deed, AllocError> {
-    let arguments = Arc::new(alloc, terms(alloc, arguments)?)?;
-    let answer = term(alloc, answer)?;
     Ok(Deed::Served {
         kind,
-        arguments,
+        arguments: Arc::new(alloc, Terms::from_vec(arguments))?,
         answer,
     })
 }
 
+fn list(alloc: Global, item: Term) -> Result<Term, AllocError> {
+    list_onto(alloc, vec![in alloc; item]?, Term::Nil)
+}
+
+// The object `{'a',1}`.
+fn object(alloc: Global) -> Result<Term, AllocError> {
+    let parts = vec![in alloc; Term::atom(alloc, "a")?, Term::Int(1)]?;
+    Term::tuple(alloc, Terms::from_vec(parts))
+}
+
+fn table_and(alloc: Global, argument: Term) -> Result<Vec<Term>, AllocError> {
+    Ok(vec![in alloc; Term::atom(alloc, "t")?, argument]?)
+}
+
 #[test]
-fn prints_served_calls(rt: HostRuntime) -> Result<(), Fail> {
-    for (kind, arguments, answer, line) in SERVED {
-        let deed = served(rt.alloc(), kind, arguments, answer)?;
-        prints(&rt, rt.alloc(), 3, &[2], deed, line)?;
-    }
-    Ok(())
+fn prints_a_table_that_is_made(rt: HostRuntime) -> Result<(), Fail> {
+    let alloc = rt.alloc();
+    let arguments = table_and(alloc, list(alloc, Term::atom(alloc, "named_table")?)?)?;
+    let deed = served(alloc, CallKind::New, arguments, Term::atom(alloc, "t")?)?;
+    let line = b"3 P.2 ets:new('t',['named_table']) -> 't'\n";
+    prints(&rt, alloc, 3, &[2], deed, line)
+}
+
+#[test]
+fn prints_an_object_that_is_put(rt: HostRuntime) -> Result<(), Fail> {
+    let alloc = rt.alloc();
+    let arguments = table_and(alloc, object(alloc)?)?;
+    let deed = served(alloc, CallKind::Insert, arguments, Term::atom(alloc, "true")?)?;
+    let line = b"3 P.2 ets:insert('t',{'a',1}) -> 'true'\n";
+    prints(&rt, alloc, 3, &[2], deed, line)
+}
+
+#[test]
+fn prints_objects_that_are_found(rt: HostRuntime) -> Result<(), Fail> {
+    let alloc = rt.alloc();
+    let arguments = table_and(alloc, Term::atom(alloc, "a")?)?;
+    let deed = served(alloc, CallKind::Lookup, arguments, list(alloc, object(alloc)?)?)?;
+    let line = b"3 P.2 ets:lookup('t','a') -> [{'a',1}]\n";
+    prints(&rt, alloc, 3, &[2], deed, line)
+}
+
+#[test]
+fn prints_a_message_that_is_sent(rt: HostRuntime) -> Result<(), Fail> {
+    let alloc = rt.alloc();
+    let message = Term::atom(alloc, "b")?;
+    let arguments = vec![in alloc; Term::Pid(pid(alloc, &[])?), message.copy()?]?;
+    let deed = served(alloc, CallKind::Bang, arguments, message)?;
+    let line = b"3 P.2 erlang:!(P,'b') -> 'b'\n";
+    prints(&rt, alloc, 3, &[2], deed, line)
+}
+
+#[test]
+fn prints_a_reference_that_is_made(rt: HostRuntime) -> Result<(), Fail> {
+    let alloc = rt.alloc();
+    let reference = Term::Ref(RefId::new(alloc, pid(alloc, &[])?, 1)?);
+    let deed = served(alloc, CallKind::MakeRef, Vec::new(alloc), reference)?;
+    let line = b"3 P.2 erlang:make_ref() -> #P.1\n";
+    prints(&rt, alloc, 3, &[2], deed, line)
 }
 
 // Rules with the owner that is reported, and the lines of their refusals.
@@ -147,17 +164,15 @@ const REFUSED: [(Rule, Option<&[u64]>, &[u8]); 10] = [
     ),
 ];
 
-// The call that is refused.
-const REFUSED_CALL: [Word; 2] = [Name("t"), Name("a")];
-
 fn refused(alloc: Global, rule: Rule, numbers: Option<&[u64]>) -> Result<Deed, AllocError> {
+    let arguments = table_and(alloc, Term::atom(alloc, "a")?)?;
     let owner = match numbers {
         Some(numbers) => Some(pid(alloc, numbers)?),
         None => None,
     };
     Ok(Deed::Refused {
         kind: CallKind::Lookup,
-        arguments: Arc::new(alloc, terms(alloc, &REFUSED_CALL)?)?,
+        arguments: Arc::new(alloc, Terms::from_vec(arguments))?,
         rule,
         owner,
     })

@@ -1,14 +1,13 @@
 // Worlds of small modules, and what happens in them.
 ghost use Rattle.std.specs.Prelude.{◌≡◌, false};
 
-use crate::built::{between, nested};
 use crate::requests::write_call;
-use crate::term_words::pid;
 use core_reader::{Module, ReadFault, read_module};
 use std::alloc::{AllocError, Global};
 use std::process::Abort;
 use std::test::Fail;
 use term_core::{Output, Pid, Step, WriteFault, write_all, write_number, write_pid, write_term};
+use test_support::nested;
 use world_core::{Deed, World, WorldFault};
 
 // What stands before the body of `main/0`, which begins at 57.
@@ -16,7 +15,7 @@ const FRONT: &str = "module 'm' ['main'/0] attributes [] 'main'/0 = fun () -> ";
 
 // The module `m` whose `main/0` has this body.
 fn program(alloc: Global, body: &str) -> Result<Module, ReadFault> {
-    let text = between(alloc, FRONT, body, " end")?;
+    let text = format!(in alloc; "{FRONT}{body} end")?;
     read_module(alloc, text.as_bytes())
 }
 
@@ -207,7 +206,7 @@ const END: &str = "{'badarg',[]}\n";
 #[test]
 fn each_refusal_has_its_rule(rt: HostRuntime) -> Result<(), Fail> {
     for (body, refusal) in REFUSED {
-        let want = between(rt.alloc(), "", refusal, END)?;
+        let want = format!(in rt.alloc(); "{refusal}{END}")?;
         happens(&rt, rt.alloc(), body, want.as_str())?;
     }
     Ok(())
@@ -216,8 +215,8 @@ fn each_refusal_has_its_rule(rt: HostRuntime) -> Result<(), Fail> {
 #[test]
 fn each_refusal_of_a_table_has_its_rule(rt: HostRuntime) -> Result<(), Fail> {
     for (body, refusal) in REFUSED_LATER {
-        let body = between(rt.alloc(), NAMED, body, "")?;
-        let want = between(rt.alloc(), MADE, refusal, END)?;
+        let body = format!(in rt.alloc(); "{NAMED}{body}")?;
+        let want = format!(in rt.alloc(); "{MADE}{refusal}{END}")?;
         happens(&rt, rt.alloc(), body.as_str(), want.as_str())?;
     }
     Ok(())
@@ -274,7 +273,8 @@ fn other_steps_are_not_enabled(rt: HostRuntime) -> Result<(), Fail> {
     let program = program(rt.alloc(), "'ok'")?;
     let mut world = World::open(rt.alloc(), &program)?;
     assert!(rt; world.last_event().is_none());
-    let child = Step::Turn(pid(rt.alloc(), &CHILD)?);
+    let child = Pid::new(rt.alloc(), Vec::from_slice(rt.alloc(), &CHILD)?)?;
+    let child = Step::Turn(child);
     is_not_enabled(&rt, rt.alloc(), &mut world, &child);
     is_not_enabled(&rt, rt.alloc(), &mut world, &delivery(rt.alloc())?);
     let text = run_on(rt.alloc(), &mut world)?;

@@ -1,13 +1,14 @@
 // Applications of the module's own functions.
 use super::runs::{MAIN, ask_all, begins, first_process, program, run_on};
-use crate::built::{between, nested, push_number};
 use core_eval::Machine;
 use core_reader::Module;
 use core_tree::{Call, Callee, Definition, Expr, Exprs, FunctionName, NamedFunction, Variable};
 use std::alloc::{AllocError, Global};
+use std::fmt::Write;
 use std::process::Abort;
 use std::test::Fail;
 use term_core::Atom;
+use test_support::nested;
 
 // Functions, of which `swap` and `fails` are exported.
 const FUNCTIONS: &str =
@@ -181,46 +182,42 @@ const ROWS: [(&str, &str, &str); 8] = [
 
 // A link that applies the next within what stands around it.
 fn push_link(
-    alloc: Global,
     text: &mut String,
     link: u64,
     next: u64,
     around: (&str, &str),
 ) -> Result<(), AllocError> {
     let (front, back) = around;
-    push_number(alloc, text, "'f", link, "'/1 = fun (X) -> ")?;
-    text.push_str(front)?;
-    push_number(alloc, text, "apply 'f", next, "'/1(X)")?;
-    text.push_str(back)?;
-    text.push(' ')
+    write!(text, "'f{link}'/1 = fun (X) -> {front}apply 'f{next}'/1(X){back} ")
 }
 
 // The links from the second on.
-fn push_links(alloc: Global, text: &mut String, around: (&str, &str)) -> Result<(), AllocError> {
+fn push_links(text: &mut String, around: (&str, &str)) -> Result<(), AllocError> {
     for link in 1..LAST {
-        push_link(alloc, text, link, link + 1, around)?;
+        push_link(text, link, link + 1, around)?;
     }
-    push_link(alloc, text, LAST, 0, around)
+    push_link(text, LAST, 0, around)
 }
 
 // The functions of the rows.
 fn push_rows(text: &mut String) -> Result<(), AllocError> {
     for (name, body, _) in ROWS {
-        text.push_str("'")?;
-        text.push_str(name)?;
-        text.push_str("'/0 = fun () -> ")?;
-        text.push_str(body)?;
-        text.push(' ')?;
+        write!(text, "'{name}'/0 = fun () -> {body} ")?;
     }
     Ok(())
 }
 
+// The first link: what stands before its application and what there is to do with it, and what stands after.
+const FIRST_LINK: &str =
+    "module 'm' [] attributes [] 'f0'/1 = fun (X) -> case X of <[X|Y]> when 'true' -> ";
+
+const NO_ITEM: &str = " <[]> when 'true' -> 'done' end ";
+
 // The functions of the rows, and the chain.
 fn chain(alloc: Global, around: (&str, &str)) -> Result<Module, Fail> {
-    let first = "module 'm' [] attributes [] 'f0'/1 = fun (X) -> case X of <[X|Y]> when 'true' -> ";
-    let mut text = nested(alloc, first, around.0, 1, "apply 'f1'/1(Y)", around.1)?;
-    text.push_str(" <[]> when 'true' -> 'done' end ")?;
-    push_links(alloc, &mut text, around)?;
+    let (front, back) = around;
+    let mut text = format!(in alloc; "{FIRST_LINK}{front}apply 'f1'/1(Y){back}{NO_ITEM}")?;
+    push_links(&mut text, around)?;
     push_rows(&mut text)?;
     text.push_str("'main'/0 = fun () -> ")?;
     program(alloc, text.as_str(), "0")

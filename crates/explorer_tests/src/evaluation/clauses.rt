@@ -1,7 +1,7 @@
 // Clauses, patterns and guards.
 use super::runs::{Long, MAIN, ask_all, ask_long, asks};
-use crate::built::nested;
 use std::test::Fail;
+use test_support::nested;
 
 // Clauses, and what is asked.
 const CLAUSES: [(&str, &str); 8] = [

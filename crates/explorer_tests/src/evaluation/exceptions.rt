@@ -1,7 +1,7 @@
 // Exceptions: how they end a process, and how they are caught and handled.
 use super::runs::{Long, MAIN, ask_all, ask_long, ask_within, asks};
-use crate::built::nested;
 use std::test::Fail;
+use test_support::nested;
 
 const AN_EXIT: &str = "primop 'raise'({'$trace','exit'},5)";
 

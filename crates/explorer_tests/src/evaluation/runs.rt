@@ -1,5 +1,4 @@
 // Modules from texts, and what their processes ask, as text.
-use crate::built::{between, nested};
 use crate::requests::text_of;
 use core_eval::{Answer, Machine, Request, start};
 use core_reader::{Module, read_module};
@@ -7,13 +6,14 @@ use std::alloc::{AllocError, Global};
 use std::process::Abort;
 use std::test::Fail;
 use term_core::{Atom, Pid, Term, Terms};
+use test_support::nested;
 
 // What stands before the body of `'main'/0`, where the module `m` has no other function.
 pub(crate) const MAIN: &str = "module 'm' [] attributes [] 'main'/0 = fun () -> ";
 
 // The module whose last function has this body, and what stands before it.
 pub(crate) fn program(alloc: Global, front: &str, body: &str) -> Result<Module, Fail> {
-    let text = between(alloc, front, body, " end")?;
+    let text = format!(in alloc; "{front}{body} end")?;
     Ok(read_module(alloc, text.as_bytes())?)
 }
 
@@ -116,7 +116,7 @@ pub(crate) fn ask_within(
     rows: &[(&str, &str, &str)],
 ) -> Result<(), Fail> {
     for (inner, back, want) in rows {
-        let body = between(alloc, front, inner, back)?;
+        let body = format!(in alloc; "{front}{inner}{back}")?;
         asks(rt, alloc, MAIN, body.as_str(), want)?;
     }
     Ok(())

@@ -4,7 +4,7 @@ use std::alloc::{AllocError, Global};
 use std::process::Abort;
 use std::test::Fail;
 use term_core::{Term, Terms, list_onto, write_term};
-use test_streams::MemorySink;
+use test_support::MemorySink;
 
 const MILLION: u64 = 1_000_000;
 

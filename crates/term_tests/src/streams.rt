@@ -4,7 +4,7 @@ use std::io::{BufWriter, ErrorKind, Write};
 use std::process::Abort;
 use std::test::Fail;
 use term_core::{Output, Sink, Source};
-use test_streams::{EndlessSource, MemorySink, MemorySource};
+use test_support::{EndlessSource, MemorySink, MemorySource};
 
 // Asserts what one read of 8 bytes at most hands out.
 fn reads(rt: &impl Abort, source: &mut impl Source, want: &[u8]) -> Result<(), Fail> {

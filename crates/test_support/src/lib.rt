@@ -1,7 +1,9 @@
-// Streams in memory that behave as badly as streams may, for tests: no crate of the program lists this one.
+// What tests are made of: streams in memory that behave as badly as streams may, and texts of many equal parts. No
+// crate of the program lists this one.
 #![tactic(auto)]
 
-ghost use Rattle.std.specs.Prelude.{◌≡◌, [], ◌+◌, ◌==◌, ◌&&◌, ◌||◌, not, min, IfOk, IsOkAnd, OnErr, OnOk, Some, None, false, is_err, is_ok, length, EachIndex, slice_index};
+ghost use Rattle.std.specs.Prelude.{◌≡◌, [], ◌+◌, ◌++◌, ◌==◌, ◌&&◌, ◌||◌, not, min, IfOk, IsOkAnd, OnErr, OnOk, Some, None, false, is_err, is_ok, length, string_bytes, EachIndex, slice_index};
+ghost use Rattle.std.specs.List.{repeat};
 ghost use Rattle.std.specs.Io.{ReadsAtMost, WritesAtMost};
 ghost use Rattle.std.specs.Io.KnownBytes.{Keeps, ReadConsumes, WriteAppends};
 ghost use Rattle.term_core.specs.Stream.{took_nothing};
@@ -10,6 +12,25 @@ use std::alloc::{AllocError, Global};
 use std::io;
 use std::io::ErrorKind;
 use term_core::{Sink, Source};
+
+/// A text with equal parts on both sides of its middle: `front`, `count` times `opening`, `middle`, and as many
+/// times `closing`; or `AllocError` if there is no memory for it.
+pub fn nested(
+    alloc: Global,
+    front: &str,
+    opening: &str,
+    count: usize,
+    middle: &str,
+    closing: &str,
+) -> Result<String, AllocError>
+    ensures bytes { IfOk result (λ text. string_bytes text ≡ front.now ++ repeat count opening.now ++ middle.now ++ repeat count closing.now) }
+{
+    let mut text = String::from_str(alloc, front)?;
+    text.push_str(opening.repeat(alloc, count)?.as_str())?;
+    text.push_str(middle)?;
+    text.push_str(closing.repeat(alloc, count)?.as_str())?;
+    Ok(text)
+}
 
 /// A source over bytes in memory, which reports them. It hands out at most `piece` bytes a read, and
 /// fails at each read once `reads` reads were made.

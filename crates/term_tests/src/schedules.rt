@@ -1,15 +1,15 @@
 // Texts that are schedules, and the first bad step of those that are none.
-use crate::built::{nested, push_number};
 use std::alloc::Global;
+use std::fmt::Write;
 use std::process::Abort;
 use std::test::Fail;
 use term_core::{Pid, ScheduleFault, Step, read_schedule, write_schedule, write_step};
-use test_streams::MemorySink;
+use test_support::{MemorySink, nested};
 
 // The numbers of a pid, each after a blank.
-fn describe(alloc: Global, text: &mut String, pid: &Pid) -> Result<(), Fail> {
+fn describe(text: &mut String, pid: &Pid) -> Result<(), Fail> {
     for number in pid.numbers() {
-        push_number(alloc, text, " ", *number, "")?;
+        write!(text, " {number}")?;
     }
     Ok(())
 }
@@ -21,13 +21,13 @@ fn described(alloc: Global, steps: &[Step]) -> Result<String, Fail> {
         match step {
             Step::Turn(pid) => {
                 text.push_str("turn")?;
-                describe(alloc, &mut text, pid)?;
+                describe(&mut text, pid)?;
             }
             Step::Deliver(from, to) => {
                 text.push_str("from")?;
-                describe(alloc, &mut text, from)?;
+                describe(&mut text, from)?;
                 text.push_str(" to")?;
-                describe(alloc, &mut text, to)?;
+                describe(&mut text, to)?;
             }
         }
         text.push(';')?;

@@ -1,10 +1,11 @@
 // Modules read from tokens, also from those of more than a text of lawful length.
-use crate::built::{between, nested, push_number};
 use core_reader::{Module, read_tokens};
 use core_tokens::{ReadFault, tokens};
 use core_tree::Expr;
 use std::alloc::{AllocError, Global};
+use std::fmt::Write;
 use std::test::Fail;
+use test_support::nested;
 
 // What the tokens of a text spell.
 fn read(alloc: Global, text: &str) -> Result<Module, ReadFault> {
@@ -106,7 +107,7 @@ const FRONT: &str = "module 'm' [ ] attributes [ ] 'main' / 0 = fun ( ) -> ";
 // The module whose body is so many lists, one in another, around an integer.
 fn in_lists(alloc: Global, depth: usize) -> Result<String, AllocError> {
     let body = nested(alloc, "", "[", depth, "1", "]")?;
-    between(alloc, FRONT, body.as_str(), " end")
+    Ok(format!(in alloc; "{FRONT}{body} end")?)
 }
 
 // How many lists, and the fault.
@@ -130,7 +131,7 @@ fn nests_a_thousand_levels(rt: HostRuntime) -> Result<(), Fail> {
 #[test]
 fn reads_a_long_list(rt: HostRuntime) -> Result<(), Fail> {
     let body = nested(rt.alloc(), "[", "1,", 100_000, "1]", "")?;
-    let text = between(rt.alloc(), FRONT, body.as_str(), " end")?;
+    let text = format!(in rt.alloc(); "{FRONT}{body} end")?;
     assert_eq!(rt; read(rt.alloc(), text.as_str()).err(), None);
     Ok(())
 }
@@ -139,7 +140,7 @@ fn reads_a_long_list(rt: HostRuntime) -> Result<(), Fail> {
 fn definitions(alloc: Global, count: u64) -> Result<String, AllocError> {
     let mut text = String::new(alloc);
     for number in 0..count {
-        push_number(alloc, &mut text, "'f", number, "'/0 = fun () -> 1 ")?;
+        write!(text, "'f{number}'/0 = fun () -> 1 ")?;
     }
     Ok(text)
 }
@@ -149,7 +150,7 @@ fn definitions(alloc: Global, count: u64) -> Result<String, AllocError> {
 fn reads_70000_definitions(rt: HostRuntime) -> Result<(), Fail> {
     let front = "module 'm' [] attributes [] 'main'/0 = fun () -> 1 ";
     let definitions = definitions(rt.alloc(), 70_000)?;
-    let text = between(rt.alloc(), front, definitions.as_str(), "end")?;
+    let text = format!(in rt.alloc(); "{front}{definitions}end")?;
     let module = read(rt.alloc(), text.as_str())?;
     assert_eq!(rt; module.definitions.len(), 70_001);
     Ok(())

@@ -5,7 +5,7 @@ use std::alloc::{AllocError, Global};
 use std::process::Abort;
 use std::test::Fail;
 use term_core::{Term, write_term};
-use test_streams::MemorySink;
+use test_support::MemorySink;
 
 // How many bytes a sink takes at a time.
 const PIECES: [usize; 3] = [1, 3, 1000];

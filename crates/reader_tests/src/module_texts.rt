@@ -1,9 +1,9 @@
 // Texts with the fault and the place that the rules give each, and whole modules.
-use crate::built::nested;
 use core_reader::{ReadFault, read_module};
 use std::alloc::Global;
 use std::process::Abort;
 use std::test::Fail;
+use test_support::nested;
 
 // Asserts what the reader answers to each text.
 pub(super) fn answers(rt: &impl Abort, alloc: Global, table: &[(&[u8], ReadFault)]) {

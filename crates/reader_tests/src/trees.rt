@@ -1,5 +1,4 @@
 // Names of calls, and modules that are the same or are not.
-use crate::built::between;
 use core_reader::read_module;
 use core_tree::{
     Call, CallKind, Callee, Case, Clauses, Definition, Expr, Exprs, FunctionName, Module,
@@ -171,12 +170,8 @@ fn module_of(
     expression: &str,
     after: &str,
 ) -> Result<Module, Fail> {
-    let mut text = between(alloc, shift, "module 'm' ", front)?;
-    text.push_str(FUNCTIONS)?;
-    text.push_str(before)?;
-    text.push_str(expression)?;
-    text.push_str(after)?;
-    text.push_str(" end")?;
+    let text =
+        format!(in alloc; "{shift}module 'm' {front}{FUNCTIONS}{before}{expression}{after} end")?;
     Ok(read_module(alloc, text.as_bytes())?)
 }
 
@@ -195,7 +190,7 @@ fn modules(alloc: Global, shift: &str) -> Result<Vec<Module>, Fail> {
         all.push(module_of(alloc, shift, front, "", "0", "")?)?;
     }
     for whole in WHOLE {
-        let text = between(alloc, shift, whole, "")?;
+        let text = format!(in alloc; "{shift}{whole}")?;
         all.push(read_module(alloc, text.as_bytes())?)?;
     }
     Ok(all)

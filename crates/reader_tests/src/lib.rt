@@ -1,0 +1,18 @@
+// Tests of the reader: which texts are modules, the first fault of each other text, and when two modules are
+// the same.
+#![tactic(auto)]
+
+#[cfg(test)]
+mod language;
+#[cfg(test)]
+mod module_texts;
+#[cfg(test)]
+mod module_tokens;
+#[cfg(test)]
+mod scopes;
+#[cfg(test)]
+mod texts;
+#[cfg(test)]
+mod tokens;
+#[cfg(test)]
+mod trees;
