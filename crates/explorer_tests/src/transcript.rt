@@ -77,7 +77,12 @@ fn prints_a_table_that_is_made(rt: HostRuntime) -> Result<(), Fail> {
 fn prints_an_object_that_is_put(rt: HostRuntime) -> Result<(), Fail> {
     let alloc = rt.alloc();
     let arguments = table_and(alloc, object(alloc)?)?;
-    let deed = served(alloc, CallKind::Insert, arguments, Term::atom(alloc, "true")?)?;
+    let deed = served(
+        alloc,
+        CallKind::Insert,
+        arguments,
+        Term::atom(alloc, "true")?,
+    )?;
     let line = b"3 P.2 ets:insert('t',{'a',1}) -> 'true'\n";
     prints(&rt, alloc, 3, &[2], deed, line)
 }
@@ -86,7 +91,12 @@ fn prints_an_object_that_is_put(rt: HostRuntime) -> Result<(), Fail> {
 fn prints_objects_that_are_found(rt: HostRuntime) -> Result<(), Fail> {
     let alloc = rt.alloc();
     let arguments = table_and(alloc, Term::atom(alloc, "a")?)?;
-    let deed = served(alloc, CallKind::Lookup, arguments, list(alloc, object(alloc)?)?)?;
+    let deed = served(
+        alloc,
+        CallKind::Lookup,
+        arguments,
+        list(alloc, object(alloc)?)?,
+    )?;
     let line = b"3 P.2 ets:lookup('t','a') -> [{'a',1}]\n";
     prints(&rt, alloc, 3, &[2], deed, line)
 }

@@ -170,8 +170,9 @@ fn module_of(
     expression: &str,
     after: &str,
 ) -> Result<Module, Fail> {
-    let text =
-        format!(in alloc; "{shift}module 'm' {front}{FUNCTIONS}{before}{expression}{after} end")?;
+    let text = format!(in alloc;
+        "{shift}module 'm' {front}{FUNCTIONS}{before}{expression}{after} end"
+    )?;
     Ok(read_module(alloc, text.as_bytes())?)
 }
 

@@ -188,7 +188,10 @@ fn push_link(
     around: (&str, &str),
 ) -> Result<(), AllocError> {
     let (front, back) = around;
-    write!(text, "'f{link}'/1 = fun (X) -> {front}apply 'f{next}'/1(X){back} ")
+    write!(
+        text,
+        "'f{link}'/1 = fun (X) -> {front}apply 'f{next}'/1(X){back} "
+    )
 }
 
 // The links from the second on.
