@@ -1,0 +1,98 @@
+-- The nodes of the tree of a module, and how many small modules have.
+use Rattle.std.specs.Prelude.{◌≡◌, ◌↔◌, ℕ, pos, List, [], ◌∷◌, codes, length}
+use Rattle.term_core.specs.declared.step.Step.{Step}
+use Rattle.term_core.specs.declared.step.Step.TheVariants.{Turn}
+use Rattle.core_tree.specs.Expression as trees
+use Rattle.core_tree.specs.Syntax.{ModuleTree, Tree}
+use Rattle.core_tree.specs.declared.call.CallKind.TheVariants as kinds
+use Rattle.world_model.specs.Asking.{program_of}
+use Rattle.world_model.specs.Happenings.{P, P_1}
+use Rattle.world_model.specs.Modules.{module_of, main, child, spawn_child, new_table, look_up, put_one, mention, the, in_turn, ask_for, the_atom, the_number, the_list, the_tuple, the_table}
+use Rattle.world_model.specs.Requests.{Program}
+use Rattle.world_model.specs.TableExamples.{stranger}
+use Rattle.sleep_sets.specs.Nodes.{paths}
+use Rattle.sleep_sets.specs.Search.{search}
+use Rattle.sleep_sets.specs.Tree.{IsAmong, IsPath}
+use Rattle.coverage.specs.Explored.{explored, choice}
+
+-- the schedules of the nodes, each before those of the nodes below it
+abbrev pub nodes : Program → ℕ → List (List Step)
+nodes a n = paths (explored a) (search (explored a) (choice a)) n tt [] []
+
+-- a schedule is listed exactly where it leads to a node
+abbrev pub NodesAreListed : Type 0
+NodesAreListed = (a : Program) (n : ℕ) (p : List Step) → IsAmong (nodes a n) p ↔ IsPath (explored a) (search (explored a) (choice a)) n tt [] [] p
+
+-- the tree of a module to this depth has so many nodes
+abbrev pub HasNodes : ModuleTree → ℕ → ℕ → Type 0
+HasNodes m n count = length (nodes (program_of m) n) ≡ count
+
+-- and these are the schedules of its nodes
+abbrev pub HasTree : ModuleTree → ℕ → List (List Step) → Type 0
+HasTree m n schedules = nodes (program_of m) n ≡ schedules
+
+-- ---- small modules
+
+-- a process that ends at once
+abbrev pub idle : ModuleTree
+idle = module_of (main (the_atom (codes "ok")) ∷ [])
+
+abbrev pub IdleHasOne : Type 0
+IdleHasOne = HasNodes idle 0 1
+
+abbrev pub IdleHasTwo : Type 0
+IdleHasTwo = HasNodes idle 1 2
+
+-- two processes make a table of their own each and end: nothing that one does matters to the other
+abbrev pub own_table : Tree
+own_table = ask_for kinds.New (the_table ∷ the_list [] ∷ [])
+
+abbrev pub two_tables : ModuleTree
+two_tables = module_of (main (in_turn spawn_child own_table) ∷ child own_table ∷ [])
+
+abbrev pub p : Step
+p = Turn P
+
+abbrev pub c : Step
+c = Turn P_1
+
+abbrev pub TwoTablesHaveTen : Type 0
+TwoTablesHaveTen = HasTree two_tables 5 (
+    []
+    ∷ (p ∷ [])
+    ∷ (p ∷ p ∷ [])
+    ∷ (p ∷ p ∷ p ∷ [])
+    ∷ (p ∷ p ∷ p ∷ c ∷ [])
+    ∷ (p ∷ p ∷ p ∷ c ∷ c ∷ [])
+    ∷ (p ∷ p ∷ c ∷ [])
+    ∷ (p ∷ p ∷ c ∷ c ∷ [])
+    ∷ (p ∷ c ∷ [])
+    ∷ (p ∷ c ∷ c ∷ [])
+    ∷ [])
+
+-- another process writes a protected table: its call and the end of the owner depend on each other
+abbrev pub StrangerHasTen : Type 0
+StrangerHasTen = HasNodes stranger 5 10
+
+-- another process reads a private table, and goes on
+abbrev pub private_read : ModuleTree
+private_read = module_of (
+    main (in_turn (new_table (the_atom (codes "private") ∷ [])) spawn_child)
+    ∷ child (trees.Try 0 look_up (mention (codes "X") ∷ []) (the (codes "X")) (mention (codes "K") ∷ mention (codes "R") ∷ []) (the_atom (codes "none")))
+    ∷ [])
+
+abbrev pub PrivateReadHasFive : Type 0
+PrivateReadHasFive = HasNodes private_read 3 5
+
+-- two processes put objects under two keys of one table: the inserts do not depend on each other
+abbrev pub put_other : Tree
+put_other = ask_for kinds.Insert (the_table ∷ the_tuple (the_atom (codes "b") ∷ the_number (pos 1) ∷ []) ∷ [])
+
+abbrev pub two_keys : ModuleTree
+two_keys = module_of (main (in_turn (new_table (the_atom (codes "public") ∷ [])) (in_turn spawn_child put_one)) ∷ child put_other ∷ [])
+
+abbrev pub TwoKeysHaveEight : Type 0
+TwoKeysHaveEight = HasNodes two_keys 4 8
+
+abbrev pub TwoKeysHaveThirteen : Type 0
+TwoKeysHaveThirteen = HasNodes two_keys 6 13
