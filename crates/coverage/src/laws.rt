@@ -4,6 +4,7 @@ ghost use Rattle.world_model.specs.Requests.{Program};
 ghost use Rattle.sleep_sets.specs.Coverage.{CoversSchedules, CoversSigns};
 ghost use Rattle.sleep_sets.specs.Search.{search};
 ghost use Rattle.coverage.specs.Explored.{explored, choice, signs};
+ghost use Rattle.coverage.specs.Shown.{NodesShowTheSame};
 ghost use Rattle.coverage.specs.Trees.{NodesAreListed, IdleHasOne, IdleHasTwo, TwoTablesHaveTen, StrangerHasTen, PrivateReadHasFive, TwoKeysHaveEight, TwoKeysHaveThirteen};
 
 /// The search by sleep sets has a node for each schedule of at most so many steps, up to swaps of
@@ -16,6 +17,11 @@ pub fn searches_cover()
 /// The schedules that are listed are those that lead to nodes of the tree.
 pub fn nodes_are_listed()
     ensures { NodesAreListed }
+{}
+
+/// An identity is shown by some schedule of at most so many steps exactly where a schedule of the list shows it.
+pub fn nodes_show_what_schedules_show()
+    ensures { NodesShowTheSame }
 {}
 
 /// The trees of small modules are as they were worked out by hand: what is independent is taken in one order, what
