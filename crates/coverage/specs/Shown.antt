@@ -1,8 +1,19 @@
 -- What the nodes of the tree show.
-use Rattle.std.specs.Prelude.{◌↔◌, ℕ, List, []}
+use Rattle.std.specs.Prelude.{◌≡◌, ◌↔◌, ℕ, List, [], ◌∷◌, codes, Option, Some, None}
 use Rattle.term_core.specs.declared.step.Step.{Step}
+use Rattle.core_tree.specs.Syntax.{ModuleTree}
+use Rattle.core_tree.specs.declared.call.CallKind.TheVariants as kinds
+use Rattle.world_model.specs.Asking.{program_of}
+use Rattle.world_model.specs.Events.{History}
+use Rattle.world_model.specs.Happenings.{P, P_2, t, a_1, error_of}
 use Rattle.world_model.specs.Requests.{Program}
-use Rattle.world_model.specs.Shown.{Identity}
+use Rattle.world_model.specs.Run.{run}
+use Rattle.world_model.specs.Shown.{Identity, End, RefusedCall, shown}
+use Rattle.world_model.specs.TableExamples.{stranger}
+use Rattle.world_model.specs.declared.rule.Rule.{Rule}
+use Rattle.world_model.specs.declared.rule.Rule.TheVariants.{ProtectedWrite, NoTable}
+use Rattle.term_core.specs.declared.step.Step.TheVariants.{Turn}
+use Rattle.world_model.specs.Names.{Pid}
 use Rattle.sleep_sets.specs.Shown.{IsShown, Shows}
 use Rattle.sleep_sets.specs.Tree.{IsAmong}
 use Rattle.coverage.specs.Explored.{explored, signs}
@@ -15,3 +26,45 @@ IsShownByListed a schedules i = (p : List Step) × IsAmong schedules p × Shows 
 -- some schedule of at most so many steps shows an identity exactly where the schedule of some node does
 abbrev pub NodesShowTheSame : Type 0
 NodesShowTheSame = (a : Program) (n : ℕ) (i : Identity) → IsShown (explored a) (signs a) n [] i ↔ IsShownByListed a (nodes a n) i
+
+-- ---- what the tree of a small module shows
+
+-- what a schedule shows, if it runs
+abbrev pub shown_after : Program → Option History → List Identity
+shown_after a None = []
+shown_after a (Some h) = shown a h
+
+-- the schedule is told where it shows something
+abbrev pub told_if_any : List Step → List Identity → List (List Step × List Identity) → List (List Step × List Identity)
+told_if_any s [] rest = rest
+told_if_any s (i ∷ is) rest = (s, i ∷ is) ∷ rest
+
+abbrev pub told_of : Program → List (List Step) → List (List Step × List Identity)
+told_of a [] = []
+told_of a (s ∷ schedules) = told_if_any s (shown_after a (run a s)) (told_of a schedules)
+
+-- these nodes of the tree show something, and this
+abbrev pub TreeShows : ModuleTree → ℕ → List (List Step × List Identity) → Type 0
+TreeShows m n told = told_of (program_of m) (nodes (program_of m) n) ≡ told
+
+abbrev pub p : Step
+p = Turn P
+
+abbrev pub c : Step
+c = Turn P_2
+
+abbrev pub refused_by : Rule → Option Pid → Identity
+refused_by rule owner = RefusedCall P_2 1 kinds.Insert (t ∷ a_1 ∷ []) rule owner
+
+abbrev pub ended : Identity
+ended = End P_2 (error_of (codes "badarg"))
+
+-- the call of the stranger is refused while the owner lives, and after its end, each by its rule; then it ends with badarg
+abbrev pub StrangerShows : Type 0
+StrangerShows = TreeShows stranger 5 (
+    (p ∷ p ∷ p ∷ c ∷ [], refused_by NoTable None ∷ [])
+    ∷ (p ∷ p ∷ p ∷ c ∷ c ∷ [], ended ∷ [])
+    ∷ (p ∷ p ∷ c ∷ [], refused_by ProtectedWrite (Some P) ∷ [])
+    ∷ (p ∷ p ∷ c ∷ p ∷ c ∷ [], ended ∷ [])
+    ∷ (p ∷ p ∷ c ∷ c ∷ [], ended ∷ [])
+    ∷ [])

@@ -4,7 +4,7 @@ ghost use Rattle.world_model.specs.Requests.{Program};
 ghost use Rattle.sleep_sets.specs.Coverage.{CoversSchedules, CoversSigns};
 ghost use Rattle.sleep_sets.specs.Search.{search};
 ghost use Rattle.coverage.specs.Explored.{explored, choice, signs};
-ghost use Rattle.coverage.specs.Shown.{NodesShowTheSame};
+ghost use Rattle.coverage.specs.Shown.{NodesShowTheSame, StrangerShows};
 ghost use Rattle.coverage.specs.Trees.{NodesAreListed, IdleHasOne, IdleHasTwo, TwoTablesHaveTen, StrangerHasTen, PrivateReadHasFive, TwoKeysHaveEight, TwoKeysHaveThirteen};
 
 /// The search by sleep sets has a node for each schedule of at most so many steps, up to swaps of
@@ -35,4 +35,10 @@ pub fn trees_have_their_nodes()
     ensures refused { PrivateReadHasFive }
     ensures keys { TwoKeysHaveEight }
     ensures deeper { TwoKeysHaveThirteen }
+{}
+
+/// A stranger writes a protected table: the tree shows both of its refusals, and its end.
+#[tactic(auto, unfolding(world_model::specs::World::contents))]
+pub fn trees_show_refusals()
+    ensures { StrangerShows }
 {}
