@@ -33,7 +33,7 @@ same_after h g same e c = ap (λ v. grown v e.step e.deed c) (all_cells h g same
 
 -- ---- lists in order with the same elements are the same
 
-comes : (x s : Step) (xs : List Step) → ComesBefore x xs → IsAmong s xs → order_of_steps x s ≡ Less
+pub comes : (x s : Step) (xs : List Step) → ComesBefore x xs → IsAmong s xs → order_of_steps x s ≡ Less
 comes x s [] before there = absurd there
 comes x s (y ∷ ys) before (inl is) = ap (order_of_steps x) (sym is) ∙ before.0
 comes x s (y ∷ ys) before (inr there) = comes x s ys before.1 there

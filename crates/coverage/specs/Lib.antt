@@ -1,3 +1,6 @@
 pub mod Explored
-pub mod Shown
 pub mod Trees
+pub mod Shown
+pub mod Identities
+pub mod Findings
+pub mod FindingExamples

@@ -1,5 +1,5 @@
 -- What the nodes of the tree show.
-use Rattle.std.specs.Prelude.{◌≡◌, ◌↔◌, ℕ, List, [], ◌∷◌, codes, Option, Some, None}
+use Rattle.std.specs.Prelude.{◌≡◌, ◌≤◌, ◌↔◌, ℕ, List, [], ◌∷◌, codes, length, Option, Some, None}
 use Rattle.term_core.specs.declared.step.Step.{Step}
 use Rattle.core_tree.specs.Syntax.{ModuleTree}
 use Rattle.core_tree.specs.declared.call.CallKind.TheVariants as kinds
@@ -8,24 +8,29 @@ use Rattle.world_model.specs.Events.{History}
 use Rattle.world_model.specs.Happenings.{P, P_2, t, a_1, error_of}
 use Rattle.world_model.specs.Requests.{Program}
 use Rattle.world_model.specs.Run.{run}
-use Rattle.world_model.specs.Shown.{Identity, End, RefusedCall, shown}
+use Rattle.world_model.specs.Shown.{Identity, End, RefusedCall, shown, Shows}
 use Rattle.world_model.specs.TableExamples.{stranger}
 use Rattle.world_model.specs.declared.rule.Rule.{Rule}
 use Rattle.world_model.specs.declared.rule.Rule.TheVariants.{ProtectedWrite, NoTable}
 use Rattle.term_core.specs.declared.step.Step.TheVariants.{Turn}
-use Rattle.world_model.specs.Names.{Pid}
-use Rattle.sleep_sets.specs.Shown.{IsShown, Shows}
-use Rattle.sleep_sets.specs.Tree.{IsAmong}
-use Rattle.coverage.specs.Explored.{explored, signs}
+use Rattle.world_model.specs.Names.{Pid, IsAmong}
 use Rattle.coverage.specs.Trees.{nodes}
 
--- a schedule of the list shows the identity
-abbrev pub IsShownByListed : Program → List (List Step) → Identity → Type 0
-IsShownByListed a schedules i = (p : List Step) × IsAmong schedules p × Shows (explored a) (signs a) [] p i
+-- a schedule runs, and its history shows the identity
+abbrev pub RunShows : Program → List Step → Identity → Type 0
+RunShows a s i = (h : History) × (run a s ≡ Some h) × Shows a h i
 
--- some schedule of at most so many steps shows an identity exactly where the schedule of some node does
+-- some schedule of at most so many steps shows it
+abbrev pub IsShown : Program → ℕ → Identity → Type 0
+IsShown a n i = (s : List Step) × (length s ≤ n) × RunShows a s i
+
+-- some schedule of the list shows it
+abbrev pub IsShownByOne : Program → List (List Step) → Identity → Type 0
+IsShownByOne a schedules i = (s : List Step) × IsAmong s schedules × RunShows a s i
+
+-- some schedule of at most so many steps shows an identity exactly where that of some node does
 abbrev pub NodesShowTheSame : Type 0
-NodesShowTheSame = (a : Program) (n : ℕ) (i : Identity) → IsShown (explored a) (signs a) n [] i ↔ IsShownByListed a (nodes a n) i
+NodesShowTheSame = (a : Program) (n : ℕ) (i : Identity) → IsShown a n i ↔ IsShownByOne a (nodes a n) i
 
 -- ---- what the tree of a small module shows
 

@@ -1,27 +1,61 @@
 -- The nodes of the tree of a module, and how many small modules have.
-use Rattle.std.specs.Prelude.{◌≡◌, ◌↔◌, ℕ, pos, List, [], ◌∷◌, codes, length}
+use Rattle.std.specs.Cmp.Lexicographic.{slice_cmp}
+use Rattle.std.specs.declared.cmp.Ordering.{Ordering}
+use Rattle.std.specs.declared.cmp.Ordering.TheVariants.{Less}
+use Rattle.std.specs.Prelude.{◌≡◌, ◌≤◌, ℕ, pos, true, List, [], ◌∷◌, Some, codes, length}
+use Rattle.term_core.specs.StepOrder.{order_of_steps}
 use Rattle.term_core.specs.declared.step.Step.{Step}
 use Rattle.term_core.specs.declared.step.Step.TheVariants.{Turn}
 use Rattle.core_tree.specs.Expression as trees
 use Rattle.core_tree.specs.Syntax.{ModuleTree, Tree}
 use Rattle.core_tree.specs.declared.call.CallKind.TheVariants as kinds
 use Rattle.world_model.specs.Asking.{program_of}
+use Rattle.world_model.specs.Events.{Event, History}
 use Rattle.world_model.specs.Happenings.{P, P_1}
+use Rattle.world_model.specs.Independence.{are_independent}
 use Rattle.world_model.specs.Modules.{module_of, main, child, spawn_child, new_table, look_up, put_one, mention, the, in_turn, ask_for, the_atom, the_number, the_list, the_tuple, the_table}
+use Rattle.world_model.specs.Names.{IsAmong}
 use Rattle.world_model.specs.Requests.{Program}
+use Rattle.world_model.specs.Run.{next_event, run}
 use Rattle.world_model.specs.TableExamples.{stranger}
 use Rattle.sleep_sets.specs.Nodes.{paths}
 use Rattle.sleep_sets.specs.Search.{search}
-use Rattle.sleep_sets.specs.Tree.{IsAmong, IsPath}
 use Rattle.coverage.specs.Explored.{explored, choice}
 
 -- the schedules of the nodes, each before those of the nodes below it
 abbrev pub nodes : Program → ℕ → List (List Step)
 nodes a n = paths (explored a) (search (explored a) (choice a)) n tt [] []
 
--- a schedule is listed exactly where it leads to a node
-abbrev pub NodesAreListed : Type 0
-NodesAreListed = (a : Program) (n : ℕ) (p : List Step) → IsAmong (nodes a n) p ↔ IsPath (explored a) (search (explored a) (choice a)) n tt [] [] p
+-- each is a schedule of at most so many steps, and it runs
+abbrev pub NodesRun : Type 0
+NodesRun = (a : Program) (n : ℕ) (s : List Step) → IsAmong s (nodes a n) → (length s ≤ n) × (h : History) × (run a s ≡ Some h)
+
+-- two schedules step by step, a prefix before its longer ones
+abbrev pub order_in_tree : List Step → List Step → Ordering
+order_in_tree = slice_cmp order_of_steps
+
+-- schedules in that order, each once: each comes before all that follow it
+abbrev pub GoesBefore : List Step → List (List Step) → Type 0
+GoesBefore s [] = Unit {0}
+GoesBefore s (t ∷ ts) = (order_in_tree s t ≡ Less) × GoesBefore s ts
+
+abbrev pub AreInTreeOrder : List (List Step) → Type 0
+AreInTreeOrder [] = Unit {0}
+AreInTreeOrder (s ∷ ss) = GoesBefore s ss × AreInTreeOrder ss
+
+abbrev pub NodesAreInOrder : Type 0
+NodesAreInOrder = (a : Program) (n : ℕ) → AreInTreeOrder (nodes a n)
+
+-- after a history one schedule becomes the other by swaps of neighbours that are independent where they stand
+pub data AreEquivalent (a : Program) : History → List Step → List Step → Type 0 where
+  Itself : {h : History} {s : List Step} → AreEquivalent a h s s
+  Swap : {h : History} {s t : Step} {rest : List Step} → are_independent a h s t ≡ true → AreEquivalent a h (s ∷ t ∷ rest) (t ∷ s ∷ rest)
+  After : {h : History} {s : Step} {e : Event} {r t : List Step} → next_event a h s ≡ Some e → AreEquivalent a (e ∷ h) r t → AreEquivalent a h (s ∷ r) (s ∷ t)
+  Chain : {h : History} {r s t : List Step} → AreEquivalent a h r s → AreEquivalent a h s t → AreEquivalent a h r t
+
+-- each schedule of at most so many steps that runs is equivalent to one of the list
+abbrev pub NodesCover : Type 0
+NodesCover = (a : Program) (n : ℕ) (s : List Step) (h : History) → length s ≤ n → run a s ≡ Some h → (p : List Step) × IsAmong p (nodes a n) × AreEquivalent a [] s p
 
 -- the tree of a module to this depth has so many nodes
 abbrev pub HasNodes : ModuleTree → ℕ → ℕ → Type 0

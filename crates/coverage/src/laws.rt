@@ -4,8 +4,10 @@ ghost use Rattle.world_model.specs.Requests.{Program};
 ghost use Rattle.sleep_sets.specs.Coverage.{CoversSchedules, CoversSigns};
 ghost use Rattle.sleep_sets.specs.Search.{search};
 ghost use Rattle.coverage.specs.Explored.{explored, choice, signs};
+ghost use Rattle.coverage.specs.FindingExamples.{IdleIsClean, StrangerIsFound, StrangerIsStrange};
+ghost use Rattle.coverage.specs.Findings.{FindingsAreSorted, ErrorsAreExact, RefusalsAreExact, ErrorsAreOfNodes, RefusalsAreOfNodes};
 ghost use Rattle.coverage.specs.Shown.{NodesShowTheSame, StrangerShows};
-ghost use Rattle.coverage.specs.Trees.{NodesAreListed, IdleHasOne, IdleHasTwo, TwoTablesHaveTen, StrangerHasTen, PrivateReadHasFive, TwoKeysHaveEight, TwoKeysHaveThirteen};
+ghost use Rattle.coverage.specs.Trees.{NodesRun, NodesAreInOrder, NodesCover, IdleHasOne, IdleHasTwo, TwoTablesHaveTen, StrangerHasTen, PrivateReadHasFive, TwoKeysHaveEight, TwoKeysHaveThirteen};
 
 /// The search by sleep sets has a node for each schedule of at most so many steps, up to swaps of
 /// independent steps, and its nodes show the identities that these schedules show.
@@ -14,14 +16,31 @@ pub fn searches_cover()
     ensures signs { (a : Program) (n : ℕ) → CoversSigns (explored a) (signs a) (search (explored a) (choice a)) n tt [] }
 {}
 
-/// The schedules that are listed are those that lead to nodes of the tree.
+/// The schedules of the nodes run and have at most so many steps; they are listed in their order, each once; and
+/// each schedule of at most so many steps that runs is equivalent to one of them.
 pub fn nodes_are_listed()
-    ensures { NodesAreListed }
+    ensures runs { NodesRun }
+    ensures order { NodesAreInOrder }
+    ensures cover { NodesCover }
 {}
 
 /// An identity is shown by some schedule of at most so many steps exactly where a schedule of the list shows it.
 pub fn nodes_show_what_schedules_show()
     ensures { NodesShowTheSame }
+{}
+
+/// The findings are in order, each identity once: an error under the flags, and a refusal, is among them exactly
+/// where some schedule of at most so many steps shows it.
+pub fn findings_are_exact()
+    ensures order { FindingsAreSorted }
+    ensures errors { ErrorsAreExact }
+    ensures refusals { RefusalsAreExact }
+{}
+
+/// Each finding has the schedule of a node that shows it, and of these the least.
+pub fn findings_are_of_nodes()
+    ensures errors { ErrorsAreOfNodes }
+    ensures refusals { RefusalsAreOfNodes }
 {}
 
 /// The trees of small modules are as they were worked out by hand: what is independent is taken in one order, what
@@ -41,4 +60,12 @@ pub fn trees_have_their_nodes()
 #[tactic(auto, unfolding(world_model::specs::World::contents))]
 pub fn trees_show_refusals()
     ensures { StrangerShows }
+{}
+
+/// What is found in the trees of small modules is as it was worked out by hand.
+#[tactic(auto, unfolding(world_model::specs::World::contents))]
+pub fn trees_have_their_findings()
+    ensures idle { IdleIsClean }
+    ensures stranger { StrangerIsFound }
+    ensures strict { StrangerIsStrange }
 {}

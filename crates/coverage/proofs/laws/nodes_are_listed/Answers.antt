@@ -1,8 +1,11 @@
-use Rattle.std.specs.Prelude.{[]}
-use Rattle.sleep_sets.specs.Search.{search}
-use Rattle.sleep_sets.proofs.Listing.{listed_nodes}
-use Rattle.coverage.specs.Explored.{explored, choice}
+use Rattle.coverage.proofs.ShownLaws.{nodes_run, nodes_in_order, nodes_cover}
 use Rattle.coverage.proofs.laws.nodes_are_listed.Goals as goal
 
-pub returns : goal.returns
-returns c = λ a n p. listed_nodes (explored a) (search (explored a) (choice a)) n tt [] [] p
+pub returns-clause-runs : goal.returns-clause-runs
+returns-clause-runs c = nodes_run
+
+pub returns-clause-order : goal.returns-clause-order
+returns-clause-order c = nodes_in_order
+
+pub returns-clause-cover : goal.returns-clause-cover
+returns-clause-cover c = nodes_cover
