@@ -36,12 +36,14 @@ abbrev pub WantsOne : Hole → Type 0
 WantsOne (holes.Parts purpose done later) = Unit {0}
 WantsOne (holes.Tail items) = Unit {0}
 WantsOne (holes.Second second) = Unit {0}
+WantsOne (holes.Receive clauses action) = Unit {0}
 WantsOne hole = ⊥
 
 pub filled-miscounted : (setting : Setting) (hole : Hole) (env : Environment) (vs : List Meaning) (s : State) → WantsOne hole → (length vs ≡ 1 → ⊥) → filled setting hole env (Yields vs s) ≡ error (codes "value_count") s
 filled-miscounted setting (holes.Parts purpose done later) env vs s w h = rw (miscounted _ vs s h) refl
 filled-miscounted setting (holes.Tail items) env vs s w h = miscounted _ vs s h
 filled-miscounted setting (holes.Second second) env vs s w h = miscounted _ vs s h
+filled-miscounted setting (holes.Receive clauses action) env vs s w h = miscounted _ vs s h
 filled-miscounted setting (holes.Body variables body) env vs s w h = absurd w
 filled-miscounted setting (holes.Clauses clauses) env vs s w h = absurd w
 filled-miscounted setting (holes.Guard bindings body others values) env vs s w h = absurd w

@@ -5,6 +5,7 @@ pub mod ApplyLaw
 pub mod Running
 pub mod Lookups
 pub mod Binding
+pub mod Selecting
 pub mod Matches
 pub mod Choosing
 pub mod WorkedRows

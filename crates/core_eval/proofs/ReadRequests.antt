@@ -17,7 +17,7 @@ use Rattle.pure_calls.specs.Answers as answers
 use Rattle.pure_calls.specs.Calls.{answer_of}
 use Rattle.core_eval.specs.Asked.{Answered, Value, Raise, Message, TimedOut}
 use Rattle.core_eval.specs.Matching.{Environment, lookup, bound, text_of, match_each}
-use Rattle.core_eval.specs.Evaluation.{State, before, name, Outcome, Yields, Raises, Stops, Setting, then_do, handled, one, node_limit, limited, limited_error, served, caught, caught_values, limited_answer, class_in, raised_again, value_or_error, within, is_true, guarded, taken, as_one, no_clause, called_with, evaluate, evaluate_all, choose}
+use Rattle.core_eval.specs.Evaluation.{State, before, name, Outcome, Yields, Raises, Stops, Setting, then_do, handled, one, node_limit, limited, limited_error, served, caught, caught_values, limited_answer, class_in, raised_again, value_or_error, within, is_true, guarded, taken, as_one, no_clause, waits_with, timed, received, called_with, evaluate, evaluate_all, choose}
 use Rattle.core_eval.specs.Applications.{definition, body_with, limit, counted, applied, room, apply_of}
 use Rattle.core_eval.specs.Ask.{Entry, first_function, is_open, function_of, request_of, ask}
 use Rattle.core_eval.specs.Servable.{IsReadRequest}
@@ -125,6 +125,17 @@ served_fine kind arguments h (Raise reason ∷ later) = tt
 served_fine kind arguments h (Message message ∷ later) = served_fine kind arguments h later
 served_fine kind arguments h (TimedOut ∷ later) = served_fine kind arguments h later
 
+timed_fine : (o : Option Bool) (go : Bool → State → Outcome) → ((waits : Bool) (s : State) → Fine (go waits s)) → (s : State) → Fine (timed o go s)
+timed_fine None go each s = tt
+timed_fine (Some waits) go each s = each waits s
+
+received_fine : (waits : Bool) (takes : Meaning → Bool) (go : Meaning → State → Outcome) (act : State → Outcome) → ((m : Meaning) (s : State) → Fine (go m s)) → ((s : State) → Fine (act s)) → (answers : List Answered) → Fine (received waits takes go act answers)
+received_fine waits takes go act each last [] = tt
+received_fine waits takes go act each last (Message m ∷ later) = each m (before later)
+received_fine waits takes go act each last (TimedOut ∷ later) = chosen waits _ _ (received_fine waits takes go act each last later) (last (before later))
+received_fine waits takes go act each last (Value value ∷ later) = received_fine waits takes go act each last later
+received_fine waits takes go act each last (Raise reason ∷ later) = received_fine waits takes go act each last later
+
 -- the body of a function, if there is one, has only such calls
 abbrev HasServableBody : Option (List Mention × Tree) → Type 0
 HasServableBody None = Unit {0}
@@ -173,6 +184,9 @@ module _ (own : List ℕ) (apply : Function → List Meaning → State → Outco
     evaluate_fine (trees.Call at callee ts) env s h =
         goes_on_with _ _ _ (all_fine ts env [] s h.1) (λ vs s' count. applied_fine callee vs s' (subst (λ (n : ℕ). MayBeCalled callee n) (none_before (count_of ts) (length vs) count) h.0))
     evaluate_fine (trees.Case at t cs) env s h = goes_on _ _ (evaluate_fine t env s h.0) (λ vs s'. choose_fine cs vs env s' h.1)
+    evaluate_fine (trees.Receive at cs timeout action) env s h =
+        goes_on _ _ (evaluate_fine timeout env s h.1)
+        (one_fine _ (λ v s'. timed_fine (waits_with v) _ (λ waits s''. received_fine waits _ _ _ (λ m s3. choose_fine cs (m ∷ []) env s3 h.0) (λ s3. evaluate_fine action env s3 h.2) s''.answers) s'))
     evaluate_fine (trees.Try at t variables body caught_variables handler) env s h =
         goes_on_handled _ _ _ (evaluate_fine t env s h.0)
         (λ vs s'. within_fine (bound variables vs []) env _ (λ inner s''. evaluate_fine body inner s'' h.1) s')

@@ -1,5 +1,5 @@
 -- Evaluations gain no room for applications, and two ways to apply that agree within some room give the same there.
-use Rattle.std.proofs.Common.{◌≡◌, ℕ, ◌+◌, ◌*◌, ◌≤◌, Bool, true, false, List, [], ◌∷◌, ◌++◌, length, refl, subst, arith, if◌then◌else◌}
+use Rattle.std.proofs.Common.{◌≡◌, ℕ, ◌+◌, ◌*◌, ◌≤◌, Bool, true, false, List, [], ◌∷◌, ◌++◌, length, refl, ap, subst, arith, ◌||◌, if◌then◌else◌}
 use Rattle.std.specs.Prelude.{Option, Some, None, nat_le, codes}
 use Rattle.core_tree.specs.declared.call.CallKind.{CallKind}
 use Rattle.core_tree.specs.Syntax.{patterns_of, Mention, Function, Callee, Tree, Trees, Clauses}
@@ -9,9 +9,9 @@ use Rattle.term_core.specs.Meaning.{Meaning, Tuple, Nil, meanings_of, node_count
 use Rattle.term_core.specs.Term.{list_onto}
 use Rattle.pure_calls.specs.declared.outcome.Class.{Class}
 use Rattle.pure_calls.specs.declared.outcome.Class.TheVariants.{Error, Exit, Throw}
-use Rattle.core_eval.specs.Asked.{Answered, Value, Raise, Message, TimedOut}
+use Rattle.core_eval.specs.Asked.{Receive, Answered, Value, Raise, Message, TimedOut}
 use Rattle.core_eval.specs.Matching.{Environment, lookup, bound, text_of, match_each}
-use Rattle.core_eval.specs.Evaluation.{State, name, Outcome, Yields, Raises, Stops, Setting, then_do, handled, one, node_limit, limited, served, called, caught, caught_values, limited_answer, class_in, raised_again, value_or_error, within, is_true, guarded, taken, no_clause, called_with, evaluate, evaluate_all, choose}
+use Rattle.core_eval.specs.Evaluation.{State, before, name, Outcome, Yields, Raises, Stops, Setting, then_do, handled, one, node_limit, limited, served, called, caught, caught_values, limited_answer, class_in, raised_again, value_or_error, within, is_true, guarded, taken, no_clause, waits_with, timed, received, at_rest, holds, is_taken, called_with, evaluate, evaluate_all, choose, selects}
 use Rattle.pure_calls.specs.Answers.{Answer}
 use Rattle.pure_calls.specs.Answers as answers
 use Rattle.pure_calls.specs.Calls.{answer_of}
@@ -123,6 +123,25 @@ module _ (r : ℕ) where
   both_called : (kind : CallKind) (arguments : List Meaning) → Everywhere (called kind arguments) (called kind arguments)
   both_called kind arguments s le = alone r (called kind arguments s) (served_fits kind arguments s.answers (omega (arith, le)))
 
+  both_timed : (o : Option Bool) (go go' : Bool → State → Outcome) → ((waits : Bool) → Everywhere (go waits) (go' waits)) → Everywhere (timed o go) (timed o go')
+  both_timed None go go' e s le = alone r (timed None go s) le
+  both_timed (Some waits) go go' e s le = e waits s le
+
+  -- two receives that take the same messages, and go on alike
+  both_received : (waits : Bool) (takes takes' : Meaning → Bool) → takes ≡ takes' → (go go' : Meaning → State → Outcome) → ((m : Meaning) → Everywhere (go m) (go' m)) → (act act' : State → Outcome) → Everywhere act act'
+      → (answers : List Answered) → (limit + 1) * length answers ≤ r → Both r (received waits takes go act answers) (received waits takes' go' act' answers)
+  both_received waits takes takes' e go go' each act act' last [] le = record { same = λ i. Stops (Receive waits (e i)); fits = tt }
+  both_received waits takes takes' e go go' each act act' last (Message m ∷ later) le = each m (before later) (omega (arith, le))
+  both_received waits takes takes' e go go' each act act' last (TimedOut ∷ later) le =
+      either r waits _ _ _ _ (both_received waits takes takes' e go go' each act act' last later (omega (arith, le))) (last (before later) (omega (arith, le)))
+  both_received waits takes takes' e go go' each act act' last (Value value ∷ later) le = both_received waits takes takes' e go go' each act act' last later (omega (arith, le))
+  both_received waits takes takes' e go go' each act act' last (Raise reason ∷ later) le = both_received waits takes takes' e go go' each act act' last later (omega (arith, le))
+
+-- two guards that give the same are taken alike
+taken_alike : (o : Option Environment) (env : Environment) (guard guard' : Environment → Outcome) → ((inner : Environment) → guard inner ≡ guard' inner) → is_taken o env guard ≡ is_taken o env guard'
+taken_alike None env guard guard' e = refl
+taken_alike (Some bindings) env guard guard' e = ap holds (e (bindings ++ env))
+
 -- ---- two ways to apply that agree within some room
 
 module _ (own : List ℕ) (a b : Function → List Meaning → State → Outcome) (r : ℕ) (agree : (f : Function) (vs : List Meaning) (s : State) → room s ≤ r → Both r (a f vs s) (b f vs s)) where
@@ -160,6 +179,9 @@ module _ (own : List ℕ) (a b : Function → List Meaning → State → Outcome
     both_evaluated (trees.Do t u) env s le = both_then r _ _ _ _ (both_evaluated t env s le) (both_one r _ _ (λ v. both_evaluated u env))
     both_evaluated (trees.Call at callee ts) env s le = both_then r _ _ _ _ (both_all ts env [] s le) (λ vs. both_applied callee vs)
     both_evaluated (trees.Case at t cs) env s le = both_then r _ _ _ _ (both_evaluated t env s le) (λ vs. both_chosen cs vs env)
+    both_evaluated (trees.Receive at cs timeout action) env s le =
+        both_then r _ _ _ _ (both_evaluated timeout env s le)
+        (both_one r _ _ (λ v. both_timed r (waits_with v) _ _ (λ waits s' le'. both_received r waits _ _ (λ i m. selected_alike cs env m i) _ _ (λ m. both_chosen cs (m ∷ []) env) _ _ (both_evaluated action env) s'.answers (omega (arith, le')))))
     both_evaluated (trees.Try at t variables body caught_variables handler) env s le =
         both_handled r _ _ _ _ _ _ (both_evaluated t env s le)
         (λ vs. both_within r (bound variables vs []) env _ _ (λ inner. both_evaluated body inner))
@@ -177,6 +199,11 @@ module _ (own : List ℕ) (a b : Function → List Meaning → State → Outcome
         (λ inner s' le'. both_judged r _ _ _ _ _ _ (both_evaluated guard inner s' le') (both_evaluated body inner) (both_chosen others values env))
         (both_chosen others values env)
         s le
+
+    selected_alike : (cs : Clauses) (env : Environment) (m : Meaning) → selects one_setting cs env m ≡ selects other_setting cs env m
+    selected_alike trees.NoClause env m = refl
+    selected_alike (trees.Clause patterns guard body others) env m =
+        λ i. taken_alike (match_each (patterns_of patterns) (m ∷ []) []) env _ _ (λ inner. (both_evaluated guard inner at_rest (omega arith)).same) i || selected_alike others env m i
 
   pub both_bodies : (f : Option (List Mention × Tree)) (vs : List Meaning) → Everywhere r (body_with one_setting f vs) (body_with other_setting f vs)
   both_bodies None vs s le = alone r _ le

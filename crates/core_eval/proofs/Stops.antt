@@ -1,9 +1,13 @@
 -- What passes through a stack unchanged.
-use Rattle.std.proofs.Common.{◌≡◌, List, [], ◌∷◌, refl, ap}
-use Rattle.core_eval.specs.Asked.{Asked, Call, Receive, End, Runaway}
+use Rattle.std.proofs.Common.{◌≡◌, Bool, List, [], ◌∷◌, refl, ap}
+use Rattle.std.specs.Prelude.{Option, Some, None}
+use Rattle.core_tree.specs.Syntax.{clauses_of}
+use Rattle.core_eval.specs.Asked.{Asked}
+use Rattle.core_eval.specs.Asked as asked
 use Rattle.core_eval.specs.Ask.{request_of}
-use Rattle.core_eval.specs.Evaluation.{Setting, Stops}
-use Rattle.core_eval.specs.Holes.{Hole, through, standing}
+use Rattle.core_eval.specs.Told.{Told, Call, Receive, End, Runaway, told}
+use Rattle.core_eval.specs.Evaluation.{State, before, Setting, Stops, selects}
+use Rattle.core_eval.specs.Holes.{Hole, Wait, receive_on, waiting, scope, through, standing}
 use Rattle.core_eval.specs.Holes as holes
 
 -- nothing goes on behind a request that is not answered
@@ -15,14 +19,24 @@ through-stops setting (holes.Body variables body ∷ holes) request = through-st
 through-stops setting (holes.Second second ∷ holes) request = through-stops setting holes request
 through-stops setting (holes.Clauses clauses ∷ holes) request = through-stops setting holes request
 through-stops setting (holes.Guard bindings body others values ∷ holes) request = through-stops setting holes request
+through-stops setting (holes.Receive clauses action ∷ holes) request = through-stops setting holes request
 through-stops setting (holes.Try variables body caught handler ∷ holes) request = through-stops setting holes request
 through-stops setting (holes.Catch ∷ holes) request = through-stops setting holes request
 through-stops setting (holes.Kept bindings ∷ holes) request = through-stops setting holes request
 through-stops setting (holes.Applied bindings ∷ holes) request = through-stops setting holes request
 
+waiting-none : (setting : Setting) (o : Option Wait) (waits : Bool) → told (request_of (waiting setting o waits (before []))) ≡ Receive waits
+waiting-none setting None waits = refl
+waiting-none setting (Some w) waits = ap (λ got. told (request_of got)) (through-stops setting w.below (asked.Receive waits (λ m. selects setting (clauses_of w.clauses) (scope w.below) m)))
+
 -- with no further answer a machine asks the request that it stands at
-pub standing-none : (setting : Setting) (holes : List Hole) (asked : Asked) → standing setting holes asked [] ≡ asked
-standing-none setting holes (Call kind arguments) = ap request_of (through-stops setting holes (Call kind arguments))
-standing-none setting holes (Receive waits) = refl
+pub standing-none : (setting : Setting) (holes : List Hole) (request : Told) → told (standing setting holes request []) ≡ request
+standing-none setting holes (Call kind arguments) = ap (λ got. told (request_of got)) (through-stops setting holes (asked.Call kind arguments))
+standing-none setting holes (Receive waits) = waiting-none setting (receive_on holes) waits
 standing-none setting holes (End reason) = refl
 standing-none setting holes Runaway = refl
+
+-- a receive looks at nothing of the state but the answers
+pub waiting-anywhere : (setting : Setting) (o : Option Wait) (waits : Bool) (s : State) → waiting setting o waits (before s.answers) ≡ waiting setting o waits s
+waiting-anywhere setting None waits s = refl
+waiting-anywhere setting (Some w) waits s = refl

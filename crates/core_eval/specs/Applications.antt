@@ -5,6 +5,7 @@ use Rattle.core_tree.specs.Functions.{same_function}
 use Rattle.term_core.specs.Meaning.{Meaning}
 use Rattle.core_eval.specs.Asked.{Runaway}
 use Rattle.core_eval.specs.Matching.{bound}
+pub use Rattle.core_eval.specs.Outcomes.{limit}
 use Rattle.core_eval.specs.Evaluation.{State, Outcome, Stops, Setting, error, within, evaluate}
 
 -- the parameters and the body of a function
@@ -16,10 +17,6 @@ definition f (d ∷ ds) = if same_function f d.named.function then Some (d.param
 abbrev pub body_with : Setting → Option (List Mention × Tree) → List Meaning → State → Outcome
 body_with setting None arguments s = error (codes "undef") s
 body_with setting (Some f) arguments s = within (bound f.0 arguments []) [] (λ env s'. evaluate setting f.1 env s') s
-
--- the most applications between two requests
-abbrev pub limit : ℕ
-limit = 10000
 
 -- after one more application
 abbrev pub counted : State → State

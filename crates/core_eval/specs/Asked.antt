@@ -3,10 +3,10 @@ use Rattle.std.specs.Prelude.{Bool, List}
 use Rattle.core_tree.specs.declared.call.CallKind.{CallKind}
 use Rattle.term_core.specs.Meaning.{Meaning}
 
--- a call with its arguments, a receive that waits for ever or not, an end with its reason, or too many applications in a row
+-- a call with its arguments, a receive that waits for ever or not and takes some messages, an end with its reason, or too many applications in a row
 pub data Asked : Type 0 where
   Call : (kind : CallKind) (arguments : List Meaning) → Asked
-  Receive : (waits : Bool) → Asked
+  Receive : (waits : Bool) (selects : Meaning → Bool) → Asked
   End : (reason : Meaning) → Asked
   Runaway : Asked
 

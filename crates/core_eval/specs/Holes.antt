@@ -1,16 +1,19 @@
 -- A stack of what is still to do, as contracts see it: each item is an expression with one part left out, and says what the whole gives once the part is there.
-use Rattle.std.specs.Prelude.{Bool, true, false, if◌then◌else◌, List, [], ◌∷◌, ◌++◌, length}
+use Rattle.std.specs.Prelude.{Bool, true, false, if◌then◌else◌, List, [], ◌∷◌, ◌++◌, length, Option, Some, None}
 use Rattle.core_tree.specs.Syntax.{Mention, Tree, ClauseTree, trees_of, clauses_of}
 use Rattle.term_core.specs.Meaning.{Meaning, Tuple, Nil, meanings_of}
 use Rattle.term_core.specs.Term.{list_onto}
-use Rattle.core_eval.specs.Asked.{Asked, Call, Receive, End, Runaway, Answered}
+use Rattle.core_eval.specs.Asked.{Asked, Answered}
+use Rattle.core_eval.specs.Asked as asked
+use Rattle.core_eval.specs.Told.{Told}
+use Rattle.core_eval.specs.Told as told
 use Rattle.core_eval.specs.Matching.{Environment, bound}
-use Rattle.core_eval.specs.Evaluation.{State, before, Outcome, Yields, Setting, then_do, handled, one, limited, called, caught, caught_values, called_with, within, guarded, evaluate, evaluate_all, choose}
+use Rattle.core_eval.specs.Evaluation.{State, before, Outcome, Yields, Stops, Setting, then_do, handled, one, limited, called, caught, caught_values, called_with, within, guarded, waits_with, timed, evaluate, evaluate_all, choose, receive}
 use Rattle.core_eval.specs.Ask.{request_of}
 pub use Rattle.core_eval.specs.Purposes.{Purpose}
 use Rattle.core_eval.specs.Purposes as purposes
 
--- what is left out: one of several parts, the tail of a list, the value of a `let`, the first part of a `do`, the values of a `case`, the guard of a clause with what it binds, what a `try` or a `catch` protects; the values of variables are kept for what is above them, and those of an applied function's parameters hide all others
+-- what is left out: one of several parts, the tail of a list, the value of a `let`, the first part of a `do`, the values of a `case`, the guard of a clause with what it binds, the timeout of a receive with its clauses and its action, what a `try` or a `catch` protects; the values of variables are kept for what is above them, and those of an applied function's parameters hide all others
 pub data Hole : Type 0 where
   Parts : (purpose : Purpose) (done : List Meaning) (later : List Tree) → Hole
   Tail : (items : List Meaning) → Hole
@@ -18,6 +21,7 @@ pub data Hole : Type 0 where
   Second : (second : Tree) → Hole
   Clauses : (clauses : List ClauseTree) → Hole
   Guard : (bindings : Environment) (body : Tree) (others : List ClauseTree) (values : List Meaning) → Hole
+  Receive : (clauses : List ClauseTree) (action : Tree) → Hole
   Try : (variables : List Mention) (body : Tree) (caught : List Mention) (handler : Tree) → Hole
   Catch : Hole
   Kept : (bindings : Environment) → Hole
@@ -31,6 +35,7 @@ kept_in (Body variables body) = []
 kept_in (Second second) = []
 kept_in (Clauses clauses) = []
 kept_in (Guard bindings body others values) = bindings
+kept_in (Receive clauses action) = []
 kept_in (Try variables body caught handler) = []
 kept_in Catch = []
 kept_in (Kept bindings) = bindings
@@ -68,6 +73,7 @@ filled setting (Body variables body) env got = then_do got (λ vs s. within (bou
 filled setting (Second second) env got = then_do got (one (λ v s. evaluate setting second env s))
 filled setting (Clauses clauses) env got = then_do got (λ vs s. choose setting (clauses_of clauses) vs env s)
 filled setting (Guard bindings body others values) env got = guarded got (λ s. evaluate setting body (bindings ++ env) s) (λ s. choose setting (clauses_of others) values env s)
+filled setting (Receive clauses action) env got = then_do got (one (λ v s. timed (waits_with v) (λ waits s'. receive setting waits (clauses_of clauses) action env s') s))
 filled setting (Try variables body caught handler) env got =
     handled got
     (λ vs s. within (bound variables vs []) env (λ inner s'. evaluate setting body inner s') s)
@@ -81,9 +87,25 @@ abbrev pub through : Setting → List Hole → Outcome → Outcome
 through setting [] got = got
 through setting (hole ∷ holes) got = through setting holes (filled setting hole (scope holes) got)
 
--- what a stack with a request on top asks after these answers; an end and a runaway are for ever
-abbrev pub standing : Setting → List Hole → Asked → List Answered → Asked
-standing setting holes (Call kind arguments) answers = request_of (through setting holes (called kind arguments (before answers)))
-standing setting holes (Receive waits) answers = Receive waits
-standing setting holes (End reason) answers = End reason
-standing setting holes Runaway answers = Runaway
+-- a receive that waits on top of a stack, with what is below it
+pub record Wait : Type 0 where
+  pub clauses : List ClauseTree
+  pub action : Tree
+  pub below : List Hole
+
+-- the receive on top of a stack, if there is one
+abbrev pub receive_on : List Hole → Option Wait
+receive_on (Receive clauses action ∷ holes) = Some (record { clauses = clauses; action = action; below = holes })
+receive_on holes = None
+
+-- what the outermost expression gives where this receive waits; without one no message is ever taken
+abbrev pub waiting : Setting → Option Wait → Bool → State → Outcome
+waiting setting None waits s = Stops (asked.Receive waits (λ m. false))
+waiting setting (Some w) waits s = through setting w.below (receive setting waits (clauses_of w.clauses) w.action (scope w.below) s)
+
+-- what a stack that stands at a request asks after these answers; an end and a runaway are for ever
+abbrev pub standing : Setting → List Hole → Told → List Answered → Asked
+standing setting holes (told.Call kind arguments) answers = request_of (through setting holes (called kind arguments (before answers)))
+standing setting holes (told.Receive waits) answers = request_of (waiting setting (receive_on holes) waits (before answers))
+standing setting holes (told.End reason) answers = asked.End reason
+standing setting holes told.Runaway answers = asked.Runaway

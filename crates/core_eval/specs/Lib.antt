@@ -1,6 +1,11 @@
 pub mod Asked
+pub mod Told
 pub mod Requests
 pub mod Matching
+pub mod Outcomes
+pub mod Exceptions
+pub mod Clauses
+pub mod Receiving
 pub mod Evaluation
 pub mod Applications
 pub mod Ask

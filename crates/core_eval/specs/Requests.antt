@@ -4,14 +4,15 @@ use Rattle.core_eval.specs.declared.request.Request.{Request}
 use Rattle.core_eval.specs.declared.request.Request.TheVariants as requests
 use Rattle.core_eval.specs.declared.request.Answer.{Answer}
 use Rattle.core_eval.specs.declared.request.Answer.TheVariants as answers
-pub use Rattle.core_eval.specs.Asked.{Asked, Call, Receive, End, Runaway, Answered, Value, Raise, Message, TimedOut}
+use Rattle.core_eval.specs.Asked.{Answered, Value, Raise, Message, TimedOut}
+use Rattle.core_eval.specs.Told.{Told, Call, Receive, End, Runaway}
 
--- a request, without where it lies in memory
-abbrev pub asked_of : Request → Asked
-asked_of (requests.Call kind arguments) = Call kind arguments.value
-asked_of (requests.Receive waits) = Receive waits
-asked_of (requests.End reason) = End (meaning_of reason)
-asked_of requests.Runaway = Runaway
+-- what a request tells, without where it lies in memory
+abbrev pub told_by : Request → Told
+told_by (requests.Call kind arguments) = Call kind arguments.value
+told_by (requests.Receive waits) = Receive waits
+told_by (requests.End reason) = End (meaning_of reason)
+told_by requests.Runaway = Runaway
 
 -- an answer, without where it lies in memory
 abbrev pub answered_of : Answer → Answered

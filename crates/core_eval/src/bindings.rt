@@ -1,5 +1,5 @@
 // The values of variables.
-ghost use Rattle.std.specs.Prelude.{◌≡◌, ◌∷◌, [], IfOk, OnOk, option_map};
+ghost use Rattle.std.specs.Prelude.{◌≡◌, ◌∷◌, ◌++◌, [], IfOk, OnOk, option_map};
 ghost use Rattle.core_eval.specs.Matching.{bound, lookup};
 ghost use Rattle.term_core.specs.Term.{meaning_of};
 
@@ -108,5 +108,58 @@ impl<'m> Bindings<'m> {
             })?;
         }
         Ok(Bindings(copied))
+    }
+}
+
+/// Variables and their values that are gathered from the inside out. Contracts see them as a list, the
+/// innermost first.
+#[derive(Drop)]
+pub(crate) struct Seen<'m>(Vec<Binding<'m>>);
+
+impl<'m> Model for Seen<'m> {
+    ghost use Rattle.core_eval.specs.Matching.{Environment};
+    ghost use Rattle.core_eval.specs.inside.HoleCodes.{coded_environment};
+
+    ghost Value = { Environment };
+
+    ghost coded = { coded_environment };
+
+    ghost use Rattle.std.specs.Prelude.{map};
+    ghost use Rattle.core_eval.specs.inside.Bindings.{binding_of};
+
+    ghost view = { λ s. map binding_of s.0.items };
+}
+
+impl<'m> Seen<'m> {
+    /// No variable.
+    pub(crate) fn new(alloc: Global) -> Seen<'m>
+        ensures { result ≡ [] }
+    {
+        Seen(Vec::new(alloc))
+    }
+
+    /// Adds variables that lie further out, or some of them with `AllocError` if there is no memory for it.
+    pub(crate) fn add(&mut self, bindings: &Bindings<'m>) -> Result<(), AllocError>
+        ensures { OnOk result (self.new ≡ self.old ++ bindings.now) }
+    {
+        let mut left = bindings.0.len();
+        while left > 0 {
+            left -= 1;
+            let binding = &bindings.0[left];
+            self.0.push(Binding {
+                name: binding.name,
+                value: binding.value.copy()?,
+            })?;
+        }
+        Ok(())
+    }
+
+    /// The same variables.
+    pub(crate) fn into_bindings(self) -> Bindings<'m>
+        ensures { result ≡ self.entry }
+    {
+        let Seen(mut items) = self;
+        items.reverse();
+        Bindings(items)
     }
 }

@@ -1,5 +1,4 @@
 // What is on top of the stack of a machine that runs, and where it pauses.
-use crate::request::Request;
 use core_tree::{CallKind, Expr, FunctionName, PureCall};
 use pure_calls::Class;
 use term_core::{Term, Terms};
@@ -19,15 +18,30 @@ pub(crate) enum Control<'m> {
     Answer(PureCall, Terms),
     /// To ask the world for this call.
     Ask(CallKind, Terms),
+    /// To wait for a message, for ever or not, in the receive on top of the stack.
+    Wait(bool),
     /// To apply this function of the module to arguments.
     Apply(&'m FunctionName, Terms),
+}
+
+/// Where the evaluation of a body stops.
+#[derive(Drop)]
+pub(crate) enum Halt {
+    /// It has given these values.
+    Values(Terms),
+    /// It has raised an exception of this class with this reason, which nothing handles.
+    Raise(Class, Term),
+    /// It asks the world for this call.
+    Ask(CallKind, Terms),
+    /// It waits for a message, for ever or not, in the receive on top of the stack.
+    Wait(bool),
 }
 
 /// Where the evaluation of a body comes to by itself.
 #[derive(Drop)]
 pub(crate) enum Pause<'m> {
-    /// At a request of the world.
-    Request(Request),
+    /// It stops here.
+    Halt(Halt),
     /// At an application of this function of the module to arguments.
     Application(&'m FunctionName, Terms),
 }

@@ -16,7 +16,7 @@ use crate::control::Control;
 use crate::exception::{match_reason, raise_again};
 use crate::frame::{Frame, Purpose};
 use crate::stack::Stack;
-use core_tree::{Call, Callee, Case, Catch, Do, Expr, Let, Onto, Try, Variable};
+use core_tree::{Call, Callee, Case, Catch, Do, Expr, Let, Onto, Receive, Try, Variable};
 use pure_calls::Class;
 use std::alloc::{AllocError, Global};
 use term_core::{Term, Terms, Word, list_onto};
@@ -43,6 +43,7 @@ pub(crate) fn enter<'m>(
         Expr::Do(both) => enter_do(stack, both),
         Expr::Call(call) => enter_call(alloc, stack, call),
         Expr::Case(case) => enter_case(stack, case),
+        Expr::Receive(receive) => enter_receive(stack, receive),
         Expr::Try(protected) => enter_try(stack, protected),
         Expr::Catch(protected) => enter_catch(stack, protected),
     }
@@ -111,6 +112,15 @@ fn enter_case<'m>(stack: &mut Stack<'m>, case: &'m Case) -> Result<Control<'m>, 
 {
     stack.push(Frame::Clauses(case.clauses.0.as_slice()))?;
     Ok(Control::Evaluate(&case.value))
+}
+
+/// Into the timeout of a receive.
+fn enter_receive<'m>(stack: &mut Stack<'m>, receive: &'m Receive) -> Result<Control<'m>, AllocError>
+    ensures { IfOk result (λ next.
+        Enters stack.old stack.new next (trees.Receive receive.now.0 (clauses_of receive.now.1) receive.now.2 receive.now.3)) }
+{
+    stack.push(Frame::Receive(receive))?;
+    Ok(Control::Evaluate(&receive.timeout))
 }
 
 /// Into the expression that a `try` protects.

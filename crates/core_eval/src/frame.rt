@@ -1,12 +1,13 @@
 // The frames of the stack: what is still to do with the values of an expression, or with what it raises.
-ghost use Rattle.std.specs.Prelude.{◌≡◌, IfOk, option_map};
+ghost use Rattle.std.specs.Prelude.{◌≡◌, ◌∷◌, ◌++◌, List, IfOk, OnOk, option_map};
 ghost use Rattle.core_eval.specs.inside.Frames.{hole_of};
-ghost use Rattle.core_eval.specs.Holes.{hides, kept_in, only_keeps};
+ghost use Rattle.core_eval.specs.inside.Steps.{waits_on};
+ghost use Rattle.core_eval.specs.Holes.{Hole, hides, kept_in, only_keeps};
 ghost use Rattle.core_eval.specs.Matching.{lookup};
 ghost use Rattle.term_core.specs.Term.{meaning_of};
 
-use crate::bindings::Bindings;
-use core_tree::{Callee, Clause, Expr, Try, Variable};
+use crate::bindings::{Bindings, Seen};
+use core_tree::{Callee, Clause, Expr, Receive, Try, Variable};
 use std::alloc::{AllocError, Global};
 use term_core::{Term, Terms};
 
@@ -39,6 +40,8 @@ pub(crate) enum Frame<'m> {
     /// The guard of a clause: what its patterns bind, its body, the clauses after it, and the values of the
     /// `case`.
     Guard(Bindings<'m>, &'m Expr, &'m [Clause], Terms),
+    /// The timeout of a receive; while the process waits, the receive itself.
+    Receive(&'m Receive),
     /// What a `try` protects.
     Try(&'m Try),
     /// What a `catch` protects.
@@ -57,6 +60,27 @@ impl<'m> Frame<'m> {
         match self {
             Frame::Kept(bindings) | Frame::Applied(bindings) => bindings.lookup(name),
             Frame::Guard(bindings, _, _, _) => bindings.lookup(name),
+            _ => None,
+        }
+    }
+
+    /// Adds the variables that the frame keeps, or some of them with `AllocError` if there is no memory for it.
+    pub(crate) fn see(&self, seen: &mut Seen<'m>) -> Result<(), AllocError>
+        ensures { OnOk result (seen.new ≡ seen.old ++ kept_in (hole_of self.now)) }
+    {
+        match self {
+            Frame::Kept(bindings) | Frame::Applied(bindings) => seen.add(bindings),
+            Frame::Guard(bindings, _, _, _) => seen.add(bindings),
+            _ => Ok(()),
+        }
+    }
+
+    /// The receive whose timeout the frame leaves out.
+    pub(crate) fn receive(&self) -> Option<&'m Receive>
+        ensures { (below : List Hole) → option_map (λ receive. (receive.now.1, receive.now.3)) result ≡ waits_on (hole_of self.now ∷ below) }
+    {
+        match self {
+            Frame::Receive(receive) => Some(receive),
             _ => None,
         }
     }
@@ -88,6 +112,7 @@ impl<'m> Frame<'m> {
             Frame::Guard(bindings, body, others, values) => {
                 Frame::Guard(bindings.copy(alloc)?, body, others, values.copy(alloc)?)
             }
+            Frame::Receive(receive) => Frame::Receive(receive),
             Frame::Try(protected) => Frame::Try(protected),
             Frame::Catch => Frame::Catch,
             Frame::Kept(bindings) => Frame::Kept(bindings.copy(alloc)?),

@@ -1,13 +1,15 @@
 // The frames that copies of a stack share.
-ghost use Rattle.std.specs.Prelude.{◌≡◌, ◌∷◌, [], IfOk, OnOk, MatchOption, option_map};
+ghost use Rattle.std.specs.Prelude.{◌≡◌, ◌∷◌, ◌++◌, [], IfOk, OnOk, MatchOption, option_map};
 ghost use Rattle.core_eval.specs.inside.Frames.{hole_of};
 ghost use Rattle.core_eval.specs.inside.Layers.{holes_in, holes_onto};
 ghost use Rattle.core_eval.specs.Holes.{scope};
 ghost use Rattle.core_eval.specs.Matching.{lookup};
-ghost use Rattle.core_eval.specs.inside.Steps.{keeps_on_top};
+ghost use Rattle.core_eval.specs.inside.Steps.{keeps_on_top, waits_on};
 ghost use Rattle.term_core.specs.Term.{meaning_of};
 
+use crate::bindings::Seen;
 use crate::frame::Frame;
+use core_tree::Receive;
 use std::alloc::{AllocError, Global};
 use std::marker::Model;
 use std::mem::replace;
@@ -164,6 +166,32 @@ impl<'m> Layers<'m> {
             left = &layer.below;
         }
         None
+    }
+
+    /// Adds the variables in scope, or some of them with `AllocError` if there is no memory for it.
+    pub(crate) fn see(&self, seen: &mut Seen<'m>) -> Result<(), AllocError>
+        ensures { OnOk result (seen.new ≡ seen.old ++ scope (holes_in self.now)) }
+    {
+        let mut left = self;
+        while let Layers::On(layer) = left {
+            let layer: &Layer = layer;
+            layer.frame.see(seen)?;
+            if layer.frame.hides_below() {
+                return Ok(());
+            }
+            left = &layer.below;
+        }
+        Ok(())
+    }
+
+    /// The receive on top.
+    pub(crate) fn receive(&self) -> Option<&'m Receive>
+        ensures { option_map (λ receive. (receive.now.1, receive.now.3)) result ≡ waits_on (holes_in self.now) }
+    {
+        match self {
+            Layers::End => None,
+            Layers::On(layer) => layer.frame.receive(),
+        }
     }
 
     /// Whether the frame on top does nothing but keep variables.

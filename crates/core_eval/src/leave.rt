@@ -18,6 +18,7 @@ use crate::enter::gather;
 use crate::exception::{caught, caught_values};
 use crate::frame::Frame;
 use crate::matching::matches_each;
+use crate::receiving::wait;
 use crate::stack::Stack;
 use core_tree::{Clause, Expr, Try, Variable};
 use pure_calls::Class;
@@ -53,6 +54,7 @@ pub(crate) fn leave<'m>(
             Ok(Control::Evaluate(body))
         }
         Frame::Guard(_, _, others, values) => choose(alloc, stack, others, values),
+        Frame::Receive(receive) => wait(stack, receive, &value),
         Frame::Try(protected) => enter_body(alloc, stack, protected, single(alloc, value)?),
         Frame::Catch | Frame::Kept(_) | Frame::Applied(_) => Ok(Control::Return(value)),
     }
@@ -96,6 +98,7 @@ fn leave_several<'m>(
         Frame::Parts(_, _, _) => Ok(error(Word::ValueCount)),
         Frame::Tail(_) => Ok(error(Word::ValueCount)),
         Frame::Second(_) => Ok(error(Word::ValueCount)),
+        Frame::Receive(_) => Ok(error(Word::ValueCount)),
         Frame::Body(variables, body) => bind(alloc, stack, variables, body, values),
         Frame::Clauses(clauses) => choose(alloc, stack, clauses, values),
         Frame::Guard(_, _, others, judged) => choose(alloc, stack, others, judged),
@@ -145,7 +148,7 @@ fn enter_body<'m>(
 }
 
 /// Into the guard of the first clause that the values match, or to the error that none does.
-fn choose<'m>(
+pub(crate) fn choose<'m>(
     alloc: Global,
     stack: &mut Stack<'m>,
     clauses: &'m [Clause],
@@ -186,7 +189,7 @@ fn judge<'m>(
 }
 
 /// Whether an expression is the atom `'true'`.
-fn is_true(expression: &Expr) -> bool
+pub(crate) fn is_true(expression: &Expr) -> bool
     ensures { IsTrue result → tree_of expression.now ≡ trees.Atom (codes "true") }
 {
     match expression {

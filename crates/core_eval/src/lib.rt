@@ -14,8 +14,10 @@ mod leave;
 pub mod machine;
 mod matching;
 mod pure;
+mod receiving;
 pub mod request;
 mod run;
+mod selection;
 mod stack;
 
 pub use machine::{Machine, start};

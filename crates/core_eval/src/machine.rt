@@ -1,20 +1,23 @@
 // The machine of one process.
-ghost use Rattle.std.specs.Prelude.{◌≡◌, ◌∷◌, [], true, false, List, IfOk, OnOk, OnErr, IsErr};
+ghost use Rattle.std.specs.Prelude.{◌≡◌, ◌∷◌, true, false, List, IfOk, OnOk, OnErr, IsErr, option_map};
 ghost use Rattle.core_eval.specs.Ask.{ask, entry};
 ghost use Rattle.core_eval.specs.Asked.{Answered};
-ghost use Rattle.core_eval.specs.Requests.{asked_of, answered_of};
-ghost use Rattle.core_eval.specs.Standing.{StandsAt, after, is_spent};
+ghost use Rattle.core_eval.specs.Requests.{told_by, answered_of};
+ghost use Rattle.core_eval.specs.Standing.{StandsAt, after, is_spent, stands_at};
+ghost use Rattle.core_eval.specs.Told.{is_selected, told};
+ghost use Rattle.core_eval.specs.inside.Steps.{stands_in};
+ghost use Rattle.term_core.specs.Term.{meaning_of};
 
-use crate::control::Control;
 use crate::entry::{begin, first_definition};
+use crate::receiving::take;
 use crate::request::{Answer, Request};
 use crate::run::run;
+use crate::selection::selects;
 use crate::stack::Stack;
-use core_tree::Module;
-use pure_calls::Class;
+use core_tree::{Module, Receive};
 use std::alloc::{AllocError, Global};
 use std::marker::Model;
-use term_core::{Atom, Pid, Terms};
+use term_core::{Atom, Pid, Term, Terms};
 
 /// A process of a module, which stands at a request. Contracts see where it stands: `after` of it
 /// says what it asks after any further answers, and `is_spent` whether memory was wanting in `resume`.
@@ -34,13 +37,13 @@ impl<'m> Model for Machine<'m> {
 
     ghost coded = { coded_standing };
 
-    ghost use Rattle.core_eval.specs.Requests.{asked_of};
+    ghost use Rattle.core_eval.specs.Requests.{told_by};
 
     ghost view = { λ m. record {
       program = m.program.now;
       own = m.pid;
       holes = m.stack;
-      asked = asked_of m.request;
+      told = told_by m.request;
       spent = m.is_spent;
     } };
 }
@@ -80,7 +83,7 @@ impl<'m> Machine<'m> {
     /// The request that it stands at. It takes no memory. On a spent machine this
     /// is the last request, whose answer was lost.
     pub fn request(&self) -> &Request
-        ensures { asked_of result.now ≡ after self.now [] }
+        ensures { told_by result.now ≡ told (stands_at self.now) }
     {
         &self.request
     }
@@ -98,19 +101,45 @@ impl<'m> Machine<'m> {
         if self.is_spent {
             return Err(AllocError);
         }
-        let Request::Call(_, _) = &self.request else {
+        self.is_spent = true;
+        let Some(control) = take(alloc, &mut self.stack, &self.request, answer)? else {
+            self.is_spent = false;
             return Ok(());
         };
-        let control = match answer {
-            Answer::Value(value) => Control::Return(value),
-            Answer::Raise(reason) => Control::Raise(Class::Error, reason),
-            Answer::Message(_) | Answer::TimedOut => return Ok(()),
-        };
-        self.is_spent = true;
         self.request = run(alloc, self.program, &self.pid, &mut self.stack, control)?;
         self.stack.settle(alloc)?;
         self.is_spent = false;
         Ok(())
+    }
+
+    /// Whether the request takes this message: it is a receive, and one of its clauses matches the message and
+    /// has a guard that gives `'true'` (Core Erlang 1.0.3, "Receive"). A guard that raises, or gives anything
+    /// else, does not hold. `AllocError` if there is no memory for it or the machine is spent; the machine is
+    /// unchanged.
+    pub fn selects(&self, alloc: Global, message: &Term) -> Result<bool, AllocError>
+        ensures selected { IfOk result (λ selected. selected ≡ is_selected (stands_at self.now) (meaning_of message.now)) }
+        ensures spent { is_spent self.now ≡ true → IsErr result }
+    {
+        if self.is_spent {
+            return Err(AllocError);
+        }
+        match self.receive() {
+            Some(receive) => {
+                let clauses = receive.clauses.0.as_slice();
+                selects(alloc, &self.pid, &self.stack, clauses, message)
+            }
+            None => Ok(false),
+        }
+    }
+
+    /// The receive that it stands at.
+    fn receive(&self) -> Option<&'m Receive>
+        ensures { option_map (λ receive. receive.now.1) result ≡ stands_in self.now.holes self.now.told }
+    {
+        match &self.request {
+            Request::Receive { waits: _ } => self.stack.receive(),
+            Request::Call(_, _) | Request::End(_) | Request::Runaway => None,
+        }
     }
 
     /// The same machine, or `AllocError` if there is no memory for it or the machine is spent. The two

@@ -1,6 +1,6 @@
 // What a process asks of the world that it runs in, and what it is answered.
 ghost use Rattle.std.specs.Prelude.{◌≡◌, IfOk};
-ghost use Rattle.core_eval.specs.Requests.{asked_of};
+ghost use Rattle.core_eval.specs.Requests.{told_by};
 
 use core_tree::CallKind;
 use std::alloc::AllocError;
@@ -12,7 +12,8 @@ use term_core::{Term, Terms};
 pub enum Request {
     /// A call of a process or of a table, with its arguments, as many as the call has.
     Call(CallKind, Arc<Terms>),
-    /// A receive; it waits for ever where its timeout is `'infinity'`. No form that is read today asks it.
+    /// A receive; it waits for ever where its timeout is `'infinity'`. Which messages it takes is told by
+    /// `Machine::selects`.
     Receive { waits: bool },
     /// The process has ended, with this reason.
     End(Term),
@@ -28,7 +29,7 @@ pub enum Answer {
     Value(Term),
     /// To a call: it is refused, which raises this reason as an error.
     Raise(Term),
-    /// To a receive: a message that one of its clauses selects.
+    /// To a receive: a message that it takes.
     Message(Term),
     /// To a receive that does not wait for ever: no such message came in time.
     TimedOut,
@@ -37,7 +38,7 @@ pub enum Answer {
 impl Request {
     /// The same request, or `AllocError` where its copies can no longer be counted. It takes no memory.
     pub fn copy(&self) -> Result<Request, AllocError>
-        ensures { IfOk result (λ copied. asked_of copied ≡ asked_of self.now) }
+        ensures { IfOk result (λ copied. told_by copied ≡ told_by self.now) }
     {
         Ok(match self {
             Request::Call(kind, arguments) => Request::Call(*kind, Arc::try_clone(arguments)?),

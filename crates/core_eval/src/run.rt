@@ -4,11 +4,12 @@ ghost use Rattle.core_eval.specs.Applications.{setting_of};
 ghost use Rattle.core_eval.specs.Asked.{Answered};
 ghost use Rattle.core_eval.specs.Ask.{request_of};
 ghost use Rattle.core_eval.specs.Evaluation.{Setting, State, before};
-ghost use Rattle.core_eval.specs.Holes.{standing};
-ghost use Rattle.core_eval.specs.Requests.{asked_of};
-ghost use Rattle.core_eval.specs.inside.Steps.{going, paused};
+ghost use Rattle.core_eval.specs.Holes.{Hole, standing};
+ghost use Rattle.core_eval.specs.Requests.{told_by};
+ghost use Rattle.core_eval.specs.inside.Steps.{going, halted, paused};
 
-use crate::control::{Control, Pause};
+use crate::build::single;
+use crate::control::{Control, Halt, Pause};
 use crate::enter::enter;
 use crate::entry::apply;
 use crate::exception::end_of;
@@ -34,33 +35,47 @@ pub(crate) fn run<'m>(
     control: Control<'m>,
 ) -> Result<Request, AllocError>
     ensures { IfOk result (λ request. (answers : List Answered) →
-        standing (setting_of program.now own.now) stack.new (asked_of request) answers
+        standing (setting_of program.now own.now) stack.new (told_by request) answers
         ≡ request_of (going (setting_of program.now own.now) stack.old control.entry (before answers))) }
 {
     let mut control = control;
     'applications: for _made in 0..APPLICATION_LIMIT {
         control = match advance(alloc, own, stack, control)? {
-            Pause::Request(request) => return Ok(request),
+            Pause::Halt(halt) => return request_at(alloc, halt),
             Pause::Application(function, arguments) => {
                 apply(alloc, program, stack, function, arguments)?
             }
         };
     }
     match advance(alloc, own, stack, control)? {
-        Pause::Request(request) => Ok(request),
+        Pause::Halt(halt) => request_at(alloc, halt),
         Pause::Application(_, _) => Ok(Request::Runaway),
     }
 }
 
-/// Runs the process with this pid to the next application, request or end, from what is on top of the stack.
-fn advance<'m>(
+/// The request of a process whose evaluation stops there: one that gives values ends normally.
+fn request_at(alloc: Global, halt: Halt) -> Result<Request, AllocError>
+    ensures { IfOk result (λ request. (setting : Setting) (holes : List Hole) (s : State) →
+        standing setting holes (told_by request) s.answers ≡ request_of (halted setting holes halt s)) }
+{
+    Ok(match halt {
+        Halt::Values(_values) => Request::End(Term::word(Word::Normal)),
+        Halt::Raise(class, reason) => Request::End(end_of(alloc, class, reason)?),
+        Halt::Ask(kind, arguments) => Request::Call(kind, Arc::new(alloc, arguments)?),
+        Halt::Wait(waits) => Request::Receive { waits },
+    })
+}
+
+/// Runs the process with this pid to where it stops, or to the next application, from what is on top of the
+/// stack.
+pub(crate) fn advance<'m>(
     alloc: Global,
     own: &Pid,
     stack: &mut Stack<'m>,
     control: Control<'m>,
 ) -> Result<Pause<'m>, AllocError>
     ensures { IfOk result (λ pause. (setting : Setting) → setting.own ≡ own.now → (s : State) →
-        paused setting stack.new pause s ≡ request_of (going setting stack.old control.entry s)) }
+        paused setting stack.new pause s ≡ going setting stack.old control.entry s) }
 {
     let mut control = control;
     loop {
@@ -68,23 +83,23 @@ fn advance<'m>(
             Control::Evaluate(expression) => enter(alloc, stack, expression)?,
             Control::Return(value) => match stack.pop(alloc)? {
                 Some(frame) => leave(alloc, stack, frame, value)?,
-                None => return Ok(Pause::Request(Request::End(Term::word(Word::Normal)))),
+                None => return Ok(Pause::Halt(Halt::Values(single(alloc, value)?))),
             },
             Control::Values(values) => {
                 let Some(frame) = stack.pop(alloc)? else {
-                    return Ok(Pause::Request(Request::End(Term::word(Word::Normal))));
+                    return Ok(Pause::Halt(Halt::Values(values)));
                 };
                 leave_with(alloc, stack, frame, values)?
             }
             Control::Raise(class, reason) => match stack.pop(alloc)? {
                 Some(frame) => leave_raised(alloc, stack, frame, class, reason)?,
-                None => return Ok(Pause::Request(Request::End(end_of(alloc, class, reason)?))),
+                None => return Ok(Pause::Halt(Halt::Raise(class, reason))),
             },
             Control::Answer(kind, arguments) => answer_call(alloc, own, kind, arguments)?,
             Control::Ask(kind, arguments) => {
-                let arguments = Arc::new(alloc, arguments)?;
-                return Ok(Pause::Request(Request::Call(kind, arguments)));
+                return Ok(Pause::Halt(Halt::Ask(kind, arguments)));
             }
+            Control::Wait(waits) => return Ok(Pause::Halt(Halt::Wait(waits))),
             Control::Apply(function, arguments) => {
                 return Ok(Pause::Application(function, arguments));
             }

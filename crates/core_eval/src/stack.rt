@@ -3,11 +3,13 @@ ghost use Rattle.std.specs.Prelude.{◌≡◌, ◌∷◌, [], OnOk, IfOk, MatchO
 ghost use Rattle.core_eval.specs.inside.Frames.{hole_of};
 ghost use Rattle.core_eval.specs.Holes.{scope};
 ghost use Rattle.core_eval.specs.Matching.{lookup};
-ghost use Rattle.core_eval.specs.inside.Steps.{IsBared, keeps_on_top};
+ghost use Rattle.core_eval.specs.inside.Steps.{IsBared, keeps_on_top, waits_on};
 ghost use Rattle.term_core.specs.Term.{meaning_of};
 
+use crate::bindings::{Bindings, Seen};
 use crate::frame::Frame;
 use crate::layers::Layers;
+use core_tree::Receive;
 use std::alloc::{AllocError, Global};
 use std::marker::Model;
 use std::mem::replace;
@@ -83,6 +85,34 @@ impl<'m> Stack<'m> {
             }
         }
         self.below.lookup(name)
+    }
+
+    /// All variables in scope, or `AllocError` if there is no memory for them.
+    pub(crate) fn variables(&self, alloc: Global) -> Result<Bindings<'m>, AllocError>
+        ensures { IfOk result (λ bindings. bindings ≡ scope self.now) }
+    {
+        let mut seen = Seen::new(alloc);
+        let mut left = self.top.len();
+        while left > 0 {
+            left -= 1;
+            let frame = &self.top[left];
+            frame.see(&mut seen)?;
+            if frame.hides_below() {
+                return Ok(seen.into_bindings());
+            }
+        }
+        self.below.see(&mut seen)?;
+        Ok(seen.into_bindings())
+    }
+
+    /// The receive on top.
+    pub(crate) fn receive(&self) -> Option<&'m Receive>
+        ensures { option_map (λ receive. (receive.now.1, receive.now.3)) result ≡ waits_on self.now }
+    {
+        match self.top.last() {
+            Some(frame) => frame.receive(),
+            None => self.below.receive(),
+        }
     }
 
     /// Whether the frame on top does nothing but keep variables.

@@ -366,6 +366,7 @@ module _ (all : List Piece) (end : ℕ) where
     TreeAt (trees.Call at callee ts) = CalleeAt at callee × TreesAt ts
     TreeAt (trees.Try at t vs u ws h) = TreeAt t × Each' MentionAt' vs × TreeAt u × Each' MentionAt' ws × TreeAt h
     TreeAt (trees.Catch at t) = TreeAt t
+    TreeAt (trees.Receive at cs t u) = Place' at × ClausesAt cs × TreeAt t × TreeAt u
 
     pub TreesAt : Trees → Type 0
     TreesAt trees.NoMore = Unit {0}

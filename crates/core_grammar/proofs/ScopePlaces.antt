@@ -109,6 +109,10 @@ module _ (all : List Piece) (end : ℕ) where
     tree_stands x bound (trees.Try at t vs u ws z) f h (inr (inr (inr (inl r)))) = repeats [] ws f h.3 r
     tree_stands x bound (trees.Try at t vs u ws z) f h (inr (inr (inr (inr r)))) = tree_stands x (names ws ++ bound) z f h.4 r
     tree_stands x bound (trees.Catch at t) f h r = tree_stands x bound t f h r
+    tree_stands x bound (trees.Receive at cs t u) f h (inl r) = effect x at f h.0 r
+    tree_stands x bound (trees.Receive at cs t u) f h (inr (inl r)) = clauses_stand x bound cs f h.1 r
+    tree_stands x bound (trees.Receive at cs t u) f h (inr (inr (inl r))) = tree_stands x bound t f h.2 r
+    tree_stands x bound (trees.Receive at cs t u) f h (inr (inr (inr r))) = tree_stands x bound u f h.3 r
 
     trees_stand : (x : Setting) (bound : List (List ℕ)) (ts : Trees) (f : ReadFault) → TreesAt all end ts → SomeBreaks x bound ts f → Stands f
     trees_stand x bound trees.NoMore f h r = absurd r

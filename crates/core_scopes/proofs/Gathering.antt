@@ -87,6 +87,9 @@ mutual
   tree_agrees x y same bound (trees.Try at t vs u ws h) =
       then_same _ _ _ _ (tree_agrees x y same bound t) (then_same _ _ _ _ refl (then_same _ _ _ _ (tree_agrees x y same (names vs ++ bound) u) (then_same _ _ _ _ refl (tree_agrees x y same (names ws ++ bound) h))))
   tree_agrees x y same bound (trees.Catch at t) = tree_agrees x y same bound t
+  tree_agrees x y same bound (trees.Receive at cs t u) =
+      then_same _ _ _ _ (ap (λ (b : Bool). if b then Err (EffectInGuard at) else Ok tt) same.2)
+      (then_same _ _ _ _ (clauses_agree x y same bound cs) (then_same _ _ _ _ (tree_agrees x y same bound t) (tree_agrees x y same bound u)))
 
   trees_agree : (x y : Setting) → Agrees x y → (bound : List (List ℕ)) (ts : Trees) → check_trees x bound ts ≡ check_trees y bound ts
   trees_agree x y same bound trees.NoMore = refl

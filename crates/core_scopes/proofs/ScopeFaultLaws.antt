@@ -152,6 +152,17 @@ mutual
         ])
       ]
   tree_breaks x bound (trees.Catch at t) f e = tree_breaks x bound t f e
+  tree_breaks x bound (trees.Receive at cs t u) f e =
+      elim (then_err (check_effect x at) (check_clauses x bound cs >>= λ _. check_tree x bound t >>= λ _. check_tree x bound u) f e) [
+        | inl g ↦ inl (effect x at f g)
+        | inr g ↦ inr (elim (then_err (check_clauses x bound cs) (check_tree x bound t >>= λ _. check_tree x bound u) f g) [
+          | inl i ↦ inl (clauses_break x bound cs f i)
+          | inr i ↦ inr (elim (then_err (check_tree x bound t) (check_tree x bound u) f i) [
+            | inl j ↦ inl (tree_breaks x bound t f j)
+            | inr j ↦ inr (tree_breaks x bound u f j)
+          ])
+        ])
+      ]
 
   trees_break : (x : Setting) (bound : List (List ℕ)) (ts : Trees) (f : ReadFault) → check_trees x bound ts ≡ Err f → SomeBreaks x bound ts f
   trees_break x bound trees.NoMore f e = absurd cc

@@ -124,6 +124,11 @@ mutual
       let j = then_ok (check_distinct [] ws) (check_tree x (names ws ++ bound) z) i.1 in
       (tree_closed x bound t h.0, (distinct_found [] vs g.0).1, tree_closed x (names vs ++ bound) u i.0, (distinct_found [] ws j.0).1, tree_closed x (names ws ++ bound) z j.1)
   tree_closed x bound (trees.Catch at t) e = tree_closed x bound t e
+  tree_closed x bound (trees.Receive at cs t u) e =
+      let h = then_ok (check_effect x at) (check_clauses x bound cs >>= λ _. check_tree x bound t >>= λ _. check_tree x bound u) e in
+      let g = then_ok (check_clauses x bound cs) (check_tree x bound t >>= λ _. check_tree x bound u) h.1 in
+      let i = then_ok (check_tree x bound t) (check_tree x bound u) g.1 in
+      (effect_found x at h.0, clauses_closed x bound cs g.0, tree_closed x bound t i.0, tree_closed x bound u i.1)
 
   trees_closed : (x : Setting) (bound : List (List ℕ)) (ts : Trees) → check_trees x bound ts ≡ Ok tt → AreClosed x bound ts
   trees_closed x bound trees.NoMore e = tt
@@ -163,6 +168,10 @@ mutual
       (both_ok (check_tree x (names vs ++ bound) u) (check_distinct [] ws >>= λ _. check_tree x (names ws ++ bound) z) (closed_tree x (names vs ++ bound) u h.2)
       (both_ok (check_distinct [] ws) (check_tree x (names ws ++ bound) z) (found_names ws h.3) (closed_tree x (names ws ++ bound) z h.4))))
   closed_tree x bound (trees.Catch at t) h = closed_tree x bound t h
+  closed_tree x bound (trees.Receive at cs t u) h =
+      both_ok (check_effect x at) (check_clauses x bound cs >>= λ _. check_tree x bound t >>= λ _. check_tree x bound u) (found_effect x at h.0)
+      (both_ok (check_clauses x bound cs) (check_tree x bound t >>= λ _. check_tree x bound u) (closed_clauses x bound cs h.1)
+      (both_ok (check_tree x bound t) (check_tree x bound u) (closed_tree x bound t h.2) (closed_tree x bound u h.3)))
 
   closed_trees : (x : Setting) (bound : List (List ℕ)) (ts : Trees) → AreClosed x bound ts → check_trees x bound ts ≡ Ok tt
   closed_trees x bound trees.NoMore h = refl

@@ -64,6 +64,7 @@ abbrev mutual
       check_distinct [] ws >>= λ _.
       check_tree x (names ws ++ bound) h
   check_tree x bound (trees.Catch at t) = check_tree x bound t
+  check_tree x bound (trees.Receive at cs t u) = check_effect x at >>= λ _. check_clauses x bound cs >>= λ _. check_tree x bound t >>= λ _. check_tree x bound u
 
   pub check_trees : Setting → List (List ℕ) → Trees → Checked
   check_trees x bound trees.NoMore = Ok tt

@@ -25,7 +25,7 @@ MayNotCall x at (callees.Defined n) fault = HasEffect x at fault ⊎ (¬ (Contai
 MayNotCall x at callees.MatchFail fault = HasEffect x at fault
 MayNotCall x at callees.Raise fault = HasEffect x at fault
 
--- somewhere in an expression a variable is not bound, or bound twice, or a call may not be made
+-- somewhere in an expression a variable is not bound, or bound twice, or a call may not be made, or a `receive` stands in a guard
 abbrev mutual
   pub Breaks : Setting → List (List ℕ) → Tree → ReadFault → Type 0
   Breaks x bound (trees.Integer n) fault = ⊥
@@ -43,6 +43,7 @@ abbrev mutual
   Breaks x bound (trees.Call at callee ts) fault = MayNotCall x at callee fault ⊎ SomeBreaks x bound ts fault
   Breaks x bound (trees.Try at t vs u ws h) fault = Breaks x bound t fault ⊎ (Repeats [] vs fault ⊎ (Breaks x (names vs ++ bound) u fault ⊎ (Repeats [] ws fault ⊎ Breaks x (names ws ++ bound) h fault)))
   Breaks x bound (trees.Catch at t) fault = Breaks x bound t fault
+  Breaks x bound (trees.Receive at cs t u) fault = HasEffect x at fault ⊎ (SomeClauseBreaks x bound cs fault ⊎ (Breaks x bound t fault ⊎ Breaks x bound u fault))
 
   pub SomeBreaks : Setting → List (List ℕ) → Trees → ReadFault → Type 0
   SomeBreaks x bound trees.NoMore fault = ⊥

@@ -53,7 +53,7 @@ MayCall x (callees.Defined named) = (x.in_guard ≡ false) × Contains x.defined
 MayCall x callees.MatchFail = x.in_guard ≡ false
 MayCall x callees.Raise = x.in_guard ≡ false
 
--- each variable is one of those around it that are bound, and each call one that may be made; `let`, `try` and clauses bind variables in their parts
+-- each variable is one of those around it that are bound, and each call one that may be made; `let`, `try` and clauses bind variables in their parts; the timeout of a `receive` and what is done then see those outside, and no `receive` stands in a guard
 abbrev mutual
   pub IsClosed : Setting → List (List ℕ) → Tree → Type 0
   IsClosed x bound (trees.Integer n) = Unit {0}
@@ -71,6 +71,7 @@ abbrev mutual
   IsClosed x bound (trees.Call at callee ts) = MayCall x callee × AreClosed x bound ts
   IsClosed x bound (trees.Try at t vs u ws h) = IsClosed x bound t × AreDistinct (names vs) × IsClosed x (names vs ++ bound) u × AreDistinct (names ws) × IsClosed x (names ws ++ bound) h
   IsClosed x bound (trees.Catch at t) = IsClosed x bound t
+  IsClosed x bound (trees.Receive at cs t u) = (x.in_guard ≡ false) × AreClosedClauses x bound cs × IsClosed x bound t × IsClosed x bound u
 
   pub AreClosed : Setting → List (List ℕ) → Trees → Type 0
   AreClosed x bound trees.NoMore = Unit {0}

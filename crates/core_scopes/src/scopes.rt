@@ -14,7 +14,7 @@ ghost use Rattle.core_scopes.specs.ScopeChecks.{is_among, is_defined, check_vari
 use core_tokens::ReadFault;
 use core_tree::{
     Alias, Call, Callee, Case, Catch, Clause, Clauses, Definition, Do, Expr, Exprs, FunctionName,
-    Let, NamedFunction, Onto, OntoPattern, Pattern, Patterns, Try, Variable,
+    Let, NamedFunction, Onto, OntoPattern, Pattern, Patterns, Receive, Try, Variable,
 };
 use indexmap::{IndexMap, IndexSet};
 use std::alloc::Global;
@@ -234,6 +234,7 @@ pub(crate) fn check_expr<'n>(
         Expr::Call(call) => check_call(setting, scope, call),
         Expr::Try(handled) => check_try(setting, scope, handled),
         Expr::Catch(caught) => check_catch(setting, scope, caught),
+        Expr::Receive(receive) => check_receive(setting, scope, receive),
     }
 }
 
@@ -322,6 +323,22 @@ fn check_catch<'n>(
     ensures { GivesUnlessMemory (λ u. u) result (check_tree (setting_in setting.now) (bound_in scope.now) (trees.Catch caught.now.0 caught.now.1)) }
 {
     check_expr(setting, scope, &caught.value)
+}
+
+/// A receive is an effect. Its clauses bind variables in their own parts alone; the timeout and the action see those
+/// around it. Fault: `EffectInGuard` at the word.
+#[cycle(scopes)]
+fn check_receive<'n>(
+    setting: &Setting,
+    scope: &Scope<'_, 'n>,
+    receive: &'n Receive,
+) -> Result<(), ReadFault>
+    ensures { GivesUnlessMemory (λ u. u) result (check_tree (setting_in setting.now) (bound_in scope.now) (trees.Receive receive.now.0 (clauses_of receive.now.1) receive.now.2 receive.now.3)) }
+{
+    check_effect(setting, receive.at)?;
+    check_clauses(setting, scope, &receive.clauses)?;
+    check_expr(setting, scope, &receive.timeout)?;
+    check_expr(setting, scope, &receive.action)
 }
 
 /// The variables of the patterns differ, and the guard and the body see them.

@@ -83,6 +83,7 @@ abbrev mutual
   same_tree (trees.Try at t vs u ws h) (trees.Try bt x ps y qs z) =
       same_tree t x && (pointwise same_mention vs ps && (same_tree u y && (pointwise same_mention ws qs && same_tree h z)))
   same_tree (trees.Catch at t) (trees.Catch bt u) = same_tree t u
+  same_tree (trees.Receive at cs t u) (trees.Receive bt ds x y) = same_clauses cs ds && (same_tree t x && same_tree u y)
   same_tree a b = false
 
   pub same_trees : Trees → Trees → Bool

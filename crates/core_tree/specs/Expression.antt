@@ -23,6 +23,7 @@ mutual
     Call : (at : ℕ) (callee : Callee) (arguments : Trees) → Tree
     Try : (at : ℕ) (value : Tree) (variables : prelude.List Mention) (body : Tree) (caught : prelude.List Mention) (handler : Tree) → Tree
     Catch : (at : ℕ) (value : Tree) → Tree
+    Receive : (at : ℕ) (clauses : Clauses) (timeout action : Tree) → Tree
 
   pub data Trees : Type 0 where
     NoMore : Trees
@@ -37,7 +38,7 @@ abbrev pub trees_of : prelude.List Tree → Trees
 trees_of [] = NoMore
 trees_of (t ∷ ts) = Also t (trees_of ts)
 
--- a clause of a `case`
+-- a clause of a `case` or of a `receive`
 pub record ClauseTree : Type 0 where
   pub patterns : prelude.List Pattern
   pub guard : Tree

@@ -58,6 +58,7 @@ abbrev mutual
   bare_tree (trees.Call at c ts) = trees.Call 0 (bare_callee c) (bare_trees ts)
   bare_tree (trees.Try at t vs u ws h) = trees.Try 0 (bare_tree t) (map bare_mention vs) (bare_tree u) (map bare_mention ws) (bare_tree h)
   bare_tree (trees.Catch at t) = trees.Catch 0 (bare_tree t)
+  bare_tree (trees.Receive at cs t u) = trees.Receive 0 (bare_clauses cs) (bare_tree t) (bare_tree u)
 
   -- expressions in order
   pub bare_trees : Trees → Trees

@@ -37,6 +37,7 @@ abbrev mutual
   IsServable (trees.Call at callee ts) = MayBeCalled callee (count_of ts) × AreServable ts
   IsServable (trees.Try at t variables body caught handler) = IsServable t × IsServable body × IsServable handler
   IsServable (trees.Catch at t) = IsServable t
+  IsServable (trees.Receive at cs t u) = AreServableClauses cs × IsServable t × IsServable u
 
   pub AreServable : Trees → Type 0
   AreServable trees.NoMore = Unit {0}

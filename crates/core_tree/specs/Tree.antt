@@ -48,6 +48,7 @@ tree_of (forms.Do b) = trees.Do b.value.0 b.value.1
 tree_of (forms.Call c) = trees.Call c.0 c.1 (trees_of c.2)
 tree_of (forms.Try b) = trees.Try b.value.0 b.value.1 b.value.2 b.value.3 b.value.4 b.value.5
 tree_of (forms.Catch b) = trees.Catch b.value.0 b.value.1
+tree_of (forms.Receive b) = trees.Receive b.value.0 (clauses_of b.value.1) b.value.2 b.value.3
 
 abbrev pub constant_of : Const → Constant
 constant_of (values.Integer n) = constants.Integer n

@@ -15,5 +15,7 @@ pub use constant::{Const, Consts, OntoConst};
 pub use module::{Attribute, Definition, FunctionName, Module, NamedFunction};
 pub use pattern::{Alias, OntoPattern, Pattern, Patterns};
 pub use pure::{PURE_CALLS, PureCall};
-pub use tree::{Call, Callee, Case, Catch, Clause, Clauses, Do, Expr, Exprs, Let, Onto, Try};
+pub use tree::{
+    Call, Callee, Case, Catch, Clause, Clauses, Do, Expr, Exprs, Let, Onto, Receive, Try,
+};
 pub use variable::Variable;

@@ -15,7 +15,9 @@ use crate::constant::{Const, Consts, OntoConst};
 use crate::module::{Attribute, Definition, FunctionName, Module, NamedFunction};
 use crate::pattern::{Alias, OntoPattern, Pattern, Patterns};
 use crate::pure::PureCall;
-use crate::tree::{Call, Callee, Case, Catch, Clause, Clauses, Do, Expr, Exprs, Let, Onto, Try};
+use crate::tree::{
+    Call, Callee, Case, Catch, Clause, Clauses, Do, Expr, Exprs, Let, Onto, Receive, Try,
+};
 use crate::variable::Variable;
 use indexmap::IndexMap;
 
@@ -146,6 +148,7 @@ fn same_expr(a: &Expr, b: &Expr) -> bool
         (Expr::Call(p), Expr::Call(q)) => same_call(p, q),
         (Expr::Try(p), Expr::Try(q)) => same_try(p, q),
         (Expr::Catch(p), Expr::Catch(q)) => same_catch(p, q),
+        (Expr::Receive(p), Expr::Receive(q)) => same_receive(p, q),
         _ => false,
     }
 }
@@ -183,6 +186,15 @@ fn same_case(a: &Case, b: &Case) -> bool
     ensures { result ≡ (same_tree a.now.1 b.now.1 && same_clauses (clauses_of a.now.2) (clauses_of b.now.2)) }
 {
     same_expr(&a.value, &b.value) && same_clauses(&a.clauses, &b.clauses)
+}
+
+#[cycle(sameness)]
+fn same_receive(a: &Receive, b: &Receive) -> bool
+    ensures { result ≡ (same_clauses (clauses_of a.now.1) (clauses_of b.now.1) && (same_tree a.now.2 b.now.2 && same_tree a.now.3 b.now.3)) }
+{
+    same_clauses(&a.clauses, &b.clauses)
+        && same_expr(&a.timeout, &b.timeout)
+        && same_expr(&a.action, &b.action)
 }
 
 #[cycle(sameness)]

@@ -62,6 +62,8 @@ pub enum Expr {
     Try(Box<Try>),
     /// `catch e`: makes a value of what an expression raises.
     Catch(Box<Catch>),
+    /// `receive clause .. after e -> e`: waits for a message that a clause takes, or for the timeout.
+    Receive(Box<Receive>),
 }
 
 /// Expressions in order. Contracts see them as a list.
@@ -231,7 +233,8 @@ impl Model for Call {
     ghost size_decreases = { λ a h. Prim.omega arith };
 }
 
-/// A clause of a `case`: as many patterns as there are values, a guard and a body. Contracts see it as the
+/// A clause of a `case`, with as many patterns as there are values, or of a `receive`, with one: its patterns, a
+/// guard and a body. Contracts see it as the
 /// record of the three.
 #[derive(Drop)]
 #[cycle(expr)]
@@ -406,4 +409,43 @@ impl Model for Catch {
     ghost use Rattle.core_tree.specs.inside.Depth.{deep_le};
 
     ghost size_decreases = { λ a h. Prim.omega (arith, deep_le a.value) };
+}
+
+/// A receive: the place of its word `receive`, its clauses, its timeout, and what is evaluated where no message
+/// came in time (Core Erlang 1.0.3, "Receive"). Contracts see it as the tuple of the four.
+#[derive(Drop)]
+#[cycle(expr)]
+pub struct Receive {
+    /// The place of the first byte of its word.
+    pub at: usize,
+    /// The clauses, none or more, which are tried in order; each has one pattern.
+    pub clauses: Clauses,
+    /// The expression that gives the timeout, in milliseconds or `'infinity'`.
+    pub timeout: Expr,
+    /// What is evaluated where no message came in time.
+    pub action: Expr,
+}
+
+impl Model for Receive {
+    ghost use Rattle.std.specs.Prelude.{ℕ, List, ◌+◌, refl};
+    ghost use Rattle.std.specs.Coded.{coded×, coded_list, coded_ℕ, code_by};
+    ghost use Rattle.core_tree.specs.Syntax.{ClauseTree, Tree};
+    ghost use Rattle.core_tree.specs.inside.Sizes.{size_of, size_of_clause_list};
+    ghost use Rattle.core_tree.specs.inside.SyntaxCodes.{coded_clause, coded_tree};
+
+    ghost Value = { ℕ × List ClauseTree × Tree × Tree };
+
+    ghost coded = { code_by (ℕ × (List ClauseTree × (Tree × Tree))) (coded× coded_ℕ (coded× (coded_list coded_clause) (coded× coded_tree coded_tree)))
+        (λ v. (v.0, (v.1, (v.2, v.3)))) (λ p. (p.0, p.1.0, p.1.1.0, p.1.1.1)) (λ _. refl) };
+
+    ghost use Rattle.core_tree.specs.Tree.{tree_of};
+
+    ghost view = { λ a. (a.at, a.clauses, tree_of a.timeout, tree_of a.action) };
+
+    ghost size = { λ v. 1 + (size_of_clause_list v.1 + (size_of v.2 + size_of v.3)) };
+
+    ghost use Rattle.std.proofs.Common.{arith};
+    ghost use Rattle.core_tree.specs.inside.Depth.{deep_le};
+
+    ghost size_decreases = { λ a h. Prim.omega (arith, deep_le a.timeout, deep_le a.action) };
 }

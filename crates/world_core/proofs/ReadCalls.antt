@@ -8,8 +8,9 @@ use Rattle.core_tree.specs.Syntax.{ModuleTree}
 use Rattle.term_core.specs.Meaning.{Meaning}
 use Rattle.term_core.specs.declared.step.Step.TheVariants.{Turn}
 use Rattle.core_eval.specs.Ask.{Entry, ask}
-use Rattle.core_eval.specs.Asked.{Asked, Answered, Call, Receive}
+use Rattle.core_eval.specs.Asked.{Asked, Answered}
 use Rattle.core_eval.specs.Asked as asked
+use Rattle.core_eval.specs.Told.{Told, Receive, told}
 use Rattle.core_eval.specs.Servable.{IsReadRequest}
 use Rattle.world_core.specs.Calls.{TableCall, New, Insert, Lookup, call_with, table_call}
 use Rattle.world_core.specs.Events.{Deed, Ended, RanAway, TimedOut, Happening, History}
@@ -51,10 +52,10 @@ served_read kind (a ∷ b ∷ c ∷ more) call e = absurd cc
 
 -- ---- turns
 
-deed_is : (h : History) (p : List ℕ) (request : Asked) → IsReadRequest request → ¬ (request ≡ Receive true) → (d : Deed) × (deed_asked h p request ≡ Some d)
-deed_is h p (Call kind arguments) r n = let c = read_served kind arguments r.0 r.1 in (deed_of_call h p kind arguments c.0, ap (λ (o : Option TableCall). option_map (deed_of_call h p kind arguments) o) c.1)
-deed_is h p (Receive true) r n = absurd (n refl)
-deed_is h p (Receive false) r n = (TimedOut, refl)
+deed_is : (h : History) (p : List ℕ) (request : Asked) → IsReadRequest request → ¬ (told request ≡ Receive true) → (d : Deed) × (deed_asked h p (told request) ≡ Some d)
+deed_is h p (asked.Call kind arguments) r n = let c = read_served kind arguments r.0 r.1 in (deed_of_call h p kind arguments c.0, ap (λ (o : Option TableCall). option_map (deed_of_call h p kind arguments) o) c.1)
+deed_is h p (asked.Receive true selects) r n = absurd (n refl)
+deed_is h p (asked.Receive false selects) r n = (TimedOut, refl)
 deed_is h p (asked.End reason) r n = (Ended reason, refl)
 deed_is h p asked.Runaway r n = (RanAway, refl)
 
@@ -62,11 +63,11 @@ deed_is h p asked.Runaway r n = (RanAway, refl)
 pub has_turn : ((m : ModuleTree) (pid : List ℕ) (e : Entry) (given : List Answered) → IsServableModule m → IsReadRequest (ask m pid e given))
     → (m : ModuleTree) (h : History) (p : List ℕ) → IsServableModule m → alive h p ≡ true → ¬ (Waits m h p) → (e : Happening) × (next_event m h (Turn p) ≡ Some e)
 has_turn asks m h p servable lives waits =
-    let d = deed_is h p (asking m h p) (asks m p (origin m p) (answers h p) servable) waits in
+    let d = deed_is h p (ask m p (origin m p) (answers h p)) (asks m p (origin m p) (answers h p) servable) waits in
     (happening (Turn p) d.0, ap (λ (b : Bool). option_map (happening (Turn p)) (if b then deed_asked h p (asking m h p) else None)) lives ∙ ap (λ (o : Option Deed). option_map (happening (Turn p)) o) d.1)
 
-none_asked : (h : History) (p : List ℕ) (lives : Bool) (request : Asked) → request ≡ Receive true → option_map (happening (Turn p)) (if lives then deed_asked h p request else None) ≡ None
-none_asked h p true request e = ap (λ (a : Asked). option_map (happening (Turn p)) (deed_asked h p a)) e
+none_asked : (h : History) (p : List ℕ) (lives : Bool) (request : Told) → request ≡ Receive true → option_map (happening (Turn p)) (if lives then deed_asked h p request else None) ≡ None
+none_asked h p true request e = ap (λ (a : Told). option_map (happening (Turn p)) (deed_asked h p a)) e
 none_asked h p false request e = refl
 
 -- one that waits has none

@@ -7,8 +7,9 @@ use Rattle.core_tree.specs.Syntax.{ModuleTree}
 use Rattle.term_core.specs.Meaning.{Meaning}
 use Rattle.term_core.specs.declared.step.Step.TheVariants.{Turn}
 use Rattle.core_eval.specs.Ask.{ask}
-use Rattle.core_eval.specs.Asked.{Asked, Call, Receive, Answered, TimedOut as TimedOut}
-use Rattle.core_eval.specs.Standing.{Standing, after, is_spent}
+use Rattle.core_eval.specs.Asked.{Answered, TimedOut as TimedOut}
+use Rattle.core_eval.specs.Told.{Told, Call, Receive, told}
+use Rattle.core_eval.specs.Standing.{Standing, after, is_spent, stands_at}
 use Rattle.world_core.specs.Names.{same_pid}
 use Rattle.world_core.specs.Calls.{TableCall, table_call}
 use Rattle.world_core.specs.Rules.{rule_for}
@@ -65,7 +66,7 @@ ended a false d e = cc
 -- the records of a process after its turn
 pub turned : (m : ModuleTree) (h : History) (old : Process) (machine : Standing) (lives : Bool) (deed : Deed) (tables : List (Meaning × Table))
     → IsProcess m h old
-    → deed_asked h old.pid (after old.machine []) ≡ Some deed
+    → deed_asked h old.pid (told (stands_at old.machine)) ≡ Some deed
     → is_spent machine ≡ false
     → ((later : List Answered) → after machine later ≡ after old.machine (answer_in deed ++ later))
     → lives ≡ (old.is_alive && not (is_end deed))
@@ -75,7 +76,7 @@ turned m h old machine lives deed tables was next sound on alive_now finds =
     let itself = same_pid_itself old.pid in
     record {
       pid = refl;
-      next = ap (deed_asked h old.pid) (sym (was.asks [] ∙ ap (ask m old.pid (origin m old.pid)) (append-nil (answers h old.pid)))) ∙ next;
+      next = ap (deed_asked h old.pid) (ap told (sym (was.asks [] ∙ ap (ask m old.pid (origin m old.pid)) (append-nil (answers h old.pid))))) ∙ next;
       process = record {
         lives = sound;
         asks = λ later.
@@ -104,7 +105,7 @@ no_end h p kind arguments deed e = by (table_call kind arguments) e
 
 -- the records after a call
 pub turned_by_call : (m : ModuleTree) (h : History) (old : Process) (machine : Standing) (kind : CallKind) (arguments : List Meaning) (deed : Deed) (old_tables tables : List (Meaning × Table))
-    → after old.machine [] ≡ Call kind arguments
+    → told (stands_at old.machine) ≡ Call kind arguments
     → ((g : History) → AreTables g old_tables → old.turns + 1 ≡ turns g old.pid + 1 → IsServed g old.pid (Call kind arguments) deed tables)
     → ((later : List Answered) → after machine later ≡ after old.machine (answer_in deed ++ later))
     → is_spent machine ≡ false
@@ -121,20 +122,20 @@ turned_by_call m h old machine kind arguments deed old_tables tables asked serve
     lived false false e = refl
 
 -- a wait that is over
-waited : (h : History) (p : List ℕ) (asked : Asked) (waits : Bool) → asked ≡ Receive waits → is_answered asked ≡ true → deed_asked h p asked ≡ Some TimedOut
-waited h p asked true e over = absurd (true≢false (sym over ∙ ap is_answered e))
-waited h p asked false e over = ap (deed_asked h p) e
+waited : (h : History) (p : List ℕ) (request : Told) (waits : Bool) → request ≡ Receive waits → is_answered request ≡ true → deed_asked h p request ≡ Some TimedOut
+waited h p request true e over = absurd (true≢false (sym over ∙ ap is_answered e))
+waited h p request false e over = ap (deed_asked h p) e
 
 -- the records after a wait in vain
 pub turned_by_wait : (m : ModuleTree) (h : History) (old : Process) (machine : Standing) (waits : Bool) (tables : List (Meaning × Table))
-    → after old.machine [] ≡ Receive waits
-    → is_answered (after old.machine []) ≡ true
+    → told (stands_at old.machine) ≡ Receive waits
+    → is_answered (told (stands_at old.machine)) ≡ true
     → ((later : List Answered) → after machine later ≡ after old.machine (TimedOut ∷ later))
     → is_spent machine ≡ false
     → IsProcess m h old → AreTables h tables
     → IsTurn m h old (record { pid = old.pid; machine = machine; turns = old.turns + 1; is_alive = old.is_alive }) TimedOut tables
 turned_by_wait m h old machine waits tables asked over on sound was found =
-    turned m h old machine old.is_alive TimedOut tables was (waited h old.pid (after old.machine []) waits asked over) sound on (lived old.is_alive)
+    turned m h old machine old.is_alive TimedOut tables was (waited h old.pid (told (stands_at old.machine)) waits asked over) sound on (lived old.is_alive)
     (λ a. found a ∙ sym (find_changed h (happening (Turn old.pid) TimedOut) a))
   where
     lived : (a : Bool) → a ≡ (a && true)

@@ -6,8 +6,8 @@ use Rattle.term_core.specs.Meaning.{Meaning}
 use Rattle.term_core.specs.declared.step.Step.{Step}
 use Rattle.term_core.specs.declared.step.Step.TheVariants.{Turn, Deliver}
 use Rattle.core_eval.specs.Ask.{ask}
-use Rattle.core_eval.specs.Asked.{Asked, Call, Receive, End, Runaway}
-use Rattle.core_eval.specs.Standing.{after}
+use Rattle.core_eval.specs.Told.{Told, Call, Receive, End, Runaway, told}
+use Rattle.core_eval.specs.Standing.{stands_at}
 use Rattle.world_core.specs.Names.{same_pid}
 use Rattle.world_core.specs.Calls.{table_call}
 use Rattle.world_core.specs.Deeds.{deed_seen, happening_of, history_of}
@@ -30,7 +30,7 @@ chosen_some f true o = mapped_some f o
 chosen_some f false o = refl
 
 -- what is asked is served, judged or over
-asked_some : (h : History) (p : List ℕ) (asked : Asked) → is_some (deed_asked h p asked) ≡ is_answered asked
+asked_some : (h : History) (p : List ℕ) (request : Told) → is_some (deed_asked h p request) ≡ is_answered request
 asked_some h p (Call kind arguments) = mapped_some _ (table_call kind arguments)
 asked_some h p (Receive true) = refl
 asked_some h p (Receive false) = refl
@@ -38,11 +38,11 @@ asked_some h p (End reason) = refl
 asked_some h p Runaway = refl
 
 -- the machine stands at what its process asks now
-asking_is : (m : ModuleTree) (h : History) (p : Process) → IsProcess m h p → asking m h p.pid ≡ after p.machine []
-asking_is m h p is = sym (is.asks [] ∙ ap (ask m p.pid (origin m p.pid)) (append-nil (answers h p.pid)))
+asking_is : (m : ModuleTree) (h : History) (p : Process) → IsProcess m h p → asking m h p.pid ≡ told (stands_at p.machine)
+asking_is m h p is = ap told (sym (is.asks [] ∙ ap (ask m p.pid (origin m p.pid)) (append-nil (answers h p.pid))))
 
 -- the turn of the process
-own_turn : (m : ModuleTree) (h : History) (p : Process) → IsProcess m h p → is_some (next_event m h (Turn p.pid)) ≡ (p.is_alive && is_answered (after p.machine []))
+own_turn : (m : ModuleTree) (h : History) (p : Process) → IsProcess m h p → is_some (next_event m h (Turn p.pid)) ≡ (p.is_alive && is_answered (told (stands_at p.machine)))
 own_turn m h p is =
     chosen_some (happening (Turn p.pid)) (alive h p.pid) (deed_asked h p.pid (asking m h p.pid))
     ∙ ap (λ b. b && is_some (deed_asked h p.pid (asking m h p.pid))) (sym is.alive)
@@ -53,14 +53,14 @@ other_turn : (m : ModuleTree) (h : History) (n : ℕ) (ns : List ℕ) → next_e
 other_turn m h n ns = ap (λ b. option_map (happening (Turn (n ∷ ns))) (if b then deed_asked h (n ∷ ns) (asking m h (n ∷ ns)) else None)) (others_are_not_alive h (n ∷ ns) refl)
 
 -- which steps are enabled
-pub enabled_is : (m : ModuleTree) (h : History) (p : Process) (step : Step) → p.pid ≡ [] → IsProcess m h p → is_some (next_event m h step) ≡ (is_turn_of p.pid step && (p.is_alive && is_answered (after p.machine [])))
+pub enabled_is : (m : ModuleTree) (h : History) (p : Process) (step : Step) → p.pid ≡ [] → IsProcess m h p → is_some (next_event m h step) ≡ (is_turn_of p.pid step && (p.is_alive && is_answered (told (stands_at p.machine))))
 enabled_is m h p (Turn []) first is =
     ap (λ q. is_some (next_event m h (Turn q))) (sym first)
     ∙ own_turn m h p is
-    ∙ ap (λ q. same_pid [] q && (p.is_alive && is_answered (after p.machine []))) (sym first)
+    ∙ ap (λ q. same_pid [] q && (p.is_alive && is_answered (told (stands_at p.machine)))) (sym first)
 enabled_is m h p (Turn (n ∷ ns)) first is =
     ap is_some (other_turn m h n ns)
-    ∙ ap (λ q. same_pid (n ∷ ns) q && (p.is_alive && is_answered (after p.machine []))) (sym first)
+    ∙ ap (λ q. same_pid (n ∷ ns) q && (p.is_alive && is_answered (told (stands_at p.machine)))) (sym first)
 enabled_is m h p (Deliver from to) first is = refl
 
 pub and_right : (a b : Bool) → (a && b) ≡ true → b ≡ true
@@ -72,7 +72,7 @@ and_left true b e = refl
 and_left false b e = absurd (true≢false (sym e))
 
 -- an enabled step is a turn of a process that lives and asks what is answered
-pub answered_now : (m : ModuleTree) (h : History) (p : Process) (step : Step) → p.pid ≡ [] → IsProcess m h p → is_some (next_event m h step) ≡ true → is_answered (after p.machine []) ≡ true
+pub answered_now : (m : ModuleTree) (h : History) (p : Process) (step : Step) → p.pid ≡ [] → IsProcess m h p → is_some (next_event m h step) ≡ true → is_answered (told (stands_at p.machine)) ≡ true
 answered_now m h p step first is some =
     and_right p.is_alive _ (and_right (is_turn_of p.pid step) _ (sym (enabled_is m h p step first is) ∙ some))
 
@@ -143,14 +143,14 @@ and_false true = refl
 and_false false = refl
 
 -- where its process cannot go on, no step is enabled
-pub none_enabled : (m : ModuleTree) (h : History) (p : Process) (steps : List Step) → p.pid ≡ [] → IsProcess m h p → (p.is_alive && is_answered (after p.machine [])) ≡ false → steps ≡ []
+pub none_enabled : (m : ModuleTree) (h : History) (p : Process) (steps : List Step) → p.pid ≡ [] → IsProcess m h p → (p.is_alive && is_answered (told (stands_at p.machine))) ≡ false → steps ≡ []
     → (step : Step) → Contains steps step ↔ IsSome (next_event m h step)
 none_enabled m h p steps first is stuck empty step =
     let none : is_some (next_event m h step) ≡ false = enabled_is m h p step first is ∙ ap (λ b. is_turn_of p.pid step && b) stuck ∙ and_false (is_turn_of p.pid step) in
     subst (λ (ss : List Step). Contains ss step ↔ IsSome (next_event m h step)) (sym empty) ((λ k. absurd (omega (arith, k.1))), λ some. absurd (true≢false (sym some ∙ none)))
 
 -- else its turn, and no other
-pub one_enabled : (m : ModuleTree) (h : History) (p : Process) (own : Step) (steps : List Step) → p.pid ≡ [] → IsProcess m h p → (p.is_alive && is_answered (after p.machine [])) ≡ true → own ≡ Turn p.pid → steps ≡ own ∷ []
+pub one_enabled : (m : ModuleTree) (h : History) (p : Process) (own : Step) (steps : List Step) → p.pid ≡ [] → IsProcess m h p → (p.is_alive && is_answered (told (stands_at p.machine))) ≡ true → own ≡ Turn p.pid → steps ≡ own ∷ []
     → (step : Step) → Contains steps step ↔ IsSome (next_event m h step)
 one_enabled m h p own steps first is going turn single step =
     subst (λ (ss : List Step). Contains ss step ↔ IsSome (next_event m h step)) (sym single) (

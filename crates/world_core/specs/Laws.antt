@@ -5,7 +5,7 @@ use Rattle.core_tree.specs.declared.call.CallKind.TheVariants as kinds
 use Rattle.core_tree.specs.Syntax.{ModuleTree}
 use Rattle.term_core.specs.Meaning.{Meaning}
 use Rattle.term_core.specs.declared.step.Step.TheVariants.{Turn}
-use Rattle.core_eval.specs.Asked.{Call, Receive}
+use Rattle.core_eval.specs.Told.{Call, Receive}
 use Rattle.world_core.specs.Calls.{TableCall, table_call}
 use Rattle.world_core.specs.Objects.{objects_of}
 use Rattle.world_core.specs.Events.{Deed, Served, Refused, Ended, RanAway, TimedOut, Happening, History}

@@ -8,8 +8,8 @@ use Rattle.term_core.specs.declared.step.Step.TheVariants.{Turn, Deliver}
 use Rattle.std.specs.declared.cmp.Ordering.TheVariants.{Less}
 use Rattle.term_core.specs.StepOrder.{order_of_steps}
 use Rattle.core_eval.specs.Ask.{Entry, entry, ask}
-use Rattle.core_eval.specs.Asked.{Asked, Call, Receive}
-use Rattle.core_eval.specs.Asked as asked
+use Rattle.core_eval.specs.Told.{Told, Call, Receive, told}
+use Rattle.core_eval.specs.Told as told
 use Rattle.world_core.specs.Calls.{TableCall, table_call}
 use Rattle.world_core.specs.Events.{Deed, Served, Refused, Ended, RanAway, TimedOut, Happening, History}
 use Rattle.world_core.specs.Rules.{told_owner}
@@ -21,8 +21,8 @@ abbrev pub origin : ModuleTree → List ℕ → Entry
 origin m p = entry m.name (codes "main") []
 
 -- what a process asks now
-abbrev pub asking : ModuleTree → History → List ℕ → Asked
-asking m h p = ask m p (origin m p) (answers h p)
+abbrev pub asking : ModuleTree → History → List ℕ → Told
+asking m h p = told (ask m p (origin m p) (answers h p))
 
 -- a call of a table is served where no rule fails, and else refused by the one that does
 abbrev pub judged : CallKind → List Meaning → Option Rule → Option (List ℕ) → Meaning → Deed
@@ -33,19 +33,19 @@ abbrev pub deed_of_call : History → List ℕ → CallKind → List Meaning →
 deed_of_call h p kind arguments call = judged kind arguments (rule_of h p call) (owner_of h call) (answer_of h p call)
 
 -- what a turn of a process that asks this does; nothing where it must wait
-abbrev pub deed_asked : History → List ℕ → Asked → Option Deed
+abbrev pub deed_asked : History → List ℕ → Told → Option Deed
 deed_asked h p (Call kind arguments) = option_map (deed_of_call h p kind arguments) (table_call kind arguments)
 deed_asked h p (Receive true) = None
 deed_asked h p (Receive false) = Some TimedOut
-deed_asked h p (asked.End reason) = Some (Ended reason)
-deed_asked h p asked.Runaway = Some RanAway
+deed_asked h p (told.End reason) = Some (Ended reason)
+deed_asked h p told.Runaway = Some RanAway
 
 -- whether a request can be answered now: a call of a table, an end, a runaway, or a receive with a timeout
-abbrev pub is_answered : Asked → Bool
+abbrev pub is_answered : Told → Bool
 is_answered (Call kind arguments) = is_some (table_call kind arguments)
 is_answered (Receive waits) = not waits
-is_answered (asked.End reason) = true
-is_answered asked.Runaway = true
+is_answered (told.End reason) = true
+is_answered told.Runaway = true
 
 -- what a step does next: a turn serves what its process asks, if that lives; nothing is on its way to be delivered
 abbrev pub next_deed : ModuleTree → History → Step → Option Deed

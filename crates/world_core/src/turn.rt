@@ -3,9 +3,10 @@ ghost use Rattle.std.specs.Prelude.{◌≡◌, ◌++◌, ◌+◌, ◌<◌, ◌^�
 ghost use Rattle.core_tree.specs.Syntax.{ModuleTree};
 ghost use Rattle.term_core.specs.Meaning.{Atom};
 ghost use Rattle.term_core.specs.Term.{meaning_of};
-ghost use Rattle.core_eval.specs.Asked.{Answered, Call};
-ghost use Rattle.core_eval.specs.Requests.{asked_of};
-ghost use Rattle.core_eval.specs.Standing.{after, is_spent};
+ghost use Rattle.core_eval.specs.Asked.{Answered};
+ghost use Rattle.core_eval.specs.Requests.{told_by};
+ghost use Rattle.core_eval.specs.Standing.{after, is_spent, stands_at};
+ghost use Rattle.core_eval.specs.Told.{Call, told};
 ghost use Rattle.world_core.specs.inside.Agreement.{IsProcess, AreTables, IsServed, IsTurn};
 ghost use Rattle.world_core.specs.Deeds.{deed_seen};
 ghost use Rattle.world_core.specs.Calls.{table_call};
@@ -30,7 +31,7 @@ use term_core::{Pid, Term, Terms, Word};
 
 /// Whether the request can be answered now; a receive without a timeout cannot.
 fn is_answered(request: &Request) -> bool
-    ensures { result ≡ is_answered (asked_of request.now) }
+    ensures { result ≡ is_answered (told_by request.now) }
 {
     match request {
         Request::Call(kind, arguments) => table_call(*kind, arguments).is_some(),
@@ -41,7 +42,7 @@ fn is_answered(request: &Request) -> bool
 
 /// Whether a turn of the process is enabled. It takes no memory.
 pub(crate) fn is_enabled(process: &Process<'_>) -> bool
-    ensures { result ≡ (process.now.is_alive && is_answered (after process.now.machine [])) }
+    ensures { result ≡ (process.now.is_alive && is_answered (told (stands_at process.now.machine))) }
 {
     process.is_alive && is_answered(process.machine.request())
 }
@@ -108,7 +109,7 @@ pub(crate) fn turn<'m>(
     process: &mut Process<'m>,
     tables: &mut Tables,
 ) -> Result<Deed, AllocError>
-    requires enabled { is_answered (after process.old.machine []) ≡ true }
+    requires enabled { is_answered (told (stands_at process.old.machine)) ≡ true }
     requires counted { process.old.turns + 1 < 2 ^ 64 }
     ensures { IfOk result (λ deed. (m : ModuleTree) → (h : History) → IsProcess m h process.old → AreTables h tables.old
         → IsTurn m h process.old process.new (deed_seen deed) tables.new) }

@@ -1,5 +1,5 @@
 -- The program that a module is.
-use Rattle.std.specs.Prelude.{false, [], codes}
+use Rattle.std.specs.Prelude.{[], codes}
 use Rattle.core_tree.specs.Syntax.{ModuleTree}
 use Rattle.core_eval.specs.Ask.{Entry, entry, ask}
 use Rattle.core_eval.specs.Asked.{Asked, Call, Receive, End, Runaway}
@@ -11,10 +11,10 @@ abbrev pub entry_of : ModuleTree → Origin → Entry
 entry_of m Main = entry m.name (codes "main") []
 entry_of m (Spawned module_name function_name arguments) = entry module_name function_name arguments
 
--- Evaluation has no `receive` yet. Where it has, its request says which messages are selected, and that is joined here in place of "none".
+-- a request as evaluation makes it; a receive says itself which messages its clauses select
 abbrev pub request_of : Asked → Request
 request_of (Call kind arguments) = Calls kind arguments
-request_of (Receive waits) = Receives waits (λ message. false)
+request_of (Receive waits selects) = Receives waits selects
 request_of (End reason) = Ends reason
 request_of Runaway = RunsAway
 

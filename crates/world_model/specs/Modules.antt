@@ -2,7 +2,8 @@
 use Rattle.std.specs.Prelude.{pos, ℤ, List, [], ◌∷◌, length, map, codes}
 use Rattle.core_tree.specs.Callee as callees
 use Rattle.core_tree.specs.Expression as trees
-use Rattle.core_tree.specs.Syntax.{Mention, NamedAt, DefinitionTree, Tree, ModuleTree, trees_of}
+use Rattle.core_tree.specs.Pattern as patterns
+use Rattle.core_tree.specs.Syntax.{Mention, NamedAt, Pattern, ClauseTree, DefinitionTree, Tree, ModuleTree, trees_of, clauses_of}
 use Rattle.core_tree.specs.declared.call.CallKind.{CallKind}
 use Rattle.core_tree.specs.declared.call.CallKind.TheVariants as kinds
 use Rattle.core_tree.specs.declared.pure.PureCall.{PureCall}
@@ -38,6 +39,27 @@ in_turn first second = trees.Do first second
 
 abbrev pub with_result : Name → Tree → Tree → Tree
 with_result name value body = trees.Let (mention name ∷ []) value body
+
+-- a clause of a receive, for a message that matches
+abbrev pub on : Pattern → Tree → ClauseTree
+on pattern body = record { patterns = pattern ∷ []; guard = the_atom (codes "true"); body = body }
+
+-- any message, under this name, and one atom alone
+abbrev pub any : Name → Pattern
+any name = patterns.Variable (mention name)
+
+abbrev pub only : Name → Pattern
+only text = patterns.Atom text
+
+abbrev pub receive : List ClauseTree → Tree → Tree → Tree
+receive clauses timeout action = trees.Receive 0 (clauses_of clauses) timeout action
+
+abbrev pub for_ever : Tree
+for_ever = the_atom (codes "infinity")
+
+-- any message is waited for, and is the value
+abbrev pub wait : Tree
+wait = receive (on (any (codes "X")) (the (codes "X")) ∷ []) for_ever (the_atom (codes "x"))
 
 -- the function of this name with these parameters
 abbrev pub signed : Name → List Name → NamedAt

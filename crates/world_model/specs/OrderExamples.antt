@@ -12,7 +12,8 @@ use Rattle.world_model.specs.Happenings.{P, P_1, P_2, R_1, t, a_1, serves_it, no
 use Rattle.world_model.specs.Modules.{the, the_atom, the_number, the_tuple, the_list, the_table, ask_for, compute, in_turn, with_result, function, module_of, main, child, spawn_child, new_table, put_one, look_up}
 use Rattle.world_model.specs.Names.{Name}
 use Rattle.world_model.specs.Orders.{OrderMatters, Depend, AreFree, ReadsIt, Tells}
-use Rattle.world_model.specs.ProcessExamples.{hears, trap}
+use Rattle.world_model.specs.ProcessExamples.{trap}
+use Rattle.world_model.specs.ReceiveExamples.{hears}
 use Rattle.world_model.specs.Signals.{exit_message}
 use Rattle.world_model.specs.TableExamples.{gives, bequeaths}
 use Rattle.world_model.specs.Terms.{atom, number, ok, truth, list_of, process, tuple}

@@ -1,14 +1,14 @@
 -- Small modules with tables, and what happens by their schedules.
-use Rattle.std.specs.Prelude.{◌∷◌, [], codes, Some, None}
+use Rattle.std.specs.Prelude.{◌∷◌, [], codes, pos, Some, None}
 use Rattle.term_core.specs.Meaning.{Meaning}
 use Rattle.term_core.specs.declared.step.Step.TheVariants.{Turn, Deliver}
 use Rattle.core_tree.specs.Expression as trees
 use Rattle.core_tree.specs.Syntax.{ModuleTree, Tree}
 use Rattle.core_tree.specs.declared.call.CallKind.TheVariants as kinds
 use Rattle.core_tree.specs.declared.pure.PureCall.TheVariants as pures
-use Rattle.world_model.specs.Events.{event, Delivered, Message, Arrives}
+use Rattle.world_model.specs.Events.{event, Delivered, Message, Arrives, Received, TimedOut}
 use Rattle.world_model.specs.Happenings.{t, P, Happens, made_it, serves_it, a_1, ends_it, normal, HasNoRun, EndsWith, P_2, refuses_it, error_of, spawned, P_1, P_3}
-use Rattle.world_model.specs.Modules.{the, module_of, main, in_turn, new_table, put_one, look_up, spawn_child, child, with_result, ask_for, the_table, the_atom, the_tuple, the_list, function, mention, compute}
+use Rattle.world_model.specs.Modules.{the, module_of, main, in_turn, new_table, put_one, look_up, spawn_child, child, with_result, ask_for, the_table, the_atom, the_tuple, the_list, the_number, function, mention, compute, on, any, receive, wait}
 use Rattle.world_model.specs.Signals.{transfer_message}
 use Rattle.world_model.specs.Terms.{ok, atom, list_of, process, tuple}
 use Rattle.world_model.specs.declared.rule.Rule.TheVariants.{ProtectedWrite, NoTable, PrivateRead, PrivateWrite, ShortObject, NotOwner, BadItem, OwnTarget}
@@ -47,30 +47,34 @@ StrangerEnds = EndsWith stranger (Turn P ∷ Turn P ∷ Turn P_2 ∷ Turn P_2 �
 -- ---- a table is given away: its old owner writes it no more
 
 abbrev pub gives : ModuleTree
-gives = module_of (main (in_turn (new_table []) (with_result (codes "C") spawn_child (in_turn (ask_for kinds.GiveAway (the_table ∷ the (codes "C") ∷ the_atom (codes "d") ∷ [])) put_one))) ∷ child (the_atom (codes "x")) ∷ [])
+gives = module_of (main (in_turn (new_table []) (with_result (codes "C") spawn_child (in_turn (ask_for kinds.GiveAway (the_table ∷ the (codes "C") ∷ the_atom (codes "d") ∷ [])) put_one))) ∷ child wait ∷ [])
 
 abbrev pub gift : Meaning
 gift = transfer_message t P (atom (codes "d"))
 
 abbrev pub OldOwnerIsRefused : Type 0
-OldOwnerIsRefused = Happens gives (Turn P ∷ Turn P ∷ Turn P ∷ Turn P ∷ Deliver P P_2 ∷ []) (
+OldOwnerIsRefused = Happens gives (Turn P ∷ Turn P ∷ Turn P ∷ Turn P ∷ Deliver P P_2 ∷ Turn P_2 ∷ []) (
     made_it
     ∷ serves_it P kinds.Spawn (spawned (codes "c") []) (process P_2)
     ∷ serves_it P kinds.GiveAway (t ∷ process P_2 ∷ atom (codes "d") ∷ []) ok
     ∷ refuses_it P kinds.Insert (t ∷ a_1 ∷ []) ProtectedWrite (Some P_2)
     ∷ event (Deliver P P_2) (Delivered (Message gift) (Arrives gift))
+    ∷ event (Turn P_2) (Received gift)
     ∷ [])
 
 -- ---- an end passes its table to an heir that lives, and destroys it else
 
 abbrev pub bequeaths : ModuleTree
-bequeaths = module_of (main (with_result (codes "C") spawn_child (in_turn (new_table (the_tuple (the_atom (codes "heir") ∷ the (codes "C") ∷ the_atom (codes "d") ∷ []) ∷ [])) (ask_for kinds.Spawn (the_atom (codes "m") ∷ the_atom (codes "d") ∷ the_list [] ∷ [])))) ∷ child put_one ∷ function (codes "d") [] look_up ∷ [])
+bequeaths = module_of (main (with_result (codes "C") spawn_child (in_turn (new_table (the_tuple (the_atom (codes "heir") ∷ the (codes "C") ∷ the_atom (codes "d") ∷ []) ∷ [])) (ask_for kinds.Spawn (the_atom (codes "m") ∷ the_atom (codes "d") ∷ the_list [] ∷ [])))) ∷ child (receive (on (any (codes "X")) put_one ∷ []) (the_number (pos 0)) (the_atom (codes "gone"))) ∷ function (codes "d") [] look_up ∷ [])
 
 abbrev pub HeirIsTold : Type 0
 HeirIsTold = EndsWith bequeaths (Turn P ∷ Turn P ∷ Turn P ∷ Turn P ∷ Deliver P P_1 ∷ []) (event (Deliver P P_1) (Delivered (Message gift) (Arrives gift)))
 
 abbrev pub HeirWrites : Type 0
-HeirWrites = EndsWith bequeaths (Turn P ∷ Turn P ∷ Turn P ∷ Turn P ∷ Deliver P P_1 ∷ Turn P_1 ∷ Turn P_3 ∷ []) (serves_it P_3 kinds.Lookup (t ∷ atom (codes "a") ∷ []) (list_of (a_1 ∷ [])))
+HeirWrites = EndsWith bequeaths (Turn P ∷ Turn P ∷ Turn P ∷ Turn P ∷ Deliver P P_1 ∷ Turn P_1 ∷ Turn P_1 ∷ Turn P_3 ∷ []) (serves_it P_3 kinds.Lookup (t ∷ atom (codes "a") ∷ []) (list_of (a_1 ∷ [])))
+
+abbrev pub HeirTimesOut : Type 0
+HeirTimesOut = EndsWith bequeaths (Turn P ∷ Turn P ∷ Turn P ∷ Turn P_1 ∷ []) (event (Turn P_1) TimedOut)
 
 abbrev pub NoHeirNoTable : Type 0
 NoHeirNoTable = EndsWith bequeaths (Turn P ∷ Turn P ∷ Turn P ∷ Turn P_1 ∷ Turn P_1 ∷ Turn P ∷ Turn P_3 ∷ []) (refuses_it P_3 kinds.Lookup (t ∷ atom (codes "a") ∷ []) NoTable None)
@@ -78,7 +82,7 @@ NoHeirNoTable = EndsWith bequeaths (Turn P ∷ Turn P ∷ Turn P ∷ Turn P_1 �
 -- ---- a name that is free again may mean the table of another
 
 abbrev pub renames : ModuleTree
-renames = module_of (main (in_turn (new_table []) (in_turn (ask_for kinds.DeleteTable (the_table ∷ [])) (in_turn spawn_child put_one))) ∷ child (new_table []) ∷ [])
+renames = module_of (main (in_turn (new_table []) (in_turn (ask_for kinds.DeleteTable (the_table ∷ [])) (in_turn spawn_child put_one))) ∷ child (in_turn (new_table []) wait) ∷ [])
 
 abbrev pub PresentOwnerCounts : Type 0
 PresentOwnerCounts = EndsWith renames (Turn P ∷ Turn P ∷ Turn P ∷ Turn P_3 ∷ Turn P ∷ []) (refuses_it P kinds.Insert (t ∷ a_1 ∷ []) ProtectedWrite (Some P_3))

@@ -25,6 +25,7 @@ hole_of (frames.Body variables body) = holes.Body variables.now (tree_of body.no
 hole_of (frames.Second second) = holes.Second (tree_of second.now)
 hole_of (frames.Clauses clauses) = holes.Clauses clauses.now
 hole_of (frames.Guard bindings body others values) = holes.Guard bindings (tree_of body.now) others.now values
+hole_of (frames.Receive receive) = holes.Receive receive.now.1 receive.now.3
 hole_of (frames.Try protected) = holes.Try protected.now.2 (protected.now.3) protected.now.4 protected.now.5
 hole_of frames.Catch = holes.Catch
 hole_of (frames.Kept bindings) = holes.Kept bindings

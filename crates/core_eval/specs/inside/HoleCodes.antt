@@ -9,7 +9,7 @@ use Rattle.core_tree.specs.Syntax.{Mention, Callee, Tree, ClauseTree}
 use Rattle.core_tree.specs.inside.SyntaxCodes.{coded_mention, coded_callee, coded_tree, coded_clause}
 use Rattle.term_core.specs.Meaning.{Meaning}
 use Rattle.term_core.specs.inside.MeaningCodes.{coded_meaning}
-use Rattle.core_eval.specs.Asked.{Asked, Call, Receive, End, Runaway}
+use Rattle.core_eval.specs.Told.{Told, Call, Receive, End, Runaway}
 use Rattle.core_eval.specs.Matching.{Environment}
 use Rattle.core_eval.specs.Holes.{Purpose, Hole}
 use Rattle.core_eval.specs.Purposes as purposes
@@ -47,7 +47,7 @@ coded_environment = coded_list (coded× (coded_list coded_ℕ) coded_meaning)
 
 -- the holes that wait for one of several parts, for values, and for what may raise
 abbrev PartShape : Type 0
-PartShape = (Purpose × (List Meaning × List Tree)) ⊎ (List Meaning ⊎ Tree)
+PartShape = (Purpose × (List Meaning × List Tree)) ⊎ (List Meaning ⊎ (Tree ⊎ (List ClauseTree × Tree)))
 
 abbrev ValuesShape : Type 0
 ValuesShape = (List Mention × Tree) ⊎ (List ClauseTree ⊎ (Environment ⊎ Environment))
@@ -61,7 +61,8 @@ HoleShape = PartShape ⊎ (ValuesShape ⊎ ProtectedShape)
 abbrev hole_shape : Hole → HoleShape
 hole_shape (holes.Parts purpose done later) = inl (inl (purpose, (done, later)))
 hole_shape (holes.Tail items) = inl (inr (inl items))
-hole_shape (holes.Second second) = inl (inr (inr second))
+hole_shape (holes.Second second) = inl (inr (inr (inl second)))
+hole_shape (holes.Receive clauses action) = inl (inr (inr (inr (clauses, action))))
 hole_shape (holes.Body variables body) = inr (inl (inl (variables, body)))
 hole_shape (holes.Clauses clauses) = inr (inl (inr (inl clauses)))
 hole_shape (holes.Kept bindings) = inr (inl (inr (inr (inl bindings))))
@@ -73,7 +74,8 @@ hole_shape holes.Catch = inr (inr (inr (inr tt)))
 abbrev hole_in : HoleShape → Hole
 hole_in (inl (inl g)) = holes.Parts g.0 g.1.0 g.1.1
 hole_in (inl (inr (inl items))) = holes.Tail items
-hole_in (inl (inr (inr second))) = holes.Second second
+hole_in (inl (inr (inr (inl second)))) = holes.Second second
+hole_in (inl (inr (inr (inr r)))) = holes.Receive r.0 r.1
 hole_in (inr (inl (inl b))) = holes.Body b.0 b.1
 hole_in (inr (inl (inr (inl clauses)))) = holes.Clauses clauses
 hole_in (inr (inl (inr (inr (inl bindings))))) = holes.Kept bindings
@@ -88,6 +90,7 @@ hole_in-hole_shape (holes.Tail items) = refl
 hole_in-hole_shape (holes.Body variables body) = refl
 hole_in-hole_shape (holes.Second second) = refl
 hole_in-hole_shape (holes.Clauses clauses) = refl
+hole_in-hole_shape (holes.Receive clauses action) = refl
 hole_in-hole_shape (holes.Guard bindings body others values) = refl
 hole_in-hole_shape (holes.Try variables body caught handler) = refl
 hole_in-hole_shape holes.Catch = refl
@@ -95,7 +98,7 @@ hole_in-hole_shape (holes.Kept bindings) = refl
 hole_in-hole_shape (holes.Applied bindings) = refl
 
 abbrev coded_part : Coded PartShape
-coded_part = coded⊎ (coded× coded_purpose (coded× (coded_list coded_meaning) (coded_list coded_tree))) (coded⊎ (coded_list coded_meaning) coded_tree)
+coded_part = coded⊎ (coded× coded_purpose (coded× (coded_list coded_meaning) (coded_list coded_tree))) (coded⊎ (coded_list coded_meaning) (coded⊎ coded_tree (coded× (coded_list coded_clause) coded_tree)))
 
 abbrev coded_values : Coded ValuesShape
 coded_values = coded⊎ (coded× (coded_list coded_mention) coded_tree) (coded⊎ (coded_list coded_clause) (coded⊎ coded_environment coded_environment))
@@ -108,26 +111,26 @@ coded_protected =
 abbrev pub coded_hole : Coded Hole
 coded_hole = code_by HoleShape (coded⊎ coded_part (coded⊎ coded_values coded_protected)) hole_shape hole_in hole_in-hole_shape
 
-abbrev AskedShape : Type 0
-AskedShape = ((CallKind × List Meaning) ⊎ Bool) ⊎ (Meaning ⊎ Unit {0})
+abbrev ToldShape : Type 0
+ToldShape = ((CallKind × List Meaning) ⊎ Bool) ⊎ (Meaning ⊎ Unit {0})
 
-abbrev asked_shape : Asked → AskedShape
-asked_shape (Call kind arguments) = inl (inl (kind, arguments))
-asked_shape (Receive waits) = inl (inr waits)
-asked_shape (End reason) = inr (inl reason)
-asked_shape Runaway = inr (inr tt)
+abbrev told_shape : Told → ToldShape
+told_shape (Call kind arguments) = inl (inl (kind, arguments))
+told_shape (Receive waits) = inl (inr waits)
+told_shape (End reason) = inr (inl reason)
+told_shape Runaway = inr (inr tt)
 
-abbrev asked_in : AskedShape → Asked
-asked_in (inl (inl c)) = Call c.0 c.1
-asked_in (inl (inr waits)) = Receive waits
-asked_in (inr (inl reason)) = End reason
-asked_in (inr (inr u)) = Runaway
+abbrev told_in : ToldShape → Told
+told_in (inl (inl c)) = Call c.0 c.1
+told_in (inl (inr waits)) = Receive waits
+told_in (inr (inl reason)) = End reason
+told_in (inr (inr u)) = Runaway
 
-pub asked_in-asked_shape : (a : Asked) → asked_in (asked_shape a) ≡ a
-asked_in-asked_shape (Call kind arguments) = refl
-asked_in-asked_shape (Receive waits) = refl
-asked_in-asked_shape (End reason) = refl
-asked_in-asked_shape Runaway = refl
+pub told_in-told_shape : (t : Told) → told_in (told_shape t) ≡ t
+told_in-told_shape (Call kind arguments) = refl
+told_in-told_shape (Receive waits) = refl
+told_in-told_shape (End reason) = refl
+told_in-told_shape Runaway = refl
 
-abbrev pub coded_asked : Coded Asked
-coded_asked = code_by AskedShape (coded⊎ (coded⊎ (coded× coded_call (coded_list coded_meaning)) coded_bool) (coded⊎ coded_meaning coded_unit)) asked_shape asked_in asked_in-asked_shape
+abbrev pub coded_told : Coded Told
+coded_told = code_by ToldShape (coded⊎ (coded⊎ (coded× coded_call (coded_list coded_meaning)) coded_bool) (coded⊎ coded_meaning coded_unit)) told_shape told_in told_in-told_shape

@@ -1,21 +1,25 @@
 -- The steps of the code: what it has on top of its stack means something as a whole, and the work that is left grows less.
-use Rattle.std.specs.Prelude.{ℕ, ◌+◌, ◌*◌, ◌<◌, ◌≤◌, ◌≡◌, List, [], ◌∷◌, ◌++◌, Bool, true, false, not, ◌&&◌, Option}
+use Rattle.std.specs.Prelude.{ℕ, ◌+◌, ◌*◌, ◌<◌, ◌≤◌, ◌≡◌, List, [], ◌∷◌, ◌++◌, Bool, true, false, not, ◌&&◌, Option, Some, None, option_map}
 use Rattle.core_tree.specs.Syntax.{Mention, Tree, ClauseTree, clauses_of, trees_of}
 use Rattle.core_tree.specs.inside.Sizes.{size_of, size_of_list, size_of_clause_list}
 use Rattle.core_tree.specs.Tree.{tree_of}
 use Rattle.term_core.specs.Meaning.{Meaning}
 use Rattle.term_core.specs.Term.{meaning_of}
 use Rattle.core_eval.specs.declared.control.Control.{Control}
-use Rattle.core_eval.specs.declared.control.Control.TheVariants.{Evaluate, Return, Values, Raise, Answer, Ask, Apply}
+use Rattle.core_eval.specs.declared.control.Control.TheVariants.{Evaluate, Return, Values, Raise, Answer, Ask, Wait, Apply}
+use Rattle.core_eval.specs.declared.control.Halt.{Halt}
+use Rattle.core_eval.specs.declared.control.Halt.TheVariants as halts
 use Rattle.core_eval.specs.declared.control.Pause.{Pause}
 use Rattle.core_eval.specs.declared.control.Pause.TheVariants as pauses
 use Rattle.core_eval.specs.Matching.{Environment, bound}
-use Rattle.core_eval.specs.Evaluation.{State, Outcome, Yields, Raises, Setting, then_do, called, choose, guarded, limited_answer, within, evaluate, evaluate_all}
+use Rattle.core_eval.specs.Evaluation.{State, before, Outcome, Yields, Raises, Setting, then_do, called, choose, guarded, is_true, limited_answer, within, evaluate, evaluate_all}
 use Rattle.pure_calls.specs.Calls.{answer_of}
 use Rattle.core_eval.specs.Applications.{body_with}
 use Rattle.core_eval.specs.Ask.{request_of}
-use Rattle.core_eval.specs.Requests.{Asked, asked_of}
-use Rattle.core_eval.specs.Holes.{Purpose, Hole, only_keeps, scope, finish, through, standing}
+use Rattle.core_eval.specs.Asked.{Answered}
+use Rattle.core_eval.specs.Told.{Told}
+use Rattle.core_eval.specs.Told as told
+use Rattle.core_eval.specs.Holes.{Purpose, Hole, only_keeps, scope, finish, through, receive_on, waiting, standing}
 use Rattle.core_eval.specs.Purposes as purposes
 use Rattle.core_eval.specs.Holes as holes
 
@@ -27,6 +31,7 @@ going setting holes (Values values) s = through setting holes (Yields values s)
 going setting holes (Raise class reason) s = through setting holes (Raises class (meaning_of reason) s)
 going setting holes (Answer kind arguments) s = through setting holes (limited_answer (answer_of setting.own kind arguments) s)
 going setting holes (Ask kind arguments) s = through setting holes (called kind arguments s)
+going setting holes (Wait waits) s = waiting setting (receive_on holes) waits s
 going setting holes (Apply function arguments) s = through setting holes (setting.apply function.now arguments s)
 
 -- on top of every stack this means that, which may depend on the setting
@@ -37,10 +42,41 @@ MeansIn next got = (setting : Setting) (holes : List Hole) (s : State) → going
 abbrev pub Means : Control → (State → Outcome) → Type 0
 Means next got = MeansIn next (λ setting s. got s)
 
--- what a process asks that stands at a request, or is about to apply a function
-abbrev pub paused : Setting → List Hole → Pause → State → Asked
-paused setting holes (pauses.Request request) s = standing setting holes (asked_of request) s.answers
-paused setting holes (pauses.Application function arguments) s = request_of (through setting holes (setting.apply function.now arguments s))
+-- what the outermost expression gives where the evaluation stops there
+abbrev pub halted : Setting → List Hole → Halt → State → Outcome
+halted setting holes (halts.Values values) s = Yields values s
+halted setting holes (halts.Raise class reason) s = Raises class (meaning_of reason) s
+halted setting holes (halts.Ask kind arguments) s = through setting holes (called kind arguments s)
+halted setting holes (halts.Wait waits) s = waiting setting (receive_on holes) waits s
+
+-- what it gives where the evaluation stops, or is about to apply a function
+abbrev pub paused : Setting → List Hole → Pause → State → Outcome
+paused setting holes (pauses.Halt halt) s = halted setting holes halt s
+paused setting holes (pauses.Application function arguments) s = through setting holes (setting.apply function.now arguments s)
+
+-- whether the evaluation gave 'true' and nothing else
+abbrev pub gave_true : Pause → Bool
+gave_true (pauses.Halt (halts.Values values)) = is_true values
+gave_true (pauses.Halt (halts.Raise class reason)) = false
+gave_true (pauses.Halt (halts.Ask kind arguments)) = false
+gave_true (pauses.Halt (halts.Wait waits)) = false
+gave_true (pauses.Application function arguments) = false
+
+-- the clauses and the action of the receive on top of a stack, if there is one
+abbrev pub waits_on : List Hole → Option (List ClauseTree × Tree)
+waits_on holes = option_map (λ w. (w.clauses, w.action)) (receive_on holes)
+
+-- the clauses of the receive that a stack stands at
+abbrev pub stands_in : List Hole → Told → Option (List ClauseTree)
+stands_in holes (told.Receive waits) = option_map (λ w. w.0) (waits_on holes)
+stands_in holes (told.Call kind arguments) = None
+stands_in holes (told.End reason) = None
+stands_in holes told.Runaway = None
+
+-- with the answer to a request a stack goes on like this; where the answer does not fit, it stays as it is
+abbrev pub Answers : List Hole → List Hole → Told → Answered → Option Control → Type 0
+Answers old new request answer None = (new ≡ old) × ((setting : Setting) (later : List Answered) → standing setting old request (answer ∷ later) ≡ standing setting old request later)
+Answers old new request answer (Some next) = (setting : Setting) (later : List Answered) → standing setting old request (answer ∷ later) ≡ request_of (going setting new next (before later))
 
 -- the work that is left in what is on top of a stack
 abbrev pub load : Control → ℕ
@@ -50,6 +86,7 @@ load (Values values) = 2
 load (Raise class reason) = 0
 load (Answer kind arguments) = 3
 load (Ask kind arguments) = 0
+load (Wait waits) = 0
 load (Apply function arguments) = 0
 
 -- the work that is left after several expressions
@@ -68,6 +105,7 @@ work_in (holes.Body variables body) = 1 + 4 * size_of body
 work_in (holes.Second second) = 1 + 4 * size_of second
 work_in (holes.Clauses clauses) = 1 + 4 * size_of_clause_list clauses
 work_in (holes.Guard bindings body others values) = 2 + (4 * size_of body + 4 * size_of_clause_list others)
+work_in (holes.Receive clauses action) = 1
 work_in (holes.Try variables body caught handler) = 2 + (4 * size_of body + 4 * size_of handler)
 work_in holes.Catch = 3
 work_in (holes.Kept bindings) = 1

@@ -279,6 +279,10 @@ mutual
       let s = and_parts (pointwise same_mention ws qs) (same_tree h z) r.1 in
       λ i. trees.Try 0 (tree_tells t x p.0 i) (mentions_bear.tells vs ps q.0 i) (tree_tells u y r.0 i) (mentions_bear.tells ws qs s.0 i) (tree_tells h z s.1 i)
   tree_tells (trees.Catch at t) (trees.Catch bt u) e = λ i. trees.Catch 0 (tree_tells t u e i)
+  tree_tells (trees.Receive at cs t u) (trees.Receive bt ds x y) e =
+      let p = and_parts (same_clauses cs ds) (same_tree t x && same_tree u y) e in
+      let q = and_parts (same_tree t x) (same_tree u y) p.1 in
+      λ i. trees.Receive 0 (clauses_tell cs ds p.0 i) (tree_tells t x q.0 i) (tree_tells u y q.1 i)
   tree_tells a b e = cc
 
   trees_tell : (ts us : Trees) → same_trees ts us ≡ true → bare_trees ts ≡ bare_trees us
@@ -317,6 +321,7 @@ mutual
   tree_itself (trees.Try at t vs u ws h) =
       and_from _ _ (tree_itself t) (and_from _ _ (mentions_bear.itself vs) (and_from _ _ (tree_itself u) (and_from _ _ (mentions_bear.itself ws) (tree_itself h))))
   tree_itself (trees.Catch at t) = tree_itself t
+  tree_itself (trees.Receive at cs t u) = and_from _ _ (clauses_themselves cs) (and_from _ _ (tree_itself t) (tree_itself u))
 
   trees_themselves : (ts : Trees) → same_trees ts ts ≡ true
   trees_themselves trees.NoMore = refl
@@ -345,6 +350,7 @@ mutual
   tree_images (trees.Try at t vs u ws h) (trees.Try bt x ps y qs z) =
       λ i. tree_images t x i && (mentions_bear.images vs ps i && (tree_images u y i && (mentions_bear.images ws qs i && tree_images h z i)))
   tree_images (trees.Catch at t) (trees.Catch bt u) = tree_images t u
+  tree_images (trees.Receive at cs t u) (trees.Receive bt ds x y) = λ i. clauses_images cs ds i && (tree_images t x i && tree_images u y i)
   tree_images a b = refl
 
   trees_images : (ts us : Trees) → same_trees (bare_trees ts) (bare_trees us) ≡ same_trees ts us

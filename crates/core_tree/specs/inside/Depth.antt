@@ -46,6 +46,7 @@ deep_le (forms.Do b) = omega arith
 deep_le (forms.Call c) = omega arith
 deep_le (forms.Try b) = omega arith
 deep_le (forms.Catch b) = omega arith
+deep_le (forms.Receive b) = omega arith
 
 pub most_le : (es : List Expr) → most deep-Expr es ≤ size_of_list (map tree_of es)
 most_le [] = omega arith

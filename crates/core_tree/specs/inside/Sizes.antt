@@ -45,6 +45,7 @@ abbrev mutual
   size_of (trees.Call at callee ts) = 2 + size_of_all ts
   size_of (trees.Try at t vs u ws h) = 1 + (size_of t + (size_of u + size_of h))
   size_of (trees.Catch at t) = 1 + size_of t
+  size_of (trees.Receive at cs t u) = 2 + (size_of_clauses cs + (size_of t + size_of u))
 
   pub size_of_all : Trees → ℕ
   size_of_all trees.NoMore = 0

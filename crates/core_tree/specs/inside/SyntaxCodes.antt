@@ -205,6 +205,7 @@ abbrev mutual
   code_of (trees.Call at c ts) = gcons (gnum 12) (gcons (gcons (gnum at) (callee c)) (codes_of ts))
   code_of (trees.Try at t vs u ws h) = gcons (gnum 13) (gcons (code_of t) (gcons (code_of u) (gcons (code_of h) (gcons (gnum at) (gcons (mentions vs) (mentions ws))))))
   code_of (trees.Catch at t) = gcons (gnum 14) (gcons (code_of t) (gnum at))
+  code_of (trees.Receive at cs t u) = gcons (gnum 15) (gcons (gnum at) (gcons (code_of t) (gcons (code_of u) (codes_of_clauses cs))))
 
   pub codes_of : Trees → Gv
   codes_of trees.NoMore = gnil
@@ -248,6 +249,7 @@ trees_by_tag g ms cs =
     ∷ trees.Call (number_in (head_in (head_in g))) (callee_in (tail_in (head_in g))) (others_of ms)
     ∷ trees.Try (number_in (head_in (tail_of_try g))) (first_of ms) (mentions_in (head_in (tail_in (tail_of_try g)))) (first_of (others_of ms)) (mentions_in (tail_in (tail_in (tail_of_try g)))) (first_of (others_of (others_of ms)))
     ∷ trees.Catch (number_in (tail_in g)) (first_of ms)
+    ∷ trees.Receive (number_in (head_in g)) (other_clauses (other_clauses (other_clauses cs))) (first_of (others_of ms)) (first_of (others_of (others_of ms)))
     ∷ []
 
 pub record Found : Type 0 where
@@ -277,6 +279,7 @@ mutual
   found_in-code_of (trees.Call at c ts) = λ i. trees.Call at (callee_in-callee c i) (found_in-codes_of ts i)
   found_in-code_of (trees.Try at t vs u ws h) = λ i. trees.Try at (found_in-code_of t i) (mentions_in-mentions vs i) (found_in-code_of u i) (mentions_in-mentions ws i) (found_in-code_of h i)
   found_in-code_of (trees.Catch at t) = λ i. trees.Catch at (found_in-code_of t i)
+  found_in-code_of (trees.Receive at cs t u) = λ i. trees.Receive at (found_in-codes_of_clauses cs i) (found_in-code_of t i) (found_in-code_of u i)
 
   pub found_in-codes_of : (ts : Trees) → (found_in (codes_of ts)).many ≡ ts
   found_in-codes_of trees.NoMore = refl

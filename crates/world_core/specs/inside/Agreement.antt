@@ -3,7 +3,8 @@ use Rattle.std.specs.Prelude.{◌≡◌, ℕ, false, List, [], ◌∷◌, ◌++�
 use Rattle.core_tree.specs.Syntax.{ModuleTree}
 use Rattle.term_core.specs.Meaning.{Meaning}
 use Rattle.core_eval.specs.Ask.{ask}
-use Rattle.core_eval.specs.Asked.{Asked, Answered}
+use Rattle.core_eval.specs.Asked.{Answered}
+use Rattle.core_eval.specs.Told.{Told}
 use Rattle.core_eval.specs.Standing.{after, is_spent}
 use Rattle.term_core.specs.declared.step.Step.TheVariants.{Turn}
 use Rattle.world_core.specs.Events.{Deed, History}
@@ -25,8 +26,8 @@ abbrev pub AreTables : History → List (Meaning × Table) → Type 0
 AreTables h tables = (argument : Meaning) → find_in tables argument ≡ find h argument
 
 -- a call of a table of a process was served or refused as the history reports, and the records of tables are those after it
-pub record IsServed (h : History) (p : List ℕ) (asked : Asked) (deed : Deed) (tables : List (Meaning × Table)) : Type 0 where
-  pub next : deed_asked h p asked ≡ Some deed
+pub record IsServed (h : History) (p : List ℕ) (request : Told) (deed : Deed) (tables : List (Meaning × Table)) : Type 0 where
+  pub next : deed_asked h p request ≡ Some deed
   pub finds : AreTables (happening (Turn p) deed ∷ h) tables
 
 -- a turn of a process did what the history reports, and the records are those after it

@@ -1,8 +1,8 @@
 // Small modules, and what happens by their schedules.
 ghost use Rattle.world_model.specs.ShownExamples.{RefusalIsShown, RefusalIsListed, RefusalIsNoError, RefusalIsErrorIfStrict, EndIsError, NormalEndShowsNothing};
-ghost use Rattle.world_model.specs.ReceiveExamples.{WaitsForIts, TakesItsFirst, TakesTheOther, TakesTheOlder, ComesToTimeout};
-ghost use Rattle.world_model.specs.TableExamples.{WritesItsTable, HasNoNinth, StrangerIsRefused, StrangerFindsNone, StrangerEnds, OldOwnerIsRefused, HeirIsTold, HeirWrites, NoHeirNoTable, PresentOwnerCounts, PrivateIsUnread, StrangerBeforeObject, OwnerOfShort, OwnersCall, InfoOfNone, ItemIsUnknown, GiftToItself};
-ghost use Rattle.world_model.specs.ProcessExamples.{SecondIsHeard, UndefinedEnds, KillEnds, KillIsTold, EndIsTold, NameIsServed, LateLinkFails, LateLinkEnds, ItWaits, ThenItIsGone};
+ghost use Rattle.world_model.specs.ReceiveExamples.{SecondIsHeard, WaitsForIts, TakesItsFirst, TakesTheOther, TakesTheOlder, ComesToTimeout, ComesToMessage};
+ghost use Rattle.world_model.specs.TableExamples.{WritesItsTable, HasNoNinth, StrangerIsRefused, StrangerFindsNone, StrangerEnds, OldOwnerIsRefused, HeirIsTold, HeirWrites, HeirTimesOut, NoHeirNoTable, PresentOwnerCounts, PrivateIsUnread, StrangerBeforeObject, OwnerOfShort, OwnersCall, InfoOfNone, ItemIsUnknown, GiftToItself};
+ghost use Rattle.world_model.specs.ProcessExamples.{UndefinedEnds, KillEnds, KillIsTold, EndIsTold, NameIsServed, LateLinkFails, LateLinkEnds, ItWaits, ItIsKilled, ThenItIsGone};
 
 /// A process makes a table, writes it, reads it and ends.
 #[tactic(auto, unfolding(crate::specs::World::contents))]
@@ -30,6 +30,7 @@ pub fn old_owners_are_refused()
 pub fn heirs_get_tables()
     ensures told { HeirIsTold }
     ensures rows { HeirWrites }
+    ensures timeout { HeirTimesOut }
     ensures gone { NoHeirNoTable }
 {}
 
@@ -88,6 +89,7 @@ pub fn late_links_fail()
 #[tactic(auto, unfolding(crate::specs::World::contents))]
 pub fn signals_come_first()
     ensures waits { ItWaits }
+    ensures killed { ItIsKilled }
     ensures gone { ThenItIsGone }
 {}
 
@@ -100,6 +102,7 @@ pub fn receives_select()
     ensures other { TakesTheOther }
     ensures older { TakesTheOlder }
     ensures timeout { ComesToTimeout }
+    ensures message { ComesToMessage }
 {}
 
 /// A refused call is shown and listed, and is an error where access is strict; an end with another reason

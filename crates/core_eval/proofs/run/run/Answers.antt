@@ -1,5 +1,6 @@
 use Rattle.std.proofs.Common.{◌≡◌, ◌∙◌, refl, ap, sym, arith}
 use Rattle.core_eval.specs.Applications.{setting_of}
+use Rattle.core_eval.specs.Ask.{request_of}
 use Rattle.core_eval.specs.Asked.{Asked}
 use Rattle.core_eval.specs.Evaluation.{Setting, State}
 use Rattle.core_eval.specs.Holes.{Hole}
@@ -10,8 +11,8 @@ use Rattle.core_eval.proofs.Running.{asks_in_body, asks_to_run_away}
 use Rattle.core_eval.proofs.run.run.Goals as goal
 
 -- an application that the machine paused at asks what the pause does
-at_pause : (setting : Setting) (holes : List Hole) (p q : Pause) (s : State) (asked : Asked) → p ≡ q → paused setting holes p s ≡ asked → paused setting holes q s ≡ asked
-at_pause setting holes p q s asked is e = sym (ap (λ (r : Pause). paused setting holes r s) is) ∙ e
+at_pause : (setting : Setting) (holes : List Hole) (p q : Pause) (s : State) (asked : Asked) → p ≡ q → request_of (paused setting holes p s) ≡ asked → request_of (paused setting holes q s) ≡ asked
+at_pause setting holes p q s asked is e = sym (ap (λ (r : Pause). request_of (paused setting holes r s)) is) ∙ e
 
 pub applications-preserved : goal.applications-preserved
 applications-preserved c = λ answers.
@@ -19,7 +20,7 @@ applications-preserved c = λ answers.
     let s : State = record { answers = answers; made = c.applications._made } in
     asks_in_body c.args.program.now c.args.own.now c.in-Application.function.now c.in-Application.arguments s
     c.advance.new.stack c.apply.new.stack c.in_ok-control-in-Application.control _ (omega (arith, c.applications-test.true)) c.in_ok-control-in-Application.ensures.same
-    (at_pause setting c.advance.new.stack _ _ s _ c.in-Application.is (c.in_ok-request.ensures setting refl s ∙ c.applications.invariant answers))
+    (at_pause setting c.advance.new.stack _ _ s _ c.in-Application.is (ap request_of (c.in_ok-halt.ensures setting refl s) ∙ c.applications.invariant answers))
 
 pub returns : goal.returns
 returns c = λ answers.
@@ -27,4 +28,4 @@ returns c = λ answers.
     let s : State = record { answers = answers; made = c.applications._made } in
     asks_to_run_away c.args.program.now c.args.own.now c.in-Application-2.field-0.now c.in-Application-2.field-1 s
     c.advance-2.new.stack _ (omega (arith, c.applications-test.false))
-    (at_pause setting c.advance-2.new.stack _ _ s _ c.in-Application-2.is (c.in_ok-request-2.ensures setting refl s ∙ c.applications.invariant answers))
+    (at_pause setting c.advance-2.new.stack _ _ s _ c.in-Application-2.is (ap request_of (c.in_ok-halt-2.ensures setting refl s) ∙ c.applications.invariant answers))

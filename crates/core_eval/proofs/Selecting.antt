@@ -1,0 +1,84 @@
+-- Guards that are judged apart, and the messages that a request takes.
+use Rattle.std.proofs.Common.{◌≡◌, ℕ, Bool, false, List, [], ◌∷◌, ◌++◌, refl, ap, sym, ◌∙◌, arith, IfOk, Result, Ok, Err}
+use Rattle.std.specs.Prelude.{Option, Some, None}
+use Rattle.std.specs.declared.alloc.AllocError.{AllocError}
+use Rattle.std.proofs.lemmas.List.{append-nil}
+use Rattle.core_tree.specs.Syntax.{ClauseTree, ModuleTree, Tree, clauses_of}
+use Rattle.term_core.specs.Meaning.{Meaning}
+use Rattle.core_eval.specs.declared.control.Halt.TheVariants as halts
+use Rattle.core_eval.specs.declared.control.Pause.{Pause}
+use Rattle.core_eval.specs.declared.control.Pause.TheVariants as pauses
+use Rattle.core_eval.specs.Applications.{setting_of}
+use Rattle.core_eval.specs.Ask.{request_of}
+use Rattle.core_eval.specs.Asked.{Asked, Call, Receive, Runaway}
+use Rattle.core_eval.specs.Told.{Told, is_selected}
+use Rattle.core_eval.specs.Told as told
+use Rattle.core_eval.specs.Evaluation.{before, Setting, Stops, at_rest, evaluate, holds, selects}
+use Rattle.core_eval.specs.Holes.{Hole, Wait, receive_on, scope, standing, through, waiting}
+use Rattle.core_eval.specs.Holes as holes
+use Rattle.core_eval.specs.Matching.{Environment}
+use Rattle.core_eval.specs.inside.Steps.{gave_true, paused, stands_in}
+use Rattle.core_eval.proofs.Running.{runs_away}
+use Rattle.core_eval.proofs.Stops.{through-stops}
+
+-- a guard that stops does not hold
+stopped : (setting : Setting) (stack : List Hole) (request : Asked) → holds (through setting stack (Stops request)) ≡ false
+stopped setting stack request = ap holds (through-stops setting stack request)
+
+waits_apart : (setting : Setting) (o : Option Wait) (waits : Bool) → holds (waiting setting o waits at_rest) ≡ false
+waits_apart setting None waits = refl
+waits_apart setting (Some w) waits = stopped setting w.below (Receive waits (λ m. selects setting (clauses_of w.clauses) (scope w.below) m))
+
+-- a guard that is judged apart can neither ask nor apply
+pub judged_apart : (m : ModuleTree) (own : List ℕ) (stack : List Hole) (pause : Pause) → holds (paused (setting_of m own) stack pause at_rest) ≡ gave_true pause
+judged_apart m own stack (pauses.Halt (halts.Values values)) = refl
+judged_apart m own stack (pauses.Halt (halts.Raise class reason)) = refl
+judged_apart m own stack (pauses.Halt (halts.Ask kind arguments)) = stopped (setting_of m own) stack (Call kind arguments)
+judged_apart m own stack (pauses.Halt (halts.Wait waits)) = waits_apart (setting_of m own) (receive_on stack) waits
+judged_apart m own stack (pauses.Application function arguments) =
+    ap (λ got. holds (through (setting_of m own) stack got)) (runs_away m own function.now arguments at_rest (omega arith)) ∙ stopped (setting_of m own) stack Runaway
+
+-- its variables hide none but those further out
+pub apart : (setting : Setting) (empty outer both : List Hole) (guard : Tree) (bindings variables env : Environment) → empty ≡ [] → outer ≡ holes.Kept variables ∷ empty → both ≡ holes.Kept bindings ∷ outer → variables ≡ env
+    → through setting both (evaluate setting guard (scope both) at_rest) ≡ evaluate setting guard (bindings ++ env) at_rest
+apart setting empty outer both guard bindings variables env none one two same =
+    let whole : both ≡ holes.Kept bindings ∷ holes.Kept variables ∷ [] = two ∙ ap (λ (hs : List Hole). holes.Kept bindings ∷ hs) (one ∙ ap (λ (hs : List Hole). holes.Kept variables ∷ hs) none) in
+    ap (λ (hs : List Hole). through setting hs (evaluate setting guard (scope hs) at_rest)) whole
+    ∙ ap (λ (env' : Environment). evaluate setting guard (bindings ++ env') at_rest) (append-nil variables ∙ same)
+
+-- ---- the messages that a request takes
+
+-- whether these clauses take a message, if there are any
+abbrev pub taken_by : Setting → Environment → Option (List ClauseTree) → Meaning → Bool
+taken_by setting env None message = false
+taken_by setting env (Some clauses) message = selects setting (clauses_of clauses) env message
+
+takes_waiting : (setting : Setting) (stack : List Hole) (waits : Bool) (message : Meaning) → is_selected (request_of (waiting setting (receive_on stack) waits (before []))) message ≡ taken_by setting (scope stack) (stands_in stack (told.Receive waits)) message
+takes_waiting setting [] waits message = refl
+takes_waiting setting (holes.Receive clauses action ∷ below) waits message = ap (λ got. is_selected (request_of got) message) (through-stops setting below (Receive waits (λ m. selects setting (clauses_of clauses) (scope below) m)))
+takes_waiting setting (holes.Parts purpose done later ∷ below) waits message = refl
+takes_waiting setting (holes.Tail items ∷ below) waits message = refl
+takes_waiting setting (holes.Body variables body ∷ below) waits message = refl
+takes_waiting setting (holes.Second second ∷ below) waits message = refl
+takes_waiting setting (holes.Clauses clauses ∷ below) waits message = refl
+takes_waiting setting (holes.Guard bindings body others values ∷ below) waits message = refl
+takes_waiting setting (holes.Try variables body caught handler ∷ below) waits message = refl
+takes_waiting setting (holes.Catch ∷ below) waits message = refl
+takes_waiting setting (holes.Kept bindings ∷ below) waits message = refl
+takes_waiting setting (holes.Applied bindings ∷ below) waits message = refl
+
+pub takes : (setting : Setting) (stack : List Hole) (request : Told) (message : Meaning) → is_selected (standing setting stack request []) message ≡ taken_by setting (scope stack) (stands_in stack request) message
+takes setting stack (told.Receive waits) message = takes_waiting setting stack waits message
+takes setting stack (told.Call kind arguments) message = ap (λ got. is_selected (request_of got) message) (through-stops setting stack (Call kind arguments))
+takes setting stack (told.End reason) message = refl
+takes setting stack told.Runaway message = refl
+
+-- what a machine answers that stands there
+pub takes_as : (setting : Setting) (stack : List Hole) (request : Told) (message : Meaning) (o : Option (List ClauseTree)) → o ≡ stands_in stack request → taken_by setting (scope stack) o message ≡ is_selected (standing setting stack request []) message
+takes_as setting stack request message o e = ap (λ p. taken_by setting (scope stack) p message) e ∙ sym (takes setting stack request message)
+
+pub answers_as : (r : Result Bool AllocError) (m : ModuleTree) (own : List ℕ) (stack : List Hole) (request : Told) (message : Meaning) (clauses : List ClauseTree) → Some clauses ≡ stands_in stack request
+    → IfOk r (λ found. (n : ModuleTree) → found ≡ selects (setting_of n own) (clauses_of clauses) (scope stack) message)
+    → IfOk r (λ found. found ≡ is_selected (standing (setting_of m own) stack request []) message)
+answers_as (Ok found) m own stack request message clauses e h = h m ∙ takes_as (setting_of m own) stack request message (Some clauses) e
+answers_as (Err error) m own stack request message clauses e h = tt
