@@ -38,7 +38,7 @@ fn receiver(alloc: Global, front: &str, body: &str) -> Result<Module, Fail> {
     if let Some(definition) = program.definitions.last_mut() {
         let body = replace(&mut definition.body, Expr::Integer(0));
         if let Expr::Case(case) = body {
-            definition.body = as_receive(alloc, *case)?;
+            definition.body = as_receive(alloc, Box::into_inner(case))?;
         }
     }
     Ok(program)
