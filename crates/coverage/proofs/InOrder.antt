@@ -60,7 +60,7 @@ kept_after test x (y ∷ xs) before = go (test y) (kept_after test x xs before.1
     go true more = (before.0, more)
     go false more = more
 
-kept_in_order : (test : Step → Bool) (xs : List Step) → AreInOrder xs → AreInOrder (filter test xs)
+pub kept_in_order : (test : Step → Bool) (xs : List Step) → AreInOrder xs → AreInOrder (filter test xs)
 kept_in_order test [] p = tt
 kept_in_order test (x ∷ xs) p = go (test x) (kept_in_order test xs p.1)
   where

@@ -6,3 +6,6 @@ pub mod InOrder
 pub mod ShownLaws
 pub mod IdentityOrder
 pub mod FindingLaws
+pub mod CoverLaws
+pub mod JobLaws
+pub mod OwnCovers

@@ -4,3 +4,7 @@ pub mod Shown
 pub mod Identities
 pub mod Findings
 pub mod FindingExamples
+pub mod Jobs
+pub mod Covers
+pub mod CoverExamples
+pub mod JobExamples

@@ -14,7 +14,7 @@ use Rattle.world_model.specs.Events.{Event, History}
 use Rattle.world_model.specs.Happenings.{P, P_1}
 use Rattle.world_model.specs.Independence.{are_independent}
 use Rattle.world_model.specs.Modules.{module_of, main, child, spawn_child, new_table, look_up, put_one, mention, the, in_turn, ask_for, the_atom, the_number, the_list, the_tuple, the_table}
-use Rattle.world_model.specs.Names.{IsAmong}
+use Rattle.world_model.specs.Names.{Name, IsAmong}
 use Rattle.world_model.specs.Requests.{Program}
 use Rattle.world_model.specs.Run.{next_event, run}
 use Rattle.world_model.specs.TableExamples.{stranger}
@@ -25,6 +25,10 @@ use Rattle.coverage.specs.Explored.{explored, choice}
 -- the schedules of the nodes, each before those of the nodes below it
 abbrev pub nodes : Program → ℕ → List (List Step)
 nodes a n = paths (explored a) (search (explored a) (choice a)) n tt [] []
+
+-- how many there are
+abbrev pub node_count : Program → ℕ → ℕ
+node_count a n = length (nodes a n)
 
 -- each is a schedule of at most so many steps, and it runs
 abbrev pub NodesRun : Type 0
@@ -59,7 +63,7 @@ NodesCover = (a : Program) (n : ℕ) (s : List Step) (h : History) → length s 
 
 -- the tree of a module to this depth has so many nodes
 abbrev pub HasNodes : ModuleTree → ℕ → ℕ → Type 0
-HasNodes m n count = length (nodes (program_of m) n) ≡ count
+HasNodes m n count = node_count (program_of m) n ≡ count
 
 -- and these are the schedules of its nodes
 abbrev pub HasTree : ModuleTree → ℕ → List (List Step) → Type 0
@@ -78,11 +82,11 @@ abbrev pub IdleHasTwo : Type 0
 IdleHasTwo = HasNodes idle 1 2
 
 -- two processes make a table of their own each and end: nothing that one does matters to the other
-abbrev pub own_table : Tree
-own_table = ask_for kinds.New (the_table ∷ the_list [] ∷ [])
+abbrev pub own_table : Name → Tree
+own_table name = ask_for kinds.New (the_atom name ∷ the_list [] ∷ [])
 
 abbrev pub two_tables : ModuleTree
-two_tables = module_of (main (in_turn spawn_child own_table) ∷ child own_table ∷ [])
+two_tables = module_of (main (in_turn spawn_child (own_table (codes "a"))) ∷ child (own_table (codes "b")) ∷ [])
 
 abbrev pub p : Step
 p = Turn P

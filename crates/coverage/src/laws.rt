@@ -4,7 +4,7 @@ ghost use Rattle.world_model.specs.Requests.{Program};
 ghost use Rattle.sleep_sets.specs.Coverage.{CoversSchedules, CoversSigns};
 ghost use Rattle.sleep_sets.specs.Search.{search};
 ghost use Rattle.coverage.specs.Explored.{explored, choice, signs};
-ghost use Rattle.coverage.specs.FindingExamples.{IdleIsClean, StrangerIsFound, StrangerIsStrange};
+ghost use Rattle.coverage.specs.FindingExamples.{IdleIsClean, StrangerIsFound, StrangerIsStrange, ReadIsFound, ReadIsStrange, LatePutIsFound, FourStepsAreClean, SleepIsNoDeadlock, TwoWaitHaveOne, TwoWaitHaveTwo, DeadlockIsFound, NoStepIsClean, AllowedIsClean, BothEndsAreFound, SecondIsFound, FiveStepsAreClean, EndlessHasTwo, EndlessIsFound};
 ghost use Rattle.coverage.specs.Findings.{FindingsAreSorted, ErrorsAreExact, RefusalsAreExact, ErrorsAreOfNodes, RefusalsAreOfNodes};
 ghost use Rattle.coverage.specs.Shown.{NodesShowTheSame, StrangerShows};
 ghost use Rattle.coverage.specs.Trees.{NodesRun, NodesAreInOrder, NodesCover, IdleHasOne, IdleHasTwo, TwoTablesHaveTen, StrangerHasTen, PrivateReadHasFive, TwoKeysHaveEight, TwoKeysHaveThirteen};
@@ -68,4 +68,49 @@ pub fn trees_have_their_findings()
     ensures idle { IdleIsClean }
     ensures stranger { StrangerIsFound }
     ensures strict { StrangerIsStrange }
+{}
+
+/// A process reads a table of another, and one writes a table of another too late.
+#[tactic(auto, unfolding(world_model::specs::World::contents))]
+pub fn trees_find_what_is_refused()
+    ensures read { ReadIsFound }
+    ensures strict { ReadIsStrange }
+    ensures late { LatePutIsFound }
+    ensures shorter { FourStepsAreClean }
+{}
+
+/// No step is enabled where two processes wait for ever, and that is found unless it is allowed.
+#[tactic(auto, unfolding(world_model::specs::World::contents))]
+pub fn trees_find_deadlocks()
+    ensures none { TwoWaitHaveOne }
+    ensures one { TwoWaitHaveTwo }
+    ensures waits { DeadlockIsFound }
+    ensures begun { NoStepIsClean }
+    ensures allowed { AllowedIsClean }
+{}
+
+/// Where all that is enabled sleeps, nothing is found.
+#[tactic(auto, unfolding(world_model::specs::World::contents))]
+pub fn sleep_is_no_deadlock()
+    ensures { SleepIsNoDeadlock }
+{}
+
+/// A message comes before a timeout, or after it: both ends are found.
+#[tactic(auto, unfolding(world_model::specs::World::contents))]
+pub fn trees_find_both_ends()
+    ensures { BothEndsAreFound }
+{}
+
+/// Of two messages that a receive selects the second may come first, where the schedule is long enough.
+#[tactic(auto, unfolding(world_model::specs::World::contents))]
+pub fn trees_find_the_second()
+    ensures found { SecondIsFound }
+    ensures shorter { FiveStepsAreClean }
+{}
+
+/// A process that makes too many applications in a row is found.
+#[tactic(auto, unfolding(world_model::specs::World::contents))]
+pub fn trees_find_runaways()
+    ensures one { EndlessHasTwo }
+    ensures runs { EndlessIsFound }
 {}

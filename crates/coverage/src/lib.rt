@@ -1,4 +1,6 @@
 // What the tree of schedules covers, over the explored world, as definitions and laws.
 #![tactic(auto)]
 
+pub mod covers;
+pub mod jobs;
 pub mod laws;
