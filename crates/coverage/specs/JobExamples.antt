@@ -37,3 +37,11 @@ SecondHasOne = node_count (program_of two_end) 3 after_second ≡ 1
 -- the nodes below a node are visited before those beside it
 abbrev pub DeeperIsVisitedFirst : Type 0
 DeeperIsVisitedFirst = schedules_of (visited (program_of two_end) 3 4 (root ∷ [])) ≡ [] ∷ one p ∷ (p ∷ p ∷ []) ∷ (p ∷ p ∷ c ∷ []) ∷ []
+
+-- a job goes no deeper than the tree: to two steps the first one has its own node alone
+abbrev pub FirstEndsAtTheDepth : Type 0
+FirstEndsAtTheDepth = node_count (program_of two_end) 2 after_first ≡ 1
+
+-- and no step is taken at its depth
+abbrev pub TwoStepsAreCovered : Type 0
+TwoStepsAreCovered = lines_of (cover_of (program_of two_end) 2 root) ≡ one p ∷ (p ∷ c ∷ []) ∷ [] ∷ [] ∷ []

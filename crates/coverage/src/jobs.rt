@@ -1,5 +1,5 @@
 // The laws of jobs.
-ghost use Rattle.coverage.specs.JobExamples.{TwoEndHasFive, TwoEndIsCovered, TwoJobsAreLeft, TwoNodesAreVisited, FirstHasTwo, SecondHasOne, DeeperIsVisitedFirst};
+ghost use Rattle.coverage.specs.JobExamples.{TwoEndHasFive, TwoEndIsCovered, TwoJobsAreLeft, TwoNodesAreVisited, FirstHasTwo, SecondHasOne, DeeperIsVisitedFirst, FirstEndsAtTheDepth, TwoStepsAreCovered};
 ghost use Rattle.coverage.specs.Jobs.{RootHasAllNodes, JobsHaveTheirNodes};
 
 /// The nodes of the root are all nodes of the tree. Whatever the budget, the nodes of open jobs are those that are
@@ -19,4 +19,6 @@ pub fn jobs_are_split()
     ensures first { FirstHasTwo }
     ensures second { SecondHasOne }
     ensures deeper { DeeperIsVisitedFirst }
+    ensures depth { FirstEndsAtTheDepth }
+    ensures end { TwoStepsAreCovered }
 {}
