@@ -90,3 +90,48 @@ impl Terms {
         })
     }
 }
+
+impl Clone for Atom {
+    ghost is_clone = { λ a b. b ≡ a };
+
+    /// The same atom, as `copy` gives it.
+    fn clone(&self) -> Result<Atom, AllocError> {
+        self.copy()
+    }
+}
+
+impl Clone for Pid {
+    ghost is_clone = { λ a b. b ≡ a };
+
+    /// The same pid, as `copy` gives it.
+    fn clone(&self) -> Result<Pid, AllocError> {
+        self.copy()
+    }
+}
+
+impl Clone for RefId {
+    ghost is_clone = { λ a b. b ≡ a };
+
+    /// The same reference, as `copy` gives it.
+    fn clone(&self) -> Result<RefId, AllocError> {
+        self.copy()
+    }
+}
+
+impl Clone for Term {
+    ghost is_clone = { λ a b. meaning_of b ≡ meaning_of a };
+
+    /// The same term, as `copy` gives it.
+    fn clone(&self) -> Result<Term, AllocError> {
+        self.copy()
+    }
+}
+
+impl Clone for Terms {
+    ghost is_clone = { λ a b. b ≡ a };
+
+    /// The same terms, as `copy` gives them.
+    fn clone(&self) -> Result<Terms, AllocError> {
+        self.copy(*self.items.allocator())
+    }
+}
