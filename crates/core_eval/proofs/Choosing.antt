@@ -6,9 +6,10 @@ use Rattle.core_tree.specs.Syntax.{ClauseTree, patterns_of, clauses_of}
 use Rattle.core_tree.specs.inside.Sizes.{size_of, size_of_clause_list}
 use Rattle.term_core.specs.Meaning.{Meaning}
 use Rattle.core_eval.specs.declared.control.Control.{Control}
-use Rattle.core_eval.specs.Matching.{Environment, match_each}
+use Rattle.core_stack.specs.Matching.{Environment, match_each}
 use Rattle.core_eval.specs.Evaluation.{State, Outcome, Setting, evaluate, choose, guarded, no_clause, taken}
-use Rattle.core_eval.specs.Holes.{Hole, scope, through}
+use Rattle.core_stack.specs.Holes.{Hole, scope}
+use Rattle.core_eval.specs.Filled.{through}
 use Rattle.core_eval.specs.inside.Steps.{going, load, work, GoesOn, Judges}
 
 -- the clauses that are left choose as all of them do, in the same place and for the same values

@@ -4,9 +4,7 @@ pub mod Rooms
 pub mod ApplyLaw
 pub mod Running
 pub mod Lookups
-pub mod Binding
 pub mod Selecting
-pub mod Matches
 pub mod Choosing
 pub mod WorkedRows
 pub mod ReadRequests

@@ -8,7 +8,8 @@ use Rattle.core_eval.specs.Asked.{Asked, Runaway}
 use Rattle.core_eval.specs.Ask.{request_of}
 use Rattle.core_eval.specs.Evaluation.{State, Stops}
 use Rattle.core_eval.specs.Applications.{definition, body_with, limit, counted, apply_of, setting_of}
-use Rattle.core_eval.specs.Holes.{Hole, through}
+use Rattle.core_stack.specs.Holes.{Hole}
+use Rattle.core_eval.specs.Filled.{through}
 use Rattle.core_eval.specs.inside.Steps.{going, Begins}
 use Rattle.core_eval.proofs.ApplyLaw.{apply_law}
 use Rattle.core_eval.proofs.Stops.{through-stops}

@@ -14,9 +14,10 @@ use Rattle.core_eval.specs.Asked.{Asked, Call, Receive, Runaway}
 use Rattle.core_eval.specs.Told.{Told, is_selected}
 use Rattle.core_eval.specs.Told as told
 use Rattle.core_eval.specs.Evaluation.{before, Setting, Stops, at_rest, evaluate, holds, selects}
-use Rattle.core_eval.specs.Holes.{Hole, Wait, receive_on, scope, standing, through, waiting}
-use Rattle.core_eval.specs.Holes as holes
-use Rattle.core_eval.specs.Matching.{Environment}
+use Rattle.core_stack.specs.Holes.{Hole, Wait, receive_on, scope}
+use Rattle.core_eval.specs.Filled.{standing, through, waiting}
+use Rattle.core_stack.specs.Holes as holes
+use Rattle.core_stack.specs.Matching.{Environment}
 use Rattle.core_eval.specs.inside.Steps.{gave_true, paused, stands_in}
 use Rattle.core_eval.proofs.Running.{runs_away}
 use Rattle.core_eval.proofs.Stops.{through-stops}

@@ -7,8 +7,9 @@ use Rattle.core_eval.specs.Asked as asked
 use Rattle.core_eval.specs.Ask.{request_of}
 use Rattle.core_eval.specs.Told.{Told, Call, Receive, End, Runaway, told}
 use Rattle.core_eval.specs.Evaluation.{State, before, Setting, Stops, selects}
-use Rattle.core_eval.specs.Holes.{Hole, Wait, receive_on, waiting, scope, through, standing}
-use Rattle.core_eval.specs.Holes as holes
+use Rattle.core_stack.specs.Holes.{Hole, Wait, receive_on, scope}
+use Rattle.core_eval.specs.Filled.{waiting, through, standing}
+use Rattle.core_stack.specs.Holes as holes
 
 -- nothing goes on behind a request that is not answered
 pub through-stops : (setting : Setting) (holes : List Hole) (request : Asked) → through setting holes (Stops request) ≡ Stops request

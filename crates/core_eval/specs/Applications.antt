@@ -4,7 +4,7 @@ use Rattle.core_tree.specs.Syntax.{Mention, Tree, Function, DefinitionTree, Modu
 use Rattle.core_tree.specs.Functions.{same_function}
 use Rattle.term_core.specs.Meaning.{Meaning}
 use Rattle.core_eval.specs.Asked.{Runaway}
-use Rattle.core_eval.specs.Matching.{bound}
+use Rattle.core_stack.specs.Matching.{bound}
 pub use Rattle.core_eval.specs.Outcomes.{limit}
 use Rattle.core_eval.specs.Evaluation.{State, Outcome, Stops, Setting, error, within, evaluate}
 

@@ -1,7 +1,6 @@
 pub mod Asked
 pub mod Told
 pub mod Requests
-pub mod Matching
 pub mod Outcomes
 pub mod Exceptions
 pub mod Clauses
@@ -10,7 +9,6 @@ pub mod Evaluation
 pub mod Applications
 pub mod Ask
 pub mod Servable
-pub mod Purposes
-pub mod Holes
+pub mod Filled
 pub mod Standing
 pub mod inside

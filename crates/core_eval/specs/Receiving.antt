@@ -3,7 +3,7 @@ use Rattle.std.specs.Prelude.{ℕ, pos, ◌||◌, Bool, true, false, List, [], �
 use Rattle.term_core.specs.Meaning.{Meaning, Int}
 use Rattle.term_core.specs.Kinds.{is_the_atom}
 use Rattle.core_eval.specs.Asked.{Receive, Answered, Value, Raise, Message, TimedOut}
-use Rattle.core_eval.specs.Matching.{Environment}
+use Rattle.core_stack.specs.Matching.{Environment}
 use Rattle.core_eval.specs.Outcomes.{State, before, limit, Outcome, Yields, Raises, Stops, error}
 use Rattle.core_eval.specs.Clauses.{is_true}
 

@@ -6,8 +6,10 @@ use Rattle.core_tree.specs.inside.SyntaxCodes.{coded_module}
 use Rattle.core_eval.specs.Applications.{setting_of}
 use Rattle.core_eval.specs.Asked.{Asked, Answered}
 use Rattle.core_eval.specs.Told.{Told}
-use Rattle.core_eval.specs.Holes.{Hole, standing}
-use Rattle.core_eval.specs.inside.HoleCodes.{coded_hole, coded_told}
+use Rattle.core_stack.specs.Holes.{Hole}
+use Rattle.core_eval.specs.Filled.{standing}
+use Rattle.core_stack.specs.inside.HoleCodes.{coded_hole}
+use Rattle.core_eval.specs.inside.ToldCodes.{coded_told}
 
 -- the module and the pid of the process, what is still to do, the request that is not answered yet, and whether memory was wanting once
 pub record Standing : Type 0 where

@@ -1,15 +1,14 @@
 // Where a process begins, and what it applies.
-ghost use Rattle.std.specs.Prelude.{◌≡◌, true, false, IfOk, option_map, option_copied};
+ghost use Rattle.std.specs.Prelude.{◌≡◌, true, false, IfOk, OnOk, option_map, option_copied};
 ghost use Rattle.core_eval.specs.Applications.{definition};
 ghost use Rattle.core_eval.specs.Ask.{entry, first_function, is_exported};
 ghost use Rattle.core_eval.specs.inside.Functions.{function_in};
-ghost use Rattle.core_eval.specs.inside.Steps.{Begins, keeps_on_top, keeps_once};
+ghost use Rattle.core_eval.specs.inside.Steps.{Begins, IsBared, keeps_once};
+ghost use Rattle.core_stack.specs.Holes.{keeps_on_top};
 
-use crate::bindings::Bindings;
 use crate::build::error;
 use crate::control::Control;
-use crate::frame::Frame;
-use crate::stack::Stack;
+use core_stack::{Bindings, Frame, Stack};
 use core_tree::{Definition, FunctionName, Module, NamedFunction};
 use std::alloc::{AllocError, Global};
 use term_core::{Atom, Pid, Terms, Word};
@@ -81,6 +80,17 @@ pub(crate) fn begin<'m>(
     }
 }
 
+/// Pops the scope frames on top: a function body does not see its caller's variables. `AllocError` as
+/// `Stack::pop`.
+fn bare(alloc: Global, stack: &mut Stack<'_>) -> Result<(), AllocError>
+    ensures { OnOk result (IsBared stack.old stack.new) }
+{
+    'kept: while stack.keeps_on_top() {
+        let _frame = stack.pop(alloc)?;
+    }
+    Ok(())
+}
+
 /// Into the body of the function that is applied to these arguments. The scope frames on top of the stack are
 /// popped first, since the body sees none of their variables: this makes tail calls run in constant stack.
 pub(crate) fn apply<'m>(
@@ -94,6 +104,6 @@ pub(crate) fn apply<'m>(
         Begins stack.old stack.new next (definition function.now program.now.definitions) arguments) }
     ensures small { IfOk result (λ _. keeps_once stack.new ≡ true) }
 {
-    stack.bare(alloc)?;
+    bare(alloc, stack)?;
     begin(alloc, stack, definition_of(program, function), arguments)
 }

@@ -3,15 +3,27 @@
 ghost use Rattle.std.specs.Prelude.{◌≡◌, ◌≤◌, IfOk};
 ghost use Rattle.term_core.specs.Term.{meaning_of};
 ghost use Rattle.core_eval.specs.Ask.{reason_of};
-ghost use Rattle.core_eval.specs.Evaluation.{caught, caught_values, class_in, class_name, class_named, match_reason, raised_again, trace_of};
+ghost use Rattle.core_eval.specs.Evaluation.{begins_with, caught, caught_values, class_in, class_name, class_named, match_reason, raised_again, trace_of};
 ghost use Rattle.core_eval.specs.inside.Steps.{Means, load};
 
 use crate::build::{error, limited, pair};
 use crate::control::Control;
-use crate::matching::begins_with;
 use pure_calls::Class;
 use std::alloc::{AllocError, Global};
 use term_core::{Term, Terms, Word};
+
+/// Whether the value is a tuple that begins with the atom of this text.
+fn begins_with(value: &Term, text: &str) -> bool
+    ensures { result ≡ begins_with text.now (meaning_of value.now) }
+{
+    match value {
+        Term::Tuple(parts) => match parts.as_slice().first() {
+            Some(first) => first.is_the_atom(text),
+            None => false,
+        },
+        _ => false,
+    }
+}
 
 /// The atom of a class.
 fn class_name(class: Class) -> Term

@@ -13,7 +13,7 @@ use crate::receiving::take;
 use crate::request::{Answer, Request};
 use crate::run::run;
 use crate::selection::selects;
-use crate::stack::Stack;
+use core_stack::Stack;
 use core_tree::{Module, Receive};
 use std::alloc::{AllocError, Global};
 use std::marker::Model;

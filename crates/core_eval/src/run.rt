@@ -4,7 +4,8 @@ ghost use Rattle.core_eval.specs.Applications.{setting_of};
 ghost use Rattle.core_eval.specs.Asked.{Answered};
 ghost use Rattle.core_eval.specs.Ask.{request_of};
 ghost use Rattle.core_eval.specs.Evaluation.{Setting, State, before};
-ghost use Rattle.core_eval.specs.Holes.{Hole, standing};
+ghost use Rattle.core_stack.specs.Holes.{Hole};
+ghost use Rattle.core_eval.specs.Filled.{standing};
 ghost use Rattle.core_eval.specs.Requests.{told_by};
 ghost use Rattle.core_eval.specs.inside.Steps.{going, halted, paused};
 
@@ -16,7 +17,7 @@ use crate::exception::end_of;
 use crate::leave::{leave, leave_raised, leave_with};
 use crate::pure::answer_call;
 use crate::request::Request;
-use crate::stack::Stack;
+use core_stack::Stack;
 use core_tree::Module;
 use std::alloc::{AllocError, Global};
 use std::sync::Arc;

@@ -11,7 +11,7 @@ use Rattle.core_eval.specs.declared.control.Halt.{Halt}
 use Rattle.core_eval.specs.declared.control.Halt.TheVariants as halts
 use Rattle.core_eval.specs.declared.control.Pause.{Pause}
 use Rattle.core_eval.specs.declared.control.Pause.TheVariants as pauses
-use Rattle.core_eval.specs.Matching.{Environment, bound}
+use Rattle.core_stack.specs.Matching.{Environment, bound}
 use Rattle.core_eval.specs.Evaluation.{State, before, Outcome, Yields, Raises, Setting, then_do, called, choose, guarded, is_true, limited_answer, within, evaluate, evaluate_all}
 use Rattle.pure_calls.specs.Calls.{answer_of}
 use Rattle.core_eval.specs.Applications.{body_with}
@@ -19,9 +19,10 @@ use Rattle.core_eval.specs.Ask.{request_of}
 use Rattle.core_eval.specs.Asked.{Answered}
 use Rattle.core_eval.specs.Told.{Told}
 use Rattle.core_eval.specs.Told as told
-use Rattle.core_eval.specs.Holes.{Purpose, Hole, only_keeps, scope, finish, through, receive_on, waiting, standing}
-use Rattle.core_eval.specs.Purposes as purposes
-use Rattle.core_eval.specs.Holes as holes
+use Rattle.core_stack.specs.Holes.{Purpose, Hole, only_keeps, scope, receive_on, waits_on, keeps_on_top}
+use Rattle.core_eval.specs.Filled.{finish, through, waiting, standing}
+use Rattle.core_stack.specs.Purposes as purposes
+use Rattle.core_stack.specs.Holes as holes
 
 -- what the outermost expression gives where this is on top of a stack
 abbrev pub going : Setting → List Hole → Control → State → Outcome
@@ -61,10 +62,6 @@ gave_true (pauses.Halt (halts.Raise class reason)) = false
 gave_true (pauses.Halt (halts.Ask kind arguments)) = false
 gave_true (pauses.Halt (halts.Wait waits)) = false
 gave_true (pauses.Application function arguments) = false
-
--- the clauses and the action of the receive on top of a stack, if there is one
-abbrev pub waits_on : List Hole → Option (List ClauseTree × Tree)
-waits_on holes = option_map (λ w. (w.clauses, w.action)) (receive_on holes)
 
 -- the clauses of the receive that a stack stands at
 abbrev pub stands_in : List Hole → Told → Option (List ClauseTree)
@@ -115,11 +112,6 @@ work_in (holes.Applied bindings) = 1
 abbrev pub work : List Hole → ℕ
 work [] = 0
 work (hole ∷ holes) = work_in hole + work holes
-
--- whether the top of a stack does nothing but keep variables
-abbrev pub keeps_on_top : List Hole → Bool
-keeps_on_top [] = false
-keeps_on_top (hole ∷ holes) = only_keeps hole
 
 -- whether no more than the top of a stack does nothing but keep variables
 abbrev pub keeps_once : List Hole → Bool

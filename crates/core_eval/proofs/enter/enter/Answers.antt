@@ -3,7 +3,7 @@ use Rattle.core_tree.specs.Syntax.{Tree}
 use Rattle.core_tree.specs.Expression as trees
 use Rattle.core_tree.specs.Tree.{tree_of}
 use Rattle.core_eval.specs.Evaluation.{evaluate}
-use Rattle.core_eval.specs.Holes.{scope}
+use Rattle.core_stack.specs.Holes.{scope}
 use Rattle.core_eval.specs.inside.Steps.{Enters}
 use Rattle.core_eval.proofs.Errors.{enters}
 use Rattle.core_eval.proofs.enter.enter.Goals as goal

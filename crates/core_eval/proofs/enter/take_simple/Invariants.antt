@@ -1,6 +1,6 @@
 use Rattle.std.proofs.Common.{map, length}
 use Rattle.core_tree.specs.Tree.{tree_of}
-use Rattle.core_eval.specs.Holes.{scope}
+use Rattle.core_stack.specs.Holes.{scope}
 use Rattle.core_eval.specs.inside.Steps.{Skips}
 use Rattle.core_eval.proofs.enter.take_simple.Given as goal
 

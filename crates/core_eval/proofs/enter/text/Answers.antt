@@ -3,7 +3,7 @@ use Rattle.std.specs.Prelude.{pos}
 use Rattle.std.proofs.lemmas.List.{take_all}
 use Rattle.term_core.specs.Meaning.{Meaning, Int, Nil}
 use Rattle.term_core.specs.Term.{meaning_of, list_onto}
-use Rattle.core_eval.specs.Matching.{text_of}
+use Rattle.core_stack.specs.Matching.{text_of}
 use Rattle.core_eval.proofs.Errors.{same_limited}
 use Rattle.core_eval.proofs.enter.text.Goals as goal
 

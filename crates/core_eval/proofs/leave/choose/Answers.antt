@@ -1,7 +1,7 @@
 use Rattle.std.proofs.Common.{◌≡◌, ◌∙◌, [], ap, sym, if◌then◌else◌}
 use Rattle.std.specs.Prelude.{Some, None}
 use Rattle.core_tree.specs.Syntax.{ClauseTree, patterns_of}
-use Rattle.core_eval.specs.Matching.{match_each}
+use Rattle.core_stack.specs.Matching.{match_each}
 use Rattle.core_eval.proofs.Choosing.{none_taken, clause_taken}
 use Rattle.core_eval.proofs.leave.choose.Goals as goal
 

@@ -1,9 +1,10 @@
 use Rattle.std.proofs.Common.{sym, subst, arith, IfOk}
 use Rattle.term_core.specs.Term.{meaning_of}
-use Rattle.core_eval.specs.declared.frame.Frame.{Frame}
+use Rattle.core_stack.specs.declared.frame.Frame.{Frame}
 use Rattle.core_eval.specs.Evaluation.{Raises, caught}
-use Rattle.core_eval.specs.inside.Frames.{hole_of}
-use Rattle.core_eval.specs.Holes.{filled, scope}
+use Rattle.core_stack.specs.Frames.{hole_of}
+use Rattle.core_stack.specs.Holes.{scope}
+use Rattle.core_eval.specs.Filled.{filled}
 use Rattle.core_eval.specs.inside.Steps.{GoesOn, work_in}
 use Rattle.core_eval.proofs.Errors.{enters}
 use Rattle.core_eval.proofs.leave.leave_raised.Goals as goal

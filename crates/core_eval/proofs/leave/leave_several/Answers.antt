@@ -1,9 +1,10 @@
 use Rattle.std.proofs.Common.{◌+◌, sym, subst, arith}
 use Rattle.core_eval.specs.Evaluation.{Yields}
-use Rattle.core_eval.specs.inside.Frames.{hole_of}
-use Rattle.core_eval.specs.Holes.{scope, filled}
+use Rattle.core_stack.specs.Frames.{hole_of}
+use Rattle.core_stack.specs.Holes.{scope}
+use Rattle.core_eval.specs.Filled.{filled}
 use Rattle.core_eval.specs.inside.Steps.{work_in}
-use Rattle.core_eval.specs.declared.frame.Frame.{Frame}
+use Rattle.core_stack.specs.declared.frame.Frame.{Frame}
 use Rattle.core_eval.proofs.Errors.{WantsOne, filled-miscounted, goes_on}
 use Rattle.core_eval.proofs.leave.leave_several.Goals as goal
 

@@ -3,7 +3,7 @@ use Rattle.core_eval.specs.Applications.{setting_of}
 use Rattle.core_eval.specs.Ask.{request_of}
 use Rattle.core_eval.specs.Asked.{Asked}
 use Rattle.core_eval.specs.Evaluation.{Setting, State}
-use Rattle.core_eval.specs.Holes.{Hole}
+use Rattle.core_stack.specs.Holes.{Hole}
 use Rattle.std.specs.Prelude.{List}
 use Rattle.core_eval.specs.declared.control.Pause.{Pause}
 use Rattle.core_eval.specs.inside.Steps.{paused}

@@ -1,9 +1,0 @@
-use Rattle.std.proofs.Common.{◌∙◌, ◌++◌, List, map, ap}
-use Rattle.core_eval.specs.Holes.{Hole}
-use Rattle.core_eval.specs.inside.Frames.{hole_of}
-use Rattle.core_eval.specs.inside.Layers.{holes_in}
-use Rattle.core_eval.proofs.Binding.{map-reverse}
-use Rattle.core_eval.proofs.layers.Layers.with_all.Goals as goal
-
-pub frames-init : goal.frames-init
-frames-init c = ap (λ (hs : List Hole). hs ++ holes_in c.args.self) (ap (map hole_of) c.reverse.ensures.items ∙ map-reverse hole_of c.args.frames.now.items)

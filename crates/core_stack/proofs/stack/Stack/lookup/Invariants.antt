@@ -1,0 +1,14 @@
+use Rattle.std.proofs.Common.{◌≡◌, ◌≤◌, ◌++◌, take, length}
+use Rattle.core_stack.specs.Frames.{holes_of}
+use Rattle.core_stack.specs.inside.Layers.{holes_in}
+use Rattle.core_stack.specs.Holes.{scope}
+use Rattle.core_stack.specs.Matching.{lookup}
+use Rattle.core_stack.proofs.stack.Stack.lookup.Given as goal
+
+-- the variable is not kept above what is left
+abbrev pub invariant-loop-left : goal.invariant-loop-left
+invariant-loop-left l =
+    (l.left ≤ length l.self-inside.top.items) × (lookup l.name (scope (holes_of (take l.left l.self-inside.top.items) ++ holes_in l.self-inside.below)) ≡ lookup l.name (scope l.self))
+
+abbrev pub decreases-loop-left : goal.decreases-loop-left
+decreases-loop-left l = l.left

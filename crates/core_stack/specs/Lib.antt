@@ -1,0 +1,5 @@
+pub mod Matching
+pub mod Purposes
+pub mod Holes
+pub mod Frames
+pub mod inside

@@ -1,0 +1,4 @@
+pub mod Bindings
+pub mod HoleCodes
+pub mod Layers
+pub mod Matched
