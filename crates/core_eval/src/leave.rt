@@ -7,7 +7,7 @@ ghost use Rattle.core_tree.specs.inside.Sizes.{size_of_clause_list};
 ghost use Rattle.core_tree.specs.Tree.{tree_of};
 ghost use Rattle.term_core.specs.Term.{meaning_of};
 ghost use Rattle.core_eval.specs.Evaluation.{Raises, Yields, as_one, choose, no_clause};
-ghost use Rattle.core_stack.specs.Frames.{hole_of};
+ghost use Rattle.core_stack.specs.inside.Frames.{hole_of};
 ghost use Rattle.core_stack.specs.Holes.{scope};
 ghost use Rattle.core_eval.specs.Filled.{filled};
 ghost use Rattle.core_eval.specs.inside.Steps.{EntersWith, GoesOn, Judges, Means, load, work_in};

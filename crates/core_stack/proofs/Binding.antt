@@ -10,7 +10,7 @@ use Rattle.term_core.specs.declared.term.Term.{Term}
 use Rattle.std.proofs.lemmas.List.{take_more}
 use Rattle.core_stack.specs.Matching.{Environment, bound, lookup}
 use Rattle.core_stack.specs.declared.frame.Frame.{Frame}
-use Rattle.core_stack.specs.Frames.{hole_of, holes_of}
+use Rattle.core_stack.specs.inside.Frames.{hole_of, holes_of}
 use Rattle.core_stack.specs.Holes.{Hole, kept_in, hides, scope}
 
 -- the values that are left, of which the last item is the first value

@@ -1,5 +1,4 @@
 pub mod Matching
 pub mod Purposes
 pub mod Holes
-pub mod Frames
 pub mod inside

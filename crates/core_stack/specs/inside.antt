@@ -1,4 +1,5 @@
 pub mod Bindings
+pub mod Frames
 pub mod HoleCodes
 pub mod Layers
 pub mod Matched

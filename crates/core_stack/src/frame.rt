@@ -1,6 +1,6 @@
 // The frames of the stack: what is still to do with the values of an expression, or with what it raises.
 ghost use Rattle.std.specs.Prelude.{◌≡◌, ◌∷◌, ◌++◌, List, IfOk, OnOk, option_map};
-ghost use Rattle.core_stack.specs.Frames.{hole_of};
+ghost use Rattle.core_stack.specs.inside.Frames.{hole_of};
 ghost use Rattle.core_stack.specs.Holes.{waits_on};
 ghost use Rattle.core_stack.specs.Holes.{Hole, hides, kept_in, only_keeps};
 ghost use Rattle.core_stack.specs.Matching.{lookup};

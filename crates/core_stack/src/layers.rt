@@ -1,6 +1,6 @@
 // The frames that copies of a stack share.
 ghost use Rattle.std.specs.Prelude.{◌≡◌, ◌∷◌, ◌++◌, [], IfOk, OnOk, MatchOption, option_map};
-ghost use Rattle.core_stack.specs.Frames.{hole_of};
+ghost use Rattle.core_stack.specs.inside.Frames.{hole_of};
 ghost use Rattle.core_stack.specs.inside.Layers.{holes_in, holes_onto};
 ghost use Rattle.core_stack.specs.Holes.{scope};
 ghost use Rattle.core_stack.specs.Matching.{lookup};
@@ -41,7 +41,7 @@ impl<'m> Model for Layer<'m> {
 
     ghost coded = { coded_list coded_hole };
 
-    ghost use Rattle.core_stack.specs.Frames.{hole_of};
+    ghost use Rattle.core_stack.specs.inside.Frames.{hole_of};
     ghost use Rattle.core_stack.specs.inside.Layers.{holes_in};
 
     ghost view = { λ l. hole_of l.frame ∷ holes_in l.below };

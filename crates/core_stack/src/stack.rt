@@ -1,6 +1,6 @@
 // The stack of a machine.
 ghost use Rattle.std.specs.Prelude.{◌≡◌, ◌∷◌, [], OnOk, IfOk, MatchOption, option_map};
-ghost use Rattle.core_stack.specs.Frames.{hole_of};
+ghost use Rattle.core_stack.specs.inside.Frames.{hole_of};
 ghost use Rattle.core_stack.specs.Holes.{scope};
 ghost use Rattle.core_stack.specs.Matching.{lookup};
 ghost use Rattle.core_stack.specs.Holes.{keeps_on_top, waits_on};

@@ -4,7 +4,7 @@ use Rattle.core_stack.specs.declared.frame.Frame.{Frame}
 use Rattle.core_stack.specs.declared.layers.Layers.{Layers}
 use Rattle.core_stack.specs.declared.layers.Layers.TheVariants.{End, On}
 use Rattle.core_stack.specs.Holes.{Hole}
-use Rattle.core_stack.specs.Frames.{holes_of}
+use Rattle.core_stack.specs.inside.Frames.{holes_of}
 
 -- what layers leave out, from the top down
 abbrev pub holes_in : Layers → List Hole

@@ -1,6 +1,6 @@
 use Rattle.std.proofs.Common.{◌+◌, sym, subst, arith}
 use Rattle.core_eval.specs.Evaluation.{Yields}
-use Rattle.core_stack.specs.Frames.{hole_of}
+use Rattle.core_stack.specs.inside.Frames.{hole_of}
 use Rattle.core_stack.specs.Holes.{scope}
 use Rattle.core_eval.specs.Filled.{filled}
 use Rattle.core_eval.specs.inside.Steps.{work_in}

@@ -2,7 +2,7 @@ use Rattle.std.proofs.Common.{◌≡◌, ◌∙◌, ◌∷◌, List, ap, sym}
 use Rattle.term_core.specs.Term.{meaning_of}
 use Rattle.core_stack.specs.Holes.{Hole, scope}
 use Rattle.core_stack.specs.Matching.{lookup}
-use Rattle.core_stack.specs.Frames.{hole_of}
+use Rattle.core_stack.specs.inside.Frames.{hole_of}
 use Rattle.core_stack.specs.inside.Layers.{holes_in}
 use Rattle.core_stack.proofs.Binding.{found_on_top, not_on_top}
 use Rattle.core_stack.proofs.layers.Layers.lookup.Goals as goal

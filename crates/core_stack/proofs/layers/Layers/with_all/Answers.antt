@@ -1,6 +1,6 @@
 use Rattle.std.proofs.Common.{◌∙◌, ◌++◌, List, map, ap}
 use Rattle.core_stack.specs.Holes.{Hole}
-use Rattle.core_stack.specs.Frames.{hole_of}
+use Rattle.core_stack.specs.inside.Frames.{hole_of}
 use Rattle.core_stack.specs.inside.Layers.{holes_in}
 use Rattle.core_stack.proofs.Binding.{map-reverse}
 use Rattle.core_stack.proofs.layers.Layers.with_all.Goals as goal

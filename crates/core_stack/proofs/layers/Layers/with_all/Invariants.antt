@@ -1,5 +1,5 @@
 use Rattle.std.proofs.Common.{◌≡◌, ◌++◌, map, length}
-use Rattle.core_stack.specs.Frames.{hole_of}
+use Rattle.core_stack.specs.inside.Frames.{hole_of}
 use Rattle.core_stack.specs.inside.Layers.{holes_in, holes_onto}
 use Rattle.core_stack.proofs.layers.Layers.with_all.Given as goal
 

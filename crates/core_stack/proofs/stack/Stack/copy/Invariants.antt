@@ -1,6 +1,6 @@
 use Rattle.std.proofs.Common.{◌≡◌, ◌++◌, drop, map}
 use Rattle.std.specs.Prelude.{reverse}
-use Rattle.core_stack.specs.Frames.{hole_of}
+use Rattle.core_stack.specs.inside.Frames.{hole_of}
 use Rattle.core_stack.specs.inside.Layers.{holes_in}
 use Rattle.core_stack.proofs.stack.Stack.copy.Given as goal
 

@@ -1,5 +1,5 @@
 use Rattle.std.proofs.Common.{◌≡◌, ◌++◌, ◌≤◌, take, length}
-use Rattle.core_stack.specs.Frames.{holes_of}
+use Rattle.core_stack.specs.inside.Frames.{holes_of}
 use Rattle.core_stack.specs.inside.Layers.{holes_in}
 use Rattle.core_stack.specs.Holes.{scope}
 use Rattle.core_stack.proofs.stack.Stack.variables.Given as goal
