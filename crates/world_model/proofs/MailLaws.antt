@@ -102,7 +102,7 @@ put_by : (b : Bool) (xs : List Signal) (x : Signal) (rest : List Signal) → (if
 put_by true xs x rest = append_assoc xs (x ∷ []) rest
 put_by false xs x rest = refl
 
-nothing_more : (xs : List Signal) → xs ≡ xs ++ []
+pub nothing_more : (xs : List Signal) → xs ≡ xs ++ []
 nothing_more [] = refl
 nothing_more (x ∷ xs) = ap (λ ys. x ∷ ys) (nothing_more xs)
 
@@ -111,7 +111,7 @@ one_put (Puts t u x) ks v s r = put_by (same_pid t s && same_pid u r) (v (Tail s
 one_put (Touches c) ks v s r = ap (λ xs. xs ++ signals_to s r ks) (either_way (meet c (Tail s r)) (v (Tail s r)))
 one_put k ks v s r = refl
 
-tail_told : (ks : List Change) (v : Contents) (s r : Pid) → after ks v (Tail s r) ≡ v (Tail s r) ++ signals_to s r ks
+pub tail_told : (ks : List Change) (v : Contents) (s r : Pid) → after ks v (Tail s r) ≡ v (Tail s r) ++ signals_to s r ks
 tail_told [] v s r = nothing_more (v (Tail s r))
 tail_told (k ∷ ks) v s r = tail_told ks (changed k v) s r ∙ one_put k ks v s r
 

@@ -1,6 +1,7 @@
 // The laws of processes: what is told after an event, by what was told before it.
 ghost use Rattle.world_model.specs.Bonds.{LinkedIsTold, WatchedIsTold, HolderIsTold};
 ghost use Rattle.world_model.specs.Mail.{MailboxIsTold, WaitingIsTold};
+ghost use Rattle.world_model.specs.Posted.{PutsAreTold};
 ghost use Rattle.world_model.specs.Told.{AliveIsTold, TurnsAreTold, AnswersAreTold, TrapsAreTold};
 
 /// A process lives from where it begins, the first from the beginning, until an event ends it.
@@ -27,8 +28,9 @@ pub fn bonds_are_told()
 {}
 
 /// The messages of a process are those that came in, less those that it took or flushed; the signals on
-/// their way are those that were put, less those that were delivered.
+/// their way are those that were put, less those that were delivered; and which signals an event puts.
 pub fn mail_is_told()
     ensures mailbox { MailboxIsTold }
     ensures waiting { WaitingIsTold }
+    ensures puts { PutsAreTold }
 {}
