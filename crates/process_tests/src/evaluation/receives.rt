@@ -66,42 +66,68 @@ const PAIRS: &str =
 const OF_PAIRS: &str =
     "case 'infinity' of <{'a',Z}> when call 'erlang':'=:='(Z,X) -> call 'ets':'insert'(Z,Y) <{'a',Z}> when call 'erlang':'error'(Z) -> 0 <'b'> when 'true' -> call 'ets':'lookup'('t',X) <W> when 'true' -> 'late' end";
 
+// Asserts whether a machine takes a message.
+fn selects(
+    rt: &impl Abort,
+    alloc: Global,
+    machine: &Machine,
+    message: &Term,
+    want: bool,
+) -> Result<(), Fail> {
+    assert_eq!(rt; machine.selects(alloc, message)?, want);
+    Ok(())
+}
+
+// Asserts that a machine of these pairs takes those with its first parameter, and the atom.
+fn takes_its_pairs(rt: &impl Abort, alloc: Global, machine: &Machine) -> Result<(), Fail> {
+    stands(rt, alloc, machine, "receives")?;
+    selects(rt, alloc, machine, &pair(alloc, 1)?, true)?;
+    selects(rt, alloc, machine, &pair(alloc, 2)?, false)?;
+    selects(rt, alloc, machine, &Term::atom(alloc, "b")?, true)?;
+    selects(rt, alloc, machine, &Term::atom(alloc, "c")?, false)
+}
+
+// Asserts that what does not fit changes nothing, and that a pair goes on to the end.
+fn goes_on_with_a_pair(rt: &impl Abort, alloc: Global, machine: &mut Machine) -> Result<(), Fail> {
+    machine.resume(alloc, Answer::TimedOut)?;
+    machine.resume(alloc, Answer::Value(Term::Nil))?;
+    stands(rt, alloc, machine, "receives")?;
+    machine.resume(alloc, Answer::Message(pair(alloc, 1)?))?;
+    let asked = run_on(alloc, machine)?;
+    assert_eq!(rt; asked.as_slice(), b"insert 1 2\n'normal'".as_slice());
+    selects(rt, alloc, machine, &pair(alloc, 1)?, false)
+}
+
 #[test]
 fn receives_take_what_a_clause_selects(rt: HostRuntime) -> Result<(), Fail> {
     let alloc = rt.alloc();
     let program = receiver(alloc, PAIRS, OF_PAIRS)?;
     let mut machine = first_process(alloc, &program, "main")?;
-    stands(&rt, alloc, &machine, "receives")?;
-    assert!(rt; machine.selects(alloc, &pair(alloc, 1)?)?);
-    assert!(rt; !machine.selects(alloc, &pair(alloc, 2)?)?);
-    assert!(rt; machine.selects(alloc, &Term::atom(alloc, "b")?)?);
-    assert!(rt; !machine.selects(alloc, &Term::atom(alloc, "c")?)?);
-    // what does not fit changes nothing
-    machine.resume(alloc, Answer::TimedOut)?;
-    machine.resume(alloc, Answer::Value(Term::Nil))?;
-    stands(&rt, alloc, &machine, "receives")?;
-    machine.resume(alloc, Answer::Message(pair(alloc, 1)?))?;
-    assert_eq!(rt;
-        run_on(alloc, &mut machine)?.as_slice(),
-        b"insert 1 2\n'normal'".as_slice()
-    );
-    assert!(rt; !machine.selects(alloc, &pair(alloc, 1)?)?);
-    Ok(())
+    takes_its_pairs(&rt, alloc, &machine)?;
+    goes_on_with_a_pair(&rt, alloc, &mut machine)
 }
 
-// A copy of a machine that waits waits for the same, and goes its own way.
+// Asserts that a copy waits for the same, and goes its own way.
+fn copy_goes_its_own_way(
+    rt: &impl Abort,
+    alloc: Global,
+    machine: &mut Machine,
+) -> Result<(), Fail> {
+    let mut copy = machine.copy(alloc)?;
+    machine.resume(alloc, Answer::Message(pair(alloc, 1)?))?;
+    stands(rt, alloc, &copy, "receives")?;
+    selects(rt, alloc, &copy, &Term::atom(alloc, "b")?, true)?;
+    copy.resume(alloc, Answer::Message(Term::atom(alloc, "b")?))?;
+    stands(rt, alloc, &copy, "lookup 't' 1")?;
+    stands(rt, alloc, machine, "insert 1 2")
+}
+
 #[test]
 fn a_copy_receives_the_same(rt: HostRuntime) -> Result<(), Fail> {
     let alloc = rt.alloc();
     let program = receiver(alloc, PAIRS, OF_PAIRS)?;
     let mut machine = first_process(alloc, &program, "main")?;
-    let mut copy = machine.copy(alloc)?;
-    machine.resume(alloc, Answer::Message(pair(alloc, 1)?))?;
-    stands(&rt, alloc, &copy, "receives")?;
-    assert!(rt; copy.selects(alloc, &Term::atom(alloc, "b")?)?);
-    copy.resume(alloc, Answer::Message(Term::atom(alloc, "b")?))?;
-    stands(&rt, alloc, &copy, "lookup 't' 1")?;
-    stands(&rt, alloc, &machine, "insert 1 2")
+    copy_goes_its_own_way(&rt, alloc, &mut machine)
 }
 
 // Timeouts, what is asked with them, and what where no message came in time.
@@ -114,6 +140,19 @@ const TIMEOUTS: [(&str, &str, &str); 6] = [
     ("'soon'", "{'timeout_value',[]}", "{'timeout_value',[]}"),
 ];
 
+// Asserts what a machine asks, and what it asks where no message came in time.
+fn times_out(
+    rt: &impl Abort,
+    alloc: Global,
+    machine: &mut Machine,
+    first: &str,
+    then: &str,
+) -> Result<(), Fail> {
+    stands(rt, alloc, machine, first)?;
+    machine.resume(alloc, Answer::TimedOut)?;
+    stands(rt, alloc, machine, then)
+}
+
 #[test]
 fn timeouts_are_judged_first(rt: HostRuntime) -> Result<(), Fail> {
     let alloc = rt.alloc();
@@ -123,9 +162,7 @@ fn timeouts_are_judged_first(rt: HostRuntime) -> Result<(), Fail> {
         )?;
         let program = receiver(alloc, MAIN, body.as_str())?;
         let mut machine = first_process(alloc, &program, "main")?;
-        stands(&rt, alloc, &machine, first)?;
-        machine.resume(alloc, Answer::TimedOut)?;
-        stands(&rt, alloc, &machine, then)?;
+        times_out(&rt, alloc, &mut machine, first, then)?;
     }
     Ok(())
 }
