@@ -7,284 +7,20 @@ ghost use Rattle.core_grammar.specs.inside.Decoder.{MovesUnlessMemory, after_mar
 ghost use Rattle.core_grammar.specs.inside.DecoderForms.{callee_fault_of, callee_fault, bare_callee_at, callee_at, applied_fault_of, applied_fault, applied_atom_at, behind_applied_by, bare_applied_at, applied_at, is_read, export_called, unlisted_called, callee_named, operation_named, earlier, refuse, judged, apply_at, call_at, primop_at, expression_at};
 ghost use Rattle.core_expressions.specs.inside.FormView.{state_in};
 
-use crate::expressions::{begins_expression, is_function};
 use crate::form_reader::FormReader;
-use core_parser::{Unserved, is_foreign};
+use core_parser::{Unserved, callee_named, operation_named};
 use core_tokens::{Lexeme, Mark, ReadFault, Token};
 use core_tree::{Call, CallKind, Callee, Expr, Exprs, FunctionName, NamedFunction, PureCall};
 use term_core::Atom;
 
-fn callee_fault_of(at: usize, length: usize, tokens: &[Token]) -> ReadFault
-    ensures { result ≡ callee_fault_of at length (pieces tokens.now) }
-{
-    match tokens {
-        [] => ReadFault::Expected(length),
-        [token, ..] => {
-            if is_function(&token.lexeme, &[]) || begins_expression(&token.lexeme) {
-                ReadFault::UnsupportedCall(at)
-            } else if is_foreign(&token.lexeme) {
-                ReadFault::UnsupportedForm(token.at)
-            } else {
-                ReadFault::Expected(token.at)
-            }
-        }
-    }
-}
-
-fn applied_fault_of(length: usize, tokens: &[Token]) -> ReadFault
-    ensures { result ≡ applied_fault_of length (pieces tokens.now) }
-{
-    match tokens {
-        [] => ReadFault::Expected(length),
-        [token, ..] => {
-            if is_function(&token.lexeme, &[]) || begins_expression(&token.lexeme) {
-                ReadFault::HigherOrder(token.at)
-            } else if is_foreign(&token.lexeme) {
-                ReadFault::UnsupportedForm(token.at)
-            } else {
-                ReadFault::Expected(token.at)
-            }
-        }
-    }
-}
-
-/// Whether the call of the world is read so far.
-fn is_read(kind: CallKind) -> bool
-    ensures { result ≡ is_read kind }
-{
-    matches!(kind, CallKind::New | CallKind::Insert | CallKind::Lookup)
-}
-
-/// What a call in the module `own` calls where no list has it: an exported function of that module, as far
-/// as the names tell.
-fn export_called(
-    own: &Atom,
-    module_name: &Atom,
-    function_name: Atom,
-    arity: usize,
-) -> Option<Callee>
-    ensures { option_map callee_of result ≡ export_called own.now module_name.now function_name arity }
-{
-    if own != module_name {
-        return None;
-    }
-    let arity = u8::try_from(arity).ok()?;
-    Some(Callee::Exported(FunctionName {
-        name: function_name,
-        arity,
-    }))
-}
-
-/// What a call in the module `own` calls, if the world does not serve it.
-fn unlisted_called(
-    own: &Atom,
-    module_name: &Atom,
-    function_name: Atom,
-    arity: usize,
-    pure: Option<PureCall>,
-) -> Option<Callee>
-    ensures { option_map callee_of result ≡ unlisted_called own.now module_name.now function_name arity pure }
-{
-    match pure {
-        Some(kind) => Some(Callee::Pure(kind)),
-        None => export_called(own, module_name, function_name, arity),
-    }
-}
-
-/// What a call in the module `own` calls, by its two names and the number of its arguments.
-#[tactic(auto, unfolding(core_grammar::specs::inside::DecoderForms::callee_named))]
-fn callee_named(own: &Atom, module_name: &Atom, function_name: Atom, arity: usize) -> Option<Callee>
-    ensures { option_map callee_of result ≡ callee_named own.now module_name.now function_name arity }
-{
-    let module_text = module_name.as_str();
-    match CallKind::named(module_text, function_name.as_str(), arity) {
-        Some(kind) => {
-            if is_read(kind) {
-                Some(Callee::World(kind))
-            } else {
-                None
-            }
-        }
-        None => {
-            let pure = PureCall::named(module_text, function_name.as_str(), arity);
-            unlisted_called(own, module_name, function_name, arity, pure)
-        }
-    }
-}
-
-/// The operation of a `primop`, by its name and the number of its arguments.
-#[tactic(auto, unfolding(core_grammar::specs::inside::DecoderForms::operation_named))]
-fn operation_named(name: &Atom, arity: usize) -> Option<Callee>
-    ensures { option_map callee_of result ≡ operation_named name.now arity }
-{
-    if name.as_str() == "match_fail" && arity == 1 {
-        Some(Callee::MatchFail)
-    } else if name.as_str() == "raise" && arity == 2 {
-        Some(Callee::Raise)
-    } else {
-        None
-    }
-}
-
-/// Of two things that are not served the one whose place is less.
-fn earlier(unserved: Unserved, before: Option<Unserved>) -> Unserved
-    ensures { result ≡ earlier unserved before }
-{
-    match before {
-        None => unserved,
-        Some(before) => {
-            if unserved.place() < before.place() {
-                unserved
-            } else {
-                before
-            }
-        }
-    }
-}
-
 impl<'a> FormReader<'a> {
-    /// The fault where an atom of the call at `at` should stand.
-    #[tactic(auto, unfolding(core_grammar::specs::inside::DecoderForms::callee_fault))]
-    fn callee_fault(&self, at: usize) -> ReadFault
-        ensures { result ≡ callee_fault at (state_in self.now) }
-    {
-        self.parser.refusal(callee_fault_of(at, self.parser.length, self.parser.tokens))
-    }
-
-    /// One of the two atoms of the call at `at`, without annotations.
-    #[tactic(auto, unfolding(core_grammar::specs::inside::DecoderForms::bare_callee_at))]
-    fn bare_callee(&mut self, at: usize) -> Result<Atom, ReadFault>
-        ensures { MovesUnlessMemory (λ a. a) result (state_in self.new) (bare_callee_at at (state_in self.old)) }
-    {
-        let tokens = self.parser.tokens;
-        match tokens {
-            [
-                Token {
-                    lexeme: Lexeme::Atom(atom),
-                    ..
-                },
-                rest @ ..,
-            ] => {
-                self.parser.tokens = rest;
-                Ok(atom.copy()?)
-            }
-            _ => Err(self.callee_fault(at)),
-        }
-    }
-
-    /// One of the two atoms of the call at `at`, annotated in at most so many levels.
-    fn callee(&mut self, at: usize, levels: u16) -> Result<Atom, ReadFault>
-        ensures { MovesUnlessMemory (λ a. a) result (state_in self.new) (callee_at at levels (state_in self.old)) }
-    {
-        if !self.parser.opens_note(levels)? {
-            return Ok(self.bare_callee(at)?);
-        }
-        let name = self.callee(at, levels - 1)?;
-        self.parser.note(levels - 1)?;
-        Ok(name)
-    }
-
-    /// The fault where the name of the function of an `apply` should stand.
-    #[tactic(auto, unfolding(core_grammar::specs::inside::DecoderForms::applied_fault))]
-    fn applied_fault(&self) -> ReadFault
-        ensures { result ≡ applied_fault (state_in self.now) }
-    {
-        self.parser
-            .refusal(applied_fault_of(self.parser.length, self.parser.tokens))
-    }
-
-    /// The atom of the function of an `apply`, with its place.
-    #[tactic(auto, unfolding(core_grammar::specs::inside::DecoderForms::applied_atom_at))]
-    fn applied_atom(&mut self) -> Result<(usize, Atom), ReadFault>
-        ensures { MovesUnlessMemory (λ a. a) result (state_in self.new) (applied_atom_at (state_in self.old)) }
-    {
-        let tokens = self.parser.tokens;
-        match tokens {
-            [
-                Token {
-                    at,
-                    lexeme: Lexeme::Atom(atom),
-                },
-                rest @ ..,
-            ] => {
-                self.parser.tokens = rest;
-                Ok((*at, atom.copy()?))
-            }
-            _ => Err(self.applied_fault()),
-        }
-    }
-
-    /// What stands after the atom of an `apply`: with arguments there the atom is a value that is applied.
-    fn behind_applied(&mut self, at: usize, name: Atom) -> Result<NamedFunction, ReadFault>
-        ensures { MovesUnlessMemory (λ e. e) result (state_in self.new) (behind_applied_by at name (after_mark LeftParenthesis (state_in self.old).pieces) (state_in self.old)) }
-    {
-        if self.parser.is_at_mark(Mark::LeftParenthesis) {
-            return Err(self.parser.refusal(ReadFault::HigherOrder(at)));
-        }
-        Ok(self.parser.behind_atom(at, name)?)
-    }
-
-    /// The name of the function of an `apply`, without annotations.
-    #[tactic(auto, unfolding(core_grammar::specs::inside::DecoderForms::bare_applied_at))]
-    fn bare_applied(&mut self) -> Result<NamedFunction, ReadFault>
-        ensures { MovesUnlessMemory (λ e. e) result (state_in self.new) (bare_applied_at (state_in self.old)) }
-    {
-        let (at, name) = self.applied_atom()?;
-        Ok(self.behind_applied(at, name)?)
-    }
-
-    /// The name of the function of an `apply`, annotated in at most so many levels.
-    fn applied(&mut self, levels: u16) -> Result<NamedFunction, ReadFault>
-        ensures { MovesUnlessMemory (λ e. e) result (state_in self.new) (applied_at levels (state_in self.old)) }
-    {
-        if !self.parser.opens_note(levels)? {
-            return Ok(self.bare_applied()?);
-        }
-        let named = self.applied(levels - 1)?;
-        self.parser.note(levels - 1)?;
-        Ok(named)
-    }
-
-    /// Keeps in mind what was read whole and is not served: reading goes on, since it may stand in
-    /// something whose place is less.
-    fn refuse(&mut self, unserved: Unserved)
-        ensures { state_in self.new ≡ refuse unserved (state_in self.old) }
-    {
-        self.parser.refused = Some(earlier(unserved, self.parser.refused));
-    }
-
-    /// The call at `at` of this callee, or, if nothing serves it, a placeholder: the fault is recorded, and
-    /// parsing continues.
-    fn judged(
-        &mut self,
-        at: usize,
-        unserved: Unserved,
-        callee: Option<Callee>,
-        arguments: Vec<Expr>,
-    ) -> Expr
-        ensures { judged at unserved (option_map callee_of callee) (map tree_of arguments.items) (state_in self.old)
-            ≡ Ok (tree_of result, state_in self.new) }
-    {
-        match callee {
-            Some(callee) => Expr::Call(Call {
-                at,
-                callee,
-                arguments: Exprs(arguments),
-            }),
-            None => {
-                self.refuse(unserved);
-                Expr::List(Exprs(Vec::new(self.parser.alloc)))
-            }
-        }
-    }
-
     /// What stands after the `apply` at `at`.
     #[cycle(expressions)]
     #[tactic(auto, unfolding(core_grammar::specs::inside::DecoderForms::apply_at))]
     pub(crate) fn apply(&mut self, own: &Atom, levels: u16, at: usize) -> Result<Expr, ReadFault>
         ensures { MovesUnlessMemory tree_of result (state_in self.new) (apply_at own.now levels (expression_at own.now levels) at (state_in self.old)) }
     {
-        let named = self.applied(levels)?;
+        let named = self.parser.applied(levels)?;
         self.parser.mark(Mark::LeftParenthesis)?;
         let arguments = self.arguments(own, levels, named.function.arity)?;
         self.parser.mark(Mark::RightParenthesis)?;
@@ -314,13 +50,13 @@ impl<'a> FormReader<'a> {
     pub(crate) fn call(&mut self, own: &Atom, levels: u16, at: usize) -> Result<Expr, ReadFault>
         ensures { MovesUnlessMemory tree_of result (state_in self.new) (call_at own.now levels (expression_at own.now levels) at (state_in self.old)) }
     {
-        let module_name = self.callee(at, levels)?;
+        let module_name = self.parser.callee(at, levels)?;
         self.parser.mark(Mark::Colon)?;
-        let function_name = self.callee(at, levels)?;
+        let function_name = self.parser.callee(at, levels)?;
         self.parser.mark(Mark::LeftParenthesis)?;
         let arguments = self.expressions(own, levels, Mark::RightParenthesis)?;
         let callee = callee_named(own, &module_name, function_name, arguments.len());
-        Ok(self.judged(at, Unserved::Call(at), callee, arguments))
+        Ok(self.parser.judged(at, Unserved::Call(at), callee, arguments))
     }
 
     /// What stands after the `primop` at `at`.
@@ -333,6 +69,6 @@ impl<'a> FormReader<'a> {
         self.parser.mark(Mark::LeftParenthesis)?;
         let arguments = self.expressions(own, levels, Mark::RightParenthesis)?;
         let callee = operation_named(&name, arguments.len());
-        Ok(self.judged(at, Unserved::Primop(at), callee, arguments))
+        Ok(self.parser.judged(at, Unserved::Primop(at), callee, arguments))
     }
 }

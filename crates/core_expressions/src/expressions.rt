@@ -11,98 +11,11 @@ ghost use Rattle.core_grammar.specs.inside.DecoderForms.{is_function, begins_exp
 ghost use Rattle.core_expressions.specs.inside.FormView.{state_in, branch_of};
 
 use crate::form_reader::FormReader;
-use core_parser::{is_foreign, variable_of};
+use core_parser::variable_of;
 use core_tokens::{Keyword, Lexeme, Mark, ReadFault, Token};
 use core_tree::{Catch, Do, Expr, Exprs, Let, Onto, Try, Variable};
 use std::alloc::Global;
 use term_core::Atom;
-
-/// Whether an expression begins with the token.
-#[tactic(auto, unfolding(core_grammar::specs::Beginnings::beginning))]
-pub(crate) fn begins_expression(lexeme: &Lexeme) -> bool
-    ensures { result ≡ begins_expression (shape_of lexeme.now) }
-{
-    match lexeme {
-        Lexeme::Word(
-            Keyword::Let
-            | Keyword::Case
-            | Keyword::Apply
-            | Keyword::Call
-            | Keyword::Primop
-            | Keyword::Do
-            | Keyword::Try
-            | Keyword::Catch
-            | Keyword::Receive,
-        ) => true,
-        Lexeme::Mark(Mark::Less | Mark::LeftBrace | Mark::LeftBracket | Mark::LeftParenthesis) =>
-            true,
-        Lexeme::Variable(_)
-        | Lexeme::Integer(_)
-        | Lexeme::Character(_)
-        | Lexeme::Text(_)
-        | Lexeme::Atom(_) => true,
-        _ => false,
-    }
-}
-
-/// Whether a function as a value begins with these tokens: `fun`, `letrec`, or a function's name.
-#[tactic(auto, unfolding(core_grammar::specs::Beginnings::beginning))]
-pub(crate) fn is_function(lexeme: &Lexeme, rest: &[Token]) -> bool
-    ensures { result ≡ is_function (shape_of lexeme.now) (pieces rest.now) }
-{
-    match lexeme {
-        Lexeme::Word(Keyword::Fun | Keyword::Letrec) => true,
-        Lexeme::Atom(_) => matches!(
-            rest,
-            [
-                Token {
-                    lexeme: Lexeme::Mark(Mark::Slash),
-                    ..
-                },
-                ..
-            ]
-        ),
-        _ => false,
-    }
-}
-
-fn deep_expression_of(length: usize, tokens: &[Token]) -> ReadFault
-    ensures { result ≡ deep_expression_of length (pieces tokens.now) }
-{
-    match tokens {
-        [] => ReadFault::Expected(length),
-        [token, rest @ ..] => {
-            if is_function(&token.lexeme, rest) {
-                ReadFault::HigherOrder(token.at)
-            } else if begins_expression(&token.lexeme) {
-                ReadFault::TooDeep(token.at)
-            } else if is_foreign(&token.lexeme) {
-                ReadFault::UnsupportedForm(token.at)
-            } else {
-                ReadFault::Expected(token.at)
-            }
-        }
-    }
-}
-
-fn expression_fault_of(length: usize, tokens: &[Token]) -> ReadFault
-    ensures { result ≡ expression_fault_of length (pieces tokens.now) }
-{
-    match tokens {
-        [] => ReadFault::Expected(length),
-        [token, rest @ ..] => {
-            if is_function(&token.lexeme, rest) {
-                ReadFault::HigherOrder(token.at)
-            } else if matches!(token.lexeme, Lexeme::Word(Keyword::Receive))
-                || is_foreign(&token.lexeme)
-            {
-                ReadFault::UnsupportedForm(token.at)
-            } else {
-                ReadFault::Expected(token.at)
-            }
-        }
-    }
-}
 
 fn onto(alloc: Global, items: Vec<Expr>, tail: Expr) -> Result<Expr, ReadFault>
     ensures { BuildsUnlessMemory tree_of result (trees.Onto (trees_of (map tree_of items.items)) (tree_of tail)) }
@@ -176,30 +89,13 @@ fn catch_of(alloc: Global, at: usize, value: Expr) -> Result<Expr, ReadFault>
 }
 
 impl<'a> FormReader<'a> {
-    /// The fault at a token past the last level.
-    #[tactic(auto, unfolding(core_grammar::specs::inside::DecoderForms::deep_expression))]
-    fn deep_expression(&self) -> ReadFault
-        ensures { result ≡ deep_expression (state_in self.now) }
-    {
-        self.parser
-            .refusal(deep_expression_of(self.parser.length, self.parser.tokens))
-    }
-
-    /// The fault at a token that begins no expression that is read.
-    #[tactic(auto, unfolding(core_grammar::specs::inside::DecoderForms::expression_fault))]
-    fn expression_fault(&self) -> ReadFault
-        ensures { result ≡ expression_fault (state_in self.now) }
-    {
-        self.parser.refusal(expression_fault_of(self.parser.length, self.parser.tokens))
-    }
-
     /// An expression of the module `own`, of at most so many levels.
     #[cycle(expressions)]
     pub fn expression(&mut self, own: &Atom, levels: u16) -> Result<Expr, ReadFault>
         ensures { MovesUnlessMemory tree_of result (state_in self.new) (expression_at own.now levels (state_in self.old)) }
     {
         if levels == 0 {
-            Err(self.deep_expression())
+            Err(self.parser.deep_expression())
         } else {
             Ok(self.form(own, levels - 1)?)
         }
@@ -211,7 +107,7 @@ impl<'a> FormReader<'a> {
     fn form(&mut self, own: &Atom, levels: u16) -> Result<Expr, ReadFault>
         ensures { MovesUnlessMemory tree_of result (state_in self.new) (form_at own.now levels (expression_at own.now levels) (start_at own.now levels) (state_in self.old)) }
     {
-        let fault = self.expression_fault();
+        let fault = self.parser.expression_fault();
         let tokens = self.parser.tokens;
         match tokens {
             [] => Err(fault),
@@ -251,7 +147,7 @@ impl<'a> FormReader<'a> {
     ) -> Result<Expr, ReadFault>
         ensures { MovesUnlessMemory tree_of result (state_in self.new) (form_by own.now levels (expression_at own.now levels) (start_at own.now levels) (place_of (state_in self.old).stop (state_in self.old).pieces) (lexemes.Mark mark) (pieces rest.now) (state_in self.old)) }
     {
-        let fault = self.expression_fault();
+        let fault = self.parser.expression_fault();
         self.parser.tokens = rest;
         match mark {
             Mark::LeftBrace => Ok(self.tuple(own, levels)?),
@@ -274,7 +170,7 @@ impl<'a> FormReader<'a> {
     ) -> Result<Expr, ReadFault>
         ensures { MovesUnlessMemory tree_of result (state_in self.new) (form_by own.now levels (expression_at own.now levels) (start_at own.now levels) at (lexemes.Word word) (pieces rest.now) (state_in self.old)) }
     {
-        let fault = self.expression_fault();
+        let fault = self.parser.expression_fault();
         self.parser.tokens = rest;
         match word {
             Keyword::Let => Ok(self.let_in(own, levels)?),
@@ -303,7 +199,7 @@ impl<'a> FormReader<'a> {
                 ..
             ]
         ) {
-            return Err(self.expression_fault());
+            return Err(self.parser.expression_fault());
         }
         self.parser.tokens = rest;
         Ok(Expr::Atom(atom.copy()?))

@@ -1,4 +1,4 @@
-use Rattle.core_expressions.proofs.form_reader.FormReader.+applied.Given as goal
+use Rattle.core_parser.proofs.parser.Parser.+applied.Given as goal
 
 abbrev pub decreases-applied : goal.decreases-applied
 decreases-applied l = l.levels

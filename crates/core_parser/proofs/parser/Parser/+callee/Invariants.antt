@@ -1,4 +1,4 @@
-use Rattle.core_expressions.proofs.form_reader.FormReader.+callee.Given as goal
+use Rattle.core_parser.proofs.parser.Parser.+callee.Given as goal
 
 abbrev pub decreases-callee : goal.decreases-callee
 decreases-callee l = l.levels
