@@ -1,0 +1,6 @@
+pub mod CellWrites
+pub mod Listing
+pub mod Maps
+pub mod Parts
+pub mod Same
+pub mod Walking

@@ -1,0 +1,3 @@
+pub mod TableRows
+pub mod CellLaws
+pub mod inside

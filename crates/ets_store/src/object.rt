@@ -1,0 +1,111 @@
+// Objects: the tuples that tables hold (ets manual, "Description").
+ghost use Rattle.std.specs.Prelude.{◌≡◌, IfOk, map, option_copied};
+ghost use Rattle.std.specs.Option.{option_map};
+ghost use Rattle.term_core.specs.Term.{meaning_of};
+ghost use Rattle.world_model.specs.Rows.{part_at, same_object, with_part};
+ghost use Rattle.world_model.specs.Terms.{tuple};
+
+use std::alloc::{AllocError, Global};
+use std::marker::Model;
+use std::sync::Arc;
+use term_core::{Term, Terms};
+
+/// An object: a tuple, shared with the terms that it came in. Contracts see it as the list of its parts.
+#[derive(Drop)]
+pub struct Object(Arc<Terms>);
+
+impl Model for Object {
+    ghost use Rattle.std.specs.Prelude.{List};
+    ghost use Rattle.std.specs.Coded.{coded_list};
+    ghost use Rattle.term_core.specs.Meaning.{Meaning};
+    ghost use Rattle.term_core.specs.inside.MeaningCodes.{coded_meaning};
+
+    ghost Value = { List Meaning };
+
+    ghost coded = { coded_list coded_meaning };
+
+    ghost view = { λ o. o.0.value };
+}
+
+impl Clone for Object {
+    ghost is_clone = { λ a b. b ≡ a };
+
+    /// The same object, as `copy` gives it.
+    fn clone(&self) -> Result<Object, AllocError> {
+        self.copy()
+    }
+}
+
+impl Object {
+    /// The object that a tuple of these parts is. It takes no memory.
+    pub fn new(parts: Arc<Terms>) -> Object
+        ensures { result ≡ parts.value }
+    {
+        Object(parts)
+    }
+
+    /// The same object, or `AllocError` where its copies can no longer be counted.
+    pub fn copy(&self) -> Result<Object, AllocError>
+        ensures { IfOk result (λ copied. copied ≡ self.now) }
+    {
+        Ok(Object(Arc::try_clone(&self.0)?))
+    }
+
+    /// The tuple that it is, or `AllocError` where its copies can no longer be counted.
+    pub fn term(&self) -> Result<Term, AllocError>
+        ensures { IfOk result (λ term. meaning_of term ≡ tuple self.now) }
+    {
+        Ok(Term::Tuple(Arc::try_clone(&self.0)?))
+    }
+
+    /// Its part at a position, from 1 on, if it is that long. It takes no memory.
+    pub fn part(&self, position: usize) -> Option<&Term>
+        ensures { option_map meaning_of (option_copied result) ≡ part_at position self.now }
+    {
+        let parts = self.0.as_slice();
+        if position == 0 {
+            return None;
+        }
+        if parts.len() < position {
+            return None;
+        }
+        Some(&parts[position - 1])
+    }
+
+    /// Whether the two are the same tuple. It takes no memory.
+    pub fn is_same(&self, other: &Object) -> bool
+        ensures { result ≡ same_object self.now other.now }
+    {
+        let parts: &Terms = &self.0;
+        let others: &Terms = &other.0;
+        parts == others
+    }
+
+    /// The object with another part at a position, or `AllocError` if there is no memory for it, and then the
+    /// part is dropped. Where it has no part there it stays as it is.
+    pub fn with_part(
+        &self,
+        alloc: Global,
+        position: usize,
+        value: Term,
+    ) -> Result<Object, AllocError>
+        ensures { IfOk result (λ object. object ≡ with_part position (meaning_of value) self.now) }
+    {
+        let mut parts = self.0.copy(alloc)?.into_vec();
+        put_part(&mut parts, position, value);
+        Ok(Object(Arc::new(alloc, Terms::from_vec(parts))?))
+    }
+}
+
+// Puts another part at a position, if there is one.
+fn put_part(parts: &mut Vec<Term>, position: usize, value: Term)
+    ensures { map meaning_of parts.new.items ≡ with_part position (meaning_of value) (map meaning_of parts.old.items) }
+{
+    if position == 0 {
+        return;
+    }
+    if parts.len() < position {
+        return;
+    }
+    parts[position - 1] = value;
+}
