@@ -1,5 +1,7 @@
-// Tests of the parts of the explored world: the rows of tables.
+// Tests of the parts of the explored world.
 #![tactic(auto)]
 
+#[cfg(test)]
+mod links;
 #[cfg(test)]
 mod table_rows;

@@ -1,0 +1,5 @@
+pub mod Grouping
+pub mod Linked
+pub mod Named
+pub mod Telling
+pub mod Watching

@@ -1,0 +1,235 @@
+// The names of processes (Erlang reference manual, "Processes": "Registered Processes").
+ghost use Rattle.std.specs.Prelude.{◌≡◌, [], IfOk, OnOk, OnErr, Some, None, option_copied};
+ghost use Rattle.std.specs.BTreeMap.{get};
+ghost use Rattle.term_core.specs.Order.{order_of_lists};
+ghost use Rattle.world_model.specs.Names as names;
+ghost use Rattle.world_model.specs.Cells.{Contents};
+ghost use Rattle.world_model.specs.Changes.{after};
+ghost use Rattle.world_model.specs.Ends.{name_left};
+ghost use Rattle.world_model.specs.ProcessLines.{register_refusal, unregister_line};
+
+use crate::process::Life;
+use std::alloc::{AllocError, Global};
+use std::collections::BTreeMap;
+use std::sync::Arc;
+use term_core::{Atom, Pid};
+
+/// What a call of names came to.
+#[derive(Clone, Copy, Debug, PartialEq, Eq)]
+pub enum Naming {
+    /// It is served.
+    Served,
+    /// It raises `badarg`, and nothing is changed.
+    Refused,
+}
+
+/// Which process holds each name, and which name each process has.
+#[derive(Drop)]
+struct Bearers {
+    holders: BTreeMap<Atom, Pid>,
+    names: BTreeMap<Pid, Atom>,
+}
+
+/// The names of processes: a process has one name at most. Copies share all of it until one of them is
+/// changed.
+#[derive(Drop)]
+pub struct Names {
+    bearers: Arc<Bearers>,
+}
+
+impl Clone for Bearers {
+    ghost use Rattle.proc_links.specs.Bearers.{AreSame};
+
+    ghost is_clone = { AreSame };
+
+    fn clone(&self) -> Result<Bearers, AllocError> {
+        Ok(Bearers {
+            holders: self.holders.clone()?,
+            names: self.names.clone()?,
+        })
+    }
+}
+
+impl Bearers {
+    ghost use Rattle.proc_links.specs.Bearers.{AreSame, IsPut, put_at};
+
+    /// Gives a name to a process, neither of which has the other.
+    fn put(&mut self, name: &Atom, pid: &Pid) -> Result<(), AllocError>
+        requires { get order_of_lists self.old.holders name.now ≡ None }
+        ensures ok { OnOk result (IsPut name.now pid.now (Some pid.now) (Some name.now) self.old self.new) }
+        ensures err { OnErr result (AreSame self.old self.new) }
+    {
+        self.hold(name, pid)?;
+        if let Err(refused) = self.bear(pid, name) {
+            self.vacate(name);
+            return Err(refused);
+        }
+        Ok(())
+    }
+
+    /// A process holds a name.
+    fn hold(&mut self, name: &Atom, pid: &Pid) -> Result<(), AllocError>
+        ensures ok { OnOk result ((m : names.Name) → get order_of_lists self.new.holders m ≡ put_at name.now (Some pid.now) m (get order_of_lists self.old.holders m)) }
+        ensures names { (r : names.Pid) → get order_of_lists self.new.names r ≡ get order_of_lists self.old.names r }
+        ensures err { OnErr result (AreSame self.old self.new) }
+    {
+        self.holders.insert(name.copy()?, pid.copy()?)?;
+        Ok(())
+    }
+
+    /// A process has a name.
+    fn bear(&mut self, pid: &Pid, name: &Atom) -> Result<(), AllocError>
+        ensures ok { OnOk result ((r : names.Pid) → get order_of_lists self.new.names r ≡ put_at pid.now (Some name.now) r (get order_of_lists self.old.names r)) }
+        ensures holders { (m : names.Name) → get order_of_lists self.new.holders m ≡ get order_of_lists self.old.holders m }
+        ensures err { OnErr result (AreSame self.old self.new) }
+    {
+        self.names.insert(pid.copy()?, name.copy()?)?;
+        Ok(())
+    }
+
+    /// Nobody holds a name.
+    fn vacate(&mut self, name: &Atom)
+        ensures holders { (m : names.Name) → get order_of_lists self.new.holders m ≡ put_at name.now None m (get order_of_lists self.old.holders m) }
+        ensures names { (r : names.Pid) → get order_of_lists self.new.names r ≡ get order_of_lists self.old.names r }
+    {
+        drop(self.holders.remove(name));
+    }
+
+    /// A process has no name.
+    fn bare(&mut self, pid: &Pid)
+        ensures names { (r : names.Pid) → get order_of_lists self.new.names r ≡ put_at pid.now None r (get order_of_lists self.old.names r) }
+        ensures holders { (m : names.Name) → get order_of_lists self.new.holders m ≡ get order_of_lists self.old.holders m }
+    {
+        drop(self.names.remove(pid));
+    }
+}
+
+impl Names {
+    ghost use Rattle.proc_links.specs.Process.{is_alive};
+    ghost use Rattle.proc_links.specs.Names.{AreHolders, AreBorne, IsNamed, IsUnchanged, Registers, Unregisters, Leaves, holder_in, name_in, refusal_of, changes_registered};
+
+    /// No names, or `AllocError` if there is no memory.
+    pub fn new(alloc: Global) -> Result<Names, AllocError>
+        ensures holders { IfOk result (λ begun. (m : names.Name) → holder_in begun m ≡ None) }
+        ensures names { IfOk result (λ begun. (r : names.Pid) → name_in begun r ≡ None) }
+    {
+        let bearers = Bearers {
+            holders: BTreeMap::new(alloc),
+            names: BTreeMap::new(alloc),
+        };
+        Ok(Names {
+            bearers: Arc::new(alloc, bearers)?,
+        })
+    }
+
+    /// The same names, which share memory with these, or `AllocError` where the copies can no longer be
+    /// counted.
+    pub fn copy(&self) -> Result<Names, AllocError>
+        ensures holders { IfOk result (λ copied. (m : names.Name) → holder_in copied m ≡ holder_in self.now m) }
+        ensures names { IfOk result (λ copied. (r : names.Pid) → name_in copied r ≡ name_in self.now r) }
+    {
+        Ok(Names {
+            bearers: Arc::try_clone(&self.bearers)?,
+        })
+    }
+
+    /// `whereis/1`: who holds a name, or `None`. It takes no memory.
+    pub fn whereis(&self, name: &Atom) -> Option<&Pid>
+        ensures { option_copied result ≡ holder_in self.now name.now }
+    {
+        self.bearers.holders.get(name)
+    }
+
+    /// Which name a process has, or `None`. It takes no memory.
+    pub fn name_of(&self, pid: &Pid) -> Option<&Atom>
+        ensures { option_copied result ≡ name_in self.now pid.now }
+    {
+        self.bearers.names.get(pid)
+    }
+
+    /// Whether `register/2` is served.
+    fn judge(&self, name: &Atom, pid: &Pid, life: Life) -> Naming
+        ensures { refusal_of result ≡ register_refusal name.now (is_alive life) (holder_in self.now name.now) (name_in self.now pid.now) }
+    {
+        let is_free = self.whereis(name).is_none() && self.name_of(pid).is_none();
+        if life == Life::Lives && name.as_str() != "undefined" && is_free {
+            Naming::Served
+        } else {
+            Naming::Refused
+        }
+    }
+
+    /// `register/2` of a name for a process, of which it is known whether it lives. It is refused where
+    /// the name is `undefined` or in use, or the process is gone or has a name. `AllocError` if there is
+    /// no memory, and then nothing is changed.
+    pub fn register(&mut self, name: &Atom, pid: &Pid, life: Life) -> Result<Naming, AllocError>
+        ensures refusal { IfOk result (λ naming. refusal_of naming ≡ register_refusal name.now (is_alive life) (holder_in self.old name.now) (name_in self.old pid.now)) }
+        ensures ok { IfOk result (λ naming. Registers naming name.now pid.now self.old self.new) }
+        ensures holders { IfOk result (λ naming. (v : Contents) → AreHolders self.old v → AreHolders self.new (after (changes_registered naming name.now pid.now) v)) }
+        ensures names { IfOk result (λ naming. (v : Contents) → AreBorne self.old v → AreBorne self.new (after (changes_registered naming name.now pid.now) v)) }
+        ensures err { OnErr result (IsUnchanged self.old self.new) }
+    {
+        match self.judge(name, pid, life) {
+            Naming::Served => {
+                self.give(name, pid)?;
+                Ok(Naming::Served)
+            }
+            Naming::Refused => Ok(Naming::Refused),
+        }
+    }
+
+    /// Gives a name that is not in use to a process.
+    fn give(&mut self, name: &Atom, pid: &Pid) -> Result<(), AllocError>
+        requires { holder_in self.old name.now ≡ None }
+        ensures ok { OnOk result (IsNamed name.now pid.now (Some pid.now) (Some name.now) self.old self.new) }
+        ensures err { OnErr result (IsUnchanged self.old self.new) }
+    {
+        let bearers = Arc::make_mut(&mut self.bearers)?;
+        bearers.put(name, pid)?;
+        Ok(())
+    }
+
+    /// Takes a name from the process that has it.
+    fn take(&mut self, name: &Atom, pid: &Pid) -> Result<(), AllocError>
+        ensures ok { OnOk result (IsNamed name.now pid.now None None self.old self.new) }
+        ensures err { OnErr result (IsUnchanged self.old self.new) }
+    {
+        let bearers = Arc::make_mut(&mut self.bearers)?;
+        bearers.vacate(name);
+        bearers.bare(pid);
+        Ok(())
+    }
+
+    /// `unregister/1` of a name, which is refused where it is not in use. `AllocError` if there is no
+    /// memory for what is shared with a copy, and then nothing is changed.
+    pub fn unregister(&mut self, name: &Atom) -> Result<Naming, AllocError>
+        ensures refusal { IfOk result (λ naming. refusal_of naming ≡ (unregister_line name.now (holder_in self.old name.now)).refusal) }
+        ensures ok { OnOk result (Unregisters name.now (holder_in self.old name.now) self.old self.new) }
+        ensures holders { OnOk result ((v : Contents) → AreHolders self.old v → AreHolders self.new (after (unregister_line name.now (holder_in self.old name.now)).changes v)) }
+        ensures names { OnOk result ((v : Contents) → AreBorne self.old v → AreBorne self.new (after (unregister_line name.now (holder_in self.old name.now)).changes v)) }
+        ensures err { OnErr result (IsUnchanged self.old self.new) }
+    {
+        let Some(pid) = self.whereis(name) else {
+            return Ok(Naming::Refused);
+        };
+        let pid = pid.copy()?;
+        self.take(name, &pid)?;
+        Ok(Naming::Served)
+    }
+
+    /// What the end of a process leaves of its name: nobody holds it, and the process has none.
+    /// `AllocError` if there is no memory for what is shared with a copy, and then nothing is changed.
+    pub fn free(&mut self, pid: &Pid) -> Result<(), AllocError>
+        ensures ok { OnOk result (Leaves pid.now (name_in self.old pid.now) self.old self.new) }
+        ensures holders { OnOk result ((v : Contents) → AreHolders self.old v → AreHolders self.new (after (name_left pid.now (name_in self.old pid.now)) v)) }
+        ensures names { OnOk result ((v : Contents) → AreBorne self.old v → AreBorne self.new (after (name_left pid.now (name_in self.old pid.now)) v)) }
+        ensures err { OnErr result (IsUnchanged self.old self.new) }
+    {
+        let Some(name) = self.name_of(pid) else {
+            return Ok(());
+        };
+        let name = name.copy()?;
+        self.take(&name, pid)?;
+        Ok(())
+    }
+}

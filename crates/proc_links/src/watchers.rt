@@ -1,0 +1,219 @@
+// The watches of processes (the Erlang manual, `monitor/2` and `demonitor/2`).
+ghost use Rattle.std.specs.Prelude.{◌≡◌, [], IfOk, OnOk, OnErr, Some, None, bytes_eq, is_some, map, option_copied, if◌then◌else◌, ℕ, List};
+ghost use Rattle.std.specs.BTreeMap.{get, is_at};
+ghost use Rattle.std.specs.List.{filter};
+ghost use Rattle.term_core.specs.StepOrder.{order_of_reference_ids};
+ghost use Rattle.term_core.specs.Meaning.{Meaning};
+ghost use Rattle.term_core.specs.Term.{meaning_of};
+ghost use Rattle.world_model.specs.Names as names;
+ghost use Rattle.world_model.specs.Cells as cells;
+ghost use Rattle.world_model.specs.Cells.{Contents};
+ghost use Rattle.world_model.specs.Ends.{watchers_told};
+ghost use Rattle.world_model.specs.Changes.{Puts, after, set_in_order, without_first};
+ghost use Rattle.world_model.specs.Events as events;
+ghost use Rattle.world_model.specs.ProcessLines.{watch_begins, watch_ends};
+ghost use Rattle.world_model.specs.Signals.{down_fate, goes_with};
+ghost use Rattle.proc_links.specs.Groups.{members_in, members_of};
+ghost use Rattle.proc_links.specs.Process.{ref_of};
+
+use crate::effect::{Effect, down_message};
+use crate::groups::{Groups, Member};
+use crate::living::{Living, living_references};
+use std::alloc::{AllocError, Global};
+use std::collections::{BTreeMap, BTreeSet};
+use std::sync::Arc;
+use term_core::{Pid, RefId, Term};
+
+/// The watches of each process, and whom each reference watches.
+#[derive(Drop)]
+struct Watches {
+    watchers: Groups<RefId>,
+    targets: BTreeMap<RefId, Pid>,
+}
+
+/// The watches of processes. Copies share all of it until one of them is changed.
+#[derive(Drop)]
+pub struct Watchers {
+    watches: Arc<Watches>,
+}
+
+impl Member for RefId {
+    ghost same = { λ a b clone. clone };
+}
+
+impl Clone for Watches {
+    ghost use Rattle.proc_links.specs.inside.Watched.{AreSame};
+
+    ghost is_clone = { AreSame };
+
+    fn clone(&self) -> Result<Watches, AllocError> {
+        Ok(Watches {
+            watchers: self.watchers.clone()?,
+            targets: self.targets.clone()?,
+        })
+    }
+}
+
+impl Watches {
+    ghost use Rattle.proc_links.specs.inside.Watched.{AreSame};
+
+    /// A reference watches a process.
+    fn watch(&mut self, alloc: Global, reference: &RefId, target: &Pid) -> Result<(), AllocError>
+        ensures watchers { OnOk result ((p : names.Pid) → members_in self.new.watchers p ≡ (if bytes_eq target.now p then set_in_order order_of_reference_ids reference.now (members_in self.old.watchers p) else members_in self.old.watchers p)) }
+        ensures targets { OnOk result ((id : List ℕ × ℕ) → get order_of_reference_ids self.new.targets id ≡ (if is_at (order_of_reference_ids reference.now) id then Some target.now else get order_of_reference_ids self.old.targets id)) }
+        ensures err { OnErr result (AreSame self.old self.new) }
+    {
+        let is_new = self.watchers.add(alloc, target, reference.copy()?)?;
+        if let Err(refused) = self.point(reference, target) {
+            self.watchers.take_back(target, reference, is_new);
+            return Err(refused);
+        }
+        Ok(())
+    }
+
+    /// A reference points to a process.
+    fn point(&mut self, reference: &RefId, target: &Pid) -> Result<(), AllocError>
+        ensures ok { OnOk result ((id : List ℕ × ℕ) → get order_of_reference_ids self.new.targets id ≡ (if is_at (order_of_reference_ids reference.now) id then Some target.now else get order_of_reference_ids self.old.targets id)) }
+        ensures watchers { (p : names.Pid) → members_in self.new.watchers p ≡ members_in self.old.watchers p }
+        ensures err { OnErr result ((id : List ℕ × ℕ) → get order_of_reference_ids self.new.targets id ≡ get order_of_reference_ids self.old.targets id) }
+    {
+        self.targets.insert(reference.copy()?, target.copy()?)?;
+        Ok(())
+    }
+
+    /// A reference watches a process no more.
+    fn unwatch(&mut self, reference: &RefId, target: &Pid)
+        ensures watchers { (p : names.Pid) → members_in self.new.watchers p ≡ (if bytes_eq target.now p then without_first (is_at (order_of_reference_ids reference.now)) (members_in self.old.watchers p) else members_in self.old.watchers p) }
+        ensures targets { (id : List ℕ × ℕ) → get order_of_reference_ids self.new.targets id ≡ (if is_at (order_of_reference_ids reference.now) id then None else get order_of_reference_ids self.old.targets id) }
+    {
+        self.watchers.remove(target, reference);
+        drop(self.targets.remove(reference));
+    }
+}
+
+impl Watchers {
+    ghost use Rattle.proc_links.specs.Effects.{fate_in};
+    ghost use Rattle.proc_links.specs.Watchers.{AreWatchers, AreWatches, BeginsWatch, EndsWatch, Demonitors, IsUnchanged, watchers_in, watch_in};
+
+    /// No watches, or `AllocError` if there is no memory.
+    pub fn new(alloc: Global) -> Result<Watchers, AllocError>
+        ensures watchers { IfOk result (λ begun. (p : names.Pid) → watchers_in begun p ≡ []) }
+        ensures watches { IfOk result (λ begun. (ref : names.Ref) → watch_in begun ref ≡ None) }
+    {
+        let watches = Watches {
+            watchers: Groups::new(alloc),
+            targets: BTreeMap::new(alloc),
+        };
+        Ok(Watchers {
+            watches: Arc::new(alloc, watches)?,
+        })
+    }
+
+    /// The same watches, which share memory with these, or `AllocError` where the copies can no longer be
+    /// counted.
+    pub fn copy(&self) -> Result<Watchers, AllocError>
+        ensures { IfOk result (λ copied. IsUnchanged self.now copied) }
+    {
+        Ok(Watchers {
+            watches: Arc::try_clone(&self.watches)?,
+        })
+    }
+
+    /// The watches of a process, in the order of references; `None` where it has none. It takes no memory.
+    pub fn watchers_of(&self, pid: &Pid) -> Option<&BTreeSet<RefId>>
+        ensures { map ref_of (members_of (option_copied result)) ≡ watchers_in self.now pid.now }
+    {
+        self.watches.watchers.of(pid)
+    }
+
+    /// Whom a reference watches, or `None`. It takes no memory.
+    pub fn watch_of(&self, reference: &RefId) -> Option<&Pid>
+        ensures { option_copied result ≡ watch_in self.now (ref_of reference.now) }
+    {
+        self.watches.targets.get(reference)
+    }
+
+    /// A reference watches a process, as `monitor/2` and `spawn_monitor/3` begin it. `AllocError` if there
+    /// is no memory, and then nothing is changed.
+    pub fn watch(
+        &mut self,
+        alloc: Global,
+        reference: &RefId,
+        target: &Pid,
+    ) -> Result<(), AllocError>
+        ensures ok { OnOk result (BeginsWatch (ref_of reference.now) target.now self.old self.new) }
+        ensures watchers { OnOk result ((v : Contents) → AreWatchers self.old v → AreWatchers self.new (after (watch_begins (ref_of reference.now) target.now) v)) }
+        ensures watches { OnOk result ((v : Contents) → AreWatches self.old v → AreWatches self.new (after (watch_begins (ref_of reference.now) target.now) v)) }
+        ensures err { OnErr result (IsUnchanged self.old self.new) }
+    {
+        let watches = Arc::make_mut(&mut self.watches)?;
+        watches.watch(alloc, reference, target)?;
+        Ok(())
+    }
+
+    /// A reference watches a process no more, as it is when the signal of the watch is delivered, which
+    /// that process put. `AllocError` if there is no memory for what is shared with a copy, and then
+    /// nothing is changed.
+    pub fn unwatch(&mut self, reference: &RefId, target: &Pid) -> Result<(), AllocError>
+        ensures ok { OnOk result (EndsWatch (ref_of reference.now) target.now self.old self.new) }
+        ensures watchers { OnOk result ((v : Contents) (r : names.Pid) (reason : Meaning) → AreWatchers self.old v → AreWatchers self.new (after (goes_with target.now r (events.Down (ref_of reference.now) reason)) v)) }
+        ensures watches { OnOk result ((v : Contents) (r : names.Pid) (reason : Meaning) → AreWatches self.old v → AreWatches self.new (after (goes_with target.now r (events.Down (ref_of reference.now) reason)) v)) }
+        ensures err { OnErr result (IsUnchanged self.old self.new) }
+    {
+        let watches = Arc::make_mut(&mut self.watches)?;
+        watches.unwatch(reference, target);
+        Ok(())
+    }
+
+    /// `demonitor` of a reference by a process: the watch ends if that process made it, and else nothing is
+    /// changed. `AllocError` if there is no memory for what is shared with a copy, and then nothing is
+    /// changed.
+    pub fn demonitor(&mut self, pid: &Pid, reference: &RefId) -> Result<(), AllocError>
+        ensures ok { OnOk result (Demonitors pid.now (ref_of reference.now) (watch_in self.old (ref_of reference.now)) self.old self.new) }
+        ensures watchers { OnOk result ((v : Contents) → AreWatchers self.old v → AreWatchers self.new (after (watch_ends pid.now (ref_of reference.now) (watch_in self.old (ref_of reference.now))) v)) }
+        ensures watches { OnOk result ((v : Contents) → AreWatches self.old v → AreWatches self.new (after (watch_ends pid.now (ref_of reference.now) (watch_in self.old (ref_of reference.now))) v)) }
+        ensures err { OnErr result (IsUnchanged self.old self.new) }
+    {
+        let Some(target) = self.watch_of(reference) else {
+            return Ok(());
+        };
+        if reference.pid() != pid {
+            return Ok(());
+        }
+        let target = target.copy()?;
+        self.unwatch(reference, &target)?;
+        Ok(())
+    }
+
+    /// What the signal of a watch does, which this process put at its end: it is dropped where the watch is
+    /// no more, and else it is a message. `AllocError` if there is no memory for a message.
+    pub fn on_down(
+        &self,
+        alloc: Global,
+        reference: &RefId,
+        from: &Pid,
+        reason: &Term,
+    ) -> Result<Effect, AllocError>
+        ensures { IfOk result (λ effect. fate_in effect ≡ down_fate (watch_in self.now (ref_of reference.now)) (ref_of reference.now) from.now (meaning_of reason.now)) }
+    {
+        match self.watch_of(reference) {
+            Some(_) => Ok(Effect::Put(down_message(alloc, reference, from, reason)?)),
+            None => Ok(Effect::Dropped),
+        }
+    }
+
+    /// Whom the end of a process tells by the signal of a watch: its watches whose makers live, in the order
+    /// of references. `AllocError` if there is no memory for the list.
+    pub fn told<L: Living>(
+        &self,
+        alloc: Global,
+        pid: &Pid,
+        living: &L,
+    ) -> Result<Vec<RefId>, AllocError>
+        ensures told { IfOk result (λ told. map ref_of told.items ≡ filter (λ ref. L.lives living.now ref.pid) (watchers_in self.now pid.now)) }
+        ensures cells { IfOk result (λ told. (v : Contents) (reason : Meaning) → AreWatchers self.now v → ((q : names.Pid) → v (cells.Alive q) ≡ L.lives living.now q) → watchers_told v pid.now reason (v (cells.Watchers pid.now)) ≡ map (λ ref. Puts pid.now ref.pid (events.Down ref reason)) (map ref_of told.items)) }
+    {
+        let told = living_references(alloc, self.watchers_of(pid), living)?;
+        Ok(told)
+    }
+}
