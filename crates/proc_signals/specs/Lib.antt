@@ -1,0 +1,4 @@
+pub mod Signal
+pub mod Mailbox
+pub mod Channels
+pub mod inside

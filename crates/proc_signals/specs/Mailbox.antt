@@ -1,0 +1,15 @@
+-- Messages in a mailbox: where the oldest lies that is wanted, and that they are what a cell contains.
+use Rattle.std.specs.Prelude.{◌≡◌, ℕ, ◌+◌, Bool, List, [], ◌∷◌, Option, Some, None, option_map, if◌then◌else◌}
+use Rattle.term_core.specs.Meaning.{Meaning}
+use Rattle.world_model.specs.Cells as cells
+use Rattle.world_model.specs.Cells.{Contents}
+use Rattle.world_model.specs.Names.{Pid}
+
+-- the least place, from 0, of a message that passes a test; none where none passes
+abbrev pub first_place : (Meaning → Bool) → List Meaning → Option ℕ
+first_place test [] = None
+first_place test (m ∷ ms) = if test m then Some 0 else option_map (λ n. n + 1) (first_place test ms)
+
+-- these are the messages of a process
+abbrev pub IsMailbox : List Meaning → Contents → Pid → Type 0
+IsMailbox messages v p = messages ≡ v (cells.Mailbox p)

@@ -1,0 +1,35 @@
+-- The codes of signals, by which proofs tell values apart.
+use Rattle.std.specs.Prelude.{◌≡◌, ◌⊎◌, ℕ, List, refl}
+use Rattle.std.specs.Coded.{Coded, code_by, coded_list, coded_ℕ, coded×, coded⊎}
+use mathlib.Core.Logic.{inl, inr}
+use Rattle.term_core.specs.Meaning.{Meaning}
+use Rattle.term_core.specs.inside.MeaningCodes.{coded_meaning}
+use Rattle.world_model.specs.Events.{Signal, Message, Exit, LinkExit, Down}
+
+abbrev Parts : Type 0
+Parts = Meaning ⊎ (Meaning ⊎ (Meaning ⊎ ((List ℕ × ℕ) × Meaning)))
+
+abbrev parts_of : Signal → Parts
+parts_of (Message message) = inl message
+parts_of (Exit reason) = inr (inl reason)
+parts_of (LinkExit reason) = inr (inr (inl reason))
+parts_of (Down ref reason) = inr (inr (inr ((ref.pid, ref.number), reason)))
+
+abbrev signal_in : Parts → Signal
+signal_in (inl message) = Message message
+signal_in (inr (inl reason)) = Exit reason
+signal_in (inr (inr (inl reason))) = LinkExit reason
+signal_in (inr (inr (inr x))) = Down (record { pid = x.0.0; number = x.0.1 }) x.1
+
+pub signal_in-parts_of : (x : Signal) → signal_in (parts_of x) ≡ x
+signal_in-parts_of (Message message) = refl
+signal_in-parts_of (Exit reason) = refl
+signal_in-parts_of (LinkExit reason) = refl
+signal_in-parts_of (Down ref reason) = refl
+
+abbrev pub coded_signal : Coded Signal
+coded_signal = code_by Parts (coded⊎ coded_meaning (coded⊎ coded_meaning (coded⊎ coded_meaning (coded× (coded× (coded_list coded_ℕ) coded_ℕ) coded_meaning)))) parts_of signal_in signal_in-parts_of
+
+-- and of the channels of one sender
+abbrev pub coded_channels : Coded (List (List ℕ × (Signal × List Signal)))
+coded_channels = coded_list (coded× (coded_list coded_ℕ) (coded× coded_signal (coded_list coded_signal)))

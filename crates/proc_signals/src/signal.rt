@@ -1,0 +1,46 @@
+// Signals.
+ghost use Rattle.std.specs.Prelude.{◌≡◌, IfOk};
+ghost use Rattle.proc_signals.specs.Signal.{signal_of};
+
+use std::alloc::{AllocError, Global};
+use term_core::{RefId, Term};
+
+/// What one process sends to another (Erlang reference manual, "Processes", "Sending Signals"). Contracts
+/// see it as `signal_of` it.
+#[derive(Drop)]
+pub enum Signal {
+    /// A message.
+    Message(Term),
+    /// An exit signal of `exit/2`, with its reason.
+    Exit(Term),
+    /// That a linked process ended, with its reason.
+    LinkExit(Term),
+    /// That a watched process ended: the reference of the watch, and the reason.
+    Down(RefId, Term),
+}
+
+impl Signal {
+    /// The same signal, or `AllocError` where the copies of its terms can no longer be counted. It takes
+    /// no memory.
+    pub fn copy(&self) -> Result<Signal, AllocError>
+        ensures { IfOk result (λ copied. signal_of copied ≡ signal_of self.now) }
+    {
+        match self {
+            Signal::Message(message) => Ok(Signal::Message(message.copy()?)),
+            Signal::Exit(reason) => Ok(Signal::Exit(reason.copy()?)),
+            Signal::LinkExit(reason) => Ok(Signal::LinkExit(reason.copy()?)),
+            Signal::Down(reference, reason) => {
+                Ok(Signal::Down(reference.copy()?, reason.copy()?))
+            }
+        }
+    }
+}
+
+impl Clone for Signal {
+    ghost is_clone = { λ a b. signal_of b ≡ signal_of a };
+
+    /// The same signal, as `copy` gives it.
+    fn clone(&self) -> Result<Signal, AllocError> {
+        self.copy()
+    }
+}
