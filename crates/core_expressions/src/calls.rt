@@ -56,7 +56,10 @@ impl<'a> FormReader<'a> {
         self.parser.mark(Mark::LeftParenthesis)?;
         let arguments = self.expressions(own, levels, Mark::RightParenthesis)?;
         let callee = callee_named(own, &module_name, function_name, arguments.len());
-        Ok(self.parser.judged(at, Unserved::Call(at), callee, arguments))
+        Ok(
+            self.parser
+                .judged(at, Unserved::Call(at), callee, arguments),
+        )
     }
 
     /// What stands after the `primop` at `at`.
@@ -69,6 +72,9 @@ impl<'a> FormReader<'a> {
         self.parser.mark(Mark::LeftParenthesis)?;
         let arguments = self.expressions(own, levels, Mark::RightParenthesis)?;
         let callee = operation_named(&name, arguments.len());
-        Ok(self.parser.judged(at, Unserved::Primop(at), callee, arguments))
+        Ok(
+            self.parser
+                .judged(at, Unserved::Primop(at), callee, arguments),
+        )
     }
 }

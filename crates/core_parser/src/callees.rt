@@ -94,7 +94,12 @@ fn unlisted_called(
 
 /// What a call in the module `own` calls, by its two names and the number of its arguments.
 #[tactic(auto, unfolding(core_grammar::specs::inside::DecoderForms::callee_named))]
-pub fn callee_named(own: &Atom, module_name: &Atom, function_name: Atom, arity: usize) -> Option<Callee>
+pub fn callee_named(
+    own: &Atom,
+    module_name: &Atom,
+    function_name: Atom,
+    arity: usize,
+) -> Option<Callee>
     ensures { option_map callee_of result ≡ callee_named own.now module_name.now function_name arity }
 {
     let module_text = module_name.as_str();
