@@ -4,6 +4,4 @@
 #[cfg(test)]
 mod links;
 #[cfg(test)]
-mod signals;
-#[cfg(test)]
 mod table_rows;
