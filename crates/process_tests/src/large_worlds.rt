@@ -38,19 +38,15 @@ fn gets(rt: &impl Abort, alloc: Global, world: &mut World, count: u64) -> Result
 const ROWS: &[u8] =
     b"module 'm' [] attributes [] 'put'/1 = fun (N) -> case N of <0> when 'true' -> 'ok' <M> when 'true' -> do call 'ets':'insert'('t',{N,'x'}) apply 'put'/1(call 'erlang':'-'(N,1)) end 'get'/1 = fun (N) -> case N of <0> when 'true' -> 'ok' <M> when 'true' -> do call 'ets':'lookup'('t',N) apply 'get'/1(call 'erlang':'-'(N,1)) end 'main'/0 = fun () -> do call 'ets':'new'('t',['named_table']) do apply 'put'/1(10000) apply 'get'/1(10000) end";
 
-fn rows_come_and_are_found(rt: &impl Abort, alloc: Global, world: &mut World) -> Result<(), Fail> {
-    happens(rt, alloc, world, "new 't' ['named_table'] -> 't'")?;
-    puts(rt, alloc, world, 10_000)?;
-    gets(rt, alloc, world, 10_000)?;
-    happens(rt, alloc, world, "'normal'")
-}
-
 #[test]
 fn a_table_has_10000_rows_and_a_world_20000_events(rt: HostRuntime) -> Result<(), Fail> {
     let alloc = rt.alloc();
     let program = read_module(alloc, ROWS)?;
     let mut world = World::open(alloc, &program)?;
-    rows_come_and_are_found(&rt, alloc, &mut world)
+    happens(&rt, alloc, &mut world, "new 't' ['named_table'] -> 't'")?;
+    puts(&rt, alloc, &mut world, 10_000)?;
+    gets(&rt, alloc, &mut world, 10_000)?;
+    happens(&rt, alloc, &mut world, "'normal'")
 }
 
 // Makes a table with the number of each turn in it, `count` down to 1: table k is made by turn 2k - 1.
@@ -82,20 +78,12 @@ fn finds(rt: &impl Abort, alloc: Global, world: &mut World, count: u64) -> Resul
 const TABLES: &[u8] =
     b"module 'm' [] attributes [] 'make'/2 = fun (N,Ts) -> case N of <0> when 'true' -> apply 'all'/1(Ts) <M> when 'true' -> let <T> = call 'ets':'new'('t',[]) in do call 'ets':'insert'(T,{'n',N}) apply 'make'/2(call 'erlang':'-'(N,1),[T|Ts]) end 'all'/1 = fun (Ts) -> case Ts of <[T|Us]> when 'true' -> do call 'ets':'lookup'(T,'n') apply 'all'/1(Us) <[]> when 'true' -> 'ok' end 'main'/0 = fun () -> apply 'make'/2(1000,[]) end";
 
-fn tables_are_made_and_found(
-    rt: &impl Abort,
-    alloc: Global,
-    world: &mut World,
-) -> Result<(), Fail> {
-    makes(rt, alloc, world, 1_000)?;
-    finds(rt, alloc, world, 1_000)?;
-    happens(rt, alloc, world, "'normal'")
-}
-
 #[test]
 fn a_world_has_1000_tables(rt: HostRuntime) -> Result<(), Fail> {
     let alloc = rt.alloc();
     let program = read_module(alloc, TABLES)?;
     let mut world = World::open(alloc, &program)?;
-    tables_are_made_and_found(&rt, alloc, &mut world)
+    makes(&rt, alloc, &mut world, 1_000)?;
+    finds(&rt, alloc, &mut world, 1_000)?;
+    happens(&rt, alloc, &mut world, "'normal'")
 }

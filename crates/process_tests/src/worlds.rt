@@ -267,33 +267,22 @@ fn delivery(alloc: Global) -> Result<Step, AllocError> {
     Ok(Step::Deliver(first.copy()?, first))
 }
 
-// Asserts that neither a process that was not spawned nor a channel without signals has a step.
-fn strangers_have_no_step(rt: &impl Abort, alloc: Global, world: &mut World) -> Result<(), Fail> {
-    let child = Pid::new(alloc, Vec::from_slice(alloc, &CHILD)?)?;
-    is_not_enabled(rt, alloc, world, &Step::Turn(child));
-    is_not_enabled(rt, alloc, world, &delivery(alloc)?);
-    Ok(())
-}
-
-// Asserts that the one process ends, and that its end stays the last event.
-fn ends_once(rt: &impl Abort, alloc: Global, world: &mut World) -> Result<(), Fail> {
-    let text = run_on(alloc, world)?;
-    assert_eq!(rt; text.as_slice(), b"'normal'\n".as_slice());
-    is_not_enabled(rt, alloc, world, &turn(alloc)?);
-    let again = last(alloc, world)?;
-    assert_eq!(rt; again.as_slice(), b"'normal'".as_slice());
-    Ok(())
-}
-
 // No step of another process, no delivery, and no step after the end.
 #[test]
 fn other_steps_are_not_enabled(rt: HostRuntime) -> Result<(), Fail> {
-    let alloc = rt.alloc();
-    let program = program(alloc, "'ok'")?;
-    let mut world = World::open(alloc, &program)?;
+    let program = program(rt.alloc(), "'ok'")?;
+    let mut world = World::open(rt.alloc(), &program)?;
     assert!(rt; world.last_event().is_none());
-    strangers_have_no_step(&rt, alloc, &mut world)?;
-    ends_once(&rt, alloc, &mut world)
+    let child = Pid::new(rt.alloc(), Vec::from_slice(rt.alloc(), &CHILD)?)?;
+    let child = Step::Turn(child);
+    is_not_enabled(&rt, rt.alloc(), &mut world, &child);
+    is_not_enabled(&rt, rt.alloc(), &mut world, &delivery(rt.alloc())?);
+    let text = run_on(rt.alloc(), &mut world)?;
+    assert_eq!(rt; text.as_slice(), b"'normal'\n".as_slice());
+    is_not_enabled(&rt, rt.alloc(), &mut world, &turn(rt.alloc())?);
+    let again = last(rt.alloc(), &world)?;
+    assert_eq!(rt; again.as_slice(), b"'normal'".as_slice());
+    Ok(())
 }
 
 // A chain of 999 `do`, each the second part of the one before it.
