@@ -1,3 +1,4 @@
 pub mod TableRows
+pub mod Tables
 pub mod CellLaws
 pub mod inside

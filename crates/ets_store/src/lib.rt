@@ -8,8 +8,10 @@ pub mod object;
 pub mod objects;
 pub(crate) mod row_map;
 pub mod rows;
+pub mod table;
 pub mod walks;
 pub mod writes;
 
 pub use object::Object;
 pub use rows::Rows;
+pub use table::{Heir, Table};
