@@ -4,4 +4,6 @@
 #[cfg(test)]
 mod links;
 #[cfg(test)]
+mod signals;
+#[cfg(test)]
 mod table_rows;

@@ -3,6 +3,7 @@ mod applications;
 mod clauses;
 mod exceptions;
 mod own_calls;
+mod receives;
 mod runs;
 
 use crate::requests::text_of;

@@ -1,11 +1,7 @@
-// Tests of what modules do: the requests of one process, and the events of a world.
+// Tests of what modules do: the requests of one process.
 #![tactic(auto)]
 
 #[cfg(test)]
 mod evaluation;
 #[cfg(test)]
-mod large_worlds;
-#[cfg(test)]
 mod requests;
-#[cfg(test)]
-mod worlds;

@@ -1,5 +1,5 @@
-// What tests are made of: streams in memory that behave as badly as streams may, and texts of many equal parts. No
-// crate of the program lists this one.
+// What tests are made of: streams in memory that behave as badly as streams may, texts of many equal parts, and what
+// a call is as text. No crate of the program lists this one.
 #![tactic(auto)]
 
 ghost use Rattle.std.specs.Prelude.{◌≡◌, [], ◌+◌, ◌++◌, ◌==◌, ◌&&◌, ◌||◌, not, min, IfOk, IsOkAnd, OnErr, OnOk, Some, None, false, is_err, is_ok, length, string_bytes, EachIndex, slice_index};
@@ -11,7 +11,7 @@ ghost use Rattle.term_core.specs.Stream.{took_nothing};
 use std::alloc::{AllocError, Global};
 use std::io;
 use std::io::ErrorKind;
-use term_core::{Sink, Source};
+use term_core::{Output, Sink, Source, Terms, WriteFault, write_all, write_term};
 
 /// A text with equal parts on both sides of its middle: `front`, `count` times `opening`, `middle`, and as many
 /// times `closing`; or `AllocError` if there is no memory for it.
@@ -30,6 +30,23 @@ pub fn nested(
     text.push_str(middle)?;
     text.push_str(closing.repeat(alloc, count)?.as_str())?;
     Ok(text)
+}
+
+/// Writes a name and arguments, a space before each of these. The first write that fails ends it, with its fault.
+pub fn write_named(
+    name: &str,
+    arguments: &Terms,
+    sink: &mut Output<Vec<u8>>,
+) -> Result<(), WriteFault>
+    requires { sink.old.has_failed ≡ false }
+    ensures { OnOk result (sink.new.has_failed ≡ false) }
+{
+    write_all(sink, name.as_bytes())?;
+    for argument in arguments.as_slice() {
+        write_all(sink, b" ")?;
+        write_term(argument, sink)?;
+    }
+    Ok(())
 }
 
 /// A source over bytes in memory, which reports them. It hands out at most `piece` bytes a read, and

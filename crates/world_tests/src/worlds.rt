@@ -1,13 +1,12 @@
 // Worlds of small modules, and what happens in them.
 ghost use Rattle.std.specs.Prelude.{◌≡◌, false};
 
-use crate::requests::write_call;
 use core_reader::{Module, ReadFault, read_module};
 use std::alloc::{AllocError, Global};
 use std::process::Abort;
 use std::test::Fail;
 use term_core::{Output, Pid, Step, WriteFault, write_all, write_number, write_pid, write_term};
-use test_support::nested;
+use test_support::{nested, write_named};
 use world_core::{Deed, World, WorldFault};
 
 // What stands before the body of `main/0`, which begins at 57.
@@ -39,7 +38,7 @@ fn write_deed(deed: &Deed, sink: &mut Output<Vec<u8>>) -> Result<(), WriteFault>
             arguments,
             answer,
         } => {
-            write_call(*kind, arguments, sink)?;
+            write_named(kind.function_name(), arguments, sink)?;
             write_all(sink, b" -> ")?;
             write_term(answer, sink)
         }
@@ -49,7 +48,7 @@ fn write_deed(deed: &Deed, sink: &mut Output<Vec<u8>>) -> Result<(), WriteFault>
             rule,
             owner,
         } => {
-            write_call(*kind, arguments, sink)?;
+            write_named(kind.function_name(), arguments, sink)?;
             write_all(sink, b" refused by ")?;
             write_number(u64::from(*rule as u8), sink)?;
             write_owner(owner, sink)

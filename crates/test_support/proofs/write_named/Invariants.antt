@@ -1,5 +1,5 @@
 use Rattle.std.proofs.Common.{◌≡◌, false}
-use Rattle.process_tests.proofs.requests.write_call.Given as goal
+use Rattle.test_support.proofs.write_named.Given as goal
 
 -- the sink has not failed
 abbrev pub invariant-loop-argument : goal.invariant-loop-argument

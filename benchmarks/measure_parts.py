@@ -1,0 +1,63 @@
+#!/usr/bin/env python3
+"""Measures the parts of the explored world: tables, channels and mailboxes.
+
+    benchmarks/measure_parts.py [--runs N]
+
+Runs the program `part_measures`, which `rt run` builds in its crate, at each size and at twice that size. A
+row tells the size, the seconds of the clock of the fastest of N runs, and how many times as long the double
+took: 2 where the cost is linear, 1 where it does not depend on the size. The start of the program, which the
+first line tells, is within each. It wants Python 3.9 or later and nothing besides.
+"""
+import argparse
+import subprocess
+import sys
+import time
+from pathlib import Path
+
+PROGRAM = Path(__file__).resolve().parent.parent / "crates/part_measures/out/part_measures"
+# what is done, the word for it, its size, and what it has to print at a size
+ROWS = [
+    ("nothing", "nothing", 1, lambda size: 0),
+    ("objects put into a set, and a walk over its keys", "set", 10_000, lambda size: size),
+    ("objects put into an ordered_set, and a walk over its keys", "ordered_set", 10_000, lambda size: size),
+    ("10,000 copies of a table of so many objects, with the objects put in", "copies", 10_000, lambda size: size),
+    ("signals through one channel", "signals", 10_000, lambda size: size),
+    ("100 receives, each past so many messages", "receive", 1_000, lambda size: 100),
+]
+
+
+def seconds_of(word, size, wanted):
+    """The seconds of the clock of one run."""
+    began = time.monotonic()
+    done = subprocess.run([PROGRAM, word, str(size)], capture_output=True, text=True)
+    seconds = time.monotonic() - began
+    if done.returncode != 0 or done.stdout != f"{wanted}\n":
+        sys.exit(f"{word} {size}: status {done.returncode}, it printed {done.stdout[:200]!r}")
+    return seconds
+
+
+def fastest(word, size, wanted, runs):
+    """The size and its double, in turns, so that what else the machine does falls on both."""
+    sizes = (size, 2 * size)
+    single, double = zip(*([seconds_of(word, n, wanted(n)) for n in sizes] for _ in range(runs)))
+    return min(single), min(double)
+
+
+def main():
+    layout = argparse.RawDescriptionHelpFormatter
+    parser = argparse.ArgumentParser(description=__doc__, formatter_class=layout)
+    parser.add_argument("--runs", type=int, default=9)
+    runs = parser.parse_args().runs
+    if runs < 1:
+        parser.error("--runs is at least 1")
+    if not PROGRAM.is_file():
+        sys.exit("there is no program part_measures: run `rt run` in crates/part_measures")
+    print("| work | size | seconds | as many times at twice the size |")
+    print("| --- | --- | --- | --- |")
+    for name, word, size, wanted in ROWS:
+        single, double = fastest(word, size, wanted, runs)
+        print(f"| {name} | {size:,} | {single:.4f} | {double / single:.1f} |", flush=True)
+
+
+if __name__ == "__main__":
+    main()

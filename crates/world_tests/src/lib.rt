@@ -1,0 +1,7 @@
+// Tests of worlds: the events of small modules, and of long ones.
+#![tactic(auto)]
+
+#[cfg(test)]
+mod large_worlds;
+#[cfg(test)]
+mod worlds;
