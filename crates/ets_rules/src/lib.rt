@@ -1,0 +1,11 @@
+// The tables of a world: which call of a table is refused by which rule, what the others answer and leave, and where
+// tables go when their owner ends.
+#![tactic(auto)]
+
+pub mod apply;
+pub mod ends;
+pub mod judge;
+pub mod make;
+pub mod tables;
+
+pub use tables::Tables;
