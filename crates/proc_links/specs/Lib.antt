@@ -1,4 +1,3 @@
-pub mod Groups
 pub mod Process
 pub mod Links
 pub mod Bearers

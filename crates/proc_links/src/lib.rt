@@ -3,7 +3,6 @@
 #![tactic(auto)]
 
 pub mod effect;
-mod groups;
 pub mod links;
 pub mod living;
 pub mod names;
