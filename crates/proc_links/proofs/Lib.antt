@@ -1,4 +1,3 @@
-pub mod Grouping
 pub mod Linked
 pub mod Named
 pub mod Telling

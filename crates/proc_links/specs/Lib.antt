@@ -1,5 +1,5 @@
-pub mod Groups
 pub mod Process
+pub mod Put
 pub mod Links
 pub mod Bearers
 pub mod Names

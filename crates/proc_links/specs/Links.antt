@@ -5,7 +5,7 @@ use Rattle.world_model.specs.Cells.{Contents}
 use Rattle.world_model.specs.Names.{Pid}
 use Rattle.world_model.specs.ProcessLines as lines
 use Rattle.world_model.specs.ProcessLines.{LinkWay}
-use Rattle.proc_links.specs.Groups.{members_in}
+use Rattle.proc_groups.specs.Groups.{members_in}
 use Rattle.proc_links.specs.declared.links.Linking.{Linking}
 use Rattle.proc_links.specs.declared.links.Linking.TheVariants.{Stands, Pairs, PairsGone, Fails}
 use Rattle.proc_links.specs.declared.links.Links.{Links}

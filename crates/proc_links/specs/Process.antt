@@ -1,6 +1,6 @@
 -- What a call or a signal has to know of a process.
-use Rattle.std.specs.Prelude.{ℕ, List, Bool, true, false}
-use Rattle.world_model.specs.Names.{Ref}
+pub use Rattle.proc_groups.specs.References.{ref_of}
+use Rattle.std.specs.Prelude.{Bool, true, false}
 use Rattle.proc_links.specs.declared.process.Life.{Life}
 use Rattle.proc_links.specs.declared.process.Life.TheVariants.{Lives, Gone}
 use Rattle.proc_links.specs.declared.process.Exits.{Exits}
@@ -15,7 +15,3 @@ is_alive Gone = false
 abbrev pub are_trapped : Exits → Bool
 are_trapped Trapped = true
 are_trapped Untrapped = false
-
--- a reference, of its process and its number
-abbrev pub ref_of : List ℕ × ℕ → Ref
-ref_of id = record { pid = id.0; number = id.1 }

@@ -6,7 +6,7 @@ use Rattle.world_model.specs.Cells as cells
 use Rattle.world_model.specs.Cells.{Contents}
 use Rattle.world_model.specs.Changes.{set_in_order, without_first}
 use Rattle.world_model.specs.Names.{Pid, Ref, same_pid, same_ref, order_of_refs}
-use Rattle.proc_links.specs.Groups.{members_in}
+use Rattle.proc_groups.specs.Groups.{members_in}
 use Rattle.proc_links.specs.Process.{ref_of}
 use Rattle.proc_links.specs.declared.watchers.Watchers.{Watchers}
 

@@ -3,11 +3,11 @@
 #![tactic(auto)]
 
 pub mod effect;
-mod groups;
 pub mod links;
 pub mod living;
 pub mod names;
 pub mod process;
+pub mod signal;
 pub mod watchers;
 
 pub use effect::{Effect, Sender, down_message, exit_message, on_exit};
@@ -15,4 +15,5 @@ pub use links::{Linking, Links};
 pub use living::Living;
 pub use names::{Names, Naming};
 pub use process::{Exits, Life};
+pub use signal::{on_end, on_signal};
 pub use watchers::Watchers;

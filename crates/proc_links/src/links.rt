@@ -1,7 +1,7 @@
 // The links of processes (Erlang reference manual, "Processes": "Links").
 ghost use Rattle.std.specs.Prelude.{◌≡◌, [], map, IfOk, OnOk, OnErr, option_copied};
 ghost use Rattle.std.specs.List.{filter, list_any};
-ghost use Rattle.proc_links.specs.Groups.{members_in, members_of};
+ghost use Rattle.proc_groups.specs.Groups.{members_in, members_of};
 ghost use Rattle.world_model.specs.Names as names;
 ghost use Rattle.world_model.specs.Names.{same_pid};
 ghost use Rattle.world_model.specs.Cells as cells;
@@ -14,9 +14,9 @@ ghost use Rattle.world_model.specs.ProcessLines.{link_way, link_changes, pair_be
 ghost use Rattle.world_model.specs.Bonds.{paired, unpaired, paired_by_way};
 
 use crate::effect::{Effect, Sender, as_exit};
-use crate::groups::Groups;
 use crate::living::{Living, living_pids};
 use crate::process::{Exits, Life};
+use proc_groups::Groups;
 use std::alloc::{AllocError, Global};
 use std::collections::BTreeSet;
 use std::sync::Arc;
@@ -41,20 +41,23 @@ pub struct Links {
     partners: Arc<Groups<Pid>>,
 }
 
-impl Groups<Pid> {
-    /// Makes each of two processes a partner of the other.
-    fn pair(&mut self, alloc: Global, pid: &Pid, other: &Pid) -> Result<(), AllocError>
-        ensures ok { OnOk result ((r : names.Pid) → members_in self.new r ≡ paired pid.now other.now r (members_in self.old r)) }
-        ensures err { OnErr result ((r : names.Pid) → members_in self.new r ≡ members_in self.old r) }
-    {
-        let partner = pid.copy()?;
-        let is_new = self.add(alloc, pid, other.copy()?)?;
-        if let Err(refused) = self.add(alloc, other, partner) {
-            self.take_back(pid, other, is_new);
-            return Err(refused);
-        }
-        Ok(())
+/// Makes each of two processes a partner of the other.
+fn join(
+    partners: &mut Groups<Pid>,
+    alloc: Global,
+    pid: &Pid,
+    other: &Pid,
+) -> Result<(), AllocError>
+    ensures ok { OnOk result ((r : names.Pid) → members_in partners.new r ≡ paired pid.now other.now r (members_in partners.old r)) }
+    ensures err { OnErr result ((r : names.Pid) → members_in partners.new r ≡ members_in partners.old r) }
+{
+    let partner = pid.copy()?;
+    let is_new = partners.add(alloc, pid, other.copy()?)?;
+    if let Err(refused) = partners.add(alloc, other, partner) {
+        partners.take_back(pid, other, is_new);
+        return Err(refused);
     }
+    Ok(())
 }
 
 impl Links {
@@ -105,7 +108,7 @@ impl Links {
         ensures err { OnErr result ((r : names.Pid) → partners_in self.new r ≡ partners_in self.old r) }
     {
         let partners = Arc::make_mut(&mut self.partners)?;
-        partners.pair(alloc, pid, other)?;
+        join(partners, alloc, pid, other)?;
         Ok(())
     }
 

@@ -3,7 +3,7 @@ ghost use Rattle.std.specs.Prelude.{◌≡◌, ℕ, List, Bool, IfOk, option_cop
 ghost use Rattle.std.specs.BTreeSet.{contains};
 ghost use Rattle.std.specs.List.{filter};
 ghost use Rattle.term_core.specs.Order.{order_of_lists};
-ghost use Rattle.proc_links.specs.Groups.{members_of};
+ghost use Rattle.proc_groups.specs.Groups.{members_of};
 
 use std::alloc::{AllocError, Global};
 use std::collections::BTreeSet;

@@ -13,12 +13,12 @@ ghost use Rattle.world_model.specs.Changes.{Puts, after, set_in_order, without_f
 ghost use Rattle.world_model.specs.Events as events;
 ghost use Rattle.world_model.specs.ProcessLines.{watch_begins, watch_ends};
 ghost use Rattle.world_model.specs.Signals.{down_fate, goes_with};
-ghost use Rattle.proc_links.specs.Groups.{members_in, members_of};
+ghost use Rattle.proc_groups.specs.Groups.{members_in, members_of};
 ghost use Rattle.proc_links.specs.Process.{ref_of};
 
 use crate::effect::{Effect, down_message};
-use crate::groups::{Groups, Member};
 use crate::living::{Living, living_references};
+use proc_groups::Groups;
 use std::alloc::{AllocError, Global};
 use std::collections::{BTreeMap, BTreeSet};
 use std::sync::Arc;
@@ -35,10 +35,6 @@ struct Watches {
 #[derive(Drop)]
 pub struct Watchers {
     watches: Arc<Watches>,
-}
-
-impl Member for RefId {
-    ghost same = { λ a b clone. clone };
 }
 
 impl Clone for Watches {

@@ -2,7 +2,7 @@
 use Rattle.std.specs.Prelude.{◌≡◌, ℕ, List}
 use Rattle.std.specs.BTreeMap.{get}
 use Rattle.term_core.specs.StepOrder.{order_of_reference_ids}
-use Rattle.proc_links.specs.Groups.{members_in}
+use Rattle.proc_groups.specs.Groups.{members_in}
 use Rattle.proc_links.specs.declared.watchers.Watches.{Watches}
 
 -- each process has the watches that it had, and each reference watches whom it did

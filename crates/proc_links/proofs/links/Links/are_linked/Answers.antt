@@ -1,7 +1,7 @@
 use Rattle.std.proofs.Common.{◌∙◌, ap}
 use Rattle.std.specs.List.{list_any}
 use Rattle.world_model.specs.Names.{same_pid}
-use Rattle.proc_links.specs.Groups.{members_in}
+use Rattle.proc_groups.specs.Groups.{members_in}
 use Rattle.proc_links.proofs.Linked.{any_same}
 use Rattle.proc_links.proofs.links.Links.are_linked.Goals as goal
 

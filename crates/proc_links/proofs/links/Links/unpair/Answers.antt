@@ -1,9 +1,9 @@
 use Rattle.std.proofs.Common.{◌∙◌, ap, is_ok, sym, rules}
-use Rattle.proc_links.specs.Groups.{members_in}
+use Rattle.proc_groups.specs.Groups.{members_in}
 use Rattle.proc_links.specs.Links.{partners_in}
 use Rattle.world_model.specs.Names.{Pid}
 use Rattle.world_model.specs.Bonds.{parted, unpaired}
-use Rattle.proc_links.proofs.Grouping.{on_err, same_members, was_err}
+use Rattle.proc_groups.proofs.Grouping.{on_err, same_members, was_err}
 use Rattle.proc_links.proofs.Linked.{parted-is, unpaired-apart}
 use Rattle.proc_links.proofs.links.Links.unpair.Goals as goal
 

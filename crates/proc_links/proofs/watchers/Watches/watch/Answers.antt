@@ -1,6 +1,6 @@
 use Rattle.std.proofs.Common.{subst}
 use Rattle.term_core.specs.StepOrder.{order_of_reference_ids}
-use Rattle.proc_links.specs.Groups.{members_in, IsAdded}
+use Rattle.proc_groups.specs.Groups.{members_in, IsAdded}
 use Rattle.proc_links.proofs.watchers.Watches.watch.Goals as goal
 
 pub returns-in-Err-clause-err : goal.returns-in-Err-clause-err

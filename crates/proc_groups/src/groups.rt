@@ -6,10 +6,10 @@ ghost use Rattle.world_model.specs.Changes.{set_in_order, without_first};
 
 use std::alloc::{AllocError, Global};
 use std::collections::{BTreeMap, BTreeSet};
-use term_core::Pid;
+use term_core::{Pid, RefId};
 
-/// What the sets are of: a clone of one is the same.
-pub(crate) trait Member: Ord + Clone + Drop {
+/// What sets are of: a clone of an item is the same item.
+pub trait Member: Ord + Clone + Drop {
     ghost same: { (a b : Self) → Self.is_clone a b → b ≡ a };
 }
 
@@ -17,17 +17,22 @@ impl Member for Pid {
     ghost same = { λ a b clone. clone };
 }
 
+impl Member for RefId {
+    ghost same = { λ a b clone. clone };
+}
+
 /// A set for each process, which is empty at first and takes no room while it is.
 #[derive(Drop)]
-pub(crate) struct Groups<K: Ord> {
+pub struct Groups<K: Ord> {
     sets: BTreeMap<Pid, BTreeSet<K>>,
 }
 
 impl<K: Member> Clone for Groups<K> {
-    ghost use Rattle.proc_links.specs.Groups.{members_in};
+    ghost use Rattle.proc_groups.specs.Groups.{members_in};
 
     ghost is_clone = { λ a b. (p : List ℕ) → members_in b p ≡ members_in a p };
 
+    /// The same sets, each a copy, or `AllocError` if there is no memory for them.
     fn clone(&self) -> Result<Groups<K>, AllocError> {
         Ok(Groups {
             sets: self.sets.clone()?,
@@ -36,10 +41,10 @@ impl<K: Member> Clone for Groups<K> {
 }
 
 impl<K: Member> Groups<K> {
-    ghost use Rattle.proc_links.specs.Groups.{members_in, members_of, IsAdded};
+    ghost use Rattle.proc_groups.specs.Groups.{members_in, members_of, IsAdded};
 
-    /// Empty sets.
-    pub(crate) fn new(alloc: Global) -> Groups<K>
+    /// Sets that are all empty. It takes no memory.
+    pub fn new(alloc: Global) -> Groups<K>
         ensures { (p : List ℕ) → members_in result p ≡ [] }
     {
         Groups {
@@ -47,15 +52,15 @@ impl<K: Member> Groups<K> {
         }
     }
 
-    /// The set of a process, unless it is empty.
-    pub(crate) fn of(&self, pid: &Pid) -> Option<&BTreeSet<K>>
+    /// The set of a process, or `None` where it is empty. It takes no memory.
+    pub fn of(&self, pid: &Pid) -> Option<&BTreeSet<K>>
         ensures { members_of (option_copied result) ≡ members_in self.now pid.now }
     {
         self.sets.get(pid)
     }
 
-    /// Whether an item is in the set of a process.
-    pub(crate) fn has(&self, pid: &Pid, item: &K) -> bool
+    /// Whether an item is in the set of a process. It takes no memory.
+    pub fn has(&self, pid: &Pid, item: &K) -> bool
         ensures { result ≡ list_any (is_at (K.cmp item.now)) (members_in self.now pid.now) }
     {
         match self.sets.get(pid) {
@@ -64,8 +69,9 @@ impl<K: Member> Groups<K> {
         }
     }
 
-    /// Puts an item into the set of a process. Whether it is new there.
-    pub(crate) fn add(&mut self, alloc: Global, pid: &Pid, item: K) -> Result<bool, AllocError>
+    /// Puts an item into the set of a process, and answers whether it is new there. `AllocError` if there is no
+    /// memory for it: then nothing is changed, and the item is dropped.
+    pub fn add(&mut self, alloc: Global, pid: &Pid, item: K) -> Result<bool, AllocError>
         ensures ok { IfOk result (λ is_new. IsAdded K.cmp pid.now item is_new (members_in self.old) (members_in self.new)) }
         ensures err { OnErr result ((q : List ℕ) → members_in self.new q ≡ members_in self.old q) }
     {
@@ -90,8 +96,9 @@ impl<K: Member> Groups<K> {
         Ok(())
     }
 
-    /// Takes back that an item was added, which was new there or was not.
-    pub(crate) fn take_back(&mut self, pid: &Pid, item: &K, is_new: bool)
+    /// Takes back that an item was added, which was new there or was not: what `add` answered. It takes no
+    /// memory.
+    pub fn take_back(&mut self, pid: &Pid, item: &K, is_new: bool)
         ensures { (f g : List ℕ → List K) → IsAdded K.cmp pid.now item.now is_new f g → ((q : List ℕ) → members_in self.old q ≡ g q) → (q : List ℕ) → members_in self.new q ≡ f q }
     {
         if is_new {
@@ -99,8 +106,8 @@ impl<K: Member> Groups<K> {
         }
     }
 
-    /// Takes an item out of the set of a process.
-    pub(crate) fn remove(&mut self, pid: &Pid, item: &K)
+    /// Takes an item out of the set of a process, if it is there. It takes no memory.
+    pub fn remove(&mut self, pid: &Pid, item: &K)
         ensures { (q : List ℕ) → members_in self.new q ≡ (if bytes_eq pid.now q then without_first (is_at (K.cmp item.now)) (members_in self.old q) else members_in self.old q) }
     {
         let Some(set) = self.sets.get_mut(pid) else {
@@ -110,5 +117,12 @@ impl<K: Member> Groups<K> {
         if set.is_empty() {
             drop(self.sets.remove(pid));
         }
+    }
+
+    /// Takes all items out of the set of a process. It takes no memory.
+    pub fn clear(&mut self, pid: &Pid)
+        ensures { (q : List ℕ) → members_in self.new q ≡ (if bytes_eq pid.now q then [] else members_in self.old q) }
+    {
+        let _items = self.sets.remove(pid);
     }
 }

@@ -10,8 +10,8 @@ use Rattle.world_model.specs.Changes.{set_before, set_in_order, without_first}
 use Rattle.std.proofs.lemmas.Map.Text.{is_eq-slice_cmp}
 use Rattle.std.proofs.lemmas.Slice.Eq.{bytes_eq-Decides}
 use Rattle.term_core.specs.Order.{order_of_lists}
-use Rattle.proc_links.specs.Groups.{members_of, members_in, IsAdded}
-use Rattle.proc_links.specs.declared.groups.Groups.{Groups}
+use Rattle.proc_groups.specs.Groups.{members_of, members_in, IsAdded}
+use Rattle.proc_groups.specs.declared.groups.Groups.{Groups}
 use Rattle.std.specs.List.{list_any, AllZip}
 use Rattle.std.specs.Ordering.{is_eq}
 use Rattle.std.specs.Bool.{OnFalse}

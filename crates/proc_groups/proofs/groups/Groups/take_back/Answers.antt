@@ -2,8 +2,8 @@ use Rattle.std.proofs.Common.{◌∙◌, ap, bytes_eq, if◌then◌else◌}
 use Rattle.std.specs.BTreeMap.{is_at}
 use Rattle.std.specs.Cmp.{tied_itself}
 use Rattle.world_model.specs.Changes.{without_first}
-use Rattle.proc_links.proofs.Grouping.{taken_back}
-use Rattle.proc_links.proofs.groups.Groups.take_back.Goals as goal
+use Rattle.proc_groups.proofs.Grouping.{taken_back}
+use Rattle.proc_groups.proofs.groups.Groups.take_back.Goals as goal
 
 pub returns-then-is_new : goal.returns-then-is_new
 returns-then-is_new g c = λ f h added is q.

@@ -1,9 +1,9 @@
 use Rattle.std.proofs.Common.{Some, None, ap, sym, ◌∙◌}
 use Rattle.world_model.specs.Changes.{without_first}
 use Rattle.std.specs.BTreeMap.{is_at}
-use Rattle.proc_links.specs.Groups.{members_of}
-use Rattle.proc_links.proofs.Grouping.{members_at, has_then, written, no_items, remove_key-is}
-use Rattle.proc_links.proofs.groups.Groups.remove.Goals as goal
+use Rattle.proc_groups.specs.Groups.{members_of}
+use Rattle.proc_groups.proofs.Grouping.{members_at, has_then, written, no_items, remove_key-is}
+use Rattle.proc_groups.proofs.groups.Groups.remove.Goals as goal
 
 pub returns-then-is_empty : goal.returns-then-is_empty
 returns-then-is_empty g c =

@@ -2,9 +2,9 @@ use Rattle.std.proofs.Common.{Some, not, ap, ◌∙◌}
 use Rattle.world_model.specs.Changes.{set_in_order}
 use Rattle.std.specs.List.{list_any}
 use Rattle.std.specs.BTreeMap.{is_at}
-use Rattle.proc_links.specs.Groups.{members_of}
-use Rattle.proc_links.proofs.Grouping.{members_at, members_stay, written, on_err, insert_key-is, on_false}
-use Rattle.proc_links.proofs.groups.Groups.add.Goals as goal
+use Rattle.proc_groups.specs.Groups.{members_of}
+use Rattle.proc_groups.proofs.Grouping.{members_at, members_stay, written, on_err, insert_key-is, on_false}
+use Rattle.proc_groups.proofs.groups.Groups.add.Goals as goal
 
 pub returns-in_err-insert-in-Some-clause-err : goal.returns-in_err-insert-in-Some-clause-err
 returns-in_err-insert-in-Some-clause-err g c =

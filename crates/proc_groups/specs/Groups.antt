@@ -6,7 +6,7 @@ use Rattle.std.specs.BTreeMap.{get, is_at}
 use Rattle.std.specs.BTreeSet.{BTreeSet}
 use Rattle.term_core.specs.Order.{order_of_lists}
 use Rattle.world_model.specs.Changes.{set_in_order}
-use Rattle.proc_links.specs.declared.groups.Groups.{Groups}
+use Rattle.proc_groups.specs.declared.groups.Groups.{Groups}
 
 -- the members of a set that may be missing
 abbrev pub members_of : {K : Type 0} → Option (BTreeSet K) → List K

@@ -1,7 +1,7 @@
 use Rattle.std.proofs.Common.{Some, ap, sym, subst, ◌∙◌}
 use Rattle.world_model.specs.Changes.{set_in_order}
-use Rattle.proc_links.proofs.Grouping.{members_at, HasAt, insert_key-is}
-use Rattle.proc_links.proofs.groups.Groups.begin.Goals as goal
+use Rattle.proc_groups.proofs.Grouping.{members_at, HasAt, insert_key-is}
+use Rattle.proc_groups.proofs.groups.Groups.begin.Goals as goal
 
 pub returns-clause-ok : goal.returns-clause-ok
 returns-clause-ok g c =

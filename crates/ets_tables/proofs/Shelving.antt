@@ -1,0 +1,93 @@
+-- What stands on the shelves after one change.
+use Rattle.std.proofs.Common.{◌≡◌, ◌⊎◌, inl, inr, ℕ, Bool, true, false, cond, Global, List, [], Option, Some, None, map, bytes_eq, if◌then◌else◌, refl, sym, ap, ◌∙◌}
+use Rattle.std.specs.Prelude.{option_map}
+use Rattle.std.specs.BTreeMap.{BTreeMap, get, is_at}
+use Rattle.std.specs.declared.sync.Arc.{Arc}
+use Rattle.std.proofs.lemmas.Map.Text.{is_eq-slice_cmp}
+use Rattle.term_core.specs.Order.{order_of_lists}
+use Rattle.term_core.specs.StepOrder.{order_of_reference_ids}
+use Rattle.world_model.specs.Names.{Name, Pid, Ref, same_name, same_pid, same_ref}
+use Rattle.world_model.specs.Rows.{Rows}
+use Rattle.world_model.specs.Tables as tables
+use Rattle.world_model.proofs.Meeting as meeting
+use Rattle.ets_store.specs.Tables.{settings_in}
+use Rattle.ets_store.specs.declared.table.Table.{Table}
+use Rattle.proc_groups.specs.Groups.{members_in}
+use Rattle.proc_groups.specs.References.{ref_of}
+use Rattle.proc_groups.specs.declared.groups.Groups.{Groups}
+use Rattle.proc_groups.proofs.Grouping.{same_either}
+use Rattle.proc_groups.proofs.Referring.{Id, refs_same, map_if}
+use Rattle.ets_tables.specs.Shelves.{AreSame, IsAltered, IsMeant, IsOwned, table_on, rows_on, rows_of, held_on}
+use Rattle.ets_tables.specs.declared.shelves.Shelves.{Shelves}
+
+abbrev pub Entries : Type 0
+Entries = BTreeMap Id (Arc Table Global)
+
+-- a map from references with another value at one, or none
+abbrev pub HasAt : {X : Type 0} → BTreeMap Id X → Id → Option X → BTreeMap Id X → Type 0
+HasAt m x w n = (q : Id) → get order_of_reference_ids n q ≡ cond (is_at (order_of_reference_ids x) q) w (get order_of_reference_ids m q)
+
+-- what is shown of the entry at a reference
+pub shown_at : {Y : Type 0} (shown : Option (Arc Table Global) → Y) (m n : Entries) (x : Id) (w : Option (Arc Table Global)) (f : Y → Y)
+    → HasAt m x w n → shown w ≡ f (shown (get order_of_reference_ids m x))
+    → (u : Ref) → shown (get order_of_reference_ids n (u.pid, u.number)) ≡ (if same_ref (ref_of x) u then f (shown (get order_of_reference_ids m (u.pid, u.number))) else shown (get order_of_reference_ids m (u.pid, u.number)))
+shown_at shown m n x w f has is u =
+    ap shown (has (u.pid, u.number) ∙ ap (λ b. cond b w (get order_of_reference_ids m (u.pid, u.number))) (refs_same x (u.pid, u.number)))
+    ∙ elim (same_ref (ref_of x) u) as (λ b. same_ref (ref_of x) u ≡ b → shown (cond b w (get order_of_reference_ids m (u.pid, u.number))) ≡ (if b then f (shown (get order_of_reference_ids m (u.pid, u.number))) else shown (get order_of_reference_ids m (u.pid, u.number)))) [
+      | true ↦ λ e. is ∙ ap (λ (r : Ref). f (shown (get order_of_reference_ids m (r.pid, r.number)))) (meeting.refs_same (ref_of x) u e)
+      | false ↦ λ e. refl
+    ] refl
+
+abbrev pub table_in : Option (Arc Table Global) → Option tables.Table
+table_in entry = option_map settings_in (option_map (λ e. e.value) entry)
+
+abbrev pub rows_in : Option (Arc Table Global) → Rows
+rows_in entry = rows_of (option_map (λ e. e.value) entry)
+
+-- the shelves with other tables
+pub altered_at : (old : Shelves) (n : Entries) (x : Id) (w : Option (Arc Table Global)) (f : Option tables.Table → Option tables.Table) (g : Rows → Rows)
+    → HasAt old.tables x w n → table_in w ≡ f (table_on old (ref_of x)) → rows_in w ≡ g (rows_on old (ref_of x))
+    → IsAltered (ref_of x) f g old (record old { tables = n })
+altered_at old n x w f g has is is_rows = record {
+  tables = shown_at table_in old.tables n x w f has is;
+  rows = shown_at rows_in old.tables n x w g has is_rows;
+  names = λ _. refl;
+  owned = λ _. refl;
+}
+
+-- where there is no table, a change of it leaves all as it was
+pub nothing_altered : (old : Shelves) (x : Id) (f : tables.Table → tables.Table) → get order_of_reference_ids old.tables x ≡ None → IsAltered (ref_of x) (option_map f) (λ rows. rows) old old
+nothing_altered old x f none = record {
+  tables = λ u. elim (same_ref (ref_of x) u) as (λ b. same_ref (ref_of x) u ≡ b → table_on old u ≡ (if b then option_map f (table_on old u) else table_on old u)) [
+    | true ↦ λ e. gone u e ∙ sym (ap (option_map f) (gone u e))
+    | false ↦ λ e. refl
+  ] refl;
+  rows = λ u. sym (same_either (same_ref (ref_of x) u) (rows_on old u));
+  names = λ _. refl;
+  owned = λ _. refl;
+} where
+  gone : (u : Ref) → same_ref (ref_of x) u ≡ true → table_on old u ≡ None
+  gone u e = ap (λ (r : Ref). table_on old r) (sym (meeting.refs_same (ref_of x) u e)) ∙ ap table_in none
+
+over_if : {A B : Type 0} (f : A → B) (b : Bool) (x y : Option A) → option_map f (cond b x y) ≡ (if b then option_map f x else option_map f y)
+over_if f true x y = refl
+over_if f false x y = refl
+
+-- the shelves with other names
+pub meant_at : (old : Shelves) (n : BTreeMap Name Id) (k : Name) (w : Option Id) → ((q : Name) → get order_of_lists n q ≡ cond (is_at (order_of_lists k) q) w (get order_of_lists old.names q)) → IsMeant k (option_map ref_of w) old (record old { names = n })
+meant_at old n k w has = record {
+  tables = λ _. refl;
+  rows = λ _. refl;
+  names = λ q. ap (option_map ref_of) (has q ∙ ap (λ b. cond b w (get order_of_lists old.names q)) (is_eq-slice_cmp k q)) ∙ over_if ref_of (bytes_eq k q) w (get order_of_lists old.names q);
+  owned = λ _. refl;
+}
+
+-- the shelves with other owners
+pub owned_at : (old : Shelves) (n : Groups Id) (p : Pid) (f : List Id → List Id) (g : List Ref → List Ref) → ((xs : List Id) → map ref_of (f xs) ≡ g (map ref_of xs))
+    → ((q : Pid) → members_in n q ≡ (if bytes_eq p q then f (members_in old.owned q) else members_in old.owned q)) → IsOwned p g old (record old { owned = n })
+owned_at old n p f g same has = record {
+  tables = λ _. refl;
+  rows = λ _. refl;
+  names = λ _. refl;
+  owned = λ q. ap (map ref_of) (has q) ∙ map_if ref_of (bytes_eq p q) _ _ ∙ ap (λ zs. if bytes_eq p q then zs else map ref_of (members_in old.owned q)) (same (members_in old.owned q));
+}

@@ -1,0 +1,3 @@
+pub mod Shelves
+pub mod Tables
+pub mod TableLaws

@@ -1,0 +1,9 @@
+// The tables that there are, the names under which they are found, and who has them.
+#![tactic(auto)]
+
+mod entry;
+pub mod laws;
+pub mod registry;
+mod shelves;
+
+pub use registry::Registry;

@@ -1,0 +1,141 @@
+// Where the tables stand: each change of a cell of the explored world is a method here.
+ghost use Rattle.std.specs.FinMap.{empty};
+ghost use Rattle.std.specs.Prelude.{◌≡◌, [], OnOk, OnErr, Some, None, option_copied, option_map};
+ghost use Rattle.ets_store.specs.Tables.{settings_in, heir_in};
+ghost use Rattle.proc_groups.specs.References.{ref_of};
+ghost use Rattle.world_model.specs.Names as names;
+ghost use Rattle.world_model.specs.Changes.{set_in_order, without_first};
+ghost use Rattle.world_model.specs.Names.{same_ref, order_of_refs};
+ghost use Rattle.world_model.specs.Tables.{owned_by, with_heir};
+
+use crate::entry::{entrust, hand};
+use ets_store::{Heir, Table};
+use proc_groups::Groups;
+use std::alloc::{AllocError, Global};
+use std::collections::{BTreeMap, BTreeSet};
+use std::sync::Arc;
+use term_core::{Atom, Pid, RefId};
+
+/// The tables under their references, the references under their names, and the tables of each process.
+#[derive(Drop)]
+pub(crate) struct Shelves {
+    pub(crate) tables: BTreeMap<RefId, Arc<Table>>,
+    pub(crate) names: BTreeMap<Atom, RefId>,
+    pub(crate) owned: Groups<RefId>,
+}
+
+impl Clone for Shelves {
+    ghost use Rattle.ets_tables.specs.Shelves.{AreSame};
+
+    ghost is_clone = { AreSame };
+
+    /// The same shelves, which share the tables with these.
+    fn clone(&self) -> Result<Shelves, AllocError> {
+        Ok(Shelves {
+            tables: self.tables.clone()?,
+            names: self.names.clone()?,
+            owned: self.owned.clone()?,
+        })
+    }
+}
+
+impl Shelves {
+    ghost use Rattle.ets_tables.specs.Shelves.{AreSame, IsAltered, IsMeant, IsOwned, held_on, meant_on, owned_on};
+
+    /// Empty shelves. It takes no memory.
+    pub(crate) fn new(alloc: Global) -> Shelves
+        ensures tables { (t : names.Ref) → held_on result t ≡ None }
+        ensures names { (name : names.Name) → meant_on result name ≡ None }
+        ensures owned { (p : names.Pid) → owned_on result p ≡ [] }
+    {
+        Shelves {
+            tables: BTreeMap::new(alloc),
+            names: BTreeMap::new(alloc),
+            owned: Groups::new(alloc),
+        }
+    }
+
+    /// A table is made.
+    pub(crate) fn put(
+        &mut self,
+        alloc: Global,
+        id: &RefId,
+        table: Table,
+    ) -> Result<(), AllocError>
+        ensures ok { OnOk result (IsAltered (ref_of id.now) (λ _. Some (settings_in table)) (λ _. table.rows.rows) self.old self.new) }
+        ensures err { OnErr result (AreSame self.old self.new) }
+    {
+        let entry = Arc::new(alloc, table)?;
+        self.tables.insert(id.copy()?, entry)?;
+        Ok(())
+    }
+
+    /// A table goes, with all its rows. It is answered, if there was one.
+    pub(crate) fn take(&mut self, id: &RefId) -> Option<Arc<Table>>
+        ensures taken { option_map (λ entry. entry.value) result ≡ held_on self.old (ref_of id.now) }
+        ensures left { IsAltered (ref_of id.now) (λ _. None) (λ _. empty) self.old self.new }
+    {
+        self.tables.remove(id)
+    }
+
+    /// A table, if there is one, passes to another owner.
+    pub(crate) fn pass(&mut self, id: &RefId, to: &Pid) -> Result<(), AllocError>
+        ensures ok { OnOk result (IsAltered (ref_of id.now) (option_map (owned_by to.now)) (λ rows. rows) self.old self.new) }
+        ensures err { OnErr result (AreSame self.old self.new) }
+    {
+        match self.tables.get_mut(id) {
+            Some(entry) => hand(entry, to),
+            None => Ok(()),
+        }
+    }
+
+    /// A table, if there is one, has another heir.
+    pub(crate) fn inherit(&mut self, id: &RefId, heir: Option<Heir>) -> Result<(), AllocError>
+        ensures ok { OnOk result (IsAltered (ref_of id.now) (option_map (with_heir (heir_in heir))) (λ rows. rows) self.old self.new) }
+        ensures err { OnErr result (AreSame self.old self.new) }
+    {
+        match self.tables.get_mut(id) {
+            Some(entry) => entrust(entry, heir),
+            None => Ok(()),
+        }
+    }
+
+    /// A name means a table.
+    pub(crate) fn mean(&mut self, name: &Atom, id: &RefId) -> Result<(), AllocError>
+        ensures ok { OnOk result (IsMeant name.now (Some (ref_of id.now)) self.old self.new) }
+        ensures err { OnErr result (AreSame self.old self.new) }
+    {
+        self.names.insert(name.copy()?, id.copy()?)?;
+        Ok(())
+    }
+
+    /// A name means nothing.
+    pub(crate) fn free(&mut self, name: &Atom)
+        ensures { IsMeant name.now None self.old self.new }
+    {
+        drop(self.names.remove(name));
+    }
+
+    /// A process has a table.
+    pub(crate) fn gain(&mut self, alloc: Global, pid: &Pid, id: &RefId) -> Result<(), AllocError>
+        ensures ok { OnOk result (IsOwned pid.now (set_in_order order_of_refs (ref_of id.now)) self.old self.new) }
+        ensures err { OnErr result (AreSame self.old self.new) }
+    {
+        self.owned.add(alloc, pid, id.copy()?)?;
+        Ok(())
+    }
+
+    /// A process has a table no more.
+    pub(crate) fn lose(&mut self, pid: &Pid, id: &RefId)
+        ensures { IsOwned pid.now (without_first (same_ref (ref_of id.now))) self.old self.new }
+    {
+        self.owned.remove(pid, id);
+    }
+
+    /// A process has no table.
+    pub(crate) fn empty(&mut self, pid: &Pid)
+        ensures { IsOwned pid.now (λ _. []) self.old self.new }
+    {
+        self.owned.clear(pid);
+    }
+}

@@ -1,0 +1,90 @@
+// What a signal does where it takes effect, whatever its kind, and which signals the end of a process puts (Erlang
+// reference manual, "Processes": "Receiving Exit Signals" and "Process Termination").
+ghost use Rattle.std.specs.Prelude.{◌≡◌, ◌++◌, IfOk, map};
+ghost use Rattle.std.specs.BTreeSet.{contains};
+ghost use Rattle.term_core.specs.Order.{order_of_lists};
+ghost use Rattle.term_core.specs.Term.{meaning_of};
+ghost use Rattle.world_model.specs.Cells as cells;
+ghost use Rattle.world_model.specs.Cells.{Contents};
+ghost use Rattle.world_model.specs.Ends.{partners_told, watchers_told};
+ghost use Rattle.world_model.specs.Names as names;
+ghost use Rattle.world_model.specs.Signals.{fate_of};
+ghost use Rattle.proc_links.specs.Effects.{fate_in, put_by};
+ghost use Rattle.proc_links.specs.Links.{AreLinks};
+ghost use Rattle.proc_links.specs.Process.{are_trapped};
+ghost use Rattle.proc_links.specs.Watchers.{AreWatchers, AreWatches};
+ghost use Rattle.proc_signals.specs.Signal.{signal_of};
+
+use crate::effect::{Effect, Sender, on_exit};
+use crate::links::Links;
+use crate::living::Living;
+use crate::process::Exits;
+use crate::watchers::Watchers;
+use proc_signals::Signal;
+use std::alloc::{AllocError, Global};
+use term_core::{Pid, RefId, Term};
+
+/// What a signal from one process does at another, of which it is known what exit signals are to it: a message is
+/// put into the mailbox; an exit signal acts as `on_exit` says, that of a link and that of a watch as
+/// `Links::on_link_exit` and `Watchers::on_down` say. `AllocError` if there is no memory for a message.
+pub fn on_signal(
+    alloc: Global,
+    signal: &Signal,
+    from: &Pid,
+    to: &Pid,
+    exits: Exits,
+    links: &Links,
+    watchers: &Watchers,
+) -> Result<Effect, AllocError>
+    ensures { IfOk result (λ effect. (v : Contents) → AreLinks links.now v → AreWatches watchers.now v → v (cells.Trap to.now) ≡ are_trapped exits → fate_in effect ≡ fate_of v from.now to.now (signal_of signal.now)) }
+{
+    match signal {
+        Signal::Message(message) => Ok(Effect::Put(message.copy()?)),
+        Signal::Exit(reason) => on_exit(alloc, Sender::Another, from, reason, exits),
+        Signal::LinkExit(reason) => links.on_link_exit(alloc, from, to, reason, exits),
+        Signal::Down(reference, reason) => watchers.on_down(alloc, reference, from, reason),
+    }
+}
+
+// The exit signals of links for these processes.
+fn link_exits(pids: &[Pid], reason: &Term, told: &mut Vec<(Pid, Signal)>) -> Result<(), AllocError>
+    ensures { OnOk result (map put_of told.new.items ≡ map put_of told.old.items ++ map (λ q. (q, LinkExit (meaning_of reason.now))) pids.now) }
+{
+    for pid in pids {
+        told.push((pid.copy()?, Signal::LinkExit(reason.copy()?)))?;
+    }
+    Ok(())
+}
+
+// The signals of watches for the makers of these references.
+fn downs(references: &[RefId], reason: &Term, told: &mut Vec<(Pid, Signal)>) -> Result<(), AllocError>
+    ensures { OnOk result (map put_of told.new.items ≡ map put_of told.old.items ++ map (λ id. (id.0, Down (ref_of id) (meaning_of reason.now))) references.now) }
+{
+    for reference in references {
+        let down = Signal::Down(reference.copy()?, reason.copy()?);
+        told.push((reference.pid().copy()?, down))?;
+    }
+    Ok(())
+}
+
+/// The signals that the end of a process with this reason puts, each with the process that it is for: those of its
+/// links to its partners that live, in the order of pids, and then those of its watches to the watchers that live,
+/// in the order of references. `AllocError` if there is no memory for them.
+pub fn on_end<L: Living>(
+    alloc: Global,
+    pid: &Pid,
+    reason: &Term,
+    living: &L,
+    links: &Links,
+    watchers: &Watchers,
+) -> Result<Vec<(Pid, Signal)>, AllocError>
+    ensures { IfOk result (λ told. (v : Contents) → AreLinks links.now v → AreWatchers watchers.now v → ((q : names.Pid) → v (cells.Alive q) ≡ L.lives living.now q) →
+        partners_told v pid.now (meaning_of reason.now) (v (cells.Links pid.now)) ++ watchers_told v pid.now (meaning_of reason.now) (v (cells.Watchers pid.now)) ≡ puts_by pid.now (map put_of told.items)) }
+{
+    let mut told = Vec::new(alloc);
+    let partners = links.told(alloc, pid, living)?;
+    link_exits(partners.as_slice(), reason, &mut told)?;
+    let references = watchers.told(alloc, pid, living)?;
+    downs(references.as_slice(), reason, &mut told)?;
+    Ok(told)
+}
