@@ -5,10 +5,11 @@ use Rattle.term_core.specs.Meaning.{Meaning}
 use Rattle.world_model.specs.Cells.{Alive, Contents}
 use Rattle.world_model.specs.Changes.{Change, Puts}
 use Rattle.world_model.specs.Ends.{partners_told, watchers_told}
-use Rattle.world_model.specs.Events.{LinkExit, Down}
+use Rattle.world_model.specs.Events.{Signal, LinkExit, Down}
 use Rattle.world_model.specs.Names.{Pid, Ref}
 use Rattle.world_model.specs.Signals.{put_if}
 use Rattle.proc_links.specs.Process.{ref_of}
+use Rattle.proc_links.specs.Put.{puts_by}
 
 put_or : {A : Type 0} (f : A → Change) (b : Bool) (x : A) (xs : List A) → (if b then f x ∷ [] else []) ++ map f xs ≡ map f (cond b (x ∷ xs) xs)
 put_or f true x xs = refl
@@ -42,3 +43,20 @@ kept false x xs ys is = is
 pub refs_filtered : (lives : Pid → Bool) (xs : List (List ℕ × ℕ)) → map ref_of (filter (λ id. lives id.0) xs) ≡ filter (λ ref. lives ref.pid) (map ref_of xs)
 refs_filtered lives [] = refl
 refs_filtered lives (x ∷ xs) = kept (lives x.0) x (filter (λ id. lives id.0) xs) _ (refs_filtered lives xs)
+
+-- what is put for partners, and then for watchers, as one list
+puts_for : (p : Pid) (reason : Meaning) (refs : List Ref) → puts_by p (map (λ ref. (ref.pid, Down ref reason)) refs) ≡ map (λ ref. Puts p ref.pid (Down ref reason)) refs
+puts_for p reason [] = refl
+puts_for p reason (ref ∷ refs) = ap (λ ks. Puts p ref.pid (Down ref reason) ∷ ks) (puts_for p reason refs)
+
+puts_after : (p : Pid) (reason : Meaning) (partners : List Pid) (later : List (Pid × Signal)) → map (λ q. Puts p q (LinkExit reason)) partners ++ puts_by p later ≡ puts_by p (map (λ q. (q, LinkExit reason)) partners ++ later)
+puts_after p reason [] later = refl
+puts_after p reason (q ∷ qs) later = ap (λ ks. Puts p q (LinkExit reason) ∷ ks) (puts_after p reason qs later)
+
+pub puts_joined : (p : Pid) (reason : Meaning) (partners : List Pid) (refs : List Ref) (told : List (Pid × Signal)) (ks ls : List Change)
+    → told ≡ map (λ q. (q, LinkExit reason)) partners ++ map (λ ref. (ref.pid, Down ref reason)) refs
+    → ks ≡ map (λ q. Puts p q (LinkExit reason)) partners → ls ≡ map (λ ref. Puts p ref.pid (Down ref reason)) refs
+    → ks ++ ls ≡ puts_by p told
+puts_joined p reason partners refs told ks ls is first later =
+    ap (λ xs. xs ++ ls) first ∙ ap (λ xs. map (λ q. Puts p q (LinkExit reason)) partners ++ xs) (later ∙ sym (puts_for p reason refs))
+    ∙ puts_after p reason partners _ ∙ ap (puts_by p) (sym is)

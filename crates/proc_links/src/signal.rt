@@ -1,17 +1,17 @@
 // What a signal does where it takes effect, whatever its kind, and which signals the end of a process puts (Erlang
 // reference manual, "Processes": "Receiving Exit Signals" and "Process Termination").
 ghost use Rattle.std.specs.Prelude.{◌≡◌, ◌++◌, IfOk, map};
-ghost use Rattle.std.specs.BTreeSet.{contains};
-ghost use Rattle.term_core.specs.Order.{order_of_lists};
 ghost use Rattle.term_core.specs.Term.{meaning_of};
 ghost use Rattle.world_model.specs.Cells as cells;
 ghost use Rattle.world_model.specs.Cells.{Contents};
 ghost use Rattle.world_model.specs.Ends.{partners_told, watchers_told};
+ghost use Rattle.world_model.specs.Events as events;
 ghost use Rattle.world_model.specs.Names as names;
 ghost use Rattle.world_model.specs.Signals.{fate_of};
-ghost use Rattle.proc_links.specs.Effects.{fate_in, put_by};
+ghost use Rattle.proc_links.specs.Effects.{fate_in};
 ghost use Rattle.proc_links.specs.Links.{AreLinks};
-ghost use Rattle.proc_links.specs.Process.{are_trapped};
+ghost use Rattle.proc_links.specs.Process.{are_trapped, ref_of};
+ghost use Rattle.proc_links.specs.Put.{put_of, puts_by};
 ghost use Rattle.proc_links.specs.Watchers.{AreWatchers, AreWatches};
 ghost use Rattle.proc_signals.specs.Signal.{signal_of};
 
@@ -47,24 +47,30 @@ pub fn on_signal(
 }
 
 // The exit signals of links for these processes.
-fn link_exits(pids: &[Pid], reason: &Term, told: &mut Vec<(Pid, Signal)>) -> Result<(), AllocError>
-    ensures { OnOk result (map put_of told.new.items ≡ map put_of told.old.items ++ map (λ q. (q, LinkExit (meaning_of reason.now))) pids.now) }
+fn link_exits(alloc: Global, pids: &[Pid], reason: &Term) -> Result<Vec<(Pid, Signal)>, AllocError>
+    ensures { IfOk result (λ told. map put_of told.items ≡ map (λ q. (q, events.LinkExit (meaning_of reason.now))) pids.now) }
 {
+    let mut told = Vec::new(alloc);
     for pid in pids {
         told.push((pid.copy()?, Signal::LinkExit(reason.copy()?)))?;
     }
-    Ok(())
+    Ok(told)
 }
 
 // The signals of watches for the makers of these references.
-fn downs(references: &[RefId], reason: &Term, told: &mut Vec<(Pid, Signal)>) -> Result<(), AllocError>
-    ensures { OnOk result (map put_of told.new.items ≡ map put_of told.old.items ++ map (λ id. (id.0, Down (ref_of id) (meaning_of reason.now))) references.now) }
+fn downs(
+    alloc: Global,
+    references: &[RefId],
+    reason: &Term,
+) -> Result<Vec<(Pid, Signal)>, AllocError>
+    ensures { IfOk result (λ told. map put_of told.items ≡ map (λ ref. (ref.pid, events.Down ref (meaning_of reason.now))) (map ref_of references.now)) }
 {
+    let mut told = Vec::new(alloc);
     for reference in references {
         let down = Signal::Down(reference.copy()?, reason.copy()?);
         told.push((reference.pid().copy()?, down))?;
     }
-    Ok(())
+    Ok(told)
 }
 
 /// The signals that the end of a process with this reason puts, each with the process that it is for: those of its
@@ -81,10 +87,10 @@ pub fn on_end<L: Living>(
     ensures { IfOk result (λ told. (v : Contents) → AreLinks links.now v → AreWatchers watchers.now v → ((q : names.Pid) → v (cells.Alive q) ≡ L.lives living.now q) →
         partners_told v pid.now (meaning_of reason.now) (v (cells.Links pid.now)) ++ watchers_told v pid.now (meaning_of reason.now) (v (cells.Watchers pid.now)) ≡ puts_by pid.now (map put_of told.items)) }
 {
-    let mut told = Vec::new(alloc);
     let partners = links.told(alloc, pid, living)?;
-    link_exits(partners.as_slice(), reason, &mut told)?;
+    let mut told = link_exits(alloc, partners.as_slice(), reason)?;
     let references = watchers.told(alloc, pid, living)?;
-    downs(references.as_slice(), reason, &mut told)?;
+    let mut later = downs(alloc, references.as_slice(), reason)?;
+    told.append(&mut later)?;
     Ok(told)
 }
