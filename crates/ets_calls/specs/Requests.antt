@@ -14,8 +14,8 @@ is_of_tables (calls.New name options) = true
 is_of_tables (calls.OnTable argument call) = true
 is_of_tables call = false
 
--- a request says the call: the same call of tables with the same arguments, or that it is none of tables
-abbrev pub Says : Call → TableRequest → Type 0
-Says call (OnTable argument of) = call ≡ calls.OnTable (argument_in argument) (call_in of)
-Says call (New name options) = call ≡ calls.New name (option_map (λ os. map option_in os.items) options)
-Says call Other = is_of_tables call ≡ false
+-- a call is read as a request: as the same call of tables with the same arguments, or as none of tables
+abbrev pub IsReadAs : Call → TableRequest → Type 0
+IsReadAs call (OnTable argument of) = call ≡ calls.OnTable (argument_in argument) (call_in of)
+IsReadAs call (New name options) = call ≡ calls.New name (option_map (λ os. map option_in os.items) options)
+IsReadAs call Other = is_of_tables call ≡ false

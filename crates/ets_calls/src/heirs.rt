@@ -3,30 +3,19 @@ ghost use Rattle.std.specs.Prelude.{◌≡◌, ◌∷◌, [], IfOk, map, option_
 ghost use Rattle.ets_store.specs.Tables.{heir_in};
 ghost use Rattle.term_core.specs.Term.{meaning_of};
 ghost use Rattle.world_model.specs.Tables.{heir_of_parts, heir_option, heirs_of};
-ghost use Rattle.world_model.specs.Terms.{each_in, process_in};
+ghost use Rattle.world_model.specs.Terms.{each_in};
 
+use crate::argument::process_in;
 use ets_store::Heir;
 use std::alloc::{AllocError, Global};
-use term_core::{Pid, Term, Terms};
-
-/// The process that a term is, if it is one, or `AllocError` where its copies can no longer be counted.
-pub fn process_in(term: &Term) -> Result<Option<Pid>, AllocError>
-    ensures { IfOk result (λ process. process ≡ process_in (meaning_of term.now)) }
-{
-    match term {
-        Term::Pid(pid) => Ok(Some(pid.copy()?)),
-        _ => Ok(None),
-    }
-}
+use term_core::{Term, Terms};
 
 // Nobody as the heir, where the pair is `{heir, none}`.
 fn no_heir(word: &Term, none: &Term) -> Option<Option<Heir>>
     ensures { option_map heir_in result ≡ heir_of_parts (meaning_of word.now ∷ meaning_of none.now ∷ []) }
 {
-    if word.is_the_atom("heir") {
-        if none.is_the_atom("none") {
-            return Some(None);
-        }
+    if word.is_the_atom("heir") && none.is_the_atom("none") {
+        return Some(None);
     }
     None
 }
@@ -49,7 +38,7 @@ fn some_heir(word: &Term, to: &Term, gift: &Term) -> Result<Option<Option<Heir>>
 
 /// The heir that a tuple of these parts says, if it is an option that says one, or `AllocError` where the
 /// copies of the process and the data can no longer be counted (ets manual, `new/2`).
-pub fn heir_of_parts(parts: &Terms) -> Result<Option<Option<Heir>>, AllocError>
+pub(crate) fn heir_of_parts(parts: &Terms) -> Result<Option<Option<Heir>>, AllocError>
     ensures { IfOk result (λ heir. option_map heir_in heir ≡ heir_of_parts parts.now) }
 {
     match parts.as_slice() {
@@ -59,9 +48,8 @@ pub fn heir_of_parts(parts: &Terms) -> Result<Option<Option<Heir>>, AllocError>
     }
 }
 
-/// The heir that a term says, if it is an option that says one, or `AllocError` where the copies of the
-/// process and the data can no longer be counted (ets manual, `setopts/2`).
-pub fn heir_option(term: &Term) -> Result<Option<Option<Heir>>, AllocError>
+// The heir that a term says, if it is an option that says one.
+fn heir_option(term: &Term) -> Result<Option<Option<Heir>>, AllocError>
     ensures { IfOk result (λ heir. option_map heir_in heir ≡ heir_option (meaning_of term.now)) }
 {
     match term {

@@ -62,10 +62,7 @@ fn pair_option(word: &Term, value: &Term) -> Option<TableOption>
     ensures { option_map option_in result ≡ pair_option (meaning_of word.now) (meaning_of value.now) }
 {
     if word.is_the_atom("keypos") {
-        return match positive_in(value) {
-            Some(position) => Some(TableOption::AtPosition(position)),
-            None => None,
-        };
+        return positive_in(value).map(TableOption::AtPosition);
     }
     if is_tuning(word) {
         return Some(TableOption::Tunes);
@@ -93,9 +90,8 @@ fn tuple_option(parts: &Terms) -> Result<Option<TableOption>, AllocError>
     }
 }
 
-/// The option that a term is, if it is one, or `AllocError` where the copies of an heir can no longer be counted
-/// (ets manual, `new/2`).
-pub fn option_of(term: &Term) -> Result<Option<TableOption>, AllocError>
+// The option that a term is, if it is one.
+fn option_of(term: &Term) -> Result<Option<TableOption>, AllocError>
     ensures { IfOk result (λ option. option_map option_in option ≡ option_of (meaning_of term.now)) }
 {
     match term {

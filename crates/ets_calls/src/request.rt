@@ -1,18 +1,17 @@
 // What a call asks of tables: which call of a table it is, and what each of its arguments is (the Erlang manual,
 // module `ets`).
-ghost use Rattle.std.specs.Prelude.{◌≡◌, IfOk};
-ghost use Rattle.ets_calls.specs.Arguments.{argument_in};
+ghost use Rattle.std.specs.Prelude.{IfOk};
 ghost use Rattle.ets_calls.specs.Calls.{call_in};
-ghost use Rattle.ets_calls.specs.Requests.{Says};
+ghost use Rattle.ets_calls.specs.Requests.{IsReadAs};
 ghost use Rattle.term_core.specs.Term.{meaning_of};
 ghost use Rattle.world_model.specs.Calls as calls;
 ghost use Rattle.world_model.specs.Calls.{call_of, call_of_one, call_of_two, call_of_three, argument_of};
 ghost use Rattle.world_model.specs.Tables.{options_of};
-ghost use Rattle.world_model.specs.Terms.{atom_in, process_in};
+ghost use Rattle.world_model.specs.Terms.{atom_in};
 
-use crate::argument::{Increment, TableArgument, change_of, positive_in};
+use crate::argument::{Increment, TableArgument, change_of, name_in, positive_in, process_in};
 use crate::call::TableCall;
-use crate::heirs::{heirs_of, process_in};
+use crate::heirs::heirs_of;
 use crate::items::item_of;
 use crate::objects::{object_in, objects_of};
 use crate::options::{TableOption, options_of};
@@ -27,30 +26,20 @@ pub enum TableRequest {
     OnTable(TableArgument, TableCall),
     /// `new/2`: the name, if it is an atom, and the options, if they are such.
     New(Option<Atom>, Option<Vec<TableOption>>),
-    /// It is no call of tables.
+    /// It is no call of tables: one of processes, or one with another number of arguments than it has.
     Other,
-}
-
-// The name that a term is, if it is an atom.
-fn name_in(term: &Term) -> Result<Option<Atom>, AllocError>
-    ensures { IfOk result (λ name. name ≡ atom_in (meaning_of term.now)) }
-{
-    match term {
-        Term::Atom(name) => Ok(Some(name.copy()?)),
-        _ => Ok(None),
-    }
 }
 
 // A call of the table that this argument finds.
 fn on_table(table: &Term, call: TableCall) -> Result<TableRequest, AllocError>
-    ensures { IfOk result (Says (calls.OnTable (argument_of (meaning_of table.now)) (call_in call))) }
+    ensures { IfOk result (IsReadAs (calls.OnTable (argument_of (meaning_of table.now)) (call_in call))) }
 {
     Ok(TableRequest::OnTable(TableArgument::of(table)?, call))
 }
 
 // A call with one argument.
 fn of_one(kind: CallKind, table: &Term) -> Result<TableRequest, AllocError>
-    ensures { IfOk result (Says (call_of_one kind (meaning_of table.now))) }
+    ensures { IfOk result (IsReadAs (call_of_one kind (meaning_of table.now))) }
 {
     match kind {
         CallKind::First => on_table(table, TableCall::First),
@@ -64,7 +53,7 @@ fn of_one(kind: CallKind, table: &Term) -> Result<TableRequest, AllocError>
 
 // A new table.
 fn new_table(alloc: Global, name: &Term, options: &Term) -> Result<TableRequest, AllocError>
-    ensures { IfOk result (Says (calls.New (atom_in (meaning_of name.now)) (options_of (meaning_of options.now)))) }
+    ensures { IfOk result (IsReadAs (calls.New (atom_in (meaning_of name.now)) (options_of (meaning_of options.now)))) }
 {
     Ok(TableRequest::New(name_in(name)?, options_of(alloc, options)?))
 }
@@ -76,7 +65,7 @@ fn of_two(
     table: &Term,
     second: &Term,
 ) -> Result<TableRequest, AllocError>
-    ensures { IfOk result (Says (call_of_two kind (meaning_of table.now) (meaning_of second.now))) }
+    ensures { IfOk result (IsReadAs (call_of_two kind (meaning_of table.now) (meaning_of second.now))) }
 {
     match kind {
         CallKind::New => new_table(alloc, table, second),
@@ -102,7 +91,7 @@ fn of_three(
     second: &Term,
     third: &Term,
 ) -> Result<TableRequest, AllocError>
-    ensures { IfOk result (Says (call_of_three kind (meaning_of table.now) (meaning_of second.now) (meaning_of third.now))) }
+    ensures { IfOk result (IsReadAs (call_of_three kind (meaning_of table.now) (meaning_of second.now) (meaning_of third.now))) }
 {
     match kind {
         CallKind::LookupElement => on_table(
@@ -126,9 +115,11 @@ fn of_three(
 }
 
 impl TableRequest {
-    /// What a call with these arguments asks of tables, or `AllocError` if there is no memory for its arguments.
+    /// What a call with these arguments asks of tables, or `AllocError` if there is no memory for the lists among
+    /// them, or where the copies of their parts can no longer be counted (ets manual; each call by its number of
+    /// arguments).
     pub fn of(alloc: Global, kind: CallKind, arguments: &Terms) -> Result<TableRequest, AllocError>
-        ensures { IfOk result (Says (call_of kind arguments.now)) }
+        ensures { IfOk result (IsReadAs (call_of kind arguments.now)) }
     {
         match arguments.as_slice() {
             [table] => of_one(kind, table),
