@@ -1,2 +1,4 @@
 pub mod Arguments
 pub mod Calls
+pub mod Options
+pub mod Requests

@@ -3,10 +3,10 @@ ghost use Rattle.std.specs.Prelude.{◌≡◌, IfOk};
 ghost use Rattle.ets_calls.specs.Arguments.{argument_in, increment_in, change_in};
 ghost use Rattle.term_core.specs.Term.{meaning_of};
 ghost use Rattle.world_model.specs.Calls.{argument_of, increment_of, increment_of_parts, change_of, change_of_parts};
-ghost use Rattle.world_model.specs.Terms.{position_of, positive_in};
+ghost use Rattle.world_model.specs.Terms.{atom_in, process_in, position_of, positive_in};
 
 use std::alloc::AllocError;
-use term_core::{Atom, RefId, Term, Terms};
+use term_core::{Atom, Pid, RefId, Term, Terms};
 
 /// By what a call names its table.
 #[derive(Drop)]
@@ -41,6 +41,26 @@ impl TableArgument {
             Term::Ref(reference) => Ok(TableArgument::ByReference(reference.copy()?)),
             _ => Ok(TableArgument::ByNothing),
         }
+    }
+}
+
+/// The name that a term is, if it is an atom, or `AllocError` where its copies can no longer be counted.
+pub(crate) fn name_in(term: &Term) -> Result<Option<Atom>, AllocError>
+    ensures { IfOk result (λ name. name ≡ atom_in (meaning_of term.now)) }
+{
+    match term {
+        Term::Atom(name) => Ok(Some(name.copy()?)),
+        _ => Ok(None),
+    }
+}
+
+/// The process that a term is, if it is one, or `AllocError` where its copies can no longer be counted.
+pub(crate) fn process_in(term: &Term) -> Result<Option<Pid>, AllocError>
+    ensures { IfOk result (λ process. process ≡ process_in (meaning_of term.now)) }
+{
+    match term {
+        Term::Pid(pid) => Ok(Some(pid.copy()?)),
+        _ => Ok(None),
     }
 }
 

@@ -3,7 +3,14 @@
 
 pub mod argument;
 pub mod call;
+pub mod heirs;
+pub mod items;
 pub mod objects;
+pub mod options;
+pub mod request;
+pub mod settings;
 
 pub use argument::{Increment, TableArgument};
 pub use call::TableCall;
+pub use options::TableOption;
+pub use request::TableRequest;

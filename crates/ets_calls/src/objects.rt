@@ -10,6 +10,7 @@ use std::sync::Arc;
 use term_core::Term;
 
 /// The object that a term is, if it is a tuple, or `AllocError` where its copies can no longer be counted.
+#[tactic(auto, using(crate::proofs::Listing::parts_in_tuple))]
 pub fn object_in(term: &Term) -> Result<Option<Object>, AllocError>
     ensures { IfOk result (λ object. object ≡ parts_in (meaning_of term.now)) }
 {

@@ -1,0 +1,8 @@
+use Rattle.std.proofs.Common.{◌≡◌, drop, map}
+use Rattle.world_model.specs.Tables.{last_asked, position_in}
+use Rattle.ets_calls.specs.Options.{option_in}
+use Rattle.ets_calls.proofs.settings.position_of.Given as goal
+
+-- what the options that are left ask for, after those so far
+abbrev pub invariant-loop-option : goal.invariant-loop-option
+invariant-loop-option l = last_asked position_in l.position (map option_in (drop l.option-index l.options)) ≡ last_asked position_in 1 (map option_in l.options)
