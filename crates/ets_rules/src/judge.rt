@@ -1,30 +1,32 @@
 // Which rule refuses a call: the first that fails of the table argument, what it finds, who may call, and then the
 // other arguments from left to right (ets manual, "Table Access Control" and each call). None of this takes memory.
-ghost use Rattle.std.specs.Prelude.{◌≡◌, option_map, option_copied};
-ghost use Rattle.ets_answers.specs.At.{AreAlive};
+ghost use Rattle.std.specs.Prelude.{◌≡◌, Some, map, option_map, option_copied};
+ghost use Rattle.ets_answers.specs.At.{AreAlive, HoldsRows, found_at};
 ghost use Rattle.ets_calls.specs.Arguments.{argument_in};
 ghost use Rattle.ets_calls.specs.Calls.{call_in};
 ghost use Rattle.ets_calls.specs.Options.{option_in};
-ghost use Rattle.ets_rules.specs.Tables.{Hold, new_rule_in};
+ghost use Rattle.ets_rules.specs.Tables.{Hold};
+ghost use Rattle.world_model.specs.Calls as calls;
 ghost use Rattle.world_model.specs.Cells.{Contents};
+ghost use Rattle.world_model.specs.Events.{ByRule};
 ghost use Rattle.world_model.specs.Found.{find};
-ghost use Rattle.world_model.specs.Judging.{table_rule, told_owner, tells_owner};
+ghost use Rattle.world_model.specs.Judging.{found_line, table_rule, told_owner, tells_owner};
+ghost use Rattle.world_model.specs.Lines.{line};
+ghost use Rattle.world_model.specs.Names.{Ref};
+ghost use Rattle.world_model.specs.NewTables.{by_rule};
 
 use crate::tables::Tables;
 use ets_answers::{argument_rule, caller_rule, class_of, rule_of_none};
-use ets_calls::{TableArgument, TableCall, TableOption, is_named};
+use ets_calls::settings::is_named;
+use ets_calls::{TableArgument, TableCall, TableOption};
 use ets_store::Table;
 use std::collections::BTreeSet;
 use term_core::{Atom, Pid};
 use world_model::rule::Rule;
 
 // The rule that refuses a call at a table that is found.
-fn rule_at(
-    table: &Table,
-    caller: &Pid,
-    call: &TableCall,
-    living: &BTreeSet<Pid>,
-) -> Option<Rule>
+fn rule_at(table: &Table, caller: &Pid, call: &TableCall, living: &BTreeSet<Pid>) -> Option<Rule>
+    ensures { (v : Contents) (ref : Ref) → HoldsRows table.now ref v → AreAlive living.now v → result ≡ (found_line v caller.now (call_in call.now) (Some (found_at ref table.now))).rule }
 {
     match caller_rule(class_of(call), table, caller) {
         Some(rule) => Some(rule),
@@ -36,14 +38,18 @@ fn rule_at(
 fn tells_owner(rule: Rule) -> bool
     ensures { result ≡ tells_owner rule }
 {
-    !matches!(
-        rule,
-        Rule::BadTable | Rule::NoTable | Rule::BadName | Rule::BadOption | Rule::NameTaken
-    )
+    match rule {
+        Rule::BadTable => false,
+        Rule::NoTable => false,
+        Rule::BadName => false,
+        Rule::BadOption => false,
+        Rule::NameTaken => false,
+        _ => true,
+    }
 }
 
 impl Tables {
-    /// The one rule by which a call of this process is refused, of which those in the set live; `None` where it is
+    /// The one rule by which a call of this process is refused, where those in the set live; `None` where it is
     /// served.
     pub fn judge(
         &self,
@@ -58,14 +64,15 @@ impl Tables {
             return Some(Rule::BadTable);
         }
         match self.find(argument) {
-            Some((_id, table)) => rule_at(table, caller, call, living),
+            Some(found) => rule_at(found.table, caller, call, living),
             None => rule_of_none(class_of(call)),
         }
     }
 
     /// The one rule by which a new table is refused: its name is no atom, its options are no such, or it is to be
     /// found by a name that is in use; `None` where it is made (ets manual, `new/2`).
-    pub fn judge_new(&self, name: Option<&Atom>, options: Option<&[TableOption]>) -> Option<Rule>
+    pub fn judge_new(&self, name: &Option<Atom>, options: &Option<Vec<TableOption>>) -> Option<Rule>
+        ensures { (v : Contents) (p : Pid) → Hold self.now v → option_map (by_rule None) result ≡ (line v p (calls.New name.now (option_map (λ os. map option_in os.items) options.now))).refusal }
     {
         let Some(name) = name else {
             return Some(Rule::BadName);
@@ -79,14 +86,16 @@ impl Tables {
         None
     }
 
-    /// The owner that a refusal by this rule tells, of the table that the argument finds.
+    /// The owner that a refusal by this rule tells, of the table that the argument finds; `None` where it tells none.
     pub fn told_owner(&self, argument: &TableArgument, rule: Rule) -> Option<&Pid>
         ensures { (v : Contents) → Hold self.now v → option_copied result ≡ told_owner rule (find v (argument_in argument.now)) }
     {
         if !tells_owner(rule) {
             return None;
         }
-        let (_id, table) = self.find(argument)?;
-        Some(&table.owner)
+        match self.find(argument) {
+            Some(found) => Some(&found.table.owner),
+            None => None,
+        }
     }
 }

@@ -3,9 +3,12 @@
 #![tactic(auto)]
 
 pub mod apply;
-pub mod ends;
+pub mod found;
 pub mod judge;
 pub mod make;
 pub mod tables;
 
+pub use apply::Done;
+pub use ets_tables::Transfer;
+pub use found::FoundTable;
 pub use tables::Tables;

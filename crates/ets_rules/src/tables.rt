@@ -1,18 +1,22 @@
-// The tables of a world, and what finds one (ets manual, "Table Names").
-ghost use Rattle.std.specs.Prelude.{◌≡◌, IfOk, map, option_copied};
+// The tables of a world, and what finds one (ets manual, `new/2`).
+ghost use Rattle.std.specs.Prelude.{◌≡◌, [], None, Some, IfOk, IfSome, List, map, option_copied, option_map};
 ghost use Rattle.ets_calls.specs.Arguments.{argument_in};
-ghost use Rattle.ets_rules.specs.Tables.{AreNone, IsSame, Hold, found_in, owned_in, settings_at};
+ghost use Rattle.ets_rules.specs.Tables.{IsUnchanged, Hold, found_of};
+ghost use Rattle.ets_tables.specs.Tables.{held_at, meant_by, owned_by};
 ghost use Rattle.proc_groups.specs.Groups.{members_of};
+ghost use Rattle.proc_groups.specs.References.{ref_of};
 ghost use Rattle.world_model.specs.Cells as cells;
 ghost use Rattle.world_model.specs.Cells.{Contents};
-ghost use Rattle.world_model.specs.Found.{find};
+ghost use Rattle.world_model.specs.Found.{as_found, find, meant, unless_named};
+ghost use Rattle.world_model.specs.Names as names;
 
+use crate::found::FoundTable;
 use ets_calls::TableArgument;
 use ets_store::Table;
 use ets_tables::Registry;
 use std::alloc::{AllocError, Global};
 use std::collections::BTreeSet;
-use term_core::{Pid, RefId};
+use term_core::{Atom, Pid, RefId};
 
 /// The tables of a world, with their names and owners. Copies share all of it until one of them is written.
 #[derive(Drop)]
@@ -23,53 +27,29 @@ pub struct Tables {
 impl Tables {
     /// No tables, or `AllocError` if there is no memory.
     pub fn new(alloc: Global) -> Result<Tables, AllocError>
-        ensures { IfOk result (λ tables. AreNone tables) }
+        ensures tables { IfOk result (λ begun. (t : names.Ref) → held_at begun.registry t ≡ None) }
+        ensures names { IfOk result (λ begun. (name : names.Name) → meant_by begun.registry name ≡ None) }
+        ensures owned { IfOk result (λ begun. (p : names.Pid) → owned_by begun.registry p ≡ []) }
     {
         Ok(Tables {
             registry: Registry::new(alloc)?,
         })
     }
 
-    /// The same tables, which share memory with these, or `AllocError` where the copies can no longer be counted.
+    /// The same tables, which share memory with these, or `AllocError` where the copies can no longer be counted. It
+    /// is one step, whatever their number.
     pub fn copy(&self) -> Result<Tables, AllocError>
-        ensures { IfOk result (λ copied. IsSame self.now copied) }
+        ensures { IfOk result (λ copied. IsUnchanged self.now copied) }
     {
         Ok(Tables {
             registry: self.registry.copy()?,
         })
     }
 
-    // The table under a reference, with that.
-    fn at<'a>(&'a self, id: &'a RefId) -> Option<(&'a RefId, &'a Table)>
-    {
-        match self.registry.get(id) {
-            Some(table) => Some((id, table)),
-            None => None,
-        }
-    }
-
-    /// The table that an argument finds, with the reference of its creation: a name finds the table that was made
-    /// to be found by it, a reference a table that has no such name. It takes no memory (ets manual, `new/2`, option
-    /// `named_table`).
-    pub fn find<'a>(&'a self, argument: &'a TableArgument) -> Option<(&'a RefId, &'a Table)>
-        ensures { (v : Contents) → Hold self.now v → found_in result ≡ find v (argument_in argument.now) }
-    {
-        match argument {
-            TableArgument::ByName(name) => self.at(self.registry.named(name)?),
-            TableArgument::ByReference(id) => {
-                let (id, table) = self.at(id)?;
-                if table.is_named {
-                    return None;
-                }
-                Some((id, table))
-            }
-            TableArgument::ByNothing => None,
-        }
-    }
-
     /// A table by the reference of its creation: its name, owner, heir and settings, and its rows. It takes no
     /// memory.
     pub fn get(&self, id: &RefId) -> Option<&Table>
+        ensures { option_copied result ≡ held_at self.now.registry (ref_of id.now) }
     {
         self.registry.get(id)
     }
@@ -77,7 +57,54 @@ impl Tables {
     /// The tables that a process owns, by the references of their creations, in order; `None` where it owns none. It
     /// takes no memory.
     pub fn owned(&self, pid: &Pid) -> Option<&BTreeSet<RefId>>
+        ensures { map ref_of (members_of (option_copied result)) ≡ owned_by self.now.registry pid.now }
     {
         self.registry.owned(pid)
+    }
+
+    // The table with this reference.
+    fn at<'t>(&'t self, id: &'t RefId) -> Option<FoundTable<'t>>
+        ensures found { (v : Contents) → Hold self.now v → option_map found_of result ≡ as_found (ref_of id.now) (v (cells.Table (ref_of id.now))) }
+        ensures held { IfSome result (λ found. held_at self.now.registry (ref_of found.id.now) ≡ Some found.table.now) }
+    {
+        match self.registry.get(id) {
+            Some(table) => Some(FoundTable { id, table }),
+            None => None,
+        }
+    }
+
+    // The table that a name means.
+    fn named<'t>(&'t self, name: &Atom) -> Option<FoundTable<'t>>
+        ensures found { (v : Contents) → Hold self.now v → option_map found_of result ≡ meant v (v (cells.TableName name.now)) }
+        ensures held { IfSome result (λ found. held_at self.now.registry (ref_of found.id.now) ≡ Some found.table.now) }
+    {
+        match self.registry.named(name) {
+            Some(id) => self.at(id),
+            None => None,
+        }
+    }
+
+    // The table with this reference, if it is not to be found by its name.
+    fn unnamed<'t>(&'t self, id: &'t RefId) -> Option<FoundTable<'t>>
+        ensures found { (v : Contents) → Hold self.now v → option_map found_of result ≡ unless_named (as_found (ref_of id.now) (v (cells.Table (ref_of id.now)))) }
+        ensures held { IfSome result (λ found. held_at self.now.registry (ref_of found.id.now) ≡ Some found.table.now) }
+    {
+        match self.at(id) {
+            Some(found) if !found.table.is_named => Some(found),
+            _ => None,
+        }
+    }
+
+    /// The table that an argument finds: a name finds the table that was made to be found by it, a reference one
+    /// that was not. It takes no memory (ets manual, `new/2`, option `named_table`).
+    pub fn find<'t>(&'t self, argument: &'t TableArgument) -> Option<FoundTable<'t>>
+        ensures found { (v : Contents) → Hold self.now v → option_map found_of result ≡ find v (argument_in argument.now) }
+        ensures held { IfSome result (λ found. held_at self.now.registry (ref_of found.id.now) ≡ Some found.table.now) }
+    {
+        match argument {
+            TableArgument::ByName(name) => self.named(name),
+            TableArgument::ByReference(id) => self.unnamed(id),
+            TableArgument::ByNothing => None,
+        }
     }
 }

@@ -1,0 +1,13 @@
+// Tests of tables: what each call answers or by which rule it is refused, who may call, and what an end leaves.
+#![tactic(auto)]
+
+#[cfg(test)]
+mod calls;
+#[cfg(test)]
+mod many_rows;
+#[cfg(test)]
+mod owners;
+#[cfg(test)]
+mod refusals;
+#[cfg(test)]
+mod scene;

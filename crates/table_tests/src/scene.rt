@@ -1,0 +1,302 @@
+// A few processes and their tables: each line is a call of one of them, and what it comes to is compared as text.
+ghost use Rattle.std.specs.Prelude.{◌≡◌, false};
+
+use core_eval::{Answer, Machine, Request, start};
+use core_reader::{Module, read_module};
+use core_tree::CallKind;
+use ets_calls::{TableArgument, TableCall, TableOption, TableRequest};
+use ets_rules::{Tables, Transfer};
+use std::alloc::{AllocError, Global};
+use std::collections::BTreeSet;
+use std::process::Abort;
+use std::test::Fail;
+use term_core::{
+    Atom, Output, Pid, RefId, Term, Terms, WriteFault, write_all, write_number, write_pid,
+    write_term,
+};
+use world_model::rule::Rule;
+
+/// A line: the name that its answer gets, if any; the number of the process that calls, where 0 is the first; the
+/// name of the call; its arguments; and what it comes to. `pid` is answered by the process of a number, and `ends`
+/// ends the process.
+pub(crate) type Line = (
+    &'static str,
+    u64,
+    &'static str,
+    &'static str,
+    &'static str,
+);
+
+// What a call came to: its answer, with what another process is told, or its rule, with the owner that is told.
+#[derive(Drop)]
+enum Outcome {
+    Served(Term, Option<Transfer>),
+    Refused(Rule, Option<Pid>),
+}
+
+// The tables, and the processes that live.
+#[derive(Drop)]
+struct Scene {
+    tables: Tables,
+    living: BTreeSet<Pid>,
+}
+
+// The process of a number: the first of 0, and of another the one that the request with this number spawned.
+fn pid_of(alloc: Global, number: u64) -> Result<Pid, AllocError> {
+    let mut numbers = Vec::new(alloc);
+    if number > 0 {
+        numbers.push(number)?;
+    }
+    Pid::new(alloc, numbers)
+}
+
+impl Scene {
+    // Four processes, and no table.
+    fn new(alloc: Global) -> Result<Scene, AllocError> {
+        let mut living = BTreeSet::new(alloc);
+        for number in 0..4 {
+            living.insert(pid_of(alloc, number)?)?;
+        }
+        Ok(Scene {
+            tables: Tables::new(alloc)?,
+            living,
+        })
+    }
+
+    // The refusal by this rule, with the owner that it tells.
+    fn refused(&self, argument: &TableArgument, rule: Rule) -> Result<Outcome, AllocError> {
+        let told = match self.tables.told_owner(argument, rule) {
+            Some(owner) => Some(owner.copy()?),
+            None => None,
+        };
+        Ok(Outcome::Refused(rule, told))
+    }
+
+    // A call with a table argument.
+    fn on_table(
+        &mut self,
+        alloc: Global,
+        caller: &Pid,
+        argument: &TableArgument,
+        call: &TableCall,
+    ) -> Result<Outcome, AllocError> {
+        match self.tables.judge(caller, argument, call, &self.living) {
+            Some(rule) => self.refused(argument, rule),
+            None => {
+                let done = self.tables.apply(alloc, argument, call)?;
+                Ok(Outcome::Served(done.answer, done.transfer))
+            }
+        }
+    }
+
+    // A new table, under the reference of this request of its owner.
+    fn new_table(
+        &mut self,
+        alloc: Global,
+        owner: &Pid,
+        request: u64,
+        name: &Option<Atom>,
+        options: &Option<Vec<TableOption>>,
+    ) -> Result<Outcome, AllocError> {
+        if let Some(rule) = self.tables.judge_new(name, options) {
+            return Ok(Outcome::Refused(rule, None));
+        }
+        let id = RefId::new(alloc, owner.copy()?, request)?;
+        let answer = match (name, options) {
+            (Some(name), Some(options)) => {
+                self.tables
+                    .make(alloc, owner, &id, name, options.as_slice())?
+            }
+            _ => Term::Nil,
+        };
+        Ok(Outcome::Served(answer, None))
+    }
+
+    // A call of this process, its request of this number.
+    fn call(
+        &mut self,
+        alloc: Global,
+        caller: &Pid,
+        request: u64,
+        kind: CallKind,
+        arguments: &Terms,
+    ) -> Result<Outcome, AllocError> {
+        match TableRequest::of(alloc, kind, arguments)? {
+            TableRequest::OnTable(argument, call) => {
+                self.on_table(alloc, caller, &argument, &call)
+            }
+            TableRequest::New(name, options) => {
+                self.new_table(alloc, caller, request, &name, &options)
+            }
+            TableRequest::Other => Ok(Outcome::Served(Term::Nil, None)),
+        }
+    }
+}
+
+// What a process is told when a table comes to it.
+fn write_transfer(transfer: &Transfer, sink: &mut Output<Vec<u8>>) -> Result<(), WriteFault>
+    requires { sink.old.has_failed ≡ false }
+{
+    write_all(sink, b", ")?;
+    write_pid(&transfer.to, sink)?;
+    write_all(sink, b" gets ")?;
+    write_term(&transfer.message, sink)
+}
+
+// What a call came to, as text.
+fn write_outcome(outcome: &Outcome, sink: &mut Output<Vec<u8>>) -> Result<(), WriteFault>
+    requires { sink.old.has_failed ≡ false }
+{
+    match outcome {
+        Outcome::Served(answer, None) => write_term(answer, sink),
+        Outcome::Served(answer, Some(transfer)) => {
+            write_term(answer, sink)?;
+            write_transfer(transfer, sink)
+        }
+        Outcome::Refused(rule, None) => write_number(u64::from(*rule as u8), sink),
+        Outcome::Refused(rule, Some(owner)) => {
+            write_number(u64::from(*rule as u8), sink)?;
+            write_all(sink, b" of ")?;
+            write_pid(owner, sink)
+        }
+    }
+}
+
+// The text of what a call came to.
+fn text_of(alloc: Global, outcome: &Outcome) -> Result<Vec<u8>, WriteFault> {
+    let mut sink = Output::new(Vec::new(alloc));
+    write_outcome(outcome, &mut sink)?;
+    Ok(sink.writer)
+}
+
+// The answer that goes on, where a refusal is the empty list.
+fn answer_of(outcome: Outcome) -> Term {
+    match outcome {
+        Outcome::Served(answer, _) => answer,
+        Outcome::Refused(_, _) => Term::Nil,
+    }
+}
+
+// The body of `main/0`: a call for each line, which carries who calls, the name of the call and its arguments.
+fn body_of(alloc: Global, lines: &[Line]) -> Result<String, Fail> {
+    let mut body = String::new(alloc);
+    for (name, who, call, arguments, _want) in lines {
+        let carrier =
+            format!(in alloc; "call 'ets':'insert'({{{who},'{call}'}},[{arguments}]) ")?;
+        if name.is_empty() {
+            body.push_str("do ")?;
+            body.push_str(carrier.as_str())?;
+        } else {
+            let bound = format!(in alloc; "let <{name}> = {carrier} in ")?;
+            body.push_str(bound.as_str())?;
+        }
+    }
+    body.push_str("'ok'")?;
+    Ok(body)
+}
+
+// The items of a list.
+fn items_of(alloc: Global, list: &Term) -> Result<Terms, AllocError> {
+    let mut items = Terms::new(alloc);
+    let mut rest = list;
+    while let Some(pair) = rest.as_cell() {
+        items.push(pair.head().copy()?)?;
+        rest = pair.tail();
+    }
+    Ok(items)
+}
+
+// The number of the process that calls, and the name of the call.
+fn carried(first: &Term) -> Option<(u64, &str)> {
+    let Term::Tuple(parts) = first else {
+        return None;
+    };
+    match parts.as_slice() {
+        [Term::Int(who), Term::Atom(name)] => Some((who.unsigned_abs(), name.as_str())),
+        _ => None,
+    }
+}
+
+// The process that these arguments number.
+fn numbered(alloc: Global, arguments: &Terms) -> Result<Outcome, AllocError> {
+    let number = match arguments.as_slice() {
+        [Term::Int(number)] => number.unsigned_abs(),
+        _ => 0,
+    };
+    Ok(Outcome::Served(Term::Pid(pid_of(alloc, number)?), None))
+}
+
+impl Scene {
+    // The end of a process: its tables go, and the last of those that are told of one is.
+    fn end(&mut self, alloc: Global, pid: &Pid) -> Result<Outcome, AllocError> {
+        self.living.remove(pid);
+        let mut told = self.tables.owner_ends(alloc, pid, &self.living)?;
+        Ok(Outcome::Served(Term::Nil, told.pop()))
+    }
+
+    // What a line comes to: a call of the table, the process of a number, or an end.
+    fn line(
+        &mut self,
+        alloc: Global,
+        request: u64,
+        first: &Term,
+        second: &Term,
+    ) -> Result<Outcome, AllocError> {
+        let Some((who, name)) = carried(first) else {
+            return Ok(Outcome::Served(Term::Nil, None));
+        };
+        let caller = pid_of(alloc, who)?;
+        let arguments = items_of(alloc, second)?;
+        match (name, CallKind::named("ets", name, arguments.len())) {
+            ("pid", _) => numbered(alloc, &arguments),
+            ("ends", _) => self.end(alloc, &caller),
+            (_, Some(kind)) => self.call(alloc, &caller, request, kind, &arguments),
+            (_, None) => Ok(Outcome::Served(Term::Nil, None)),
+        }
+    }
+
+    // What the call comes to that a machine stands at.
+    fn asked(&mut self, alloc: Global, request: u64, asks: &Request) -> Result<Outcome, AllocError> {
+        if let Request::Call(_kind, arguments) = asks {
+            if let [first, second] = arguments.as_slice() {
+                return self.line(alloc, request, first, second);
+            }
+        }
+        Ok(Outcome::Served(Term::Nil, None))
+    }
+}
+
+// Asserts what each line comes to, one after the other.
+fn lines_happen(
+    rt: &impl Abort,
+    alloc: Global,
+    machine: &mut Machine,
+    lines: &[Line],
+) -> Result<(), Fail> {
+    let mut scene = Scene::new(alloc)?;
+    let mut request: u64 = 0;
+    for (_name, _who, call, _arguments, want) in lines {
+        request = request.saturating_add(1);
+        let outcome = scene.asked(alloc, request, machine.request())?;
+        let text = text_of(alloc, &outcome)?;
+        assert_eq!(rt; text.as_slice(), want.as_bytes(), "{request} {call}");
+        machine.resume(alloc, Answer::Value(answer_of(outcome)))?;
+    }
+    Ok(())
+}
+
+// A machine at the first call of a module.
+fn machine_of<'m>(alloc: Global, program: &'m Module) -> Result<Machine<'m>, AllocError> {
+    let main = Atom::new(alloc, "main")?;
+    let first = pid_of(alloc, 0)?;
+    start(alloc, program, first, &program.name, &main, Terms::new(alloc))
+}
+
+/// Asserts what each of these lines comes to, one after the other, with four processes and no table at first.
+pub(crate) fn happen(rt: &impl Abort, alloc: Global, lines: &[Line]) -> Result<(), Fail> {
+    let body = body_of(alloc, lines)?;
+    let text = format!(in alloc; "module 'm' [] attributes [] 'main'/0 = fun () -> {body} end")?;
+    let program = read_module(alloc, text.as_bytes())?;
+    let mut machine = machine_of(alloc, &program)?;
+    lines_happen(rt, alloc, &mut machine, lines)
+}
