@@ -24,7 +24,7 @@ settings_in t = record {
 -- the same process, and data of the same meaning
 pub record IsSameHeir (a b : Heir) : Type 0 where
   pub pid : b.pid ≡ a.pid
-  pub data : meaning_of b.data ≡ meaning_of a.data
+  pub «data» : meaning_of b.data ≡ meaning_of a.data
 
 -- the same settings, and the same rows
 pub record IsSameTable (a b : Table) : Type 0 where
