@@ -1,5 +1,5 @@
 // Objects: the tuples that tables hold (ets manual, "Description").
-ghost use Rattle.std.specs.Prelude.{◌≡◌, IfOk, map, option_copied};
+ghost use Rattle.std.specs.Prelude.{◌≡◌, IfOk, length, map, option_copied};
 ghost use Rattle.std.specs.Option.{option_map};
 ghost use Rattle.term_core.specs.Term.{meaning_of};
 ghost use Rattle.world_model.specs.Rows.{part_at, same_object, with_part};
@@ -56,6 +56,13 @@ impl Object {
         ensures { IfOk result (λ term. meaning_of term ≡ tuple self.now) }
     {
         Ok(Term::Tuple(Arc::try_clone(&self.0)?))
+    }
+
+    /// How many parts it has. It takes no memory.
+    pub fn len(&self) -> usize
+        ensures { result ≡ length self.now }
+    {
+        self.0.len()
     }
 
     /// Its part at a position, from 1 on, if it is that long. It takes no memory.

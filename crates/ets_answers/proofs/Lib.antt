@@ -1,0 +1,3 @@
+pub mod Behind
+pub mod Lines
+pub mod Left

@@ -1,0 +1,126 @@
+-- The line of a call by the settings and the rows of a table, in place of the contents of cells.
+use Rattle.std.specs.FinMap.{empty, keys}
+use Rattle.std.specs.Prelude.{ℕ, Bool, not, ◌||◌, if◌then◌else◌, Option, Some, None, codes, length}
+use Rattle.term_core.specs.Meaning.{Meaning}
+use Rattle.ets_store.specs.TableRows.{with_objects, without_object, one_has_key, with_new_objects}
+use Rattle.world_model.specs.Calls.{TableCall, Increment, Lookup, Member, LookupElement, First, Last, Next, Prev, ToList, Insert, InsertNew, DeleteTable, DeleteKey, DeleteObject, DeleteAll, Take, UpdateCounter, UpdateElement, GiveAway, SetOptions, Info, has_items}
+use Rattle.world_model.specs.Ends.{heir_pid}
+use Rattle.world_model.specs.Names.{Pid}
+use Rattle.world_model.specs.Objects.{given, objects_rule, one_object, element_rule, element_answer, counter_rule, sum_of, place_of, update_rule}
+use Rattle.world_model.specs.Owning.{gift_rule, heirs_rule}
+use Rattle.world_model.specs.Rows as rows
+use Rattle.world_model.specs.Rows.{Key, Object, rows_rewritten, Clears, Alters, tuples, under, all_objects}
+use Rattle.world_model.specs.Signals.{first_of}
+use Rattle.world_model.specs.Tables as tables
+use Rattle.world_model.specs.Tables.{is_ordered}
+use Rattle.world_model.specs.Terms.{atom, ok, process, number, process_or, truth}
+use Rattle.world_model.specs.Walks.{item_rule, key_or_end, last_key, key_after, key_before, kind_name, protection_name}
+use Rattle.world_model.specs.declared.rule.Rule.{Rule}
+use Rattle.world_model.specs.declared.rule.Rule.TheVariants.{DeadTarget, NoKey}
+use Rattle.world_model.specs.declared.table.Item.{Item}
+use Rattle.world_model.specs.declared.table.Item.TheVariants as items
+use Rattle.world_model.specs.declared.table.Kind.{Kind}
+
+-- ---- the rule
+
+-- a key that has no objects is not there
+abbrev pub held_walk : Kind → Key → rows.Rows → Option Rule
+held_walk kind key all = if is_ordered kind || has_items (under all key) then None else Some NoKey
+
+abbrev pub held_target : tables.Table → (Pid → Bool) → Option Pid → Option Rule
+held_target t lives None = Some DeadTarget
+held_target t lives (Some to) = gift_rule t to (lives to)
+
+abbrev pub held_rule : tables.Table → rows.Rows → (Pid → Bool) → TableCall → Option Rule
+held_rule t all lives (Lookup key) = None
+held_rule t all lives (Member key) = None
+held_rule t all lives (LookupElement key position) = element_rule position (under all key)
+held_rule t all lives First = None
+held_rule t all lives Last = None
+held_rule t all lives (Next key) = held_walk t.kind key all
+held_rule t all lives (Prev key) = held_walk t.kind key all
+held_rule t all lives ToList = None
+held_rule t all lives (Insert objects) = objects_rule t.position objects
+held_rule t all lives (InsertNew objects) = objects_rule t.position objects
+held_rule t all lives DeleteTable = None
+held_rule t all lives (DeleteKey key) = None
+held_rule t all lives (DeleteObject object) = objects_rule t.position (one_object object)
+held_rule t all lives DeleteAll = None
+held_rule t all lives (Take key) = None
+held_rule t all lives (UpdateCounter key increment) = counter_rule t increment (under all key)
+held_rule t all lives (UpdateElement key change) = update_rule t change (under all key)
+held_rule t all lives (GiveAway to gift) = held_target t lives to
+held_rule t all lives (SetOptions heirs) = heirs_rule heirs
+held_rule t all lives (Info item) = item_rule item
+
+-- the rule of a counter, where the call is one
+abbrev pub held_counter : tables.Table → rows.Rows → TableCall → Option Rule
+held_counter t all (UpdateCounter key increment) = counter_rule t increment (under all key)
+held_counter t all call = None
+
+-- ---- the answer
+
+abbrev pub held_item : tables.Table → rows.Rows → Option Item → Meaning
+held_item t all None = ok
+held_item t all (Some items.Name) = atom t.name
+held_item t all (Some items.Type) = atom (kind_name t.kind)
+held_item t all (Some items.Protection) = atom (protection_name t.protection)
+held_item t all (Some items.Owner) = process t.owner
+held_item t all (Some items.Size) = number (length (all_objects all))
+held_item t all (Some items.Position) = number t.position
+held_item t all (Some items.Heir) = process_or (codes "none") (heir_pid t.heir)
+held_item t all (Some items.NamedTable) = truth t.is_named
+
+abbrev pub held_answer : tables.Table → rows.Rows → TableCall → Meaning
+held_answer t all (Lookup key) = tuples (under all key)
+held_answer t all (Member key) = truth (has_items (under all key))
+held_answer t all (LookupElement key position) = element_answer t.kind position (under all key)
+held_answer t all First = key_or_end (first_of (keys all))
+held_answer t all Last = key_or_end (last_key t.kind all)
+held_answer t all (Next key) = key_or_end (key_after key all)
+held_answer t all (Prev key) = key_or_end (key_before t.kind key all)
+held_answer t all ToList = tuples (all_objects all)
+held_answer t all (Insert objects) = ok
+held_answer t all (InsertNew objects) = truth (not (one_has_key t.position (given objects) all))
+held_answer t all DeleteTable = ok
+held_answer t all (DeleteKey key) = ok
+held_answer t all (DeleteObject object) = ok
+held_answer t all DeleteAll = ok
+held_answer t all (Take key) = tuples (under all key)
+held_answer t all (UpdateCounter key increment) = sum_of t increment (under all key)
+held_answer t all (UpdateElement key change) = truth (has_items (under all key))
+held_answer t all (GiveAway to gift) = ok
+held_answer t all (SetOptions heirs) = ok
+held_answer t all (Info item) = held_item t all item
+
+-- ---- the rows after it
+
+abbrev pub without_one : ℕ → Option Object → rows.Rows → rows.Rows
+without_one position None all = all
+without_one position (Some object) all = without_object position object all
+
+abbrev pub altered_at : Key → Option (ℕ × Meaning) → rows.Rows → rows.Rows
+altered_at key None all = all
+altered_at key (Some change) all = rows_rewritten key (Alters change.0 change.1) all
+
+abbrev pub held_rows : tables.Table → rows.Rows → TableCall → rows.Rows
+held_rows t all (Lookup key) = all
+held_rows t all (Member key) = all
+held_rows t all (LookupElement key position) = all
+held_rows t all First = all
+held_rows t all Last = all
+held_rows t all (Next key) = all
+held_rows t all (Prev key) = all
+held_rows t all ToList = all
+held_rows t all (Insert objects) = with_objects t.kind t.position (given objects) all
+held_rows t all (InsertNew objects) = with_new_objects t.kind t.position (given objects) all
+held_rows t all DeleteTable = all
+held_rows t all (DeleteKey key) = rows_rewritten key Clears all
+held_rows t all (DeleteObject object) = without_one t.position object all
+held_rows t all DeleteAll = empty
+held_rows t all (Take key) = rows_rewritten key Clears all
+held_rows t all (UpdateCounter key increment) = rows_rewritten key (Alters (place_of t.position increment) (sum_of t increment (under all key))) all
+held_rows t all (UpdateElement key change) = altered_at key change all
+held_rows t all (GiveAway to gift) = all
+held_rows t all (SetOptions heirs) = all
+held_rows t all (Info item) = all

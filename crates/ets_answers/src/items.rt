@@ -1,0 +1,100 @@
+// What is told of a table (ets manual, `info/2`), and the terms that answers are made of.
+ghost use Rattle.std.specs.Prelude.{◌≡◌, IfOk, length, option_map, option_copied};
+ghost use Rattle.ets_answers.specs.inside.Held.{held_item};
+ghost use Rattle.ets_store.specs.Tables.{settings_in, heir_in};
+ghost use Rattle.term_core.specs.Term.{meaning_of};
+ghost use Rattle.world_model.specs.Ends.{heir_pid};
+ghost use Rattle.world_model.specs.Rows.{all_objects};
+ghost use Rattle.world_model.specs.Terms.{atom, process_or, truth, number};
+ghost use Rattle.world_model.specs.Walks.{kind_name, protection_name};
+ghost use Rattle.std.specs.Prelude.{codes};
+
+use ets_store::{Heir, Table};
+use std::alloc::{AllocError, Global};
+use term_core::{Term, Word};
+use world_model::table::{Item, Kind, Protection};
+
+/// The boolean as a term. It takes no memory.
+pub(crate) fn truth(holds: bool) -> Term
+    ensures { meaning_of result ≡ truth holds }
+{
+    if holds {
+        return Term::word(Word::True);
+    }
+    Term::word(Word::False)
+}
+
+// The name of a kind.
+fn kind_name(kind: Kind) -> &'static str
+    ensures { result.now ≡ kind_name kind }
+{
+    match kind {
+        Kind::Set => "set",
+        Kind::OrderedSet => "ordered_set",
+        Kind::Bag => "bag",
+        Kind::DuplicateBag => "duplicate_bag",
+    }
+}
+
+// The name of a protection.
+fn protection_name(protection: Protection) -> &'static str
+    ensures { result.now ≡ protection_name protection }
+{
+    match protection {
+        Protection::Public => "public",
+        Protection::Protected => "protected",
+        Protection::Private => "private",
+    }
+}
+
+// A number as a term, or `AllocError` where it has more than the 63 bits of an integer: no memory has that many
+// objects.
+fn number(count: u64) -> Result<Term, AllocError>
+    ensures { IfOk result (λ term. meaning_of term ≡ number count) }
+{
+    match i64::try_from(count) {
+        Ok(count) => Ok(Term::Int(count)),
+        Err(_) => Err(AllocError),
+    }
+}
+
+// The pid of an heir, or the atom `none`.
+fn heir_or_none(alloc: Global, heir: &Option<Heir>) -> Result<Term, AllocError>
+    ensures { IfOk result (λ term. meaning_of term ≡ process_or (codes "none") (heir_pid (heir_in heir.now))) }
+{
+    match heir {
+        Some(heir) => Ok(Term::Pid(heir.pid.copy()?)),
+        None => Term::atom(alloc, "none"),
+    }
+}
+
+// How many objects a table has.
+fn size(table: &Table) -> Result<Term, AllocError>
+    ensures { IfOk result (λ term. meaning_of term ≡ number (length (all_objects table.now.rows.rows))) }
+{
+    number(table.rows.size())
+}
+
+/// What is told of a table under an item, or `AllocError` if there is no memory for it, or it is a number of more
+/// than 63 bits. Without an item it is `'true'`.
+pub(crate) fn item_answer(
+    table: &Table,
+    alloc: Global,
+    item: Option<Item>,
+) -> Result<Term, AllocError>
+    ensures { IfOk result (λ answer. meaning_of answer ≡ held_item (settings_in table.now) table.now.rows.rows item) }
+{
+    let Some(item) = item else {
+        return Ok(truth(true));
+    };
+    match item {
+        Item::Name => Ok(Term::Atom(table.name.copy()?)),
+        Item::Type => Term::atom(alloc, kind_name(table.kind())),
+        Item::Protection => Term::atom(alloc, protection_name(table.protection)),
+        Item::Owner => Ok(Term::Pid(table.owner.copy()?)),
+        Item::Size => size(table),
+        Item::Position => number(table.position() as u64),
+        Item::Heir => heir_or_none(alloc, &table.heir),
+        Item::NamedTable => Ok(truth(table.is_named)),
+    }
+}

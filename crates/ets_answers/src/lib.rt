@@ -1,0 +1,15 @@
+// What a call does at a table that is found: the rule that refuses its arguments, its answer, and what it writes
+// into the rows.
+#![tactic(auto)]
+
+pub mod answers;
+pub mod counters;
+pub mod items;
+pub mod judging;
+pub mod rules;
+pub mod writes;
+
+pub use answers::answer;
+pub use judging::argument_rule;
+pub use rules::{caller_rule, class_of, rule_of_none};
+pub use writes::write;

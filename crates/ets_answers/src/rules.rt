@@ -1,0 +1,290 @@
+// Who may call, and the rules of the arguments, each for the line of its call (ets manual). None takes memory.
+ghost use Rattle.std.specs.BTreeSet.{contains};
+ghost use Rattle.std.specs.List.{list_any};
+ghost use Rattle.std.specs.Prelude.{◌≡◌, false, map, option_map};
+ghost use Rattle.ets_answers.specs.inside.Held.{held_target, held_walk};
+ghost use Rattle.ets_calls.specs.Arguments.{change_in};
+ghost use Rattle.ets_calls.specs.Calls.{call_in};
+ghost use Rattle.ets_store.specs.Tables.{settings_in, heir_in};
+ghost use Rattle.term_core.specs.Order.{order_of_lists};
+ghost use Rattle.term_core.specs.Term.{meaning_of};
+ghost use Rattle.world_model.specs.Found.{class_of, allowed, rule_of_none};
+ghost use Rattle.world_model.specs.Names.{same_pid};
+ghost use Rattle.world_model.specs.Objects.{objects_rule, one_object, place_rule, element_rule, is_key_or_none, change_rule, update_rule};
+ghost use Rattle.world_model.specs.Owning.{gift_rule, heirs_rule};
+ghost use Rattle.world_model.specs.Rows.{is_short, under};
+ghost use Rattle.world_model.specs.Tables.{is_bag, is_ordered};
+ghost use Rattle.world_model.specs.Walks.{item_rule};
+ghost use Rattle.world_model.specs.declared.table.Class.TheVariants.{Read, Write};
+
+use ets_calls::TableCall;
+use ets_store::{Heir, Object, Table};
+use std::collections::BTreeSet;
+use term_core::{Pid, Term};
+use world_model::rule::Rule;
+use world_model::table::{Class, Item, Kind, Protection};
+
+/// What a call does with its table, by which it is known who may call (ets manual, "Table Access Control"). It
+/// takes no memory.
+pub fn class_of(call: &TableCall) -> Class
+    ensures { result ≡ class_of (call_in call.now) }
+{
+    match call {
+        TableCall::Lookup(_) => Class::Read,
+        TableCall::Member(_) => Class::Read,
+        TableCall::LookupElement(_, _) => Class::Read,
+        TableCall::First => Class::Read,
+        TableCall::Last => Class::Read,
+        TableCall::Next(_) => Class::Read,
+        TableCall::Prev(_) => Class::Read,
+        TableCall::ToList => Class::Read,
+        TableCall::Insert(_) => Class::Write,
+        TableCall::InsertNew(_) => Class::Write,
+        TableCall::DeleteTable => Class::Write,
+        TableCall::DeleteKey(_) => Class::Write,
+        TableCall::DeleteObject(_) => Class::Write,
+        TableCall::DeleteAll => Class::Write,
+        TableCall::Take(_) => Class::Write,
+        TableCall::UpdateCounter(_, _) => Class::Write,
+        TableCall::UpdateElement(_, _) => Class::Write,
+        TableCall::GiveAway(_, _) => Class::Owners,
+        TableCall::SetOptions(_) => Class::Owners,
+        TableCall::Info(_) => Class::Open,
+    }
+}
+
+/// The rule that refuses a call of this class where no table is found: all but those that are for every
+/// process. It takes no memory.
+pub fn rule_of_none(class: Class) -> Option<Rule>
+    ensures { result ≡ rule_of_none class }
+{
+    match class {
+        Class::Read => Some(Rule::NoTable),
+        Class::Write => Some(Rule::NoTable),
+        Class::Owners => Some(Rule::NoTable),
+        Class::Open => None,
+    }
+}
+
+// The rule that refuses a reader that does not own the table.
+fn reader_rule(protection: Protection) -> Option<Rule>
+    ensures { result ≡ allowed Read protection false }
+{
+    match protection {
+        Protection::Private => Some(Rule::PrivateRead),
+        Protection::Protected => None,
+        Protection::Public => None,
+    }
+}
+
+// The rule that refuses a writer that does not own the table.
+fn writer_rule(protection: Protection) -> Option<Rule>
+    ensures { result ≡ allowed Write protection false }
+{
+    match protection {
+        Protection::Private => Some(Rule::PrivateWrite),
+        Protection::Protected => Some(Rule::ProtectedWrite),
+        Protection::Public => None,
+    }
+}
+
+/// The rule that refuses a call of this class by a process, by the protection of the table and its owner, if
+/// one does (ets manual, "Table Access Control"). It takes no memory.
+pub fn caller_rule(class: Class, table: &Table, caller: &Pid) -> Option<Rule>
+    ensures { result ≡ allowed class (settings_in table.now).protection (same_pid (settings_in table.now).owner caller.now) }
+{
+    if table.owner == *caller {
+        return None;
+    }
+    match class {
+        Class::Open => None,
+        Class::Owners => Some(Rule::NotOwner),
+        Class::Read => reader_rule(table.protection),
+        Class::Write => writer_rule(table.protection),
+    }
+}
+
+// Whether an object has no part at a position.
+fn is_short(position: usize, object: &Object) -> bool
+    ensures { result ≡ is_short position object.now }
+{
+    match object.part(position) {
+        Some(_) => false,
+        None => true,
+    }
+}
+
+// Whether one of these objects has no part at a position.
+fn has_short(position: usize, objects: &[Object]) -> bool
+    ensures { result ≡ list_any (is_short position) objects.now }
+{
+    for object in objects {
+        if is_short(position, object) {
+            return true;
+        }
+    }
+    false
+}
+
+/// The rule that refuses objects to be put in where keys have this position: they are none, or one is too short
+/// to have a key (ets manual, `insert/2`).
+pub(crate) fn objects_rule(position: usize, objects: &Option<Vec<Object>>) -> Option<Rule>
+    ensures { result ≡ objects_rule position (option_map (λ os. os.items) objects.now) }
+{
+    let Some(objects) = objects else {
+        return Some(Rule::NotObject);
+    };
+    if has_short(position, objects.as_slice()) {
+        return Some(Rule::ShortObject);
+    }
+    None
+}
+
+/// The rule that refuses an object to be taken out: it is none, or too short to have a key (ets manual,
+/// `delete_object/2`).
+pub(crate) fn object_rule(position: usize, object: &Option<Object>) -> Option<Rule>
+    ensures { result ≡ objects_rule position (one_object object.now) }
+{
+    let Some(object) = object else {
+        return Some(Rule::NotObject);
+    };
+    if is_short(position, object) {
+        return Some(Rule::ShortObject);
+    }
+    None
+}
+
+// The rule that refuses a position where one of the objects has no part.
+fn place_rule(position: usize, there: &[Object]) -> Option<Rule>
+    ensures { result ≡ place_rule position there.now }
+{
+    if has_short(position, there) {
+        return Some(Rule::BadPosition);
+    }
+    None
+}
+
+/// The rule that refuses `lookup_element/3`: the position is none, no object is there, or one is too short.
+pub(crate) fn element_rule(position: Option<usize>, there: &[Object]) -> Option<Rule>
+    ensures { result ≡ element_rule position there.now }
+{
+    let Some(position) = position else {
+        return Some(Rule::BadPosition);
+    };
+    if there.is_empty() {
+        return Some(Rule::NoKey);
+    }
+    place_rule(position, there)
+}
+
+/// Whether a table of this kind may have several objects under a key.
+pub(crate) fn is_bag(kind: Kind) -> bool
+    ensures { result ≡ is_bag kind }
+{
+    match kind {
+        Kind::Set => false,
+        Kind::OrderedSet => false,
+        Kind::Bag => true,
+        Kind::DuplicateBag => true,
+    }
+}
+
+// Whether walks over a table of this kind go by the order of keys.
+fn is_ordered(kind: Kind) -> bool
+    ensures { result ≡ is_ordered kind }
+{
+    match kind {
+        Kind::Set => false,
+        Kind::OrderedSet => true,
+        Kind::Bag => false,
+        Kind::DuplicateBag => false,
+    }
+}
+
+/// The rule that refuses `next/2` and `prev/2`: but in an ordered_set the key that they go on from is not
+/// there.
+pub(crate) fn walk_rule(table: &Table, key: &Term) -> Option<Rule>
+    ensures { result ≡ held_walk (settings_in table.now).kind (meaning_of key.now) table.now.rows.rows }
+{
+    if is_ordered(table.kind()) {
+        return None;
+    }
+    if table.rows.has_key(key) {
+        return None;
+    }
+    Some(Rule::NoKey)
+}
+
+/// Whether a position is none that may be written: 0, or that of the key.
+pub(crate) fn is_key_or_none(key: usize, position: usize) -> bool
+    ensures { result ≡ is_key_or_none key position }
+{
+    position == 0 || position == key
+}
+
+// The rule that refuses a change of an element where keys have a position: it is no change, or at no position
+// that may be written, or an object there is too short.
+fn change_rule(key: usize, change: &Option<(usize, Term)>, there: &[Object]) -> Option<Rule>
+    ensures { result ≡ change_rule key (change_in change.now) there.now }
+{
+    let Some((position, _)) = change else {
+        return Some(Rule::BadPosition);
+    };
+    if is_key_or_none(key, *position) {
+        return Some(Rule::BadPosition);
+    }
+    place_rule(*position, there)
+}
+
+/// The rule that refuses `update_element/3`: the table is a bag, or the change is refused.
+pub(crate) fn update_rule(table: &Table, key: &Term, change: &Option<(usize, Term)>) -> Option<Rule>
+    ensures { result ≡ update_rule (settings_in table.now) (change_in change.now) (under table.now.rows.rows (meaning_of key.now)) }
+{
+    if is_bag(table.kind()) {
+        return Some(Rule::BagRefused);
+    }
+    change_rule(table.position(), change, table.rows.objects(key))
+}
+
+// The rule that refuses a process that is given a table: it is not alive, or the owner.
+fn gift_rule(table: &Table, to: &Pid, living: &BTreeSet<Pid>) -> Option<Rule>
+    ensures { result ≡ gift_rule (settings_in table.now) to.now (contains order_of_lists living.now to.now) }
+{
+    if !living.contains(to) {
+        return Some(Rule::DeadTarget);
+    }
+    if *to == table.owner {
+        return Some(Rule::OwnTarget);
+    }
+    None
+}
+
+/// The rule that refuses `give_away/3`: the new owner is none, not alive, or the owner.
+pub(crate) fn target_rule(table: &Table, to: &Option<Pid>, living: &BTreeSet<Pid>) -> Option<Rule>
+    ensures { result ≡ held_target (settings_in table.now) (contains order_of_lists living.now) to.now }
+{
+    match to {
+        Some(to) => gift_rule(table, to, living),
+        None => Some(Rule::DeadTarget),
+    }
+}
+
+/// The rule that refuses `setopts/2`: the options are no heirs.
+pub(crate) fn heirs_rule(heirs: &Option<Vec<Option<Heir>>>) -> Option<Rule>
+    ensures { result ≡ heirs_rule (option_map (λ hs. map heir_in hs.items) heirs.now) }
+{
+    match heirs {
+        Some(_) => None,
+        None => Some(Rule::BadOption),
+    }
+}
+
+/// The rule that refuses `info/2`: there is no such item.
+pub(crate) fn item_rule(item: Option<Item>) -> Option<Rule>
+    ensures { result ≡ item_rule item }
+{
+    match item {
+        Some(_) => None,
+        None => Some(Rule::BadItem),
+    }
+}
