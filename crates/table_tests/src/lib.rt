@@ -4,8 +4,6 @@
 #[cfg(test)]
 mod calls;
 #[cfg(test)]
-mod many_rows;
-#[cfg(test)]
 mod owners;
 #[cfg(test)]
 mod refusals;

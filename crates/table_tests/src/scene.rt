@@ -17,8 +17,8 @@ use term_core::{
 use world_model::rule::Rule;
 
 /// A line: the name that its answer gets, if any; the number of the process that calls, where 0 is the first; the
-/// name of the call; its arguments; and what it comes to. `pid` is answered by the process of a number, and `ends`
-/// ends the process.
+/// name of the call; its arguments; and what it comes to. `pid` is answered by the process of a number, `ref` by a
+/// reference of nothing, and `ends` ends the process.
 pub(crate) type Line = (
     &'static str,
     u64,
@@ -27,10 +27,10 @@ pub(crate) type Line = (
     &'static str,
 );
 
-// What a call came to: its answer, with what another process is told, or its rule, with the owner that is told.
+// What a call came to: its answer, with what other processes are told, or its rule, with the owner that is told.
 #[derive(Drop)]
 enum Outcome {
-    Served(Term, Option<Transfer>),
+    Served(Term, Vec<Transfer>),
     Refused(Rule, Option<Pid>),
 }
 
@@ -48,6 +48,20 @@ fn pid_of(alloc: Global, number: u64) -> Result<Pid, AllocError> {
         numbers.push(number)?;
     }
     Pid::new(alloc, numbers)
+}
+
+// An answer of which nobody else is told.
+fn served(alloc: Global, answer: Term) -> Result<Outcome, AllocError> {
+    Ok(Outcome::Served(answer, Vec::new(alloc)))
+}
+
+// What is told, as a list.
+fn told_by(alloc: Global, transfer: Option<Transfer>) -> Result<Vec<Transfer>, AllocError> {
+    let mut told = Vec::new(alloc);
+    if let Some(transfer) = transfer {
+        told.push(transfer)?;
+    }
+    Ok(told)
 }
 
 impl Scene {
@@ -84,7 +98,7 @@ impl Scene {
             Some(rule) => self.refused(argument, rule),
             None => {
                 let done = self.tables.apply(alloc, argument, call)?;
-                Ok(Outcome::Served(done.answer, done.transfer))
+                Ok(Outcome::Served(done.answer, told_by(alloc, done.transfer)?))
             }
         }
     }
@@ -109,7 +123,7 @@ impl Scene {
             }
             _ => Term::Nil,
         };
-        Ok(Outcome::Served(answer, None))
+        served(alloc, answer)
     }
 
     // A call of this process, its request of this number.
@@ -128,19 +142,22 @@ impl Scene {
             TableRequest::New(name, options) => {
                 self.new_table(alloc, caller, request, &name, &options)
             }
-            TableRequest::Other => Ok(Outcome::Served(Term::Nil, None)),
+            TableRequest::Other => served(alloc, Term::Nil),
         }
     }
 }
 
-// What a process is told when a table comes to it.
-fn write_transfer(transfer: &Transfer, sink: &mut Output<Vec<u8>>) -> Result<(), WriteFault>
+// What processes are told when tables come to them.
+fn write_transfers(told: &[Transfer], sink: &mut Output<Vec<u8>>) -> Result<(), WriteFault>
     requires { sink.old.has_failed ≡ false }
 {
-    write_all(sink, b", ")?;
-    write_pid(&transfer.to, sink)?;
-    write_all(sink, b" gets ")?;
-    write_term(&transfer.message, sink)
+    for transfer in told {
+        write_all(sink, b", ")?;
+        write_pid(&transfer.to, sink)?;
+        write_all(sink, b" gets ")?;
+        write_term(&transfer.message, sink)?;
+    }
+    Ok(())
 }
 
 // What a call came to, as text.
@@ -148,10 +165,9 @@ fn write_outcome(outcome: &Outcome, sink: &mut Output<Vec<u8>>) -> Result<(), Wr
     requires { sink.old.has_failed ≡ false }
 {
     match outcome {
-        Outcome::Served(answer, None) => write_term(answer, sink),
-        Outcome::Served(answer, Some(transfer)) => {
+        Outcome::Served(answer, told) => {
             write_term(answer, sink)?;
-            write_transfer(transfer, sink)
+            write_transfers(told.as_slice(), sink)
         }
         Outcome::Refused(rule, None) => write_number(u64::from(*rule as u8), sink),
         Outcome::Refused(rule, Some(owner)) => {
@@ -223,15 +239,21 @@ fn numbered(alloc: Global, arguments: &Terms) -> Result<Outcome, AllocError> {
         [Term::Int(number)] => number.unsigned_abs(),
         _ => 0,
     };
-    Ok(Outcome::Served(Term::Pid(pid_of(alloc, number)?), None))
+    served(alloc, Term::Pid(pid_of(alloc, number)?))
+}
+
+// A reference that is no table's.
+fn referred(alloc: Global, caller: Pid, request: u64) -> Result<Outcome, AllocError> {
+    let reference = RefId::new(alloc, caller, request)?;
+    served(alloc, Term::Ref(reference))
 }
 
 impl Scene {
-    // The end of a process: its tables go, and the last of those that are told of one is.
+    // The end of a process: its tables go.
     fn end(&mut self, alloc: Global, pid: &Pid) -> Result<Outcome, AllocError> {
         self.living.remove(pid);
-        let mut told = self.tables.owner_ends(alloc, pid, &self.living)?;
-        Ok(Outcome::Served(Term::Nil, told.pop()))
+        let told = self.tables.owner_ends(alloc, pid, &self.living)?;
+        Ok(Outcome::Served(Term::Nil, told))
     }
 
     // What a line comes to: a call of the table, the process of a number, or an end.
@@ -243,15 +265,16 @@ impl Scene {
         second: &Term,
     ) -> Result<Outcome, AllocError> {
         let Some((who, name)) = carried(first) else {
-            return Ok(Outcome::Served(Term::Nil, None));
+            return served(alloc, Term::Nil);
         };
         let caller = pid_of(alloc, who)?;
         let arguments = items_of(alloc, second)?;
         match (name, CallKind::named("ets", name, arguments.len())) {
             ("pid", _) => numbered(alloc, &arguments),
+            ("ref", _) => referred(alloc, caller, request),
             ("ends", _) => self.end(alloc, &caller),
             (_, Some(kind)) => self.call(alloc, &caller, request, kind, &arguments),
-            (_, None) => Ok(Outcome::Served(Term::Nil, None)),
+            (_, None) => served(alloc, Term::Nil),
         }
     }
 
@@ -262,7 +285,7 @@ impl Scene {
                 return self.line(alloc, request, first, second);
             }
         }
-        Ok(Outcome::Served(Term::Nil, None))
+        served(alloc, Term::Nil)
     }
 }
 
