@@ -11,8 +11,8 @@ use Rattle.ets_store.specs.TableRows.{one_has_key}
 use Rattle.ets_store.specs.Tables.{settings_in}
 use Rattle.ets_store.specs.declared.table.Table.{Table}
 use Rattle.ets_store.proofs.CellWrites.{are_present}
-use Rattle.world_model.specs.Calls.{TableCall, Increment, Lookup, Member, LookupElement, First, Last, Next, Prev, ToList, Insert, InsertNew, DeleteTable, DeleteKey, DeleteObject, DeleteAll, Take, UpdateCounter, UpdateElement, GiveAway, SetOptions, Info, has_items}
-use Rattle.world_model.specs.Cells.{Contents, Alive, Row, Rows}
+use Rattle.world_model.specs.Calls.{TableCall, Lookup, Member, LookupElement, First, Last, Next, Prev, ToList, InsertNew, Take, UpdateCounter, UpdateElement, GiveAway, Info, has_items}
+use Rattle.world_model.specs.Cells.{Contents, Row, Rows}
 use Rattle.world_model.specs.Found.{allowed_at}
 use Rattle.world_model.specs.Names.{Pid, Ref}
 use Rattle.world_model.specs.Objects.{given, objects_rule, element_rule, element_answer, counter_rule, sum_of, update_rule, keys_asked, unless_refused, one_present}

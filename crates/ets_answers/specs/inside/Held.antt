@@ -3,7 +3,7 @@ use Rattle.std.specs.FinMap.{empty, keys}
 use Rattle.std.specs.Prelude.{ℕ, Bool, not, ◌||◌, if◌then◌else◌, List, [], ◌∷◌, Option, Some, None, codes, length}
 use Rattle.term_core.specs.Meaning.{Meaning}
 use Rattle.ets_store.specs.TableRows.{with_objects, without_object, one_has_key, with_new_objects}
-use Rattle.world_model.specs.Calls.{TableCall, Increment, Lookup, Member, LookupElement, First, Last, Next, Prev, ToList, Insert, InsertNew, DeleteTable, DeleteKey, DeleteObject, DeleteAll, Take, UpdateCounter, UpdateElement, GiveAway, SetOptions, Info, has_items}
+use Rattle.world_model.specs.Calls.{TableCall, Lookup, Member, LookupElement, First, Last, Next, Prev, ToList, Insert, InsertNew, DeleteTable, DeleteKey, DeleteObject, DeleteAll, Take, UpdateCounter, UpdateElement, GiveAway, SetOptions, Info, has_items}
 use Rattle.world_model.specs.Ends.{heir_pid}
 use Rattle.world_model.specs.Names.{Pid}
 use Rattle.world_model.specs.Objects.{given, objects_rule, one_object, element_rule, element_answer, counter_rule, sum_of, place_of, update_rule}
