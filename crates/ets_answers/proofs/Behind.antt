@@ -2,7 +2,6 @@
 use Rattle.std.proofs.Common.{◌≡◌, Bool, true, false, ◌||◌, if◌then◌else◌, ◌==◌, ℕ, ◌+◌, ◌-◌, ◌<◌, ◌≤◌, List, [], ◌∷◌, suc, length, get_or, drop, drop-cons, add-one, Some, None, refl, sym, ap, ◌∙◌, arith}
 use Rattle.std.specs.List.{cons_option}
 use Rattle.std.proofs.lemmas.Bool.{eqb-true}
-use Rattle.term_core.specs.Meaning.{Meaning}
 use Rattle.world_model.specs.Objects.{is_key_or_none}
 use Rattle.world_model.specs.Rows.{Object, part_at, parts_at}
 use Rattle.world_model.specs.Signals.{first_of}

@@ -1,5 +1,5 @@
 -- What a call leaves in the rows of its table.
-use Rattle.std.proofs.Common.{◌≡◌, Bool, true, false, ◌&&◌, cond, inl, inr, if◌then◌else◌, IsTrue, List, [], ◌∷◌, map, Option, Some, None, refl, sym, ap, ◌∙◌}
+use Rattle.std.proofs.Common.{◌≡◌, Bool, true, false, ◌&&◌, cond, inl, inr, if◌then◌else◌, IsTrue, List, [], ◌∷◌, map, Some, None, refl, sym, ap, ◌∙◌}
 use Rattle.std.specs.FinMap.{empty, get, get-empty}
 use Rattle.term_core.specs.Order.{order_of_terms}
 use Rattle.ets_answers.specs.At.{found_at, HoldsRows, keeps_table}
@@ -9,12 +9,12 @@ use Rattle.ets_store.specs.TableRows.{with_objects, one_has_key}
 use Rattle.ets_store.specs.Tables.{settings_in}
 use Rattle.ets_store.specs.declared.table.Table.{Table}
 use Rattle.ets_store.proofs.CellWrites.{are_stored, are_removed, are_written, are_wiped}
-use Rattle.world_model.specs.Calls.{TableCall, Lookup, Member, LookupElement, First, Last, Next, Prev, ToList, Insert, InsertNew, DeleteTable, DeleteKey, DeleteObject, DeleteAll, Take, UpdateCounter, UpdateElement, GiveAway, SetOptions, Info}
+use Rattle.world_model.specs.Calls.{TableCall, Insert, InsertNew, DeleteTable, DeleteKey, DeleteObject, DeleteAll, Take, UpdateCounter, UpdateElement, GiveAway, SetOptions}
 use Rattle.world_model.specs.Cells.{Contents, Row, Rows, Table as TableCell, meet}
 use Rattle.world_model.specs.Changes.{Change, after, changed, Writes, Wipes, Touches, Inherits}
 use Rattle.world_model.specs.Found.{Found, allowed_at}
 use Rattle.world_model.specs.Names.{Pid, Ref, same_ref}
-use Rattle.world_model.specs.Objects.{given, stores, removes, sum_of, place_of}
+use Rattle.world_model.specs.Objects.{given, stores, sum_of, place_of}
 use Rattle.world_model.specs.Owning.{heirs_set}
 use Rattle.world_model.specs.Rows as rows
 use Rattle.world_model.specs.Rows.{Key, Object, RowChange, Alters, Clears, rewritten, rows_rewritten, same_key, some_if, under, listed}

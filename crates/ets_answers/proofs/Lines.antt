@@ -1,23 +1,24 @@
 -- The line of a call at a table that holds its rows.
-use Rattle.std.proofs.Common.{◌≡◌, ◌||◌, if◌then◌else◌, not, List, [], ◌∷◌, Option, Some, None, refl, sym, ap, ◌∙◌}
+use Rattle.std.proofs.Common.{◌≡◌, ◌||◌, if◌then◌else◌, not, List, [], ◌∷◌, Option, Some, None, Result, Ok, Err, IfOk, refl, sym, ap, ◌∙◌}
 use Rattle.std.specs.BTreeSet.{BTreeSet, contains}
 use Rattle.std.specs.FinMap.{keys, contains_key}
 use Rattle.std.specs.Option.{option_or}
 use Rattle.std.specs.Prelude.{ℕ, length, is_some}
 use Rattle.term_core.specs.Order.{order_of_lists}
 use Rattle.ets_answers.specs.At.{found_at, HoldsRows, AreAlive}
-use Rattle.ets_answers.specs.inside.Held.{held_rule, held_target, held_walk, held_counter, held_item, held_answer}
+use Rattle.ets_answers.specs.inside.Held.{held_rule, held_target, held_walk, held_counter, held_item, held_answer, held_written}
 use Rattle.ets_store.specs.TableRows.{one_has_key}
 use Rattle.ets_store.specs.Tables.{settings_in}
 use Rattle.ets_store.specs.declared.table.Table.{Table}
 use Rattle.ets_store.proofs.CellWrites.{are_present}
-use Rattle.world_model.specs.Calls.{TableCall, Increment, Lookup, Member, LookupElement, First, Last, Next, Prev, ToList, Insert, InsertNew, DeleteTable, DeleteKey, DeleteObject, DeleteAll, Take, UpdateCounter, UpdateElement, GiveAway, SetOptions, Info, has_items}
-use Rattle.world_model.specs.Cells.{Contents, Alive, Row, Rows}
+use Rattle.world_model.specs.Calls.{TableCall, Lookup, Member, LookupElement, First, Last, Next, Prev, ToList, InsertNew, Take, UpdateCounter, UpdateElement, GiveAway, Info, has_items}
+use Rattle.world_model.specs.Cells.{Contents, Row, Rows}
 use Rattle.world_model.specs.Found.{allowed_at}
 use Rattle.world_model.specs.Names.{Pid, Ref}
 use Rattle.world_model.specs.Objects.{given, objects_rule, element_rule, element_answer, counter_rule, sum_of, update_rule, keys_asked, unless_refused, one_present}
 use Rattle.world_model.specs.Owning.{gift_rule, target_rule}
 use Rattle.world_model.specs.Rows.{Key, Object, tuples, parts_at, under, listed, some_if, all_objects}
+use Rattle.world_model.specs.RowsLeft.{rows_written, unless_present}
 use Rattle.world_model.specs.Signals.{first_of}
 use Rattle.world_model.specs.TableLines.{table_line}
 use Rattle.world_model.specs.Tables.{is_ordered}
@@ -28,6 +29,11 @@ use Rattle.world_model.specs.declared.rule.Rule.TheVariants.{NoKey}
 use Rattle.world_model.specs.declared.table.Item.{Item}
 use Rattle.world_model.specs.declared.table.Item.TheVariants as items
 use Rattle.world_model.proofs.RowLaws.{listed_some}
+
+-- what follows where a call came to something
+pub if_ok : {A E : Type 0} {P Q : A → Type 0} (r : Result A E) → ((x : A) → P x → Q x) → IfOk r P → IfOk r Q
+if_ok (Ok x) f is = f x is
+if_ok (Err e) f is = is
 
 -- ---- the rows under a key
 
@@ -101,3 +107,9 @@ answer_held t v p ref holds (UpdateCounter key increment) allowed served = ap (s
 answer_held t v p ref holds (UpdateElement key change) allowed served = ap (λ os. truth (has_items os)) (sym (row_held t v ref holds key))
 answer_held t v p ref holds (Info item) allowed served = item_held t v ref holds item
 answer_held t v p ref holds call allowed served = refl
+
+-- ---- the rows that it writes
+
+pub written_held : (t : Table) (v : Contents) (p : Pid) (ref : Ref) → HoldsRows t ref v → (call : TableCall) → allowed_at p (found_at ref t) call ≡ None → (table_line v p (found_at ref t) call).rule ≡ None → held_written (settings_in t) t.rows.rows call ≡ rows_written v p (found_at ref t) call
+written_held t v p ref holds (InsertNew objects) allowed served = ap (λ b. unless_present b (parts_at t.rows.position (given objects))) (asked_present t v p ref holds objects allowed served)
+written_held t v p ref holds call allowed served = refl

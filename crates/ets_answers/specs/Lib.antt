@@ -1,2 +1,3 @@
 pub mod At
+pub mod Touches
 pub mod inside

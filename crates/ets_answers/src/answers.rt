@@ -74,8 +74,12 @@ fn key_or_end(alloc: Global, key: Option<&Term>) -> Result<Term, AllocError>
     }
 }
 
-// The parts that objects have at a position.
-fn parts_at(alloc: Global, position: usize, there: &[Object]) -> Result<Vec<Term>, AllocError>
+/// The parts that objects have at a position, or `AllocError` if there is no memory for them.
+pub(crate) fn parts_at(
+    alloc: Global,
+    position: usize,
+    there: &[Object],
+) -> Result<Vec<Term>, AllocError>
     ensures { IfOk result (λ parts. map meaning_of parts.items ≡ parts_at position there.now) }
 {
     let mut parts = Vec::new(alloc);
@@ -148,8 +152,8 @@ fn one_of_them_is_there(rows: &Rows, objects: &[Object]) -> bool
     false
 }
 
-// The same of those that are given.
-fn one_is_there(rows: &Rows, objects: &Option<Vec<Object>>) -> bool
+/// Whether one of the objects that are given has a key that is there. It takes no memory.
+pub(crate) fn one_is_there(rows: &Rows, objects: &Option<Vec<Object>>) -> bool
     ensures { result ≡ one_has_key rows.now.position (given (option_map (λ os. os.items) objects.now)) rows.now.rows }
 {
     match objects {

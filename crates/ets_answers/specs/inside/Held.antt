@@ -1,19 +1,21 @@
 -- The line of a call by the settings and the rows of a table, in place of the contents of cells.
 use Rattle.std.specs.FinMap.{empty, keys}
-use Rattle.std.specs.Prelude.{ℕ, Bool, not, ◌||◌, if◌then◌else◌, Option, Some, None, codes, length}
+use Rattle.std.specs.Prelude.{ℕ, Bool, not, ◌||◌, if◌then◌else◌, List, [], ◌∷◌, Option, Some, None, codes, length}
 use Rattle.term_core.specs.Meaning.{Meaning}
 use Rattle.ets_store.specs.TableRows.{with_objects, without_object, one_has_key, with_new_objects}
-use Rattle.world_model.specs.Calls.{TableCall, Increment, Lookup, Member, LookupElement, First, Last, Next, Prev, ToList, Insert, InsertNew, DeleteTable, DeleteKey, DeleteObject, DeleteAll, Take, UpdateCounter, UpdateElement, GiveAway, SetOptions, Info, has_items}
+use Rattle.world_model.specs.Calls.{TableCall, Lookup, Member, LookupElement, First, Last, Next, Prev, ToList, Insert, InsertNew, DeleteTable, DeleteKey, DeleteObject, DeleteAll, Take, UpdateCounter, UpdateElement, GiveAway, SetOptions, Info, has_items}
 use Rattle.world_model.specs.Ends.{heir_pid}
 use Rattle.world_model.specs.Names.{Pid}
 use Rattle.world_model.specs.Objects.{given, objects_rule, one_object, element_rule, element_answer, counter_rule, sum_of, place_of, update_rule}
 use Rattle.world_model.specs.Owning.{gift_rule, heirs_rule}
 use Rattle.world_model.specs.Rows as rows
-use Rattle.world_model.specs.Rows.{Key, Object, rows_rewritten, Clears, Alters, tuples, under, all_objects}
+use Rattle.world_model.specs.Rows.{Key, Object, rows_rewritten, Clears, Alters, tuples, under, all_objects, parts_at}
+use Rattle.world_model.specs.RowsLeft.{unless_present, key_of_object}
 use Rattle.world_model.specs.Signals.{first_of}
 use Rattle.world_model.specs.Tables as tables
 use Rattle.world_model.specs.Tables.{is_ordered}
 use Rattle.world_model.specs.Terms.{atom, ok, process, number, process_or, truth}
+use Rattle.world_model.specs.Touch.{Touch, NoRow, RowsOfKeys, EachRow}
 use Rattle.world_model.specs.Walks.{item_rule, key_or_end, last_key, key_after, key_before, kind_name, protection_name}
 use Rattle.world_model.specs.declared.rule.Rule.{Rule}
 use Rattle.world_model.specs.declared.rule.Rule.TheVariants.{DeadTarget, NoKey}
@@ -124,3 +126,20 @@ held_rows t all (UpdateElement key change) = altered_at key change all
 held_rows t all (GiveAway to gift) = all
 held_rows t all (SetOptions heirs) = all
 held_rows t all (Info item) = all
+
+-- ---- the rows that it writes
+
+abbrev pub new_written : tables.Table → rows.Rows → List Object → Touch
+new_written t all objects = unless_present (one_has_key t.position objects all) (parts_at t.position objects)
+
+abbrev pub held_written : tables.Table → rows.Rows → TableCall → Touch
+held_written t all (Insert objects) = RowsOfKeys (parts_at t.position (given objects))
+held_written t all (InsertNew objects) = new_written t all (given objects)
+held_written t all DeleteTable = EachRow
+held_written t all (DeleteKey key) = RowsOfKeys (key ∷ [])
+held_written t all (DeleteObject object) = RowsOfKeys (key_of_object t.position object)
+held_written t all DeleteAll = EachRow
+held_written t all (Take key) = RowsOfKeys (key ∷ [])
+held_written t all (UpdateCounter key increment) = RowsOfKeys (key ∷ [])
+held_written t all (UpdateElement key change) = RowsOfKeys (key ∷ [])
+held_written t all call = NoRow
