@@ -1,7 +1,9 @@
 -- What stands on the shelves after one change.
-use Rattle.std.proofs.Common.{◌≡◌, ◌⊎◌, inl, inr, ℕ, Bool, true, false, cond, Global, List, [], Option, Some, None, map, bytes_eq, if◌then◌else◌, refl, sym, ap, ◌∙◌}
+use Rattle.std.proofs.Common.{◌≡◌, ◌⊎◌, inl, inr, ℕ, Bool, true, false, cond, Global, List, [], ◌∷◌, Option, Some, None, IsSome, map, bytes_eq, if◌then◌else◌, refl, sym, ap, subst, ◌∙◌}
 use Rattle.std.specs.Prelude.{option_map}
-use Rattle.std.specs.BTreeMap.{BTreeMap, get, is_at}
+use Rattle.std.specs.List.{AllZip}
+use Rattle.std.specs.Map.{lookup}
+use Rattle.std.specs.BTreeMap.{BTreeMap, get, is_at, WritesThrough}
 use Rattle.std.specs.declared.sync.Arc.{Arc}
 use Rattle.std.proofs.lemmas.Map.Text.{is_eq-slice_cmp}
 use Rattle.term_core.specs.Order.{order_of_lists}
@@ -55,6 +57,30 @@ altered_at old n x w f g has is is_rows = record {
   owned = λ _. refl;
 }
 
+-- what was written through a loan of the entry
+pub written : (m n : Entries) (x : Id) (s before : Arc Table Global) → Some before ≡ get order_of_reference_ids m x → WritesThrough order_of_reference_ids (order_of_reference_ids x) m s n → HasAt m x (Some s) n
+written m n x s before there writes = (writes.3 (subst IsSome there refl)).0
+
+pub rewritten : (old : Shelves) (n : Entries) (x : Id) (s before : Arc Table Global) (f : tables.Table → tables.Table) → Some before ≡ get order_of_reference_ids old.tables x
+    → WritesThrough order_of_reference_ids (order_of_reference_ids x) old.tables s n → settings_in s.value ≡ f (settings_in before.value) → s.value.rows ≡ before.value.rows
+    → IsAltered (ref_of x) (option_map f) (λ rows. rows) old (record old { tables = n })
+rewritten old n x s before f there writes settings rows =
+    altered_at old n x (Some s) (option_map f) (λ r. r) (written old.tables n x s before there writes)
+    (ap Some settings ∙ ap (λ o. option_map f (table_in o)) there) (ap (λ r. r.rows) rows ∙ ap rows_in there)
+
+-- a table that is written with what it was
+pub unaltered : (old : Shelves) (n : Entries) (x : Id) (s before : Arc Table Global) → Some before ≡ get order_of_reference_ids old.tables x
+    → WritesThrough order_of_reference_ids (order_of_reference_ids x) old.tables s n → settings_in s.value ≡ settings_in before.value → s.value.rows ≡ before.value.rows
+    → AreSame old (record old { tables = n })
+unaltered old n x s before there writes settings rows =
+    let altered = altered_at old n x (Some s) (λ o. o) (λ r. r) (written old.tables n x s before there writes) (ap Some settings ∙ ap table_in there) (ap (λ r. r.rows) rows ∙ ap rows_in there) in
+    record {
+      tables = λ u. altered.tables u ∙ same_either (same_ref (ref_of x) u) (table_on old u);
+      rows = λ u. altered.rows u ∙ same_either (same_ref (ref_of x) u) (rows_on old u);
+      names = λ _. refl;
+      owned = λ _. refl;
+    }
+
 -- where there is no table, a change of it leaves all as it was
 pub nothing_altered : (old : Shelves) (x : Id) (f : tables.Table → tables.Table) → get order_of_reference_ids old.tables x ≡ None → IsAltered (ref_of x) (option_map f) (λ rows. rows) old old
 nothing_altered old x f none = record {
@@ -91,3 +117,16 @@ owned_at old n p f g same has = record {
   names = λ _. refl;
   owned = λ q. ap (map ref_of) (has q) ∙ map_if ref_of (bytes_eq p q) _ _ ∙ ap (λ zs. if bytes_eq p q then zs else map ref_of (members_in old.owned q)) (same (members_in old.owned q));
 }
+
+-- clones of entries that show the same
+both_show : {X Y : Type 0} (shown : X → Y) (b : Bool) (x y : X) (o u : Option X) → shown x ≡ shown y → option_map shown o ≡ option_map shown u → option_map shown (cond b (Some x) o) ≡ option_map shown (cond b (Some y) u)
+both_show shown true x y o u here there = ap Some here
+both_show shown false x y o u here there = there
+
+pub clones_show : {K X Y : Type 0} (shown : X → Y) (C : X → X → Type 0) → ((x y : X) → C x y → shown y ≡ shown x) → (es fs : List (K × X)) → AllZip (λ e f. (f.0 ≡ e.0) × C e.1 f.1) es fs
+    → (test : K → Bool) → option_map shown (lookup test fs) ≡ option_map shown (lookup test es)
+clones_show shown C same [] [] all test = refl
+clones_show shown C same [] (f ∷ fs) all test = absurd all
+clones_show shown C same (e ∷ es) [] all test = absurd all
+clones_show shown C same (e ∷ es) (f ∷ fs) all test =
+    ap (λ k. option_map shown (cond (test k) (Some f.1) (lookup test fs))) all.0.0 ∙ both_show shown (test e.0) f.1 e.1 _ _ (same e.1 f.1 all.0.1) (clones_show shown C same es fs all.1 test)

@@ -1,3 +1,2 @@
 pub mod Shelves
 pub mod Tables
-pub mod TableLaws

@@ -2,7 +2,6 @@
 #![tactic(auto)]
 
 mod entry;
-pub mod laws;
 pub mod registry;
 mod shelves;
 

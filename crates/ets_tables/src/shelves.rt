@@ -4,7 +4,8 @@ ghost use Rattle.std.specs.Prelude.{◌≡◌, [], OnOk, OnErr, Some, None, opti
 ghost use Rattle.ets_store.specs.Tables.{settings_in, heir_in};
 ghost use Rattle.proc_groups.specs.References.{ref_of};
 ghost use Rattle.world_model.specs.Names as names;
-ghost use Rattle.world_model.specs.Changes.{set_in_order, without_first};
+ghost use Rattle.world_model.specs.Cells.{Contents};
+ghost use Rattle.world_model.specs.Changes.{after, set_in_order, without_first};
 ghost use Rattle.world_model.specs.Names.{same_ref, order_of_refs};
 ghost use Rattle.world_model.specs.Tables.{owned_by, with_heir};
 
@@ -40,7 +41,7 @@ impl Clone for Shelves {
 }
 
 impl Shelves {
-    ghost use Rattle.ets_tables.specs.Shelves.{AreSame, IsAltered, IsMeant, IsOwned, held_on, meant_on, owned_on};
+    ghost use Rattle.ets_tables.specs.Shelves.{AreSame, AreShelved, IsAltered, IsMeant, IsOwned, IsMadeOn, changes_destroyed, table_on, held_on, meant_on, owned_on};
 
     /// Empty shelves. It takes no memory.
     pub(crate) fn new(alloc: Global) -> Shelves
@@ -83,10 +84,11 @@ impl Shelves {
         ensures ok { OnOk result (IsAltered (ref_of id.now) (option_map (owned_by to.now)) (λ rows. rows) self.old self.new) }
         ensures err { OnErr result (AreSame self.old self.new) }
     {
-        match self.tables.get_mut(id) {
-            Some(entry) => hand(entry, to),
-            None => Ok(()),
-        }
+        let Some(entry) = self.tables.get_mut(id) else {
+            return Ok(());
+        };
+        hand(entry, to)?;
+        Ok(())
     }
 
     /// A table, if there is one, has another heir.
@@ -94,10 +96,11 @@ impl Shelves {
         ensures ok { OnOk result (IsAltered (ref_of id.now) (option_map (with_heir (heir_in heir))) (λ rows. rows) self.old self.new) }
         ensures err { OnErr result (AreSame self.old self.new) }
     {
-        match self.tables.get_mut(id) {
-            Some(entry) => entrust(entry, heir),
-            None => Ok(()),
-        }
+        let Some(entry) = self.tables.get_mut(id) else {
+            return Ok(());
+        };
+        entrust(entry, heir)?;
+        Ok(())
     }
 
     /// A name means a table.
@@ -137,5 +140,42 @@ impl Shelves {
         ensures { IsOwned pid.now (λ _. []) self.old self.new }
     {
         self.owned.clear(pid);
+    }
+
+    /// A new table stands under its reference, its owner has it, and its name means it where it is found by
+    /// that.
+    pub(crate) fn make(
+        &mut self,
+        alloc: Global,
+        id: &RefId,
+        table: Table,
+    ) -> Result<(), AllocError>
+        ensures { OnOk result (IsMadeOn (ref_of id.now) (settings_in table) table.rows.rows self.old self.new) }
+    {
+        let owner = table.owner.copy()?;
+        let name = table.name.copy()?;
+        let is_named = table.is_named;
+        self.put(alloc, id, table)?;
+        self.gain(alloc, &owner, id)?;
+        if !is_named {
+            return Ok(());
+        }
+        self.mean(&name, id)?;
+        Ok(())
+    }
+
+    /// A table goes, with all its rows; its owner has it no more, and its name means nothing where it was found
+    /// by that.
+    pub(crate) fn destroy(&mut self, id: &RefId)
+        ensures { (v : Contents) → AreShelved self.old v → AreShelved self.new (after (changes_destroyed (ref_of id.now) (table_on self.old (ref_of id.now))) v) }
+    {
+        let Some(entry) = self.take(id) else {
+            return;
+        };
+        let table: &Table = &entry;
+        self.lose(&table.owner, id);
+        if table.is_named {
+            self.free(&table.name);
+        }
     }
 }

@@ -1,0 +1,17 @@
+use Rattle.std.proofs.Common.{sym, subst, ◌∙◌}
+use Rattle.world_model.specs.Changes.{after}
+use Rattle.ets_store.specs.Tables.{settings_in}
+use Rattle.proc_groups.specs.References.{ref_of}
+use Rattle.ets_tables.specs.Shelves.{AreShelved}
+use Rattle.ets_tables.specs.Tables.{changes_made}
+use Rattle.ets_tables.proofs.Following.{still, made_on}
+use Rattle.ets_tables.proofs.registry.Registry.make.Goals as goal
+
+pub returns-clause-cells : goal.returns-clause-cells
+returns-clause-cells c =
+    let t = ref_of c.args.id.now in
+    let table = settings_in c.args.table in
+    let old = c.args.self.now.shelves.value in
+    let copied = c.in_ok-shelves.shelves in
+    λ v there told. subst (λ s. AreShelved s (after (changes_made t table) v)) (sym c.in_ok-self.ensures.ok)
+    (made_on copied c.make.new.self t table c.args.table.rows.rows v (c.in_ok-shelves.ensures.rows t ∙ there) c.in_ok-make.ensures (still old copied v c.in_ok-shelves.ensures told))

@@ -1,0 +1,139 @@
+// The tables that there are (ets manual, "Description" and `new/2`).
+ghost use Rattle.std.specs.Prelude.{◌≡◌, ◌∷◌, [], IfOk, OnOk, OnErr, Some, None, map, option_copied, option_map};
+ghost use Rattle.ets_store.specs.Tables.{settings_in, heir_in};
+ghost use Rattle.proc_groups.specs.Groups.{members_of};
+ghost use Rattle.proc_groups.specs.References.{ref_of};
+ghost use Rattle.world_model.specs.Names as names;
+ghost use Rattle.world_model.specs.Cells.{Contents};
+ghost use Rattle.world_model.specs.Changes.{after, Inherits};
+
+use crate::shelves::Shelves;
+use ets_store::{Heir, Table};
+use std::alloc::{AllocError, Global};
+use std::collections::BTreeSet;
+use std::sync::Arc;
+use term_core::{Atom, Pid, RefId};
+
+/// All tables, each under the reference of its creation, the names under which tables are found, and the tables
+/// of each process. Copies share all of it until one of them is written: then the shelves are copied, and of
+/// the tables only the one that is written.
+#[derive(Drop)]
+pub struct Registry {
+    shelves: Arc<Shelves>,
+}
+
+impl Registry {
+    ghost use Rattle.ets_tables.specs.Shelves.{AreSame};
+    ghost use Rattle.ets_tables.specs.Tables.{AreTables, IsUnchanged, IsMade, changes_made, changes_passed, changes_destroyed, held_at, table_at, rows_at, meant_by, owned_by};
+
+    /// No tables, or `AllocError` if there is no memory.
+    pub fn new(alloc: Global) -> Result<Registry, AllocError>
+        ensures tables { IfOk result (λ begun. (t : names.Ref) → held_at begun t ≡ None) }
+        ensures names { IfOk result (λ begun. (name : names.Name) → meant_by begun name ≡ None) }
+        ensures owned { IfOk result (λ begun. (p : names.Pid) → owned_by begun p ≡ []) }
+    {
+        Ok(Registry {
+            shelves: Arc::new(alloc, Shelves::new(alloc))?,
+        })
+    }
+
+    /// The same tables, which share memory with these, or `AllocError` where the copies can no longer be
+    /// counted.
+    pub fn copy(&self) -> Result<Registry, AllocError>
+        ensures { IfOk result (λ copied. IsUnchanged self.now copied) }
+    {
+        Ok(Registry {
+            shelves: Arc::try_clone(&self.shelves)?,
+        })
+    }
+
+    /// The table of a reference, or `None` where there is none. It takes no memory.
+    pub fn get(&self, id: &RefId) -> Option<&Table>
+        ensures { option_copied result ≡ held_at self.now (ref_of id.now) }
+    {
+        match self.shelves.tables.get(id) {
+            Some(entry) => Some(entry),
+            None => None,
+        }
+    }
+
+    /// The reference of the table that a name means, or `None` where it means none (ets manual, `whereis/1`). It
+    /// takes no memory.
+    pub fn named(&self, name: &Atom) -> Option<&RefId>
+        ensures { option_map ref_of (option_copied result) ≡ meant_by self.now name.now }
+    {
+        self.shelves.names.get(name)
+    }
+
+    /// The references of the tables of a process, in order, or `None` where it has none. It takes no memory.
+    pub fn owned(&self, pid: &Pid) -> Option<&BTreeSet<RefId>>
+        ensures { map ref_of (members_of (option_copied result)) ≡ owned_by self.now pid.now }
+    {
+        self.shelves.owned.of(pid)
+    }
+
+    /// A copy of the shelves, to be written and put in the place of these.
+    fn copied(&self) -> Result<Shelves, AllocError>
+        ensures { IfOk result (λ copied. AreSame self.now.shelves.value copied) }
+    {
+        let shelves: &Shelves = &self.shelves;
+        let copied = shelves.clone()?;
+        Ok(copied)
+    }
+
+    /// Puts a new table under its reference, among those of its owner, and where it is found by its name under
+    /// that (ets manual, `new/2`). `AllocError` if there is no memory: then nothing is changed, and the table is
+    /// dropped.
+    pub fn make(&mut self, alloc: Global, id: &RefId, table: Table) -> Result<(), AllocError>
+        ensures ok { OnOk result (IsMade (ref_of id.now) (settings_in table) table.rows.rows self.old self.new) }
+        ensures cells { OnOk result ((v : Contents) → rows_at self.old (ref_of id.now) ≡ table.rows.rows → AreTables self.old v → AreTables self.new (after (changes_made (ref_of id.now) (settings_in table)) v)) }
+        ensures err { OnErr result (IsUnchanged self.old self.new) }
+    {
+        let mut shelves = self.copied()?;
+        shelves.make(alloc, id, table)?;
+        self.shelves = Arc::new(alloc, shelves)?;
+        Ok(())
+    }
+
+    /// Gives the table of a reference, if there is one, another heir, or none (ets manual, `setopts/2`).
+    /// `AllocError` if there is no memory for what is shared with a copy: then nothing is changed, and the heir is
+    /// dropped.
+    pub fn inherit(&mut self, id: &RefId, heir: Option<Heir>) -> Result<(), AllocError>
+        ensures ok { OnOk result ((v : Contents) → AreTables self.old v → AreTables self.new (after (Inherits (ref_of id.now) (heir_in heir) ∷ []) v)) }
+        ensures err { OnErr result (IsUnchanged self.old self.new) }
+    {
+        let shelves = Arc::make_mut(&mut self.shelves)?;
+        shelves.inherit(id, heir)?;
+        Ok(())
+    }
+
+    /// Makes a process the owner of the table of a reference, if there is one, in the place of its owner so far
+    /// (ets manual, `give_away/3`). `AllocError` if there is no memory: then nothing is changed.
+    pub fn pass(&mut self, alloc: Global, id: &RefId, to: &Pid) -> Result<(), AllocError>
+        ensures ok { OnOk result ((v : Contents) → AreTables self.old v → AreTables self.new (after (changes_passed (ref_of id.now) to.now (table_at self.old (ref_of id.now))) v)) }
+        ensures err { OnErr result (IsUnchanged self.old self.new) }
+    {
+        let Some(table) = self.get(id) else {
+            return Ok(());
+        };
+        let owner = table.owner.copy()?;
+        let mut shelves = self.copied()?;
+        shelves.pass(id, to)?;
+        shelves.lose(&owner, id);
+        shelves.gain(alloc, to, id)?;
+        self.shelves = Arc::new(alloc, shelves)?;
+        Ok(())
+    }
+
+    /// Takes the table of a reference away, if there is one, with its rows, from its owner, and from its name
+    /// where it is found by that (ets manual, `delete/1`). `AllocError` if there is no memory for what is shared
+    /// with a copy: then nothing is changed.
+    pub fn destroy(&mut self, id: &RefId) -> Result<(), AllocError>
+        ensures ok { OnOk result ((v : Contents) → AreTables self.old v → AreTables self.new (after (changes_destroyed (ref_of id.now) (table_at self.old (ref_of id.now))) v)) }
+        ensures err { OnErr result (IsUnchanged self.old self.new) }
+    {
+        let shelves = Arc::make_mut(&mut self.shelves)?;
+        shelves.destroy(id);
+        Ok(())
+    }
+}
