@@ -87,7 +87,7 @@ impl Tables {
     }
 
     /// The owner that a refusal by this rule tells, of the table that the argument finds; `None` where it tells none.
-    pub fn told_owner(&self, argument: &TableArgument, rule: Rule) -> Option<&Pid>
+    pub fn told_owner<'t>(&'t self, argument: &'t TableArgument, rule: Rule) -> Option<&'t Pid>
         ensures { (v : Contents) → Hold self.now v → option_copied result ≡ told_owner rule (find v (argument_in argument.now)) }
     {
         if !tells_owner(rule) {

@@ -2,13 +2,10 @@
 // tables go when their owner ends.
 #![tactic(auto)]
 
-pub mod apply;
 pub mod found;
 pub mod judge;
 pub mod make;
 pub mod tables;
 
-pub use apply::Done;
-pub use ets_tables::Transfer;
 pub use found::FoundTable;
 pub use tables::Tables;
