@@ -43,7 +43,7 @@ pub(crate) fn heir_of_parts(parts: &Terms) -> Result<Option<Option<Heir>>, Alloc
 {
     match parts.as_slice() {
         [word, none] => Ok(no_heir(word, none)),
-        [word, to, data] => some_heir(word, to, data),
+        [word, to, gift] => some_heir(word, to, gift),
         _ => Ok(None),
     }
 }
