@@ -1,6 +1,5 @@
 // What a call answers (ets manual), before it writes.
-ghost use Rattle.std.specs.FinMap.{keys};
-ghost use Rattle.std.specs.Prelude.{◌≡◌, ◌∷◌, [], None, Some, IfOk, not, map, option_map, option_copied};
+ghost use Rattle.std.specs.Prelude.{◌≡◌, ◌∷◌, [], None, IfOk, map, option_map, option_copied};
 ghost use Rattle.ets_answers.specs.At.{found_at, HoldsRows};
 ghost use Rattle.ets_answers.specs.inside.Held.{held_answer, held_counter};
 ghost use Rattle.ets_calls.specs.Arguments.{increment_in};
@@ -8,15 +7,13 @@ ghost use Rattle.ets_calls.specs.Calls.{call_in};
 ghost use Rattle.ets_store.specs.TableRows.{one_has_key};
 ghost use Rattle.ets_store.specs.Tables.{settings_in};
 ghost use Rattle.term_core.specs.Term.{meaning_of};
-ghost use Rattle.world_model.specs.Calls.{has_items};
 ghost use Rattle.world_model.specs.Cells.{Contents};
 ghost use Rattle.world_model.specs.Found.{allowed_at};
 ghost use Rattle.world_model.specs.Names.{Pid, Ref};
-ghost use Rattle.world_model.specs.Objects.{given, element_answer, element_or_list, counter_rule, sum_of, value_or_ok};
+ghost use Rattle.world_model.specs.Objects.{given, element_answer, counter_rule, sum_of, value_or_ok};
 ghost use Rattle.world_model.specs.Rows.{parts_at, under};
 ghost use Rattle.world_model.specs.Signals.{first_of};
 ghost use Rattle.world_model.specs.TableLines.{table_line};
-ghost use Rattle.world_model.specs.Terms.{truth};
 ghost use Rattle.world_model.specs.Walks.{key_or_end};
 
 use crate::counters::counter_of;
@@ -43,7 +40,7 @@ fn answer_of(alloc: Global, table: &Table, call: &TableCall) -> Result<Term, All
     match call {
         TableCall::Lookup(key) => table.rows.lookup(alloc, key),
         TableCall::Member(key) => Ok(truth(table.rows.has_key(key))),
-        TableCall::LookupElement(key, position) => { element_answer(alloc, table, key, *position) }
+        TableCall::LookupElement(key, position) => element_answer(alloc, table, key, *position),
         TableCall::First => key_or_end(alloc, table.rows.first()),
         TableCall::Last => key_or_end(alloc, table.rows.last()),
         TableCall::Next(key) => key_or_end(alloc, table.rows.next(key)),

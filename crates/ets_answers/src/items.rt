@@ -1,13 +1,12 @@
 // What is told of a table (ets manual, `info/2`), and the terms that answers are made of.
-ghost use Rattle.std.specs.Prelude.{◌≡◌, IfOk, length, option_map, option_copied};
+ghost use Rattle.std.specs.Prelude.{◌≡◌, IfOk, codes, length};
 ghost use Rattle.ets_answers.specs.inside.Held.{held_item};
 ghost use Rattle.ets_store.specs.Tables.{settings_in, heir_in};
 ghost use Rattle.term_core.specs.Term.{meaning_of};
 ghost use Rattle.world_model.specs.Ends.{heir_pid};
 ghost use Rattle.world_model.specs.Rows.{all_objects};
-ghost use Rattle.world_model.specs.Terms.{atom, process_or, truth, number};
+ghost use Rattle.world_model.specs.Terms.{process_or, truth, number};
 ghost use Rattle.world_model.specs.Walks.{kind_name, protection_name};
-ghost use Rattle.std.specs.Prelude.{codes};
 
 use ets_store::{Heir, Table};
 use std::alloc::{AllocError, Global};

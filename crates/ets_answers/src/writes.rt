@@ -1,5 +1,5 @@
 // What a call writes into the rows of its table (ets manual).
-ghost use Rattle.std.specs.Prelude.{◌≡◌, None, Some, IsTrue, OnOk, OnErr, option_map};
+ghost use Rattle.std.specs.Prelude.{◌≡◌, None, IsTrue, OnOk, OnErr, option_map};
 ghost use Rattle.ets_answers.specs.At.{found_at, HoldsRows, keeps_table};
 ghost use Rattle.ets_answers.specs.inside.Held.{held_rows, held_counter, without_one, altered_at};
 ghost use Rattle.ets_calls.specs.Arguments.{increment_in, change_in};
@@ -125,7 +125,7 @@ fn alter(
     ensures err { OnErr result (rows.new ≡ rows.old) }
 {
     match change {
-        Some((position, value)) => { rows.update_element(alloc, key, *position, value.copy()?) }
+        Some((position, value)) => rows.update_element(alloc, key, *position, value.copy()?),
         None => Ok(()),
     }
 }
