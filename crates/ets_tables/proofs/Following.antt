@@ -213,8 +213,8 @@ made_on old new t table rows v there made told =
       names = λ name. made.names name ∙ ap (λ o. if table.is_named && same_name table.name name then Some t else o) (told.names name) ∙ sym (means_on table.is_named table.name name t w);
       owned = λ p. made.owned p ∙ ap (λ ts. if same_pid table.owner p then set_in_order order_of_refs t ts else ts) (told.owned p) ∙ sym (means_off table.is_named table.name t w (cells.Owned p) refl);
     } where
-  stay : (u : Ref) → rows_on new u ≡ rows_on old u
-  stay u = made.rows_there u ∙ elim (same_ref t u) as (λ b. same_ref t u ≡ b → (if b then rows else rows_on old u) ≡ rows_on old u) [
-    | true ↦ λ e. sym there ∙ ap (rows_on old) (meeting.refs_same t u e)
-    | false ↦ λ e. refl
-  ] refl
+      stay : (u : Ref) → rows_on new u ≡ rows_on old u
+      stay u = made.rows_there u ∙ elim (same_ref t u) as (λ b. same_ref t u ≡ b → (if b then rows else rows_on old u) ≡ rows_on old u) [
+        | true ↦ λ e. sym there ∙ ap (rows_on old) (meeting.refs_same t u e)
+        | false ↦ λ e. refl
+      ] refl

@@ -1,2 +1,4 @@
 pub mod Shelves
 pub mod Tables
+pub mod Lending
+pub mod inside

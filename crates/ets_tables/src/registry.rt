@@ -1,5 +1,5 @@
 // The tables that there are (ets manual, "Description" and `new/2`).
-ghost use Rattle.std.specs.Prelude.{◌≡◌, ◌∷◌, [], IfOk, OnOk, OnErr, Some, None, map, option_copied, option_map};
+ghost use Rattle.std.specs.Prelude.{◌≡◌, ◌∷◌, [], IfOk, IsSome, OnOk, OnErr, Some, None, map, option_copied, option_map};
 ghost use Rattle.ets_store.specs.Tables.{settings_in, heir_in};
 ghost use Rattle.proc_groups.specs.Groups.{members_of};
 ghost use Rattle.proc_groups.specs.References.{ref_of};
@@ -23,6 +23,8 @@ pub struct Registry {
 }
 
 impl Registry {
+    ghost use Rattle.std.specs.Borrow.{sem};
+    ghost use Rattle.ets_tables.specs.Lending.{LendsTable};
     ghost use Rattle.ets_tables.specs.Shelves.{AreSame};
     ghost use Rattle.ets_tables.specs.Tables.{AreTables, IsUnchanged, IsMade, changes_made, changes_passed, changes_destroyed, held_at, table_at, rows_at, meant_by, owned_by};
 
@@ -135,5 +137,17 @@ impl Registry {
         let shelves = Arc::make_mut(&mut self.shelves)?;
         shelves.destroy(id);
         Ok(())
+    }
+
+    /// The table of a reference, which is there, to be written: what it is left as stands in its place then.
+    /// `AllocError` if there is no memory for what is shared with a copy: then nothing is changed.
+    pub fn table_mut(&mut self, id: &RefId) -> Result<&mut Table, AllocError>
+        requires { IsSome (table_at self.old (ref_of id.now)) }
+        ensures* writes_back { sem 𝓛 (LendsTable self.entry (ref_of id.now) result) }
+        ensures table { IfOk result (λ table. Some (settings_in table.now) ≡ table_at self.old (ref_of id.now)) }
+        ensures rows { IfOk result (λ table. table.now.rows.rows ≡ rows_at self.old (ref_of id.now)) }
+    {
+        let shelves = Arc::make_mut(&mut self.shelves)?;
+        shelves.table_mut(id)
     }
 }

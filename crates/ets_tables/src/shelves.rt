@@ -1,6 +1,6 @@
 // Where the tables stand: each change of a cell of the explored world is a method here.
 ghost use Rattle.std.specs.FinMap.{empty};
-ghost use Rattle.std.specs.Prelude.{◌≡◌, [], OnOk, OnErr, Some, None, option_copied, option_map};
+ghost use Rattle.std.specs.Prelude.{◌≡◌, [], IfOk, IsSome, OnOk, OnErr, Some, None, option_copied, option_map};
 ghost use Rattle.ets_store.specs.Tables.{settings_in, heir_in};
 ghost use Rattle.proc_groups.specs.References.{ref_of};
 ghost use Rattle.world_model.specs.Names as names;
@@ -41,7 +41,9 @@ impl Clone for Shelves {
 }
 
 impl Shelves {
-    ghost use Rattle.ets_tables.specs.Shelves.{AreSame, AreShelved, IsAltered, IsMeant, IsOwned, IsMadeOn, changes_destroyed, table_on, held_on, meant_on, owned_on};
+    ghost use Rattle.std.specs.Borrow.{sem};
+    ghost use Rattle.ets_tables.specs.inside.Lending.{LendsShelved};
+    ghost use Rattle.ets_tables.specs.Shelves.{AreSame, AreShelved, IsAltered, IsMeant, IsOwned, IsMadeOn, changes_destroyed, table_on, rows_on, held_on, meant_on, owned_on};
 
     /// Empty shelves. It takes no memory.
     pub(crate) fn new(alloc: Global) -> Shelves
@@ -57,12 +59,7 @@ impl Shelves {
     }
 
     /// A table is made.
-    pub(crate) fn put(
-        &mut self,
-        alloc: Global,
-        id: &RefId,
-        table: Table,
-    ) -> Result<(), AllocError>
+    pub(crate) fn put(&mut self, alloc: Global, id: &RefId, table: Table) -> Result<(), AllocError>
         ensures ok { OnOk result (IsAltered (ref_of id.now) (λ _. Some (settings_in table)) (λ _. table.rows.rows) self.old self.new) }
         ensures err { OnErr result (AreSame self.old self.new) }
     {
@@ -101,6 +98,19 @@ impl Shelves {
         };
         entrust(entry, heir)?;
         Ok(())
+    }
+
+    /// A table, to be written.
+    pub(crate) fn table_mut(&mut self, id: &RefId) -> Result<&mut Table, AllocError>
+        requires { IsSome (table_on self.old (ref_of id.now)) }
+        ensures* writes_back { sem 𝓛 (LendsShelved self.entry (ref_of id.now) result) }
+        ensures table { IfOk result (λ table. Some (settings_in table.now) ≡ table_on self.old (ref_of id.now)) }
+        ensures rows { IfOk result (λ table. table.now.rows.rows ≡ rows_on self.old (ref_of id.now)) }
+    {
+        match self.tables.get_mut(id) {
+            Some(entry) => Arc::make_mut(entry),
+            None => Err(AllocError),
+        }
     }
 
     /// A name means a table.
@@ -144,12 +154,7 @@ impl Shelves {
 
     /// A new table stands under its reference, its owner has it, and its name means it where it is found by
     /// that.
-    pub(crate) fn make(
-        &mut self,
-        alloc: Global,
-        id: &RefId,
-        table: Table,
-    ) -> Result<(), AllocError>
+    pub(crate) fn make(&mut self, alloc: Global, id: &RefId, table: Table) -> Result<(), AllocError>
         ensures { OnOk result (IsMadeOn (ref_of id.now) (settings_in table) table.rows.rows self.old self.new) }
     {
         let owner = table.owner.copy()?;

@@ -12,9 +12,11 @@ use Rattle.ets_tables.proofs.shelves.ShelvesClone.clone.Goals as goal
 pub returns : goal.returns
 returns c =
     let held = clones_show (λ e. e.value) (λ a b. b.value ≡ a.value) (λ _ _ same. same) c.args.self.now.tables.entries c.in_ok-clone.field-0.entries c.in_ok-clone.ensures.cases in
-    record { cases = record {
-      tables = λ u. ap (option_map settings_in) (held (is_at (order_of_reference_ids (u.pid, u.number))));
-      rows = λ u. ap rows_of (held (is_at (order_of_reference_ids (u.pid, u.number))));
-      names = λ name. clones_show ref_of (λ a b. b ≡ a) (λ _ _ same. ap ref_of same) c.args.self.now.names.entries c.in_ok-clone-2.field-0.entries c.in_ok-clone-2.ensures.cases (is_at (order_of_lists name));
-      owned = λ p. ap (map ref_of) (c.in_ok-clone-3.ensures.cases p);
-    } }
+    record {
+      cases = record {
+        tables = λ u. ap (option_map settings_in) (held (is_at (order_of_reference_ids (u.pid, u.number))));
+        rows = λ u. ap rows_of (held (is_at (order_of_reference_ids (u.pid, u.number))));
+        names = λ name. clones_show ref_of (λ a b. b ≡ a) (λ _ _ same. ap ref_of same) c.args.self.now.names.entries c.in_ok-clone-2.field-0.entries c.in_ok-clone-2.ensures.cases (is_at (order_of_lists name));
+        owned = λ p. ap (map ref_of) (c.in_ok-clone-3.ensures.cases p);
+      };
+    }
