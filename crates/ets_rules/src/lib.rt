@@ -5,6 +5,7 @@
 pub mod found;
 pub mod judge;
 pub mod make;
+pub mod serve;
 pub mod tables;
 
 pub use found::FoundTable;

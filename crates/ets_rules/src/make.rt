@@ -3,6 +3,7 @@ ghost use Rattle.std.specs.FinMap.{empty};
 ghost use Rattle.std.specs.Prelude.{◌≡◌, None, IfOk, OnOk, OnErr, map};
 ghost use Rattle.ets_calls.specs.Options.{option_in};
 ghost use Rattle.ets_rules.specs.Tables.{Hold, IsUnchanged};
+ghost use Rattle.ets_store.specs.Tables.{settings_in};
 ghost use Rattle.ets_tables.specs.Tables.{rows_at};
 ghost use Rattle.proc_groups.specs.References.{ref_of};
 ghost use Rattle.term_core.specs.Term.{meaning_of};
@@ -15,14 +16,16 @@ ghost use Rattle.world_model.specs.Tables.{handle_of, table_of};
 use crate::tables::Tables;
 use ets_calls::TableOption;
 use ets_calls::settings::table_of;
+use ets_store::Table;
 use std::alloc::{AllocError, Global};
 use term_core::{Atom, Pid, RefId, Term};
 
 // What finds a table: its name, or else the reference of its creation.
-fn handle(id: &RefId, is_named: bool, name: &Atom) -> Result<Term, AllocError>
+fn handle(id: &RefId, table: &Table) -> Result<Term, AllocError>
+    ensures { IfOk result (λ handle. meaning_of handle ≡ handle_of (ref_of id.now) (settings_in table.now)) }
 {
-    if is_named {
-        return Ok(Term::Atom(name.copy()?));
+    if table.is_named {
+        return Ok(Term::Atom(table.name.copy()?));
     }
     Ok(Term::Ref(id.copy()?))
 }
@@ -44,7 +47,7 @@ impl Tables {
         ensures err { OnErr result (IsUnchanged self.old self.new) }
     {
         let table = table_of(alloc, owner, name, options)?;
-        let answer = handle(id, table.is_named, name)?;
+        let answer = handle(id, &table)?;
         self.registry.make(alloc, id, table)?;
         Ok(answer)
     }

@@ -1,0 +1,62 @@
+-- Tables that are held, as the calls find them.
+use Rattle.std.proofs.Common.{◌≡◌, Bool, true, false, Option, Some, None, is_some, if◌then◌else◌, true≢false, refl, sym, ap, ◌∙◌}
+use Rattle.std.specs.Prelude.{option_map}
+use Rattle.world_model.specs.Calls.{TableArgument, ByName, ByReference, ByNothing, TableCall}
+use Rattle.world_model.specs.Cells as cells
+use Rattle.world_model.specs.Cells.{Contents}
+use Rattle.world_model.specs.Found.{Found, find}
+use Rattle.world_model.specs.Judging.{found_line, table_rule}
+use Rattle.world_model.specs.Names.{Pid, Ref, same_ref}
+use Rattle.world_model.specs.Rows.{Key, Rows, under}
+use Rattle.world_model.specs.declared.rule.Rule.{Rule}
+use Rattle.world_model.proofs.Meeting.{refs_same}
+use Rattle.ets_answers.specs.At.{HoldsRows}
+use Rattle.ets_rules.specs.inside.Parts.{KeepsOthers}
+use Rattle.ets_store.specs.Tables.{settings_in}
+use Rattle.ets_store.specs.declared.table.Table.{Table}
+use Rattle.ets_tables.specs.Lending.{IsWritten}
+use Rattle.ets_tables.specs.Shelves.{rows_of}
+use Rattle.ets_tables.specs.Tables.{AreTables, IsUnchanged, held_at, table_at, rows_at}
+use Rattle.ets_tables.specs.declared.registry.Registry.{Registry}
+
+-- the rows of a table that is held are those of its cells
+pub holds_rows : (registry : Registry) (v : Contents) (t : Ref) (table : Table) → AreTables registry v → held_at registry t ≡ Some table → HoldsRows table t v
+holds_rows registry v t table tables held = record {
+  rows = sym (tables.rows t) ∙ ap rows_of held;
+  row = λ key. sym (tables.each_row t key) ∙ ap (λ there. under (rows_of there) key) held;
+}
+
+-- the rule at a table that is found is the rule of the call
+pub judged : (v : Contents) (p : Pid) (argument : TableArgument) (call : TableCall) (f : Found) (rule : Option Rule) → Some f ≡ find v argument → rule ≡ (found_line v p call (Some f)).rule → rule ≡ table_rule v p argument call
+judged v p (ByName name) call f rule found is = is ∙ ap (λ o. (found_line v p call o).rule) found
+judged v p (ByReference t) call f rule found is = is ∙ ap (λ o. (found_line v p call o).rule) found
+judged v p ByNothing call f rule found is = absurd (true≢false (ap is_some found))
+
+either : {A : Type 0} (b : Bool) (x y z : A) → (b ≡ true → z ≡ x) → (b ≡ false → z ≡ y) → (if b then x else y) ≡ z
+either true x y z here there = sym (here refl)
+either false x y z here there = sym (there refl)
+
+-- where the rows of a table were written, and all else was kept
+pub written_hold : (old new : Registry) (v w : Contents) (t : Ref) (was now : Table) → AreTables old v → held_at old t ≡ Some was → IsWritten t now old new → settings_in now ≡ settings_in was
+    → HoldsRows now t w → KeepsOthers t v w → AreTables new w
+written_hold old new v w t was now tables held written same holds keeps = record {
+  tables = λ u. written.tables u ∙ either (same_ref t u) _ _ (w (cells.Table u)) (λ e. settled u e) (λ e. keeps.tables u ∙ sym (tables.tables u));
+  rows = λ u. written.rows u ∙ either (same_ref t u) _ _ (w (cells.Rows u)) (λ e. ap (λ r. w (cells.Rows r)) (sym (refs_same t u e)) ∙ holds.rows) (λ e. keeps.rows u e ∙ sym (tables.rows u));
+  each_row = λ u key. ap (λ rows. under rows key) (written.rows u) ∙ if_under (same_ref t u) _ _ key ∙ either (same_ref t u) _ _ (w (cells.Row u key)) (λ e. ap (λ r. w (cells.Row r key)) (sym (refs_same t u e)) ∙ holds.row key) (λ e. keeps.each_row u key e ∙ sym (tables.each_row u key));
+  names = λ name. written.names name ∙ tables.names name ∙ sym (keeps.names name);
+  owned = λ p. written.owned p ∙ tables.owned p ∙ sym (keeps.owned p);
+} where
+  settled : (u : Ref) → same_ref t u ≡ true → w (cells.Table u) ≡ Some (settings_in now)
+  settled u e = keeps.tables u ∙ ap (λ r. v (cells.Table r)) (sym (refs_same t u e)) ∙ sym (tables.tables t) ∙ ap (option_map settings_in) held ∙ ap Some (sym same)
+  if_under : (b : Bool) (x y : Rows) (key : Key) → under (if b then x else y) key ≡ (if b then under x key else under y key)
+  if_under true x y key = refl
+  if_under false x y key = refl
+
+-- where it was written as it was, nothing is changed
+pub written_back : (old new : Registry) (t : Ref) (was : Table) → held_at old t ≡ Some was → IsWritten t was old new → IsUnchanged old new
+written_back old new t was held written = record {
+  tables = λ u. written.tables u ∙ either (same_ref t u) _ _ (table_at old u) (λ e. ap (table_at old) (sym (refs_same t u e)) ∙ ap (option_map settings_in) held) (λ e. refl);
+  rows = λ u. written.rows u ∙ either (same_ref t u) _ _ (rows_at old u) (λ e. ap (rows_at old) (sym (refs_same t u e)) ∙ ap rows_of held) (λ e. refl);
+  names = written.names;
+  owned = written.owned;
+}
