@@ -1,2 +1,3 @@
+pub mod Arities
 pub mod Listing
 pub mod Named
