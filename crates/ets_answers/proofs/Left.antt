@@ -25,7 +25,7 @@ use Rattle.world_model.proofs.RowLaws.{keys_same, turned, other_way, listed_some
 
 -- ---- each key that has objects stays one with these
 
-abbrev AreIn : Ref → Contents → Type 0
+abbrev pub AreIn : Ref → Contents → Type 0
 AreIn t v = (key : Key) → get (v (Rows t)) key ≡ some_if (v (Row t key))
 
 written : (b : Bool) (l k : Key) (c : RowChange) (all : rows.Rows) (xs : List Object) → get all k ≡ some_if xs → get (if b then rows_rewritten l c all else all) k ≡ some_if (if b && same_key l k then rewritten c xs else xs)
@@ -52,7 +52,7 @@ kept_by t (Wipes u) v are k = wiped (same_ref u t) k (v (Rows t)) (v (Row t k)) 
 kept_by t (Touches d) v are k = ap (λ all. get all k) (either_way (meet d (Rows t)) (v (Rows t))) ∙ are k ∙ sym (ap some_if (either_way (meet d (Row t k)) (v (Row t k))))
 kept_by t j v are k = are k
 
-kept : (t : Ref) (ks : List Change) (v : Contents) → AreIn t v → AreIn t (after ks v)
+pub kept : (t : Ref) (ks : List Change) (v : Contents) → AreIn t v → AreIn t (after ks v)
 kept t [] v are = are
 kept t (k ∷ ks) v are = kept t ks (changed k v) (kept_by t k v are)
 

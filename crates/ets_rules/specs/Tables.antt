@@ -1,17 +1,24 @@
 -- The tables of a world, in its cells.
-use Rattle.std.specs.Prelude.{Option}
+use Rattle.std.specs.FinMap.{get}
+use Rattle.std.specs.Prelude.{◌≡◌, List, [], ◌∷◌, Option, Some, None}
+use Rattle.term_core.specs.Meaning.{Meaning}
 use Rattle.proc_groups.specs.References.{ref_of}
-use Rattle.world_model.specs.Cells.{Contents}
+use Rattle.world_model.specs.Cells.{Contents, Row, Rows}
 use Rattle.world_model.specs.Found.{Found}
+use Rattle.world_model.specs.Names.{Pid, Ref}
+use Rattle.world_model.specs.Rows.{Key, some_if}
 use Rattle.ets_answers.specs.At.{found_at}
+use Rattle.ets_tables.specs.Ends.{transfer_of}
 use Rattle.ets_tables.specs.Tables as registry
 use Rattle.ets_tables.specs.Tables.{AreTables}
+use Rattle.ets_tables.specs.declared.ends.Transfer.{Transfer}
 use Rattle.ets_rules.specs.declared.found.FoundTable.{FoundTable}
 use Rattle.ets_rules.specs.declared.tables.Tables.{Tables}
 
--- the tables are what the contents say
-abbrev pub Hold : Tables → Contents → Type 0
-Hold tables v = AreTables tables.registry v
+-- the tables are what the contents say, of which the rows of each table are those under its keys, as in every history
+pub record Hold (tables : Tables) (v : Contents) : Type 0 where
+  pub tables : AreTables tables.registry v
+  pub by_key : (t : Ref) (key : Key) → get (v (Rows t)) key ≡ some_if (v (Row t key))
 
 -- all is as it was
 abbrev pub IsUnchanged : Tables → Tables → Type 0
@@ -20,3 +27,8 @@ IsUnchanged old new = registry.IsUnchanged old.registry new.registry
 -- a table that is found, as calls find it
 abbrev pub found_of : FoundTable → Found
 found_of f = found_at (ref_of f.id.now) f.table.now
+
+-- the message that a call puts for another process, if it does
+abbrev pub told_in : Option Transfer → List (Pid × Meaning)
+told_in None = []
+told_in (Some transfer) = transfer_of transfer ∷ []

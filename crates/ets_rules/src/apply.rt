@@ -1,0 +1,179 @@
+// What calls that are served answer, leave and tell (ets manual, each under the name of its call).
+ghost use Rattle.std.specs.Prelude.{◌≡◌, [], None, Some, true, IfOk, OnOk, OnErr, map, option_map, codes};
+ghost use Rattle.ets_answers.specs.At.{found_at};
+ghost use Rattle.ets_calls.specs.Arguments.{argument_in};
+ghost use Rattle.ets_calls.specs.Calls.{call_in};
+ghost use Rattle.ets_rules.specs.Tables.{Hold, IsUnchanged, told_in};
+ghost use Rattle.ets_rules.specs.inside.Parts.{writes_rows_alone};
+ghost use Rattle.ets_store.specs.Tables.{heir_in};
+ghost use Rattle.ets_store.specs.declared.table.Table as declared;
+ghost use Rattle.ets_tables.specs.Ends.{transfers_in};
+ghost use Rattle.ets_tables.specs.Tables.{held_at};
+ghost use Rattle.proc_groups.specs.References.{ref_of};
+ghost use Rattle.term_core.specs.Term.{meaning_of};
+ghost use Rattle.world_model.specs.Cells.{Contents};
+ghost use Rattle.world_model.specs.Changes.{after};
+ghost use Rattle.world_model.specs.Found.{allowed_at};
+ghost use Rattle.world_model.specs.Judging.{on_table_line, table_rule};
+ghost use Rattle.world_model.specs.Names as names;
+ghost use Rattle.world_model.specs.Objects.{given};
+ghost use Rattle.world_model.specs.Owning.{destroyed, gives_to, heirs_set};
+ghost use Rattle.world_model.specs.TableLines.{table_line};
+ghost use Rattle.world_model.specs.Terms.{atom, ok};
+
+use crate::tables::Tables;
+use ets_answers::{answer, class_of};
+use ets_calls::{TableArgument, TableCall};
+use ets_store::Heir;
+use ets_tables::{Transfer, transfer_message};
+use std::alloc::{AllocError, Global};
+use term_core::{Pid, RefId, Term, Word};
+use world_model::table::Class;
+
+/// What a call answers, and what it tells another process, if it does.
+#[derive(Drop)]
+pub struct Done {
+    /// The answer.
+    pub answer: Term,
+    /// The message to the new owner of a table that is given away.
+    pub transfer: Option<Transfer>,
+}
+
+// The answer of what only does.
+fn done() -> Done
+    ensures answer { meaning_of result.answer ≡ ok }
+    ensures told { told_in result.transfer ≡ [] }
+{
+    Done {
+        answer: Term::word(Word::True),
+        transfer: None,
+    }
+}
+
+// What `info/2` answers where there is no table.
+fn nothing_found(alloc: Global) -> Result<Done, AllocError>
+    ensures answer { IfOk result (λ done. meaning_of done.answer ≡ atom (codes "undefined")) }
+    ensures told { IfOk result (λ done. told_in done.transfer ≡ []) }
+{
+    Ok(Done {
+        answer: Term::atom(alloc, "undefined")?,
+        transfer: None,
+    })
+}
+
+impl Tables {
+    // `delete/1`.
+    fn delete(&mut self, id: &RefId) -> Result<Done, AllocError>
+        ensures tables { OnOk result ((v : Contents) (table : declared.Table) → Hold self.old v → held_at self.old.registry (ref_of id.now) ≡ Some table → Hold self.new (after (destroyed (found_at (ref_of id.now) table)) v)) }
+        ensures answer { IfOk result (λ done. meaning_of done.answer ≡ ok) }
+        ensures told { IfOk result (λ done. told_in done.transfer ≡ []) }
+        ensures err { OnErr result (IsUnchanged self.old self.new) }
+    {
+        self.registry.destroy(id)?;
+        Ok(done())
+    }
+
+    // `setopts/2`: of several heirs the last counts.
+    fn entrust(
+        &mut self,
+        id: &RefId,
+        heirs: &Option<Vec<Option<Heir>>>,
+    ) -> Result<Done, AllocError>
+        ensures tables { OnOk result ((v : Contents) → Hold self.old v → Hold self.new (after (heirs_set (ref_of id.now) (given (option_map (λ hs. map heir_in hs.items) heirs.now))) v)) }
+        ensures answer { IfOk result (λ done. meaning_of done.answer ≡ ok) }
+        ensures told { IfOk result (λ done. told_in done.transfer ≡ []) }
+        ensures err { OnErr result (IsUnchanged self.old self.new) }
+    {
+        if let Some(heirs) = heirs {
+            if let Some(heir) = heirs.last() {
+                self.registry.inherit(id, heir.clone()?)?;
+            }
+        }
+        Ok(done())
+    }
+
+    // `give_away/3`: the table passes, and its new owner is told.
+    fn give(
+        &mut self,
+        alloc: Global,
+        id: &RefId,
+        to: &Pid,
+        gift: &Term,
+    ) -> Result<Done, AllocError>
+        ensures tables { OnOk result ((v : Contents) (table : declared.Table) → Hold self.old v → held_at self.old.registry (ref_of id.now) ≡ Some table → Hold self.new (after (gives_to (found_at (ref_of id.now) table) (Some to.now) (meaning_of gift.now)) v)) }
+        ensures answer { IfOk result (λ done. meaning_of done.answer ≡ ok) }
+        ensures told { IfOk result (λ done. (table : declared.Table) → held_at self.old.registry (ref_of id.now) ≡ Some table → told_in done.transfer ≡ transfers_in (gives_to (found_at (ref_of id.now) table) (Some to.now) (meaning_of gift.now))) }
+        ensures err { OnErr result (IsUnchanged self.old self.new) }
+    {
+        let Some(table) = self.registry.get(id) else {
+            return Ok(done());
+        };
+        let message = transfer_message(alloc, id, table, &table.owner, gift)?;
+        let to_whom = to.copy()?;
+        self.registry.pass(alloc, id, to)?;
+        Ok(Done {
+            answer: Term::word(Word::True),
+            transfer: Some(Transfer {
+                to: to_whom,
+                message,
+            }),
+        })
+    }
+
+    // A call that changes no owner, heir or name.
+    fn serve(&mut self, alloc: Global, id: &RefId, call: &TableCall) -> Result<Done, AllocError>
+        ensures tables { OnOk result ((v : Contents) (p : names.Pid) (table : declared.Table) → Hold self.old v → held_at self.old.registry (ref_of id.now) ≡ Some table → allowed_at p (found_at (ref_of id.now) table) (call_in call.now) ≡ None → (table_line v p (found_at (ref_of id.now) table) (call_in call.now)).rule ≡ None → writes_rows_alone (call_in call.now) ≡ true → Hold self.new (after (table_line v p (found_at (ref_of id.now) table) (call_in call.now)).changes v)) }
+        ensures answer { IfOk result (λ done. (v : Contents) (p : names.Pid) (table : declared.Table) → Hold self.old v → held_at self.old.registry (ref_of id.now) ≡ Some table → allowed_at p (found_at (ref_of id.now) table) (call_in call.now) ≡ None → (table_line v p (found_at (ref_of id.now) table) (call_in call.now)).rule ≡ None → meaning_of done.answer ≡ (table_line v p (found_at (ref_of id.now) table) (call_in call.now)).answer) }
+        ensures told { IfOk result (λ done. told_in done.transfer ≡ []) }
+        ensures err { OnErr result (IsUnchanged self.old self.new) }
+    {
+        let Some(table) = self.registry.get(id) else {
+            return Ok(done());
+        };
+        let answer = answer(alloc, table, call)?;
+        if let Class::Write = class_of(call) {
+            self.write(alloc, id, call)?;
+        }
+        Ok(Done {
+            answer,
+            transfer: None,
+        })
+    }
+
+    // A call of the table of a reference.
+    fn apply_at(&mut self, alloc: Global, id: &RefId, call: &TableCall) -> Result<Done, AllocError>
+        ensures tables { OnOk result ((v : Contents) (p : names.Pid) (table : declared.Table) → Hold self.old v → held_at self.old.registry (ref_of id.now) ≡ Some table → allowed_at p (found_at (ref_of id.now) table) (call_in call.now) ≡ None → (table_line v p (found_at (ref_of id.now) table) (call_in call.now)).rule ≡ None → Hold self.new (after (table_line v p (found_at (ref_of id.now) table) (call_in call.now)).changes v)) }
+        ensures answer { IfOk result (λ done. (v : Contents) (p : names.Pid) (table : declared.Table) → Hold self.old v → held_at self.old.registry (ref_of id.now) ≡ Some table → allowed_at p (found_at (ref_of id.now) table) (call_in call.now) ≡ None → (table_line v p (found_at (ref_of id.now) table) (call_in call.now)).rule ≡ None → meaning_of done.answer ≡ (table_line v p (found_at (ref_of id.now) table) (call_in call.now)).answer) }
+        ensures told { IfOk result (λ done. (v : Contents) (p : names.Pid) (table : declared.Table) → held_at self.old.registry (ref_of id.now) ≡ Some table → (table_line v p (found_at (ref_of id.now) table) (call_in call.now)).rule ≡ None → told_in done.transfer ≡ transfers_in (table_line v p (found_at (ref_of id.now) table) (call_in call.now)).changes) }
+        ensures err { OnErr result (IsUnchanged self.old self.new) }
+    {
+        match call {
+            TableCall::DeleteTable => self.delete(id),
+            TableCall::GiveAway(Some(to), gift) => self.give(alloc, id, to, gift),
+            TableCall::GiveAway(None, _) => Ok(done()),
+            TableCall::SetOptions(heirs) => self.entrust(id, heirs),
+            _ => self.serve(alloc, id, call),
+        }
+    }
+
+    /// Does what a call does that no rule refuses: gives its answer, changes the tables, and says what it tells
+    /// another process. `AllocError` if there is no memory for it, and then nothing is changed. Of a call that is
+    /// refused it promises nothing but that: judge it first, by `judge`.
+    pub fn apply(
+        &mut self,
+        alloc: Global,
+        argument: &TableArgument,
+        call: &TableCall,
+    ) -> Result<Done, AllocError>
+        ensures tables { OnOk result ((v : Contents) (p : names.Pid) → Hold self.old v → table_rule v p (argument_in argument.now) (call_in call.now) ≡ None → Hold self.new (after (on_table_line v p (argument_in argument.now) (call_in call.now)).changes v)) }
+        ensures answer { IfOk result (λ done. (v : Contents) (p : names.Pid) → Hold self.old v → table_rule v p (argument_in argument.now) (call_in call.now) ≡ None → meaning_of done.answer ≡ (on_table_line v p (argument_in argument.now) (call_in call.now)).answer) }
+        ensures told { IfOk result (λ done. (v : Contents) (p : names.Pid) → Hold self.old v → table_rule v p (argument_in argument.now) (call_in call.now) ≡ None → told_in done.transfer ≡ transfers_in (on_table_line v p (argument_in argument.now) (call_in call.now)).changes) }
+        ensures err { OnErr result (IsUnchanged self.old self.new) }
+    {
+        let Some(found) = self.find(argument) else {
+            return nothing_found(alloc);
+        };
+        let id = found.id.copy()?;
+        self.apply_at(alloc, &id, call)
+    }
+}
