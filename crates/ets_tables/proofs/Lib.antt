@@ -1,3 +1,5 @@
+pub mod Ending
 pub mod Following
 pub mod Lending
 pub mod Shelving
+pub mod WrittenRows

@@ -1,8 +1,11 @@
 // The tables that there are, the names under which they are found, and who has them.
 #![tactic(auto)]
 
+pub mod ends;
 mod entry;
+pub mod laws;
 pub mod registry;
 mod shelves;
 
+pub use ends::{Transfer, handle, transfer_message};
 pub use registry::Registry;

@@ -19,7 +19,7 @@ use term_core::{Atom, Pid, RefId};
 /// the tables only the one that is written.
 #[derive(Drop)]
 pub struct Registry {
-    shelves: Arc<Shelves>,
+    pub(crate) shelves: Arc<Shelves>,
 }
 
 impl Registry {
@@ -75,7 +75,7 @@ impl Registry {
     }
 
     /// A copy of the shelves, to be written and put in the place of these.
-    fn copied(&self) -> Result<Shelves, AllocError>
+    pub(crate) fn copied(&self) -> Result<Shelves, AllocError>
         ensures { IfOk result (λ copied. AreSame self.now.shelves.value copied) }
     {
         let shelves: &Shelves = &self.shelves;

@@ -1,11 +1,12 @@
 // Where the tables stand: each change of a cell of the explored world is a method here.
 ghost use Rattle.std.specs.FinMap.{empty};
-ghost use Rattle.std.specs.Prelude.{◌≡◌, [], IfOk, IsSome, OnOk, OnErr, Some, None, option_copied, option_map};
+ghost use Rattle.std.specs.Prelude.{◌≡◌, ◌∷◌, [], IfOk, IsSome, OnOk, OnErr, Some, None, option_copied, option_map};
 ghost use Rattle.ets_store.specs.Tables.{settings_in, heir_in};
 ghost use Rattle.proc_groups.specs.References.{ref_of};
+ghost use Rattle.world_model.specs.Ends.{name_freed};
 ghost use Rattle.world_model.specs.Names as names;
 ghost use Rattle.world_model.specs.Cells.{Contents};
-ghost use Rattle.world_model.specs.Changes.{after, set_in_order, without_first};
+ghost use Rattle.world_model.specs.Changes.{after, set_in_order, without_first, Goes, Wipes};
 ghost use Rattle.world_model.specs.Names.{same_ref, order_of_refs};
 ghost use Rattle.world_model.specs.Tables.{owned_by, with_heir};
 
@@ -179,6 +180,16 @@ impl Shelves {
         };
         let table: &Table = &entry;
         self.lose(&table.owner, id);
+        if table.is_named {
+            self.free(&table.name);
+        }
+    }
+
+    /// A table goes, with all its rows, and its name means nothing where it was found by that.
+    pub(crate) fn forget(&mut self, id: &RefId, table: &Table)
+        ensures { (v : Contents) → AreShelved self.old v → AreShelved self.new (after (Goes (ref_of id.now) ∷ Wipes (ref_of id.now) ∷ name_freed (settings_in table.now)) v) }
+    {
+        drop(self.take(id));
         if table.is_named {
             self.free(&table.name);
         }
