@@ -28,13 +28,13 @@ use Rattle.ets_rules.specs.declared.tables.Tables.{Tables}
 -- the rows of a table that is held are those of its cells
 pub holds_rows : (tables : Tables) (v : Contents) (t : Ref) (table : Table) → Hold tables v → held_at tables.registry t ≡ Some table → HoldsRows table t v
 holds_rows tables v t table hold held = record {
-  rows = sym (hold.tables.rows t) ∙ ap rows_of held;
-  row = λ key. ap (λ rows. get rows key) (sym (ap rows_of held) ∙ hold.tables.rows t) ∙ hold.by_key t key;
+  rows = sym (hold.are.rows t) ∙ ap rows_of held;
+  row = λ key. ap (λ rows. get rows key) (sym (ap rows_of held) ∙ hold.are.rows t) ∙ hold.by_key t key;
 }
 
 -- rows stay those under their keys, whatever changes
 pub hold_after : (old new : Tables) (ks : List Change) (v : Contents) → Hold old v → AreTables new.registry (after ks v) → Hold new (after ks v)
-hold_after old new ks v hold tables = record { tables = tables; by_key = λ t. kept t ks v (hold.by_key t) }
+hold_after old new ks v hold tables = record { are = tables; by_key = λ t. kept t ks v (hold.by_key t) }
 
 -- the rule at a table that is found is the rule of the call
 pub judged : (v : Contents) (p : Pid) (argument : TableArgument) (call : TableCall) (f : Found) (rule : Option Rule) → Some f ≡ find v argument → rule ≡ (found_line v p call (Some f)).rule → rule ≡ table_rule v p argument call

@@ -1,3 +1,4 @@
 pub mod Holding
+pub mod Owning
 pub mod RowChanges
 pub mod Writing

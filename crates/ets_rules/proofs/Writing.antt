@@ -53,7 +53,7 @@ pub write_holds : (old new : Tables) (v : Contents) (p : Pid) (t : Ref) (call : 
 write_holds old new v p t call table lent now hold held settings rows written kept wrote allowed rule alone =
     let same = same_settings _ _ (settings ∙ ap (option_map settings_in) held) in
     let found : found_at t lent ≡ found_at t table = ap (λ s. record { ref = t; table = s }) same in
-    let holds : HoldsRows lent t v = record { rows = sym (rows ∙ hold.tables.rows t); row = λ key. ap (λ r. get r key) (rows ∙ hold.tables.rows t) ∙ hold.by_key t key } in
+    let holds : HoldsRows lent t v = record { rows = sym (rows ∙ hold.are.rows t); row = λ key. ap (λ r. get r key) (rows ∙ hold.are.rows t) ∙ hold.by_key t key } in
     let left = wrote holds (ap (λ f. allowed_at p f call) found ∙ allowed) (ap (λ f. (table_line v p f call).rule) found ∙ rule) (keeps call alone) in
     hold_after old new (table_line v p (found_at t table) call).changes v hold
-    (written_hold old.registry new.registry v _ t table now hold.tables held written (kept ∙ same) (subst (λ f. HoldsRows now t (after (table_line v p f call).changes v)) found left) (call_keeps v p (found_at t table) call alone))
+    (written_hold old.registry new.registry v _ t table now hold.are held written (kept ∙ same) (subst (λ f. HoldsRows now t (after (table_line v p f call).changes v)) found left) (call_keeps v p (found_at t table) call alone))

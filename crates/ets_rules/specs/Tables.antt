@@ -17,7 +17,7 @@ use Rattle.ets_rules.specs.declared.tables.Tables.{Tables}
 
 -- the tables are what the contents say, of which the rows of each table are those under its keys, as in every history
 pub record Hold (tables : Tables) (v : Contents) : Type 0 where
-  pub tables : AreTables tables.registry v
+  pub are : AreTables tables.registry v
   pub by_key : (t : Ref) (key : Key) → get (v (Rows t)) key ≡ some_if (v (Row t key))
 
 -- all is as it was

@@ -40,7 +40,7 @@ pub struct Done {
 }
 
 // The answer of what only does.
-fn done() -> Done
+fn only_done() -> Done
     ensures answer { meaning_of result.answer ≡ ok }
     ensures told { told_in result.transfer ≡ [] }
 {
@@ -70,7 +70,7 @@ impl Tables {
         ensures err { OnErr result (IsUnchanged self.old self.new) }
     {
         self.registry.destroy(id)?;
-        Ok(done())
+        Ok(only_done())
     }
 
     // `setopts/2`: of several heirs the last counts.
@@ -89,7 +89,7 @@ impl Tables {
                 self.registry.inherit(id, heir.clone()?)?;
             }
         }
-        Ok(done())
+        Ok(only_done())
     }
 
     // `give_away/3`: the table passes, and its new owner is told.
@@ -106,7 +106,7 @@ impl Tables {
         ensures err { OnErr result (IsUnchanged self.old self.new) }
     {
         let Some(table) = self.registry.get(id) else {
-            return Ok(done());
+            return Ok(only_done());
         };
         let message = transfer_message(alloc, id, table, &table.owner, gift)?;
         let to_whom = to.copy()?;
@@ -128,7 +128,7 @@ impl Tables {
         ensures err { OnErr result (IsUnchanged self.old self.new) }
     {
         let Some(table) = self.registry.get(id) else {
-            return Ok(done());
+            return Ok(only_done());
         };
         let answer = answer(alloc, table, call)?;
         if let Class::Write = class_of(call) {
@@ -150,7 +150,7 @@ impl Tables {
         match call {
             TableCall::DeleteTable => self.delete(id),
             TableCall::GiveAway(Some(to), gift) => self.give(alloc, id, to, gift),
-            TableCall::GiveAway(None, _) => Ok(done()),
+            TableCall::GiveAway(None, _) => Ok(only_done()),
             TableCall::SetOptions(heirs) => self.entrust(id, heirs),
             _ => self.serve(alloc, id, call),
         }

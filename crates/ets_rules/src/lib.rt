@@ -2,11 +2,15 @@
 // tables go when their owner ends.
 #![tactic(auto)]
 
+pub mod apply;
+pub mod ends;
 pub mod found;
 pub mod judge;
 pub mod make;
-pub mod serve;
+mod serve;
 pub mod tables;
 
+pub use apply::Done;
+pub use ets_tables::Transfer;
 pub use found::FoundTable;
 pub use tables::Tables;

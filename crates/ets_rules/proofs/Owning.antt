@@ -1,0 +1,68 @@
+-- Changes of a table that are not of its rows.
+use Rattle.std.proofs.Common.{◌≡◌, Bool, true, false, List, [], ◌∷◌, Option, Some, None, map, if◌then◌else◌, refl, sym, ap, subst, ◌∙◌}
+use Rattle.std.specs.Prelude.{option_map}
+use Rattle.world_model.specs.Cells as cells
+use Rattle.world_model.specs.Cells.{Contents}
+use Rattle.world_model.specs.Changes.{Change, Inherits, Puts, Touches, after, changed}
+use Rattle.world_model.specs.Events.{Signal}
+use Rattle.world_model.specs.Names.{Name, Pid, Ref, same_ref}
+use Rattle.world_model.specs.Owning.{heirs_set}
+use Rattle.world_model.specs.Rows.{Key}
+use Rattle.world_model.specs.Tables as tables
+use Rattle.world_model.specs.Tables.{Heir, with_heir}
+use Rattle.proc_groups.proofs.Grouping.{same_either}
+use Rattle.ets_tables.specs.Tables.{AreTables}
+use Rattle.ets_tables.specs.declared.registry.Registry.{Registry}
+
+-- a signal that is put is none of the tables
+pub put_apart : (registry : Registry) (v : Contents) (s r : Pid) (signal : Signal) → AreTables registry v → AreTables registry (changed (Puts s r signal) v)
+put_apart registry v s r signal are = record { tables = are.tables; rows = are.rows; each_row = are.each_row; names = are.names; owned = are.owned; }
+
+-- a table that is only touched is what it was
+pub touch_apart : (registry : Registry) (v : Contents) (t : Ref) → AreTables registry v → AreTables registry (changed (Touches (cells.Table t)) v)
+touch_apart registry v t are = record { tables = λ u. are.tables u ∙ sym (same_either (same_ref t u) (v (cells.Table u))); rows = are.rows; each_row = are.each_row; names = are.names; owned = are.owned; }
+
+-- of several heirs the last counts
+last_heir : Heir → List Heir → Heir
+last_heir heir [] = heir
+last_heir heir (next ∷ heirs) = last_heir next heirs
+
+inherits : Bool → Heir → Option tables.Table → Option tables.Table
+inherits b heir there = if b then option_map (with_heir heir) there else there
+
+over : (b : Bool) (heir next : Heir) (there : Option tables.Table) → inherits b next (inherits b heir there) ≡ inherits b next there
+over true heir next None = refl
+over true heir next (Some table) = refl
+over false heir next there = refl
+
+table_heir : (t u : Ref) (heir : Heir) (heirs : List Heir) (v : Contents) → after (map (Inherits t) (heir ∷ heirs)) v (cells.Table u) ≡ inherits (same_ref t u) (last_heir heir heirs) (v (cells.Table u))
+table_heir t u heir [] v = refl
+table_heir t u heir (next ∷ heirs) v = table_heir t u next heirs (changed (Inherits t heir) v) ∙ over_all (same_ref t u) next heirs
+  where
+    over_all : (b : Bool) (n : Heir) (hs : List Heir) → inherits b (last_heir n hs) (inherits b heir (v (cells.Table u))) ≡ inherits b (last_heir n hs) (v (cells.Table u))
+    over_all b n hs = over b heir (last_heir n hs) (v (cells.Table u))
+
+rows_stay : (t u : Ref) (heirs : List Heir) (v : Contents) → after (map (Inherits t) heirs) v (cells.Rows u) ≡ v (cells.Rows u)
+rows_stay t u [] v = refl
+rows_stay t u (heir ∷ heirs) v = rows_stay t u heirs (changed (Inherits t heir) v)
+
+row_stays : (t u : Ref) (key : Key) (heirs : List Heir) (v : Contents) → after (map (Inherits t) heirs) v (cells.Row u key) ≡ v (cells.Row u key)
+row_stays t u key [] v = refl
+row_stays t u key (heir ∷ heirs) v = row_stays t u key heirs (changed (Inherits t heir) v)
+
+name_stays : (t : Ref) (name : Name) (heirs : List Heir) (v : Contents) → after (map (Inherits t) heirs) v (cells.TableName name) ≡ v (cells.TableName name)
+name_stays t name [] v = refl
+name_stays t name (heir ∷ heirs) v = name_stays t name heirs (changed (Inherits t heir) v)
+
+owned_stays : (t : Ref) (p : Pid) (heirs : List Heir) (v : Contents) → after (map (Inherits t) heirs) v (cells.Owned p) ≡ v (cells.Owned p)
+owned_stays t p [] v = refl
+owned_stays t p (heir ∷ heirs) v = owned_stays t p heirs (changed (Inherits t heir) v)
+
+pub last_counts : (registry : Registry) (v : Contents) (t : Ref) (heir : Heir) (heirs : List Heir) → AreTables registry (after (Inherits t (last_heir heir heirs) ∷ []) v) → AreTables registry (after (heirs_set t (heir ∷ heirs)) v)
+last_counts registry v t heir heirs are = record {
+  tables = λ u. are.tables u ∙ sym (table_heir t u heir heirs v);
+  rows = λ u. are.rows u ∙ sym (rows_stay t u (heir ∷ heirs) v);
+  each_row = λ u key. are.each_row u key ∙ sym (row_stays t u key (heir ∷ heirs) v);
+  names = λ name. are.names name ∙ sym (name_stays t name (heir ∷ heirs) v);
+  owned = λ p. are.owned p ∙ sym (owned_stays t p (heir ∷ heirs) v);
+}
