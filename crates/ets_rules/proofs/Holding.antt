@@ -1,15 +1,17 @@
 -- Tables that are held, as the calls find them.
 use Rattle.std.proofs.Common.{◌≡◌, Bool, true, false, Option, Some, None, is_some, if◌then◌else◌, true≢false, refl, sym, ap, ◌∙◌}
 use Rattle.std.specs.FinMap.{get}
+use Rattle.std.specs.Option.{option_or}
 use Rattle.std.specs.Prelude.{List, option_map}
 use Rattle.world_model.specs.Calls.{TableArgument, ByName, ByReference, ByNothing, TableCall}
 use Rattle.world_model.specs.Cells as cells
 use Rattle.world_model.specs.Cells.{Contents}
-use Rattle.world_model.specs.Found.{Found, find}
+use Rattle.world_model.specs.Found.{Found, find, allowed_at}
 use Rattle.world_model.specs.Judging.{found_line, table_rule}
 use Rattle.world_model.specs.Names.{Pid, Ref, same_ref}
 use Rattle.world_model.specs.Changes.{Change, after}
 use Rattle.world_model.specs.Rows.{Key, Rows, under, listed}
+use Rattle.world_model.specs.TableLines.{table_line}
 use Rattle.world_model.specs.declared.rule.Rule.{Rule}
 use Rattle.world_model.proofs.Meeting.{refs_same}
 use Rattle.ets_answers.specs.At.{HoldsRows}
@@ -32,15 +34,23 @@ holds_rows tables v t table hold held = record {
   row = λ key. ap (λ rows. get rows key) (sym (ap rows_of held) ∙ hold.are.rows t) ∙ hold.by_key t key;
 }
 
--- rows stay those under their keys, whatever changes
-pub hold_after : (old new : Tables) (ks : List Change) (v : Contents) → Hold old v → AreTables new.registry (after ks v) → Hold new (after ks v)
-hold_after old new ks v hold tables = record { are = tables; by_key = λ t. kept t ks v (hold.by_key t) }
-
 -- the rule at a table that is found is the rule of the call
 pub judged : (v : Contents) (p : Pid) (argument : TableArgument) (call : TableCall) (f : Found) (rule : Option Rule) → Some f ≡ find v argument → rule ≡ (found_line v p call (Some f)).rule → rule ≡ table_rule v p argument call
 judged v p (ByName name) call f rule found is = is ∙ ap (λ o. (found_line v p call o).rule) found
 judged v p (ByReference t) call f rule found is = is ∙ ap (λ o. (found_line v p call o).rule) found
 judged v p ByNothing call f rule found is = absurd (true≢false (ap is_some found))
+
+or_none : {A : Type 0} (a b : Option A) → option_or a b ≡ None → (a ≡ None) × (b ≡ None)
+or_none None b e = (refl, e)
+or_none (Some x) b e = absurd (true≢false (ap is_some e))
+
+-- where no rule refuses a call, neither who calls nor its arguments are at fault
+pub served_at : (v : Contents) (p : Pid) (argument : TableArgument) (call : TableCall) (f : Found) → Some f ≡ find v argument → table_rule v p argument call ≡ None → (allowed_at p f call ≡ None) × ((table_line v p f call).rule ≡ None)
+served_at v p argument call f found none = or_none (allowed_at p f call) (table_line v p f call).rule (judged v p argument call f (found_line v p call (Some f)).rule found refl ∙ none)
+
+-- rows stay those under their keys, whatever changes
+pub hold_after : (old new : Tables) (ks : List Change) (v : Contents) → Hold old v → AreTables new.registry (after ks v) → Hold new (after ks v)
+hold_after old new ks v hold tables = record { are = tables; by_key = λ t. kept t ks v (hold.by_key t) }
 
 either : {A : Type 0} (b : Bool) (x y z : A) → (b ≡ true → z ≡ x) → (b ≡ false → z ≡ y) → (if b then x else y) ≡ z
 either true x y z here there = sym (here refl)

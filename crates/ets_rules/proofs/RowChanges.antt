@@ -4,12 +4,21 @@ use Rattle.ets_rules.specs.inside.Parts.{KeepsOthers, writes_rows_alone}
 use Rattle.world_model.specs.Calls.{TableCall, Lookup, Member, LookupElement, First, Last, Next, Prev, ToList, Insert, InsertNew, DeleteTable, DeleteKey, DeleteObject, DeleteAll, Take, UpdateCounter, UpdateElement, GiveAway, SetOptions, Info}
 use Rattle.world_model.specs.Cells.{Contents, Row, Rows}
 use Rattle.world_model.specs.Changes.{Change, Writes, Wipes, after, changed, renewed}
-use Rattle.world_model.specs.Found.{Found}
+use Rattle.world_model.specs.Found.{Found, class_of}
 use Rattle.world_model.specs.Names.{Pid, Ref, same_ref}
 use Rattle.world_model.specs.Objects.{stores, stored_at, removes, removed_at, alters, given, one_present, keys_asked}
 use Rattle.term_core.specs.Meaning.{Meaning}
 use Rattle.world_model.specs.Rows.{Key, Object, RowChange, part_at, same_key}
 use Rattle.world_model.specs.TableLines.{table_line}
+use Rattle.world_model.specs.declared.table.Class.{Class}
+use Rattle.world_model.specs.declared.table.Class.TheVariants.{Read, Write, Owners, Open}
+use Rattle.ets_tables.specs.Ends.{transfers_in}
+
+abbrev pub is_write : Class → Bool
+is_write Read = false
+is_write Write = true
+is_write Owners = false
+is_write Open = false
 
 -- changes of the rows of one table, one or several
 data AreOfRows (t : Ref) : List Change → Type 0 where
@@ -102,3 +111,35 @@ line_writes v p f (Info item) e = none
 -- what such a call leaves as it was
 pub call_keeps : (v : Contents) (p : Pid) (f : Found) (call : TableCall) → writes_rows_alone call ≡ true → KeepsOthers f.ref v (after (table_line v p f call).changes v)
 call_keeps v p f call e = rows_keep f.ref _ v (line_writes v p f call e)
+
+-- such a call tells nobody
+none_told : (t : Ref) (ks : List Change) → AreOfRows t ks → transfers_in ks ≡ []
+none_told t [] none = refl
+none_told t (k ∷ ks) (writes key change _ are) = none_told t ks are
+none_told t (k ∷ ks) (wipes _ are) = none_told t ks are
+
+pub tells_nobody : (v : Contents) (p : Pid) (f : Found) (call : TableCall) → writes_rows_alone call ≡ true → transfers_in (table_line v p f call).changes ≡ []
+tells_nobody v p f call e = none_told f.ref _ (line_writes v p f call e)
+
+-- a call that does not write leaves all as it was
+pub reads_alone : (v : Contents) (p : Pid) (f : Found) (call : TableCall) (class : Class) → writes_rows_alone call ≡ true → class ≡ class_of call → is_write class ≡ false → (table_line v p f call).changes ≡ []
+reads_alone v p f (Lookup key) class e is stays = refl
+reads_alone v p f (Member key) class e is stays = refl
+reads_alone v p f (LookupElement key position) class e is stays = refl
+reads_alone v p f First class e is stays = refl
+reads_alone v p f Last class e is stays = refl
+reads_alone v p f (Next key) class e is stays = refl
+reads_alone v p f (Prev key) class e is stays = refl
+reads_alone v p f ToList class e is stays = refl
+reads_alone v p f (Insert objects) class e is stays = absurd (true≢false (sym (ap is_write is) ∙ stays))
+reads_alone v p f (InsertNew objects) class e is stays = absurd (true≢false (sym (ap is_write is) ∙ stays))
+reads_alone v p f DeleteTable class e is stays = absurd (true≢false (sym e))
+reads_alone v p f (DeleteKey key) class e is stays = absurd (true≢false (sym (ap is_write is) ∙ stays))
+reads_alone v p f (DeleteObject object) class e is stays = absurd (true≢false (sym (ap is_write is) ∙ stays))
+reads_alone v p f DeleteAll class e is stays = absurd (true≢false (sym (ap is_write is) ∙ stays))
+reads_alone v p f (Take key) class e is stays = absurd (true≢false (sym (ap is_write is) ∙ stays))
+reads_alone v p f (UpdateCounter key increment) class e is stays = absurd (true≢false (sym (ap is_write is) ∙ stays))
+reads_alone v p f (UpdateElement key change) class e is stays = absurd (true≢false (sym (ap is_write is) ∙ stays))
+reads_alone v p f (GiveAway to gift) class e is stays = absurd (true≢false (sym e))
+reads_alone v p f (SetOptions heirs) class e is stays = absurd (true≢false (sym e))
+reads_alone v p f (Info item) class e is stays = refl

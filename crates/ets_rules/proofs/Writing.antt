@@ -21,26 +21,26 @@ use Rattle.ets_tables.specs.Lending.{IsWritten}
 use Rattle.ets_tables.specs.Tables.{held_at, table_at, rows_at}
 
 keeps : (call : TableCall) → writes_rows_alone call ≡ true → IsTrue (keeps_table call)
-keeps (Lookup key) e = tt
-keeps (Member key) e = tt
-keeps (LookupElement key position) e = tt
-keeps First e = tt
-keeps Last e = tt
-keeps (Next key) e = tt
-keeps (Prev key) e = tt
-keeps ToList e = tt
-keeps (Insert objects) e = tt
-keeps (InsertNew objects) e = tt
+keeps (Lookup key) e = refl
+keeps (Member key) e = refl
+keeps (LookupElement key position) e = refl
+keeps First e = refl
+keeps Last e = refl
+keeps (Next key) e = refl
+keeps (Prev key) e = refl
+keeps ToList e = refl
+keeps (Insert objects) e = refl
+keeps (InsertNew objects) e = refl
 keeps DeleteTable e = absurd (true≢false (sym e))
-keeps (DeleteKey key) e = tt
-keeps (DeleteObject object) e = tt
-keeps DeleteAll e = tt
-keeps (Take key) e = tt
-keeps (UpdateCounter key increment) e = tt
-keeps (UpdateElement key change) e = tt
-keeps (GiveAway to gift) e = tt
-keeps (SetOptions heirs) e = tt
-keeps (Info item) e = tt
+keeps (DeleteKey key) e = refl
+keeps (DeleteObject object) e = refl
+keeps DeleteAll e = refl
+keeps (Take key) e = refl
+keeps (UpdateCounter key increment) e = refl
+keeps (UpdateElement key change) e = refl
+keeps (GiveAway to gift) e = refl
+keeps (SetOptions heirs) e = refl
+keeps (Info item) e = refl
 
 same_settings : (s t : tables.Table) → Some s ≡ Some t → s ≡ t
 same_settings s t e = ap (λ o. unwrap_or o s) e

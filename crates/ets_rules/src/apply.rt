@@ -1,5 +1,5 @@
 // What calls that are served answer, leave and tell (ets manual, each under the name of its call).
-ghost use Rattle.std.specs.Prelude.{◌≡◌, [], None, Some, true, IfOk, OnOk, OnErr, map, option_map, codes};
+ghost use Rattle.std.specs.Prelude.{◌≡◌, [], None, Some, true, false, IsSome, IfOk, OnOk, OnErr, map, option_map, codes};
 ghost use Rattle.ets_answers.specs.At.{found_at};
 ghost use Rattle.ets_calls.specs.Arguments.{argument_in};
 ghost use Rattle.ets_calls.specs.Calls.{call_in};
@@ -61,6 +61,25 @@ fn nothing_found(alloc: Global) -> Result<Done, AllocError>
     })
 }
 
+// Whether a call changes no owner, heir or name of a table.
+fn is_of_rows(call: &TableCall) -> bool
+    ensures { result ≡ writes_rows_alone (call_in call.now) }
+{
+    match call {
+        TableCall::DeleteTable => false,
+        TableCall::GiveAway(_, _) => false,
+        TableCall::SetOptions(_) => false,
+        _ => true,
+    }
+}
+
+// The same heir.
+fn copied(heir: &Option<Heir>) -> Result<Option<Heir>, AllocError>
+    ensures { IfOk result (λ copied. heir_in copied ≡ heir_in heir.now) }
+{
+    heir.clone()
+}
+
 impl Tables {
     // `delete/1`.
     fn delete(&mut self, id: &RefId) -> Result<Done, AllocError>
@@ -73,7 +92,22 @@ impl Tables {
         Ok(only_done())
     }
 
-    // `setopts/2`: of several heirs the last counts.
+    // The heirs of a table, one after the other: the last counts.
+    fn entrust_last(&mut self, id: &RefId, heirs: &[Option<Heir>]) -> Result<Done, AllocError>
+        ensures tables { OnOk result ((v : Contents) → Hold self.old v → Hold self.new (after (heirs_set (ref_of id.now) (map heir_in heirs.now)) v)) }
+        ensures answer { IfOk result (λ done. meaning_of done.answer ≡ ok) }
+        ensures told { IfOk result (λ done. told_in done.transfer ≡ []) }
+        ensures err { OnErr result (IsUnchanged self.old self.new) }
+    {
+        let Some(heir) = heirs.last() else {
+            return Ok(only_done());
+        };
+        let heir = copied(heir)?;
+        self.registry.inherit(id, heir)?;
+        Ok(only_done())
+    }
+
+    // `setopts/2`.
     fn entrust(
         &mut self,
         id: &RefId,
@@ -84,12 +118,10 @@ impl Tables {
         ensures told { IfOk result (λ done. told_in done.transfer ≡ []) }
         ensures err { OnErr result (IsUnchanged self.old self.new) }
     {
-        if let Some(heirs) = heirs {
-            if let Some(heir) = heirs.last() {
-                self.registry.inherit(id, heir.clone()?)?;
-            }
+        match heirs {
+            Some(heirs) => self.entrust_last(id, heirs.as_slice()),
+            None => self.entrust_last(id, &[]),
         }
-        Ok(only_done())
     }
 
     // `give_away/3`: the table passes, and its new owner is told.
@@ -120,39 +152,77 @@ impl Tables {
         })
     }
 
-    // A call that changes no owner, heir or name.
-    fn serve(&mut self, alloc: Global, id: &RefId, call: &TableCall) -> Result<Done, AllocError>
-        ensures tables { OnOk result ((v : Contents) (p : names.Pid) (table : declared.Table) → Hold self.old v → held_at self.old.registry (ref_of id.now) ≡ Some table → allowed_at p (found_at (ref_of id.now) table) (call_in call.now) ≡ None → (table_line v p (found_at (ref_of id.now) table) (call_in call.now)).rule ≡ None → writes_rows_alone (call_in call.now) ≡ true → Hold self.new (after (table_line v p (found_at (ref_of id.now) table) (call_in call.now)).changes v)) }
-        ensures answer { IfOk result (λ done. (v : Contents) (p : names.Pid) (table : declared.Table) → Hold self.old v → held_at self.old.registry (ref_of id.now) ≡ Some table → allowed_at p (found_at (ref_of id.now) table) (call_in call.now) ≡ None → (table_line v p (found_at (ref_of id.now) table) (call_in call.now)).rule ≡ None → meaning_of done.answer ≡ (table_line v p (found_at (ref_of id.now) table) (call_in call.now)).answer) }
+    // What a call answers that changes no owner, heir or name.
+    fn read(&self, alloc: Global, id: &RefId, call: &TableCall) -> Result<Done, AllocError>
+        ensures answer { IfOk result (λ done. (v : Contents) (p : names.Pid) (table : declared.Table) → Hold self.now v → held_at self.now.registry (ref_of id.now) ≡ Some table → allowed_at p (found_at (ref_of id.now) table) (call_in call.now) ≡ None → (table_line v p (found_at (ref_of id.now) table) (call_in call.now)).rule ≡ None → meaning_of done.answer ≡ (table_line v p (found_at (ref_of id.now) table) (call_in call.now)).answer) }
         ensures told { IfOk result (λ done. told_in done.transfer ≡ []) }
-        ensures err { OnErr result (IsUnchanged self.old self.new) }
     {
         let Some(table) = self.registry.get(id) else {
             return Ok(only_done());
         };
         let answer = answer(alloc, table, call)?;
-        if let Class::Write = class_of(call) {
-            self.write(alloc, id, call)?;
-        }
         Ok(Done {
             answer,
             transfer: None,
         })
     }
 
-    // A call of the table of a reference.
-    fn apply_at(&mut self, alloc: Global, id: &RefId, call: &TableCall) -> Result<Done, AllocError>
+    // A call that changes no owner, heir or name.
+    fn serve(&mut self, alloc: Global, id: &RefId, call: &TableCall) -> Result<Done, AllocError>
+        requires there { IsSome (held_at self.old.registry (ref_of id.now)) }
+        requires rows { writes_rows_alone (call_in call.now) ≡ true }
         ensures tables { OnOk result ((v : Contents) (p : names.Pid) (table : declared.Table) → Hold self.old v → held_at self.old.registry (ref_of id.now) ≡ Some table → allowed_at p (found_at (ref_of id.now) table) (call_in call.now) ≡ None → (table_line v p (found_at (ref_of id.now) table) (call_in call.now)).rule ≡ None → Hold self.new (after (table_line v p (found_at (ref_of id.now) table) (call_in call.now)).changes v)) }
         ensures answer { IfOk result (λ done. (v : Contents) (p : names.Pid) (table : declared.Table) → Hold self.old v → held_at self.old.registry (ref_of id.now) ≡ Some table → allowed_at p (found_at (ref_of id.now) table) (call_in call.now) ≡ None → (table_line v p (found_at (ref_of id.now) table) (call_in call.now)).rule ≡ None → meaning_of done.answer ≡ (table_line v p (found_at (ref_of id.now) table) (call_in call.now)).answer) }
-        ensures told { IfOk result (λ done. (v : Contents) (p : names.Pid) (table : declared.Table) → held_at self.old.registry (ref_of id.now) ≡ Some table → (table_line v p (found_at (ref_of id.now) table) (call_in call.now)).rule ≡ None → told_in done.transfer ≡ transfers_in (table_line v p (found_at (ref_of id.now) table) (call_in call.now)).changes) }
+        ensures told { IfOk result (λ done. (v : Contents) (p : names.Pid) (table : declared.Table) → told_in done.transfer ≡ transfers_in (table_line v p (found_at (ref_of id.now) table) (call_in call.now)).changes) }
+        ensures err { OnErr result (IsUnchanged self.old self.new) }
+    {
+        let done = self.read(alloc, id, call)?;
+        match class_of(call) {
+            Class::Write => {
+                self.write(alloc, id, call)?;
+                Ok(done)
+            }
+            Class::Read => Ok(done),
+            Class::Owners => Ok(done),
+            Class::Open => Ok(done),
+        }
+    }
+
+    // A call that destroys a table, or changes who owns or inherits it.
+    #[tactic(auto, using(crate::proofs::Owning::heirs_tell_nobody))]
+    fn hand_on(&mut self, alloc: Global, id: &RefId, call: &TableCall) -> Result<Done, AllocError>
+        requires { writes_rows_alone (call_in call.now) ≡ false }
+        ensures tables { OnOk result ((v : Contents) (p : names.Pid) (table : declared.Table) → Hold self.old v → held_at self.old.registry (ref_of id.now) ≡ Some table → (table_line v p (found_at (ref_of id.now) table) (call_in call.now)).rule ≡ None → Hold self.new (after (table_line v p (found_at (ref_of id.now) table) (call_in call.now)).changes v)) }
+        ensures answer { IfOk result (λ done. (v : Contents) (p : names.Pid) (table : declared.Table) → meaning_of done.answer ≡ (table_line v p (found_at (ref_of id.now) table) (call_in call.now)).answer) }
+        ensures told { IfOk result (λ done. (v : Contents) (p : names.Pid) (table : declared.Table) → held_at self.old.registry (ref_of id.now) ≡ Some table → told_in done.transfer ≡ transfers_in (table_line v p (found_at (ref_of id.now) table) (call_in call.now)).changes) }
         ensures err { OnErr result (IsUnchanged self.old self.new) }
     {
         match call {
-            TableCall::DeleteTable => self.delete(id),
-            TableCall::GiveAway(Some(to), gift) => self.give(alloc, id, to, gift),
+            TableCall::GiveAway(Some(to), gift) => {
+                let done = self.give(alloc, id, to, gift)?;
+                Ok(done)
+            }
             TableCall::GiveAway(None, _) => Ok(only_done()),
-            TableCall::SetOptions(heirs) => self.entrust(id, heirs),
-            _ => self.serve(alloc, id, call),
+            TableCall::SetOptions(heirs) => {
+                let done = self.entrust(id, heirs)?;
+                Ok(done)
+            }
+            _ => self.delete(id),
+        }
+    }
+
+    // A call of the table of a reference, which is there.
+    fn apply_at(&mut self, alloc: Global, id: &RefId, call: &TableCall) -> Result<Done, AllocError>
+        requires { IsSome (held_at self.old.registry (ref_of id.now)) }
+        ensures tables { OnOk result ((v : Contents) (p : names.Pid) (table : declared.Table) → Hold self.old v → held_at self.old.registry (ref_of id.now) ≡ Some table → allowed_at p (found_at (ref_of id.now) table) (call_in call.now) ≡ None → (table_line v p (found_at (ref_of id.now) table) (call_in call.now)).rule ≡ None → Hold self.new (after (table_line v p (found_at (ref_of id.now) table) (call_in call.now)).changes v)) }
+        ensures answer { IfOk result (λ done. (v : Contents) (p : names.Pid) (table : declared.Table) → Hold self.old v → held_at self.old.registry (ref_of id.now) ≡ Some table → allowed_at p (found_at (ref_of id.now) table) (call_in call.now) ≡ None → (table_line v p (found_at (ref_of id.now) table) (call_in call.now)).rule ≡ None → meaning_of done.answer ≡ (table_line v p (found_at (ref_of id.now) table) (call_in call.now)).answer) }
+        ensures told { IfOk result (λ done. (v : Contents) (p : names.Pid) (table : declared.Table) → held_at self.old.registry (ref_of id.now) ≡ Some table → told_in done.transfer ≡ transfers_in (table_line v p (found_at (ref_of id.now) table) (call_in call.now)).changes) }
+        ensures err { OnErr result (IsUnchanged self.old self.new) }
+    {
+        if is_of_rows(call) {
+            self.serve(alloc, id, call)
+        } else {
+            self.hand_on(alloc, id, call)
         }
     }
 
@@ -171,9 +241,11 @@ impl Tables {
         ensures err { OnErr result (IsUnchanged self.old self.new) }
     {
         let Some(found) = self.find(argument) else {
-            return nothing_found(alloc);
+            let done = nothing_found(alloc)?;
+            return Ok(done);
         };
         let id = found.id.copy()?;
-        self.apply_at(alloc, &id, call)
+        let done = self.apply_at(alloc, &id, call)?;
+        Ok(done)
     }
 }

@@ -29,6 +29,7 @@ impl Tables {
         ensures told { IfOk result (λ transfers. (v : Contents) → Hold self.old v → AreAlive living.now v → transfers_in (tables_pass v pid.now (v (cells.Owned pid.now))) ≡ map transfer_of transfers.items) }
         ensures err { OnErr result (IsUnchanged self.old self.new) }
     {
-        self.registry.owner_ends(alloc, pid, living)
+        let transfers = self.registry.owner_ends(alloc, pid, living)?;
+        Ok(transfers)
     }
 }
