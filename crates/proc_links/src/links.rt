@@ -42,12 +42,7 @@ pub struct Links {
 }
 
 /// Makes each of two processes a partner of the other.
-fn join(
-    partners: &mut Groups<Pid>,
-    alloc: Global,
-    pid: &Pid,
-    other: &Pid,
-) -> Result<(), AllocError>
+fn join(partners: &mut Groups<Pid>, alloc: Global, pid: &Pid, other: &Pid) -> Result<(), AllocError>
     ensures ok { OnOk result ((r : names.Pid) → members_in partners.new r ≡ paired pid.now other.now r (members_in partners.old r)) }
     ensures err { OnErr result ((r : names.Pid) → members_in partners.new r ≡ members_in partners.old r) }
 {
