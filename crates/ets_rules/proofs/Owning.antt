@@ -1,10 +1,10 @@
 -- Changes of a table that are not of its rows.
 use Rattle.std.proofs.Common.{◌≡◌, Bool, true, false, List, [], ◌∷◌, Option, Some, None, is_some, true≢false, map, if◌then◌else◌, arith, refl, sym, ap, subst, ◌∙◌}
-use Rattle.std.specs.Prelude.{ℕ, length, ◌-◌, option_map, unwrap_or}
+use Rattle.std.specs.Prelude.{length, ◌-◌, option_map, unwrap_or}
 use Rattle.std.specs.List.{slice_get}
 use Rattle.world_model.specs.Cells as cells
 use Rattle.world_model.specs.Cells.{Contents}
-use Rattle.world_model.specs.Changes.{Change, Inherits, Puts, Touches, after, changed}
+use Rattle.world_model.specs.Changes.{Inherits, Puts, Touches, after, changed}
 use Rattle.world_model.specs.Events.{Signal}
 use Rattle.world_model.specs.Names.{Name, Pid, Ref, same_ref}
 use Rattle.world_model.specs.Owning.{heirs_set}

@@ -2,7 +2,7 @@
 use Rattle.std.proofs.Common.{◌≡◌, ◌&&◌, ℕ, Bool, true, false, List, [], ◌∷◌, ◌++◌, Option, Some, None, if◌then◌else◌, true≢false, refl, sym, ap, ◌∙◌}
 use Rattle.ets_rules.specs.inside.Parts.{KeepsOthers, writes_rows_alone}
 use Rattle.world_model.specs.Calls.{TableCall, Lookup, Member, LookupElement, First, Last, Next, Prev, ToList, Insert, InsertNew, DeleteTable, DeleteKey, DeleteObject, DeleteAll, Take, UpdateCounter, UpdateElement, GiveAway, SetOptions, Info}
-use Rattle.world_model.specs.Cells.{Contents, Row, Rows}
+use Rattle.world_model.specs.Cells.{Contents, Row}
 use Rattle.world_model.specs.Changes.{Change, Writes, Wipes, after, changed, renewed}
 use Rattle.world_model.specs.Found.{Found, class_of}
 use Rattle.world_model.specs.Names.{Pid, Ref, same_ref}

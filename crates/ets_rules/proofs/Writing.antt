@@ -1,5 +1,5 @@
 -- A call that writes rows alone, at a table that was lent to it.
-use Rattle.std.proofs.Common.{◌≡◌, true, IsTrue, Option, Some, None, true≢false, refl, sym, ap, subst, ◌∙◌}
+use Rattle.std.proofs.Common.{◌≡◌, true, IsTrue, Some, None, true≢false, refl, sym, ap, subst, ◌∙◌}
 use Rattle.std.specs.FinMap.{get}
 use Rattle.std.specs.Prelude.{option_map, unwrap_or}
 use Rattle.world_model.specs.Calls.{TableCall, Lookup, Member, LookupElement, First, Last, Next, Prev, ToList, Insert, InsertNew, DeleteTable, DeleteKey, DeleteObject, DeleteAll, Take, UpdateCounter, UpdateElement, GiveAway, SetOptions, Info}

@@ -152,6 +152,25 @@ impl Tables {
         })
     }
 
+    // The same, to a process if it is one.
+    fn give_if(
+        &mut self,
+        alloc: Global,
+        id: &RefId,
+        to: &Option<Pid>,
+        gift: &Term,
+    ) -> Result<Done, AllocError>
+        ensures tables { OnOk result ((v : Contents) (table : declared.Table) → Hold self.old v → held_at self.old.registry (ref_of id.now) ≡ Some table → Hold self.new (after (gives_to (found_at (ref_of id.now) table) to.now (meaning_of gift.now)) v)) }
+        ensures answer { IfOk result (λ done. meaning_of done.answer ≡ ok) }
+        ensures told { IfOk result (λ done. (table : declared.Table) → held_at self.old.registry (ref_of id.now) ≡ Some table → told_in done.transfer ≡ transfers_in (gives_to (found_at (ref_of id.now) table) to.now (meaning_of gift.now))) }
+        ensures err { OnErr result (IsUnchanged self.old self.new) }
+    {
+        match to {
+            Some(to) => self.give(alloc, id, to, gift),
+            None => Ok(only_done()),
+        }
+    }
+
     // What a call answers that changes no owner, heir or name.
     fn read(&self, alloc: Global, id: &RefId, call: &TableCall) -> Result<Done, AllocError>
         ensures answer { IfOk result (λ done. (v : Contents) (p : names.Pid) (table : declared.Table) → Hold self.now v → held_at self.now.registry (ref_of id.now) ≡ Some table → allowed_at p (found_at (ref_of id.now) table) (call_in call.now) ≡ None → (table_line v p (found_at (ref_of id.now) table) (call_in call.now)).rule ≡ None → meaning_of done.answer ≡ (table_line v p (found_at (ref_of id.now) table) (call_in call.now)).answer) }
@@ -198,11 +217,10 @@ impl Tables {
         ensures err { OnErr result (IsUnchanged self.old self.new) }
     {
         match call {
-            TableCall::GiveAway(Some(to), gift) => {
-                let done = self.give(alloc, id, to, gift)?;
+            TableCall::GiveAway(to, gift) => {
+                let done = self.give_if(alloc, id, to, gift)?;
                 Ok(done)
             }
-            TableCall::GiveAway(None, _) => Ok(only_done()),
             TableCall::SetOptions(heirs) => {
                 let done = self.entrust(id, heirs)?;
                 Ok(done)

@@ -3,7 +3,6 @@ ghost use Rattle.std.specs.FinMap.{empty};
 ghost use Rattle.std.specs.Prelude.{◌≡◌, None, IfOk, OnOk, OnErr, map};
 ghost use Rattle.ets_calls.specs.Options.{option_in};
 ghost use Rattle.ets_rules.specs.Tables.{Hold, IsUnchanged};
-ghost use Rattle.ets_store.specs.Tables.{settings_in};
 ghost use Rattle.ets_tables.specs.Tables.{rows_at};
 ghost use Rattle.proc_groups.specs.References.{ref_of};
 ghost use Rattle.term_core.specs.Term.{meaning_of};
@@ -16,19 +15,9 @@ ghost use Rattle.world_model.specs.Tables.{handle_of, table_of};
 use crate::tables::Tables;
 use ets_calls::TableOption;
 use ets_calls::settings::table_of;
-use ets_store::Table;
+use ets_tables::handle;
 use std::alloc::{AllocError, Global};
 use term_core::{Atom, Pid, RefId, Term};
-
-// What finds a table: its name, or else the reference of its creation.
-fn handle(id: &RefId, table: &Table) -> Result<Term, AllocError>
-    ensures { IfOk result (λ handle. meaning_of handle ≡ handle_of (ref_of id.now) (settings_in table.now)) }
-{
-    if table.is_named {
-        return Ok(Term::Atom(table.name.copy()?));
-    }
-    Ok(Term::Ref(id.copy()?))
-}
 
 impl Tables {
     /// Makes a table for a process, with this name and these options, under the reference of this creation, and

@@ -1,6 +1,5 @@
-use Rattle.std.proofs.Common.{◌≡◌, Some, ap, subst, ◌∙◌}
+use Rattle.std.proofs.Common.{Some, ap, subst, ◌∙◌}
 use Rattle.world_model.specs.Changes.{after}
-use Rattle.world_model.specs.Found.{find}
 use Rattle.world_model.specs.Judging.{found_line}
 use Rattle.ets_answers.specs.At.{found_at}
 use Rattle.ets_calls.specs.Arguments.{argument_in}
