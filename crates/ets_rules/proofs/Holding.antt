@@ -68,8 +68,10 @@ written_hold old new v w t was now tables held written same holds keeps = record
 } where
   each : (key : Key) → w (cells.Row t key) ≡ under now.rows.rows key
   each key = sym (ap listed (holds.row key) ∙ listed_some (w (cells.Row t key)))
+
   settled : (u : Ref) → same_ref t u ≡ true → w (cells.Table u) ≡ Some (settings_in now)
   settled u e = keeps.tables u ∙ ap (λ r. v (cells.Table r)) (sym (refs_same t u e)) ∙ sym (tables.tables t) ∙ ap (option_map settings_in) held ∙ ap Some (sym same)
+
   if_under : (b : Bool) (x y : Rows) (key : Key) → under (if b then x else y) key ≡ (if b then under x key else under y key)
   if_under true x y key = refl
   if_under false x y key = refl

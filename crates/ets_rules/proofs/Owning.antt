@@ -20,11 +20,11 @@ use Rattle.ets_tables.specs.declared.registry.Registry.{Registry}
 
 -- a signal that is put is none of the tables
 pub put_apart : (registry : Registry) (v : Contents) (s r : Pid) (signal : Signal) → AreTables registry v → AreTables registry (changed (Puts s r signal) v)
-put_apart registry v s r signal are = record { tables = are.tables; rows = are.rows; each_row = are.each_row; names = are.names; owned = are.owned; }
+put_apart registry v s r signal are = record { tables = are.tables; rows = are.rows; each_row = are.each_row; names = are.names; owned = are.owned }
 
 -- a table that is only touched is what it was
 pub touch_apart : (registry : Registry) (v : Contents) (t : Ref) → AreTables registry v → AreTables registry (changed (Touches (cells.Table t)) v)
-touch_apart registry v t are = record { tables = λ u. are.tables u ∙ sym (same_either (same_ref t u) (v (cells.Table u))); rows = are.rows; each_row = are.each_row; names = are.names; owned = are.owned; }
+touch_apart registry v t are = record { tables = λ u. are.tables u ∙ sym (same_either (same_ref t u) (v (cells.Table u))); rows = are.rows; each_row = are.each_row; names = are.names; owned = are.owned }
 
 -- of several heirs the last counts
 abbrev pub last_heir : Heir → List Heir → Heir

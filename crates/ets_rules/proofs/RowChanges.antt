@@ -58,7 +58,7 @@ wipe_keeps t v = record {
 }
 
 rows_keep : (t : Ref) (ks : List Change) (v : Contents) → AreOfRows t ks → KeepsOthers t v (after ks v)
-rows_keep t [] v none = record { tables = λ u. refl; rows = λ u e. refl; each_row = λ u k e. refl; names = λ name. refl; owned = λ p. refl; }
+rows_keep t [] v none = record { tables = λ u. refl; rows = λ u e. refl; each_row = λ u k e. refl; names = λ name. refl; owned = λ p. refl }
 rows_keep t (k ∷ ks) v (writes key change _ are) = keeps_then t v _ _ (write_keeps t key change v) (rows_keep t ks _ are)
 rows_keep t (k ∷ ks) v (wipes _ are) = keeps_then t v _ _ (wipe_keeps t v) (rows_keep t ks _ are)
 

@@ -108,11 +108,7 @@ impl Tables {
     }
 
     // `setopts/2`.
-    fn entrust(
-        &mut self,
-        id: &RefId,
-        heirs: &Option<Vec<Option<Heir>>>,
-    ) -> Result<Done, AllocError>
+    fn entrust(&mut self, id: &RefId, heirs: &Option<Vec<Option<Heir>>>) -> Result<Done, AllocError>
         ensures tables { OnOk result ((v : Contents) → Hold self.old v → Hold self.new (after (heirs_set (ref_of id.now) (given (option_map (λ hs. map heir_in hs.items) heirs.now))) v)) }
         ensures answer { IfOk result (λ done. meaning_of done.answer ≡ ok) }
         ensures told { IfOk result (λ done. told_in done.transfer ≡ []) }
@@ -125,13 +121,7 @@ impl Tables {
     }
 
     // `give_away/3`: the table passes, and its new owner is told.
-    fn give(
-        &mut self,
-        alloc: Global,
-        id: &RefId,
-        to: &Pid,
-        gift: &Term,
-    ) -> Result<Done, AllocError>
+    fn give(&mut self, alloc: Global, id: &RefId, to: &Pid, gift: &Term) -> Result<Done, AllocError>
         ensures tables { OnOk result ((v : Contents) (table : declared.Table) → Hold self.old v → held_at self.old.registry (ref_of id.now) ≡ Some table → Hold self.new (after (gives_to (found_at (ref_of id.now) table) (Some to.now) (meaning_of gift.now)) v)) }
         ensures answer { IfOk result (λ done. meaning_of done.answer ≡ ok) }
         ensures told { IfOk result (λ done. (table : declared.Table) → held_at self.old.registry (ref_of id.now) ≡ Some table → told_in done.transfer ≡ transfers_in (gives_to (found_at (ref_of id.now) table) (Some to.now) (meaning_of gift.now))) }

@@ -22,7 +22,12 @@ use term_core::RefId;
 
 impl Tables {
     /// What a call writes into the rows of a table that is there.
-    pub(crate) fn write(&mut self, alloc: Global, id: &RefId, call: &TableCall) -> Result<(), AllocError>
+    pub(crate) fn write(
+        &mut self,
+        alloc: Global,
+        id: &RefId,
+        call: &TableCall,
+    ) -> Result<(), AllocError>
         requires { IsSome (held_at self.old.registry (ref_of id.now)) }
         ensures ok { OnOk result ((v : Contents) (p : names.Pid) (table : declared.Table) → Hold self.old v → held_at self.old.registry (ref_of id.now) ≡ Some table → allowed_at p (found_at (ref_of id.now) table) (call_in call.now) ≡ None → (table_line v p (found_at (ref_of id.now) table) (call_in call.now)).rule ≡ None → writes_rows_alone (call_in call.now) ≡ true → Hold self.new (after (table_line v p (found_at (ref_of id.now) table) (call_in call.now)).changes v)) }
         ensures err { OnErr result (IsUnchanged self.old self.new) }

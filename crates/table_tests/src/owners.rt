@@ -68,7 +68,15 @@ const INFO_BY_ANOTHER_PRIVATE: [Line; 7] = [
 ];
 
 // Calls of others than the owner, by the protection of the table.
-const OTHERS_ARE_REFUSED: [&[Line]; 7] = [&ORDER_PRIVATE_INSERT, &ORDER_PRIVATE_LOOKUP_ELEMENT, &ORDER_PROTECTED_UPDATE_COUNTER, &ORDER_PROTECTED_MEMBER, &ORDER_PUBLIC_TAKE, &ONE_RULE_OWNER_BEFORE_ARGUMENTS, &INFO_BY_ANOTHER_PRIVATE];
+const OTHERS_ARE_REFUSED: [&[Line]; 7] = [
+    &ORDER_PRIVATE_INSERT,
+    &ORDER_PRIVATE_LOOKUP_ELEMENT,
+    &ORDER_PROTECTED_UPDATE_COUNTER,
+    &ORDER_PROTECTED_MEMBER,
+    &ORDER_PUBLIC_TAKE,
+    &ONE_RULE_OWNER_BEFORE_ARGUMENTS,
+    &INFO_BY_ANOTHER_PRIVATE,
+];
 
 #[test]
 fn others_are_refused(rt: HostRuntime) -> Result<(), Fail> {
@@ -82,7 +90,13 @@ const GIVE_AWAY_RIGHTS_PASS_PRIVATE: [Line; 13] = [
     ("", 0, "new", "'t',['named_table','private']", "'t'"),
     ("", 0, "insert", "'t',{1,1}", "'true'"),
     ("C3", 0, "pid", "3", "P.3"),
-    ("", 0, "give_away", "'t',C3,{'d',[C3]}", "'true', P.3 gets {'ETS-TRANSFER','t',P,{'d',[P.3]}}"),
+    (
+        "",
+        0,
+        "give_away",
+        "'t',C3,{'d',[C3]}",
+        "'true', P.3 gets {'ETS-TRANSFER','t',P,{'d',[P.3]}}",
+    ),
     ("", 0, "lookup", "'t',1", "3 of P.3"),
     ("", 0, "insert", "'t',{2,2}", "4 of P.3"),
     ("", 0, "delete", "'t'", "4 of P.3"),
@@ -98,7 +112,13 @@ const GIVE_AWAY_RIGHTS_PASS_PROTECTED: [Line; 13] = [
     ("", 0, "new", "'t',['named_table','protected']", "'t'"),
     ("", 0, "insert", "'t',{1,1}", "'true'"),
     ("C3", 0, "pid", "3", "P.3"),
-    ("", 0, "give_away", "'t',C3,{'d',[C3]}", "'true', P.3 gets {'ETS-TRANSFER','t',P,{'d',[P.3]}}"),
+    (
+        "",
+        0,
+        "give_away",
+        "'t',C3,{'d',[C3]}",
+        "'true', P.3 gets {'ETS-TRANSFER','t',P,{'d',[P.3]}}",
+    ),
     ("", 0, "lookup", "'t',1", "[{1,1}]"),
     ("", 0, "insert", "'t',{2,2}", "5 of P.3"),
     ("", 0, "delete", "'t'", "5 of P.3"),
@@ -128,19 +148,44 @@ const GIVE_AWAY_NOT_OWNER: [Line; 5] = [
 
 const GIVE_AWAY_TO_ONESELF: [Line; 2] = [
     ("", 0, "new", "'t',['named_table']", "'t'"),
-    ("", 0, "give_away", "'t',call 'erlang':'self'(),'d'", "17 of P"),
+    (
+        "",
+        0,
+        "give_away",
+        "'t',call 'erlang':'self'(),'d'",
+        "17 of P",
+    ),
 ];
 
 const GIVE_AWAY_AND_BACK: [Line; 5] = [
     ("", 0, "new", "'t',['named_table']", "'t'"),
     ("C2", 0, "pid", "2", "P.2"),
-    ("", 0, "give_away", "'t',C2,1", "'true', P.2 gets {'ETS-TRANSFER','t',P,1}"),
-    ("", 2, "give_away", "'t',call 'erlang':'self'(),{'back',1}", "'true', P gets {'ETS-TRANSFER','t',P.2,{'back',1}}"),
+    (
+        "",
+        0,
+        "give_away",
+        "'t',C2,1",
+        "'true', P.2 gets {'ETS-TRANSFER','t',P,1}",
+    ),
+    (
+        "",
+        2,
+        "give_away",
+        "'t',call 'erlang':'self'(),{'back',1}",
+        "'true', P gets {'ETS-TRANSFER','t',P.2,{'back',1}}",
+    ),
     ("", 0, "info", "'t','owner'", "P"),
 ];
 
 // Tables that are given away, and who may write them then.
-const TABLES_ARE_GIVEN_AWAY: [&[Line]; 6] = [&GIVE_AWAY_RIGHTS_PASS_PRIVATE, &GIVE_AWAY_RIGHTS_PASS_PROTECTED, &GIVE_AWAY_DEAD, &GIVE_AWAY_NOT_OWNER, &GIVE_AWAY_TO_ONESELF, &GIVE_AWAY_AND_BACK];
+const TABLES_ARE_GIVEN_AWAY: [&[Line]; 6] = [
+    &GIVE_AWAY_RIGHTS_PASS_PRIVATE,
+    &GIVE_AWAY_RIGHTS_PASS_PROTECTED,
+    &GIVE_AWAY_DEAD,
+    &GIVE_AWAY_NOT_OWNER,
+    &GIVE_AWAY_TO_ONESELF,
+    &GIVE_AWAY_AND_BACK,
+];
 
 #[test]
 fn tables_are_given_away(rt: HostRuntime) -> Result<(), Fail> {
@@ -155,12 +200,24 @@ const HEIR_TWO_TABLES_TWO_HEIRS: [Line; 5] = [
     ("C2", 0, "pid", "2", "P.2"),
     ("", 0, "new", "'a',['named_table',{'heir',C2,1}]", "'a'"),
     ("", 0, "new", "'b',['named_table',{'heir',C1,2}]", "'b'"),
-    ("", 0, "ends", "", "[], P.2 gets {'ETS-TRANSFER','a',P,1}, P.1 gets {'ETS-TRANSFER','b',P,2}"),
+    (
+        "",
+        0,
+        "ends",
+        "",
+        "[], P.2 gets {'ETS-TRANSFER','a',P,1}, P.1 gets {'ETS-TRANSFER','b',P,2}",
+    ),
 ];
 
 const HEIR_NONE: [Line; 5] = [
     ("C1", 0, "pid", "1", "P.1"),
-    ("", 0, "new", "'t',['named_table','public',{'heir','none'}]", "'t'"),
+    (
+        "",
+        0,
+        "new",
+        "'t',['named_table','public',{'heir','none'}]",
+        "'t'",
+    ),
     ("", 0, "info", "'t','heir'", "'none'"),
     ("", 0, "ends", "", "[]"),
     ("", 1, "lookup", "'t',1", "2"),
@@ -179,15 +236,33 @@ const HEIR_CHAIN: [Line; 7] = [
     ("C1", 0, "pid", "1", "P.1"),
     ("C2", 0, "pid", "2", "P.2"),
     ("", 0, "new", "'t',['named_table',{'heir',C2,'h'}]", "'t'"),
-    ("", 0, "give_away", "'t',C1,'g'", "'true', P.1 gets {'ETS-TRANSFER','t',P,'g'}"),
+    (
+        "",
+        0,
+        "give_away",
+        "'t',C1,'g'",
+        "'true', P.1 gets {'ETS-TRANSFER','t',P,'g'}",
+    ),
     ("", 0, "ends", "", "[]"),
-    ("", 1, "ends", "", "[], P.2 gets {'ETS-TRANSFER','t',P.1,'h'}"),
+    (
+        "",
+        1,
+        "ends",
+        "",
+        "[], P.2 gets {'ETS-TRANSFER','t',P.1,'h'}",
+    ),
     ("", 2, "info", "'t','owner'", "P.2"),
 ];
 
 const HEIR_LAST_NONE: [Line; 2] = [
     ("C1", 0, "pid", "1", "P.1"),
-    ("", 0, "new", "'t',['named_table',{'heir',C1,1},{'heir','none'}]", "'t'"),
+    (
+        "",
+        0,
+        "new",
+        "'t',['named_table',{'heir',C1,1},{'heir','none'}]",
+        "'t'",
+    ),
 ];
 
 const SETOPTS_CHANGES_THE_HEIR: [Line; 5] = [
@@ -195,7 +270,13 @@ const SETOPTS_CHANGES_THE_HEIR: [Line; 5] = [
     ("C2", 0, "pid", "2", "P.2"),
     ("", 0, "new", "'t',['named_table',{'heir',C1,'old'}]", "'t'"),
     ("", 0, "setopts", "'t',{'heir',C2,'new'}", "'true'"),
-    ("", 0, "ends", "", "[], P.2 gets {'ETS-TRANSFER','t',P,'new'}"),
+    (
+        "",
+        0,
+        "ends",
+        "",
+        "[], P.2 gets {'ETS-TRANSFER','t',P,'new'}",
+    ),
 ];
 
 const SETOPTS_TAKES_THE_HEIR_AWAY: [Line; 3] = [
@@ -214,7 +295,16 @@ const ROW_8B: [Line; 6] = [
 ];
 
 // Tables whose owner ends: they go to an heir that lives, or are gone.
-const TABLES_GO_TO_HEIRS: [&[Line]; 8] = [&HEIR_TWO_TABLES_TWO_HEIRS, &HEIR_NONE, &HEIR_DEAD, &HEIR_CHAIN, &HEIR_LAST_NONE, &SETOPTS_CHANGES_THE_HEIR, &SETOPTS_TAKES_THE_HEIR_AWAY, &ROW_8B];
+const TABLES_GO_TO_HEIRS: [&[Line]; 8] = [
+    &HEIR_TWO_TABLES_TWO_HEIRS,
+    &HEIR_NONE,
+    &HEIR_DEAD,
+    &HEIR_CHAIN,
+    &HEIR_LAST_NONE,
+    &SETOPTS_CHANGES_THE_HEIR,
+    &SETOPTS_TAKES_THE_HEIR_AWAY,
+    &ROW_8B,
+];
 
 #[test]
 fn tables_go_to_heirs(rt: HostRuntime) -> Result<(), Fail> {

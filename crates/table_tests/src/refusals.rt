@@ -39,12 +39,22 @@ const INSERT_NEW_REFUSED_SET: [Line; 14] = [
 
 const DUPLICATE_BAG_INSERT_SHORT: [Line; 3] = [
     ("T1", 0, "new", "'b',['duplicate_bag']", "#P.1"),
-    ("", 0, "insert", "T1,[{1,'x'},{1,'w'},{1,'x'},{2,'y'},{0,'z'},{2,'y'}]", "'true'"),
+    (
+        "",
+        0,
+        "insert",
+        "T1,[{1,'x'},{1,'w'},{1,'x'},{2,'y'},{0,'z'},{2,'y'}]",
+        "'true'",
+    ),
     ("", 0, "insert", "T1,{}", "11 of P"),
 ];
 
 // What is no object, and what is too short to have a key.
-const OBJECTS_ARE_JUDGED: [&[Line]; 3] = [&INSERT_REFUSED_SET_2, &INSERT_NEW_REFUSED_SET, &DUPLICATE_BAG_INSERT_SHORT];
+const OBJECTS_ARE_JUDGED: [&[Line]; 3] = [
+    &INSERT_REFUSED_SET_2,
+    &INSERT_NEW_REFUSED_SET,
+    &DUPLICATE_BAG_INSERT_SHORT,
+];
 
 #[test]
 fn objects_are_judged(rt: HostRuntime) -> Result<(), Fail> {
@@ -56,7 +66,13 @@ fn objects_are_judged(rt: HostRuntime) -> Result<(), Fail> {
 
 const COUNTER_REFUSED_SET: [Line; 14] = [
     ("", 0, "new", "'t',['named_table']", "'t'"),
-    ("", 0, "insert", "'t',[{1,'x'},{'a',5,6},{[1,2],7},{{},1,'c'},{1,'w'},{'b'},{2,-3}]", "'true'"),
+    (
+        "",
+        0,
+        "insert",
+        "'t',[{1,'x'},{'a',5,6},{[1,2],7},{{},1,'c'},{1,'w'},{'b'},{2,-3}]",
+        "'true'",
+    ),
     ("", 0, "update_counter", "'t',2,'a'", "14 of P"),
     ("", 0, "update_counter", "'t',2,{}", "14 of P"),
     ("", 0, "update_counter", "'t',2,{1}", "14 of P"),
@@ -67,13 +83,25 @@ const COUNTER_REFUSED_SET: [Line; 14] = [
     ("", 0, "update_counter", "'t',2,[{2,1}]", "14 of P"),
     ("", 0, "update_counter", "'t',2,{0,'x'}", "14 of P"),
     ("", 0, "update_counter", "'t',2,{2,{}}", "14 of P"),
-    ("", 0, "update_counter", "'t',2,call 'erlang':'self'()", "14 of P"),
+    (
+        "",
+        0,
+        "update_counter",
+        "'t',2,call 'erlang':'self'()",
+        "14 of P",
+    ),
     ("", 0, "lookup", "'t',2", "[{2,-3}]"),
 ];
 
 const COUNTER_REFUSED_BAG: [Line; 14] = [
     ("", 0, "new", "'t',['named_table','bag']", "'t'"),
-    ("", 0, "insert", "'t',[{1,'x'},{'a',5,6},{[1,2],7},{{},1,'c'},{1,'w'},{'b'},{2,-3}]", "'true'"),
+    (
+        "",
+        0,
+        "insert",
+        "'t',[{1,'x'},{'a',5,6},{[1,2],7},{{},1,'c'},{1,'w'},{'b'},{2,-3}]",
+        "'true'",
+    ),
     ("", 0, "update_counter", "'t',2,'a'", "15 of P"),
     ("", 0, "update_counter", "'t',2,{}", "15 of P"),
     ("", 0, "update_counter", "'t',2,{1}", "15 of P"),
@@ -84,26 +112,74 @@ const COUNTER_REFUSED_BAG: [Line; 14] = [
     ("", 0, "update_counter", "'t',2,[{2,1}]", "15 of P"),
     ("", 0, "update_counter", "'t',2,{0,'x'}", "15 of P"),
     ("", 0, "update_counter", "'t',2,{2,{}}", "15 of P"),
-    ("", 0, "update_counter", "'t',2,call 'erlang':'self'()", "15 of P"),
+    (
+        "",
+        0,
+        "update_counter",
+        "'t',2,call 'erlang':'self'()",
+        "15 of P",
+    ),
     ("", 0, "lookup", "'t',2", "[{2,-3}]"),
 ];
 
 const COUNTER_RANGE_ORDERED_SET_2: [Line; 10] = [
-    ("", 0, "new", "'t',['named_table',{'keypos',2},'ordered_set']", "'t'"),
+    (
+        "",
+        0,
+        "new",
+        "'t',['named_table',{'keypos',2},'ordered_set']",
+        "'t'",
+    ),
     ("", 0, "insert", "'t',[{0,1}]", "'true'"),
-    ("", 0, "update_counter", "'t',1,{1,9223372036854775807}", "9223372036854775807"),
+    (
+        "",
+        0,
+        "update_counter",
+        "'t',1,{1,9223372036854775807}",
+        "9223372036854775807",
+    ),
     ("", 0, "update_counter", "'t',1,{1,1}", "19 of P"),
-    ("", 0, "update_counter", "'t',1,{1,-1}", "9223372036854775806"),
-    ("", 0, "update_counter", "'t',1,{1,1}", "9223372036854775807"),
-    ("", 0, "update_counter", "'t',1,{1,-9223372036854775808}", "-1"),
-    ("", 0, "update_counter", "'t',1,{1,-9223372036854775808}", "19 of P"),
+    (
+        "",
+        0,
+        "update_counter",
+        "'t',1,{1,-1}",
+        "9223372036854775806",
+    ),
+    (
+        "",
+        0,
+        "update_counter",
+        "'t',1,{1,1}",
+        "9223372036854775807",
+    ),
+    (
+        "",
+        0,
+        "update_counter",
+        "'t',1,{1,-9223372036854775808}",
+        "-1",
+    ),
+    (
+        "",
+        0,
+        "update_counter",
+        "'t',1,{1,-9223372036854775808}",
+        "19 of P",
+    ),
     ("", 0, "update_counter", "'t',1,{1,0}", "-1"),
     ("", 0, "lookup", "'t',1", "[{-1,1}]"),
 ];
 
 const ELEMENT_REFUSED_SET: [Line; 12] = [
     ("", 0, "new", "'t',['named_table']", "'t'"),
-    ("", 0, "insert", "'t',[{1,'x'},{'a',5,6},{[1,2],7},{{},1,'c'},{1,'w'},{'b'},{2,-3}]", "'true'"),
+    (
+        "",
+        0,
+        "insert",
+        "'t',[{1,'x'},{'a',5,6},{[1,2],7},{{},1,'c'},{1,'w'},{'b'},{2,-3}]",
+        "'true'",
+    ),
     ("", 0, "update_element", "'t',2,'a'", "12 of P"),
     ("", 0, "update_element", "'t',2,1", "12 of P"),
     ("", 0, "update_element", "'t',2,{}", "12 of P"),
@@ -117,8 +193,20 @@ const ELEMENT_REFUSED_SET: [Line; 12] = [
 ];
 
 const ELEMENT_REFUSED_BAG_2: [Line; 12] = [
-    ("", 0, "new", "'t',['named_table','bag',{'keypos',2}]", "'t'"),
-    ("", 0, "insert", "'t',[{'x',1},{5,'a',6},{7,[1,2]},{1,{},'c'},{'w',1},{'z','b'},{-3,2}]", "'true'"),
+    (
+        "",
+        0,
+        "new",
+        "'t',['named_table','bag',{'keypos',2}]",
+        "'t'",
+    ),
+    (
+        "",
+        0,
+        "insert",
+        "'t',[{'x',1},{5,'a',6},{7,[1,2]},{1,{},'c'},{'w',1},{'z','b'},{-3,2}]",
+        "'true'",
+    ),
     ("", 0, "update_element", "'t',2,'a'", "15 of P"),
     ("", 0, "update_element", "'t',2,1", "15 of P"),
     ("", 0, "update_element", "'t',2,{}", "15 of P"),
@@ -132,7 +220,13 @@ const ELEMENT_REFUSED_BAG_2: [Line; 12] = [
 ];
 
 // What may not be counted up or replaced, and where.
-const UPDATES_ARE_JUDGED: [&[Line]; 5] = [&COUNTER_REFUSED_SET, &COUNTER_REFUSED_BAG, &COUNTER_RANGE_ORDERED_SET_2, &ELEMENT_REFUSED_SET, &ELEMENT_REFUSED_BAG_2];
+const UPDATES_ARE_JUDGED: [&[Line]; 5] = [
+    &COUNTER_REFUSED_SET,
+    &COUNTER_REFUSED_BAG,
+    &COUNTER_RANGE_ORDERED_SET_2,
+    &ELEMENT_REFUSED_SET,
+    &ELEMENT_REFUSED_BAG_2,
+];
 
 #[test]
 fn updates_are_judged(rt: HostRuntime) -> Result<(), Fail> {
@@ -185,21 +279,13 @@ const NEW_OPTIONS_09: [Line; 5] = [
     ("", 0, "lookup", "T1,3", "[]"),
 ];
 
-const NEW_OPTIONS_13: [Line; 1] = [
-    ("", 0, "new", "'t',[{'keypos','x'}]", "8"),
-];
+const NEW_OPTIONS_13: [Line; 1] = [("", 0, "new", "'t',[{'keypos','x'}]", "8")];
 
-const NEW_OPTIONS_17: [Line; 1] = [
-    ("", 0, "new", "'t',['keypos']", "8"),
-];
+const NEW_OPTIONS_17: [Line; 1] = [("", 0, "new", "'t',['keypos']", "8")];
 
-const NEW_OPTIONS_21: [Line; 1] = [
-    ("", 0, "new", "'t',['Set']", "8"),
-];
+const NEW_OPTIONS_21: [Line; 1] = [("", 0, "new", "'t',['Set']", "8")];
 
-const NEW_OPTIONS_23: [Line; 1] = [
-    ("", 0, "new", "'t',{'keypos',1}", "8"),
-];
+const NEW_OPTIONS_23: [Line; 1] = [("", 0, "new", "'t',{'keypos',1}", "8")];
 
 const NEW_HEIR_OPTION_00: [Line; 4] = [
     ("", 0, "new", "'t',['named_table',{'heir','none'}]", "'t'"),
@@ -209,7 +295,13 @@ const NEW_HEIR_OPTION_00: [Line; 4] = [
 ];
 
 const NEW_HEIR_OPTION_03: [Line; 4] = [
-    ("", 0, "new", "'t',['named_table',{'heir',call 'erlang':'self'()}]", "8"),
+    (
+        "",
+        0,
+        "new",
+        "'t',['named_table',{'heir',call 'erlang':'self'()}]",
+        "8",
+    ),
     ("", 0, "info", "'t','heir'", "'undefined'"),
     ("", 0, "setopts", "'t',{'heir',call 'erlang':'self'()}", "2"),
     ("", 0, "info", "'t','heir'", "'undefined'"),
@@ -264,7 +356,25 @@ const INFO_BAD_ITEM_11: [Line; 6] = [
 ];
 
 // Options of new tables.
-const OPTIONS_ARE_JUDGED: [&[Line]; 17] = [&NEW_NAME_FIRST, &NEW_OPTIONS_00, &NEW_OPTIONS_01, &NEW_OPTIONS_05, &NEW_OPTIONS_09, &NEW_OPTIONS_13, &NEW_OPTIONS_17, &NEW_OPTIONS_21, &NEW_OPTIONS_23, &NEW_HEIR_OPTION_00, &NEW_HEIR_OPTION_03, &NEW_HEIR_OPTION_06, &NEW_HEIR_OPTION_09, &NEW_HEIR_OPTION_11, &INFO_BAD_ITEM_00, &INFO_BAD_ITEM_05, &INFO_BAD_ITEM_11];
+const OPTIONS_ARE_JUDGED: [&[Line]; 17] = [
+    &NEW_NAME_FIRST,
+    &NEW_OPTIONS_00,
+    &NEW_OPTIONS_01,
+    &NEW_OPTIONS_05,
+    &NEW_OPTIONS_09,
+    &NEW_OPTIONS_13,
+    &NEW_OPTIONS_17,
+    &NEW_OPTIONS_21,
+    &NEW_OPTIONS_23,
+    &NEW_HEIR_OPTION_00,
+    &NEW_HEIR_OPTION_03,
+    &NEW_HEIR_OPTION_06,
+    &NEW_HEIR_OPTION_09,
+    &NEW_HEIR_OPTION_11,
+    &INFO_BAD_ITEM_00,
+    &INFO_BAD_ITEM_05,
+    &INFO_BAD_ITEM_11,
+];
 
 #[test]
 fn options_are_judged(rt: HostRuntime) -> Result<(), Fail> {
@@ -309,7 +419,12 @@ const SETOPTS_NO_TABLE: [Line; 4] = [
 ];
 
 // A table argument that is none, or finds none, before all else.
-const TABLE_ARGUMENTS_ARE_JUDGED_FIRST: [&[Line]; 4] = [&ORDER_TABLE_ARGUMENT_INSERT, &ORDER_TABLE_ARGUMENT_LOOKUP_ELEMENT, &INFO_UNNAMED_BY_NAME, &SETOPTS_NO_TABLE];
+const TABLE_ARGUMENTS_ARE_JUDGED_FIRST: [&[Line]; 4] = [
+    &ORDER_TABLE_ARGUMENT_INSERT,
+    &ORDER_TABLE_ARGUMENT_LOOKUP_ELEMENT,
+    &INFO_UNNAMED_BY_NAME,
+    &SETOPTS_NO_TABLE,
+];
 
 #[test]
 fn table_arguments_are_judged_first(rt: HostRuntime) -> Result<(), Fail> {

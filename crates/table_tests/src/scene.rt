@@ -19,13 +19,7 @@ use world_model::rule::Rule;
 /// A line: the name that its answer gets, if any; the number of the process that calls, where 0 is the first; the
 /// name of the call; its arguments; and what it comes to. `pid` is answered by the process of a number, `ref` by a
 /// reference of nothing, and `ends` ends the process.
-pub(crate) type Line = (
-    &'static str,
-    u64,
-    &'static str,
-    &'static str,
-    &'static str,
-);
+pub(crate) type Line = (&'static str, u64, &'static str, &'static str, &'static str);
 
 // What a call came to: its answer, with what other processes are told, or its rule, with the owner that is told.
 #[derive(Drop)]
@@ -197,8 +191,7 @@ fn answer_of(outcome: Outcome) -> Term {
 fn body_of(alloc: Global, lines: &[Line]) -> Result<String, Fail> {
     let mut body = String::new(alloc);
     for (name, who, call, arguments, _want) in lines {
-        let carrier =
-            format!(in alloc; "call 'ets':'insert'({{{who},'{call}'}},[{arguments}]) ")?;
+        let carrier = format!(in alloc; "call 'ets':'insert'({{{who},'{call}'}},[{arguments}]) ")?;
         if name.is_empty() {
             body.push_str("do ")?;
             body.push_str(carrier.as_str())?;
@@ -279,7 +272,12 @@ impl Scene {
     }
 
     // What the call comes to that a machine stands at.
-    fn asked(&mut self, alloc: Global, request: u64, asks: &Request) -> Result<Outcome, AllocError> {
+    fn asked(
+        &mut self,
+        alloc: Global,
+        request: u64,
+        asks: &Request,
+    ) -> Result<Outcome, AllocError> {
         if let Request::Call(_kind, arguments) = asks {
             if let [first, second] = arguments.as_slice() {
                 return self.line(alloc, request, first, second);
@@ -312,7 +310,14 @@ fn lines_happen(
 fn machine_of<'m>(alloc: Global, program: &'m Module) -> Result<Machine<'m>, AllocError> {
     let main = Atom::new(alloc, "main")?;
     let first = pid_of(alloc, 0)?;
-    start(alloc, program, first, &program.name, &main, Terms::new(alloc))
+    start(
+        alloc,
+        program,
+        first,
+        &program.name,
+        &main,
+        Terms::new(alloc),
+    )
 }
 
 /// Asserts what each of these lines comes to, one after the other, with four processes and no table at first.

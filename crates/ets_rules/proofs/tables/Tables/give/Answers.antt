@@ -20,4 +20,4 @@ returns-clause-tables c = λ v table hold held.
     let gift = meaning_of c.args.gift.now in
     hold_after c.args.self.now (record { registry = c.pass.new.self }) (gives_to (found_at t table) (Some c.args.to.now) gift) v hold
     (put_apart c.pass.new.self (after (Passes t c.args.to.now ∷ Loses table.owner t ∷ Gains c.args.to.now t ∷ []) v) table.owner c.args.to.now (Message (transfer_message (handle_of t (settings_in table)) table.owner gift))
-      (subst (λ ks. AreTables c.pass.new.self (after ks v)) (ap (λ o. changes_passed t c.args.to.now (option_map settings_in o)) held) (c.in_ok-pass.ensures.ok v hold.are)))
+    (subst (λ ks. AreTables c.pass.new.self (after ks v)) (ap (λ o. changes_passed t c.args.to.now (option_map settings_in o)) held) (c.in_ok-pass.ensures.ok v hold.are)))
