@@ -5,15 +5,26 @@ use Rattle.term_core.specs.Meaning.{Meaning}
 use Rattle.proc_groups.specs.References.{ref_of}
 use Rattle.world_model.specs.Cells.{Contents, Row, Rows}
 use Rattle.world_model.specs.Found.{Found}
-use Rattle.world_model.specs.Names.{Pid, Ref}
+use Rattle.world_model.specs.Names.{Name, Pid, Ref}
 use Rattle.world_model.specs.Rows.{Key, some_if}
 use Rattle.ets_answers.specs.At.{found_at}
+use Rattle.ets_store.specs.declared.table.Table.{Table}
 use Rattle.ets_tables.specs.Ends.{transfer_of}
 use Rattle.ets_tables.specs.Tables as registry
 use Rattle.ets_tables.specs.Tables.{AreTables}
 use Rattle.ets_tables.specs.declared.ends.Transfer.{Transfer}
 use Rattle.ets_rules.specs.declared.found.FoundTable.{FoundTable}
 use Rattle.ets_rules.specs.declared.tables.Tables.{Tables}
+
+-- the table that a reference finds, as it is held; the table that a name means; and the tables of a process, in order
+abbrev pub held_in : Tables → Ref → Option Table
+held_in tables t = registry.held_at tables.registry t
+
+abbrev pub meant_in : Tables → Name → Option Ref
+meant_in tables name = registry.meant_by tables.registry name
+
+abbrev pub owned_in : Tables → Pid → List Ref
+owned_in tables p = registry.owned_by tables.registry p
 
 -- the tables are what the contents say, of which the rows of each table are those under its keys, as in every history
 pub record Hold (tables : Tables) (v : Contents) : Type 0 where

@@ -1,8 +1,7 @@
 // The tables of a world, and what finds one (ets manual, `new/2`).
 ghost use Rattle.std.specs.Prelude.{◌≡◌, [], None, Some, IfOk, IfSome, List, map, option_copied, option_map};
 ghost use Rattle.ets_calls.specs.Arguments.{argument_in};
-ghost use Rattle.ets_rules.specs.Tables.{IsUnchanged, Hold, found_of};
-ghost use Rattle.ets_tables.specs.Tables.{held_at, meant_by, owned_by};
+ghost use Rattle.ets_rules.specs.Tables.{Hold, IsUnchanged, found_of, held_in, meant_in, owned_in};
 ghost use Rattle.proc_groups.specs.Groups.{members_of};
 ghost use Rattle.proc_groups.specs.References.{ref_of};
 ghost use Rattle.world_model.specs.Cells as cells;
@@ -27,9 +26,9 @@ pub struct Tables {
 impl Tables {
     /// No tables, or `AllocError` if there is no memory.
     pub fn new(alloc: Global) -> Result<Tables, AllocError>
-        ensures tables { IfOk result (λ begun. (t : names.Ref) → held_at begun.registry t ≡ None) }
-        ensures names { IfOk result (λ begun. (name : names.Name) → meant_by begun.registry name ≡ None) }
-        ensures owned { IfOk result (λ begun. (p : names.Pid) → owned_by begun.registry p ≡ []) }
+        ensures tables { IfOk result (λ begun. (t : names.Ref) → held_in begun t ≡ None) }
+        ensures names { IfOk result (λ begun. (name : names.Name) → meant_in begun name ≡ None) }
+        ensures owned { IfOk result (λ begun. (p : names.Pid) → owned_in begun p ≡ []) }
     {
         Ok(Tables {
             registry: Registry::new(alloc)?,
@@ -49,7 +48,7 @@ impl Tables {
     /// A table by the reference of its creation: its name, owner, heir and settings, and its rows. It takes no
     /// memory.
     pub fn get(&self, id: &RefId) -> Option<&Table>
-        ensures { option_copied result ≡ held_at self.now.registry (ref_of id.now) }
+        ensures { option_copied result ≡ held_in self.now (ref_of id.now) }
     {
         self.registry.get(id)
     }
@@ -57,7 +56,7 @@ impl Tables {
     /// The tables that a process owns, by the references of their creations, in order; `None` where it owns none. It
     /// takes no memory.
     pub fn owned(&self, pid: &Pid) -> Option<&BTreeSet<RefId>>
-        ensures { map ref_of (members_of (option_copied result)) ≡ owned_by self.now.registry pid.now }
+        ensures { map ref_of (members_of (option_copied result)) ≡ owned_in self.now pid.now }
     {
         self.registry.owned(pid)
     }
@@ -65,7 +64,7 @@ impl Tables {
     // The table with this reference.
     fn at<'t>(&'t self, id: &'t RefId) -> Option<FoundTable<'t>>
         ensures found { (v : Contents) → Hold self.now v → option_map found_of result ≡ as_found (ref_of id.now) (v (cells.Table (ref_of id.now))) }
-        ensures held { IfSome result (λ found. held_at self.now.registry (ref_of found.id.now) ≡ Some found.table.now) }
+        ensures held { IfSome result (λ found. held_in self.now (ref_of found.id.now) ≡ Some found.table.now) }
     {
         match self.registry.get(id) {
             Some(table) => Some(FoundTable { id, table }),
@@ -76,7 +75,7 @@ impl Tables {
     // The table that a name means.
     fn named<'t>(&'t self, name: &Atom) -> Option<FoundTable<'t>>
         ensures found { (v : Contents) → Hold self.now v → option_map found_of result ≡ meant v (v (cells.TableName name.now)) }
-        ensures held { IfSome result (λ found. held_at self.now.registry (ref_of found.id.now) ≡ Some found.table.now) }
+        ensures held { IfSome result (λ found. held_in self.now (ref_of found.id.now) ≡ Some found.table.now) }
     {
         match self.registry.named(name) {
             Some(id) => self.at(id),
@@ -87,7 +86,7 @@ impl Tables {
     // The table with this reference, if it is not to be found by its name.
     fn unnamed<'t>(&'t self, id: &'t RefId) -> Option<FoundTable<'t>>
         ensures found { (v : Contents) → Hold self.now v → option_map found_of result ≡ unless_named (as_found (ref_of id.now) (v (cells.Table (ref_of id.now)))) }
-        ensures held { IfSome result (λ found. held_at self.now.registry (ref_of found.id.now) ≡ Some found.table.now) }
+        ensures held { IfSome result (λ found. held_in self.now (ref_of found.id.now) ≡ Some found.table.now) }
     {
         match self.at(id) {
             Some(found) if !found.table.is_named => Some(found),
@@ -99,7 +98,7 @@ impl Tables {
     /// that was not. It takes no memory (ets manual, `new/2`, option `named_table`).
     pub fn find<'t>(&'t self, argument: &'t TableArgument) -> Option<FoundTable<'t>>
         ensures found { (v : Contents) → Hold self.now v → option_map found_of result ≡ find v (argument_in argument.now) }
-        ensures held { IfSome result (λ found. held_at self.now.registry (ref_of found.id.now) ≡ Some found.table.now) }
+        ensures held { IfSome result (λ found. held_in self.now (ref_of found.id.now) ≡ Some found.table.now) }
     {
         match argument {
             TableArgument::ByName(name) => self.named(name),

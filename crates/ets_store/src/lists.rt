@@ -76,11 +76,15 @@ impl Rows {
     }
 
     /// Puts objects in, one after the other, as `insert` does (ets manual, `insert/2`), or `AllocError` if there
-    /// is no memory for them: then all is as it was, and none is put in.
+    /// is no memory for them: then all is as it was, and none is put in. Several go into a copy of the rows, which
+    /// takes their place when all are in.
     pub fn insert_all(&mut self, alloc: Global, objects: &[Object]) -> Result<(), AllocError>
         ensures ok { OnOk result (self.new ≡ with_rows self.old (with_objects self.old.kind self.old.position objects.now self.old.rows)) }
         ensures err { OnErr result (self.new ≡ self.old) }
     {
+        if let [object] = objects {
+            return self.insert(alloc, object.copy()?);
+        }
         let mut written = self.copy()?;
         for object in objects {
             written.insert(alloc, object.copy()?)?;

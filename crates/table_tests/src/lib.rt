@@ -9,3 +9,5 @@ mod owners;
 mod refusals;
 #[cfg(test)]
 mod scene;
+#[cfg(test)]
+mod walks;
