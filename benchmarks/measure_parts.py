@@ -20,9 +20,10 @@ ROWS = [
     ("nothing", "nothing", 1, lambda size: 0),
     ("objects put into a set, and a walk over its keys", "set", 10_000, lambda size: size),
     ("objects put into an ordered_set, and a walk over its keys", "ordered_set", 10_000, lambda size: size),
-    ("10,000 copies of a table of so many objects, with the objects put in", "copies", 10_000, lambda size: size),
+    ("a million copies of a table of so many objects, with the objects put in", "copies", 10_000, lambda size: size),
     ("signals through one channel", "signals", 10_000, lambda size: size),
-    ("100 receives, each past so many messages", "receive", 1_000, lambda size: 100),
+    ("signals through one channel", "signals", 100_000, lambda size: size),
+    ("10,000 receives, each past so many messages", "receive", 1_000, lambda size: 10_000),
 ]
 
 

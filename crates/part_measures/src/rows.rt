@@ -5,7 +5,7 @@ use std::sync::Arc;
 use term_core::{Term, Terms};
 use world_model::table::Kind;
 
-const COPIES: u32 = 10_000;
+const COPIES: u32 = 1_000_000;
 
 // The object of a number and an empty list.
 fn object(alloc: Global, number: u32) -> Result<Object, AllocError> {
@@ -43,7 +43,7 @@ pub(crate) fn walk_rows(alloc: Global, kind: Kind, size: u32) -> Result<u32, All
     Ok(walked(&rows, size))
 }
 
-/// Copies a table of this size ten thousand times.
+/// Copies a table of this size a million times.
 pub(crate) fn copy_often(alloc: Global, size: u32) -> Result<u32, AllocError> {
     let mut rows = filled(alloc, Kind::Set, size)?;
     for _ in 0..COPIES {

@@ -19,7 +19,7 @@ impl Selector for Wanted {
     }
 }
 
-const RECEIVES: u32 = 100;
+const RECEIVES: u32 = 10_000;
 
 // The process that request `number` of the first process made.
 fn pid(alloc: Global, number: u64) -> Result<Pid, AllocError> {
@@ -79,7 +79,7 @@ fn receive(alloc: Global, mailbox: &mut Mailbox) -> Result<bool, AllocError> {
     }
 }
 
-/// Receives a hundred messages, each past so many others.
+/// Receives ten thousand messages, each past so many others.
 pub(crate) fn receive_past(alloc: Global, size: u32) -> Result<u32, AllocError> {
     let mut mailbox = filled(alloc, size)?;
     let mut count: u32 = 0;
