@@ -22,7 +22,9 @@ use term_core::{Term, Terms};
 pub enum ProcessRequest {
     /// A call of processes.
     Asks(ProcessCall),
-    /// It is no call of processes: one of tables, or one with another number of arguments than it has.
+    /// A call with another number of arguments than it has.
+    Misfit,
+    /// A call of tables.
     Other,
 }
 
@@ -39,7 +41,7 @@ fn of_none(kind: CallKind) -> Result<ProcessRequest, AllocError>
 {
     match kind {
         CallKind::MakeRef => asks(ProcessCall::MakeRef),
-        _ => Ok(ProcessRequest::Other),
+        _ => Ok(ProcessRequest::Misfit),
     }
 }
 
@@ -57,7 +59,12 @@ fn of_one(kind: CallKind, first: &Term) -> Result<ProcessRequest, AllocError>
         CallKind::Unregister => asks(ProcessCall::Unregister(name_in(first)?)),
         CallKind::Whereis => asks(ProcessCall::WhereIs(name_in(first)?)),
         CallKind::IsProcessAlive => asks(ProcessCall::IsAlive(process_in(first)?)),
-        _ => Ok(ProcessRequest::Other),
+        CallKind::First
+        | CallKind::Last
+        | CallKind::TableToList
+        | CallKind::DeleteTable
+        | CallKind::DeleteAllObjects => Ok(ProcessRequest::Other),
+        _ => Ok(ProcessRequest::Misfit),
     }
 }
 
@@ -86,7 +93,19 @@ fn of_two(kind: CallKind, first: &Term, second: &Term) -> Result<ProcessRequest,
         )),
         CallKind::ProcessFlag => asks(ProcessCall::Flag(Trapping::of(first, second))),
         CallKind::Register => asks(ProcessCall::Register(name_in(first)?, process_in(second)?)),
-        _ => Ok(ProcessRequest::Other),
+        CallKind::New
+        | CallKind::Lookup
+        | CallKind::Member
+        | CallKind::Next
+        | CallKind::Prev
+        | CallKind::Insert
+        | CallKind::InsertNew
+        | CallKind::DeleteKey
+        | CallKind::DeleteObject
+        | CallKind::Take
+        | CallKind::SetOptions
+        | CallKind::Info => Ok(ProcessRequest::Other),
+        _ => Ok(ProcessRequest::Misfit),
     }
 }
 
@@ -120,7 +139,11 @@ fn of_three(
         CallKind::Spawn => spawn(alloc, SpawnWay::Alone, first, second, third),
         CallKind::SpawnLink => spawn(alloc, SpawnWay::Linked, first, second, third),
         CallKind::SpawnMonitor => spawn(alloc, SpawnWay::Watched, first, second, third),
-        _ => Ok(ProcessRequest::Other),
+        CallKind::LookupElement
+        | CallKind::UpdateCounter
+        | CallKind::UpdateElement
+        | CallKind::GiveAway => Ok(ProcessRequest::Other),
+        _ => Ok(ProcessRequest::Misfit),
     }
 }
 
@@ -140,7 +163,7 @@ impl ProcessRequest {
             [first] => of_one(kind, first),
             [first, second] => of_two(kind, first, second),
             [first, second, third] => of_three(alloc, kind, first, second, third),
-            _ => Ok(ProcessRequest::Other),
+            _ => Ok(ProcessRequest::Misfit),
         }
     }
 }
