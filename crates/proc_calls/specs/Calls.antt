@@ -1,0 +1,22 @@
+-- Calls of processes as they are held, in the words of the explored world.
+use Rattle.std.specs.Prelude.{option_map}
+use Rattle.term_core.specs.Term.{meaning_of}
+use Rattle.world_model.specs.Calls as calls
+use Rattle.proc_calls.specs.Arguments.{ref_of, destination_in, is_process, flushes, traps, way_in, origin_in}
+use Rattle.proc_calls.specs.declared.call.ProcessCall.{ProcessCall}
+use Rattle.proc_calls.specs.declared.call.ProcessCall.TheVariants.{Spawn, Send, SendExit, Link, Unlink, Monitor, Demonitor, Flag, Register, Unregister, WhereIs, IsAlive, MakeRef}
+
+abbrev pub call_in : ProcessCall → calls.Call
+call_in (Spawn way origin) = calls.Spawn (way_in way) (option_map origin_in origin)
+call_in (Send to message) = calls.Send (destination_in to) (meaning_of message)
+call_in (SendExit to reason) = calls.SendExit to (meaning_of reason)
+call_in (Link to) = calls.Link to
+call_in (Unlink from) = calls.Unlink from
+call_in (Monitor type whom) = calls.Monitor (is_process type) whom
+call_in (Demonitor reference flushing) = calls.Demonitor (option_map ref_of reference) (option_map flushes flushing)
+call_in (Flag trapping) = calls.Flag (option_map traps trapping)
+call_in (Register name whom) = calls.Register name whom
+call_in (Unregister name) = calls.Unregister name
+call_in (WhereIs name) = calls.WhereIs name
+call_in (IsAlive whom) = calls.IsAlive whom
+call_in MakeRef = calls.MakeRef

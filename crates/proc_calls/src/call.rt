@@ -1,0 +1,36 @@
+// The calls of processes, each with its arguments.
+use crate::argument::{Destination, MonitorType};
+use crate::options::{Flushing, Trapping};
+use crate::spawning::{Origin, SpawnWay};
+use term_core::{Atom, Pid, RefId, Term};
+
+/// A call of processes (the Erlang manual, module `erlang`). An argument that is not of its kind is `None`.
+#[derive(Drop)]
+pub enum ProcessCall {
+    /// `spawn/3`, `spawn_link/3` and `spawn_monitor/3`: starts a process in this function.
+    Spawn(SpawnWay, Option<Origin>),
+    /// `!/2` and `send/2`: sends the message.
+    Send(Destination, Term),
+    /// `exit/2`: sends an exit signal with the reason.
+    SendExit(Option<Pid>, Term),
+    /// `link/1`: links the caller and the process.
+    Link(Option<Pid>),
+    /// `unlink/1`: removes the link of the caller and the process.
+    Unlink(Option<Pid>),
+    /// `monitor/2`: watches the process.
+    Monitor(MonitorType, Option<Pid>),
+    /// `demonitor/1` and `demonitor/2`: ends the watch of this reference.
+    Demonitor(Option<RefId>, Option<Flushing>),
+    /// `process_flag/2`: whether the caller traps exits from now on.
+    Flag(Option<Trapping>),
+    /// `register/2`: gives the process the name.
+    Register(Option<Atom>, Option<Pid>),
+    /// `unregister/1`: frees the name.
+    Unregister(Option<Atom>),
+    /// `whereis/1`: the process of the name.
+    WhereIs(Option<Atom>),
+    /// `is_process_alive/1`: whether the process lives.
+    IsAlive(Option<Pid>),
+    /// `make_ref/0`: a new reference.
+    MakeRef,
+}

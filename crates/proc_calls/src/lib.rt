@@ -1,0 +1,14 @@
+// What a process asks of processes: which call of processes a request is, and what each of its arguments is.
+#![tactic(auto)]
+
+pub mod argument;
+pub mod call;
+pub mod options;
+pub mod request;
+pub mod spawning;
+
+pub use argument::{Destination, MonitorType};
+pub use call::ProcessCall;
+pub use options::{Flushing, Trapping};
+pub use request::ProcessRequest;
+pub use spawning::{Origin, SpawnWay};
