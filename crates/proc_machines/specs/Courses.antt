@@ -1,0 +1,44 @@
+-- How far processes have come.
+use Rattle.std.specs.BTreeMap.{get}
+use Rattle.std.specs.Prelude.{◌≡◌, ◌+◌, ◌++◌, ℕ, List, Option, Some, None, option_map, if◌then◌else◌}
+use Rattle.term_core.specs.Order.{order_of_lists}
+use Rattle.core_tree.specs.Syntax.{ModuleTree}
+use Rattle.core_eval.specs.Ask.{ask}
+use Rattle.core_eval.specs.Asked.{Answered}
+use Rattle.core_eval.specs.Standing.{Standing, StandsAt}
+use Rattle.world_model.specs.Asking.{entry_of}
+use Rattle.world_model.specs.Cells as cells
+use Rattle.world_model.specs.Names.{Pid, same_pid}
+use Rattle.proc_machines.specs.declared.course.Course.{Course}
+use Rattle.proc_machines.specs.declared.courses.Courses.{Courses}
+
+-- how many turns a process took; none where it was never begun
+abbrev pub turns_of : Option Course → ℕ
+turns_of None = 0
+turns_of (Some course) = course.turns
+
+-- where its machine stands, if it has one
+abbrev pub standing_of : Option Course → Option Standing
+standing_of None = None
+standing_of (Some course) = course.machine
+
+-- a machine stands, and after all further answers will, at what the program asks after the answers of a course
+abbrev pub StandsAs : ModuleTree → Pid → cells.Course → Option Standing → Type 0
+StandsAs m p course None = ⊥
+StandsAs m p course (Some machine) = StandsAt machine (λ later. ask m p (entry_of m course.origin) (course.answers ++ later))
+
+-- a course with a turn more, with what it is answered
+abbrev pub turned : List Answered → cells.Course → cells.Course
+turned answer course = record { origin = course.origin; turns = course.turns + 1; answers = course.answers ++ answer; ended = course.ended }
+
+-- the course of a process, if it was begun
+abbrev pub course_at : Courses → Pid → Option Course
+course_at courses p = option_map (λ course. course.value) (get order_of_lists courses.courses.value p)
+
+-- one process has this course, and the others those that they had
+abbrev pub HasAt : Pid → Course → Courses → Courses → Type 0
+HasAt p course old new = (q : Pid) → course_at new q ≡ (if same_pid p q then Some course else course_at old q)
+
+-- the same courses
+abbrev pub AreSame : Courses → Courses → Type 0
+AreSame old new = (q : Pid) → course_at new q ≡ course_at old q

@@ -1,0 +1,4 @@
+pub mod Pids
+pub mod Courses
+pub mod Processes
+pub mod Receivers
