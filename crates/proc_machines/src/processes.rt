@@ -137,7 +137,7 @@ impl<'m> Processes<'m> {
 
     /// What takes the messages that the receive of a process selects, if the process lives. It takes no memory.
     pub fn receiver<'a>(&'a self, pid: &Pid) -> Option<Receiver<'a, 'm>>
-        ensures selects { IfSome result (λ receiver. (message : Meaning) → taken_by receiver message ≡ selects_in self.now pid.now message) }
+        ensures selects { IfSome result (λ receiver. taken_by receiver ≡ selects_in self.now pid.now) }
         ensures there { (m : ModuleTree) (v : Contents) → Agrees m self.now v → is_some result ≡ lives_in self.now pid.now }
     {
         let machine = self.machine(pid)?;
