@@ -1,5 +1,5 @@
 -- What the processes are after the changes of a cell.
-use Rattle.std.proofs.Common.{◌≡◌, ℕ, Bool, true, false, List, [], ◌∷◌, ◌++◌, ◌+◌, Option, Some, None, bytes_eq, if◌then◌else◌, refl, sym, ap, subst, ◌∙◌, true≢false}
+use Rattle.std.proofs.Common.{◌≡◌, Bool, true, false, List, [], ◌∷◌, ◌++◌, ◌+◌, Option, Some, None, Bor, is_some, option_copied, bytes_eq, if◌then◌else◌, refl, sym, ap, subst, ◌∙◌, true≢false}
 use Rattle.std.proofs.lemmas.Slice.Eq.{bytes_eq-Decides}
 use Rattle.term_core.specs.Meaning.{Meaning}
 use Rattle.core_tree.specs.Syntax.{ModuleTree}
@@ -10,7 +10,7 @@ use Rattle.core_eval.specs.Standing.{Standing, is_spent}
 use Rattle.world_model.specs.Asking.{entry_of}
 use Rattle.world_model.specs.Cells as cells
 use Rattle.world_model.specs.Cells.{Contents}
-use Rattle.world_model.specs.Changes.{Change, after, Begins, Turns, Halts, Lives, Dies}
+use Rattle.world_model.specs.Changes.{after, Begins, Turns, Halts, Lives, Dies}
 use Rattle.world_model.specs.Names.{Pid, same_pid}
 use Rattle.world_model.specs.Requests.{Origin}
 use Rattle.world_model.specs.World.{beginning}
@@ -42,6 +42,18 @@ stands_at m old new lives lived p course X w is stands others told q alive =
       | false ↦ λ e. told q (others q e alive)
     ] refl)
 
+-- where one process has another machine, who does not live has none
+gone_at : (old new : Pid → Option Course) (lives lived : Pid → Bool) (p : Pid) (course : Course)
+    → ((q : Pid) → new q ≡ (if same_pid p q then Some course else old q)) → (lives p ≡ false → course.machine ≡ None)
+    → ((q : Pid) → same_pid p q ≡ false → lives q ≡ false → lived q ≡ false)
+    → ((q : Pid) → lived q ≡ false → standing_of (old q) ≡ None)
+    → (q : Pid) → lives q ≡ false → standing_of (new q) ≡ None
+gone_at old new lives lived p course is none others told q gone =
+    ap standing_of (is q) ∙ elim (bytes_eq p q) as (λ b. bytes_eq p q ≡ b → standing_of (if b then Some course else old q) ≡ None) [
+      | true ↦ λ e. none (ap lives ((bytes_eq-Decides p q).0 e) ∙ gone)
+      | false ↦ λ e. told q (others q e gone)
+    ] refl
+
 abbrev fresh : Origin → cells.Course → cells.Course
 fresh origin course = record { origin = origin; turns = 0; answers = []; ended = None }
 
@@ -49,9 +61,17 @@ abbrev halted : Meaning → cells.Course → cells.Course
 halted reason course = record { origin = course.origin; turns = course.turns; answers = course.answers; ended = Some reason }
 
 -- who was alive and is no other than before
-lived_if : (b : Bool) (x y z : Bool) → y ≡ (if b then x else z) → b ≡ false → y ≡ true → z ≡ true
-lived_if true x y z is none alive = absurd (true≢false none)
-lived_if false x y z is none alive = sym is ∙ alive
+lived_if : (b : Bool) (x y z w : Bool) → y ≡ (if b then x else z) → b ≡ false → y ≡ w → z ≡ w
+lived_if true x y z w is none alive = absurd (true≢false none)
+lived_if false x y z w is none alive = sym is ∙ alive
+
+-- who lives now does not live not
+born : (b : Bool) (y z : Bool) → y ≡ (if b then true else z) → b ≡ true → y ≡ true
+born true y z is e = is
+born false y z is e = absurd (true≢false (sym e))
+
+itself : (p : Pid) → same_pid p p ≡ true
+itself p = (bytes_eq-Decides p p).1 refl
 
 lives_if : (p q : Pid) (life x y : Bool) → x ≡ y → (if same_pid p q then life else x) ≡ (if same_pid p q then life else y)
 lives_if p q life x y e = ap (λ z. if same_pid p q then life else z) e
@@ -66,21 +86,23 @@ agrees_begun m old new v p origin course program alive trap courses turns stands
   alive = λ q. alive q ∙ lives_if p q true (lives_in old q) (v (cells.Alive q)) (told.alive q);
   trap = λ q. trap q ∙ told.trap q;
   turns = turns_at (course_in old) (course_in new) p course (fresh origin) (λ q. v (cells.Machine q)) courses turns told.turns;
-  stands = stands_at m (course_in old) (course_in new) (lives_in new) (lives_in old) p course (fresh origin) (λ q. v (cells.Machine q)) courses (λ _. stands) (λ q e. lived_if (same_pid p q) true (lives_in new q) (lives_in old q) (alive q) e) told.stands;
+  stands = stands_at m (course_in old) (course_in new) (lives_in new) (lives_in old) p course (fresh origin) (λ q. v (cells.Machine q)) courses (λ _. stands) (λ q e. lived_if (same_pid p q) true (lives_in new q) (lives_in old q) true (alive q) e) told.stands;
+  gone = gone_at (course_in old) (course_in new) (lives_in new) (lives_in old) p course courses (λ a. absurd (true≢false (sym (born (same_pid p p) (lives_in new p) (lives_in old p) (alive p) (itself p)) ∙ a))) (λ q e. lived_if (same_pid p q) true (lives_in new q) (lives_in old q) false (alive q) e) told.gone;
 }
 
 -- a process takes a turn that is answered
 pub agrees_turned : (m : ModuleTree) (old new : Processes) (v : Contents) (p : Pid) (answer : List Answered) (course : Course)
     → module_of new ≡ module_of old → ((q : Pid) → lives_in new q ≡ lives_in old q) → ((q : Pid) → traps_in new q ≡ traps_in old q)
     → ((q : Pid) → course_in new q ≡ (if same_pid p q then Some course else course_in old q)) → course.turns ≡ turns_in old p + 1
-    → ((c : cells.Course) → StandsAs m p c (standing_in old p) → StandsAs m p (turned answer c) course.machine)
+    → ((c : cells.Course) → StandsAs m p c (standing_in old p) → StandsAs m p (turned answer c) course.machine) → (standing_in old p ≡ None → course.machine ≡ None)
     → Agrees m old v → Agrees m new (after (Turns p answer ∷ []) v)
-agrees_turned m old new v p answer course program alive trap courses turns stands told = record {
+agrees_turned m old new v p answer course program alive trap courses turns stands none told = record {
   program = program ∙ told.program;
   alive = λ q. alive q ∙ told.alive q;
   trap = λ q. trap q ∙ told.trap q;
   turns = turns_at (course_in old) (course_in new) p course (turned answer) (λ q. v (cells.Machine q)) courses (turns ∙ ap (λ n. n + 1) (told.turns p)) told.turns;
   stands = stands_at m (course_in old) (course_in new) (lives_in new) (lives_in old) p course (turned answer) (λ q. v (cells.Machine q)) courses (λ a. stands (v (cells.Machine p)) (told.stands p (sym (alive p) ∙ a))) (λ q _ a. sym (alive q) ∙ a) told.stands;
+  gone = gone_at (course_in old) (course_in new) (lives_in new) (lives_in old) p course courses (λ a. none (told.gone p (sym (alive p) ∙ a))) (λ q _ a. sym (alive q) ∙ a) told.gone;
 }
 
 -- who does not live stands nowhere
@@ -88,21 +110,24 @@ dead : (b : Bool) (y z : Bool) → y ≡ (if b then false else z) → b ≡ true
 dead true y z is e = is
 dead false y z is e = absurd (true≢false (sym e))
 
-itself : (p : Pid) → same_pid p p ≡ true
-itself p = (bytes_eq-Decides p p).1 refl
-
 gone : (old new : Processes) (p : Pid) (course : Course) → IsClosed p course old new → lives_in new p ≡ false
 gone old new p course closed = dead (same_pid p p) (lives_in new p) (lives_in old p) (closed.alive p) (itself p)
 
+closed_gone : (old new : Processes) (p : Pid) (course : Course) → IsClosed p course old new → course.machine ≡ None → ((q : Pid) → lives_in old q ≡ false → standing_in old q ≡ None)
+    → (q : Pid) → lives_in new q ≡ false → standing_in new q ≡ None
+closed_gone old new p course closed none =
+    gone_at (course_in old) (course_in new) (lives_in new) (lives_in old) p course closed.courses (λ _. none) (λ q e. lived_if (same_pid p q) false (lives_in new q) (lives_in old q) false (closed.alive q) e)
+
 -- a process is killed
 pub agrees_killed : (m : ModuleTree) (old new : Processes) (v : Contents) (p : Pid) (reason : Meaning) (course : Course)
-    → IsClosed p course old new → course.turns ≡ turns_in old p → Agrees m old v → Agrees m new (after (Halts p reason ∷ Dies p ∷ []) v)
-agrees_killed m old new v p reason course closed turns told = record {
+    → IsClosed p course old new → course.turns ≡ turns_in old p → course.machine ≡ None → Agrees m old v → Agrees m new (after (Halts p reason ∷ Dies p ∷ []) v)
+agrees_killed m old new v p reason course closed turns none told = record {
   program = closed.program ∙ told.program;
   alive = λ q. closed.alive q ∙ lives_if p q false (lives_in old q) (v (cells.Alive q)) (told.alive q);
   trap = λ q. closed.trap q ∙ told.trap q;
   turns = turns_at (course_in old) (course_in new) p course (halted reason) (λ q. v (cells.Machine q)) closed.courses (turns ∙ told.turns p) told.turns;
-  stands = stands_at m (course_in old) (course_in new) (lives_in new) (lives_in old) p course (halted reason) (λ q. v (cells.Machine q)) closed.courses (λ a. absurd (true≢false (sym a ∙ gone old new p course closed))) (λ q e. lived_if (same_pid p q) false (lives_in new q) (lives_in old q) (closed.alive q) e) told.stands;
+  stands = stands_at m (course_in old) (course_in new) (lives_in new) (lives_in old) p course (halted reason) (λ q. v (cells.Machine q)) closed.courses (λ a. absurd (true≢false (sym a ∙ gone old new p course closed))) (λ q e. lived_if (same_pid p q) false (lives_in new q) (lives_in old q) true (closed.alive q) e) told.stands;
+  gone = closed_gone old new p course closed none told.gone;
 }
 
 twice : {A : Type 0} (b : Bool) (f g : A → A) (x : A) → (if b then g (f x) else x) ≡ (if b then g (if b then f x else x) else (if b then f x else x))
@@ -111,15 +136,16 @@ twice false f g x = refl
 
 -- a process ends by a turn of its own
 pub agrees_ended : (m : ModuleTree) (old new : Processes) (v : Contents) (p : Pid) (reason : Meaning) (course : Course)
-    → IsClosed p course old new → course.turns ≡ turns_in old p + 1 → Agrees m old v → Agrees m new (after (Turns p [] ∷ Halts p reason ∷ Dies p ∷ []) v)
-agrees_ended m old new v p reason course closed turns told = record {
+    → IsClosed p course old new → course.turns ≡ turns_in old p + 1 → course.machine ≡ None → Agrees m old v → Agrees m new (after (Turns p [] ∷ Halts p reason ∷ Dies p ∷ []) v)
+agrees_ended m old new v p reason course closed turns none told = record {
   program = closed.program ∙ told.program;
   alive = λ q. closed.alive q ∙ lives_if p q false (lives_in old q) (v (cells.Alive q)) (told.alive q);
   trap = λ q. closed.trap q ∙ told.trap q;
   turns = λ q. turns_at (course_in old) (course_in new) p course (λ c. halted reason (turned [] c)) w closed.courses (turns ∙ ap (λ n. n + 1) (told.turns p)) told.turns q
       ∙ ap (λ c. c.turns) (twice (same_pid p q) (turned []) (halted reason) (w q));
   stands = λ q a. subst (λ c. StandsAs m q c (standing_in new q)) (twice (same_pid p q) (turned []) (halted reason) (w q))
-      (stands_at m (course_in old) (course_in new) (lives_in new) (lives_in old) p course (λ c. halted reason (turned [] c)) w closed.courses (λ a. absurd (true≢false (sym a ∙ gone old new p course closed))) (λ q e. lived_if (same_pid p q) false (lives_in new q) (lives_in old q) (closed.alive q) e) told.stands q a);
+      (stands_at m (course_in old) (course_in new) (lives_in new) (lives_in old) p course (λ c. halted reason (turned [] c)) w closed.courses (λ a. absurd (true≢false (sym a ∙ gone old new p course closed))) (λ q e. lived_if (same_pid p q) false (lives_in new q) (lives_in old q) true (closed.alive q) e) told.stands q a);
+  gone = closed_gone old new p course closed none told.gone;
 } where
   w : Pid → cells.Course
   w q = v (cells.Machine q)
@@ -137,6 +163,10 @@ first_stands : (m : ModuleTree) (q : Pid) (course : Course) → (if same_pid [] 
 first_stands m [] course alive stands = stands
 first_stands m (n ∷ ns) course alive stands = absurd (true≢false (sym alive))
 
+others_gone : (q : Pid) (course : Course) → (if same_pid [] q then true else false) ≡ false → standing_of (if same_pid [] q then Some course else None) ≡ None
+others_gone [] course a = absurd (true≢false a)
+others_gone (n ∷ ns) course a = refl
+
 -- in the beginning there is the first process
 pub agrees_opened : (m : ModuleTree) (new : Processes) (course : Course) (p : Pid) → p ≡ [] → module_of new ≡ m → ((q : Pid) → lives_in new q ≡ (if same_pid p q then true else false)) → ((q : Pid) → traps_in new q ≡ false)
     → ((q : Pid) → course_in new q ≡ (if same_pid p q then Some course else None)) → course.turns ≡ 0 → StandsAs m [] (beginning (cells.Machine [])) course.machine → Agrees m new beginning
@@ -146,6 +176,7 @@ agrees_opened m new course p first program alive trap courses turns stands = rec
   trap = trap;
   turns = λ q. ap turns_of (there q) ∙ beginning_turns (same_pid [] q) course turns;
   stands = λ q a. subst (λ c. StandsAs m q (beginning (cells.Machine q)) (standing_of c)) (sym (there q)) (first_stands m q course (sym (now q) ∙ a) stands);
+  gone = λ q a. ap standing_of (there q) ∙ others_gone q course (sym (now q) ∙ a);
 } where
   now : (q : Pid) → lives_in new q ≡ (if same_pid [] q then true else false)
   now q = alive q ∙ ap (λ r. if same_pid r q then true else false) first
@@ -164,3 +195,19 @@ ran_on m p c old copied new a same lives goes_on told = record {
   lives = lives;
   asks = λ later. goes_on later ∙ ap (λ s. standing.after s (a ∷ later)) same ∙ told.asks (a ∷ later) ∙ ap (ask m p (entry_of m c.origin)) (shift c.answers a later);
 }
+
+some_stands : (m : ModuleTree) (p : Pid) (c : cells.Course) (machine : Option Standing) → StandsAs m p c machine → is_some machine ≡ true
+some_stands m p c None stands = absurd stands
+some_stands m p c (Some machine) stands = refl
+
+-- those that live have machines, and no others
+pub machines_live : (m : ModuleTree) (ps : Processes) (v : Contents) (p : Pid) → Agrees m ps v → is_some (standing_in ps p) ≡ lives_in ps p
+machines_live m ps v p told =
+    elim (lives_in ps p) as (λ b. lives_in ps p ≡ b → is_some (standing_in ps p) ≡ b) [
+      | true ↦ λ e. some_stands m p (v (cells.Machine p)) (standing_in ps p) (told.stands p e)
+      | false ↦ λ e. ap is_some (told.gone p e)
+    ] refl
+
+pub some_copied : {X : Type 0} (o : Option (Bor X)) → is_some o ≡ is_some (option_copied o)
+some_copied None = refl
+some_copied (Some x) = refl

@@ -1,5 +1,5 @@
 -- What sets and maps of processes have after a change at one.
-use Rattle.std.proofs.Common.{◌≡◌, ◌⊎◌, inl, inr, Bool, true, false, cond, Global, List, [], ◌∷◌, Option, Some, None, Ok, Err, Result, OnErr, bytes_eq, if◌then◌else◌, refl, ap, subst, ◌∙◌}
+use Rattle.std.proofs.Common.{◌≡◌, ◌⊎◌, inl, inr, Bool, true, false, cond, Global, List, [], ◌∷◌, Option, Some, Ok, Err, Result, OnErr, bytes_eq, if◌then◌else◌, refl, ap, subst, ◌∙◌}
 use Rattle.std.specs.Prelude.{option_map}
 use Rattle.std.specs.List.{AllZip}
 use Rattle.std.specs.Map.{lookup}
@@ -10,7 +10,7 @@ use Rattle.std.proofs.lemmas.Map.Text.{is_eq-slice_cmp}
 use Rattle.std.proofs.lemmas.List.Elements.{same_from_all_zip}
 use Rattle.std.specs.List.{list_any}
 use Rattle.term_core.specs.Order.{order_of_lists}
-use Rattle.world_model.specs.Names.{Pid, same_pid}
+use Rattle.world_model.specs.Names.{Pid}
 use Rattle.proc_machines.specs.Courses as courses
 use Rattle.proc_machines.specs.Courses.{course_at}
 use Rattle.proc_machines.specs.Pids as pids

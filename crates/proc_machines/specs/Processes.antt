@@ -16,7 +16,7 @@ use Rattle.proc_machines.specs.declared.processes.Processes.{Processes}
 
 -- the module whose processes they are
 abbrev pub module_of : Processes → ModuleTree
-module_of processes = processes.module.now
+module_of processes = processes.program.now
 
 -- whether a process lives
 abbrev pub lives_in : Processes → Pid → Bool
@@ -37,13 +37,14 @@ turns_in processes p = turns_of (course_in processes p)
 abbrev pub standing_in : Processes → Pid → Option Standing
 standing_in processes p = standing_of (course_in processes p)
 
--- the processes are what the contents say, and each that lives stands at what the program asks after its answers
+-- the processes are what the contents say; each that lives stands at what the program asks after its answers, and the others have no machine
 pub record Agrees (m : ModuleTree) (processes : Processes) (v : Contents) : Type 0 where
   pub program : module_of processes ≡ m
   pub alive : (p : Pid) → lives_in processes p ≡ v (cells.Alive p)
   pub trap : (p : Pid) → traps_in processes p ≡ v (cells.Trap p)
   pub turns : (p : Pid) → turns_in processes p ≡ (v (cells.Machine p)).turns
   pub stands : (p : Pid) → lives_in processes p ≡ true → StandsAs m p (v (cells.Machine p)) (standing_in processes p)
+  pub gone : (p : Pid) → lives_in processes p ≡ false → standing_in processes p ≡ None
 
 -- each process lives, traps exits, took as many turns and stands as before
 pub record IsUnchanged (old new : Processes) : Type 0 where

@@ -1,5 +1,5 @@
 // How far one process has come.
-ghost use Rattle.std.specs.Prelude.{◌≡◌, ◌∷◌, ◌+◌, [], Some, IfOk, option_copied};
+ghost use Rattle.std.specs.Prelude.{◌≡◌, ◌∷◌, ◌+◌, [], Some, None, IfOk, option_copied};
 ghost use Rattle.core_eval.specs.Requests.{answered_of};
 ghost use Rattle.core_tree.specs.Syntax.{ModuleTree};
 ghost use Rattle.world_model.specs.Cells as cells;
@@ -69,8 +69,9 @@ fn run_on<'m>(
     machine: Option<&Machine<'m>>,
     answer: Answer,
 ) -> Result<Option<Machine<'m>>, AllocError>
-    ensures { IfOk result (λ next. (m : ModuleTree) (p : names.Pid) (c : cells.Course) →
+    ensures stands { IfOk result (λ next. (m : ModuleTree) (p : names.Pid) (c : cells.Course) →
         StandsAs m p c (option_copied machine.entry) → StandsAs m p (turned (answered_of answer ∷ []) c) next) }
+    ensures gone { IfOk result (λ next. option_copied machine.entry ≡ None → next ≡ None) }
 {
     let Some(machine) = machine else {
         drop(answer);
@@ -88,6 +89,7 @@ pub(crate) fn answered<'m>(
     ensures turns { IfOk result (λ next. next.turns ≡ turns_of (option_copied course.entry) + 1) }
     ensures stands { IfOk result (λ next. (m : ModuleTree) (p : names.Pid) (c : cells.Course) →
         StandsAs m p c (standing_of (option_copied course.entry)) → StandsAs m p (turned (answered_of answer ∷ []) c) next.machine) }
+    ensures gone { IfOk result (λ next. standing_of (option_copied course.entry) ≡ None → next.machine ≡ None) }
 {
     let turns = next_turn(course)?;
     let machine = run_on(alloc, machine_of(course), answer)?;
@@ -96,7 +98,8 @@ pub(crate) fn answered<'m>(
 
 /// A course after a last turn, which ends the process, or `AllocError` where no number is left for it.
 pub(crate) fn ended<'m>(course: Option<&Course<'m>>) -> Result<Course<'m>, AllocError>
-    ensures { IfOk result (λ last. last.turns ≡ turns_of (option_copied course.entry) + 1) }
+    ensures turns { IfOk result (λ last. last.turns ≡ turns_of (option_copied course.entry) + 1) }
+    ensures gone { IfOk result (λ last. last.machine ≡ None) }
 {
     let turns = next_turn(course)?;
     Ok(Course {
@@ -107,7 +110,8 @@ pub(crate) fn ended<'m>(course: Option<&Course<'m>>) -> Result<Course<'m>, Alloc
 
 /// A course that is cut off by a signal. It takes no memory.
 pub(crate) fn killed<'m>(course: Option<&Course<'m>>) -> Course<'m>
-    ensures { result.turns ≡ turns_of (option_copied course.entry) }
+    ensures turns { result.turns ≡ turns_of (option_copied course.entry) }
+    ensures gone { result.machine ≡ None }
 {
     Course {
         machine: None,

@@ -34,30 +34,30 @@ use term_core::{Atom, Pid, Terms};
 /// only the one that runs on.
 #[derive(Drop)]
 pub struct Processes<'m> {
-    module: &'m Module,
+    program: &'m Module,
     courses: Courses<'m>,
     living: Pids,
     trapping: Pids,
 }
 
 /// The first process of a module, at the first request of `main/0`.
-fn first<'m>(alloc: Global, module: &'m Module) -> Result<Machine<'m>, AllocError>
-    ensures { IfOk result (λ machine. StandsAs module.now [] (beginning (cells.Machine [])) (Some machine)) }
+fn first<'m>(alloc: Global, program: &'m Module) -> Result<Machine<'m>, AllocError>
+    ensures { IfOk result (λ machine. StandsAs program.now [] (beginning (cells.Machine [])) (Some machine)) }
 {
     let main = Atom::new(alloc, "main")?;
     let pid = Pid::new(alloc, Vec::new(alloc))?;
-    start(alloc, module, pid, &module.name, &main, Terms::new(alloc))
+    start(alloc, program, pid, &program.name, &main, Terms::new(alloc))
 }
 
 impl<'m> Processes<'m> {
     /// The processes in the beginning: the first one lives, and stands at the first request of `main/0` of the
     /// module. `AllocError` if there is no memory.
-    pub fn open(alloc: Global, module: &'m Module) -> Result<Processes<'m>, AllocError>
-        ensures { IfOk result (λ opened. Agrees module.now opened beginning) }
+    pub fn open(alloc: Global, program: &'m Module) -> Result<Processes<'m>, AllocError>
+        ensures { IfOk result (λ opened. Agrees program.now opened beginning) }
     {
         let pid = Pid::new(alloc, Vec::new(alloc))?;
         let course = Course {
-            machine: Some(first(alloc, module)?),
+            machine: Some(first(alloc, program)?),
             turns: 0,
         };
         let mut courses = Courses::new(alloc)?;
@@ -65,7 +65,7 @@ impl<'m> Processes<'m> {
         let mut living = Pids::new(alloc)?;
         living.put(&pid)?;
         Ok(Processes {
-            module,
+            program,
             courses,
             living,
             trapping: Pids::new(alloc)?,
@@ -78,7 +78,7 @@ impl<'m> Processes<'m> {
         ensures { IfOk result (λ copied. IsUnchanged self.now copied) }
     {
         Ok(Processes {
-            module: self.module,
+            program: self.program,
             courses: self.courses.copy()?,
             living: self.living.copy()?,
             trapping: self.trapping.copy()?,
@@ -119,15 +119,17 @@ impl<'m> Processes<'m> {
 
     /// The machine of a process, until it ends.
     fn machine(&self, pid: &Pid) -> Option<&Machine<'m>>
-        ensures { option_copied result ≡ standing_in self.now pid.now }
+        ensures stands { option_copied result ≡ standing_in self.now pid.now }
+        ensures there { (m : ModuleTree) (v : Contents) → Agrees m self.now v → is_some result ≡ lives_in self.now pid.now }
     {
         machine_of(self.courses.of(pid))
     }
 
     /// What a process asks, if it lives. It takes no memory.
     pub fn request(&self, pid: &Pid) -> Option<&Request>
-        ensures { (m : ModuleTree) (v : Contents) → Agrees m self.now v → lives_in self.now pid.now ≡ true →
+        ensures asked { (m : ModuleTree) (v : Contents) → Agrees m self.now v → lives_in self.now pid.now ≡ true →
             option_map (λ request. request_with (selects_in self.now pid.now) (told_by request.now)) result ≡ Some (asked (program_of m) pid.now (v (cells.Machine pid.now))) }
+        ensures there { (m : ModuleTree) (v : Contents) → Agrees m self.now v → is_some result ≡ lives_in self.now pid.now }
     {
         let machine = self.machine(pid)?;
         Some(machine.request())
@@ -135,8 +137,8 @@ impl<'m> Processes<'m> {
 
     /// What takes the messages that the receive of a process selects, if the process lives. It takes no memory.
     pub fn receiver<'a>(&'a self, pid: &Pid) -> Option<Receiver<'a, 'm>>
-        ensures selects { IfSome result (λ receiver. (message : Meaning) → taken_by receiver message ≡ selects_in self.now pid.now message) }
-        ensures there { (m : ModuleTree) (v : Contents) → Agrees m self.now v → lives_in self.now pid.now ≡ true → is_some result ≡ true }
+        ensures selects { IfSome result (λ receiver. taken_by receiver ≡ selects_in self.now pid.now) }
+        ensures there { (m : ModuleTree) (v : Contents) → Agrees m self.now v → is_some result ≡ lives_in self.now pid.now }
     {
         let machine = self.machine(pid)?;
         Some(Receiver { machine })
@@ -158,7 +160,7 @@ impl<'m> Processes<'m> {
     {
         let machine = start(
             alloc,
-            self.module,
+            self.program,
             child.copy()?,
             module_name,
             function_name,
