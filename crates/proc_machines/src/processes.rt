@@ -145,7 +145,7 @@ impl<'m> Processes<'m> {
     }
 
     /// A process begins, with a function of a module and its arguments, which are taken over (the Erlang manual,
-    /// `spawn/3`). `AllocError` if there is no memory, and then nothing is changed.
+    /// `spawn/3`), and runs to its first request. `AllocError` if there is no memory, and then nothing is changed.
     pub fn begin(
         &mut self,
         alloc: Global,
@@ -177,8 +177,8 @@ impl<'m> Processes<'m> {
         Ok(())
     }
 
-    /// A process takes a turn, and runs on with what it is answered. `AllocError` if there is no memory, and then
-    /// nothing is changed.
+    /// A process takes a turn, and runs on with what it is answered. `AllocError` if there is no memory, or no
+    /// number for the turn, and then nothing is changed.
     pub fn turn(&mut self, alloc: Global, pid: &Pid, answer: Answer) -> Result<(), AllocError>
         ensures ok { OnOk result ((m : ModuleTree) (v : Contents) → Agrees m self.old v →
             Agrees m self.new (after (Turns pid.now (answered_of answer ∷ []) ∷ []) v)) }
@@ -201,8 +201,8 @@ impl<'m> Processes<'m> {
         Ok(())
     }
 
-    /// A process ends by a turn of its own (Erlang reference manual, "Processes": "Process Termination").
-    /// `AllocError` if there is no memory, and then nothing is changed.
+    /// A process ends by a turn of its own, and its machine is dropped (Erlang reference manual, "Processes": "Process
+    /// Termination"). `AllocError` if there is no memory, or no number for the turn, and then nothing is changed.
     pub fn end(&mut self, alloc: Global, pid: &Pid) -> Result<(), AllocError>
         ensures ok { OnOk result ((m : ModuleTree) (v : Contents) (reason : Meaning) → Agrees m self.old v →
             Agrees m self.new (after (Turns pid.now [] ∷ Halts pid.now reason ∷ Dies pid.now ∷ []) v)) }
@@ -213,8 +213,8 @@ impl<'m> Processes<'m> {
         Ok(())
     }
 
-    /// A process is ended by a signal, and takes no turn (Erlang reference manual, "Processes": "Receiving Exit
-    /// Signals"). `AllocError` if there is no memory, and then nothing is changed.
+    /// A process is ended by a signal, without a turn, and its machine is dropped (Erlang reference manual,
+    /// "Processes": "Receiving Exit Signals"). `AllocError` if there is no memory, and then nothing is changed.
     pub fn kill(&mut self, alloc: Global, pid: &Pid) -> Result<(), AllocError>
         ensures ok { OnOk result ((m : ModuleTree) (v : Contents) (reason : Meaning) → Agrees m self.old v →
             Agrees m self.new (after (Halts pid.now reason ∷ Dies pid.now ∷ []) v)) }
