@@ -252,20 +252,20 @@ const INSERT_NEW_ORDERED_SET_2: [Line; 11] = [
 ];
 
 const DUPLICATE_BAG_INSERT_NEW_PRESENT: [Line; 4] = [
-    ("T1", 0, "new", "'b',['duplicate_bag']", "#P.1"),
+    ("Made1", 0, "new", "'b',['duplicate_bag']", "#P.1"),
     (
         "",
         0,
         "insert",
-        "T1,[{1,'x'},{1,'w'},{1,'x'},{2,'y'},{0,'z'},{2,'y'}]",
+        "Made1,[{1,'x'},{1,'w'},{1,'x'},{2,'y'},{0,'z'},{2,'y'}]",
         "'true'",
     ),
-    ("", 0, "insert_new", "T1,[{9,'a'},{1,'b'}]", "'false'"),
+    ("", 0, "insert_new", "Made1,[{9,'a'},{1,'b'}]", "'false'"),
     (
         "",
         0,
         "tab2list",
-        "T1",
+        "Made1",
         "[{0,'z'},{1,'x'},{1,'w'},{1,'x'},{2,'y'},{2,'y'}]",
     ),
 ];
@@ -381,16 +381,16 @@ const DELETE_OBJECT_SET_2: [Line; 16] = [
 ];
 
 const DUPLICATE_BAG_DELETE_OBJECT: [Line; 4] = [
-    ("T1", 0, "new", "'b',['duplicate_bag']", "#P.1"),
+    ("Made1", 0, "new", "'b',['duplicate_bag']", "#P.1"),
     (
         "",
         0,
         "insert",
-        "T1,[{1,'x'},{1,'w'},{1,'x'},{2,'y'},{0,'z'},{2,'y'}]",
+        "Made1,[{1,'x'},{1,'w'},{1,'x'},{2,'y'},{0,'z'},{2,'y'}]",
         "'true'",
     ),
-    ("", 0, "delete_object", "T1,{1,'x'}", "'true'"),
-    ("", 0, "lookup", "T1,1", "[{1,'w'}]"),
+    ("", 0, "delete_object", "Made1,{1,'x'}", "'true'"),
+    ("", 0, "lookup", "Made1,1", "[{1,'w'}]"),
 ];
 
 const TAKE_BAG: [Line; 9] = [
@@ -418,16 +418,22 @@ const TAKE_BAG: [Line; 9] = [
 ];
 
 const DUPLICATE_BAG_TAKE: [Line; 4] = [
-    ("T1", 0, "new", "'b',['duplicate_bag']", "#P.1"),
+    ("Made1", 0, "new", "'b',['duplicate_bag']", "#P.1"),
     (
         "",
         0,
         "insert",
-        "T1,[{1,'x'},{1,'w'},{1,'x'},{2,'y'},{0,'z'},{2,'y'}]",
+        "Made1,[{1,'x'},{1,'w'},{1,'x'},{2,'y'},{0,'z'},{2,'y'}]",
         "'true'",
     ),
-    ("", 0, "take", "T1,2", "[{2,'y'},{2,'y'}]"),
-    ("", 0, "tab2list", "T1", "[{0,'z'},{1,'x'},{1,'w'},{1,'x'}]"),
+    ("", 0, "take", "Made1,2", "[{2,'y'},{2,'y'}]"),
+    (
+        "",
+        0,
+        "tab2list",
+        "Made1",
+        "[{0,'z'},{1,'x'},{1,'w'},{1,'x'}]",
+    ),
 ];
 
 const DELETE_AND_NEW_AGAIN: [Line; 6] = [
@@ -610,7 +616,7 @@ fn elements_are_updated(rt: HostRuntime) -> Result<(), Fail> {
 
 const INFO_MIXED: [Line; 10] = [
     (
-        "T1",
+        "Made1",
         0,
         "new",
         "'t',['bag','set','ordered_set','private','public',{'keypos',3},{'heir','none'},{'heir',call 'erlang':'self'(),1}]",
@@ -620,17 +626,17 @@ const INFO_MIXED: [Line; 10] = [
         "",
         0,
         "insert",
-        "T1,[{1,2,3},{1,2,4},{2,2,3},{1,2,3}]",
+        "Made1,[{1,2,3},{1,2,4},{2,2,3},{1,2,3}]",
         "'true'",
     ),
-    ("", 0, "info", "T1,'name'", "'t'"),
-    ("", 0, "info", "T1,'type'", "'ordered_set'"),
-    ("", 0, "info", "T1,'protection'", "'public'"),
-    ("", 0, "info", "T1,'owner'", "P"),
-    ("", 0, "info", "T1,'size'", "2"),
-    ("", 0, "info", "T1,'keypos'", "3"),
-    ("", 0, "info", "T1,'heir'", "P"),
-    ("", 0, "info", "T1,'named_table'", "'false'"),
+    ("", 0, "info", "Made1,'name'", "'t'"),
+    ("", 0, "info", "Made1,'type'", "'ordered_set'"),
+    ("", 0, "info", "Made1,'protection'", "'public'"),
+    ("", 0, "info", "Made1,'owner'", "P"),
+    ("", 0, "info", "Made1,'size'", "2"),
+    ("", 0, "info", "Made1,'keypos'", "3"),
+    ("", 0, "info", "Made1,'heir'", "P"),
+    ("", 0, "info", "Made1,'named_table'", "'false'"),
 ];
 
 const INFO_BAG: [Line; 10] = [
@@ -671,20 +677,20 @@ const INFO_SIZE: [Line; 9] = [
 ];
 
 const INFO_NAME_OF_UNNAMED: [Line; 2] = [
-    ("T1", 0, "new", "'some name',[]", "#P.1"),
-    ("", 0, "info", "T1,'name'", "'some name'"),
+    ("Made1", 0, "new", "'some name',[]", "#P.1"),
+    ("", 0, "info", "Made1,'name'", "'some name'"),
 ];
 
 const DUPLICATE_BAG_TYPE: [Line; 3] = [
-    ("T1", 0, "new", "'b',['duplicate_bag']", "#P.1"),
+    ("Made1", 0, "new", "'b',['duplicate_bag']", "#P.1"),
     (
         "",
         0,
         "insert",
-        "T1,[{1,'x'},{1,'w'},{1,'x'},{2,'y'},{0,'z'},{2,'y'}]",
+        "Made1,[{1,'x'},{1,'w'},{1,'x'},{2,'y'},{0,'z'},{2,'y'}]",
         "'true'",
     ),
-    ("", 0, "info", "T1,'type'", "'duplicate_bag'"),
+    ("", 0, "info", "Made1,'type'", "'duplicate_bag'"),
 ];
 
 // What `info` tells of a table, of its size, and of none.

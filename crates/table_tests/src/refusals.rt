@@ -38,15 +38,15 @@ const INSERT_NEW_REFUSED_SET: [Line; 14] = [
 ];
 
 const DUPLICATE_BAG_INSERT_SHORT: [Line; 3] = [
-    ("T1", 0, "new", "'b',['duplicate_bag']", "#P.1"),
+    ("Made1", 0, "new", "'b',['duplicate_bag']", "#P.1"),
     (
         "",
         0,
         "insert",
-        "T1,[{1,'x'},{1,'w'},{1,'x'},{2,'y'},{0,'z'},{2,'y'}]",
+        "Made1,[{1,'x'},{1,'w'},{1,'x'},{2,'y'},{0,'z'},{2,'y'}]",
         "'true'",
     ),
-    ("", 0, "insert", "T1,{}", "11 of P"),
+    ("", 0, "insert", "Made1,{}", "11 of P"),
 ];
 
 // What is no object, and what is too short to have a key.
@@ -244,39 +244,39 @@ const NEW_NAME_FIRST: [Line; 8] = [
     ("", 0, "new", "'t',['none','named_table']", "8"),
     ("", 0, "new", "'t',['named_table']", "9"),
     ("", 0, "new", "{},['named_table']", "7"),
-    ("T8", 0, "new", "'t',[]", "#P.8"),
+    ("Made8", 0, "new", "'t',[]", "#P.8"),
 ];
 
 const NEW_OPTIONS_00: [Line; 5] = [
-    ("T1", 0, "new", "'t',[]", "#P.1"),
-    ("", 0, "insert", "T1,[{1,2,3},{1,2,4},{1,1,3}]", "'true'"),
-    ("", 0, "tab2list", "T1", "[{1,1,3}]"),
-    ("", 0, "lookup", "T1,1", "[{1,1,3}]"),
-    ("", 0, "lookup", "T1,3", "[]"),
+    ("Made1", 0, "new", "'t',[]", "#P.1"),
+    ("", 0, "insert", "Made1,[{1,2,3},{1,2,4},{1,1,3}]", "'true'"),
+    ("", 0, "tab2list", "Made1", "[{1,1,3}]"),
+    ("", 0, "lookup", "Made1,1", "[{1,1,3}]"),
+    ("", 0, "lookup", "Made1,3", "[]"),
 ];
 
 const NEW_OPTIONS_01: [Line; 5] = [
-    ("T1", 0, "new", "'t',['set']", "#P.1"),
-    ("", 0, "insert", "T1,[{1,2,3},{1,2,4},{1,1,3}]", "'true'"),
-    ("", 0, "tab2list", "T1", "[{1,1,3}]"),
-    ("", 0, "lookup", "T1,1", "[{1,1,3}]"),
-    ("", 0, "lookup", "T1,3", "[]"),
+    ("Made1", 0, "new", "'t',['set']", "#P.1"),
+    ("", 0, "insert", "Made1,[{1,2,3},{1,2,4},{1,1,3}]", "'true'"),
+    ("", 0, "tab2list", "Made1", "[{1,1,3}]"),
+    ("", 0, "lookup", "Made1,1", "[{1,1,3}]"),
+    ("", 0, "lookup", "Made1,3", "[]"),
 ];
 
 const NEW_OPTIONS_05: [Line; 5] = [
-    ("T1", 0, "new", "'t',['set','bag']", "#P.1"),
-    ("", 0, "insert", "T1,[{1,2,3},{1,2,4},{1,1,3}]", "'true'"),
-    ("", 0, "tab2list", "T1", "[{1,2,3},{1,2,4},{1,1,3}]"),
-    ("", 0, "lookup", "T1,1", "[{1,2,3},{1,2,4},{1,1,3}]"),
-    ("", 0, "lookup", "T1,3", "[]"),
+    ("Made1", 0, "new", "'t',['set','bag']", "#P.1"),
+    ("", 0, "insert", "Made1,[{1,2,3},{1,2,4},{1,1,3}]", "'true'"),
+    ("", 0, "tab2list", "Made1", "[{1,2,3},{1,2,4},{1,1,3}]"),
+    ("", 0, "lookup", "Made1,1", "[{1,2,3},{1,2,4},{1,1,3}]"),
+    ("", 0, "lookup", "Made1,3", "[]"),
 ];
 
 const NEW_OPTIONS_09: [Line; 5] = [
-    ("T1", 0, "new", "'t',[{'keypos',3},{'keypos',1}]", "#P.1"),
-    ("", 0, "insert", "T1,[{1,2,3},{1,2,4},{1,1,3}]", "'true'"),
-    ("", 0, "tab2list", "T1", "[{1,1,3}]"),
-    ("", 0, "lookup", "T1,1", "[{1,1,3}]"),
-    ("", 0, "lookup", "T1,3", "[]"),
+    ("Made1", 0, "new", "'t',[{'keypos',3},{'keypos',1}]", "#P.1"),
+    ("", 0, "insert", "Made1,[{1,2,3},{1,2,4},{1,1,3}]", "'true'"),
+    ("", 0, "tab2list", "Made1", "[{1,1,3}]"),
+    ("", 0, "lookup", "Made1,1", "[{1,1,3}]"),
+    ("", 0, "lookup", "Made1,3", "[]"),
 ];
 
 const NEW_OPTIONS_13: [Line; 1] = [("", 0, "new", "'t',[{'keypos','x'}]", "8")];
@@ -333,8 +333,8 @@ const INFO_BAD_ITEM_00: [Line; 6] = [
     ("", 0, "info", "'t','x'", "18 of P"),
     ("", 0, "info", "'none','x'", "'undefined'"),
     ("", 0, "info", "1,'x'", "1"),
-    ("T5", 0, "ref", "", "#P.5"),
-    ("", 0, "info", "T5,'x'", "'undefined'"),
+    ("Made5", 0, "ref", "", "#P.5"),
+    ("", 0, "info", "Made5,'x'", "'undefined'"),
 ];
 
 const INFO_BAD_ITEM_05: [Line; 6] = [
@@ -342,8 +342,8 @@ const INFO_BAD_ITEM_05: [Line; 6] = [
     ("", 0, "info", "'t',{}", "18 of P"),
     ("", 0, "info", "'none',{}", "'undefined'"),
     ("", 0, "info", "1,{}", "1"),
-    ("T5", 0, "ref", "", "#P.5"),
-    ("", 0, "info", "T5,{}", "'undefined'"),
+    ("Made5", 0, "ref", "", "#P.5"),
+    ("", 0, "info", "Made5,{}", "'undefined'"),
 ];
 
 const INFO_BAD_ITEM_11: [Line; 6] = [
@@ -351,8 +351,8 @@ const INFO_BAD_ITEM_11: [Line; 6] = [
     ("", 0, "info", "'t',['size']", "18 of P"),
     ("", 0, "info", "'none',['size']", "'undefined'"),
     ("", 0, "info", "1,['size']", "1"),
-    ("T5", 0, "ref", "", "#P.5"),
-    ("", 0, "info", "T5,['size']", "'undefined'"),
+    ("Made5", 0, "ref", "", "#P.5"),
+    ("", 0, "info", "Made5,['size']", "'undefined'"),
 ];
 
 // Options of new tables.
@@ -391,8 +391,8 @@ const ORDER_TABLE_ARGUMENT_INSERT: [Line; 8] = [
     ("", 0, "insert", "call 'erlang':'self'(),'x'", "1"),
     ("", 0, "insert", "['t'],'x'", "1"),
     ("", 0, "insert", "'none','x'", "2"),
-    ("T7", 0, "ref", "", "#P.7"),
-    ("", 0, "insert", "T7,'x'", "2"),
+    ("Made7", 0, "ref", "", "#P.7"),
+    ("", 0, "insert", "Made7,'x'", "2"),
 ];
 
 const ORDER_TABLE_ARGUMENT_LOOKUP_ELEMENT: [Line; 8] = [
@@ -402,20 +402,20 @@ const ORDER_TABLE_ARGUMENT_LOOKUP_ELEMENT: [Line; 8] = [
     ("", 0, "lookup_element", "call 'erlang':'self'(),1,0", "1"),
     ("", 0, "lookup_element", "['t'],1,0", "1"),
     ("", 0, "lookup_element", "'none',1,0", "2"),
-    ("T7", 0, "ref", "", "#P.7"),
-    ("", 0, "lookup_element", "T7,1,0", "2"),
+    ("Made7", 0, "ref", "", "#P.7"),
+    ("", 0, "lookup_element", "Made7,1,0", "2"),
 ];
 
 const INFO_UNNAMED_BY_NAME: [Line; 2] = [
-    ("T1", 0, "new", "'t',[]", "#P.1"),
+    ("Made1", 0, "new", "'t',[]", "#P.1"),
     ("", 0, "info", "'t','name'", "'undefined'"),
 ];
 
 const SETOPTS_NO_TABLE: [Line; 4] = [
     ("", 0, "setopts", "'t',[]", "2"),
     ("", 0, "setopts", "1,'x'", "1"),
-    ("T3", 0, "ref", "", "#P.3"),
-    ("", 0, "setopts", "T3,'x'", "2"),
+    ("Made3", 0, "ref", "", "#P.3"),
+    ("", 0, "setopts", "Made3,'x'", "2"),
 ];
 
 // A table argument that is none, or finds none, before all else.

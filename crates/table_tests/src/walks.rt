@@ -147,20 +147,20 @@ const WALK_EMPTY_ORDERED_SET: [Line; 13] = [
 ];
 
 const DUPLICATE_BAG_WALK: [Line; 8] = [
-    ("T1", 0, "new", "'b',['duplicate_bag']", "#P.1"),
+    ("Made1", 0, "new", "'b',['duplicate_bag']", "#P.1"),
     (
         "",
         0,
         "insert",
-        "T1,[{1,'x'},{1,'w'},{1,'x'},{2,'y'},{0,'z'},{2,'y'}]",
+        "Made1,[{1,'x'},{1,'w'},{1,'x'},{2,'y'},{0,'z'},{2,'y'}]",
         "'true'",
     ),
-    ("", 0, "first", "T1", "0"),
-    ("", 0, "next", "T1,0", "1"),
-    ("", 0, "next", "T1,1", "2"),
-    ("", 0, "next", "T1,2", "'$end_of_table'"),
-    ("", 0, "last", "T1", "0"),
-    ("", 0, "prev", "T1,1", "2"),
+    ("", 0, "first", "Made1", "0"),
+    ("", 0, "next", "Made1,0", "1"),
+    ("", 0, "next", "Made1,1", "2"),
+    ("", 0, "next", "Made1,2", "'$end_of_table'"),
+    ("", 0, "last", "Made1", "0"),
+    ("", 0, "prev", "Made1,1", "2"),
 ];
 
 // Walks from keys that are there, and from keys that are not.
