@@ -29,7 +29,7 @@ pub(crate) fn turns_of(course: Option<&Course<'_>>) -> u64
 
 /// How many turns there are after one more, or `AllocError` where no number is left for it: a history of so many
 /// events has no room in any memory.
-fn next_turn(course: Option<&Course<'_>>) -> Result<u64, AllocError>
+pub(crate) fn next_turn(course: Option<&Course<'_>>) -> Result<u64, AllocError>
     ensures { IfOk result (λ turns. turns ≡ turns_of (option_copied course.entry) + 1) }
 {
     match turns_of(course).checked_add(1) {

@@ -1,5 +1,5 @@
 // The processes of a world (Erlang reference manual, "Processes").
-ghost use Rattle.std.specs.Prelude.{◌≡◌, ◌∷◌, [], true, false, IfOk, OnOk, OnErr, IfSome, IfNone, Some, None, option_copied, option_map, is_some};
+ghost use Rattle.std.specs.Prelude.{◌≡◌, ◌+◌, ◌∷◌, [], true, false, IfOk, OnOk, OnErr, IfSome, IfNone, Some, None, option_copied, option_map, is_some};
 ghost use Rattle.std.specs.BTreeSet.{contains};
 ghost use Rattle.core_eval.specs.Requests.{answered_of, told_by};
 ghost use Rattle.core_tree.specs.Syntax.{ModuleTree};
@@ -18,7 +18,7 @@ ghost use Rattle.world_model.specs.Requests.{Spawned};
 ghost use Rattle.world_model.specs.Steps.{asked};
 ghost use Rattle.world_model.specs.World.{beginning};
 
-use crate::course::{Course, answered, ended, killed, machine_of, turns_of};
+use crate::course::{Course, answered, ended, killed, machine_of, next_turn, turns_of};
 use crate::courses::Courses;
 use crate::pids::Pids;
 use crate::receiver::Receiver;
@@ -115,6 +115,15 @@ impl<'m> Processes<'m> {
         ensures { result ≡ turns_in self.now pid.now }
     {
         turns_of(self.courses.of(pid))
+    }
+
+    /// The number of the next turn of a process, by which what it creates in that turn is named. `AllocError` where no
+    /// number is left.
+    pub fn next_number(&self, pid: &Pid) -> Result<u64, AllocError>
+        ensures { IfOk result (λ number. number ≡ turns_in self.now pid.now + 1) }
+    {
+        let number = next_turn(self.courses.of(pid))?;
+        Ok(number)
     }
 
     /// The machine of a process, until it ends.

@@ -1,0 +1,148 @@
+// The mailboxes of all processes: copies share them until one of them is changed.
+ghost use Rattle.std.specs.Prelude.{◌≡◌, ◌<◌, [], ◌∷◌, ◌++◌, IfOk, IfSome, OnOk, OnErr, None, length, option_and_then, option_copied, option_map, slice_get};
+ghost use Rattle.std.specs.List.{remove};
+ghost use Rattle.proc_mailboxes.specs.Mailboxes.{AreMailboxes, IsChangedAt, IsUnchanged, messages_in, messages_of, picked};
+ghost use Rattle.proc_signals.specs.Mailbox.{first_place};
+ghost use Rattle.proc_signals.specs.Signal.{ref_of};
+ghost use Rattle.term_core.specs.Term.{meaning_of};
+ghost use Rattle.world_model.specs.Cells.{Contents};
+ghost use Rattle.world_model.specs.Changes.{Flushes, Mails, after, changed, is_of_watch, without_first};
+ghost use Rattle.world_model.specs.Names as names;
+ghost use Rattle.world_model.specs.Steps.{selected_of};
+
+use crate::mailbox_map::MailboxMap;
+use proc_signals::{Mailbox, Selector};
+use std::alloc::{AllocError, Global};
+use std::marker::Model;
+use std::sync::Arc;
+use term_core::{Pid, RefId, Term};
+
+/// The messages that arrived at each process, the oldest first (Erlang reference manual, "Processes",
+/// "Delivery of Signals"). Contracts read those of a process with `messages_in`. Copies share them until one
+/// of them is changed; then it clones the pointers to mailboxes, and the one mailbox.
+#[derive(Drop)]
+pub struct Mailboxes {
+    mailboxes: Arc<MailboxMap>,
+}
+
+impl Model for Mailboxes {
+    ghost use Rattle.std.specs.Prelude.{ℕ, List};
+    ghost use Rattle.std.specs.Coded.{coded_list, coded×, coded_ℕ};
+    ghost use Rattle.term_core.specs.Meaning.{Meaning};
+    ghost use Rattle.term_core.specs.inside.MeaningCodes.{coded_meaning};
+
+    ghost Value = { List (List ℕ × List Meaning) };
+
+    ghost coded = { coded_list (coded× (coded_list coded_ℕ) (coded_list coded_meaning)) };
+
+    ghost view = { λ m. m.mailboxes.value };
+}
+
+impl Mailboxes {
+    /// Every process has no messages. `AllocError` if there is no memory.
+    pub fn new(alloc: Global) -> Result<Mailboxes, AllocError>
+        ensures { IfOk result (λ mailboxes. (p : names.Pid) → messages_in mailboxes p ≡ []) }
+    {
+        Ok(Mailboxes {
+            mailboxes: Arc::new(alloc, MailboxMap::new(alloc))?,
+        })
+    }
+
+    /// The same mailboxes, or `AllocError` where their copies can no longer be counted. It takes no memory
+    /// and one step.
+    pub fn copy(&self) -> Result<Mailboxes, AllocError>
+        ensures { IfOk result (λ copied. IsUnchanged self.now copied) }
+    {
+        Ok(Mailboxes {
+            mailboxes: Arc::try_clone(&self.mailboxes)?,
+        })
+    }
+
+    /// The mailbox of a process, or `None`, where it has no messages. It takes no memory.
+    pub fn of(&self, pid: &Pid) -> Option<&Mailbox>
+        ensures { messages_of (option_copied result) ≡ messages_in self.now pid.now }
+    {
+        self.mailboxes.get(pid)
+    }
+
+    /// A message comes in to a process, behind the others. `AllocError` if there is no memory: then nothing is
+    /// changed, and the message is dropped.
+    pub fn put(&mut self, alloc: Global, pid: &Pid, message: Term) -> Result<(), AllocError>
+        ensures ok { OnOk result (IsChangedAt pid.now (λ messages. messages ++ meaning_of message ∷ []) self.old self.new) }
+        ensures mails { OnOk result ((v : Contents) → AreMailboxes self.old v →
+            AreMailboxes self.new (changed (Mails pid.now (meaning_of message)) v)) }
+        ensures err { OnErr result (IsUnchanged self.old self.new) }
+    {
+        let mailboxes = Arc::make_mut(&mut self.mailboxes)?;
+        mailboxes.put(alloc, pid, message)?;
+        Ok(())
+    }
+
+    /// Where the oldest message of a process lies that is selected, if there is one, counted from 0 (Erlang
+    /// reference manual, "Expressions", "Receive"). `AllocError` where the selector has no memory to tell.
+    pub fn first<S: Selector>(
+        &self,
+        alloc: Global,
+        pid: &Pid,
+        selector: &S,
+    ) -> Result<Option<usize>, AllocError>
+        ensures found { IfOk result (λ found. found ≡ first_place (S.takes selector.now) (messages_in self.now pid.now)) }
+        ensures within { IfOk result (λ found. IfSome found (λ place. place < length (messages_in self.now pid.now))) }
+        ensures selected { IfOk result (λ found.
+            option_and_then (slice_get (messages_in self.now pid.now)) found ≡ selected_of (S.takes selector.now) (messages_in self.now pid.now)) }
+    {
+        let Some(mailbox) = self.mailboxes.get(pid) else {
+            return Ok(None);
+        };
+        let found = mailbox.find_match(alloc, selector)?;
+        Ok(found)
+    }
+
+    /// Takes out the oldest message of a process that is selected, if there is one; the others keep their order
+    /// (Erlang reference manual, "Expressions", "Receive"). `AllocError` if there is no memory, and then nothing
+    /// is changed.
+    pub fn take<S: Selector>(
+        &mut self,
+        alloc: Global,
+        pid: &Pid,
+        selector: &S,
+    ) -> Result<Option<Term>, AllocError>
+        ensures taken { IfOk result (λ taken. option_map meaning_of taken ≡ selected_of (S.takes selector.now) (messages_in self.old pid.now)) }
+        ensures picks { IfOk result (λ taken. (v : Contents) → AreMailboxes self.old v →
+            AreMailboxes self.new (after (picked pid.now (option_map meaning_of taken)) v)) }
+        ensures none { IfOk result (λ taken. taken ≡ None → IsUnchanged self.old self.new) }
+        ensures err { OnErr result (IsUnchanged self.old self.new) }
+    {
+        let Some(place) = self.first(alloc, pid, selector)? else {
+            return Ok(None);
+        };
+        let taken = self.take_at(pid, place)?;
+        Ok(taken)
+    }
+
+    /// Takes out the message of a process at a place.
+    fn take_at(&mut self, pid: &Pid, place: usize) -> Result<Option<Term>, AllocError>
+        requires { place < length (messages_in self.old pid.now) }
+        ensures message { IfOk result (λ taken. option_map meaning_of taken ≡ slice_get (messages_in self.old pid.now) place) }
+        ensures rest { OnOk result (IsChangedAt pid.now (λ messages. remove messages place) self.old self.new) }
+        ensures err { OnErr result (self.new ≡ self.old) }
+    {
+        let mailboxes = Arc::make_mut(&mut self.mailboxes)?;
+        let taken = mailboxes.take_at(pid, place)?;
+        Ok(taken)
+    }
+
+    /// Takes out the oldest message of a watch that a process has, if there is one: a tuple of five with this
+    /// reference second (OTP, module `erlang`, `demonitor/2` with the option `flush`). `AllocError` if there is
+    /// no memory, and then nothing is changed.
+    pub fn flush(&mut self, pid: &Pid, reference: &RefId) -> Result<(), AllocError>
+        ensures ok { OnOk result (IsChangedAt pid.now (without_first (is_of_watch (ref_of reference.now))) self.old self.new) }
+        ensures flushes { OnOk result ((v : Contents) → AreMailboxes self.old v →
+            AreMailboxes self.new (changed (Flushes pid.now (ref_of reference.now)) v)) }
+        ensures err { OnErr result (IsUnchanged self.old self.new) }
+    {
+        let mailboxes = Arc::make_mut(&mut self.mailboxes)?;
+        mailboxes.flush(pid, reference)?;
+        Ok(())
+    }
+}

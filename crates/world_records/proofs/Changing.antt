@@ -1,0 +1,126 @@
+-- Records of which one part followed changes of its own sorts of cells.
+use Rattle.std.proofs.Common.{List, refl}
+use Rattle.core_tree.specs.Syntax.{ModuleTree}
+use Rattle.world_model.specs.Cells.{Contents}
+use Rattle.world_model.specs.Changes.{Change, after}
+use Rattle.world_model.proofs.SortLaws.{AllAmong}
+use Rattle.proc_links.specs.Links.{AreLinks}
+use Rattle.proc_links.specs.Names.{AreHolders, AreBorne}
+use Rattle.proc_links.specs.Watchers.{AreWatchers, AreWatches}
+use Rattle.proc_links.specs.declared.links.Links.{Links}
+use Rattle.proc_links.specs.declared.names.Names.{Names}
+use Rattle.proc_links.specs.declared.watchers.Watchers.{Watchers}
+use Rattle.proc_machines.specs.Processes as processes
+use Rattle.proc_machines.specs.declared.processes.Processes.{Processes}
+use Rattle.proc_mailboxes.specs.Mailboxes.{AreMailboxes, Mailboxes}
+use Rattle.proc_signals.specs.Channels.{AreChannels, Senders}
+use Rattle.ets_rules.specs.Tables.{Hold}
+use Rattle.ets_rules.specs.declared.tables.Tables.{Tables}
+use Rattle.world_records.specs.Records.{Agrees}
+use Rattle.world_records.specs.declared.records.Records.{Records}
+use Rattle.world_records.proofs.Parts.{Same, of_processes, of_mailboxes, of_channels, of_links, of_watches, of_names, of_tables, same_after, processes_same, mailboxes_same, channels_same, links_same, watchers_same, watches_same, holders_same, borne_same, tables_same}
+
+-- contents that are the same in all cells
+pub agrees_same : (m : ModuleTree) (r : Records) (v w : Contents) → Same of_processes v w → Same of_mailboxes v w → Same of_channels v w → Same of_links v w → Same of_watches v w → Same of_names v w → Same of_tables v w → Agrees m r v → Agrees m r w
+agrees_same m r v w ps bs cs ls ws ns ts told = record {
+  processes_are = processes_same m r.processes v w ps told.processes_are;
+  mailboxes_are = mailboxes_same r.mailboxes v w bs told.mailboxes_are;
+  channels_are = channels_same r.channels v w cs told.channels_are;
+  links_are = links_same r.links v w ls told.links_are;
+  watchers_are = watchers_same r.watchers v w ws told.watchers_are;
+  watches_are = watches_same r.watchers v w ws told.watches_are;
+  holders_are = holders_same r.names v w ns told.holders_are;
+  borne_are = borne_same r.names v w ns told.borne_are;
+  tables_are = tables_same r.tables v w ts told.tables_are;
+}
+
+pub only_processes : (m : ModuleTree) (r : Records) (new : Processes) (ks : List Change) (v : Contents) → AllAmong of_processes ks → processes.Agrees m new (after ks v) → Agrees m r v → Agrees m (record r { processes = new }) (after ks v)
+only_processes m r new ks v all are told = record {
+  processes_are = are;
+  mailboxes_are = mailboxes_same r.mailboxes v (after ks v) (same_after of_mailboxes of_processes ks v all refl) told.mailboxes_are;
+  channels_are = channels_same r.channels v (after ks v) (same_after of_channels of_processes ks v all refl) told.channels_are;
+  links_are = links_same r.links v (after ks v) (same_after of_links of_processes ks v all refl) told.links_are;
+  watchers_are = watchers_same r.watchers v (after ks v) (same_after of_watches of_processes ks v all refl) told.watchers_are;
+  watches_are = watches_same r.watchers v (after ks v) (same_after of_watches of_processes ks v all refl) told.watches_are;
+  holders_are = holders_same r.names v (after ks v) (same_after of_names of_processes ks v all refl) told.holders_are;
+  borne_are = borne_same r.names v (after ks v) (same_after of_names of_processes ks v all refl) told.borne_are;
+  tables_are = tables_same r.tables v (after ks v) (same_after of_tables of_processes ks v all refl) told.tables_are;
+}
+
+pub only_mailboxes : (m : ModuleTree) (r : Records) (new : Mailboxes) (ks : List Change) (v : Contents) → AllAmong of_mailboxes ks → AreMailboxes new (after ks v) → Agrees m r v → Agrees m (record r { mailboxes = new }) (after ks v)
+only_mailboxes m r new ks v all are told = record {
+  processes_are = processes_same m r.processes v (after ks v) (same_after of_processes of_mailboxes ks v all refl) told.processes_are;
+  mailboxes_are = are;
+  channels_are = channels_same r.channels v (after ks v) (same_after of_channels of_mailboxes ks v all refl) told.channels_are;
+  links_are = links_same r.links v (after ks v) (same_after of_links of_mailboxes ks v all refl) told.links_are;
+  watchers_are = watchers_same r.watchers v (after ks v) (same_after of_watches of_mailboxes ks v all refl) told.watchers_are;
+  watches_are = watches_same r.watchers v (after ks v) (same_after of_watches of_mailboxes ks v all refl) told.watches_are;
+  holders_are = holders_same r.names v (after ks v) (same_after of_names of_mailboxes ks v all refl) told.holders_are;
+  borne_are = borne_same r.names v (after ks v) (same_after of_names of_mailboxes ks v all refl) told.borne_are;
+  tables_are = tables_same r.tables v (after ks v) (same_after of_tables of_mailboxes ks v all refl) told.tables_are;
+}
+
+pub only_channels : (m : ModuleTree) (r : Records) (new : Senders) (ks : List Change) (v : Contents) → AllAmong of_channels ks → AreChannels new (after ks v) → Agrees m r v → Agrees m (record r { channels = new }) (after ks v)
+only_channels m r new ks v all are told = record {
+  processes_are = processes_same m r.processes v (after ks v) (same_after of_processes of_channels ks v all refl) told.processes_are;
+  mailboxes_are = mailboxes_same r.mailboxes v (after ks v) (same_after of_mailboxes of_channels ks v all refl) told.mailboxes_are;
+  channels_are = are;
+  links_are = links_same r.links v (after ks v) (same_after of_links of_channels ks v all refl) told.links_are;
+  watchers_are = watchers_same r.watchers v (after ks v) (same_after of_watches of_channels ks v all refl) told.watchers_are;
+  watches_are = watches_same r.watchers v (after ks v) (same_after of_watches of_channels ks v all refl) told.watches_are;
+  holders_are = holders_same r.names v (after ks v) (same_after of_names of_channels ks v all refl) told.holders_are;
+  borne_are = borne_same r.names v (after ks v) (same_after of_names of_channels ks v all refl) told.borne_are;
+  tables_are = tables_same r.tables v (after ks v) (same_after of_tables of_channels ks v all refl) told.tables_are;
+}
+
+pub only_links : (m : ModuleTree) (r : Records) (new : Links) (ks : List Change) (v : Contents) → AllAmong of_links ks → AreLinks new (after ks v) → Agrees m r v → Agrees m (record r { links = new }) (after ks v)
+only_links m r new ks v all are told = record {
+  processes_are = processes_same m r.processes v (after ks v) (same_after of_processes of_links ks v all refl) told.processes_are;
+  mailboxes_are = mailboxes_same r.mailboxes v (after ks v) (same_after of_mailboxes of_links ks v all refl) told.mailboxes_are;
+  channels_are = channels_same r.channels v (after ks v) (same_after of_channels of_links ks v all refl) told.channels_are;
+  links_are = are;
+  watchers_are = watchers_same r.watchers v (after ks v) (same_after of_watches of_links ks v all refl) told.watchers_are;
+  watches_are = watches_same r.watchers v (after ks v) (same_after of_watches of_links ks v all refl) told.watches_are;
+  holders_are = holders_same r.names v (after ks v) (same_after of_names of_links ks v all refl) told.holders_are;
+  borne_are = borne_same r.names v (after ks v) (same_after of_names of_links ks v all refl) told.borne_are;
+  tables_are = tables_same r.tables v (after ks v) (same_after of_tables of_links ks v all refl) told.tables_are;
+}
+
+pub only_watchers : (m : ModuleTree) (r : Records) (new : Watchers) (ks : List Change) (v : Contents) → AllAmong of_watches ks → AreWatchers new (after ks v) → AreWatches new (after ks v) → Agrees m r v → Agrees m (record r { watchers = new }) (after ks v)
+only_watchers m r new ks v all first second told = record {
+  processes_are = processes_same m r.processes v (after ks v) (same_after of_processes of_watches ks v all refl) told.processes_are;
+  mailboxes_are = mailboxes_same r.mailboxes v (after ks v) (same_after of_mailboxes of_watches ks v all refl) told.mailboxes_are;
+  channels_are = channels_same r.channels v (after ks v) (same_after of_channels of_watches ks v all refl) told.channels_are;
+  links_are = links_same r.links v (after ks v) (same_after of_links of_watches ks v all refl) told.links_are;
+  watchers_are = first;
+  watches_are = second;
+  holders_are = holders_same r.names v (after ks v) (same_after of_names of_watches ks v all refl) told.holders_are;
+  borne_are = borne_same r.names v (after ks v) (same_after of_names of_watches ks v all refl) told.borne_are;
+  tables_are = tables_same r.tables v (after ks v) (same_after of_tables of_watches ks v all refl) told.tables_are;
+}
+
+pub only_names : (m : ModuleTree) (r : Records) (new : Names) (ks : List Change) (v : Contents) → AllAmong of_names ks → AreHolders new (after ks v) → AreBorne new (after ks v) → Agrees m r v → Agrees m (record r { names = new }) (after ks v)
+only_names m r new ks v all first second told = record {
+  processes_are = processes_same m r.processes v (after ks v) (same_after of_processes of_names ks v all refl) told.processes_are;
+  mailboxes_are = mailboxes_same r.mailboxes v (after ks v) (same_after of_mailboxes of_names ks v all refl) told.mailboxes_are;
+  channels_are = channels_same r.channels v (after ks v) (same_after of_channels of_names ks v all refl) told.channels_are;
+  links_are = links_same r.links v (after ks v) (same_after of_links of_names ks v all refl) told.links_are;
+  watchers_are = watchers_same r.watchers v (after ks v) (same_after of_watches of_names ks v all refl) told.watchers_are;
+  watches_are = watches_same r.watchers v (after ks v) (same_after of_watches of_names ks v all refl) told.watches_are;
+  holders_are = first;
+  borne_are = second;
+  tables_are = tables_same r.tables v (after ks v) (same_after of_tables of_names ks v all refl) told.tables_are;
+}
+
+pub only_tables : (m : ModuleTree) (r : Records) (new : Tables) (ks : List Change) (v : Contents) → AllAmong of_tables ks → Hold new (after ks v) → Agrees m r v → Agrees m (record r { tables = new }) (after ks v)
+only_tables m r new ks v all are told = record {
+  processes_are = processes_same m r.processes v (after ks v) (same_after of_processes of_tables ks v all refl) told.processes_are;
+  mailboxes_are = mailboxes_same r.mailboxes v (after ks v) (same_after of_mailboxes of_tables ks v all refl) told.mailboxes_are;
+  channels_are = channels_same r.channels v (after ks v) (same_after of_channels of_tables ks v all refl) told.channels_are;
+  links_are = links_same r.links v (after ks v) (same_after of_links of_tables ks v all refl) told.links_are;
+  watchers_are = watchers_same r.watchers v (after ks v) (same_after of_watches of_tables ks v all refl) told.watchers_are;
+  watches_are = watches_same r.watchers v (after ks v) (same_after of_watches of_tables ks v all refl) told.watches_are;
+  holders_are = holders_same r.names v (after ks v) (same_after of_names of_tables ks v all refl) told.holders_are;
+  borne_are = borne_same r.names v (after ks v) (same_after of_names of_tables ks v all refl) told.borne_are;
+  tables_are = are;
+}

@@ -1,0 +1,5 @@
+use Rattle.world_records.proofs.Opening.{alike}
+use Rattle.world_records.proofs.records.Records.copy.Goals as goal
+
+pub returns : goal.returns
+returns c = alike _ _ c.in_ok-copy.ensures c.in_ok-copy-2.ensures c.in_ok-copy-3.ensures c.in_ok-copy-4.ensures c.in_ok-copy-5.ensures c.in_ok-copy-6.ensures.holders c.in_ok-copy-6.ensures.names c.in_ok-copy-7.ensures

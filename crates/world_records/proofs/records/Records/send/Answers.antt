@@ -1,0 +1,14 @@
+use Rattle.std.proofs.Common.{subst}
+use Rattle.term_core.specs.Term.{meaning_of}
+use Rattle.world_model.specs.Changes.{after}
+use Rattle.world_model.specs.ProcessLines.{sent}
+use Rattle.world_records.specs.Records.{Agrees}
+use Rattle.world_records.proofs.records.Records.send.Goals as goal
+
+pub returns-in_ok-mail : goal.returns-in_ok-mail
+returns-in_ok-mail c = λ m v told.
+    subst (λ own. Agrees m c.mail.new.self (after (sent own v c.args.from.now c.args.to.now (meaning_of c.args.message)) v)) c.if-are_one.ensures (c.in_ok-mail.ensures m v told)
+
+pub returns-in_ok-put : goal.returns-in_ok-put
+returns-in_ok-put c = λ m v told.
+    subst (λ own. Agrees m c.put.new.self (after (sent own v c.args.from.now c.args.to.now (meaning_of c.args.message)) v)) c.if-are_one.ensures (c.in_ok-put.ensures m v told)

@@ -1,0 +1,33 @@
+-- The records of a world: all its parts, and what they say of its cells.
+use Rattle.std.specs.Prelude.{List}
+use Rattle.core_tree.specs.Syntax.{ModuleTree}
+use Rattle.world_model.specs.Cells.{Contents}
+use Rattle.world_model.specs.Changes.{Change, after}
+use Rattle.proc_mailboxes.specs.Mailboxes.{AreMailboxes}
+use Rattle.proc_signals.specs.Channels.{AreChannels}
+use Rattle.proc_links.specs.Links.{AreLinks}
+use Rattle.proc_links.specs.Names.{AreHolders, AreBorne}
+use Rattle.proc_links.specs.Watchers.{AreWatchers, AreWatches}
+use Rattle.proc_machines.specs.Processes as processes
+use Rattle.ets_rules.specs.Tables.{Hold}
+use Rattle.world_records.specs.declared.records.Records.{Records}
+
+-- each part is what the contents say
+pub record Agrees (m : ModuleTree) (records : Records) (v : Contents) : Type 0 where
+  pub processes_are : processes.Agrees m records.processes v
+  pub mailboxes_are : AreMailboxes records.mailboxes v
+  pub channels_are : AreChannels records.channels v
+  pub links_are : AreLinks records.links v
+  pub watchers_are : AreWatchers records.watchers v
+  pub watches_are : AreWatches records.watchers v
+  pub holders_are : AreHolders records.names v
+  pub borne_are : AreBorne records.names v
+  pub tables_are : Hold records.tables v
+
+-- whatever contents the records agreed with, they agree with what these changes leave of them
+abbrev pub Follows : (Contents → List Change) → Records → Records → Type 0
+Follows changes old new = (m : ModuleTree) (v : Contents) → Agrees m old v → Agrees m new (after (changes v) v)
+
+-- the records agree with the same contents
+abbrev pub AreAlike : Records → Records → Type 0
+AreAlike old new = (m : ModuleTree) (v : Contents) → Agrees m old v → Agrees m new v

@@ -1,0 +1,143 @@
+// Messages and signals (Erlang reference manual, "Processes": "Sending Signals").
+ghost use Rattle.std.specs.Prelude.{◌≡◌, ◌∷◌, [], IfOk, OnOk, IsSome, None, true, option_map};
+ghost use Rattle.core_tree.specs.Syntax.{ModuleTree};
+ghost use Rattle.proc_links.specs.Process.{ref_of};
+ghost use Rattle.proc_machines.specs.Processes.{lives_in, selects_in};
+ghost use Rattle.proc_mailboxes.specs.Mailboxes.{picked};
+ghost use Rattle.proc_signals.specs.Signal.{signal_of};
+ghost use Rattle.term_core.specs.Term.{meaning_of};
+ghost use Rattle.world_model.specs.Cells as cells;
+ghost use Rattle.world_model.specs.Cells.{Contents};
+ghost use Rattle.world_model.specs.Changes.{Fetches, Flushes, Mails, Puts};
+ghost use Rattle.world_model.specs.ProcessLines.{sent, exited};
+ghost use Rattle.world_model.specs.Names.{same_pid};
+ghost use Rattle.world_model.specs.Signals.{first_of, put_if, waiting_in};
+ghost use Rattle.world_model.specs.Steps.{selected_of};
+ghost use Rattle.world_records.specs.Records.{Agrees, AreAlike, Follows};
+
+use crate::records::Records;
+use proc_links::exit_message;
+use proc_signals::Signal;
+use std::alloc::{AllocError, Global};
+use term_core::{Pid, RefId, Term};
+
+// Whether two processes are one.
+fn are_one(pid: &Pid, other: &Pid) -> bool
+    ensures { result ≡ same_pid pid.now other.now }
+{
+    *pid == *other
+}
+
+impl<'m> Records<'m> {
+    /// A signal is put for a process, if that lives; else it is dropped. `AllocError` if there is no memory.
+    pub fn put(
+        &mut self,
+        alloc: Global,
+        from: &Pid,
+        to: &Pid,
+        signal: Signal,
+    ) -> Result<(), AllocError>
+        ensures { OnOk result (Follows (λ v. put_if (v (cells.Alive to.now)) from.now to.now (signal_of signal)) self.old self.new) }
+    {
+        if self.processes.lives(to) {
+            self.channels.send(alloc, from, to, signal)?;
+        }
+        Ok(())
+    }
+
+    /// A signal is put for a process, whether or not that lives: what `link/1` and `monitor/2` are told of one that
+    /// is gone. `AllocError` if there is no memory.
+    pub(crate) fn put_anyway(
+        &mut self,
+        alloc: Global,
+        from: &Pid,
+        to: &Pid,
+        signal: Signal,
+    ) -> Result<(), AllocError>
+        ensures { OnOk result (Follows (λ v. Puts from.now to.now (signal_of signal) ∷ []) self.old self.new) }
+    {
+        self.channels.send(alloc, from, to, signal)?;
+        Ok(())
+    }
+
+    /// A message comes into a mailbox. `AllocError` if there is no memory.
+    pub fn mail(&mut self, alloc: Global, pid: &Pid, message: Term) -> Result<(), AllocError>
+        ensures { OnOk result (Follows (λ v. Mails pid.now (meaning_of message) ∷ []) self.old self.new) }
+    {
+        self.mailboxes.put(alloc, pid, message)?;
+        Ok(())
+    }
+
+    /// A message is sent: to oneself it is in the mailbox at once, for another process it is put if that lives
+    /// (erlang manual, `send/2`). `AllocError` if there is no memory.
+    pub fn send(
+        &mut self,
+        alloc: Global,
+        from: &Pid,
+        to: &Pid,
+        message: Term,
+    ) -> Result<(), AllocError>
+        ensures { OnOk result (Follows (λ v. sent (same_pid from.now to.now) v from.now to.now (meaning_of message)) self.old self.new) }
+    {
+        if are_one(from, to) {
+            self.mail(alloc, from, message)?;
+        } else {
+            self.put(alloc, from, to, Signal::Message(message))?;
+        }
+        Ok(())
+    }
+
+    /// An exit signal that does not end its sender is sent: to oneself it is a message at once, for another process
+    /// it is put if that lives (erlang manual, `exit/2`). `AllocError` if there is no memory.
+    pub fn exit(
+        &mut self,
+        alloc: Global,
+        from: &Pid,
+        to: &Pid,
+        reason: Term,
+    ) -> Result<(), AllocError>
+        ensures { OnOk result (Follows (λ v. exited (same_pid from.now to.now) v from.now to.now (meaning_of reason)) self.old self.new) }
+    {
+        if are_one(from, to) {
+            let message = exit_message(alloc, from, &reason)?;
+            self.mail(alloc, from, message)?;
+        } else {
+            self.put(alloc, from, to, Signal::Exit(reason))?;
+        }
+        Ok(())
+    }
+
+    /// The oldest signal from one process to another leaves its channel, if one waits there. `AllocError` if there is
+    /// no memory.
+    pub fn fetch(&mut self, from: &Pid, to: &Pid) -> Result<Option<Signal>, AllocError>
+        ensures fetched { IfOk result (λ fetched. (m : ModuleTree) (v : Contents) → Agrees m self.old v → option_map signal_of fetched ≡ first_of (waiting_in v from.now to.now)) }
+        ensures ok { IfOk result (λ fetched. IsSome fetched → Follows (λ v. Fetches from.now to.now ∷ []) self.old self.new) }
+        ensures none { IfOk result (λ fetched. fetched ≡ None → AreAlike self.old self.new) }
+    {
+        let fetched = self.channels.take_front(from, to)?;
+        Ok(fetched)
+    }
+
+    /// The oldest message that the receive of a process selects leaves its mailbox, if there is one. `AllocError` if
+    /// there is no memory.
+    pub fn pick(&mut self, alloc: Global, pid: &Pid) -> Result<Option<Term>, AllocError>
+        ensures taken { IfOk result (λ taken. (m : ModuleTree) (v : Contents) → Agrees m self.old v → lives_in self.old.processes pid.now ≡ true →
+            option_map meaning_of taken ≡ selected_of (selects_in self.old.processes pid.now) (v (cells.Mailbox pid.now))) }
+        ensures ok { IfOk result (λ taken. Follows (λ v. picked pid.now (option_map meaning_of taken)) self.old self.new) }
+    {
+        let Some(receiver) = self.processes.receiver(pid) else {
+            return Ok(None);
+        };
+        let taken = self.mailboxes.take(alloc, pid, &receiver)?;
+        Ok(taken)
+    }
+
+    /// The message of a watch leaves the mailbox of a process, if it is there (erlang manual, `demonitor/2`, option
+    /// `flush`). `AllocError` if there is no memory.
+    pub fn flush(&mut self, pid: &Pid, reference: &RefId) -> Result<(), AllocError>
+        ensures { OnOk result (Follows (λ v. Flushes pid.now (ref_of reference.now) ∷ []) self.old self.new) }
+    {
+        self.mailboxes.flush(pid, reference)?;
+        Ok(())
+    }
+}

@@ -1,0 +1,108 @@
+// All parts of a world.
+ghost use Rattle.std.specs.Prelude.{◌≡◌, IfOk};
+ghost use Rattle.world_model.specs.World.{beginning};
+ghost use Rattle.world_records.specs.Records.{Agrees, AreAlike};
+
+use core_tree::Module;
+use ets_rules::Tables;
+use proc_links::{Links, Names, Watchers};
+use proc_machines::Processes;
+use proc_mailboxes::Mailboxes;
+use proc_signals::Channels;
+use std::alloc::{AllocError, Global};
+
+/// The parts of a world: its processes, what each has in its mailbox, the signals on their way, links, watches and
+/// names, and the tables. Copies share all of it until one of them is changed.
+#[derive(Drop)]
+pub struct Records<'m> {
+    pub(crate) processes: Processes<'m>,
+    pub(crate) mailboxes: Mailboxes,
+    pub(crate) channels: Channels,
+    pub(crate) links: Links,
+    pub(crate) watchers: Watchers,
+    pub(crate) names: Names,
+    pub(crate) tables: Tables,
+}
+
+impl<'m> Records<'m> {
+    /// The parts in the beginning: the first process stands at the first request of `main/0` of the module, and all
+    /// else is empty. `AllocError` if there is no memory.
+    pub fn open(alloc: Global, program: &'m Module) -> Result<Records<'m>, AllocError>
+        ensures { IfOk result (λ opened. Agrees program.now opened beginning) }
+    {
+        Ok(Records {
+            processes: Processes::open(alloc, program)?,
+            mailboxes: Mailboxes::new(alloc)?,
+            channels: Channels::new(alloc)?,
+            links: Links::new(alloc)?,
+            watchers: Watchers::new(alloc)?,
+            names: Names::new(alloc)?,
+            tables: Tables::new(alloc)?,
+        })
+    }
+
+    /// The same parts, which share memory with these, or `AllocError` where the copies can no longer be counted. It
+    /// is one step for each part, whatever they hold.
+    pub fn copy(&self) -> Result<Records<'m>, AllocError>
+        ensures { IfOk result (λ copied. AreAlike self.now copied) }
+    {
+        Ok(Records {
+            processes: self.processes.copy()?,
+            mailboxes: self.mailboxes.copy()?,
+            channels: self.channels.copy()?,
+            links: self.links.copy()?,
+            watchers: self.watchers.copy()?,
+            names: self.names.copy()?,
+            tables: self.tables.copy()?,
+        })
+    }
+
+    /// The processes. It takes no memory.
+    pub fn processes(&self) -> &Processes<'m>
+        ensures { result.now ≡ self.now.processes }
+    {
+        &self.processes
+    }
+
+    /// The mailboxes. It takes no memory.
+    pub fn mailboxes(&self) -> &Mailboxes
+        ensures { result.now ≡ self.now.mailboxes }
+    {
+        &self.mailboxes
+    }
+
+    /// The signals on their way. It takes no memory.
+    pub fn channels(&self) -> &Channels
+        ensures { result.now ≡ self.now.channels }
+    {
+        &self.channels
+    }
+
+    /// The links. It takes no memory.
+    pub fn links(&self) -> &Links
+        ensures { result.now ≡ self.now.links }
+    {
+        &self.links
+    }
+
+    /// The watches. It takes no memory.
+    pub fn watchers(&self) -> &Watchers
+        ensures { result.now ≡ self.now.watchers }
+    {
+        &self.watchers
+    }
+
+    /// The names of processes. It takes no memory.
+    pub fn names(&self) -> &Names
+        ensures { result.now ≡ self.now.names }
+    {
+        &self.names
+    }
+
+    /// The tables. It takes no memory.
+    pub fn tables(&self) -> &Tables
+        ensures { result.now ≡ self.now.tables }
+    {
+        &self.tables
+    }
+}
