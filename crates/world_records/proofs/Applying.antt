@@ -20,7 +20,7 @@ use Rattle.ets_rules.specs.declared.tables.Tables.{Tables}
 use Rattle.ets_rules.proofs.Holding.{served_at}
 use Rattle.ets_tables.specs.Ends.{transfers_in}
 use Rattle.world_records.specs.Records.{Agrees}
-use Rattle.world_records.specs.Sending.{sent_by}
+use Rattle.world_records.specs.inside.Sending.{sent_by}
 use Rattle.world_records.specs.declared.records.Records.{Records}
 use Rattle.world_records.proofs.Among.{widen}
 use Rattle.world_records.proofs.Parts.{are_apart, of_processes, of_mailboxes, of_links, of_watches, of_names, of_tables, same_after, processes_same, mailboxes_same, links_same, watchers_same, watches_same, holders_same, borne_same}

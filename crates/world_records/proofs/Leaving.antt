@@ -21,7 +21,7 @@ use Rattle.ets_rules.specs.Tables.{Hold}
 use Rattle.ets_rules.specs.declared.tables.Tables.{Tables}
 use Rattle.ets_tables.specs.Ends.{transfers_in}
 use Rattle.world_records.specs.Records.{Agrees}
-use Rattle.world_records.specs.Sending.{sent_by}
+use Rattle.world_records.specs.inside.Sending.{sent_by}
 use Rattle.world_records.specs.declared.records.Records.{Records}
 use Rattle.world_records.proofs.Changing.{agrees_same}
 use Rattle.world_records.proofs.Parts.{Same, are_apart, of_processes, of_mailboxes, of_channels, of_links, of_watches, of_names, of_tables, same_after, processes_same, mailboxes_same, channels_same, links_same, watchers_same, watches_same, holders_same, borne_same, tables_same}

@@ -15,7 +15,7 @@ use Rattle.world_model.proofs.SortLaws.{AllAmong}
 use Rattle.world_model.proofs.Sorts.{is_among, sort_of}
 use Rattle.proc_signals.specs.Channels.{AreChannels, Senders}
 use Rattle.ets_tables.specs.Ends.{transfer_in, transfers_in}
-use Rattle.world_records.specs.Sending.{sent_by}
+use Rattle.world_records.specs.inside.Sending.{sent_by}
 use Rattle.world_records.proofs.Parts.{of_tables, of_channels, Same, same_after, channels_same}
 
 -- a change of a table, or a message that this process puts

@@ -8,7 +8,7 @@ ghost use Rattle.world_model.specs.Cells.{Contents};
 ghost use Rattle.world_model.specs.Changes.{Turns, after};
 ghost use Rattle.world_model.specs.Ends.{ends, left_by};
 ghost use Rattle.world_records.specs.Records.{Follows};
-ghost use Rattle.world_records.specs.Sending.{sent_by};
+ghost use Rattle.world_records.specs.inside.Sending.{sent_by};
 
 use crate::records::Records;
 use ets_rules::Transfer;

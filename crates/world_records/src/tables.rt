@@ -16,7 +16,7 @@ ghost use Rattle.world_model.specs.NewTables.{made};
 ghost use Rattle.world_model.specs.Tables.{handle_of, table_of};
 ghost use Rattle.ets_rules.specs.Tables.{told_in};
 ghost use Rattle.world_records.specs.Records.{Agrees};
-ghost use Rattle.world_records.specs.Sending.{sent_by};
+ghost use Rattle.world_records.specs.inside.Sending.{sent_by};
 
 use crate::records::Records;
 use ets_calls::{TableArgument, TableCall, TableOption};

@@ -1,6 +1,6 @@
 use Rattle.std.proofs.Common.{◌∙◌, ap, sym, refl, subst, map, arith}
 use Rattle.ets_tables.specs.Ends.{transfer_of}
-use Rattle.world_records.specs.Sending.{sent_by}
+use Rattle.world_records.specs.inside.Sending.{sent_by}
 use Rattle.world_model.specs.Changes.{after, changed, Puts}
 use Rattle.world_model.specs.Events.{Message}
 use Rattle.proc_signals.specs.Channels.{AreChannels}

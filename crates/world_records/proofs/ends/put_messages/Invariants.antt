@@ -1,6 +1,6 @@
 use Rattle.std.proofs.Common.{◌≡◌, drop, map}
 use Rattle.ets_tables.specs.Ends.{transfer_of}
-use Rattle.world_records.specs.Sending.{sent_by}
+use Rattle.world_records.specs.inside.Sending.{sent_by}
 use Rattle.proc_signals.specs.Channels.{AreChannels}
 use Rattle.world_model.specs.Cells.{Contents}
 use Rattle.world_model.specs.Changes.{after}

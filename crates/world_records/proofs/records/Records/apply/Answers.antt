@@ -3,7 +3,7 @@ use Rattle.ets_calls.specs.Arguments.{argument_in}
 use Rattle.ets_calls.specs.Calls.{call_in}
 use Rattle.proc_signals.specs.Channels.{AreChannels}
 use Rattle.world_model.specs.Changes.{after}
-use Rattle.world_records.specs.Sending.{sent_by}
+use Rattle.world_records.specs.inside.Sending.{sent_by}
 use Rattle.world_records.proofs.Applying.{applies}
 use Rattle.world_records.proofs.records.Records.apply.Goals as goal
 

@@ -1,0 +1,11 @@
+use Rattle.std.proofs.Common.{sym, subst}
+use Rattle.proc_calls.specs.Arguments.{flushes}
+use Rattle.proc_links.specs.Process.{ref_of}
+use Rattle.world_model.specs.Changes.{after}
+use Rattle.world_model.specs.ProcessLines.{flushed}
+use Rattle.world_records.specs.Records.{Agrees}
+use Rattle.world_calls.proofs.binding.flush_if.Goals as goal
+
+pub returns-in_ok-flush-in-Flushes : goal.returns-in_ok-flush-in-Flushes
+returns-in_ok-flush-in-Flushes c = λ m v told.
+    subst (λ f. Agrees m c.flush.new.self (after (flushed (flushes f) c.args.caller.now (ref_of c.args.reference.now)) v)) (sym c.in-Flushes.is) (c.in_ok-flush-in-Flushes.ensures m v told)
