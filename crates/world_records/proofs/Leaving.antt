@@ -124,7 +124,7 @@ watchers_as : (v w : Contents) (p : Pid) (reason : Meaning) → ((q : Pid) → v
 watchers_as v w p reason alive [] = refl
 watchers_as v w p reason alive (ref ∷ refs) = λ i. put_if (alive ref.pid i) p ref.pid (Down ref reason) ++ watchers_as v w p reason alive refs i
 
-left_as : (v w : Contents) (p : Pid) (reason : Meaning) → ((q : Pid) → v (cells.Alive q) ≡ w (cells.Alive q)) → ((t : Ref) → v (cells.Table t) ≡ w (cells.Table t)) → v (cells.Owned p) ≡ w (cells.Owned p) → v (cells.Links p) ≡ w (cells.Links p) → v (cells.Watchers p) ≡ w (cells.Watchers p) → v (cells.NameOf p) ≡ w (cells.NameOf p) → left_by v p reason ≡ left_by w p reason
+pub left_as : (v w : Contents) (p : Pid) (reason : Meaning) → ((q : Pid) → v (cells.Alive q) ≡ w (cells.Alive q)) → ((t : Ref) → v (cells.Table t) ≡ w (cells.Table t)) → v (cells.Owned p) ≡ w (cells.Owned p) → v (cells.Links p) ≡ w (cells.Links p) → v (cells.Watchers p) ≡ w (cells.Watchers p) → v (cells.NameOf p) ≡ w (cells.NameOf p) → left_by v p reason ≡ left_by w p reason
 left_as v w p reason alive same owned links watchers name = λ i.
     (tables_as v w p alive same (v (cells.Owned p)) ∙ ap (tables_pass w p) owned) i ++ (Empties p ∷ ((partners_as v w p reason alive (v (cells.Links p)) ∙ ap (partners_told w p reason) links) i ++ ((watchers_as v w p reason alive (v (cells.Watchers p)) ∙ ap (watchers_told w p reason) watchers) i ++ name_left p (name i))))
 
