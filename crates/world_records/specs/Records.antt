@@ -3,14 +3,41 @@ use Rattle.std.specs.Prelude.{List}
 use Rattle.core_tree.specs.Syntax.{ModuleTree}
 use Rattle.world_model.specs.Cells.{Contents}
 use Rattle.world_model.specs.Changes.{Change, after}
-use Rattle.proc_mailboxes.specs.Mailboxes.{AreMailboxes}
-use Rattle.proc_signals.specs.Channels.{AreChannels}
+use Rattle.proc_mailboxes.specs.Mailboxes.{AreMailboxes, Mailboxes}
+use Rattle.proc_signals.specs.Channels.{AreChannels, Senders}
 use Rattle.proc_links.specs.Links.{AreLinks}
 use Rattle.proc_links.specs.Names.{AreHolders, AreBorne}
 use Rattle.proc_links.specs.Watchers.{AreWatchers, AreWatches}
 use Rattle.proc_machines.specs.Processes as processes
 use Rattle.ets_rules.specs.Tables.{Hold}
+use Rattle.proc_machines.specs.declared.processes.Processes.{Processes}
+use Rattle.proc_links.specs.declared.links.Links.{Links}
+use Rattle.proc_links.specs.declared.watchers.Watchers.{Watchers}
+use Rattle.proc_links.specs.declared.names.Names.{Names}
+use Rattle.ets_rules.specs.declared.tables.Tables.{Tables}
 use Rattle.world_records.specs.declared.records.Records.{Records}
+
+-- the parts
+abbrev pub processes_of : Records → Processes
+processes_of records = records.processes
+
+abbrev pub mailboxes_of : Records → Mailboxes
+mailboxes_of records = records.mailboxes
+
+abbrev pub channels_of : Records → Senders
+channels_of records = records.channels
+
+abbrev pub links_of : Records → Links
+links_of records = records.links
+
+abbrev pub watchers_of : Records → Watchers
+watchers_of records = records.watchers
+
+abbrev pub names_of : Records → Names
+names_of records = records.names
+
+abbrev pub tables_of : Records → Tables
+tables_of records = records.tables
 
 -- each part is what the contents say
 pub record Agrees (m : ModuleTree) (records : Records) (v : Contents) : Type 0 where

@@ -10,7 +10,7 @@ ghost use Rattle.world_model.specs.Cells as cells;
 ghost use Rattle.world_model.specs.Cells.{Contents};
 ghost use Rattle.world_model.specs.ProcessLines.{pair_begins, link_way, link_changes, watch_begins, gone_told, watch_ends, noproc};
 ghost use Rattle.world_model.specs.Signals.{pair_goes, goes_with};
-ghost use Rattle.world_records.specs.Records.{Agrees, Follows};
+ghost use Rattle.world_records.specs.Records.{Agrees, Follows, processes_of};
 
 use crate::records::Records;
 use proc_links::{Life, Linking};
@@ -29,7 +29,7 @@ fn no_process(alloc: Global) -> Result<Term, AllocError>
 impl<'m> Records<'m> {
     /// Whether a process lives. It takes no memory.
     pub(crate) fn life(&self, pid: &Pid) -> Life
-        ensures { is_alive result ≡ lives_in self.now.processes pid.now }
+        ensures { is_alive result ≡ lives_in (processes_of self.now) pid.now }
     {
         if self.processes.lives(pid) {
             Life::Lives

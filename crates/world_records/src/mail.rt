@@ -13,7 +13,7 @@ ghost use Rattle.world_model.specs.ProcessLines.{sent, exited};
 ghost use Rattle.world_model.specs.Names.{same_pid};
 ghost use Rattle.world_model.specs.Signals.{first_of, put_if, waiting_in};
 ghost use Rattle.world_model.specs.Steps.{selected_of};
-ghost use Rattle.world_records.specs.Records.{Agrees, AreAlike, Follows};
+ghost use Rattle.world_records.specs.Records.{Agrees, AreAlike, Follows, processes_of};
 
 use crate::records::Records;
 use proc_links::exit_message;
@@ -121,8 +121,8 @@ impl<'m> Records<'m> {
     /// The oldest message that the receive of a process selects leaves its mailbox, if there is one. `AllocError` if
     /// there is no memory.
     pub fn pick(&mut self, alloc: Global, pid: &Pid) -> Result<Option<Term>, AllocError>
-        ensures taken { IfOk result (λ taken. (m : ModuleTree) (v : Contents) → Agrees m self.old v → lives_in self.old.processes pid.now ≡ true →
-            option_map meaning_of taken ≡ selected_of (selects_in self.old.processes pid.now) (v (cells.Mailbox pid.now))) }
+        ensures taken { IfOk result (λ taken. (m : ModuleTree) (v : Contents) → Agrees m self.old v → lives_in (processes_of self.old) pid.now ≡ true →
+            option_map meaning_of taken ≡ selected_of (selects_in (processes_of self.old) pid.now) (v (cells.Mailbox pid.now))) }
         ensures ok { IfOk result (λ taken. Follows (λ v. picked pid.now (option_map meaning_of taken)) self.old self.new) }
     {
         let Some(receiver) = self.processes.receiver(pid) else {

@@ -1,7 +1,7 @@
 // All parts of a world.
 ghost use Rattle.std.specs.Prelude.{◌≡◌, IfOk};
 ghost use Rattle.world_model.specs.World.{beginning};
-ghost use Rattle.world_records.specs.Records.{Agrees, AreAlike};
+ghost use Rattle.world_records.specs.Records.{Agrees, AreAlike, channels_of, links_of, mailboxes_of, names_of, processes_of, tables_of, watchers_of};
 
 use core_tree::Module;
 use ets_rules::Tables;
@@ -59,49 +59,49 @@ impl<'m> Records<'m> {
 
     /// The processes. It takes no memory.
     pub fn processes(&self) -> &Processes<'m>
-        ensures { result.now ≡ self.now.processes }
+        ensures { result.now ≡ processes_of self.now }
     {
         &self.processes
     }
 
     /// The mailboxes. It takes no memory.
     pub fn mailboxes(&self) -> &Mailboxes
-        ensures { result.now ≡ self.now.mailboxes }
+        ensures { result.now ≡ mailboxes_of self.now }
     {
         &self.mailboxes
     }
 
     /// The signals on their way. It takes no memory.
     pub fn channels(&self) -> &Channels
-        ensures { result.now ≡ self.now.channels }
+        ensures { result.now ≡ channels_of self.now }
     {
         &self.channels
     }
 
     /// The links. It takes no memory.
     pub fn links(&self) -> &Links
-        ensures { result.now ≡ self.now.links }
+        ensures { result.now ≡ links_of self.now }
     {
         &self.links
     }
 
     /// The watches. It takes no memory.
     pub fn watchers(&self) -> &Watchers
-        ensures { result.now ≡ self.now.watchers }
+        ensures { result.now ≡ watchers_of self.now }
     {
         &self.watchers
     }
 
     /// The names of processes. It takes no memory.
     pub fn names(&self) -> &Names
-        ensures { result.now ≡ self.now.names }
+        ensures { result.now ≡ names_of self.now }
     {
         &self.names
     }
 
     /// The tables. It takes no memory.
     pub fn tables(&self) -> &Tables
-        ensures { result.now ≡ self.now.tables }
+        ensures { result.now ≡ tables_of self.now }
     {
         &self.tables
     }

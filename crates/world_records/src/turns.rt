@@ -4,7 +4,7 @@ ghost use Rattle.core_eval.specs.Requests.{answered_of};
 ghost use Rattle.proc_machines.specs.Processes.{turns_in};
 ghost use Rattle.world_model.specs.Changes.{Begins, Lives, Turns};
 ghost use Rattle.world_model.specs.Requests.{Spawned};
-ghost use Rattle.world_records.specs.Records.{Follows};
+ghost use Rattle.world_records.specs.Records.{Follows, processes_of};
 
 use crate::records::Records;
 use core_eval::Answer;
@@ -15,7 +15,7 @@ impl<'m> Records<'m> {
     /// The number of the next turn of a process, by which what it creates then is named. `AllocError` where no number
     /// is left.
     pub fn next_number(&self, pid: &Pid) -> Result<u64, AllocError>
-        ensures { IfOk result (λ number. number ≡ turns_in self.now.processes pid.now + 1) }
+        ensures { IfOk result (λ number. number ≡ turns_in (processes_of self.now) pid.now + 1) }
     {
         let number = self.processes.next_number(pid)?;
         Ok(number)

@@ -7,7 +7,7 @@ ghost use Rattle.core_tree.specs.Syntax.{ModuleTree};
 ghost use Rattle.world_model.specs.Asking.{program_of};
 ghost use Rattle.world_model.specs.Cells.{Contents};
 ghost use Rattle.world_model.specs.Steps.{next_deed, selected_of};
-ghost use Rattle.world_records.specs.Records.{Agrees};
+ghost use Rattle.world_records.specs.Records.{Agrees, processes_of};
 
 use crate::waiting::must_wait;
 use core_eval::Request;
@@ -17,7 +17,7 @@ use world_records::Records;
 
 // Whether a message is there that the receive of a process selects.
 fn has_message(records: &Records<'_>, alloc: Global, pid: &Pid) -> Result<bool, AllocError>
-    ensures { IfOk result (λ has. (m : ModuleTree) (v : Contents) → Agrees m records.now v → lives_in records.now.processes pid.now ≡ true → has ≡ is_some (selected_of (selects_in records.now.processes pid.now) (v (cells.Mailbox pid.now)))) }
+    ensures { IfOk result (λ has. (m : ModuleTree) (v : Contents) → Agrees m records.now v → lives_in (processes_of records.now) pid.now ≡ true → has ≡ is_some (selected_of (selects_in (processes_of records.now) pid.now) (v (cells.Mailbox pid.now)))) }
 {
     let Some(receiver) = records.processes().receiver(pid) else {
         return Ok(false);

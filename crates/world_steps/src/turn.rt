@@ -5,7 +5,7 @@ ghost use Rattle.term_core.specs.declared.step.Step.TheVariants.{Turn};
 ghost use Rattle.world_calls.specs.Replies.{IsNew};
 ghost use Rattle.world_model.specs.Calls.{call_of};
 ghost use Rattle.world_model.specs.Cells.{Contents};
-ghost use Rattle.world_records.specs.Records.{Agrees};
+ghost use Rattle.world_records.specs.Records.{Agrees, processes_of};
 ghost use Rattle.world_model.specs.Requests as requests;
 ghost use Rattle.world_model.specs.Steps.{deed_of_call, must_wait, raised_by};
 ghost use Rattle.world_model.specs.Terms.{atom};
@@ -98,7 +98,7 @@ fn receive(
     pid: &Pid,
     waits: bool,
 ) -> Result<Option<Deed>, AllocError>
-    ensures { IfOk result (λ deed. Turns pid.now (requests.Receives waits (selects_in records.old.processes pid.now)) records.old deed records.new) }
+    ensures { IfOk result (λ deed. Turns pid.now (requests.Receives waits (selects_in (processes_of records.old) pid.now)) records.old deed records.new) }
 {
     if let Some(message) = records.pick(alloc, pid)? {
         records.turn(alloc, pid, Answer::Message(message.copy()?))?;

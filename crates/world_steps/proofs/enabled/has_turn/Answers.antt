@@ -5,6 +5,7 @@ use Rattle.proc_machines.specs.Processes as processes
 use Rattle.proc_machines.specs.Processes.{lives_in, request_with, selects_in}
 use Rattle.term_core.specs.Term.{meaning_of}
 use Rattle.world_model.specs.Requests as requests
+use Rattle.world_records.specs.Records.{processes_of}
 use Rattle.world_steps.proofs.Stepped.{same_in, turn_has, call_has, timeout_has, wait_has}
 use Rattle.world_model.specs.Calls.{call_of}
 use Rattle.world_model.specs.Cells as cells
@@ -41,7 +42,7 @@ returns-in_ok-has_message-in-Receive c = λ m v told.
     let lives = sym (told.processes_are.alive p) ∙ sym (ap (λ ps. lives_in ps p) c.processes.ensures) ∙ sym there in
     let request = sym (same_in _ _ (c.in-Some.ensures.asked m v held (sym there))) in
     let told_of = request_with (selects_in c.processes.result.now p) in
-    let selects = selects_in c.args.records.now.processes p in
+    let selects = selects_in (processes_of c.args.records.now) p in
     turn_has m v p (requests.Receives c.in-Receive.waits selects) c.in_ok-has_message-in-Receive.field-0 lives (request ∙ ap told_of (ap told_by c.in-Receive.is) ∙ ap (λ ps. requests.Receives c.in-Receive.waits (selects_in ps p)) c.processes.ensures)
     (wait_has c.in-Receive.waits c.in_ok-has_message-in-Receive.field-0 (selected_of selects (v (cells.Mailbox p))) c.if-not-waits.false (c.in_ok-has_message-in-Receive.ensures m v told (told.processes_are.alive p ∙ lives)))
 

@@ -4,6 +4,7 @@ use Rattle.proc_machines.specs.Processes as processes
 use Rattle.proc_machines.specs.Processes.{lives_in, request_with, selects_in}
 use Rattle.term_core.specs.Term.{meaning_of}
 use Rattle.world_model.specs.Requests as requests
+use Rattle.world_records.specs.Records.{processes_of}
 use Rattle.world_steps.proofs.Stepped.{same_in, turn_asked}
 use Rattle.world_steps.proofs.turn.turn.Goals as goal
 
@@ -25,7 +26,7 @@ returns-in_ok-receive-in-Receive c = λ m v told fresh.
     let lives = sym (told.processes_are.alive p) ∙ sym (ap (λ ps. lives_in ps p) c.processes.ensures) ∙ sym there in
     let request = sym (same_in _ _ (c.in-Some.ensures.asked m v held (sym there))) in
     let told_of = request_with (selects_in c.processes.result.now p) in
-    turn_asked m v p (requests.Receives c.in-Receive.waits (selects_in c.args.records.now.processes p)) c.in_ok-receive-in-Receive.field-0 c.receive.new.records lives
+    turn_asked m v p (requests.Receives c.in-Receive.waits (selects_in (processes_of c.args.records.now) p)) c.in_ok-receive-in-Receive.field-0 c.receive.new.records lives
     (request ∙ ap told_of (sym c.in_ok-kind.ensures ∙ ap told_by c.in-Receive.is) ∙ ap (λ ps. requests.Receives c.in-Receive.waits (selects_in ps p)) c.processes.ensures) (c.in_ok-receive-in-Receive.ensures m v told fresh lives)
 
 pub returns-in_ok-end-in-End : goal.returns-in_ok-end-in-End
