@@ -58,7 +58,7 @@ impl Mailboxes {
         })
     }
 
-    /// The mailbox of a process, or `None`, where it has no messages. It takes no memory.
+    /// The mailbox of a process, which may be empty, or `None` where no message ever came in. It takes no memory.
     pub fn of(&self, pid: &Pid) -> Option<&Mailbox>
         ensures { messages_of (option_copied result) ≡ messages_in self.now pid.now }
     {

@@ -27,7 +27,8 @@ use Rattle.world_records.specs.Records.{Agrees}
 use Rattle.world_records.specs.declared.records.Records.{Records}
 use Rattle.world_calls.specs.Replies.{IsServed, IsRefused}
 
-after_append : (ks ls : List Change) (v : Contents) → after (ks ++ ls) v ≡ after ls (after ks v)
+-- one list of changes after another
+pub after_append : (ks ls : List Change) (v : Contents) → after (ks ++ ls) v ≡ after ls (after ks v)
 after_append [] ls v = refl
 after_append (k ∷ ks) ls v = after_append ks ls (changed k v)
 

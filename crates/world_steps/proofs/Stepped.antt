@@ -29,6 +29,7 @@ use Rattle.world_records.specs.Records.{Agrees}
 use Rattle.world_records.specs.declared.records.Records.{Records}
 use Rattle.world_steps.specs.Stepping.{IsStepped}
 use Rattle.world_steps.specs.declared.deed.Deed as stored
+use Rattle.world_calls.proofs.Coming.{after_append}
 use Rattle.world_records.proofs.Changing.{agrees_same}
 use Rattle.world_records.proofs.Leaving.{left_as}
 
@@ -102,10 +103,6 @@ fate_changes v s r signal (Arrives m) = refl
 fate_changes v s r signal IsIgnored = refl
 fate_changes v s r signal IsDropped = refl
 fate_changes v s r signal (Kills reason) = ends_as v s r signal reason
-
-after_append : (ks ls : List Change) (v : Contents) → after (ks ++ ls) v ≡ after ls (after ks v)
-after_append [] ls v = refl
-after_append (k ∷ ks) ls v = after_append ks ls (changed k v)
 
 pub delivered : (m : ModuleTree) (new : Records) (v : Contents) (s r : Pid) (signal : Signal) (fate : Fate)
     → Agrees m new (after (changes_of_fate (after (goes_with s r signal) (changed (Fetches s r) v)) r fate) (after (goes_with s r signal) (changed (Fetches s r) v)))

@@ -12,7 +12,7 @@ use core_tree::CallKind;
 use term_core::{Pid, Term, Terms};
 use world_records::Records;
 
-// The process that a term is.
+// The process of which a call with this one argument asks whether it lives.
 fn process_in(kind: CallKind, whom: &Term) -> Option<&Pid>
     ensures { option_copied result ≡ asked_of (call_of_one kind (meaning_of whom.now)) }
 {
