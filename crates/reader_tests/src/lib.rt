@@ -9,6 +9,8 @@ mod module_texts;
 #[cfg(test)]
 mod module_tokens;
 #[cfg(test)]
+mod receives;
+#[cfg(test)]
 mod scopes;
 #[cfg(test)]
 mod texts;
