@@ -534,7 +534,7 @@ module _ (all : List Piece) (end : ℕ) where
   judged_fine at u None ts s h p q g = (tt, record { stop = g.stop; inside = g.inside; refused = earlier_fine u s.refused (h refl) g.refused })
 
   called_at : (own : List ℕ) (at : ℕ) (s : Signature) (c : Callee) → Place' at → IsOne all (word at k.Call) → Calls own s c → CalleeAt at c
-  called_at own at s c p h (calls_world r) = p
+  called_at own at s c p h calls_world = p
   called_at own at s c p h calls_itself = tt
   called_at own at s c p h (calls_export small new) = (p, h)
 

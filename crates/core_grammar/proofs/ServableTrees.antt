@@ -1,4 +1,4 @@
--- In what is spelt each call of the world is one that is read, with as many arguments as it has.
+-- In what is spelt each call of the world has as many arguments as it takes.
 use Rattle.std.proofs.Common.{◌≡◌, ℕ, zero, suc, List, [], ◌∷◌, length, refl, ap, subst}
 use Rattle.core_tokens.specs.Piece.{Piece}
 use Rattle.core_tokens.specs.declared.token.Mark.{Mark}
@@ -56,7 +56,7 @@ counted [] = refl
 counted (t ∷ ts) = ap suc (counted ts)
 
 called : (own : List ℕ) (s : Signature) (callee : Callee) → Calls own s callee → MayBeCalled callee s.arity
-called own s callee (calls_world r) = (r, refl)
+called own s callee calls_world = refl
 called own s callee calls_itself = tt
 called own s callee (calls_export small new) = tt
 

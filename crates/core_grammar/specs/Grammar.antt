@@ -9,7 +9,7 @@ use Rattle.core_tokens.specs.declared.token.Mark.{Mark}
 use Rattle.core_tokens.specs.declared.token.Mark.TheVariants as m
 use Rattle.core_grammar.specs.declared.subject.Subject.{Subject}
 use Rattle.core_grammar.specs.declared.subject.Subject.TheVariants as subjects
-use Rattle.core_tree.specs.Calls.{Signature, signature, IsRead}
+use Rattle.core_tree.specs.Calls.{Signature, signature}
 use Rattle.core_tree.specs.PureCalls.{pure_signature}
 use Rattle.core_tokens.specs.Piece.{Piece, Shape}
 use Rattle.core_tokens.specs.Piece as lexemes
@@ -221,7 +221,7 @@ pub record IsUnlisted (called : Signature) : Type 0 where
 
 -- what a call in the module `own` calls, by its two names and the number of its arguments
 pub data Calls (own : List ℕ) : Signature → Callee → Type 0 where
-  calls_world : {kind : CallKind} → IsRead kind → Calls own (signature kind) (callees.World kind)
+  calls_world : {kind : CallKind} → Calls own (signature kind) (callees.World kind)
   calls_itself : {kind : PureCall} → Calls own (pure_signature kind) (callees.Pure kind)
   calls_export : {function_name : List ℕ} {arity : ℕ} → arity < 256 → IsUnlisted (record { module_name = own; function_name = function_name; arity = arity })
       → Calls own (record { module_name = own; function_name = function_name; arity = arity }) (callees.Exported (record { name = function_name; arity = arity }))

@@ -3,7 +3,6 @@ use Rattle.std.specs.Prelude.{ℕ, zero, suc, List, [], ◌∷◌, ◌++◌, len
 use Rattle.core_tokens.specs.declared.fault.ReadFault.{ReadFault}
 use Rattle.core_tokens.specs.declared.fault.ReadFault.TheVariants.{Expected, HigherOrder, UnsupportedCall, TooDeep, UnsupportedForm}
 use Rattle.core_tree.specs.declared.call.CallKind.{CallKind}
-use Rattle.core_tree.specs.declared.call.CallKind.TheVariants as calls
 use Rattle.core_tree.specs.declared.pure.PureCall.{PureCall}
 use Rattle.core_tokens.specs.declared.token.Keyword.TheVariants as k
 use Rattle.core_tokens.specs.declared.token.Mark.TheVariants as m
@@ -107,13 +106,6 @@ bare_applied_at s = do
 unfoldable pub applied_at : ℕ → State → Read NamedAt
 applied_at n s = noted_at (λ _. bare_applied_at) n s
 
--- the calls of the world that are read so far
-abbrev pub is_read : CallKind → Bool
-is_read calls.New = true
-is_read calls.Insert = true
-is_read calls.Lookup = true
-is_read kind = false
-
 -- an exported function of the module `own`, as far as the names tell
 abbrev pub export_called : List ℕ → List ℕ → List ℕ → ℕ → Option Callee
 export_called own module_name function_name arity =
@@ -124,7 +116,7 @@ unlisted_called own module_name function_name arity (Some kind) = Some (callees.
 unlisted_called own module_name function_name arity None = export_called own module_name function_name arity
 
 abbrev pub callee_by : List ℕ → List ℕ → List ℕ → ℕ → Option CallKind → Option Callee
-callee_by own module_name function_name arity (Some kind) = if is_read kind then Some (callees.World kind) else None
+callee_by own module_name function_name arity (Some kind) = Some (callees.World kind)
 callee_by own module_name function_name arity None = unlisted_called own module_name function_name arity (pure_call_with module_name function_name arity)
 
 -- what a call in the module `own` calls, by its two names and the number of its arguments
