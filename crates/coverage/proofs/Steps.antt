@@ -59,7 +59,7 @@ follows x y xs ys same before all s there = elim (all s (inr there)) [
   | inr more ↦ more
 ]
 
-same_list : (xs ys : List Step) → AreInOrder xs → AreInOrder ys → ((s : Step) → IsAmong s xs → IsAmong s ys) → ((s : Step) → IsAmong s ys → IsAmong s xs) → xs ≡ ys
+pub same_list : (xs ys : List Step) → AreInOrder xs → AreInOrder ys → ((s : Step) → IsAmong s xs → IsAmong s ys) → ((s : Step) → IsAmong s ys → IsAmong s xs) → xs ≡ ys
 same_list [] [] p q one other = refl
 same_list [] (y ∷ ys) p q one other = absurd (other y (inl refl))
 same_list (x ∷ xs) [] p q one other = absurd (one x (inl refl))
@@ -80,7 +80,7 @@ same_enabled a h g same =
 
 -- ---- the living are those with a turn in a program in which each process can take one
 
-abbrev everyone : Program
+abbrev pub everyone : Program
 everyone p origin answers = RunsAway
 
 with_turn : (b : Bool) (p : Pid) (xs : List Pid) (ys : List Step) → xs ≡ filter_map turn_of ys → (if b then p ∷ xs else xs) ≡ filter_map turn_of (if is_some (option_map (event (Turn p)) (if b then Some RanAway else None)) then Turn p ∷ ys else ys)
@@ -91,7 +91,7 @@ without_turn : (b : Bool) (s r : Pid) (ys : List Step) → filter_map turn_of ys
 without_turn true s r ys = refl
 without_turn false s r ys = refl
 
-living_in : (h : History) (xs : List Step) → filter (alive h) (filter_map turn_of xs) ≡ filter_map turn_of (filter (is_enabled everyone h) xs)
+pub living_in : (h : History) (xs : List Step) → filter (alive h) (filter_map turn_of xs) ≡ filter_map turn_of (filter (is_enabled everyone h) xs)
 living_in h [] = refl
 living_in h (Turn p ∷ xs) = with_turn (contents h (Alive p)) p (filter (alive h) (filter_map turn_of xs)) (filter (is_enabled everyone h) xs) (living_in h xs)
 living_in h (Deliver s r ∷ xs) = living_in h xs ∙ without_turn (is_enabled everyone h (Deliver s r)) s r (filter (is_enabled everyone h) xs)

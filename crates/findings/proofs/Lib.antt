@@ -1,0 +1,6 @@
+pub mod Least
+pub mod Putting
+pub mod Sorting
+pub mod Places
+pub mod Schedules
+pub mod Orders

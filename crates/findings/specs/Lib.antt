@@ -1,0 +1,5 @@
+pub mod inside
+pub mod Identities
+pub mod Found
+pub mod Merging
+pub mod Laws

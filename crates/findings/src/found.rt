@@ -1,0 +1,134 @@
+// What schedules show: errors and refusals.
+ghost use Rattle.std.specs.Prelude.{◌≡◌, map, ◌∷◌, [], IfOk, OnOk, OnErr};
+ghost use Rattle.findings.specs.Identities.{identity_in};
+ghost use Rattle.findings.specs.Identities.{flags_in};
+ghost use Rattle.findings.specs.Merging.{with_shown, merged_findings, nothing};
+ghost use Rattle.findings.specs.Laws.{AddsSchedule, AddsSchedules};
+
+use crate::finding::Finding;
+use crate::flags::Flags;
+use crate::identity::Identity;
+use crate::list::{FindingList, put_all};
+use std::alloc::{AllocError, Global};
+use std::marker::Model;
+use term_core::Step;
+
+/// What schedules show, each identity once, with the least schedule that shows it. Contracts see it as the lists of
+/// what is found.
+#[derive(Drop)]
+pub struct Findings {
+    pub(crate) errors: FindingList,
+    pub(crate) refusals: FindingList,
+}
+
+impl Model for Findings {
+    ghost use Rattle.coverage.specs.Findings as coverage;
+    ghost use Rattle.findings.specs.inside.FindingCodes.{coded_findings};
+
+    ghost Value = { coverage.Findings };
+
+    ghost coded = { coded_findings };
+
+    ghost view = { λ f. record { errors = f.errors; refusals = f.refusals } };
+}
+
+impl Findings {
+    /// Nothing is found yet. It takes no memory.
+    pub fn new(alloc: Global) -> Findings
+        ensures { result ≡ nothing }
+    {
+        Findings {
+            errors: FindingList::new(alloc),
+            refusals: FindingList::new(alloc),
+        }
+    }
+
+    /// The errors.
+    pub fn errors(&self) -> &FindingList
+        ensures { result.now ≡ self.now.errors }
+    {
+        &self.errors
+    }
+
+    /// The refusals.
+    pub fn refusals(&self) -> &FindingList
+        ensures { result.now ≡ self.now.refusals }
+    {
+        &self.refusals
+    }
+
+    /// What one identity is that a schedule shows, an error, a refusal, both or neither.
+    fn put(
+        &mut self,
+        alloc: Global,
+        flags: Flags,
+        identity: &Identity,
+        schedule: &[Step],
+    ) -> Result<(), AllocError>
+        ensures { OnOk result (self.new ≡ with_shown (flags_in flags) schedule.now (identity_in identity.now ∷ []) self.old) }
+    {
+        if identity.is_error(flags) {
+            self.errors.put(Finding::of(alloc, identity, schedule)?)?;
+        }
+        if identity.is_refusal() {
+            self.refusals.put(Finding::of(alloc, identity, schedule)?)?;
+        }
+        Ok(())
+    }
+
+    /// All that a schedule shows: its errors under the flags and its refusals. Each identity keeps its least
+    /// schedule. The schedule is copied only where something is found.
+    ///
+    /// # Errors
+    ///
+    /// `AllocError` if there is no memory; then the findings stay as they were.
+    pub fn note(
+        &mut self,
+        alloc: Global,
+        flags: Flags,
+        identities: &[Identity],
+        schedule: &[Step],
+    ) -> Result<(), AllocError>
+        ensures ok { OnOk result (self.new ≡ with_shown (flags_in flags) schedule.now (map identity_in identities.now) self.old) }
+        ensures among { OnOk result (AddsSchedule (flags_in flags) schedule.now (map identity_in identities.now) self.old self.new) }
+        ensures err { OnErr result (self.new ≡ self.old) }
+    {
+        let mut new = Findings::new(alloc);
+        for identity in identities {
+            new.put(alloc, flags, identity, schedule)?;
+        }
+        self.merge(new)?;
+        Ok(())
+    }
+
+    /// All findings of others too: each identity keeps its least schedule.
+    ///
+    /// # Errors
+    ///
+    /// `AllocError` if there is no memory; then the findings stay as they were.
+    pub fn merge(&mut self, other: Findings) -> Result<(), AllocError>
+        ensures ok { OnOk result (self.new ≡ merged_findings self.old other) }
+        ensures among { OnOk result (AddsSchedules self.old other self.new) }
+        ensures err { OnErr result (self.new ≡ self.old) }
+    {
+        let errors = &mut self.errors;
+        let refusals = &mut self.refusals;
+        let more_errors = other.errors;
+        let more_refusals = other.refusals;
+        errors.items.reserve(more_errors.items.len())?;
+        refusals.items.reserve(more_refusals.items.len())?;
+        put_all(&mut errors.items, more_errors.items);
+        put_all(&mut refusals.items, more_refusals.items);
+        Ok(())
+    }
+
+    /// The same findings, or `AllocError` if there is no memory for them.
+    pub fn copy(&self, alloc: Global) -> Result<Findings, AllocError>
+        ensures { IfOk result (λ copied. copied ≡ self.now) }
+    {
+        Ok(Findings {
+            errors: self.errors.copy(alloc)?,
+            refusals: self.refusals.copy(alloc)?,
+        })
+    }
+}

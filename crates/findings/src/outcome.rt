@@ -1,0 +1,20 @@
+// What an exploration comes to.
+use crate::found::Findings;
+
+/// Why an exploration stopped before its end.
+#[derive(Clone, Copy, Debug, PartialEq, Eq)]
+pub enum Cause {
+    /// There are more nodes than may be visited.
+    NodeLimit,
+    /// There was no memory.
+    Memory,
+}
+
+/// What an exploration comes to.
+#[derive(Drop)]
+pub enum Outcome {
+    /// All nodes were visited: what they show, and how many they are.
+    Complete(Findings, u64),
+    /// It stopped for this cause, and what was found by then.
+    Incomplete(Cause, Findings),
+}

@@ -1,0 +1,4 @@
+pub mod CallText
+pub mod EventText
+pub mod IdentityText
+pub mod ReportText

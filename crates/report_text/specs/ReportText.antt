@@ -1,0 +1,83 @@
+-- The report: the text of what an exploration comes to, as bytes.
+use Rattle.std.specs.Prelude.{ℕ, ◌+◌, List, [], ◌∷◌, ◌++◌, length, codes}
+use Rattle.std.specs.Fmt.{decimal}
+use Rattle.term_core.specs.Text.{text_of_schedule}
+use Rattle.coverage.specs.Findings.{Finding, Findings}
+use Rattle.findings.specs.declared.outcome.Cause.{Cause}
+use Rattle.findings.specs.declared.outcome.Cause.TheVariants.{NodeLimit, Memory}
+use Rattle.findings.specs.declared.outcome.Outcome.{Outcome}
+use Rattle.findings.specs.declared.outcome.Outcome.TheVariants.{Complete, Incomplete}
+use Rattle.report_text.specs.IdentityText.{text_of_identity}
+
+-- what was found
+abbrev pub findings_in : Outcome → Findings
+findings_in (Complete findings nodes) = findings
+findings_in (Incomplete cause findings) = findings
+
+-- ---- the first line
+
+-- why it stopped
+abbrev pub text_of_cause : Cause → List ℕ
+text_of_cause NodeLimit = codes "node limit"
+text_of_cause Memory = codes "memory"
+
+-- that all nodes were visited, and how many they are
+abbrev pub text_of_nodes : ℕ → List ℕ
+text_of_nodes nodes = codes "nodes " ++ (decimal nodes ++ codes ", complete")
+
+-- that it stopped before its end, and why
+abbrev pub text_of_incomplete : Cause → List ℕ
+text_of_incomplete cause = codes "incomplete: " ++ text_of_cause cause
+
+-- how far the exploration came
+abbrev pub text_of_extent : Outcome → List ℕ
+text_of_extent (Complete findings nodes) = text_of_nodes nodes
+text_of_extent (Incomplete cause findings) = text_of_incomplete cause
+
+-- how many steps a schedule may have, and how far the exploration came
+abbrev pub first_line : ℕ → Outcome → List ℕ
+first_line depth outcome = codes "depth " ++ (decimal depth ++ (codes ", " ++ (text_of_extent outcome ++ codes "\n")))
+
+-- ---- findings
+
+-- one of a kind by its number, and on a line of its own its schedule behind two blanks
+abbrev pub text_of_finding : List ℕ → ℕ → Finding → List ℕ
+text_of_finding kind number f =
+    kind ++ (codes " " ++ (decimal number ++ (codes ": " ++ (text_of_identity f.identity ++ (codes "\n  " ++ (text_of_schedule f.schedule ++ codes "\n"))))))
+
+-- those of one kind, numbered on from a number
+abbrev pub findings_from : List ℕ → ℕ → List Finding → List ℕ
+findings_from kind number [] = []
+findings_from kind number (f ∷ fs) = text_of_finding kind number f ++ findings_from kind (number + 1) fs
+
+-- all of one kind, numbered from 1
+abbrev pub text_of_findings : List ℕ → List Finding → List ℕ
+text_of_findings kind fs = findings_from kind 1 fs
+
+-- how many errors and refusals there are
+abbrev pub text_of_counts : Findings → List ℕ
+text_of_counts findings = codes "errors " ++ (decimal (length findings.errors) ++ (codes ", refusals " ++ (decimal (length findings.refusals) ++ codes "\n")))
+
+-- ---- the result
+
+-- of all nodes: whether there are errors
+abbrev pub complete_result : List Finding → List ℕ
+complete_result [] = codes "clean"
+complete_result (f ∷ fs) = codes "errors"
+
+abbrev pub text_of_result : Outcome → List ℕ
+text_of_result (Complete findings nodes) = complete_result findings.errors
+text_of_result (Incomplete cause findings) = codes "incomplete"
+
+abbrev pub last_line : Outcome → List ℕ
+last_line outcome = codes "result: " ++ (text_of_result outcome ++ codes "\n")
+
+-- ---- the report
+
+-- the errors and then the refusals
+abbrev pub text_of_all : Findings → List ℕ
+text_of_all findings = text_of_findings (codes "error") findings.errors ++ text_of_findings (codes "refusal") findings.refusals
+
+-- what an exploration comes to whose schedules may have so many steps
+abbrev pub text_of_report : ℕ → Outcome → List ℕ
+text_of_report depth outcome = first_line depth outcome ++ (text_of_all (findings_in outcome) ++ (text_of_counts (findings_in outcome) ++ last_line outcome))

@@ -1,0 +1,181 @@
+// The report: what an exploration comes to. No write takes memory.
+ghost use Rattle.std.specs.Prelude.{◌≡◌, false, map};
+ghost use Rattle.term_core.specs.Stream.{Writes};
+ghost use Rattle.findings.specs.Found.{finding_in};
+ghost use Rattle.report_text.specs.ReportText.{findings_in, text_of_cause, text_of_nodes, text_of_incomplete, text_of_extent, first_line, text_of_finding, text_of_findings, text_of_all, text_of_counts, complete_result, text_of_result, last_line, text_of_report};
+
+use crate::identity_text::write_identity;
+use findings::{Cause, Finding, FindingList, Findings, Outcome};
+use term_core::{Sink, WriteFault, write_all, write_number, write_schedule};
+
+/// Writes what an exploration comes to whose schedules may have so many steps: how far it came, then each
+/// error and each refusal, numbered from 1, with a schedule that shows it, how many they are, and the result.
+/// `WriteFault` comes only where the sink has failed, and then a beginning of the report was written. It
+/// takes no memory.
+pub fn write_report<W: Sink>(sink: &mut W, depth: u64, outcome: &Outcome) -> Result<(), WriteFault>
+    requires { W.has_failed sink.old ≡ false }
+    ensures { Writes (W.contents sink.old) (W.contents sink.new) (W.has_failed sink.new) result (text_of_report depth outcome.now) }
+{
+    let findings = findings_in(outcome);
+    write_first_line(sink, depth, outcome)?;
+    write_all_findings(sink, findings)?;
+    write_counts(sink, findings)?;
+    write_last_line(sink, outcome)
+}
+
+// What was found.
+fn findings_in(outcome: &Outcome) -> &Findings
+    ensures { result.now ≡ findings_in outcome.now }
+{
+    match outcome {
+        Outcome::Complete(findings, _) => findings,
+        Outcome::Incomplete(_, findings) => findings,
+    }
+}
+
+// Writes how many steps a schedule may have, and how far the exploration came.
+fn write_first_line<W: Sink>(sink: &mut W, depth: u64, outcome: &Outcome) -> Result<(), WriteFault>
+    requires { W.has_failed sink.old ≡ false }
+    ensures { Writes (W.contents sink.old) (W.contents sink.new) (W.has_failed sink.new) result (first_line depth outcome.now) }
+{
+    write_all(sink, b"depth ")?;
+    write_number(depth, sink)?;
+    write_all(sink, b", ")?;
+    write_extent(sink, outcome)?;
+    write_all(sink, b"\n")
+}
+
+// Writes how far the exploration came.
+fn write_extent<W: Sink>(sink: &mut W, outcome: &Outcome) -> Result<(), WriteFault>
+    requires { W.has_failed sink.old ≡ false }
+    ensures { Writes (W.contents sink.old) (W.contents sink.new) (W.has_failed sink.new) result (text_of_extent outcome.now) }
+{
+    match outcome {
+        Outcome::Complete(_, nodes) => write_nodes(sink, *nodes),
+        Outcome::Incomplete(cause, _) => write_incomplete(sink, *cause),
+    }
+}
+
+// Writes that all nodes were visited, and how many they are.
+fn write_nodes<W: Sink>(sink: &mut W, nodes: u64) -> Result<(), WriteFault>
+    requires { W.has_failed sink.old ≡ false }
+    ensures { Writes (W.contents sink.old) (W.contents sink.new) (W.has_failed sink.new) result (text_of_nodes nodes) }
+{
+    write_all(sink, b"nodes ")?;
+    write_number(nodes, sink)?;
+    write_all(sink, b", complete")
+}
+
+// Writes that the exploration stopped before its end, and why.
+fn write_incomplete<W: Sink>(sink: &mut W, cause: Cause) -> Result<(), WriteFault>
+    requires { W.has_failed sink.old ≡ false }
+    ensures { Writes (W.contents sink.old) (W.contents sink.new) (W.has_failed sink.new) result (text_of_incomplete cause) }
+{
+    write_all(sink, b"incomplete: ")?;
+    write_cause(sink, cause)
+}
+
+// Writes why an exploration stopped before its end.
+fn write_cause<W: Sink>(sink: &mut W, cause: Cause) -> Result<(), WriteFault>
+    requires { W.has_failed sink.old ≡ false }
+    ensures { Writes (W.contents sink.old) (W.contents sink.new) (W.has_failed sink.new) result (text_of_cause cause) }
+{
+    match cause {
+        Cause::NodeLimit => write_all(sink, b"node limit"),
+        Cause::Memory => write_all(sink, b"memory"),
+    }
+}
+
+// Writes the errors and then the refusals.
+fn write_all_findings<W: Sink>(sink: &mut W, findings: &Findings) -> Result<(), WriteFault>
+    requires { W.has_failed sink.old ≡ false }
+    ensures { Writes (W.contents sink.old) (W.contents sink.new) (W.has_failed sink.new) result (text_of_all findings.now) }
+{
+    let errors = findings.errors();
+    let refusals = findings.refusals();
+    write_findings(sink, b"error", errors)?;
+    write_findings(sink, b"refusal", refusals)
+}
+
+// Writes all findings of one kind, numbered from 1.
+fn write_findings<W: Sink>(
+    sink: &mut W,
+    kind: &[u8],
+    findings: &FindingList,
+) -> Result<(), WriteFault>
+    requires { W.has_failed sink.old ≡ false }
+    ensures { Writes (W.contents sink.old) (W.contents sink.new) (W.has_failed sink.new) result (text_of_findings kind.now findings.now) }
+{
+    for (place, finding) in findings.as_slice().iter().enumerate() {
+        write_finding(sink, kind, place + 1, finding)?;
+    }
+    Ok(())
+}
+
+// Writes one finding of a kind by its number, and on a line of its own its schedule behind two blanks.
+fn write_finding<W: Sink>(
+    sink: &mut W,
+    kind: &[u8],
+    number: usize,
+    finding: &Finding,
+) -> Result<(), WriteFault>
+    requires { W.has_failed sink.old ≡ false }
+    ensures { Writes (W.contents sink.old) (W.contents sink.new) (W.has_failed sink.new) result (text_of_finding kind.now number (finding_in finding.now)) }
+{
+    let schedule = finding.schedule.as_slice();
+    write_all(sink, kind)?;
+    write_all(sink, b" ")?;
+    write_number(number as u64, sink)?;
+    write_all(sink, b": ")?;
+    write_identity(sink, &finding.identity)?;
+    write_all(sink, b"\n  ")?;
+    write_schedule(schedule, sink)?;
+    write_all(sink, b"\n")
+}
+
+// Writes how many errors and refusals there are.
+fn write_counts<W: Sink>(sink: &mut W, findings: &Findings) -> Result<(), WriteFault>
+    requires { W.has_failed sink.old ≡ false }
+    ensures { Writes (W.contents sink.old) (W.contents sink.new) (W.has_failed sink.new) result (text_of_counts findings.now) }
+{
+    let errors = findings.errors().len() as u64;
+    let refusals = findings.refusals().len() as u64;
+    write_all(sink, b"errors ")?;
+    write_number(errors, sink)?;
+    write_all(sink, b", refusals ")?;
+    write_number(refusals, sink)?;
+    write_all(sink, b"\n")
+}
+
+// Writes the line of the result.
+fn write_last_line<W: Sink>(sink: &mut W, outcome: &Outcome) -> Result<(), WriteFault>
+    requires { W.has_failed sink.old ≡ false }
+    ensures { Writes (W.contents sink.old) (W.contents sink.new) (W.has_failed sink.new) result (last_line outcome.now) }
+{
+    write_all(sink, b"result: ")?;
+    write_result(sink, outcome)?;
+    write_all(sink, b"\n")
+}
+
+// Writes the result.
+fn write_result<W: Sink>(sink: &mut W, outcome: &Outcome) -> Result<(), WriteFault>
+    requires { W.has_failed sink.old ≡ false }
+    ensures { Writes (W.contents sink.old) (W.contents sink.new) (W.has_failed sink.new) result (text_of_result outcome.now) }
+{
+    match outcome {
+        Outcome::Complete(findings, _) => write_complete_result(sink, findings.errors()),
+        Outcome::Incomplete(_, _) => write_all(sink, b"incomplete"),
+    }
+}
+
+// Writes the result where all nodes were visited: whether there are errors.
+fn write_complete_result<W: Sink>(sink: &mut W, errors: &FindingList) -> Result<(), WriteFault>
+    requires { W.has_failed sink.old ≡ false }
+    ensures { Writes (W.contents sink.old) (W.contents sink.new) (W.has_failed sink.new) result (complete_result errors.now) }
+{
+    if errors.len() == 0 {
+        write_all(sink, b"clean")
+    } else {
+        write_all(sink, b"errors")
+    }
+}
