@@ -1,4 +1,4 @@
--- What findings come to where they are put together.
+-- All findings of two lists.
 use Rattle.std.specs.List.{filter}
 use Rattle.std.specs.Prelude.{List, [], ◌∷◌}
 use Rattle.term_core.specs.declared.step.Step.{Step}

@@ -1,4 +1,5 @@
-use Rattle.std.proofs.Common.{rules}
+use Rattle.std.proofs.Common.{◌≡◌, rules}
+use Rattle.findings.specs.Merging.{merged_findings}
 use Rattle.findings.proofs.Schedules.{adds_schedules}
 use Rattle.findings.proofs.found.Findings.merge.Goals as goal
 
