@@ -44,8 +44,7 @@ pub fn is_foreign(lexeme: &Lexeme) -> bool
     )
 }
 
-/// The fault at a token that cannot stand here, in a text of this length.
-pub(crate) fn fault_of(length: usize, tokens: &[Token]) -> ReadFault
+fn fault_of(length: usize, tokens: &[Token]) -> ReadFault
     ensures { result ≡ fault_of length (pieces tokens.now) }
 {
     match tokens {

@@ -26,23 +26,8 @@ const DOWN_FROM_10000: &str =
 const COMPILED: &str =
     "module 'm' ['main'/0,'module_info'/0]\n    attributes ['file' = [{\"m.erl\",1}]]\n'main'/0 = ( fun () ->\n  case ( 3 -| [5] ) of\n    <X> when try let <A> = call 'erlang':'hd'(X)\n                 in call 'erlang':'=:='(A,1)\n             of <V> -> V catch <T,R> -> 'false' -> 'one'\n    ( <Y> when 'true' -> 'other' -| ['compiler_generated'] )\n  end -| [{'function',{'main',0}}] )\n'module_info'/0 = fun () -> call 'erlang':'get_module_info'('m')\nend\n";
 
-// A table is given away, and its old owner writes it.
-const GIFT: &str =
-    "module 'm' ['main'/0,'c'/0] attributes [] 'main'/0 = fun () -> do call 'ets':'new'('t',['named_table']) let <C> = call 'erlang':'spawn'('m','c',[]) in do call 'ets':'give_away'('t',C,'d') call 'ets':'insert'('t',{'a',1}) 'c'/0 = fun () -> receive <X> when 'true' -> X after 'infinity' -> 'x' end";
-
-// A table passes to its heir, or goes where that ended first.
-const HEIR: &str =
-    "module 'm' ['main'/0,'c'/0,'d'/0] attributes [] 'main'/0 = fun () -> let <C> = call 'erlang':'spawn'('m','c',[]) in do call 'ets':'new'('t',['named_table',{'heir',C,'d'}]) call 'erlang':'spawn'('m','d',[]) 'c'/0 = fun () -> receive <X> when 'true' -> call 'ets':'insert'('t',{'a',1}) after 0 -> 'gone' 'd'/0 = fun () -> call 'ets':'lookup'('t','a') end";
-
-// A process that traps exits is killed by a signal, and is told where a linked process kills itself.
-const KILL: &str =
-    "module 'm' ['main'/0,'c'/0] attributes [] 'main'/0 = fun () -> let <C> = call 'erlang':'spawn'('m','c',[]) in call 'erlang':'exit'(C,'kill') 'c'/0 = fun () -> do call 'erlang':'process_flag'('trap_exit','true') receive <X> when 'true' -> X after 'infinity' -> 'x' end";
-
-const KILLED: &str =
-    "module 'm' ['main'/0,'c'/0] attributes [] 'main'/0 = fun () -> do call 'erlang':'process_flag'('trap_exit','true') do call 'erlang':'spawn_link'('m','c',[]) receive <X> when 'true' -> X after 'infinity' -> 'x' 'c'/0 = fun () -> call 'erlang':'exit'('kill') end";
-
 // A module and a schedule, the lines that are written, the line of the refusal, and the status.
-const ROWS: [(&str, &str, &str, &str, u8); 30] = [
+const ROWS: [(&str, &str, &str, &str, u8); 25] = [
     (TABLE, TURNS, LINES, "", 0),
     (TABLE, "", "", "", 0),
     (
@@ -165,41 +150,6 @@ const ROWS: [(&str, &str, &str, &str, u8); 30] = [
         "",
         0,
     ),
-    (
-        GIFT,
-        "P P P P P>P.2 P.2",
-        "1 P ets:new('t',['named_table']) -> 't'\n2 P erlang:spawn('m','c',[]) -> P.2\n3 P ets:give_away('t',P.2,'d') -> 'true'\n4 P ets:insert('t',{'a',1}) -> badarg (5 ProtectedWrite, owner P.2)\n5 P>P.2 brings {'ETS-TRANSFER','t',P,'d'}\n6 P.2 receives {'ETS-TRANSFER','t',P,'d'}\n",
-        "",
-        0,
-    ),
-    (
-        HEIR,
-        "P P P P P>P.1 P.1 P.1 P.3",
-        "1 P erlang:spawn('m','c',[]) -> P.1\n2 P ets:new('t',['named_table',{'heir',P.1,'d'}]) -> 't'\n3 P erlang:spawn('m','d',[]) -> P.3\n4 P ends 'normal'\n5 P>P.1 brings {'ETS-TRANSFER','t',P,'d'}\n6 P.1 receives {'ETS-TRANSFER','t',P,'d'}\n7 P.1 ets:insert('t',{'a',1}) -> 'true'\n8 P.3 ets:lookup('t','a') -> [{'a',1}]\n",
-        "",
-        0,
-    ),
-    (
-        HEIR,
-        "P P P P.1 P.1 P P.3",
-        "1 P erlang:spawn('m','c',[]) -> P.1\n2 P ets:new('t',['named_table',{'heir',P.1,'d'}]) -> 't'\n3 P erlang:spawn('m','d',[]) -> P.3\n4 P.1 times out\n5 P.1 ends 'normal'\n6 P ends 'normal'\n7 P.3 ets:lookup('t','a') -> badarg (2 NoTable)\n",
-        "",
-        0,
-    ),
-    (
-        KILL,
-        "P P.1 P P>P.1",
-        "1 P erlang:spawn('m','c',[]) -> P.1\n2 P.1 erlang:process_flag('trap_exit','true') -> 'false'\n3 P erlang:exit(P.1,'kill') -> 'true'\n4 P>P.1 exit 'kill' -> ends 'killed'\n",
-        "",
-        0,
-    ),
-    (
-        KILLED,
-        "P P P.2 P.2>P P",
-        "1 P erlang:process_flag('trap_exit','true') -> 'false'\n2 P erlang:spawn_link('m','c',[]) -> P.2\n3 P.2 ends 'kill'\n4 P.2>P exit 'kill' -> {'EXIT',P.2,'kill'}\n5 P receives {'EXIT',P.2,'kill'}\n",
-        "",
-        0,
-    ),
     // both are refused
     ("module 'm", "P  P", "", "input: 1 BadToken at 7\n", 2),
 ];
@@ -264,36 +214,5 @@ fn a_write_that_fails_leaves_what_was_written(rt: HostRuntime) -> Result<(), Fai
         assert_eq!(rt; sink.bytes.len(), room);
         assert!(rt; LINES.as_bytes().starts_with(&sink.bytes), "at {room}");
     }
-    Ok(())
-}
-
-// Begins 1,000 processes, each of which makes eight references and ends.
-const PROCESSES: &str =
-    "module 'm' ['main'/0,'c'/1] attributes [] 'begin'/1 = fun (N) -> case N of <0> when 'true' -> 'ok' <M> when 'true' -> do call 'erlang':'spawn'('m','c',[8]) apply 'begin'/1(call 'erlang':'-'(N,1)) end 'c'/1 = fun (N) -> case N of <0> when 'true' -> 'ok' <M> when 'true' -> do call 'erlang':'make_ref'() apply 'c'/1(call 'erlang':'-'(N,1)) end 'main'/0 = fun () -> apply 'begin'/1(1000) end";
-
-// The turns of the first process, and those of each other to its end.
-fn all_turns(alloc: Global) -> Result<String, AllocError> {
-    let mut turns = String::from_str(alloc, "P ".repeat(alloc, 1_001)?.as_str())?;
-    for number in 1..1_001 {
-        let turn = format!(in alloc; "P.{number} ")?;
-        turns.push_str(turn.repeat(alloc, 9)?.as_str())?;
-    }
-    let _ = turns.pop();
-    Ok(turns)
-}
-
-#[test]
-fn a_replay_has_1000_processes_and_10001_events(rt: HostRuntime) -> Result<(), Fail> {
-    let alloc = rt.alloc();
-    let turns = all_turns(alloc)?;
-    let mut source = MemorySource::new(PROCESSES.as_bytes());
-    let mut sink = MemorySink::with_room(alloc, 1_000_000)?;
-    let outcome = run_replay(alloc, &mut source, turns.as_str(), &mut sink);
-    assert_eq!(rt; outcome, Ok(Verdict::Done));
-    assert!(rt;
-        sink.bytes.ends_with(
-            b"\n10000 P.1000 erlang:make_ref() -> #P.1000.8\n10001 P.1000 ends 'normal'\n"
-        )
-    );
     Ok(())
 }

@@ -6,13 +6,10 @@ use Rattle.std.specs.declared.cmp.Ordering.TheVariants.{Less, Equal, Greater}
 use Rattle.term_core.specs.declared.step.Step.{Step}
 use Rattle.coverage.proofs.IdentityOrder.{identities_total, same_identity}
 use Rattle.coverage.specs.Identities.{order_of_identities}
-use Rattle.coverage.specs.Shown.{shown_after}
-use Rattle.world_model.specs.Requests.{Program}
-use Rattle.world_model.specs.Run.{run}
 use Rattle.world_model.specs.Shown.{Flags, is_error, is_refusal, Identity}
-use Rattle.coverage.specs.Findings.{Finding, Findings, lesser, put_before, with_finding, with_all, found, LeadsAll, AreSorted}
+use Rattle.coverage.specs.Findings.{Finding, Findings, lesser, put_before, with_finding, with_all, LeadsAll, AreSorted}
 use Rattle.findings.specs.Merging.{merged, merged_findings, with_shown, nothing}
-use Rattle.findings.proofs.Least.{lesser_comm, lesser_assoc, lesser_swap}
+use Rattle.findings.proofs.Least.{lesser_comm, lesser_assoc}
 
 abbrev pub finding : Identity → List Step → Finding
 finding i s = record { identity = i; schedule = s }

@@ -3,3 +3,4 @@ pub mod Identities
 pub mod Found
 pub mod Merging
 pub mod Laws
+pub mod MergeExamples

@@ -1,4 +1,4 @@
--- All findings of two lists.
+-- What findings come to where they are put together.
 use Rattle.std.specs.List.{filter}
 use Rattle.std.specs.Prelude.{List, [], ◌∷◌}
 use Rattle.term_core.specs.declared.step.Step.{Step}

@@ -1,5 +1,6 @@
 // The laws of findings.
 ghost use Rattle.findings.specs.Laws.{NoneShowsNothing, OneMoreIsAdded, ListsAreMerged, OrderDoesNotMatter, GroupingDoesNotMatter};
+ghost use Rattle.findings.specs.MergeExamples.{ShorterIsKept, ShorterStays, BothAreKept, RefusalsAreMerged, ErrorsAreStrict, DeadlockIsAllowed};
 
 /// What schedules show depends neither on their order nor on how they are split: nothing is found where there are
 /// none, one schedule more adds what it shows, the findings of two lists of schedules are merged, in whatever order
@@ -10,4 +11,15 @@ pub fn findings_are_added_up()
     ensures lists { ListsAreMerged }
     ensures order { OrderDoesNotMatter }
     ensures grouping { GroupingDoesNotMatter }
+{}
+
+/// A few findings come to what was worked out by hand: the shorter schedule is kept, refusals by two rules are two,
+/// and what is an error depends on the flags.
+pub fn findings_are_put_together()
+    ensures shorter { ShorterIsKept }
+    ensures stays { ShorterStays }
+    ensures both { BothAreKept }
+    ensures refusals { RefusalsAreMerged }
+    ensures strict { ErrorsAreStrict }
+    ensures allowed { DeadlockIsAllowed }
 {}

@@ -1,5 +1,14 @@
-pub mod Shared
+pub mod Names
+pub mod Calls
+pub mod Options
+pub mod Objects
+pub mod Rules
+pub mod Answers
+pub mod Effects
+pub mod Events
+pub mod History
+pub mod Run
+pub mod Laws
+pub mod Deeds
 pub mod Seen
-pub mod Advanced
-pub mod Waiting
 pub mod inside

@@ -1,2 +1,6 @@
-pub mod EventCodes
-pub mod Enabling
+pub mod Stored
+pub mod Agreement
+pub mod DeedCodes
+pub mod Records
+pub mod Settings
+pub mod TableCalls

@@ -1,12 +1,15 @@
-// The explored world: what its processes, signals and tables are after a schedule, and what happened under it.
+// The explored world: processes, their tables, and the list of what happened.
 #![tactic(auto)]
 
-mod enabled;
-mod events;
+pub mod event;
 pub mod fault;
 pub mod laws;
+mod process;
+pub mod tables;
+mod turn;
 pub mod world;
 
+pub use event::{Deed, Event};
 pub use fault::WorldFault;
+pub use tables::rule::Rule;
 pub use world::World;
-pub use world_steps::{Deed, Event};

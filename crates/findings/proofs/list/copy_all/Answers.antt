@@ -1,5 +1,4 @@
-use Rattle.std.proofs.Common.{◌≡◌, ◌∷◌, ◌++◌, List, map, arith, ap, ◌∙◌}
-use Rattle.findings.specs.declared.finding.Finding.{Finding}
+use Rattle.std.proofs.Common.{map, arith, ap, ◌∙◌}
 use Rattle.findings.specs.Found.{finding_in}
 use Rattle.findings.proofs.Places.{copied_more}
 use Rattle.findings.proofs.list.copy_all.Goals as goal

@@ -1,11 +1,9 @@
-use Rattle.std.proofs.Common.{◌≡◌, rules, of_calls}
+use Rattle.std.proofs.Common.{rules, of_calls}
 use Rattle.std.proofs.lemmas.Fn.{always_returns_same}
 use Rattle.coverage.specs.Identities.{order_of_identities}
 use Rattle.findings.specs.Identities.{identity_in}
 use Rattle.findings.specs.Found.{finding_in}
 use Rattle.findings.proofs.Places.{if_found, if_missing, never_falls}
-use Rattle.coverage.specs.Findings.{AreSorted}
-use Rattle.std.proofs.Common.{map}
 use Rattle.findings.proofs.list.place_of.Goals as goal
 
 pub returns-clause-there : goal.returns-clause-there

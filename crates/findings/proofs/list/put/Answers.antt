@@ -1,4 +1,4 @@
-use Rattle.std.proofs.Common.{◌≡◌, ◌<◌, ◌≤◌, List, map, length, slice_index_or, sym, ◌∙◌, ap, subst, refl, rules}
+use Rattle.std.proofs.Common.{◌≡◌, ◌<◌, List, length, slice_index_or, ◌∙◌, ap, subst, refl, rules}
 use Rattle.std.specs.declared.cmp.Ordering.TheVariants.{Equal}
 use Rattle.coverage.specs.Identities.{order_of_identities}
 use Rattle.findings.specs.Found.{finding_in}

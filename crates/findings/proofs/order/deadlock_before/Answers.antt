@@ -1,4 +1,4 @@
-use Rattle.std.proofs.Common.{◌≡◌, sym, ◌∙◌, ap, List}
+use Rattle.std.proofs.Common.{sym, ◌∙◌, ap, List}
 use Rattle.world_model.specs.Names.{Pid}
 use Rattle.world_model.specs.Shown as shown
 use Rattle.coverage.specs.Identities.{order_of_identities, order_of_processes}

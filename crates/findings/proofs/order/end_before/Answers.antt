@@ -1,4 +1,4 @@
-use Rattle.std.proofs.Common.{◌≡◌, sym, ◌∙◌, ap}
+use Rattle.std.proofs.Common.{sym, ◌∙◌, ap}
 use Rattle.term_core.specs.Term.{meaning_of}
 use Rattle.world_model.specs.Shown as shown
 use Rattle.coverage.specs.Identities.{order_of_identities}

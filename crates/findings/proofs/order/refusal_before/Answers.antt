@@ -5,7 +5,7 @@ use Rattle.world_model.specs.Shown as shown
 use Rattle.coverage.specs.Identities.{order_of_identities}
 use Rattle.findings.specs.Identities.{identity_in}
 use Rattle.findings.specs.declared.identity.Identity.{Identity}
-use Rattle.findings.proofs.Orders.{by_request, by_call, by_reason, order_of_refusals}
+use Rattle.findings.proofs.Orders.{by_call, order_of_refusals}
 use Rattle.findings.proofs.order.refusal_before.Goals as goal
 
 pub returns-in-Refusal : goal.returns-in-Refusal

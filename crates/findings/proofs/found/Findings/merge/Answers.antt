@@ -1,5 +1,4 @@
-use Rattle.std.proofs.Common.{◌≡◌, rules}
-use Rattle.findings.specs.Merging.{merged_findings}
+use Rattle.std.proofs.Common.{rules}
 use Rattle.findings.proofs.Schedules.{adds_schedules}
 use Rattle.findings.proofs.found.Findings.merge.Goals as goal
 

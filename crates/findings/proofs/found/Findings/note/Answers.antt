@@ -1,10 +1,9 @@
-use Rattle.std.proofs.Common.{◌≡◌, ◌∷◌, ◌+◌, List, map, drop, sym, ap, ◌∙◌, arith}
+use Rattle.std.proofs.Common.{◌∷◌, ◌+◌, List, map, drop, sym, ap, ◌∙◌, arith}
 use Rattle.std.proofs.lemmas.List.{at_drop_more, drop_all}
 use Rattle.findings.specs.Identities.{identity_in}
 use Rattle.findings.specs.declared.identity.Identity.{Identity}
 use Rattle.findings.specs.Identities.{flags_in}
-use Rattle.coverage.specs.Findings.{Findings}
-use Rattle.findings.specs.Merging.{with_shown, merged_findings, nothing}
+use Rattle.findings.specs.Merging.{with_shown, merged_findings}
 use Rattle.findings.proofs.Putting.{shown_more, shown_merged}
 use Rattle.findings.proofs.Schedules.{adds_schedule}
 use Rattle.findings.proofs.found.Findings.note.Goals as goal

@@ -1,0 +1,42 @@
+-- What a flush at the end makes of a replay.
+use Rattle.std.proofs.Common.{◌≡◌, ℕ, Bool, true, false, List, [], Option, None, refl, sym, append-nil}
+use Rattle.std.specs.Prelude.{Result, Ok, Err}
+use Rattle.std.specs.Io.KnownBytes.{Keeps}
+use Rattle.std.proofs.KnownBytes.{Appends-kept}
+use Rattle.core_tree.specs.Syntax.{ModuleTree}
+use Rattle.term_core.specs.Stream.{AppendsBeginning, WritesAll, BreaksOff}
+use Rattle.term_core.specs.declared.step.Step.{Step}
+use Rattle.explorer_engine.specs.Replay.{Replays, transcript}
+use Rattle.explorer_engine.specs.declared.replay_fault.ReplayFault.{ReplayFault}
+use Rattle.explorer_engine.specs.declared.replay_fault.ReplayFault.TheVariants as replay
+
+beginning_kept : (old mid new : Option (List ℕ)) (text : List ℕ) → AppendsBeginning old mid text → Keeps mid new → AppendsBeginning old new text
+beginning_kept old mid new text b k = record { written = b.written; unwritten = b.unwritten; parts = b.parts; appends = Appends-kept old mid new b.written b.appends k }
+
+all_kept : (old mid new : Option (List ℕ)) (failed : Bool) (text : List ℕ) → WritesAll old mid failed text → Keeps mid new → WritesAll old new failed text
+all_kept old mid new failed text w k = record { appends = Appends-kept old mid new text w.appends k; sound = w.sound }
+
+all_begun : (old new : Option (List ℕ)) (failed : Bool) (text : List ℕ) → WritesAll old new failed text → AppendsBeginning old new text
+all_begun old new failed text w = record { written = text; unwritten = []; parts = sym (append-nil text); appends = w.appends }
+
+-- what was written before a flush stands after it
+pub flushed : (m : ModuleTree) (steps : List Step) (old mid new : Option (List ℕ)) (failed : Bool) (r : Result (Unit {0}) ReplayFault)
+    → Replays m steps old mid failed r → Keeps mid new → Replays m steps old new failed r
+flushed m steps old mid new failed (Ok done) h k = (h.0, all_kept old mid new failed (transcript m steps) h.1 k)
+flushed m steps old mid new failed (Err (replay.NotEnabled place)) h k = (h.0, all_kept old mid new failed (transcript m steps) h.1 k)
+flushed m steps old mid new failed (Err replay.Memory) h k = (h.0, beginning_kept old mid new (transcript m steps) h.1 k)
+flushed m steps old mid new failed (Err replay.Write) h k = record { beginning = beginning_kept old mid new (transcript m steps) h.beginning k; fault = h.fault }
+
+-- all that a replay wrote is a beginning of its lines
+begun : (m : ModuleTree) (steps : List Step) (old mid : Option (List ℕ)) (failed : Bool) (r : Result (Unit {0}) ReplayFault)
+    → Replays m steps old mid failed r → AppendsBeginning old mid (transcript m steps)
+begun m steps old mid failed (Ok done) h = all_begun old mid failed (transcript m steps) h.1
+begun m steps old mid failed (Err (replay.NotEnabled place)) h = all_begun old mid failed (transcript m steps) h.1
+begun m steps old mid failed (Err replay.Memory) h = h.1
+begun m steps old mid failed (Err replay.Write) h = h.beginning
+
+-- a replay whose flush failed has output that failed
+pub not_flushed : (m : ModuleTree) (steps : List Step) (old mid new : Option (List ℕ)) (failed failed' : Bool) (r : Result (Unit {0}) ReplayFault)
+    → Replays m steps old mid failed r → Keeps mid new → failed' ≡ true → Replays m steps old new failed' (Err replay.Write)
+not_flushed m steps old mid new failed failed' r h k fault =
+    record { beginning = beginning_kept old mid new (transcript m steps) (begun m steps old mid failed r h) k; fault = fault }

@@ -1,0 +1,40 @@
+use Rattle.std.proofs.Common.{sym, ap, subst, ◌∙◌}
+use Rattle.std.specs.Prelude.{Result, Err}
+use Rattle.std.proofs.lemmas.Result.{err_from_is_err_and}
+use Rattle.world_core.specs.Seen.{Seen}
+use Rattle.explorer_engine.specs.Replay.{Replays}
+use Rattle.explorer_engine.specs.declared.replay_fault.ReplayFault.{ReplayFault}
+use Rattle.explorer_engine.proofs.ReplayLaws.{SoFar, begins, goes_on, stops_there, ends}
+use Rattle.explorer_engine.proofs.replay.replay.Goals as goal
+
+pub loop-index-init : goal.loop-index-init
+loop-index-init g c =
+    let start = g.W.Sink.contents c.args.sink.now in
+    let failed = g.W.Sink.has_failed c.args.sink.now in
+    subst (λ (w : Seen). SoFar c.args.program.now c.args.steps.now start start failed w.program w.history w.spent 0) (sym c.in-Ok.ensures)
+    (begins c.args.program.now c.args.steps.now start failed c.requires)
+
+pub returns-in_err-replay_step : goal.returns-in_err-replay_step
+returns-in_err-replay_step g c =
+    let p = err_from_is_err_and c.from_residual.result c.from_residual.ensures.1 in
+    let start = g.W.Sink.contents c.args.sink.now in
+    let new = g.W.Sink.contents c.replay_step.new.sink in
+    let failed = g.W.Sink.has_failed c.replay_step.new.sink in
+    subst (λ (r : Result (Unit {0}) ReplayFault). Replays c.args.program.now c.args.steps.now start new failed r) (sym (p.1 ∙ ap Err p.2))
+    (stops_there c.args.program.now c.args.steps.now start (g.W.Sink.contents c.loop-index.sink) new (g.W.Sink.has_failed c.loop-index.sink) failed
+    c.loop-index.world.program c.loop-index.world.history c.replay_step.new.world.history c.loop-index.world.spent c.loop-index.index c.index-steps-index.result c.in_err-replay_step.field-0.0
+    c.loop-index.invariant c.loop-index-test.true c.index-steps-index.is c.in_err-replay_step.ensures.step)
+
+pub loop-index-preserved : goal.loop-index-preserved
+loop-index-preserved g c =
+    goes_on c.args.program.now c.args.steps.now (g.W.Sink.contents c.args.sink.now) (g.W.Sink.contents c.loop-index.sink) (g.W.Sink.contents c.replay_step.new.sink)
+    (g.W.Sink.has_failed c.loop-index.sink) (g.W.Sink.has_failed c.replay_step.new.sink)
+    c.loop-index.world.program c.replay_step.new.world.program c.loop-index.world.history c.replay_step.new.world.history c.loop-index.world.spent c.replay_step.new.world.spent
+    c.loop-index.index c.index-steps-index.result
+    c.loop-index.invariant c.loop-index-test.true c.index-steps-index.is
+    c.in_ok-replay_step.ensures.step c.in_ok-replay_step.ensures.lives c.in_ok-replay_step.ensures.program
+
+pub returns : goal.returns
+returns g c =
+    ends c.args.program.now c.args.steps.now (g.W.Sink.contents c.args.sink.now) (g.W.Sink.contents c.loop-index.sink) (g.W.Sink.has_failed c.loop-index.sink)
+    c.loop-index.world.program c.loop-index.world.history c.loop-index.world.spent c.loop-index.index c.loop-index.invariant c.loop-index-test.false

@@ -1,0 +1,6 @@
+pub mod Adding
+pub mod Ending
+pub mod Calling
+pub mod Going
+pub mod Seeing
+pub mod Sleeping

@@ -1,0 +1,4 @@
+pub mod Cells
+pub mod Footprints
+pub mod Independence
+pub mod inside

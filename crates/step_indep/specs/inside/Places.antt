@@ -1,0 +1,32 @@
+-- The parts that cells are of, each with a number.
+use Rattle.std.specs.Prelude.{ℕ}
+use Rattle.step_indep.specs.declared.cell.ProcessPart.{ProcessPart}
+use Rattle.step_indep.specs.declared.cell.ProcessPart.TheVariants.{Machine, Alive, Trap, Mailbox, Links, Watchers, NameOf, Owned}
+use Rattle.step_indep.specs.declared.cell.ChannelPart.{ChannelPart}
+use Rattle.step_indep.specs.declared.cell.ChannelPart.TheVariants.{Front, Tail}
+use Rattle.step_indep.specs.declared.cell.NamePart.{NamePart}
+use Rattle.step_indep.specs.declared.cell.NamePart.TheVariants.{Holder, TableName}
+use Rattle.step_indep.specs.declared.cell.ReferencePart.{ReferencePart}
+use Rattle.step_indep.specs.declared.cell.ReferencePart.TheVariants.{Watch, Table}
+
+abbrev pub place_of_process : ProcessPart → ℕ
+place_of_process Machine = 0
+place_of_process Alive = 1
+place_of_process Trap = 2
+place_of_process Mailbox = 3
+place_of_process Links = 4
+place_of_process Watchers = 5
+place_of_process NameOf = 6
+place_of_process Owned = 7
+
+abbrev pub place_of_channel : ChannelPart → ℕ
+place_of_channel Front = 0
+place_of_channel Tail = 1
+
+abbrev pub place_of_name : NamePart → ℕ
+place_of_name Holder = 0
+place_of_name TableName = 1
+
+abbrev pub place_of_reference : ReferencePart → ℕ
+place_of_reference Watch = 0
+place_of_reference Table = 1

@@ -1,0 +1,4 @@
+pub mod Listed
+pub mod Worlds
+pub mod Runs
+pub mod Turns

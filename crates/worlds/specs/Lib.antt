@@ -1,0 +1,5 @@
+pub mod Shared
+pub mod Seen
+pub mod Advanced
+pub mod Waiting
+pub mod inside

@@ -1,0 +1,2 @@
+pub mod EventCodes
+pub mod Enabling

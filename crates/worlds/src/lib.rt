@@ -1,0 +1,12 @@
+// The explored world: what its processes, signals and tables are after a schedule, and what happened under it.
+#![tactic(auto)]
+
+mod enabled;
+mod events;
+pub mod fault;
+pub mod laws;
+pub mod world;
+
+pub use fault::WorldFault;
+pub use world::World;
+pub use world_steps::{Deed, Event};

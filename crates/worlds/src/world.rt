@@ -1,0 +1,212 @@
+// The world of one schedule.
+ghost use Rattle.std.specs.Prelude.{◌≡◌, ◌↔◌, [], true, false, Some, None, IfOk, OnOk, OnErr, IfErr, IsErr, IsSome, MatchResult, Contains, option_map};
+ghost use Rattle.term_core.specs.declared.step.Step.{Step};
+ghost use Rattle.worlds.specs.Advanced.{Advances};
+ghost use Rattle.worlds.specs.Seen.{new_world, program_in};
+ghost use Rattle.worlds.specs.declared.fault.WorldFault.TheVariants.{NotEnabled, Memory};
+ghost use Rattle.world_model.specs.Run.{enabled_steps, extended, latest, next_event, run, schedule_of};
+ghost use Rattle.world_model.specs.StepLaws.{AreInOrder};
+ghost use Rattle.world_model.specs.World.{alive, contents};
+ghost use Rattle.world_records.specs.Records.{Agrees};
+ghost use Rattle.world_steps.specs.Deeds.{event_in};
+
+use crate::enabled::enabled_steps;
+use crate::events::Events;
+use crate::fault::WorldFault;
+use core_tree::Module;
+use std::alloc::Global;
+use std::marker::Model;
+use term_core::{Pid, Step};
+use world_records::Records;
+use world_steps::{Event, act};
+
+/// A world: what the processes of a module, their signals and their tables are after what happened so far, and what
+/// happened. Contracts see the module, the events, the latest first, and whether memory was wanting once; all else is
+/// told by the events. Copies share all of it until one of them takes a step.
+#[derive(Drop)]
+pub struct World<'m> {
+    program: &'m Module,
+    records: Records<'m>,
+    events: Events,
+    is_spent: bool,
+}
+
+impl<'m> Model for World<'m> {
+    ghost use Rattle.std.specs.Prelude.{◌≡◌, false};
+    ghost use Rattle.worlds.specs.Seen.{Seen, coded_seen};
+
+    ghost Value = { Seen };
+
+    ghost coded = { coded_seen };
+
+    ghost use Rattle.worlds.specs.inside.Enabling.{IsWorld};
+    ghost use Rattle.worlds.specs.Shared.{events_in};
+
+    ghost view = { λ w. record { program = w.program.now; history = events_in w.events; spent = w.is_spent } };
+
+    ghost invariant = { λ w. w.is_spent ≡ false → IsWorld w.program.now (events_in w.events) w.records };
+}
+
+impl<'m> World<'m> {
+    /// The world of a module before anything happened: its first process stands at its first request.
+    ///
+    /// # Errors
+    ///
+    /// `Memory` where memory ran out.
+    pub fn open(alloc: Global, program: &'m Module) -> Result<World<'m>, WorldFault>
+        ensures { MatchResult result (λ world. world ≡ new_world program.now) (λ fault. fault ≡ Memory) }
+    {
+        Ok(World {
+            program,
+            records: Records::open(alloc, program)?,
+            events: Events::Nothing,
+            is_spent: false,
+        })
+    }
+
+    /// The same world, which shares memory with this one. It is one step for each of its parts, whatever they hold and
+    /// however much happened.
+    ///
+    /// # Errors
+    ///
+    /// `Memory` where the copies can no longer be counted, or memory was wanting in an earlier step.
+    pub fn copy(&self) -> Result<World<'m>, WorldFault>
+        ensures copied { IfOk result (λ copied. copied ≡ self.now) }
+        ensures memory { IfErr result (λ fault. fault ≡ Memory) }
+        ensures spent { self.now.spent ≡ true → IsErr result }
+    {
+        if self.is_spent {
+            // A spent world is not copied.
+            return Err(WorldFault::Memory);
+        }
+        Ok(World {
+            program: self.program,
+            records: self.records.copy()?,
+            events: self.events.copy()?,
+            is_spent: false,
+        })
+    }
+
+    /// The steps that are enabled, in their order: turns of processes that live and need not wait, and then deliveries
+    /// of signals to processes that live.
+    ///
+    /// # Errors
+    ///
+    /// `Memory` where memory ran out, now or in an earlier step.
+    pub fn enabled(&self, alloc: Global) -> Result<Vec<Step>, WorldFault>
+        ensures listed { IfOk result (λ steps. steps.items ≡ enabled_steps (program_in self.now) self.now.history) }
+        ensures memory { IfErr result (λ fault. fault ≡ Memory) }
+        ensures spent { self.now.spent ≡ true → IsErr result }
+    {
+        if self.is_spent {
+            // A spent world does not show what is enabled.
+            return Err(WorldFault::Memory);
+        }
+        let steps = enabled_steps(&self.records, alloc)?;
+        Ok(steps)
+    }
+
+    /// Takes a step: the one event that it adds is the last one then.
+    ///
+    /// # Errors
+    ///
+    /// `NotEnabled` where there is no such event, and then the world is unchanged; `Memory` where memory was wanting,
+    /// now or in an earlier step: the world is spent, and every later call answers `Memory`.
+    pub fn step(&mut self, alloc: Global, step: &Step) -> Result<(), WorldFault>
+        ensures ok { OnOk result (extended self.old.history (next_event (program_in self.old) self.old.history step.now) ≡ Some self.new.history) }
+        ensures lives { OnOk result (self.new.spent ≡ false) }
+        ensures program { self.new.program ≡ self.old.program }
+        ensures not_enabled { result ≡ Err NotEnabled → next_event (program_in self.old) self.old.history step.now ≡ None }
+        ensures unchanged { result ≡ Err NotEnabled → self.new ≡ self.old }
+        ensures only { self.old.spent ≡ false → next_event (program_in self.old) self.old.history step.now ≡ None → IsErr result }
+        ensures spent { result ≡ Err Memory → self.new.spent ≡ true }
+        ensures kept { OnErr result (self.new.history ≡ self.old.history) }
+        ensures stays_spent { self.old.spent ≡ true → result ≡ Err Memory }
+    {
+        if self.is_spent {
+            // A spent world stays spent.
+            return Err(WorldFault::Memory);
+        }
+        self.is_spent = true;
+        let Some(deed) = act(&mut self.records, alloc, step)? else {
+            self.is_spent = false;
+            return Err(WorldFault::NotEnabled);
+        };
+        let step = step.copy()?;
+        let before = self.events.copy()?;
+        self.events = before.with(alloc, Event { step, deed })?;
+        self.is_spent = false;
+        Ok(())
+    }
+
+    /// Takes one step after the other.
+    ///
+    /// # Errors
+    ///
+    /// `NotEnabled` at the first step that is not enabled, with its place, counted from 1: the steps before it were
+    /// taken. `Memory` where memory was wanting, with the place of the step then, or 1 where it was wanting before: the
+    /// world is spent.
+    pub fn advance(&mut self, alloc: Global, steps: &[Step]) -> Result<(), (u64, WorldFault)>
+        ensures advanced { Advances self.old steps.now result self.new }
+        ensures program { self.new.program ≡ self.old.program }
+        ensures stays_spent { self.old.spent ≡ true → result ≡ Err (1, Memory) }
+    {
+        if self.is_spent {
+            // A spent world stays spent.
+            return Err((1, WorldFault::Memory));
+        }
+        for (index, step) in steps.iter().enumerate() {
+            match self.step(alloc, step) {
+                Ok(()) => {}
+                Err(fault) => return Err((index as u64 + 1, fault)),
+            }
+        }
+        Ok(())
+    }
+
+    /// The event that happened last, if anything did. It takes no memory.
+    pub fn last_event(&self) -> Option<&Event>
+        ensures event { option_map (λ event. event_in event.now) result ≡ latest (Some self.now.history) }
+
+        // The events are the history of their steps.
+        ensures is_run { self.now.spent ≡ false → run (program_in self.now) (schedule_of self.now.history) ≡ Some self.now.history }
+    {
+        self.events.latest()
+    }
+
+    /// The steps that were taken, the first one first.
+    ///
+    /// # Errors
+    ///
+    /// `Memory` where memory ran out.
+    pub fn schedule(&self, alloc: Global) -> Result<Vec<Step>, WorldFault>
+        ensures taken { IfOk result (λ steps. steps.items ≡ schedule_of self.now.history) }
+        ensures memory { IfErr result (λ fault. fault ≡ Memory) }
+    {
+        let mut steps = self.events.steps(alloc)?;
+        steps.reverse();
+        Ok(steps)
+    }
+
+    /// The parts of the world, which are what the history leaves: processes, mailboxes, signals on their way, links,
+    /// watches, names and tables. Of a spent world they may be anything. It takes no memory.
+    pub fn records(&self) -> &Records<'m>
+        ensures { self.now.spent ≡ false → Agrees self.now.program result.now (contents self.now.history) }
+    {
+        &self.records
+    }
+
+    /// Whether a process lives; of a spent world that may be either. It takes no memory.
+    pub fn alive(&self, pid: &Pid) -> bool
+        ensures { self.now.spent ≡ false → result ≡ alive self.now.history pid.now }
+    {
+        self.records.processes().lives(pid)
+    }
+
+    /// Whether memory was wanting once, so that every call answers `Memory`. It takes no memory.
+    pub fn is_spent(&self) -> bool
+        ensures { result ≡ self.now.spent }
+    {
+        self.is_spent
+    }
+}
