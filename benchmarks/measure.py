@@ -1,13 +1,15 @@
 #!/usr/bin/env python3
 """Measures the built program on long modules, long evaluations and long schedules.
 
-    benchmarks/measure.py [--program PATH] [--runs N]
+    benchmarks/measure.py [--program PATH] [--runs N] [--processor]
 
 Each module is run at half its size and at its whole size. A row tells the size, the seconds of the
 clock of the fastest of N runs, the most memory in MB, and how many times as long as the half the
-whole took: 2 where the cost is linear. A run that does not print what it has to ends the measurement.
+whole took: 2 where the cost is linear. With --processor the seconds are of a processor, which tells more where
+much else runs on the machine. A run that does not print what it has to ends the measurement.
 It wants Python 3.9 or later and nothing besides. Without --program it takes the program that the
 script `schedule_explorer` at the root of the repository built; run that once before.
+A schedule is one word of a command line, and Linux has none of more than 131,071 bytes; so no row has more steps.
 """
 
 import argparse
@@ -18,7 +20,7 @@ import sys
 import tempfile
 import time
 from pathlib import Path
-from typing import Callable, List, NamedTuple, Tuple
+from typing import Callable, Iterator, List, NamedTuple, Tuple
 
 PROGRAM = Path(__file__).resolve().parent.parent / "crates/schedule_explorer/out/schedule_explorer"
 MODULE_BYTES = 1_048_000
@@ -42,8 +44,8 @@ class Figure(NamedTuple):
     megabytes: float
 
 
-def module(body: str, others: str = "") -> str:
-    return f"module 'm' ['main'/0] attributes []\n'main'/0 = fun () -> {body}\n{others}\nend\n"
+def module(body: str, others: str = "", exports: str = "'main'/0") -> str:
+    return f"module 'm' [{exports}] attributes []\n'main'/0 = fun () -> {body}\n{others}\nend\n"
 
 
 def beside(part: str, size: int) -> str:
@@ -175,6 +177,44 @@ def looked_up(turns: int) -> str:
     return first + "".join(later)
 
 
+# Sends the numbers from N on to each process of a list in turn, for ever.
+DEAL = """'deal'/3 = fun (All,Rest,N) ->
+  case Rest of
+    <[Next|More]> when 'true' ->
+      do call 'erlang':'!'(Next,N)
+      apply 'deal'/3(All,More,call 'erlang':'+'(N,1))
+    <[]> when 'true' -> apply 'deal'/3(All,All,N)
+  end"""
+TAKE = """'take'/0 = fun () ->
+  receive <N> when 'true' -> apply 'take'/0() after 'infinity' -> 'none'"""
+NINE = "[" + ",".join(["call 'erlang':'spawn'('m','take',[])"] * 9) + "]"
+OTHERS = [f"P.{number}" for number in range(1, 10)]
+
+
+def deal(_steps: int) -> str:
+    """The first process spawns nine others and sends them numbers in turn, for ever."""
+    return module(f"let <All> = {NINE} in apply 'deal'/3(All,All,0)", f"{DEAL}\n{TAKE}", "'main'/0,'take'/0")
+
+
+def dealt(steps: int) -> Iterator[Tuple[str, str]]:
+    """Each step with its line: nine spawns, and then three steps for each number."""
+    for other in OTHERS:
+        yield "P", f"P erlang:spawn('m','take',[]) -> {other}"
+    for number in range((steps - len(OTHERS)) // 3):
+        other = OTHERS[number % len(OTHERS)]
+        yield "P", f"P erlang:!({other},{number}) -> {number}"
+        yield f"P>{other}", f"P>{other} brings {number}"
+        yield other, f"{other} receives {number}"
+
+
+def steps_of_deal(steps: int) -> str:
+    return " ".join(step for step, _ in dealt(steps))
+
+
+def lines_of_deal(steps: int) -> str:
+    return "".join(f"{place} {line}\n" for place, (_, line) in enumerate(dealt(steps), 1))
+
+
 def turns_of_first(turns: int) -> str:
     return " ".join(["P"] * turns)
 
@@ -225,17 +265,18 @@ EVALUATION = [
 SCHEDULES = [
     Row("`insert` and `lookup` in turns, the table growing", 60_000, fill, turns_of_first, filled),
     Row("9,990 applications before each turn", 40, rounds, turns_of_first, looked_up),
+    Row("numbers sent, delivered and received, among ten processes", 30_000, deal, steps_of_deal, lines_of_deal),
 ]
 
 
-def run(program: Path, row: Row, size: int) -> Figure:
+def run(words: argparse.Namespace, row: Row, size: int) -> Figure:
     """One run of the program; its memory is told when it is waited for."""
     text, schedule = row.module(size).encode(), row.schedule(size)
     with tempfile.TemporaryFile() as source, tempfile.TemporaryFile() as sink:
         source.write(text)
         source.seek(0)
         began = time.monotonic()
-        child = subprocess.Popen([program, "replay", schedule], stdin=source, stdout=sink)
+        child = subprocess.Popen([words.program, "replay", schedule], stdin=source, stdout=sink)
         _, status, usage = os.wait4(child.pid, 0)
         seconds = time.monotonic() - began
         child.returncode = os.waitstatus_to_exitcode(status)
@@ -243,13 +284,15 @@ def run(program: Path, row: Row, size: int) -> Figure:
         transcript = sink.read().decode()
     if child.returncode != 0 or transcript != row.transcript(size):
         sys.exit(f"{row.name}: status {child.returncode}, it printed {transcript[:200]!r}")
+    if words.processor:
+        seconds = usage.ru_utime + usage.ru_stime
     return Figure(seconds, usage.ru_maxrss / 1024)
 
 
-def fastest(program: Path, row: Row, runs: int) -> Tuple[Figure, Figure]:
+def fastest(words: argparse.Namespace, row: Row) -> Tuple[Figure, Figure]:
     """The half and the whole, in turns, so that what else the machine does falls on both."""
     sizes = (row.size // 2, row.size)
-    halves, wholes = zip(*([run(program, row, size) for size in sizes] for _ in range(runs)))
+    halves, wholes = zip(*([run(words, row, size) for size in sizes] for _ in range(words.runs)))
     return min(halves), min(wholes)
 
 
@@ -259,11 +302,11 @@ def memory(figure: Figure) -> str:
     return f"{figure.megabytes:.0f}" if figure.megabytes > own else f"under {own:.0f}"
 
 
-def print_table(program: Path, title: str, rows: List[Row], runs: int) -> None:
+def print_table(words: argparse.Namespace, title: str, rows: List[Row]) -> None:
     print(f"\n| {title} | size | seconds | MB | as many times the half |")
     print("| --- | --- | --- | --- | --- |")
     for row in rows:
-        half, whole = fastest(program, row, runs)
+        half, whole = fastest(words, row)
         cells = (
             row.name,
             f"{row.size:,}",
@@ -279,15 +322,16 @@ def main() -> None:
     parser = argparse.ArgumentParser(description=__doc__, formatter_class=layout)
     parser.add_argument("--program", type=Path, default=PROGRAM)
     parser.add_argument("--runs", type=int, default=9)
+    parser.add_argument("--processor", action="store_true")
     words = parser.parse_args()
     if words.runs < 1:
         parser.error("--runs is at least 1")
     if not words.program.is_file():
         sys.exit(f"there is no program {words.program}")
-    print_table(words.program, "read, bytes", READING, words.runs)
-    print_table(words.program, "evaluated until it is too large, bytes", BUILDING, words.runs)
-    print_table(words.program, "evaluated in one turn, items", EVALUATION, words.runs)
-    print_table(words.program, "replayed, turns", SCHEDULES, words.runs)
+    print_table(words, "read, bytes", READING)
+    print_table(words, "evaluated until it is too large, bytes", BUILDING)
+    print_table(words, "evaluated in one turn, items", EVALUATION)
+    print_table(words, "replayed, steps", SCHEDULES)
 
 
 if __name__ == "__main__":

@@ -1,8 +1,8 @@
--- Where each call of the world in a module is one that is read, its processes ask no other.
+-- Where each call of the world in a module has as many arguments as it takes, so has each call that its processes ask.
 use Rattle.std.proofs.Common.{◌≡◌, ℕ, zero, suc, ◌+◌, Bool, true, false, List, [], ◌∷◌, ◌++◌, length, subst, arith, if◌then◌else◌}
 use Rattle.std.specs.Prelude.{Option, Some, None, nat_le, nat_lt, codes}
 use Rattle.core_tree.specs.declared.call.CallKind.{CallKind}
-use Rattle.core_tree.specs.Calls.{signature, IsRead}
+use Rattle.core_tree.specs.Calls.{signature}
 use Rattle.core_tree.specs.Functions.{same_function}
 use Rattle.core_tree.specs.Servable.{count_of, MayBeCalled, IsServable, AreServable, AreServableClauses, HaveServableBodies, IsServableModule}
 use Rattle.core_tree.specs.Syntax.{patterns_of, Mention, Function, Callee, Tree, Trees, Clauses, DefinitionTree, ModuleTree}
@@ -118,7 +118,7 @@ raised_again_fine None reason s = tt
 raised_again_fine (Some class) reason s = tt
 
 -- a call that is read stops at itself, where no answer is left
-served_fine : (kind : CallKind) (arguments : List Meaning) → IsRead kind × (length arguments ≡ (signature kind).arity) → (answers : List Answered) → Fine (served kind arguments answers)
+served_fine : (kind : CallKind) (arguments : List Meaning) → length arguments ≡ (signature kind).arity → (answers : List Answered) → Fine (served kind arguments answers)
 served_fine kind arguments h [] = h
 served_fine kind arguments h (Value value ∷ later) = tt
 served_fine kind arguments h (Raise reason ∷ later) = tt

@@ -18,8 +18,8 @@ pub fn applications_nest_as_they_are()
         apply_of m own f arguments s ≡ applied_once m own (apply_of m own) f arguments s }
 {}
 
-/// Where each call of the world in a module is one that is read, with as many arguments as it has, its
-/// processes ask no other.
+/// Where each call of the world in a module has as many arguments as it takes, so has each call that its
+/// processes ask.
 #[tactic(auto, using(crate::proofs::ReadRequests::asks_what_is_read))]
 pub fn only_calls_that_are_read_are_asked()
     ensures { (m : ModuleTree) (pid : List ℕ) (e : Entry) (answers : List Answered) → IsServableModule m → IsReadRequest (ask m pid e answers) }

@@ -4,7 +4,7 @@ ghost use Rattle.core_tokens.specs.Piece.{pieces};
 ghost use Rattle.core_tokens.specs.declared.token.Mark.TheVariants.{LeftParenthesis};
 ghost use Rattle.core_tree.specs.Tree.{tree_of, callee_of};
 ghost use Rattle.core_grammar.specs.inside.Decoder.{MovesUnlessMemory, after_mark, exactly_at};
-ghost use Rattle.core_grammar.specs.inside.DecoderForms.{callee_fault_of, callee_fault, bare_callee_at, callee_at, applied_fault_of, applied_fault, applied_atom_at, behind_applied_by, bare_applied_at, applied_at, is_read, export_called, unlisted_called, callee_named, operation_named, earlier, refuse, judged, apply_at, call_at, primop_at, expression_at};
+ghost use Rattle.core_grammar.specs.inside.DecoderForms.{callee_fault_of, callee_fault, bare_callee_at, callee_at, applied_fault_of, applied_fault, applied_atom_at, behind_applied_by, bare_applied_at, applied_at, export_called, unlisted_called, callee_named, operation_named, earlier, refuse, judged, apply_at, call_at, primop_at, expression_at};
 ghost use Rattle.core_expressions.specs.inside.FormView.{state_in};
 
 use crate::form_reader::FormReader;

@@ -1,17 +1,18 @@
-// Clauses of `case` (Core Erlang 1.0.3, "Expressions"), each annotated any number of times.
+// Clauses of `case` and of `receive` (Core Erlang 1.0.3, "Expressions"), each annotated any number of times.
 ghost use Rattle.std.specs.Prelude.{map, ◌∷◌, []};
 ghost use Rattle.core_tokens.specs.declared.token.Keyword.TheVariants.{When};
 ghost use Rattle.core_tokens.specs.declared.token.Mark.TheVariants.{Less};
 ghost use Rattle.core_tree.specs.Syntax.{clauses_of};
 ghost use Rattle.core_tree.specs.Expression as trees;
 ghost use Rattle.core_tree.specs.Tree.{pattern_of, tree_of};
-ghost use Rattle.core_grammar.specs.inside.Decoder.{BuildsUnlessMemory, MovesUnlessMemory, after_word, in_note_at, constant_at};
-ghost use Rattle.core_grammar.specs.inside.DecoderForms.{guarded_at, behind_patterns_at, clause_of, started, inside_start_at, aliased, noted_start_at, bare_start_at, start_at, clause_at, clauses_at, choices_at, case_at, expression_at};
+ghost use Rattle.core_grammar.specs.inside.Decoder.{BuildsUnlessMemory, MovesUnlessMemory, word_behind, after_word, in_note_at, constant_at};
+ghost use Rattle.core_grammar.specs.inside.DecoderForms.{guarded_at, behind_patterns_at, clause_of, started, inside_start_at, aliased, noted_start_at, angles_at, bare_start_at, start_at, clause_at, clauses_at, choices_at, case_at, expiry_at, receive_at, expression_at};
 ghost use Rattle.core_expressions.specs.inside.FormView.{state_in, start_of};
 
 use crate::form_reader::FormReader;
+use core_grammar::Subject;
 use core_tokens::{Keyword, Mark, ReadFault};
-use core_tree::{Case, Clause, Clauses, Expr, Pattern, Patterns};
+use core_tree::{Case, Clause, Clauses, Expr, Pattern, Patterns, Receive};
 use std::alloc::Global;
 use term_core::Atom;
 
@@ -32,6 +33,35 @@ fn one_pattern(alloc: Global, pattern: Pattern) -> Result<Vec<Pattern>, ReadFaul
     let mut patterns = Vec::new(alloc);
     patterns.push(pattern)?;
     Ok(patterns)
+}
+
+fn one_clause(alloc: Global, clause: Clause) -> Result<Vec<Clause>, ReadFault>
+    ensures { BuildsUnlessMemory (λ v. v.items) result (clause ∷ []) }
+{
+    let mut clauses = Vec::new(alloc);
+    clauses.push(clause)?;
+    Ok(clauses)
+}
+
+fn receive_of(
+    alloc: Global,
+    at: usize,
+    clauses: Vec<Clause>,
+    timeout: Expr,
+    action: Expr,
+) -> Result<Expr, ReadFault>
+    ensures { BuildsUnlessMemory tree_of result (trees.Receive at (clauses_of clauses.items) (tree_of timeout) (tree_of action)) }
+{
+    let clauses = Clauses(clauses);
+    Ok(Expr::Receive(Box::new(
+        alloc,
+        Receive {
+            at,
+            clauses,
+            timeout,
+            action,
+        },
+    )?))
 }
 
 fn case_of(alloc: Global, at: usize, value: Expr, clauses: Vec<Clause>) -> Result<Expr, ReadFault>
@@ -102,10 +132,15 @@ impl<'a> FormReader<'a> {
     /// What stands in the parentheses of an annotation of a clause or of its patterns.
     #[cycle(expressions)]
     #[tactic(auto, unfolding(core_grammar::specs::inside::DecoderForms::inside_start_at))]
-    fn inside_start(&mut self, own: &Atom, levels: u16) -> Result<Start, ReadFault>
-        ensures { MovesUnlessMemory start_of result (state_in self.new) (inside_start_at own.now levels (expression_at own.now levels) (start_at own.now levels) (state_in self.old)) }
+    fn inside_start(
+        &mut self,
+        own: &Atom,
+        levels: u16,
+        subject: Subject,
+    ) -> Result<Start, ReadFault>
+        ensures { MovesUnlessMemory start_of result (state_in self.new) (inside_start_at own.now levels (expression_at own.now levels) (start_at own.now levels subject) (state_in self.old)) }
     {
-        let start = self.start(own, levels)?;
+        let start = self.start(own, levels, subject)?;
         Ok(self.started(own, levels, start)?)
     }
 
@@ -123,68 +158,93 @@ impl<'a> FormReader<'a> {
     /// A start of a clause in the parentheses of an annotation, and the end of the annotation.
     #[cycle(expressions)]
     #[tactic(auto, unfolding(core_grammar::specs::inside::Decoder::in_note_at))]
-    fn start_in_note(&mut self, own: &Atom, levels: u16) -> Result<Start, ReadFault>
-        ensures { MovesUnlessMemory start_of result (state_in self.new) (in_note_at (constant_at levels) (inside_start_at own.now levels (expression_at own.now levels) (start_at own.now levels)) (state_in self.old)) }
+    fn start_in_note(
+        &mut self,
+        own: &Atom,
+        levels: u16,
+        subject: Subject,
+    ) -> Result<Start, ReadFault>
+        ensures { MovesUnlessMemory start_of result (state_in self.new) (in_note_at (constant_at levels) (inside_start_at own.now levels (expression_at own.now levels) (start_at own.now levels subject)) (state_in self.old)) }
     {
-        let start = self.inside_start(own, levels)?;
+        let start = self.inside_start(own, levels, subject)?;
         self.parser.note(levels).and(Ok(start))
     }
 
     /// A start of a clause in the parentheses of an annotation, whose parts stand at so many levels.
     #[cycle(expressions)]
     #[tactic(auto, unfolding(core_grammar::specs::inside::DecoderForms::noted_start_at))]
-    fn noted_start(&mut self, own: &Atom, levels: u16) -> Result<Start, ReadFault>
-        ensures { MovesUnlessMemory start_of result (state_in self.new) (noted_start_at own.now levels (expression_at own.now levels) (start_at own.now levels) (state_in self.old)) }
+    fn noted_start(&mut self, own: &Atom, levels: u16, subject: Subject) -> Result<Start, ReadFault>
+        ensures { MovesUnlessMemory start_of result (state_in self.new) (noted_start_at own.now levels (expression_at own.now levels) (start_at own.now levels subject) (state_in self.old)) }
     {
-        let start = self.start_in_note(own, levels)?;
+        let start = self.start_in_note(own, levels, subject)?;
         Ok(self.aliased(own, levels, start)?)
+    }
+
+    /// What stands after the angle of patterns: any number of them for values, one for a message.
+    #[tactic(auto, unfolding(core_grammar::specs::inside::DecoderForms::angles_at, core_grammar::specs::inside::Decoder::exactly_at))]
+    fn angles(&mut self, levels: u16, subject: Subject) -> Result<Vec<Pattern>, ReadFault>
+        ensures { MovesUnlessMemory (λ v. map pattern_of v.items) result (state_in self.new) (angles_at levels subject (state_in self.old)) }
+    {
+        match subject {
+            Subject::Values => Ok(self.parser.patterns(levels, Mark::Greater)?),
+            Subject::Message => {
+                let pattern = self.parser.pattern(levels)?;
+                self.parser.mark(Mark::Greater)?;
+                Ok(one_pattern(self.parser.alloc, pattern)?)
+            }
+        }
     }
 
     /// Patterns that no parenthesis stands before.
     #[tactic(auto, unfolding(core_grammar::specs::inside::DecoderForms::bare_start_at))]
-    fn bare_start(&mut self, levels: u16) -> Result<Start, ReadFault>
-        ensures { MovesUnlessMemory start_of result (state_in self.new) (bare_start_at levels (state_in self.old)) }
+    fn bare_start(&mut self, levels: u16, subject: Subject) -> Result<Start, ReadFault>
+        ensures { MovesUnlessMemory start_of result (state_in self.new) (bare_start_at levels subject (state_in self.old)) }
     {
         if self.parser.skip_mark(Mark::Less) {
-            return Ok(Start::Many(self.parser.patterns(levels, Mark::Greater)?));
+            return Ok(Start::Many(self.angles(levels, subject)?));
         }
         Ok(Start::One(self.parser.pattern(levels)?))
     }
 
     /// What a clause begins with, annotated in at most so many levels.
     #[cycle(expressions)]
-    fn start(&mut self, own: &Atom, levels: u16) -> Result<Start, ReadFault>
-        ensures { MovesUnlessMemory start_of result (state_in self.new) (start_at own.now levels (state_in self.old)) }
+    fn start(&mut self, own: &Atom, levels: u16, subject: Subject) -> Result<Start, ReadFault>
+        ensures { MovesUnlessMemory start_of result (state_in self.new) (start_at own.now levels subject (state_in self.old)) }
     {
         if !self.parser.opens_note(levels)? {
-            return Ok(self.bare_start(levels)?);
+            return Ok(self.bare_start(levels, subject)?);
         }
-        Ok(self.noted_start(own, levels - 1)?)
+        Ok(self.noted_start(own, levels - 1, subject)?)
     }
 
     /// A clause whose parts have at most so many levels.
     #[cycle(expressions)]
     #[tactic(auto, unfolding(core_grammar::specs::inside::DecoderForms::clause_at))]
-    fn clause(&mut self, own: &Atom, levels: u16) -> Result<Clause, ReadFault>
-        ensures { MovesUnlessMemory (λ c. c) result (state_in self.new) (clause_at own.now levels (expression_at own.now levels) (start_at own.now levels) (state_in self.old)) }
+    fn clause(&mut self, own: &Atom, levels: u16, subject: Subject) -> Result<Clause, ReadFault>
+        ensures { MovesUnlessMemory (λ c. c) result (state_in self.new) (clause_at own.now levels (expression_at own.now levels) (start_at own.now levels) subject (state_in self.old)) }
     {
-        let start = self.start(own, levels)?;
+        let start = self.start(own, levels, subject)?;
         Ok(self.clause_of(own, levels, start)?)
     }
 
-    /// The clauses as far as the `end`, of which the first was read before.
+    /// The clauses as far as the keyword after them, of which these were read before.
     #[cycle(expressions)]
-    fn clauses(&mut self, own: &Atom, levels: u16, first: Clause) -> Result<Vec<Clause>, ReadFault>
-        ensures { MovesUnlessMemory (λ v. v.items) result (state_in self.new) (clauses_at own.now levels (expression_at own.now levels) (start_at own.now levels) first (state_in self.old)) }
+    fn clauses(
+        &mut self,
+        own: &Atom,
+        levels: u16,
+        subject: Subject,
+        front: Vec<Clause>,
+    ) -> Result<Vec<Clause>, ReadFault>
+        ensures { MovesUnlessMemory (λ v. v.items) result (state_in self.new) (clauses_at own.now levels (expression_at own.now levels) (start_at own.now levels) subject front.items (state_in self.old)) }
     {
-        let mut clauses = Vec::new(self.parser.alloc);
-        clauses.push(first)?;
+        let mut clauses = front;
         let count = self.parser.tokens.len();
         'clauses: for _taken in 0..count {
-            if self.parser.is_at_word(Keyword::End) {
+            if self.parser.is_at_word(subject.word_behind()) {
                 return Ok(clauses);
             }
-            clauses.push(self.clause(own, levels)?)?;
+            clauses.push(self.clause(own, levels, subject)?)?;
         }
         Err(self.parser.fault())
     }
@@ -196,8 +256,9 @@ impl<'a> FormReader<'a> {
         ensures { MovesUnlessMemory (λ v. v.items) result (state_in self.new) (choices_at own.now levels (expression_at own.now levels) (start_at own.now levels) (state_in self.old)) }
     {
         self.parser.word(Keyword::Of)?;
-        let first = self.clause(own, levels)?;
-        let clauses = self.clauses(own, levels, first)?;
+        let first = self.clause(own, levels, Subject::Values)?;
+        let front = one_clause(self.parser.alloc, first)?;
+        let clauses = self.clauses(own, levels, Subject::Values, front)?;
         self.parser.word(Keyword::End)?;
         Ok(clauses)
     }
@@ -210,5 +271,28 @@ impl<'a> FormReader<'a> {
         let value = self.expression(own, levels)?;
         let clauses = self.choices(own, levels)?;
         Ok(case_of(self.parser.alloc, at, value, clauses)?)
+    }
+
+    /// The timeout of a `receive`, and what is done then.
+    #[cycle(expressions)]
+    #[tactic(auto, unfolding(core_grammar::specs::inside::DecoderForms::expiry_at))]
+    fn expiry(&mut self, own: &Atom, levels: u16) -> Result<(Expr, Expr), ReadFault>
+        ensures { MovesUnlessMemory (λ p. (tree_of p.0, tree_of p.1)) result (state_in self.new) (expiry_at own.now levels (expression_at own.now levels) (state_in self.old)) }
+    {
+        self.parser.word(Keyword::After)?;
+        let timeout = self.expression(own, levels)?;
+        let action = self.body(own, levels)?;
+        Ok((timeout, action))
+    }
+
+    /// What stands after the `receive` at `at`.
+    #[cycle(expressions)]
+    pub(crate) fn receive(&mut self, own: &Atom, levels: u16, at: usize) -> Result<Expr, ReadFault>
+        ensures { MovesUnlessMemory tree_of result (state_in self.new) (receive_at own.now levels (expression_at own.now levels) (start_at own.now levels) at (state_in self.old)) }
+    {
+        let front = Vec::new(self.parser.alloc);
+        let clauses = self.clauses(own, levels, Subject::Message, front)?;
+        let (timeout, action) = self.expiry(own, levels)?;
+        Ok(receive_of(self.parser.alloc, at, clauses, timeout, action)?)
     }
 }

@@ -181,6 +181,7 @@ impl<'a> FormReader<'a> {
             Keyword::Primop => Ok(self.primop(own, levels, at)?),
             Keyword::Try => Ok(self.try_in(own, levels, at)?),
             Keyword::Catch => Ok(self.catch(own, levels, at)?),
+            Keyword::Receive => Ok(self.receive(own, levels, at)?),
             _ => Err(fault),
         }
     }

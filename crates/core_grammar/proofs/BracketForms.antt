@@ -1,6 +1,8 @@
 -- What is read as an expression or a clause has no comma outside of its brackets, and closes each of them.
 use Rattle.std.proofs.Common.{◌≡◌, ℕ, zero, suc, true, List, [], ◌∷◌, length, Option, Some, None, Ok, refl, ap, ◌∙◌}
 use Rattle.core_tokens.specs.declared.token.Mark.TheVariants as m
+use Rattle.core_grammar.specs.declared.subject.Subject.{Subject}
+use Rattle.core_grammar.specs.declared.subject.Subject.TheVariants as subjects
 use Rattle.core_tokens.specs.declared.token.Keyword.TheVariants as k
 use Rattle.core_tokens.specs.Piece.{Piece, Shape}
 use Rattle.core_tokens.specs.Piece as lexemes
@@ -10,7 +12,7 @@ use Rattle.core_grammar.specs.declared.unserved.Unserved.{Unserved}
 use Rattle.core_grammar.specs.declared.unserved.Unserved.TheVariants as unserved
 use Rattle.core_grammar.specs.Arguments.{commas}
 use Rattle.core_grammar.specs.inside.Decoder.{State, Read, with_pieces, after_mark, after_word, constant_at, alias_by, alias_at, pattern_at}
-use Rattle.core_grammar.specs.inside.DecoderForms.{callee_named, operation_named, refuse, judged, name_by, Start, OnePattern, ManyPatterns, WholeClause, tuple_at, list_at, values_at, let_at, do_at, apply_at, call_at, primop_at, try_at, catch_at, behind_patterns_at, clause_of, start_by, started, inside_start_at, aliased, noted_start_at, bare_start_by, bare_start_at, start_last, start_next, clause_at, case_at, form_by, form_of, form_at, expression_at, start_at}
+use Rattle.core_grammar.specs.inside.DecoderForms.{callee_named, operation_named, refuse, judged, name_by, Start, OnePattern, ManyPatterns, WholeClause, tuple_at, list_at, values_at, let_at, do_at, apply_at, call_at, primop_at, try_at, catch_at, behind_patterns_at, clause_of, start_by, started, inside_start_at, aliased, noted_start_at, angles_at, bare_start_by, bare_start_at, start_last, start_next, clause_at, case_at, receive_at, form_by, form_of, form_at, expression_at, start_at}
 use Rattle.core_grammar.proofs.Steps.{bind_ok, after_mark_found, mark_steps, word_steps, atom_steps}
 use Rattle.core_grammar.proofs.BracketSteps.{Walks, WalksOut, stepped, ends, variables_walk, caught_walks, pattern_walks, applied_walks, callee_walks, in_note_walks, closed_walks, brackets_walk, exactly_walks, rows_walk}
 
@@ -175,11 +177,13 @@ module _ (own : List ℕ) (n : ℕ) (inner : State → Read Tree) (walks : Walks
         let x = bind_ok _ _ _ e in
         in_note_walks n (inside_start_at own n inner start) inside_start_walks s x.0.0 x.0.1 x.1 d ∙ aliased_walks x.0.0 x.0.1 y t x.2 d
 
-    clause_walks : Walks (clause_at own n inner start)
+  -- clauses of a `case` and of a `receive`, each with its own starts
+  module _ (start : Subject → State → Read Start) (starts : (subject : Subject) → Walks (start subject)) where
+    clause_walks : (subject : Subject) → Walks (clause_at own n inner start subject)
     unfolding clause_at
-    clause_walks s c t e d =
+    clause_walks subject s c t e d =
         let x = bind_ok _ _ _ e in
-        starts s x.0.0 x.0.1 x.1 d ∙ clause_of_walks x.0.0 x.0.1 c t x.2 d
+        starts subject s x.0.0 x.0.1 x.1 d ∙ clause_of_walks x.0.0 x.0.1 c t x.2 d
 
     case_walks : (at : ℕ) → Walks (case_at own n inner start at)
     unfolding case_at
@@ -189,8 +193,19 @@ module _ (own : List ℕ) (n : ℕ) (inner : State → Read Tree) (walks : Walks
         let f = bind_ok _ _ _ a.2 in
         let g = bind_ok _ _ _ f.2 in
         let b = bind_ok _ _ _ g.2 in
-        walks s x.0.0 x.0.1 x.1 d ∙ stepped (word_steps k.Of x.0.1 a.0 a.1) d ∙ clause_walks a.0 f.0.0 f.0.1 f.1 d ∙ rows_walk (clause_at own n inner start) clause_walks f.0.1 g.0.0 g.0.1 g.1 d
+        walks s x.0.0 x.0.1 x.1 d ∙ stepped (word_steps k.Of x.0.1 a.0 a.1) d ∙ clause_walks subjects.Values a.0 f.0.0 f.0.1 f.1 d ∙ rows_walk (clause_at own n inner start subjects.Values) (clause_walks subjects.Values) k.End f.0.1 g.0.0 g.0.1 g.1 d
         ∙ stepped (word_steps k.End g.0.1 b.0 b.1) d ∙ ends _ _ _ _ b.2 d
+
+    receive_walks : (at : ℕ) → Walks (receive_at own n inner start at)
+    unfolding receive_at
+    receive_walks at s c t e d =
+        let f = bind_ok _ _ _ e in
+        let a = bind_ok _ _ _ f.2 in
+        let x = bind_ok _ _ _ a.2 in
+        let b = bind_ok _ _ _ x.2 in
+        let y = bind_ok _ _ _ b.2 in
+        rows_walk (clause_at own n inner start subjects.Message) (clause_walks subjects.Message) k.After s f.0.0 f.0.1 f.1 d ∙ stepped (word_steps k.After f.0.1 a.0 a.1) d ∙ walks a.0 x.0.0 x.0.1 x.1 d
+        ∙ stepped (mark_steps m.Arrow x.0.1 b.0 b.1) d ∙ walks b.0 y.0.0 y.0.1 y.1 d ∙ ends _ _ _ _ y.2 d
 
     form_by_walks : (at : ℕ) (shape : Shape) (ps : List Piece) (s : State) (c : Tree) (t : State) → form_by own n inner start at shape ps s ≡ Ok (c, t) → (d : ℕ) → commas d (record { at = at; shape = shape } ∷ ps) ≡ commas d t.pieces
     form_by_walks at (lexemes.Integer i) ps s c t e d = ends _ _ (with_pieces s ps) _ e d
@@ -210,6 +225,7 @@ module _ (own : List ℕ) (n : ℕ) (inner : State → Read Tree) (walks : Walks
     form_by_walks at (lexemes.Word k.Primop) ps s c t e d = primop_walks at (with_pieces s ps) c t e d
     form_by_walks at (lexemes.Word k.Try) ps s c t e d = try_walks at (with_pieces s ps) c t e d
     form_by_walks at (lexemes.Word k.Catch) ps s c t e d = catch_walks at (with_pieces s ps) c t e d
+    form_by_walks at (lexemes.Word k.Receive) ps s c t e d = receive_walks at (with_pieces s ps) c t e d
     form_by_walks at shape ps s c t e d = absurd cc
 
     form_of_walks : (ps : List Piece) (s : State) (c : Tree) (t : State) → form_of own n inner start ps s ≡ Ok (c, t) → (d : ℕ) → commas d ps ≡ commas d t.pieces
@@ -220,37 +236,45 @@ module _ (own : List ℕ) (n : ℕ) (inner : State → Read Tree) (walks : Walks
     unfolding form_at
     form_walks s c t e d = form_of_walks s.pieces s c t e d
 
-bare_start_by_walks : (n : ℕ) (o : Option (List Piece)) (s : State) (x : Start) (t : State) → after_mark m.Less s.pieces ≡ o → bare_start_by n o s ≡ Ok (x, t) → (d : ℕ) → commas d s.pieces ≡ commas d t.pieces
-bare_start_by_walks n (Some ps) s x t is e d =
+angles_walk : (n : ℕ) (subject : Subject) → WalksOut (angles_at n subject)
+unfolding angles_at
+angles_walk n subjects.Values s qs t e d = closed_walks (pattern_at n) (pattern_walks n) m.Greater refl s qs t e d
+angles_walk n subjects.Message s qs t e d =
+    let a = bind_ok _ _ _ e in
+    let b = bind_ok _ _ _ a.2 in
+    exactly_walks (pattern_at n) (pattern_walks n) true 1 s a.0.0 a.0.1 a.1 d ∙ stepped (mark_steps m.Greater a.0.1 b.0 b.1) (suc d) ∙ ends _ _ _ _ b.2 d
+
+bare_start_by_walks : (n : ℕ) (subject : Subject) (o : Option (List Piece)) (s : State) (x : Start) (t : State) → after_mark m.Less s.pieces ≡ o → bare_start_by n subject o s ≡ Ok (x, t) → (d : ℕ) → commas d s.pieces ≡ commas d t.pieces
+bare_start_by_walks n subject (Some ps) s x t is e d =
     let f = after_mark_found m.Less s.pieces ps is in
     let a = bind_ok _ _ _ e in
-    ap (commas d) f.1 ∙ closed_walks (pattern_at n) (pattern_walks n) m.Greater refl (with_pieces s ps) a.0.0 a.0.1 a.1 d ∙ ends _ _ _ _ a.2 d
-bare_start_by_walks n None s x t is e d =
+    ap (commas d) f.1 ∙ angles_walk n subject (with_pieces s ps) a.0.0 a.0.1 a.1 d ∙ ends _ _ _ _ a.2 d
+bare_start_by_walks n subject None s x t is e d =
     let a = bind_ok _ _ _ e in
     pattern_walks n s a.0.0 a.0.1 a.1 d ∙ ends _ _ _ _ a.2 d
 
-bare_start_walks : (n : ℕ) → Walks (bare_start_at n)
+bare_start_walks : (n : ℕ) (subject : Subject) → Walks (bare_start_at n subject)
 unfolding bare_start_at
-bare_start_walks n s x t e d = bare_start_by_walks n (after_mark m.Less s.pieces) s x t refl e d
+bare_start_walks n subject s x t e d = bare_start_by_walks n subject (after_mark m.Less s.pieces) s x t refl e d
 
-start_last_walks : (o : Option (List Piece)) → Walks (start_last o)
-start_last_walks (Some ps) s x t e d = absurd cc
-start_last_walks None s x t e d = bare_start_walks 0 s x t e d
+start_last_walks : (subject : Subject) (o : Option (List Piece)) → Walks (start_last subject o)
+start_last_walks subject (Some ps) s x t e d = absurd cc
+start_last_walks subject None s x t e d = bare_start_walks 0 subject s x t e d
 
 module _ (own : List ℕ) where
-  start_next_walks : (n : ℕ) → Walks (expression_at own n) → Walks (start_at own n) → (o : Option (List Piece)) (s : State) (x : Start) (t : State) → after_mark m.LeftParenthesis s.pieces ≡ o
-      → start_next own n (expression_at own n) (start_at own n) o s ≡ Ok (x, t) → (d : ℕ) → commas d s.pieces ≡ commas d t.pieces
-  start_next_walks n walks starts (Some ps) s x t is e d =
+  start_next_walks : (n : ℕ) (subject : Subject) → Walks (expression_at own n) → Walks (start_at own n subject) → (o : Option (List Piece)) (s : State) (x : Start) (t : State) → after_mark m.LeftParenthesis s.pieces ≡ o
+      → start_next own n subject (expression_at own n) (start_at own n subject) o s ≡ Ok (x, t) → (d : ℕ) → commas d s.pieces ≡ commas d t.pieces
+  start_next_walks n subject walks starts (Some ps) s x t is e d =
       let f = after_mark_found m.LeftParenthesis s.pieces ps is in
-      ap (commas d) f.1 ∙ noted_start_walks own n (expression_at own n) walks (start_at own n) starts (with_pieces s ps) x t e d
-  start_next_walks n walks starts None s x t is e d = bare_start_walks (suc n) s x t e d
+      ap (commas d) f.1 ∙ noted_start_walks own n (expression_at own n) walks (start_at own n subject) starts (with_pieces s ps) x t e d
+  start_next_walks n subject walks starts None s x t is e d = bare_start_walks (suc n) subject s x t e d
 
-  both_walk : (n : ℕ) → Walks (expression_at own n) × Walks (start_at own n)
+  both_walk : (n : ℕ) → Walks (expression_at own n) × ((subject : Subject) → Walks (start_at own n subject))
   unfolding expression_at start_at
-  both_walk zero = (λ s c t e d. absurd cc, λ s x t e d. start_last_walks (after_mark m.LeftParenthesis s.pieces) s x t e d)
+  both_walk zero = (λ s c t e d. absurd cc, λ subject s x t e d. start_last_walks subject (after_mark m.LeftParenthesis s.pieces) s x t e d)
   both_walk (suc n) =
       let h = both_walk n in
-      (λ s c t e d. form_walks own n (expression_at own n) h.0 (start_at own n) h.1 s c t e d, λ s x t e d. start_next_walks n h.0 h.1 (after_mark m.LeftParenthesis s.pieces) s x t refl e d)
+      (λ s c t e d. form_walks own n (expression_at own n) h.0 (start_at own n) h.1 s c t e d, λ subject s x t e d. start_next_walks n subject h.0 (h.1 subject) (after_mark m.LeftParenthesis s.pieces) s x t refl e d)
 
   pub expression_walks : (n : ℕ) → Walks (expression_at own n)
   expression_walks n = (both_walk n).0

@@ -2,7 +2,7 @@
 use Rattle.std.proofs.Common.{◌≡◌, ℕ, zero, suc, Bool, true, false, cond, List, [], ◌∷◌, length, Option, Some, None, Ok, refl, sym, ap, ◌∙◌, subst}
 use Rattle.core_tokens.specs.declared.token.Mark.{Mark}
 use Rattle.core_tokens.specs.declared.token.Mark.TheVariants as m
-use Rattle.core_tokens.specs.declared.token.Keyword.TheVariants as k
+use Rattle.core_tokens.specs.declared.token.Keyword.{Keyword}
 use Rattle.core_tokens.specs.Piece.{Piece, Shape}
 use Rattle.core_tokens.specs.Piece as lexemes
 use Rattle.core_tree.specs.Syntax.{Constant, Pattern}
@@ -213,21 +213,21 @@ module _ {X : Type 0} (item : State → Read X) (walks : Walks item) where
       let b = bind_ok _ _ _ a.2 in
       comma_walks first s c.0 c.1 d ∙ walks c.0 a.0.0 a.0.1 c.2 (suc d) ∙ exactly_walks false n a.0.1 b.0.0 b.0.1 b.1 d ∙ ends _ _ _ _ b.2 (suc d)
 
-  row_by_walks : (n : ℕ) (o : Option (List Piece)) → Walks (row_at item n) → Walks (row_by item (row_at item n) o)
-  row_by_walks n (Some ps) again s xs t e d = ends _ _ _ _ e d
-  row_by_walks n None again s xs t e d =
+  row_by_walks : (close : Keyword) (n : ℕ) (o : Option (List Piece)) → Walks (row_at item close n) → Walks (row_by item (row_at item close n) o)
+  row_by_walks close n (Some ps) again s xs t e d = ends _ _ _ _ e d
+  row_by_walks close n None again s xs t e d =
       let a = bind_ok _ _ _ e in
       let b = bind_ok _ _ _ a.2 in
       walks s a.0.0 a.0.1 a.1 d ∙ again a.0.1 b.0.0 b.0.1 b.1 d ∙ ends _ _ _ _ b.2 d
 
-  row_walks : (n : ℕ) → Walks (row_at item n)
+  row_walks : (close : Keyword) (n : ℕ) → Walks (row_at item close n)
   unfolding row_at
-  row_walks zero s xs t e d = absurd cc
-  row_walks (suc n) s xs t e d = row_by_walks n (after_word k.End s.pieces) (row_walks n) s xs t e d
+  row_walks close zero s xs t e d = absurd cc
+  row_walks close (suc n) s xs t e d = row_by_walks close n (after_word close s.pieces) (row_walks close n) s xs t e d
 
-  pub rows_walk : Walks (rows_at item)
+  pub rows_walk : (close : Keyword) → Walks (rows_at item close)
   unfolding rows_at
-  rows_walk s xs t e d = row_walks (length s.pieces) s xs t e d
+  rows_walk close s xs t e d = row_walks close (length s.pieces) s xs t e d
 
   -- ---- the number of items
 

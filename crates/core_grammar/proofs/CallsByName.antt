@@ -9,7 +9,7 @@ use Rattle.core_tree.specs.declared.call.CallKind.{CallKind}
 use Rattle.core_tree.specs.declared.call.CallKind.TheVariants as kinds
 use Rattle.core_tree.specs.declared.pure.PureCall.{PureCall}
 use Rattle.core_tree.specs.declared.pure.PureCall.TheVariants as pures
-use Rattle.core_tree.specs.Calls.{Signature, signature, calls, has_signature, first_with, call_with, IsRead}
+use Rattle.core_tree.specs.Calls.{Signature, signature, calls, has_signature, first_with, call_with}
 use Rattle.core_tree.specs.CallCodes.{number_of_call, call_of_number-number_of_call}
 use Rattle.core_tree.specs.PureCalls.{pure_signature, pure_calls, pure_call_with}
 use Rattle.core_tree.specs.CallCodes.{number_of_pure, pure_of_number-number_of_pure}
@@ -17,7 +17,7 @@ use Rattle.core_tree.specs.Syntax.{Callee}
 use Rattle.core_tree.specs.Callee as callees
 use Rattle.core_grammar.specs.Grammar.{IsUnlisted, Calls, calls_world, calls_itself, calls_export, Operates, fails_match, raises_again}
 use Rattle.term_core.specs.Kinds.{same_text}
-use Rattle.core_grammar.specs.inside.DecoderForms.{is_read, export_called, unlisted_called, callee_by, callee_named, operation_named}
+use Rattle.core_grammar.specs.inside.DecoderForms.{export_called, unlisted_called, callee_by, callee_named, operation_named}
 
 -- ---- the first that passes a test
 
@@ -108,12 +108,6 @@ no_pure_is a f n e kind =
 
 -- ---- what is found is called
 
-read_is : (kind : CallKind) → is_read kind ≡ true → IsRead kind
-read_is kinds.New e = tt
-read_is kinds.Insert e = tt
-read_is kinds.Lookup e = tt
-read_is kind e = absurd cc
-
 is_some_callee : (b : Bool) (x y : Callee) → cond b (Some x) None ≡ Some y → (b ≡ true) × (x ≡ y)
 is_some_callee true x y e = (refl, cc)
 is_some_callee false x y e = absurd cc
@@ -136,9 +130,9 @@ unlisted_found own a f n None callee none is e = export_found own a f n callee (
 
 callee_by_found : (own a f : List ℕ) (n : ℕ) (o : Option CallKind) (callee : Callee) → call_with a f n ≡ o → callee_by own a f n o ≡ Some callee → Calls own (signed a f n) callee
 callee_by_found own a f n (Some kind) callee is e =
-    let h = is_some_callee (is_read kind) (callees.World kind) callee e in
-    let made : Calls own (signature kind) (callees.World kind) = calls_world (read_is kind h.0) in
-    subst (λ (c : Callee). Calls own (signed a f n) c) h.1 (subst (λ (s : Signature). Calls own s (callees.World kind)) (call_is a f n kind is) made)
+    let same : callees.World kind ≡ callee = some_is (callees.World kind) callee e in
+    let made : Calls own (signature kind) (callees.World kind) = calls_world in
+    subst (λ (c : Callee). Calls own (signed a f n) c) same (subst (λ (s : Signature). Calls own s (callees.World kind)) (call_is a f n kind is) made)
 callee_by_found own a f n None callee is e = unlisted_found own a f n (pure_call_with a f n) callee is refl e
 
 pub callee_found : (own a f : List ℕ) (n : ℕ) (callee : Callee) → callee_named own a f n ≡ Some callee → Calls own (signed a f n) callee
@@ -166,12 +160,46 @@ operation_found t n callee e = by (same_text t (codes "match_fail") && n == 1) r
 
 -- ---- what is called is found
 
-read_again : (kind : CallKind) → IsRead kind → (own : List ℕ) → callee_named own (signature kind).module_name (signature kind).function_name (signature kind).arity ≡ Some (callees.World kind)
+world_again : (kind : CallKind) (own : List ℕ) → callee_named own (signature kind).module_name (signature kind).function_name (signature kind).arity ≡ Some (callees.World kind)
 unfolding callee_named call_with
-read_again kinds.New h own = refl
-read_again kinds.Insert h own = refl
-read_again kinds.Lookup h own = refl
-read_again kind h own = absurd h
+world_again kinds.Spawn own = refl
+world_again kinds.SpawnLink own = refl
+world_again kinds.SpawnMonitor own = refl
+world_again kinds.Bang own = refl
+world_again kinds.Send own = refl
+world_again kinds.Exit own = refl
+world_again kinds.Link own = refl
+world_again kinds.Unlink own = refl
+world_again kinds.Monitor own = refl
+world_again kinds.Demonitor own = refl
+world_again kinds.DemonitorWith own = refl
+world_again kinds.ProcessFlag own = refl
+world_again kinds.Register own = refl
+world_again kinds.Unregister own = refl
+world_again kinds.Whereis own = refl
+world_again kinds.IsProcessAlive own = refl
+world_again kinds.MakeRef own = refl
+world_again kinds.New own = refl
+world_again kinds.Lookup own = refl
+world_again kinds.Member own = refl
+world_again kinds.LookupElement own = refl
+world_again kinds.First own = refl
+world_again kinds.Last own = refl
+world_again kinds.Next own = refl
+world_again kinds.Prev own = refl
+world_again kinds.TableToList own = refl
+world_again kinds.Insert own = refl
+world_again kinds.InsertNew own = refl
+world_again kinds.DeleteTable own = refl
+world_again kinds.DeleteKey own = refl
+world_again kinds.DeleteObject own = refl
+world_again kinds.DeleteAllObjects own = refl
+world_again kinds.Take own = refl
+world_again kinds.UpdateCounter own = refl
+world_again kinds.UpdateElement own = refl
+world_again kinds.GiveAway own = refl
+world_again kinds.SetOptions own = refl
+world_again kinds.Info own = refl
 
 pure_again : (kind : PureCall) (own : List ℕ) → callee_named own (pure_signature kind).module_name (pure_signature kind).function_name (pure_signature kind).arity ≡ Some (callees.Pure kind)
 unfolding callee_named call_with pure_call_with
@@ -246,7 +274,7 @@ export_again own f n small new =
     rw (one, two, bytes_own own, less_again n 256 small) refl
 
 pub callee_again : (own : List ℕ) (s : Signature) (callee : Callee) → Calls own s callee → callee_named own s.module_name s.function_name s.arity ≡ Some callee
-callee_again own s callee (calls_world {kind = kind} h) = read_again kind h own
+callee_again own s callee (calls_world {kind = kind}) = world_again kind own
 callee_again own s callee (calls_itself {kind = kind}) = pure_again kind own
 callee_again own s callee (calls_export {function_name = f} {arity = n} small new) = export_again own f n small new
 

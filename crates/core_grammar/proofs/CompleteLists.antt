@@ -5,7 +5,6 @@ use Rattle.std.proofs.lemmas.Bool.Decides.{nat_tests}
 use Rattle.core_tokens.specs.declared.token.Mark.{Mark}
 use Rattle.core_tokens.specs.declared.token.Mark.TheVariants as m
 use Rattle.core_tokens.specs.declared.token.Keyword.{Keyword}
-use Rattle.core_tokens.specs.declared.token.Keyword.TheVariants as k
 use Rattle.core_tokens.specs.Piece.{Piece}
 use Rattle.core_grammar.specs.Grammar.{mark, word, atom, Commas, spells_one, spells_next, Enclosed, spells_none, spells_some, Row, ends_here, goes_on}
 use Rattle.core_grammar.specs.inside.Decoder.{State, Read, mark_number, word_number, after_mark, after_word, mark_at, word_at, atom_at, commas_at, items_at, closed_at, brackets_at, exactly_at, row_at, rows_at}
@@ -132,23 +131,23 @@ module _ {X : Type 0} (item : State → Read X) (Item : List Piece → X → Lis
 
 -- ---- items one behind the other
 
--- no item begins with `end`
-abbrev pub BeginsNoEnd : {X : Type 0} → (List Piece → X → List Piece → Type 0) → Type 0
-BeginsNoEnd {X = X} Item = (ps : List Piece) (x : X) (rest : List Piece) → Item ps x rest → after_word k.End ps ≡ None
+-- no item begins with a keyword
+abbrev pub BeginsNoWord : {X : Type 0} → (List Piece → X → List Piece → Type 0) → Type 0
+BeginsNoWord {X = X} Item = (close : Keyword) (ps : List Piece) (x : X) (rest : List Piece) → Item ps x rest → after_word close ps ≡ None
 
-module _ {X : Type 0} (item : State → Read X) (Item : List Piece → X → List Piece → Type 0) (each : Complete item Item) (takes : TakesOne Item) (begins : BeginsNoEnd Item) where
-  row_complete : (n stop : ℕ) (ps : List Piece) (xs : List X) (at : ℕ) (rest more : List Piece) → length ps ≤ n → rest ≡ word at k.End ∷ more → Row Item ps xs rest → row_at item n (start stop ps) ≡ Ok (xs, start stop rest)
+module _ {X : Type 0} (item : State → Read X) (Item : List Piece → X → List Piece → Type 0) (each : Complete item Item) (takes : TakesOne Item) (begins : BeginsNoWord Item) (close : Keyword) where
+  row_complete : (n stop : ℕ) (ps : List Piece) (xs : List X) (at : ℕ) (rest more : List Piece) → length ps ≤ n → rest ≡ word at close ∷ more → Row Item ps xs rest → row_at item close n (start stop ps) ≡ Ok (xs, start stop rest)
   unfolding row_at
   row_complete zero stop ps xs at rest more le is ends_here = let long : length rest ≡ suc (length more) = ap length is in absurd (omega (arith, le, long))
   row_complete zero stop ps xs at rest more le is (goes_on {more = us} {x = x} h g) = absurd (omega (arith, takes ps x us h))
-  row_complete (suc n) stop ps xs at rest more le is ends_here = rw is refl
+  row_complete (suc n) stop ps xs at rest more le is ends_here = rw (is, number_own (word_number close)) refl
   row_complete (suc n) stop ps xs at rest more le is (goes_on {more = us} {x = x} {xs = ys} h g) =
       let short : length us ≤ n = omega (arith, takes ps x us h) in
-      rw (begins ps x us h, each stop ps x us h, row_complete n stop us ys at rest more short is g) refl
+      rw (begins close ps x us h, each stop ps x us h, row_complete n stop us ys at rest more short is g) refl
 
-  pub rows_complete : (stop : ℕ) (ps : List Piece) (xs : List X) (at : ℕ) (more : List Piece) → Row Item ps xs (word at k.End ∷ more) → rows_at item (start stop ps) ≡ Ok (xs, start stop (word at k.End ∷ more))
+  pub rows_complete : (stop : ℕ) (ps : List Piece) (xs : List X) (at : ℕ) (more : List Piece) → Row Item ps xs (word at close ∷ more) → rows_at item close (start stop ps) ≡ Ok (xs, start stop (word at close ∷ more))
   unfolding rows_at
-  rows_complete stop ps xs at more h = row_complete (length ps) stop ps xs at (word at k.End ∷ more) more (omega arith) refl h
+  rows_complete stop ps xs at more h = row_complete (length ps) stop ps xs at (word at close ∷ more) more (omega arith) refl h
 
 -- a row takes no tokens before its own
 pub row_take : {X : Type 0} (Item : List Piece → X → List Piece → Type 0) → TakesOne Item → (ps : List Piece) (xs : List X) (rest : List Piece) → Row Item ps xs rest → length rest ≤ length ps

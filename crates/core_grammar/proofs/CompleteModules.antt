@@ -8,8 +8,8 @@ use Rattle.core_grammar.specs.Grammar.{mark, word, atom, in_note, stands_bare, s
 use Rattle.core_grammar.specs.inside.Decoder.{after_mark, mark_at, word_at, atom_at, constant_at, noted_at, function_name_at, variable_at}
 use Rattle.core_grammar.specs.inside.DecoderModules.{attribute_at, bare_fun_at, fun_at, behind_name_at, TheName, WholeDefinition, inside_opening_at, bare_opening_at, opening_at, definition_at, front_at, bare_module_at, module_at}
 use Rattle.core_grammar.specs.Whole.{start}
-use Rattle.core_grammar.proofs.CompleteLists.{Complete, TakesOne, closing_bracket, BeginsElse, BeginsNoEnd, enclosed_take, closed_complete, exactly_complete, rows_complete}
-use Rattle.core_grammar.proofs.CompleteNames.{in_note_complete, NoteFront, note_front, constant_takes, constant_begins, constant_complete, BeginsBare, noted_takes, noted_begins_no_end, noted_complete, bare_name_complete, bare_name_begins_bare, bare_name_begins_no_end, function_name_complete, function_name_takes, function_name_begins, variable_complete, variable_takes, variable_begins}
+use Rattle.core_grammar.proofs.CompleteLists.{Complete, TakesOne, closing_bracket, BeginsElse, BeginsNoWord, enclosed_take, closed_complete, exactly_complete, rows_complete}
+use Rattle.core_grammar.proofs.CompleteNames.{in_note_complete, NoteFront, note_front, constant_takes, constant_begins, constant_complete, BeginsBare, noted_takes, noted_begins_no_word, noted_complete, bare_name_complete, bare_name_begins_bare, bare_name_begins_no_word, function_name_complete, function_name_takes, function_name_begins, variable_complete, variable_takes, variable_begins}
 use Rattle.core_grammar.proofs.CompleteForms.{expression_takes, expression_complete}
 
 attribute_takes : (n : ℕ) → TakesOne (Attribute (ConstantIn n))
@@ -103,11 +103,11 @@ bare_definition_takes own n ps d rest (a_definition {p1 = p1} {at = at} {named =
 definition_takes : (own : List ℕ) (n : ℕ) → TakesOne (Definition own n)
 definition_takes own n ps d rest h = noted_takes (BareDefinition own) (bare_definition_takes own) n ps d rest h
 
-bare_definition_begins : (own : List ℕ) (n : ℕ) → BeginsNoEnd (BareDefinition own n)
-bare_definition_begins own n ps d rest (a_definition {p1 = p1} {at = at} {named = named} h i count) = noted_begins_no_end (λ _. BareName) (λ _. bare_name_begins_no_end) n ps named (mark at m.Equals ∷ p1) h
+bare_definition_begins : (own : List ℕ) (n : ℕ) → BeginsNoWord (BareDefinition own n)
+bare_definition_begins own n close ps d rest (a_definition {p1 = p1} {at = at} {named = named} h i count) = noted_begins_no_word (λ _. BareName) (λ _. bare_name_begins_no_word) n close ps named (mark at m.Equals ∷ p1) h
 
-definition_begins : (own : List ℕ) (n : ℕ) → BeginsNoEnd (Definition own n)
-definition_begins own n ps d rest h = noted_begins_no_end (BareDefinition own) (bare_definition_begins own) n ps d rest h
+definition_begins : (own : List ℕ) (n : ℕ) → BeginsNoWord (Definition own n)
+definition_begins own n close ps d rest h = noted_begins_no_word (BareDefinition own) (bare_definition_begins own) n close ps d rest h
 
 -- ---- modules
 
@@ -133,7 +133,7 @@ unfolding bare_module_at word_at
 placed_complete n stop ps x rest (is_placed {p1 = p1} {p2 = p2} {p3 = p3} {at = at} {bt = bt} {ct = ct} {dt = dt} {et = et} {ft = ft} {name = name} {exports = exports} {attributes = attributes} {definitions = ds} h g row) =
     rw (
       front_complete n stop at bt ct dt et p1 p2 p3 name exports attributes h g,
-      rows_complete (definition_at name n) (Definition name n) (definition_complete name n) (definition_takes name n) (definition_begins name n) stop p3 ds ft rest row,
+      rows_complete (definition_at name n) (Definition name n) (definition_complete name n) (definition_takes name n) (definition_begins name n) k.End stop p3 ds ft rest row,
     ) refl
 
 placed_begins : (n : ℕ) → BeginsBare (PlacedModule n)

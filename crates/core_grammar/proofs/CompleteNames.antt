@@ -6,7 +6,7 @@ use Rattle.core_tree.specs.Syntax.{Constant}
 use Rattle.core_grammar.specs.Grammar.{mark, Note, is_note, InNote, in_note, stands_bare, stands_noted, Noted, ConstantForm, is_integer, is_character, is_text, is_atom, is_tuple, is_list, is_join, is_noted, ConstantIn, BareName, names_function, FunctionName, BareVariable, names_variable, Variable, BareVariables, one_variable, variables_in_angles, Variables, BareCaught, catches_two, catches_three, CaughtVariables}
 use Rattle.core_grammar.specs.inside.Decoder.{State, Read, after_mark, mark_at, note_at, in_note_at, constant_tuple_at, constant_list_at, constant_form_at, constant_at, noted_at, placed_atom_at, arity_at, behind_atom_at, bare_name_at, function_name_at, bare_variable_at, variable_at, bare_variables_at, variables_at, bare_caught_at, caught_at}
 use Rattle.core_grammar.specs.Whole.{start}
-use Rattle.core_grammar.proofs.CompleteLists.{Complete, TakesOne, less_again, closing_brace, closing_bracket, closing_greater, BeginsElse, BeginsNoEnd, commas_take, enclosed_take, closed_complete, brackets_complete, join_complete}
+use Rattle.core_grammar.proofs.CompleteLists.{Complete, TakesOne, less_again, closing_brace, closing_bracket, closing_greater, BeginsElse, BeginsNoWord, commas_take, enclosed_take, closed_complete, brackets_complete, join_complete}
 
 -- ---- annotations
 
@@ -51,8 +51,8 @@ module _ (Inner : List Piece → Constant → List Piece → Type 0) (takes : Ta
 pub in_note_begins : {X : Type 0} (Inner : List Piece → X → List Piece → Type 0) (Item : List Piece → Constant → List Piece → Type 0) → BeginsElse (InNote Inner Item)
 in_note_begins Inner Item close is ps x rest (in_note h g) = rw is.parenthesis refl
 
-pub in_note_begins_no_end : {X : Type 0} (Inner : List Piece → X → List Piece → Type 0) (Item : List Piece → Constant → List Piece → Type 0) → BeginsNoEnd (InNote Inner Item)
-in_note_begins_no_end Inner Item ps x rest (in_note h g) = refl
+pub in_note_begins_no_word : {X : Type 0} (Inner : List Piece → X → List Piece → Type 0) (Item : List Piece → Constant → List Piece → Type 0) → BeginsNoWord (InNote Inner Item)
+in_note_begins_no_word Inner Item close ps x rest (in_note h g) = refl
 
 module _ (Inner : List Piece → Constant → List Piece → Type 0) where
   constant_form_begins : BeginsElse (ConstantForm Inner)
@@ -111,10 +111,10 @@ module _ {X : Type 0} (Bare : ℕ → List Piece → X → List Piece → Type 0
   noted_begins bare zero close is ps x rest (stands_noted h) = absurd h
   noted_begins bare (suc n) close is ps x rest (stands_noted h) = in_note_begins (Noted Bare n) (ConstantIn n) close is ps x rest h
 
-  pub noted_begins_no_end : ((n : ℕ) → BeginsNoEnd (Bare n)) → (n : ℕ) → BeginsNoEnd (Noted Bare n)
-  noted_begins_no_end bare n ps x rest (stands_bare h) = bare n ps x rest h
-  noted_begins_no_end bare zero ps x rest (stands_noted h) = absurd h
-  noted_begins_no_end bare (suc n) ps x rest (stands_noted h) = in_note_begins_no_end (Noted Bare n) (ConstantIn n) ps x rest h
+  pub noted_begins_no_word : ((n : ℕ) → BeginsNoWord (Bare n)) → (n : ℕ) → BeginsNoWord (Noted Bare n)
+  noted_begins_no_word bare n close ps x rest (stands_bare h) = bare n close ps x rest h
+  noted_begins_no_word bare zero close ps x rest (stands_noted h) = absurd h
+  noted_begins_no_word bare (suc n) close ps x rest (stands_noted h) = in_note_begins_no_word (Noted Bare n) (ConstantIn n) close ps x rest h
 
 module _ {X : Type 0} (bare : ℕ → State → Read X) (Bare : ℕ → List Piece → X → List Piece → Type 0) (each : (n : ℕ) → Complete (bare n) (Bare n)) (begins : (n : ℕ) → BeginsBare (Bare n)) where
   pub noted_complete : (n : ℕ) → Complete (noted_at bare n) (Noted Bare n)
@@ -144,8 +144,8 @@ bare_name_takes ps x rest (names_function h) = omega arith
 pub bare_name_begins : BeginsElse BareName
 bare_name_begins close is ps x rest (names_function h) = refl
 
-pub bare_name_begins_no_end : BeginsNoEnd BareName
-bare_name_begins_no_end ps x rest (names_function h) = refl
+pub bare_name_begins_no_word : BeginsNoWord BareName
+bare_name_begins_no_word close ps x rest (names_function h) = refl
 
 bare_variable_begins_bare : BeginsBare BareVariable
 bare_variable_begins_bare ps x rest names_variable = refl

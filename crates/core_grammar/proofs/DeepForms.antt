@@ -14,7 +14,7 @@ use Rattle.core_grammar.specs.Beginnings.{Beginning, OfAtom, OfOtherForm, beginn
 use Rattle.core_grammar.specs.Depth.{BeginsExpressionBy, BeginsExpression, Front, Nowhere, PartOf, PastMark, PastWord, Part, Past, InItems, InCommas, InList, DeepName, DeepAtom, DeepVariables, DeepCaught}
 use Rattle.core_grammar.specs.declared.unserved.Unserved.{Unserved}
 use Rattle.core_scopes.specs.Outcomes.{◌>>=◌}
-use Rattle.core_grammar.specs.inside.Decoder.{State, Read, with_pieces, is_mark, is_word, after_mark, is_foreign, refusal, mark_at, atom_in, named_by, atom_at, closed_at, brackets_at, exactly_at, variables_at, caught_at}
+use Rattle.core_grammar.specs.inside.Decoder.{State, Read, with_pieces, is_mark, after_mark, is_foreign, refusal, mark_at, atom_in, named_by, atom_at, closed_at, brackets_at, exactly_at, variables_at, caught_at}
 use Rattle.core_grammar.specs.inside.DecoderForms.{is_function_by, is_function, begins_expression_by, begins_expression, deep_expression_of, expression_fault_of, deep_expression, expression_fault, callee_fault_of, callee_fault, bare_callee_at, callee_at, applied_fault_of, applied_fault, applied_atom_at, behind_applied_by, bare_applied_at, applied_at, refuse, judged, name_by, tuple_at, list_at, values_at, let_at, do_at, apply_at, call_at, primop_at, try_at, catch_at, behind_patterns_at}
 use Rattle.core_grammar.proofs.Steps.{atom_steps, Sound}
 use Rattle.core_grammar.proofs.SoundNames.{at_front, variables_sound, caught_sound}
@@ -46,8 +46,8 @@ applied_fault_other s = refusal_other s.refused (applied_fault_of s.stop s.piece
 expression_fault_of_other : (stop : ℕ) (ps : List Piece) → IsOther (expression_fault_of stop ps)
 expression_fault_of_other stop [] = tt
 expression_fault_of_other stop (p ∷ ps) =
-    let other : ReadFault = cond (is_word k.Receive p.shape || is_foreign p.shape) (UnsupportedForm p.at) (Expected p.at) in
-    cond_other (is_function p.shape ps) (HigherOrder p.at) other tt (cond_other (is_word k.Receive p.shape || is_foreign p.shape) (UnsupportedForm p.at) (Expected p.at) tt tt)
+    let other : ReadFault = cond (is_foreign p.shape) (UnsupportedForm p.at) (Expected p.at) in
+    cond_other (is_function p.shape ps) (HigherOrder p.at) other tt (foreign_other p)
 
 expression_fault_other : (s : State) → IsOther (expression_fault s)
 unfolding expression_fault
@@ -124,7 +124,7 @@ module _ (at : ℕ) where
 
   module _ (own : List ℕ) (n : ℕ) (inner : State → Read Tree) (Inner : List Piece → Tree → List Piece → Type 0) (Deep : List Piece → Type 0) (each : Sound None inner Inner) (falls : Falls at inner Deep) where
     -- the last part of a form
-    last_falls : {A : Type 0} (s : State) (g : Tree × State → A) → Fall at (inner s >>= λ x. Ok (g x)) s Deep
+    pub last_falls : {A : Type 0} (s : State) (g : Tree × State → A) → Fall at (inner s >>= λ x. Ok (g x)) s Deep
     last_falls s g = first_falls at (inner s) _ s Deep (falls s) (λ x. ok_never at (g x))
 
     pub tuple_falls : Falls at (tuple_at own n inner) (InCommas Inner Deep)

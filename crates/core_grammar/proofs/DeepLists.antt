@@ -5,7 +5,6 @@ use Rattle.core_tokens.specs.declared.fault.ReadFault.TheVariants.{Expected, Too
 use Rattle.core_tokens.specs.declared.token.Mark.{Mark}
 use Rattle.core_tokens.specs.declared.token.Mark.TheVariants as m
 use Rattle.core_tokens.specs.declared.token.Keyword.{Keyword}
-use Rattle.core_tokens.specs.declared.token.Keyword.TheVariants as k
 use Rattle.core_tokens.specs.Piece.{Piece}
 use Rattle.core_grammar.specs.declared.unserved.Unserved.{Unserved}
 use Rattle.core_grammar.specs.declared.unserved.Unserved.TheVariants as unserved
@@ -278,15 +277,15 @@ module _ (at : ℕ) where
     pub row_then_falls : {B : Type 0} (s : State) (f : X × State → Result B ReadFault) → ((x : X) (t : State) → Fall (f (x, t)) t (InRow Item Deep)) → Fall (item s >>= f) s (InRow Item Deep)
     row_then_falls s f rest e = let d = part_falls item Item Deep (InRow Item Deep) each falls s f rest e in (d.0, in_row s.pieces d.1)
 
-    row_by_falls : (n : ℕ) → Falls (row_at item n) (InRow Item Deep) → (o : Option (List Piece)) (s : State) → Fall (row_by item (row_at item n) o s) s (InRow Item Deep)
-    row_by_falls n again (Some ps) s = λ e. absurd (ok_never ([], s) e)
-    row_by_falls n again None s = row_then_falls s _ (λ x t. first_falls (row_at item n t) _ t (InRow Item Deep) (again t) (λ xs. ok_never _))
+    row_by_falls : (close : Keyword) (n : ℕ) → Falls (row_at item close n) (InRow Item Deep) → (o : Option (List Piece)) (s : State) → Fall (row_by item (row_at item close n) o s) s (InRow Item Deep)
+    row_by_falls close n again (Some ps) s = λ e. absurd (ok_never ([], s) e)
+    row_by_falls close n again None s = row_then_falls s _ (λ x t. first_falls (row_at item close n t) _ t (InRow Item Deep) (again t) (λ xs. ok_never _))
 
-    row_falls : (n : ℕ) → Falls (row_at item n) (InRow Item Deep)
+    row_falls : (close : Keyword) (n : ℕ) → Falls (row_at item close n) (InRow Item Deep)
     unfolding row_at
-    row_falls zero s = λ e. absurd (never_other (fault s) (fault_other s) e)
-    row_falls (suc n) s = row_by_falls n (row_falls n) (after_word k.End s.pieces) s
+    row_falls close zero s = λ e. absurd (never_other (fault s) (fault_other s) e)
+    row_falls close (suc n) s = row_by_falls close n (row_falls close n) (after_word close s.pieces) s
 
-    pub rows_falls : Falls (rows_at item) (InRow Item Deep)
+    pub rows_falls : (close : Keyword) → Falls (rows_at item close) (InRow Item Deep)
     unfolding rows_at
-    rows_falls s = row_falls (length s.pieces) s
+    rows_falls close s = row_falls close (length s.pieces) s

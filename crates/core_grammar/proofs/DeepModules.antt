@@ -167,7 +167,7 @@ module _ (at : ℕ) where
       nested_falls at (mark_at m.LeftBracket s5) _ _ s5 (PastMark m.LeftBracket (InAttributes n name)) (mark_falls at m.LeftBracket (InAttributes n name) s5 _ (λ s6.
       nested_falls at (closed_at (attribute_at n) m.RightBracket s6) _ _ s6 (InAttributes n name) (part_falls at (closed_at (attribute_at n) m.RightBracket) (Enclosed (Attribute (ConstantIn n)) m.RightBracket) (InCommas (Attribute (ConstantIn n)) (DeepAttribute at n)) (InDefinitions n name)
       (closed_sound (attribute_at n) (Attribute (ConstantIn n)) (attribute_sound n) m.RightBracket) (closed_falls at (attribute_at n) (Attribute (ConstantIn n)) (DeepAttribute at n) (attribute_sound n) (attribute_falls n) m.RightBracket) s6 _ (λ ts s7.
-      first_falls at (rows_at (definition_at name n) s7) _ s7 (InDefinitions n name) (rows_falls at (definition_at name n) (Definition name n) (DeepDefinition at name n) (definition_sound name n) (definition_falls name n) s7) (λ ds.
+      first_falls at (rows_at (definition_at name n) k.End s7) _ s7 (InDefinitions n name) (rows_falls at (definition_at name n) (Definition name n) (DeepDefinition at name n) (definition_sound name n) (definition_falls name n) k.End s7) (λ ds.
       never_bind at (word_at k.End ds.1) _ (word_never at k.End ds.1) (λ s8. ok_never at _))))))))))))))))
 
   -- the place of the last `end` is told apart from how a module is spelt

@@ -5,6 +5,8 @@ use Rattle.core_tokens.specs.declared.fault.ReadFault.{ReadFault}
 use Rattle.core_tokens.specs.declared.fault.ReadFault.TheVariants.{Expected, HigherOrder, UnsupportedCall, TooDeep, UnsupportedForm}
 use Rattle.core_tokens.specs.declared.token.Mark.{Mark}
 use Rattle.core_tokens.specs.declared.token.Mark.TheVariants as m
+use Rattle.core_grammar.specs.declared.subject.Subject.{Subject}
+use Rattle.core_grammar.specs.declared.subject.Subject.TheVariants as subjects
 use Rattle.core_tokens.specs.declared.token.Keyword.TheVariants as k
 use Rattle.core_tokens.specs.Piece.{Piece, Shape}
 use Rattle.core_tokens.specs.Piece as lexemes
@@ -18,13 +20,13 @@ use Rattle.core_grammar.specs.Grammar.{word, mark, atom, AtomIn, Calls, calls_wo
 use Rattle.core_tree.specs.Calls.{Signature}
 use Rattle.core_grammar.specs.Arguments.{arguments}
 use Rattle.core_grammar.specs.Depth.{Front, passes_word}
-use Rattle.core_grammar.specs.Unread.{HasMark, BeginsFunctionBy, BeginsAppliedBy, BeginsApplied, HigherOrderAt, IsNoOperation, operates_nothing, BeginsUnread}
+use Rattle.core_grammar.specs.Unread.{HasMark, BeginsFunctionBy, BeginsAppliedBy, BeginsApplied, HigherOrderAt, IsNoOperation, operates_nothing}
 use Rattle.core_grammar.specs.UnservedCalls.{within, IsOwn, IsNoNameBy, IsNoName, LacksName, IsNoCall, lacks_module, lacks_function, calls_nothing}
 use Rattle.core_grammar.specs.Places.{IsOne, OpensBy, Opens}
 use Rattle.core_grammar.specs.Beginnings.{Beginning, OfValue, OfAtom, OfAnnotation, OfVariable, OfOtherForm, OfFunction, beginning}
 use Rattle.core_scopes.specs.Outcomes.{◌>>=◌}
-use Rattle.core_grammar.specs.inside.Decoder.{State, Read, with_pieces, is_mark, is_word, after_mark, after_word, refusal, is_foreign, mark_at, word_at, taken_by, taken, atom_in, atom_at, named_by, bare_name_at, closed_at, brackets_at, exactly_at, rows_at, begins_constant_by, begins_constant, deep_constant_of, deep_constant, note_at, in_note_at, constant_tuple_at, constant_list_at, constant_by, constant_form_by, constant_form_at, constant_at, noted_last, noted_by, noted_at, function_name_at, bare_variable_at, variable_at, bare_variables_by, bare_variables_at, variables_at, third_by, bare_caught_at, caught_at, begins_pattern_by, begins_pattern, deep_pattern_of, deep_pattern, pattern_list, pattern_tuple_at, pattern_list_at, pattern_by, pattern_form_by, pattern_form_at, alias_by, alias_at, pattern_at}
-use Rattle.core_grammar.specs.inside.DecoderForms.{is_function_by, is_function, begins_expression_by, begins_expression, deep_expression_of, expression_fault_of, deep_expression, expression_fault, callee_fault_of, callee_fault, bare_callee_at, callee_at, applied_fault_of, applied_fault, applied_atom_at, behind_applied_by, bare_applied_at, applied_at, callee_named, operation_named, earlier, judged, tree_list, name_by, Start, OnePattern, ManyPatterns, WholeClause, tuple_at, list_at, values_at, let_at, do_at, apply_at, call_at, primop_at, try_at, catch_at, behind_patterns_at, clause_of, start_by, started, inside_start_at, aliased, noted_start_at, bare_start_by, bare_start_at, start_last, start_next, clause_at, case_at, form_by, form_of, form_at, expression_at, start_at}
+use Rattle.core_grammar.specs.inside.Decoder.{State, Read, with_pieces, is_mark, after_mark, after_word, refusal, is_foreign, mark_at, word_at, taken_by, taken, atom_in, atom_at, named_by, bare_name_at, closed_at, brackets_at, exactly_at, rows_at, begins_constant_by, begins_constant, deep_constant_of, deep_constant, note_at, in_note_at, constant_tuple_at, constant_list_at, constant_by, constant_form_by, constant_form_at, constant_at, noted_last, noted_by, noted_at, function_name_at, bare_variable_at, variable_at, bare_variables_by, bare_variables_at, variables_at, third_by, bare_caught_at, caught_at, begins_pattern_by, begins_pattern, deep_pattern_of, deep_pattern, pattern_list, pattern_tuple_at, pattern_list_at, pattern_by, pattern_form_by, pattern_form_at, alias_by, alias_at, pattern_at}
+use Rattle.core_grammar.specs.inside.DecoderForms.{is_function_by, is_function, begins_expression_by, begins_expression, deep_expression_of, expression_fault_of, deep_expression, expression_fault, callee_fault_of, callee_fault, bare_callee_at, callee_at, applied_fault_of, applied_fault, applied_atom_at, behind_applied_by, bare_applied_at, applied_at, callee_named, operation_named, earlier, judged, tree_list, name_by, Start, OnePattern, ManyPatterns, WholeClause, tuple_at, list_at, values_at, let_at, do_at, apply_at, call_at, primop_at, try_at, catch_at, behind_patterns_at, clause_of, start_by, started, inside_start_at, aliased, noted_start_at, angles_at, bare_start_by, bare_start_at, start_last, start_next, clause_at, case_at, receive_at, form_by, form_of, form_at, expression_at, start_at}
 use Rattle.core_grammar.proofs.Steps.{is_mark_true, after_mark_found, mark_steps, atom_steps}
 use Rattle.core_grammar.proofs.CallsByName.{signed, callee_found, callee_again, operation_found, operation_again}
 use Rattle.core_grammar.proofs.SoundForms.{goes_to, callee_sound}
@@ -108,18 +110,6 @@ module _ (all : List Piece) (end : ℕ) where
   function_by true p ps f inside e h = inl (record { before = inside.0; here = p ∷ ps; stands = inside.1; said = (refl, function_begins (beginning p.shape) ps e) })
   function_by false p ps f inside e h = h
 
-  -- a token that begins a form that is not read, as `receive`
-  unread_begins : (shape : Shape) (ps : List Piece) → (is_word k.Receive shape || is_foreign shape) ≡ true → BeginsUnread shape ps
-  unread_begins (lexemes.Word k.Receive) ps e = tt
-  unread_begins (lexemes.Mark m.Hash) ps e = tt
-  unread_begins (lexemes.Mark m.Tilde) ps e = tt
-  unread_begins lexemes.Float ps e = tt
-  unread_begins shape ps e = absurd cc
-
-  unread_by : (b : Bool) (p : Piece) (ps : List Piece) → Inside all end (p ∷ ps) → (is_word k.Receive p.shape || is_foreign p.shape) ≡ b → Fault' (cond b (UnsupportedForm p.at) (Expected p.at))
-  unread_by true p ps inside e = unread_here all end p ps inside (unread_begins p.shape ps e)
-  unread_by false p ps inside e = here all end p ps inside
-
   deep_expression_of_fine : (stop : ℕ) (ps : List Piece) → stop ≡ end → Inside all end ps → Fault' (deep_expression_of stop ps)
   deep_expression_of_fine stop [] e inside = inr e
   deep_expression_of_fine stop (p ∷ ps) e inside =
@@ -132,7 +122,7 @@ module _ (all : List Piece) (end : ℕ) where
   expression_fault_of_fine : (stop : ℕ) (ps : List Piece) → stop ≡ end → Inside all end ps → Fault' (expression_fault_of stop ps)
   expression_fault_of_fine stop [] e inside = inr e
   expression_fault_of_fine stop (p ∷ ps) e inside =
-      function_by (is_function p.shape ps) p ps _ inside refl (unread_by (is_word k.Receive p.shape || is_foreign p.shape) p ps inside refl)
+      function_by (is_function p.shape ps) p ps _ inside refl (foreign_fine all end p ps inside)
 
   expression_fault_fine : (s : State) → Good' s → Fault' (expression_fault s)
   unfolding expression_fault
@@ -544,7 +534,7 @@ module _ (all : List Piece) (end : ℕ) where
   judged_fine at u None ts s h p q g = (tt, record { stop = g.stop; inside = g.inside; refused = earlier_fine u s.refused (h refl) g.refused })
 
   called_at : (own : List ℕ) (at : ℕ) (s : Signature) (c : Callee) → Place' at → IsOne all (word at k.Call) → Calls own s c → CalleeAt at c
-  called_at own at s c p h (calls_world r) = p
+  called_at own at s c p h calls_world = p
   called_at own at s c p h calls_itself = tt
   called_at own at s c p h (calls_export small new) = (p, h)
 
@@ -691,18 +681,29 @@ module _ (all : List Piece) (end : ℕ) where
           bind (in_note_at (constant_at n) (inside_start_at own n inner start) s) _ (λ x. StartAt x.0 × Good' x.1) (λ y. StartAt y.0 × Good' y.1)
           (in_note_fine (constant_at n) (constant_fine n) (inside_start_at own n inner start) StartAt inside_start_fine s g) (λ x gx. aliased_fine x.0 x.1 gx.0 gx.1)
 
-      clause_fine : Keeps' (clause_at own n inner start) ClauseAt
+    -- clauses of a `case` and of a `receive`, each with its own starts
+    module _ (start : Subject → State → Read Start) (starts : (subject : Subject) → Keeps' (start subject) StartAt) where
+      clause_fine : (subject : Subject) → Keeps' (clause_at own n inner start subject) ClauseAt
       unfolding clause_at
-      clause_fine s g = bind (start s) _ (λ x. StartAt x.0 × Good' x.1) (λ c. ClauseAt c.0 × Good' c.1) (starts s g) (λ x gx. clause_of_fine x.0 x.1 gx.0 gx.1)
+      clause_fine subject s g = bind (start subject s) _ (λ x. StartAt x.0 × Good' x.1) (λ c. ClauseAt c.0 × Good' c.1) (starts subject s g) (λ x gx. clause_of_fine x.0 x.1 gx.0 gx.1)
 
       case_fine : (at : ℕ) → Keeps' (case_at own n inner start at) TreeAt
       unfolding case_at
       case_fine at s g =
           bind (inner s) _ (λ x. TreeAt x.0 × Good' x.1) (λ x. TreeAt x.0 × Good' x.1) (each s g) (λ t gt.
           bind (word_at k.Of t.1) _ Good' (λ x. TreeAt x.0 × Good' x.1) (word_fine all end k.Of t.1 gt.1) (λ s1 g1.
-          bind (clause_at own n inner start s1) _ (λ x. ClauseAt x.0 × Good' x.1) (λ x. TreeAt x.0 × Good' x.1) (clause_fine s1 g1) (λ c gc.
-          bind (rows_at (clause_at own n inner start) c.1) _ (λ x. Each' ClauseAt x.0 × Good' x.1) (λ x. TreeAt x.0 × Good' x.1) (rows_fine all end (clause_at own n inner start) ClauseAt clause_fine c.1 gc.1) (λ cs gcs.
+          bind (clause_at own n inner start subjects.Values s1) _ (λ x. ClauseAt x.0 × Good' x.1) (λ x. TreeAt x.0 × Good' x.1) (clause_fine subjects.Values s1 g1) (λ c gc.
+          bind (rows_at (clause_at own n inner start subjects.Values) k.End c.1) _ (λ x. Each' ClauseAt x.0 × Good' x.1) (λ x. TreeAt x.0 × Good' x.1) (rows_fine all end (clause_at own n inner start subjects.Values) ClauseAt (clause_fine subjects.Values) k.End c.1 gc.1) (λ cs gcs.
           bind (word_at k.End cs.1) _ Good' (λ x. TreeAt x.0 × Good' x.1) (word_fine all end k.End cs.1 gcs.1) (λ s2 g2. ((gt.0, (gc.0.0, gc.0.1, gc.0.2, clauses_at cs.0 gcs.0)), g2))))))
+
+      receive_fine : (at : ℕ) → Place' at → Keeps' (receive_at own n inner start at) TreeAt
+      unfolding receive_at
+      receive_fine at p s g =
+          bind (rows_at (clause_at own n inner start subjects.Message) k.After s) _ (λ x. Each' ClauseAt x.0 × Good' x.1) (λ x. TreeAt x.0 × Good' x.1) (rows_fine all end (clause_at own n inner start subjects.Message) ClauseAt (clause_fine subjects.Message) k.After s g) (λ cs gcs.
+          bind (word_at k.After cs.1) _ Good' (λ x. TreeAt x.0 × Good' x.1) (word_fine all end k.After cs.1 gcs.1) (λ s1 g1.
+          bind (inner s1) _ (λ x. TreeAt x.0 × Good' x.1) (λ x. TreeAt x.0 × Good' x.1) (each s1 g1) (λ t gt.
+          bind (mark_at m.Arrow t.1) _ Good' (λ x. TreeAt x.0 × Good' x.1) (mark_fine all end m.Arrow t.1 gt.1) (λ s2 g2.
+          bind (inner s2) _ (λ x. TreeAt x.0 × Good' x.1) (λ x. TreeAt x.0 × Good' x.1) (each s2 g2) (λ u gu. ((p, clauses_at cs.0 gcs.0, gt.0, gu.0), gu.1))))))
 
       form_by_fine : (at : ℕ) (shape : Shape) (ps : List Piece) (s : State) → Inside all end (record { at = at; shape = shape } ∷ ps) → Place' at → Good' s → Good' (with_pieces s ps) → Fine' (form_by own n inner start at shape ps s) (λ x. TreeAt x.0 × Good' x.1)
       form_by_fine at (lexemes.Integer i) ps s o p g h = (tt, h)
@@ -722,6 +723,7 @@ module _ (all : List Piece) (end : ℕ) where
       form_by_fine at (lexemes.Word k.Primop) ps s o p g h = primop_fine at p (with_pieces s ps) o h
       form_by_fine at (lexemes.Word k.Try) ps s o p g h = try_fine at (with_pieces s ps) h
       form_by_fine at (lexemes.Word k.Catch) ps s o p g h = catch_fine at (with_pieces s ps) h
+      form_by_fine at (lexemes.Word k.Receive) ps s o p g h = receive_fine at p (with_pieces s ps) h
       form_by_fine at shape ps s o p g h = expression_fault_fine s g
 
       form_of_fine : (ps : List Piece) (s : State) → Good' s → Inside all end ps → Fine' (form_of own n inner start ps s) (λ x. TreeAt x.0 × Good' x.1)
@@ -739,30 +741,38 @@ module _ (all : List Piece) (end : ℕ) where
   Starting (ManyPatterns qs) = Each' PatternAt qs
   Starting (WholeClause c) = ClauseAt c
 
-  bare_start_by_fine : (n : ℕ) (o : Option (List Piece)) (s : State) → after_mark m.Less s.pieces ≡ o → Good' s → Fine' (bare_start_by n o s) (λ y. Starting y.0 × Good' y.1)
-  bare_start_by_fine n (Some ps) s is g =
-      bind (closed_at (pattern_at n) m.Greater (with_pieces s ps)) _ (λ x. Each' PatternAt x.0 × Good' x.1) (λ y. Starting y.0 × Good' y.1) (closed_fine all end (pattern_at n) PatternAt (pattern_fine n) m.Greater (with_pieces s ps) (good_at all end s ps g (mark_inside all end m.Less s.pieces ps g.inside is))) (λ x gx. (gx.0, gx.1))
-  bare_start_by_fine n None s is g = bind (pattern_at n s) _ (λ x. PatternAt x.0 × Good' x.1) (λ y. Starting y.0 × Good' y.1) (pattern_fine n s g) (λ x gx. (gx.0, gx.1))
+  angles_fine : (n : ℕ) (subject : Subject) → Keeps' (angles_at n subject) (Each' PatternAt)
+  unfolding angles_at
+  angles_fine n subjects.Values s g = closed_fine all end (pattern_at n) PatternAt (pattern_fine n) m.Greater s g
+  angles_fine n subjects.Message s g =
+      bind (exactly_at (pattern_at n) true 1 s) _ (λ x. Each' PatternAt x.0 × Good' x.1) (λ x. Each' PatternAt x.0 × Good' x.1) (exactly_fine all end (pattern_at n) PatternAt (pattern_fine n) true 1 s g) (λ qs gq.
+      bind (mark_at m.Greater qs.1) _ Good' (λ x. Each' PatternAt x.0 × Good' x.1) (mark_fine all end m.Greater qs.1 gq.1) (λ s1 g1. (gq.0, g1)))
 
-  bare_start_fine : (n : ℕ) → Keeps' (bare_start_at n) Starting
+  bare_start_by_fine : (n : ℕ) (subject : Subject) (o : Option (List Piece)) (s : State) → after_mark m.Less s.pieces ≡ o → Good' s → Fine' (bare_start_by n subject o s) (λ y. Starting y.0 × Good' y.1)
+  bare_start_by_fine n subject (Some ps) s is g =
+      bind (angles_at n subject (with_pieces s ps)) _ (λ x. Each' PatternAt x.0 × Good' x.1) (λ y. Starting y.0 × Good' y.1) (angles_fine n subject (with_pieces s ps) (good_at all end s ps g (mark_inside all end m.Less s.pieces ps g.inside is))) (λ x gx. (gx.0, gx.1))
+  bare_start_by_fine n subject None s is g = bind (pattern_at n s) _ (λ x. PatternAt x.0 × Good' x.1) (λ y. Starting y.0 × Good' y.1) (pattern_fine n s g) (λ x gx. (gx.0, gx.1))
+
+  bare_start_fine : (n : ℕ) (subject : Subject) → Keeps' (bare_start_at n subject) Starting
   unfolding bare_start_at
-  bare_start_fine n s g = bare_start_by_fine n (after_mark m.Less s.pieces) s refl g
+  bare_start_fine n subject s g = bare_start_by_fine n subject (after_mark m.Less s.pieces) s refl g
 
-  start_last_fine : (o : Option (List Piece)) (s : State) → after_mark m.LeftParenthesis s.pieces ≡ o → Good' s → Fine' (start_last o s) (λ y. Starting y.0 × Good' y.1)
-  start_last_fine (Some ps) s is g = let f = after_mark_found m.LeftParenthesis s.pieces ps is in too_deep_fine all end s f.0 ps g f.1
-  start_last_fine None s is g = bare_start_fine 0 s g
+  start_last_fine : (subject : Subject) (o : Option (List Piece)) (s : State) → after_mark m.LeftParenthesis s.pieces ≡ o → Good' s → Fine' (start_last subject o s) (λ y. Starting y.0 × Good' y.1)
+  start_last_fine subject (Some ps) s is g = let f = after_mark_found m.LeftParenthesis s.pieces ps is in too_deep_fine all end s f.0 ps g f.1
+  start_last_fine subject None s is g = bare_start_fine 0 subject s g
 
   module _ (own : List ℕ) (owned : IsOwn all own) where
-    start_next_fine : (n : ℕ) → Keeps' (expression_at own n) TreeAt → Keeps' (start_at own n) Starting → (o : Option (List Piece)) (s : State) → after_mark m.LeftParenthesis s.pieces ≡ o → Good' s → Fine' (start_next own n (expression_at own n) (start_at own n) o s) (λ y. Starting y.0 × Good' y.1)
-    start_next_fine n each starts (Some ps) s is g = noted_start_fine own owned n (expression_at own n) each (expression_walks own n) (start_at own n) starts (with_pieces s ps) (good_at all end s ps g (mark_inside all end m.LeftParenthesis s.pieces ps g.inside is))
-    start_next_fine n each starts None s is g = bare_start_fine (suc n) s g
+    start_next_fine : (n : ℕ) (subject : Subject) → Keeps' (expression_at own n) TreeAt → Keeps' (start_at own n subject) Starting → (o : Option (List Piece)) (s : State) → after_mark m.LeftParenthesis s.pieces ≡ o → Good' s
+        → Fine' (start_next own n subject (expression_at own n) (start_at own n subject) o s) (λ y. Starting y.0 × Good' y.1)
+    start_next_fine n subject each starts (Some ps) s is g = noted_start_fine own owned n (expression_at own n) each (expression_walks own n) (start_at own n subject) starts (with_pieces s ps) (good_at all end s ps g (mark_inside all end m.LeftParenthesis s.pieces ps g.inside is))
+    start_next_fine n subject each starts None s is g = bare_start_fine (suc n) subject s g
 
-    both_fine : (n : ℕ) → Keeps' (expression_at own n) TreeAt × Keeps' (start_at own n) Starting
+    both_fine : (n : ℕ) → Keeps' (expression_at own n) TreeAt × ((subject : Subject) → Keeps' (start_at own n subject) Starting)
     unfolding expression_at start_at
-    both_fine zero = (λ s g. deep_expression_fine s g, λ s g. start_last_fine (after_mark m.LeftParenthesis s.pieces) s refl g)
+    both_fine zero = (λ s g. deep_expression_fine s g, λ subject s g. start_last_fine subject (after_mark m.LeftParenthesis s.pieces) s refl g)
     both_fine (suc n) =
         let h = both_fine n in
-        (λ s g. form_fine own owned n (expression_at own n) h.0 (expression_walks own n) (start_at own n) h.1 s g, λ s g. start_next_fine n h.0 h.1 (after_mark m.LeftParenthesis s.pieces) s refl g)
+        (λ s g. form_fine own owned n (expression_at own n) h.0 (expression_walks own n) (start_at own n) h.1 s g, λ subject s g. start_next_fine n subject h.0 (h.1 subject) (after_mark m.LeftParenthesis s.pieces) s refl g)
 
     pub expression_fine : (n : ℕ) → Keeps' (expression_at own n) TreeAt
     expression_fine n = (both_fine n).0

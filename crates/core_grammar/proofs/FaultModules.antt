@@ -155,7 +155,7 @@ module _ (all : List Piece) (end : ℕ) where
   unfolding bare_module_at
   bare_module_fine n s g w =
       bind (front_at n s) _ (λ x. FrontPlaced x.0 × Good' x.1) (λ x. ModulePlaced x.0 × Good' x.1) (front_fine n s g w) (λ f gf.
-      bind (rows_at (definition_at f.0.0 n) f.1) _ (λ x. Each' DefinitionPlaced x.0 × Good' x.1) (λ x. ModulePlaced x.0 × Good' x.1) (rows_fine all end (definition_at f.0.0 n) DefinitionPlaced (definition_fine f.0.0 gf.0.0 n) f.1 gf.1) (λ ds gd.
+      bind (rows_at (definition_at f.0.0 n) k.End f.1) _ (λ x. Each' DefinitionPlaced x.0 × Good' x.1) (λ x. ModulePlaced x.0 × Good' x.1) (rows_fine all end (definition_at f.0.0 n) DefinitionPlaced (definition_fine f.0.0 gf.0.0 n) k.End f.1 gf.1) (λ ds gd.
       bind (word_at k.End ds.1) _ Good' (λ x. ModulePlaced x.0 × Good' x.1) (word_fine all end k.End ds.1 gd.1) (λ s1 g1. ((gf.0.1, gd.0), g1))))
 
   -- what holds of each value that is read, of this one
@@ -170,7 +170,7 @@ module _ (all : List Piece) (end : ℕ) where
       let d = bind_ok _ _ _ f.2 in
       let a = bind_ok _ _ _ d.2 in
       let gf = fine_ok (front_at n s) f.0 (λ y. FrontPlaced y.0 × Good' y.1) f.1 (front_fine n s g w) in
-      let gd = fine_ok (rows_at (definition_at f.0.0.0 n) f.0.1) d.0 (λ y. Each' DefinitionPlaced y.0 × Good' y.1) d.1 (rows_fine all end (definition_at f.0.0.0 n) DefinitionPlaced (definition_fine f.0.0.0 gf.0.0 n) f.0.1 gf.1) in
+      let gd = fine_ok (rows_at (definition_at f.0.0.0 n) k.End f.0.1) d.0 (λ y. Each' DefinitionPlaced y.0 × Good' y.1) d.1 (rows_fine all end (definition_at f.0.0.0 n) DefinitionPlaced (definition_fine f.0.0.0 gf.0.0 n) k.End f.0.1 gf.1) in
       let step = word_steps k.End d.0.1 a.0 a.1 in
       let here : step.at ≡ place_of d.0.1.stop d.0.1.pieces = sym (ap (place_of d.0.1.stop) step.pieces) in
       let made : ModuleTree = record { name = f.0.0.0; exports = f.0.0.1; attributes = f.0.0.2; definitions = d.0.0 } in

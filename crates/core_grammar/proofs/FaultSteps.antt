@@ -293,17 +293,17 @@ module _ (all : List Piece) (end : ℕ) where
         (fine_bind (comma_at first s) item Good (λ x. Q x.0 × Good x.1) (comma_fine first s g) (λ s1 g1. each s1 g1)) (λ x gx.
         fine_bind (exactly_at item false n x.1) _ (λ x. Each Q x.0 × Good x.1) (λ x. Each Q x.0 × Good x.1) (exactly_fine false n x.1 gx.1) (λ xs gs. ((gx.0, gs.0), gs.1)))
 
-    row_by_fine : (n : ℕ) (o : Option (List Piece)) (s : State) → Keeps (row_at item n) (Each Q) → Good s → Fine (row_by item (row_at item n) o s) (λ x. Each Q x.0 × Good x.1)
-    row_by_fine n (Some ps) s again g = (tt, g)
-    row_by_fine n None s again g =
+    row_by_fine : (close : Keyword) (n : ℕ) (o : Option (List Piece)) (s : State) → Keeps (row_at item close n) (Each Q) → Good s → Fine (row_by item (row_at item close n) o s) (λ x. Each Q x.0 × Good x.1)
+    row_by_fine close n (Some ps) s again g = (tt, g)
+    row_by_fine close n None s again g =
         fine_bind (item s) _ (λ x. Q x.0 × Good x.1) (λ x. Each Q x.0 × Good x.1) (each s g) (λ x gx.
-        fine_bind (row_at item n x.1) _ (λ x. Each Q x.0 × Good x.1) (λ x. Each Q x.0 × Good x.1) (again x.1 gx.1) (λ xs gs. ((gx.0, gs.0), gs.1)))
+        fine_bind (row_at item close n x.1) _ (λ x. Each Q x.0 × Good x.1) (λ x. Each Q x.0 × Good x.1) (again x.1 gx.1) (λ xs gs. ((gx.0, gs.0), gs.1)))
 
-    row_fine : (n : ℕ) → Keeps (row_at item n) (Each Q)
+    row_fine : (close : Keyword) (n : ℕ) → Keeps (row_at item close n) (Each Q)
     unfolding row_at
-    row_fine zero s g = fault_fine s g
-    row_fine (suc n) s g = row_by_fine n (after_word k.End s.pieces) s (row_fine n) g
+    row_fine close zero s g = fault_fine s g
+    row_fine close (suc n) s g = row_by_fine close n (after_word close s.pieces) s (row_fine close n) g
 
-    pub rows_fine : Keeps (rows_at item) (Each Q)
+    pub rows_fine : (close : Keyword) → Keeps (rows_at item close) (Each Q)
     unfolding rows_at
-    rows_fine s g = row_fine (length s.pieces) s g
+    rows_fine close s g = row_fine close (length s.pieces) s g

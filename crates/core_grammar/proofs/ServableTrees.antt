@@ -1,13 +1,15 @@
--- In what is spelt each call of the world is one that is read, with as many arguments as it has.
+-- In what is spelt each call of the world has as many arguments as it takes.
 use Rattle.std.proofs.Common.{◌≡◌, ℕ, zero, suc, List, [], ◌∷◌, length, refl, ap, subst}
 use Rattle.core_tokens.specs.Piece.{Piece}
 use Rattle.core_tokens.specs.declared.token.Mark.{Mark}
 use Rattle.core_tokens.specs.declared.token.Mark.TheVariants as m
+use Rattle.core_grammar.specs.declared.subject.Subject.{Subject}
+use Rattle.core_grammar.specs.declared.subject.Subject.TheVariants as subjects
 use Rattle.core_tokens.specs.declared.token.Keyword.TheVariants as k
 use Rattle.core_tree.specs.Calls.{Signature}
 use Rattle.core_tree.specs.Servable.{count_of, MayBeCalled, IsServable, AreServable, AreServableClauses, HaveServableBodies, IsServableModule}
 use Rattle.core_tree.specs.Syntax.{Callee, Pattern, Tree, trees_of, ClauseTree, clauses_of, DefinitionTree, ModuleTree}
-use Rattle.core_grammar.specs.Grammar.{mark, word, Commas, spells_one, spells_next, Enclosed, spells_none, spells_some, Row, ends_here, goes_on, InNote, in_note, stands_bare, stands_noted, Noted, ConstantIn, Variable, PatternsIn, Calls, calls_world, calls_itself, calls_export, Operates, fails_match, raises_again, BareClause, is_clause, Form, a_number, a_character, a_text, a_name, a_variable, a_tuple, a_list, a_join, some_values, a_noted, a_let, a_case, a_do, an_apply, a_call, a_primop, a_try, a_catch, Expression, AnnotatedClause, Clause, BareFun, is_fun, Fun, BareDefinition, a_definition, Definition, BareModule, a_module, level_limit, Spells}
+use Rattle.core_grammar.specs.Grammar.{mark, word, Commas, spells_one, spells_next, Enclosed, spells_none, spells_some, Row, ends_here, goes_on, InNote, in_note, stands_bare, stands_noted, Noted, ConstantIn, Variable, PatternsIn, Calls, calls_world, calls_itself, calls_export, Operates, fails_match, raises_again, BareClause, is_clause, Form, a_number, a_character, a_text, a_name, a_variable, a_tuple, a_list, a_join, some_values, a_noted, a_let, a_case, a_do, an_apply, a_call, a_primop, a_try, a_catch, a_receive, Expression, AnnotatedClause, Clause, BareFun, is_fun, Fun, BareDefinition, a_definition, Definition, BareModule, a_module, level_limit, Spells}
 
 -- ---- what each item holds, the items of a list hold
 
@@ -54,7 +56,7 @@ counted [] = refl
 counted (t ∷ ts) = ap suc (counted ts)
 
 called : (own : List ℕ) (s : Signature) (callee : Callee) → Calls own s callee → MayBeCalled callee s.arity
-called own s callee (calls_world r) = (r, refl)
+called own s callee calls_world = refl
 called own s callee calls_itself = tt
 called own s callee (calls_export small new) = tt
 
@@ -70,7 +72,7 @@ with_all callee ts h = subst (λ (n : ℕ). MayBeCalled callee n) (counted ts) h
 clause_servable : (Patterns : List Piece → List Pattern → List Piece → Type 0) (Inner : List Piece → Tree → List Piece → Type 0) → Holds Inner IsServable → Holds (BareClause Patterns Inner) ClauseServable
 clause_servable Patterns Inner each ps c rest (is_clause {p1 = p1} {p2 = p2} {bt = bt} {guard = g} {body = b} h i j) = (each p1 g (mark bt m.Arrow ∷ p2) i, each p2 b rest j)
 
-module _ (own : List ℕ) (n : ℕ) (Inner : List Piece → Tree → List Piece → Type 0) (Branch : List Piece → ClauseTree → List Piece → Type 0) (each : Holds Inner IsServable) (branches : Holds Branch ClauseServable) where
+module _ (own : List ℕ) (n : ℕ) (Inner : List Piece → Tree → List Piece → Type 0) (Branch : Subject → List Piece → ClauseTree → List Piece → Type 0) (each : Holds Inner IsServable) (branches : (subject : Subject) → Holds (Branch subject) ClauseServable) where
   enclosed : (close : Mark) (ps : List Piece) (ts : List Tree) (rest : List Piece) → Enclosed Inner close ps ts rest → AreServable (trees_of ts)
   enclosed close ps ts rest h = all_servable ts (enclosed_hold Inner IsServable each close ps ts rest h)
 
@@ -87,7 +89,7 @@ module _ (own : List ℕ) (n : ℕ) (Inner : List Piece → Tree → List Piece 
   form_servable ps t rest (a_noted (in_note {ps = qs} {more = more} h g)) = each qs t more h
   form_servable ps t rest (a_let {p1 = p1} {p2 = p2} {ct = ct} {t = u} {u = v} h g i) = (each p1 u (word ct k.In ∷ p2) g, each p2 v rest i)
   form_servable ps t rest (a_case {ps = qs} {p1 = p1} {p2 = p2} {bt = bt} {ct = ct} {t = u} {c = c} {cs = cs} h g i) =
-      (each qs u (word bt k.Of ∷ p1) h, clauses_servable (c ∷ cs) (branches p1 c p2 g, row_holds Branch ClauseServable branches p2 cs (word ct k.End ∷ rest) i))
+      (each qs u (word bt k.Of ∷ p1) h, clauses_servable (c ∷ cs) (branches subjects.Values p1 c p2 g, row_holds (Branch subjects.Values) ClauseServable (branches subjects.Values) p2 cs (word ct k.End ∷ rest) i))
   form_servable ps t rest (a_do {ps = qs} {more = more} {t = u} {u = v} h g) = (each qs u more h, each more v rest g)
   form_servable ps t rest (an_apply {p1 = p1} {named = named} {ts = ts} h g count) = (tt, enclosed m.RightParenthesis p1 ts rest g)
   form_servable ps t rest (a_call {p2 = p2} {module_name = a} {function_name = f} {callee = callee} {ts = ts} h g i c) =
@@ -95,20 +97,22 @@ module _ (own : List ℕ) (n : ℕ) (Inner : List Piece → Tree → List Piece 
   form_servable ps t rest (a_primop {ps = qs} {t = name} {callee = callee} {ts = ts} h o) = (with_all callee ts (operated name (length ts) callee o), enclosed m.RightParenthesis qs ts rest h)
   form_servable ps t rest (a_try {ps = qs} {p1 = p1} {p2 = p2} {p3 = p3} {p4 = p4} {bt = bt} {dt = dt} {t = u} {u = v} {h = w} h g i j l) = (each qs u (word bt k.Of ∷ p1) h, each p2 v (word dt k.Catch ∷ p3) i, each p4 w rest l)
   form_servable ps t rest (a_catch {ps = qs} {t = u} h) = each qs u rest h
+  form_servable ps t rest (a_receive {ps = qs} {p1 = p1} {p2 = p2} {bt = bt} {ct = ct} {cs = cs} {t = u} {u = v} h g i) =
+      (clauses_servable cs (row_holds (Branch subjects.Message) ClauseServable (branches subjects.Message) qs cs (word bt k.After ∷ p1) h), each p1 u (mark ct m.Arrow ∷ p2) g, each p2 v rest i)
 
 module _ (own : List ℕ) where
-  either_clause : (n : ℕ) → Holds (Expression own n) IsServable → Holds (AnnotatedClause own n) ClauseServable → Holds (Clause own n) ClauseServable
-  either_clause n each noted ps c rest (stands_bare h) = clause_servable (PatternsIn n) (Expression own n) each ps c rest h
-  either_clause n each noted ps c rest (stands_noted h) = noted ps c rest h
+  either_clause : (n : ℕ) (subject : Subject) → Holds (Expression own n) IsServable → Holds (AnnotatedClause own n subject) ClauseServable → Holds (Clause own n subject) ClauseServable
+  either_clause n subject each noted ps c rest (stands_bare h) = clause_servable (PatternsIn n subject) (Expression own n) each ps c rest h
+  either_clause n subject each noted ps c rest (stands_noted h) = noted ps c rest h
 
-  both_servable : (n : ℕ) → Holds (Expression own n) IsServable × Holds (AnnotatedClause own n) ClauseServable
-  both_servable zero = (λ ps t rest h. absurd h, λ ps c rest h. absurd h)
+  both_servable : (n : ℕ) → Holds (Expression own n) IsServable × ((subject : Subject) → Holds (AnnotatedClause own n subject) ClauseServable)
+  both_servable zero = (λ ps t rest h. absurd h, λ subject ps c rest h. absurd h)
   both_servable (suc n) =
       let b = both_servable n in
-      (form_servable own n (Expression own n) (Clause own n) b.0 (either_clause n b.0 b.1), λ ps c rest h. inside n b.0 b.1 ps c rest h)
+      (form_servable own n (Expression own n) (Clause own n) b.0 (λ subject. either_clause n subject b.0 (b.1 subject)), λ subject ps c rest h. inside n subject b.0 (b.1 subject) ps c rest h)
     where
-      inside : (l : ℕ) → Holds (Expression own l) IsServable → Holds (AnnotatedClause own l) ClauseServable → Holds (InNote (Clause own l) (ConstantIn l)) ClauseServable
-      inside l each noted ps c rest (in_note {ps = qs} {more = more} h g) = either_clause l each noted qs c more h
+      inside : (l : ℕ) (subject : Subject) → Holds (Expression own l) IsServable → Holds (AnnotatedClause own l subject) ClauseServable → Holds (InNote (Clause own l subject) (ConstantIn l)) ClauseServable
+      inside l subject each noted ps c rest (in_note {ps = qs} {more = more} h g) = either_clause l subject each noted qs c more h
 
   -- ---- definitions
 

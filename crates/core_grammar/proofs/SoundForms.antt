@@ -1,17 +1,19 @@
 -- What is read as an expression or a clause is spelt as one.
 use Rattle.std.proofs.Common.{◌≡◌, ℕ, zero, suc, cond, List, [], ◌∷◌, length, Option, Some, None, Ok, refl, ap, ◌∙◌, subst}
 use Rattle.core_tokens.specs.declared.token.Mark.TheVariants as m
+use Rattle.core_grammar.specs.declared.subject.Subject.{Subject}
+use Rattle.core_grammar.specs.declared.subject.Subject.TheVariants as subjects
 use Rattle.core_tokens.specs.declared.token.Keyword.TheVariants as k
 use Rattle.core_tokens.specs.Piece.{Piece, Shape}
 use Rattle.core_tokens.specs.Piece as lexemes
 use Rattle.core_tree.specs.Syntax.{Mention, NamedAt, Callee, Pattern, Tree, trees_of, ClauseTree, clauses_of}
 use Rattle.core_tree.specs.Callee as callees
 use Rattle.core_tree.specs.Expression as trees
-use Rattle.core_grammar.specs.Grammar.{mark, word, atom, InNote, in_note, Either, stands_bare, stands_noted, Enclosed, Row, ConstantIn, BareName, FunctionName, BareAtom, is_the_atom, AtomIn, Variables, CaughtVariables, PatternForm, matches_noted, PatternIn, patterns_in_angles, Angles, one_pattern, many_patterns, PatternsIn, Operates, HasNoSlash, IsNoSlash, BareClause, is_clause, Form, a_number, a_character, a_text, a_name, a_variable, a_tuple, a_list, a_join, some_values, a_noted, a_let, a_case, a_do, an_apply, a_call, a_primop, a_try, a_catch, Expression, AnnotatedClause}
+use Rattle.core_grammar.specs.Grammar.{mark, word, atom, InNote, in_note, Either, stands_bare, stands_noted, Enclosed, Row, ConstantIn, BareName, FunctionName, BareAtom, is_the_atom, AtomIn, Variables, CaughtVariables, PatternForm, matches_noted, PatternIn, Fits, patterns_in_angles, Angles, one_pattern, many_patterns, PatternsIn, Operates, HasNoSlash, IsNoSlash, BareClause, is_clause, Form, a_number, a_character, a_text, a_name, a_variable, a_tuple, a_list, a_join, some_values, a_noted, a_let, a_case, a_do, an_apply, a_call, a_primop, a_try, a_catch, a_receive, Expression, AnnotatedClause}
 use Rattle.core_grammar.specs.declared.unserved.Unserved.{Unserved}
 use Rattle.core_grammar.specs.declared.unserved.Unserved.TheVariants as unserved
 use Rattle.core_grammar.specs.inside.Decoder.{State, Read, with_pieces, is_mark, after_mark, after_word, atom_in, named_by, constant_at, pattern_at}
-use Rattle.core_grammar.specs.inside.DecoderForms.{callee_fault, bare_callee_at, callee_at, applied_fault, applied_atom_at, behind_applied_by, bare_applied_at, applied_at, callee_named, operation_named, earlier, refuse, judged, tree_list, name_by, Start, OnePattern, ManyPatterns, WholeClause, tuple_at, list_at, values_at, let_at, do_at, apply_at, call_at, primop_at, try_at, catch_at, behind_patterns_at, clause_of, start_by, started, inside_start_at, aliased, noted_start_at, bare_start_by, bare_start_at, start_last, start_next, clause_at, case_at, form_by, form_of, form_at, expression_at, start_at}
+use Rattle.core_grammar.specs.inside.DecoderForms.{callee_fault, bare_callee_at, callee_at, applied_fault, applied_atom_at, behind_applied_by, bare_applied_at, applied_at, callee_named, operation_named, earlier, refuse, judged, tree_list, name_by, Start, OnePattern, ManyPatterns, WholeClause, tuple_at, list_at, values_at, let_at, do_at, apply_at, call_at, primop_at, try_at, catch_at, behind_patterns_at, clause_of, start_by, started, inside_start_at, aliased, noted_start_at, angles_at, bare_start_by, bare_start_at, start_last, start_next, clause_at, case_at, receive_at, form_by, form_of, form_at, expression_at, start_at}
 use Rattle.core_grammar.proofs.Steps.{ok_is, bind_ok, after_mark_found, mark_steps, word_steps, taken_ok, atom_of_front, atom_steps, named_by_some, behind_atom_sound, Sound}
 use Rattle.core_grammar.proofs.SoundLists.{closed_sound, Bracketed, brackets_sound, exactly_sound, rows_sound}
 use Rattle.core_grammar.proofs.SoundNames.{in_note_sound, constant_sound, at_front, noted_sound, variables_sound, caught_sound}
@@ -86,7 +88,7 @@ judged_sound at u None ts s c t e done =
 
 module _ (own : List ℕ) (n : ℕ) (inner : State → Read Tree) (Inner : List Piece → Tree → List Piece → Type 0) (each : Sound None inner Inner) where
   abbrev Clause' : Type 1
-  Clause' = List Piece → ClauseTree → List Piece → Type 0
+  Clause' = Subject → List Piece → ClauseTree → List Piece → Type 0
 
   -- an expression whose first token is this one
   abbrev Finds : Clause' → ℕ → Shape → List Piece → State → Tree → State → Type 0
@@ -250,9 +252,9 @@ module _ (own : List ℕ) (n : ℕ) (inner : State → Read Tree) (Inner : List 
 
   -- ---- clauses
 
-  behind_patterns_sound : (qs : List Pattern) (ps : List Piece) (s : State) (c : ClauseTree) (t : State) → behind_patterns_at own n inner qs s ≡ Ok (c, t) → t.refused ≡ None → (s.refused ≡ None) × (PatternsIn n ps qs s.pieces → BareClause (PatternsIn n) Inner ps c t.pieces)
+  behind_patterns_sound : (subject : Subject) (qs : List Pattern) (ps : List Piece) (s : State) (c : ClauseTree) (t : State) → behind_patterns_at own n inner qs s ≡ Ok (c, t) → t.refused ≡ None → (s.refused ≡ None) × (PatternsIn n subject ps qs s.pieces → BareClause (PatternsIn n subject) Inner ps c t.pieces)
   unfolding behind_patterns_at
-  behind_patterns_sound qs ps s c t e done =
+  behind_patterns_sound subject qs ps s c t e done =
       let a = bind_ok _ _ _ e in
       let g = bind_ok _ _ _ a.2 in
       let b = bind_ok _ _ _ g.2 in
@@ -261,25 +263,25 @@ module _ (own : List ℕ) (n : ℕ) (inner : State → Read Tree) (Inner : List 
       let same : (made, y.0.1) ≡ (c, t) = ok_is _ _ y.2 in
       let s0 = word_steps k.When s a.0 a.1 in
       let s2 = mark_steps m.Arrow g.0.1 b.0 b.1 in
-      subst (λ (r : ClauseTree × State). r.1.refused ≡ None → (s.refused ≡ None) × (PatternsIn n ps qs s.pieces → BareClause (PatternsIn n) Inner ps r.0 r.1.pieces)) same
+      subst (λ (r : ClauseTree × State). r.1.refused ≡ None → (s.refused ≡ None) × (PatternsIn n subject ps qs s.pieces → BareClause (PatternsIn n subject) Inner ps r.0 r.1.pieces)) same
       (λ d.
       let body = each b.0 y.0.0 y.0.1 y.1 d in
       let guard = each a.0 g.0.0 g.0.1 g.1 (s2.back body.0) in
-      (s0.back guard.0, λ h. is_clause (goes_to (PatternsIn n) _ _ _ _ s0.pieces h) (goes_to Inner _ _ _ _ s2.pieces guard.1) body.1)) done
+      (s0.back guard.0, λ h. is_clause (goes_to (PatternsIn n subject) _ _ _ _ s0.pieces h) (goes_to Inner _ _ _ _ s2.pieces guard.1) body.1)) done
 
-  module _ (Whole : List Piece → ClauseTree → List Piece → Type 0) where
+  module _ (subject : Subject) (Whole : List Piece → ClauseTree → List Piece → Type 0) where
     abbrev AnyClause : List Piece → ClauseTree → List Piece → Type 0
-    AnyClause ps c rest = Either (BareClause (PatternsIn n) Inner) Whole ps c rest
+    AnyClause ps c rest = Either (BareClause (PatternsIn n subject) Inner) Whole ps c rest
 
     -- what a start of a clause says
     abbrev pub Starts : List Piece → Start → List Piece → Type 0
     Starts ps (OnePattern q) rest = PatternIn n ps q rest
-    Starts ps (ManyPatterns qs) rest = Angles n ps qs rest
+    Starts ps (ManyPatterns qs) rest = Angles n subject ps qs rest
     Starts ps (WholeClause c) rest = Whole ps c rest
 
     clause_of_sound : (x : Start) (ps : List Piece) (s : State) (c : ClauseTree) (t : State) → clause_of own n inner x s ≡ Ok (c, t) → t.refused ≡ None → (s.refused ≡ None) × (Starts ps x s.pieces → AnyClause ps c t.pieces)
-    clause_of_sound (OnePattern q) ps s c t e done = let h = behind_patterns_sound (q ∷ []) ps s c t e done in (h.0, λ g. stands_bare (h.1 (one_pattern g)))
-    clause_of_sound (ManyPatterns qs) ps s c t e done = let h = behind_patterns_sound qs ps s c t e done in (h.0, λ g. stands_bare (h.1 (many_patterns g)))
+    clause_of_sound (OnePattern q) ps s c t e done = let h = behind_patterns_sound subject (q ∷ []) ps s c t e done in (h.0, λ g. stands_bare (h.1 (one_pattern g)))
+    clause_of_sound (ManyPatterns qs) ps s c t e done = let h = behind_patterns_sound subject qs ps s c t e done in (h.0, λ g. stands_bare (h.1 (many_patterns g)))
     clause_of_sound (WholeClause d) ps s c t e done =
         let same : (d, s) ≡ (c, t) = ok_is _ _ e in
         subst (λ (r : ClauseTree × State). r.1.refused ≡ None → (s.refused ≡ None) × (Starts ps (WholeClause d) s.pieces → AnyClause ps r.0 r.1.pieces)) same (λ f. (f, λ g. stands_noted g)) done
@@ -287,7 +289,7 @@ module _ (own : List ℕ) (n : ℕ) (inner : State → Read Tree) (Inner : List 
     -- what the start of a clause says inside the parentheses of an annotation
     abbrev pub StartsInside : List Piece → Start → List Piece → Type 0
     StartsInside ps (OnePattern q) rest = PatternIn n ps q rest
-    StartsInside ps (ManyPatterns qs) rest = Angles n ps qs rest
+    StartsInside ps (ManyPatterns qs) rest = Angles n subject ps qs rest
     StartsInside ps (WholeClause c) rest = AnyClause ps c rest
 
     abbrev goes_inside : (x : Start) → (ps rest : List Piece) → Starts ps x rest → StartsInside ps x rest
@@ -324,13 +326,13 @@ module _ (own : List ℕ) (n : ℕ) (inner : State → Read Tree) (Inner : List 
       -- what an annotated start says one level higher
       abbrev StartsNoted : List Piece → Start → List Piece → Type 0
       StartsNoted ps (OnePattern q) rest = PatternIn (suc n) ps q rest
-      StartsNoted ps (ManyPatterns qs) rest = Angles (suc n) ps qs rest
+      StartsNoted ps (ManyPatterns qs) rest = Angles (suc n) subject ps qs rest
       StartsNoted ps (WholeClause c) rest = InNote AnyClause (ConstantIn n) ps c rest
 
       one_noted : (ps : List Piece) (q : Pattern) (rest : List Piece) → InNote StartsInside (ConstantIn n) ps (OnePattern q) rest → PatternForm (PatternIn n) (ConstantIn n) ps q rest
       one_noted ps q rest (in_note h g) = matches_noted (in_note h g)
 
-      many_noted : (ps : List Piece) (qs : List Pattern) (rest : List Piece) → InNote StartsInside (ConstantIn n) ps (ManyPatterns qs) rest → Angles (suc n) ps qs rest
+      many_noted : (ps : List Piece) (qs : List Pattern) (rest : List Piece) → InNote StartsInside (ConstantIn n) ps (ManyPatterns qs) rest → Angles (suc n) subject ps qs rest
       many_noted ps qs rest (in_note h g) = stands_noted (in_note h g)
 
       whole_noted : (ps : List Piece) (c : ClauseTree) (rest : List Piece) → InNote StartsInside (ConstantIn n) ps (WholeClause c) rest → InNote AnyClause (ConstantIn n) ps c rest
@@ -359,126 +361,161 @@ module _ (own : List ℕ) (n : ℕ) (inner : State → Read Tree) (Inner : List 
           let g = in_note_sound (constant_at n) (ConstantIn n) (constant_sound n) (inside_start_at own n inner start) StartsInside inside_sound at ps s x.0.0 x.0.1 x.1 h.0 in
           (g.0, h.1 g.1)
 
-      pub clause_sound : Sound None (clause_at own n inner start) AnyClause
-      unfolding clause_at
-      clause_sound s c t e done =
-          let x = bind_ok _ _ _ e in
-          let h = clause_of_sound x.0.0 s.pieces x.0.1 c t x.2 done in
-          let g = starts s x.0.0 x.0.1 x.1 h.0 in
-          (g.0, h.1 g.1)
+  -- clauses of a `case` and of a `receive`, each with its own starts
+  module _ (Whole : Subject → List Piece → ClauseTree → List Piece → Type 0) (start : Subject → State → Read Start) (starts : (subject : Subject) → Sound None (start subject) (Starts subject (Whole subject))) where
+    abbrev AnyOf : Subject → List Piece → ClauseTree → List Piece → Type 0
+    AnyOf subject ps c rest = AnyClause subject (Whole subject) ps c rest
 
-      case_sound : (at : ℕ) (ps : List Piece) (s : State) (c : Tree) (t : State) → case_at own n inner start at (with_pieces s ps) ≡ Ok (c, t) → Finds AnyClause at (lexemes.Word k.Case) ps s c t
-      unfolding case_at
-      case_sound at ps s c t e =
-          let x = bind_ok _ _ _ e in
-          let a = bind_ok _ _ _ x.2 in
-          let f = bind_ok _ _ _ a.2 in
-          let g = bind_ok _ _ _ f.2 in
-          let b = bind_ok _ _ _ g.2 in
-          let same : (trees.Case at x.0.0 (clauses_of (f.0.0 ∷ g.0.0)), b.0) ≡ (c, t) = ok_is _ _ b.2 in
-          let s1 = word_steps k.Of x.0.1 a.0 a.1 in
-          let s2 = word_steps k.End g.0.1 b.0 b.1 in
-          subst (λ (r : Tree × State). Finds AnyClause at (lexemes.Word k.Case) ps s r.0 r.1) same
-          (λ d.
-          let others = rows_sound (clause_at own n inner start) AnyClause clause_sound f.0.1 g.0.0 g.0.1 g.1 (s2.back d) in
-          let first = clause_sound a.0 f.0.0 f.0.1 f.1 others.0 in
-          let value = each (with_pieces s ps) x.0.0 x.0.1 x.1 (s1.back first.0) in
-          (value.0, a_case (goes_to Inner _ _ _ _ s1.pieces value.1) first.1 (goes_to (Row AnyClause) _ _ _ _ s2.pieces others.1)))
+    pub clause_sound : (subject : Subject) → Sound None (clause_at own n inner start subject) (AnyOf subject)
+    unfolding clause_at
+    clause_sound subject s c t e done =
+        let x = bind_ok _ _ _ e in
+        let h = clause_of_sound subject (Whole subject) x.0.0 s.pieces x.0.1 c t x.2 done in
+        let g = starts subject s x.0.0 x.0.1 x.1 h.0 in
+        (g.0, h.1 g.1)
 
-      form_by_sound : (at : ℕ) (shape : Shape) (ps : List Piece) (s : State) (c : Tree) (t : State) → form_by own n inner start at shape ps s ≡ Ok (c, t) → Finds AnyClause at shape ps s c t
-      form_by_sound at (lexemes.Integer i) ps s c t e =
-          let same : (trees.Integer i, with_pieces s ps) ≡ (c, t) = ok_is _ _ e in
-          subst (λ (r : Tree × State). Finds AnyClause at (lexemes.Integer i) ps s r.0 r.1) same (λ d. (d, a_number))
-      form_by_sound at (lexemes.Character i) ps s c t e =
-          let same : (trees.Character i, with_pieces s ps) ≡ (c, t) = ok_is _ _ e in
-          subst (λ (r : Tree × State). Finds AnyClause at (lexemes.Character i) ps s r.0 r.1) same (λ d. (d, a_character))
-      form_by_sound at (lexemes.Text i) ps s c t e =
-          let same : (trees.Text i, with_pieces s ps) ≡ (c, t) = ok_is _ _ e in
-          subst (λ (r : Tree × State). Finds AnyClause at (lexemes.Text i) ps s r.0 r.1) same (λ d. (d, a_text))
-      form_by_sound at (lexemes.Atom x) ps s c t e = name_sound AnyClause at (after_mark m.Slash ps) x ps s c t refl e
-      form_by_sound at (lexemes.Variable v) ps s c t e =
-          let here : Mention = record { at = at; name = v } in
-          let same : (trees.Variable here, with_pieces s ps) ≡ (c, t) = ok_is _ _ e in
-          subst (λ (r : Tree × State). Finds AnyClause at (lexemes.Variable v) ps s r.0 r.1) same (λ d. (d, a_variable))
-      form_by_sound at (lexemes.Mark m.LeftBrace) ps s c t e = tuple_sound AnyClause at ps s c t e
-      form_by_sound at (lexemes.Mark m.LeftBracket) ps s c t e = list_sound AnyClause at ps s c t e
-      form_by_sound at (lexemes.Mark m.Less) ps s c t e = values_sound AnyClause at ps s c t e
-      form_by_sound at (lexemes.Mark m.LeftParenthesis) ps s c t e = λ d. let h = in_note_sound (constant_at n) (ConstantIn n) (constant_sound n) inner Inner each at ps s c t e d in (h.0, a_noted h.1)
-      form_by_sound at (lexemes.Word k.Let) ps s c t e = let_sound AnyClause at ps s c t e
-      form_by_sound at (lexemes.Word k.Case) ps s c t e = case_sound at ps s c t e
-      form_by_sound at (lexemes.Word k.Do) ps s c t e = do_sound AnyClause at ps s c t e
-      form_by_sound at (lexemes.Word k.Apply) ps s c t e = apply_sound AnyClause at ps s c t e
-      form_by_sound at (lexemes.Word k.Call) ps s c t e = call_sound AnyClause at ps s c t e
-      form_by_sound at (lexemes.Word k.Primop) ps s c t e = primop_sound AnyClause at ps s c t e
-      form_by_sound at (lexemes.Word k.Try) ps s c t e = try_sound AnyClause at ps s c t e
-      form_by_sound at (lexemes.Word k.Catch) ps s c t e = catch_sound AnyClause at ps s c t e
-      form_by_sound at shape ps s c t e = absurd cc
+    case_sound : (at : ℕ) (ps : List Piece) (s : State) (c : Tree) (t : State) → case_at own n inner start at (with_pieces s ps) ≡ Ok (c, t) → Finds AnyOf at (lexemes.Word k.Case) ps s c t
+    unfolding case_at
+    case_sound at ps s c t e =
+        let x = bind_ok _ _ _ e in
+        let a = bind_ok _ _ _ x.2 in
+        let f = bind_ok _ _ _ a.2 in
+        let g = bind_ok _ _ _ f.2 in
+        let b = bind_ok _ _ _ g.2 in
+        let same : (trees.Case at x.0.0 (clauses_of (f.0.0 ∷ g.0.0)), b.0) ≡ (c, t) = ok_is _ _ b.2 in
+        let s1 = word_steps k.Of x.0.1 a.0 a.1 in
+        let s2 = word_steps k.End g.0.1 b.0 b.1 in
+        subst (λ (r : Tree × State). Finds AnyOf at (lexemes.Word k.Case) ps s r.0 r.1) same
+        (λ d.
+        let others = rows_sound (clause_at own n inner start subjects.Values) (AnyOf subjects.Values) (clause_sound subjects.Values) k.End f.0.1 g.0.0 g.0.1 g.1 (s2.back d) in
+        let first = clause_sound subjects.Values a.0 f.0.0 f.0.1 f.1 others.0 in
+        let value = each (with_pieces s ps) x.0.0 x.0.1 x.1 (s1.back first.0) in
+        (value.0, a_case (goes_to Inner _ _ _ _ s1.pieces value.1) first.1 (goes_to (Row (AnyOf subjects.Values)) _ _ _ _ s2.pieces others.1)))
 
-      form_of_sound : (ps : List Piece) (s : State) (c : Tree) (t : State) → form_of own n inner start ps s ≡ Ok (c, t) → t.refused ≡ None → (s.refused ≡ None) × Form own n Inner AnyClause ps c t.pieces
-      form_of_sound [] s c t e done = absurd cc
-      form_of_sound (p ∷ ps) s c t e done = form_by_sound p.at p.shape ps s c t e done
+    receive_sound : (at : ℕ) (ps : List Piece) (s : State) (c : Tree) (t : State) → receive_at own n inner start at (with_pieces s ps) ≡ Ok (c, t) → Finds AnyOf at (lexemes.Word k.Receive) ps s c t
+    unfolding receive_at
+    receive_sound at ps s c t e =
+        let f = bind_ok _ _ _ e in
+        let a = bind_ok _ _ _ f.2 in
+        let x = bind_ok _ _ _ a.2 in
+        let b = bind_ok _ _ _ x.2 in
+        let y = bind_ok _ _ _ b.2 in
+        let same : (trees.Receive at (clauses_of f.0.0) x.0.0 y.0.0, y.0.1) ≡ (c, t) = ok_is _ _ y.2 in
+        let s1 = word_steps k.After f.0.1 a.0 a.1 in
+        let s2 = mark_steps m.Arrow x.0.1 b.0 b.1 in
+        subst (λ (r : Tree × State). Finds AnyOf at (lexemes.Word k.Receive) ps s r.0 r.1) same
+        (λ d.
+        let action = each b.0 y.0.0 y.0.1 y.1 d in
+        let timeout = each a.0 x.0.0 x.0.1 x.1 (s2.back action.0) in
+        let clauses = rows_sound (clause_at own n inner start subjects.Message) (AnyOf subjects.Message) (clause_sound subjects.Message) k.After (with_pieces s ps) f.0.0 f.0.1 f.1 (s1.back timeout.0) in
+        (clauses.0, a_receive (goes_to (Row (AnyOf subjects.Message)) _ _ _ _ s1.pieces clauses.1) (goes_to Inner _ _ _ _ s2.pieces timeout.1) action.1))
 
-      pub form_sound : Sound None (form_at own n inner start) (Form own n Inner AnyClause)
-      unfolding form_at
-      form_sound s c t e done = form_of_sound s.pieces s c t e done
+    form_by_sound : (at : ℕ) (shape : Shape) (ps : List Piece) (s : State) (c : Tree) (t : State) → form_by own n inner start at shape ps s ≡ Ok (c, t) → Finds AnyOf at shape ps s c t
+    form_by_sound at (lexemes.Integer i) ps s c t e =
+        let same : (trees.Integer i, with_pieces s ps) ≡ (c, t) = ok_is _ _ e in
+        subst (λ (r : Tree × State). Finds AnyOf at (lexemes.Integer i) ps s r.0 r.1) same (λ d. (d, a_number))
+    form_by_sound at (lexemes.Character i) ps s c t e =
+        let same : (trees.Character i, with_pieces s ps) ≡ (c, t) = ok_is _ _ e in
+        subst (λ (r : Tree × State). Finds AnyOf at (lexemes.Character i) ps s r.0 r.1) same (λ d. (d, a_character))
+    form_by_sound at (lexemes.Text i) ps s c t e =
+        let same : (trees.Text i, with_pieces s ps) ≡ (c, t) = ok_is _ _ e in
+        subst (λ (r : Tree × State). Finds AnyOf at (lexemes.Text i) ps s r.0 r.1) same (λ d. (d, a_text))
+    form_by_sound at (lexemes.Atom x) ps s c t e = name_sound AnyOf at (after_mark m.Slash ps) x ps s c t refl e
+    form_by_sound at (lexemes.Variable v) ps s c t e =
+        let here : Mention = record { at = at; name = v } in
+        let same : (trees.Variable here, with_pieces s ps) ≡ (c, t) = ok_is _ _ e in
+        subst (λ (r : Tree × State). Finds AnyOf at (lexemes.Variable v) ps s r.0 r.1) same (λ d. (d, a_variable))
+    form_by_sound at (lexemes.Mark m.LeftBrace) ps s c t e = tuple_sound AnyOf at ps s c t e
+    form_by_sound at (lexemes.Mark m.LeftBracket) ps s c t e = list_sound AnyOf at ps s c t e
+    form_by_sound at (lexemes.Mark m.Less) ps s c t e = values_sound AnyOf at ps s c t e
+    form_by_sound at (lexemes.Mark m.LeftParenthesis) ps s c t e = λ d. let h = in_note_sound (constant_at n) (ConstantIn n) (constant_sound n) inner Inner each at ps s c t e d in (h.0, a_noted h.1)
+    form_by_sound at (lexemes.Word k.Let) ps s c t e = let_sound AnyOf at ps s c t e
+    form_by_sound at (lexemes.Word k.Case) ps s c t e = case_sound at ps s c t e
+    form_by_sound at (lexemes.Word k.Do) ps s c t e = do_sound AnyOf at ps s c t e
+    form_by_sound at (lexemes.Word k.Apply) ps s c t e = apply_sound AnyOf at ps s c t e
+    form_by_sound at (lexemes.Word k.Call) ps s c t e = call_sound AnyOf at ps s c t e
+    form_by_sound at (lexemes.Word k.Primop) ps s c t e = primop_sound AnyOf at ps s c t e
+    form_by_sound at (lexemes.Word k.Try) ps s c t e = try_sound AnyOf at ps s c t e
+    form_by_sound at (lexemes.Word k.Catch) ps s c t e = catch_sound AnyOf at ps s c t e
+    form_by_sound at (lexemes.Word k.Receive) ps s c t e = receive_sound at ps s c t e
+    form_by_sound at shape ps s c t e = absurd cc
+
+    form_of_sound : (ps : List Piece) (s : State) (c : Tree) (t : State) → form_of own n inner start ps s ≡ Ok (c, t) → t.refused ≡ None → (s.refused ≡ None) × Form own n Inner AnyOf ps c t.pieces
+    form_of_sound [] s c t e done = absurd cc
+    form_of_sound (p ∷ ps) s c t e done = form_by_sound p.at p.shape ps s c t e done
+
+    pub form_sound : Sound None (form_at own n inner start) (Form own n Inner AnyOf)
+    unfolding form_at
+    form_sound s c t e done = form_of_sound s.pieces s c t e done
 
 -- ---- the start of a clause
 
-abbrev pub StartsAt : List ℕ → ℕ → List Piece → Start → List Piece → Type 0
-StartsAt own n ps (OnePattern q) rest = PatternIn n ps q rest
-StartsAt own n ps (ManyPatterns qs) rest = Angles n ps qs rest
-StartsAt own n ps (WholeClause c) rest = AnnotatedClause own n ps c rest
+abbrev pub StartsAt : List ℕ → ℕ → Subject → List Piece → Start → List Piece → Type 0
+StartsAt own n subject ps (OnePattern q) rest = PatternIn n ps q rest
+StartsAt own n subject ps (ManyPatterns qs) rest = Angles n subject ps qs rest
+StartsAt own n subject ps (WholeClause c) rest = AnnotatedClause own n subject ps c rest
 
-bare_start_by_sound : (own : List ℕ) (n : ℕ) (o : Option (List Piece)) (s : State) (x : Start) (t : State) → after_mark m.Less s.pieces ≡ o → bare_start_by n o s ≡ Ok (x, t) → t.refused ≡ None → (s.refused ≡ None) × StartsAt own n s.pieces x t.pieces
-bare_start_by_sound own n (Some ps) s x t is e done =
+-- patterns in angles fit what the clause matches
+angles_sound : (n : ℕ) (subject : Subject) (s : State) (qs : List Pattern) (t : State) → angles_at n subject s ≡ Ok (qs, t) → t.refused ≡ None → (s.refused ≡ None) × Enclosed (PatternIn n) m.Greater s.pieces qs t.pieces × Fits subject qs
+unfolding angles_at
+angles_sound n subjects.Values s qs t e done = let h = closed_sound (pattern_at n) (PatternIn n) (pattern_sound n) m.Greater s qs t e done in (h.0, h.1, tt)
+angles_sound n subjects.Message s qs t e done =
+    let a = bind_ok _ _ _ e in
+    let b = bind_ok _ _ _ a.2 in
+    let same : (a.0.0, b.0) ≡ (qs, t) = ok_is _ _ b.2 in
+    subst (λ (r : List Pattern × State). r.1.refused ≡ None → (s.refused ≡ None) × Enclosed (PatternIn n) m.Greater s.pieces r.0 r.1.pieces × (length r.0 ≡ 1)) same
+    (λ d. exactly_sound (pattern_at n) (PatternIn n) (pattern_sound n) m.Greater 1 s a.0.0 a.0.1 b.0 a.1 (mark_steps m.Greater a.0.1 b.0 b.1) d) done
+
+bare_start_by_sound : (own : List ℕ) (n : ℕ) (subject : Subject) (o : Option (List Piece)) (s : State) (x : Start) (t : State) → after_mark m.Less s.pieces ≡ o → bare_start_by n subject o s ≡ Ok (x, t) → t.refused ≡ None → (s.refused ≡ None) × StartsAt own n subject s.pieces x t.pieces
+bare_start_by_sound own n subject (Some ps) s x t is e done =
     let f = after_mark_found m.Less s.pieces ps is in
     let a = bind_ok _ _ _ e in
     let same : (ManyPatterns a.0.0, a.0.1) ≡ (x, t) = ok_is _ _ a.2 in
-    subst (λ (r : Start × State). r.1.refused ≡ None → (s.refused ≡ None) × StartsAt own n s.pieces r.0 r.1.pieces) same
+    subst (λ (r : Start × State). r.1.refused ≡ None → (s.refused ≡ None) × StartsAt own n subject s.pieces r.0 r.1.pieces) same
     (λ d.
-    let h = closed_sound (pattern_at n) (PatternIn n) (pattern_sound n) m.Greater (with_pieces s ps) a.0.0 a.0.1 a.1 d in
-    (h.0, at_front (Angles n) s.pieces (mark f.0 m.Less ∷ ps) a.0.0 a.0.1.pieces f.1 (stands_bare (patterns_in_angles h.1)))) done
-bare_start_by_sound own n None s x t is e done =
+    let h = angles_sound n subject (with_pieces s ps) a.0.0 a.0.1 a.1 d in
+    (h.0, at_front (Angles n subject) s.pieces (mark f.0 m.Less ∷ ps) a.0.0 a.0.1.pieces f.1 (stands_bare (patterns_in_angles h.1 h.2)))) done
+bare_start_by_sound own n subject None s x t is e done =
     let a = bind_ok _ _ _ e in
     let same : (OnePattern a.0.0, a.0.1) ≡ (x, t) = ok_is _ _ a.2 in
-    subst (λ (r : Start × State). r.1.refused ≡ None → (s.refused ≡ None) × StartsAt own n s.pieces r.0 r.1.pieces) same (λ d. pattern_sound n s a.0.0 a.0.1 a.1 d) done
+    subst (λ (r : Start × State). r.1.refused ≡ None → (s.refused ≡ None) × StartsAt own n subject s.pieces r.0 r.1.pieces) same (λ d. pattern_sound n s a.0.0 a.0.1 a.1 d) done
 
-bare_start_sound : (own : List ℕ) (n : ℕ) → Sound None (bare_start_at n) (StartsAt own n)
+bare_start_sound : (own : List ℕ) (n : ℕ) (subject : Subject) → Sound None (bare_start_at n subject) (StartsAt own n subject)
 unfolding bare_start_at
-bare_start_sound own n s x t e done = bare_start_by_sound own n (after_mark m.Less s.pieces) s x t refl e done
+bare_start_sound own n subject s x t e done = bare_start_by_sound own n subject (after_mark m.Less s.pieces) s x t refl e done
 
-start_last_sound : (own : List ℕ) (o : Option (List Piece)) (s : State) (x : Start) (t : State) → start_last o s ≡ Ok (x, t) → t.refused ≡ None → (s.refused ≡ None) × StartsAt own 0 s.pieces x t.pieces
-start_last_sound own (Some ps) s x t e done = absurd cc
-start_last_sound own None s x t e done = bare_start_sound own 0 s x t e done
+start_last_sound : (own : List ℕ) (subject : Subject) (o : Option (List Piece)) (s : State) (x : Start) (t : State) → start_last subject o s ≡ Ok (x, t) → t.refused ≡ None → (s.refused ≡ None) × StartsAt own 0 subject s.pieces x t.pieces
+start_last_sound own subject (Some ps) s x t e done = absurd cc
+start_last_sound own subject None s x t e done = bare_start_sound own 0 subject s x t e done
 
 module _ (own : List ℕ) where
-  start_next_sound : (n : ℕ) (each : Sound None (expression_at own n) (Expression own n)) (starts : Sound None (start_at own n) (StartsAt own n)) (o : Option (List Piece)) (s : State) (x : Start) (t : State) → after_mark m.LeftParenthesis s.pieces ≡ o
-      → start_next own n (expression_at own n) (start_at own n) o s ≡ Ok (x, t) → t.refused ≡ None → (s.refused ≡ None) × StartsAt own (suc n) s.pieces x t.pieces
-  start_next_sound n each starts (Some ps) s (OnePattern q) t is e done =
+  start_next_sound : (n : ℕ) (subject : Subject) (each : Sound None (expression_at own n) (Expression own n)) (starts : Sound None (start_at own n subject) (StartsAt own n subject)) (o : Option (List Piece)) (s : State) (x : Start) (t : State) → after_mark m.LeftParenthesis s.pieces ≡ o
+      → start_next own n subject (expression_at own n) (start_at own n subject) o s ≡ Ok (x, t) → t.refused ≡ None → (s.refused ≡ None) × StartsAt own (suc n) subject s.pieces x t.pieces
+  start_next_sound n subject each starts (Some ps) s (OnePattern q) t is e done =
       let f = after_mark_found m.LeftParenthesis s.pieces ps is in
-      let h = noted_start_sound own n (expression_at own n) (Expression own n) each (AnnotatedClause own n) (start_at own n) starts f.0 ps s (OnePattern q) t e done in
+      let h = noted_start_sound own n (expression_at own n) (Expression own n) each subject (AnnotatedClause own n subject) (start_at own n subject) starts f.0 ps s (OnePattern q) t e done in
       (h.0, at_front (PatternIn (suc n)) s.pieces (mark f.0 m.LeftParenthesis ∷ ps) q t.pieces f.1 h.1)
-  start_next_sound n each starts (Some ps) s (ManyPatterns qs) t is e done =
+  start_next_sound n subject each starts (Some ps) s (ManyPatterns qs) t is e done =
       let f = after_mark_found m.LeftParenthesis s.pieces ps is in
-      let h = noted_start_sound own n (expression_at own n) (Expression own n) each (AnnotatedClause own n) (start_at own n) starts f.0 ps s (ManyPatterns qs) t e done in
-      (h.0, at_front (Angles (suc n)) s.pieces (mark f.0 m.LeftParenthesis ∷ ps) qs t.pieces f.1 h.1)
-  start_next_sound n each starts (Some ps) s (WholeClause c) t is e done =
+      let h = noted_start_sound own n (expression_at own n) (Expression own n) each subject (AnnotatedClause own n subject) (start_at own n subject) starts f.0 ps s (ManyPatterns qs) t e done in
+      (h.0, at_front (Angles (suc n) subject) s.pieces (mark f.0 m.LeftParenthesis ∷ ps) qs t.pieces f.1 h.1)
+  start_next_sound n subject each starts (Some ps) s (WholeClause c) t is e done =
       let f = after_mark_found m.LeftParenthesis s.pieces ps is in
-      let h = noted_start_sound own n (expression_at own n) (Expression own n) each (AnnotatedClause own n) (start_at own n) starts f.0 ps s (WholeClause c) t e done in
-      (h.0, at_front (AnnotatedClause own (suc n)) s.pieces (mark f.0 m.LeftParenthesis ∷ ps) c t.pieces f.1 h.1)
-  start_next_sound n each starts None s x t is e done = bare_start_sound own (suc n) s x t e done
+      let h = noted_start_sound own n (expression_at own n) (Expression own n) each subject (AnnotatedClause own n subject) (start_at own n subject) starts f.0 ps s (WholeClause c) t e done in
+      (h.0, at_front (AnnotatedClause own (suc n) subject) s.pieces (mark f.0 m.LeftParenthesis ∷ ps) c t.pieces f.1 h.1)
+  start_next_sound n subject each starts None s x t is e done = bare_start_sound own (suc n) subject s x t e done
 
-  both_sound : (n : ℕ) → Sound None (expression_at own n) (Expression own n) × Sound None (start_at own n) (StartsAt own n)
+  both_sound : (n : ℕ) → Sound None (expression_at own n) (Expression own n) × ((subject : Subject) → Sound None (start_at own n subject) (StartsAt own n subject))
   unfolding expression_at start_at
-  both_sound zero = (λ s c t e done. absurd cc, λ s x t e done. start_last_sound own (after_mark m.LeftParenthesis s.pieces) s x t e done)
+  both_sound zero = (λ s c t e done. absurd cc, λ subject s x t e done. start_last_sound own subject (after_mark m.LeftParenthesis s.pieces) s x t e done)
   both_sound (suc n) =
       let h = both_sound n in (
         λ s c t e done. form_sound own n (expression_at own n) (Expression own n) h.0 (AnnotatedClause own n) (start_at own n) h.1 s c t e done,
-        λ s x t e done. start_next_sound n h.0 h.1 (after_mark m.LeftParenthesis s.pieces) s x t refl e done,
+        λ subject s x t e done. start_next_sound n subject h.0 (h.1 subject) (after_mark m.LeftParenthesis s.pieces) s x t refl e done,
       )
 
   pub expression_sound : (n : ℕ) → Sound None (expression_at own n) (Expression own n)
   expression_sound n = (both_sound n).0
 
-  pub start_sound : (n : ℕ) → Sound None (start_at own n) (StartsAt own n)
-  start_sound n = (both_sound n).1
+  pub start_sound : (n : ℕ) (subject : Subject) → Sound None (start_at own n subject) (StartsAt own n subject)
+  start_sound n subject = (both_sound n).1 subject

@@ -2,7 +2,7 @@
 use Rattle.std.proofs.Common.{◌≡◌, ℕ, zero, suc, true, false, List, [], ◌∷◌, length, Option, Some, None, Ok, refl, ap, subst}
 use Rattle.core_tokens.specs.declared.token.Mark.{Mark}
 use Rattle.core_tokens.specs.declared.token.Mark.TheVariants as m
-use Rattle.core_tokens.specs.declared.token.Keyword.TheVariants as k
+use Rattle.core_tokens.specs.declared.token.Keyword.{Keyword}
 use Rattle.core_tokens.specs.Piece.{Piece}
 use Rattle.core_grammar.specs.declared.unserved.Unserved.{Unserved}
 use Rattle.core_grammar.specs.Grammar.{mark, Commas, spells_one, spells_next, Enclosed, spells_none, spells_some, Row, ends_here, goes_on}
@@ -161,13 +161,13 @@ module _ {left : Option Unserved} {X : Type 0} (item : State → Read X) (Item :
 
   -- ---- items one behind the other
 
-  row_by_sound : (n : ℕ) (o : Option (List Piece)) (s : State) (xs : List X) (t : State)
-      → ((s1 : State) (ys : List X) (u : State) → row_at item n s1 ≡ Ok (ys, u) → u.refused ≡ left → (s1.refused ≡ left) × Row Item s1.pieces ys u.pieces)
-      → row_by item (row_at item n) o s ≡ Ok (xs, t) → t.refused ≡ left → (s.refused ≡ left) × Row Item s.pieces xs t.pieces
-  row_by_sound n (Some ps) s xs t again e done =
+  row_by_sound : (close : Keyword) (n : ℕ) (o : Option (List Piece)) (s : State) (xs : List X) (t : State)
+      → ((s1 : State) (ys : List X) (u : State) → row_at item close n s1 ≡ Ok (ys, u) → u.refused ≡ left → (s1.refused ≡ left) × Row Item s1.pieces ys u.pieces)
+      → row_by item (row_at item close n) o s ≡ Ok (xs, t) → t.refused ≡ left → (s.refused ≡ left) × Row Item s.pieces xs t.pieces
+  row_by_sound close n (Some ps) s xs t again e done =
       let same : ([], s) ≡ (xs, t) = ok_is _ _ e in
       subst (λ (y : List X × State). y.1.refused ≡ left → (s.refused ≡ left) × Row Item s.pieces y.0 y.1.pieces) same (λ d. (d, ends_here)) done
-  row_by_sound n None s xs t again e done =
+  row_by_sound close n None s xs t again e done =
       let a = bind_ok _ _ _ e in
       let b = bind_ok _ _ _ a.2 in
       let same : (a.0.0 ∷ b.0.0, b.0.1) ≡ (xs, t) = ok_is _ _ b.2 in
@@ -177,11 +177,11 @@ module _ {left : Option Unserved} {X : Type 0} (item : State → Read X) (Item :
       let g = each s a.0.0 a.0.1 a.1 h.0 in
       (g.0, goes_on g.1 h.1)) done
 
-  row_sound : (n : ℕ) (s : State) (xs : List X) (t : State) → row_at item n s ≡ Ok (xs, t) → t.refused ≡ left → (s.refused ≡ left) × Row Item s.pieces xs t.pieces
+  row_sound : (close : Keyword) (n : ℕ) (s : State) (xs : List X) (t : State) → row_at item close n s ≡ Ok (xs, t) → t.refused ≡ left → (s.refused ≡ left) × Row Item s.pieces xs t.pieces
   unfolding row_at
-  row_sound zero s xs t e done = absurd cc
-  row_sound (suc n) s xs t e done = row_by_sound n (after_word k.End s.pieces) s xs t (row_sound n) e done
+  row_sound close zero s xs t e done = absurd cc
+  row_sound close (suc n) s xs t e done = row_by_sound close n (after_word close s.pieces) s xs t (row_sound close n) e done
 
-  pub rows_sound : (s : State) (xs : List X) (t : State) → rows_at item s ≡ Ok (xs, t) → t.refused ≡ left → (s.refused ≡ left) × Row Item s.pieces xs t.pieces
+  pub rows_sound : (close : Keyword) (s : State) (xs : List X) (t : State) → rows_at item close s ≡ Ok (xs, t) → t.refused ≡ left → (s.refused ≡ left) × Row Item s.pieces xs t.pieces
   unfolding rows_at
-  rows_sound s xs t e done = row_sound (length s.pieces) s xs t e done
+  rows_sound close s xs t e done = row_sound close (length s.pieces) s xs t e done

@@ -241,7 +241,7 @@ bare_module_sound n s x t e done =
     let s1 = word_steps k.End d.0.1 w.0 w.1 in
     subst (λ (r : (ModuleTree × ℕ) × State). r.1.refused ≡ None → (s.refused ≡ None) × IsModule n s.pieces r.0 r.1.pieces) same
     (λ g.
-    let row = rows_sound (definition_at f.0.0.0 n) (Definition f.0.0.0 n) (definition_sound f.0.0.0 n) f.0.1 d.0.0 d.0.1 d.1 (s1.back g) in
+    let row = rows_sound (definition_at f.0.0.0 n) (Definition f.0.0.0 n) (definition_sound f.0.0.0 n) k.End f.0.1 d.0.0 d.0.1 d.1 (s1.back g) in
     let front = front_sound n s f.0.0 f.0.1 f.1 row.0 in
     (front.0, module_form n s1.at s.pieces f.0.1.pieces d.0.1.pieces w.0.pieces f.0.0 d.0.0 front.1 row.1 s1.pieces)) done
 

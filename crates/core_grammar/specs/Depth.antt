@@ -5,6 +5,8 @@ use Rattle.core_tokens.specs.declared.token.Keyword.{Keyword}
 use Rattle.core_tokens.specs.declared.token.Keyword.TheVariants as k
 use Rattle.core_tokens.specs.declared.token.Mark.{Mark}
 use Rattle.core_tokens.specs.declared.token.Mark.TheVariants as m
+use Rattle.core_grammar.specs.declared.subject.Subject.{Subject}
+use Rattle.core_grammar.specs.declared.subject.Subject.TheVariants as subjects
 use Rattle.core_tokens.specs.Piece.{Piece, Shape}
 use Rattle.core_tokens.specs.Piece as lexemes
 use Rattle.core_tree.specs.Syntax.{Mention, Pattern, Constant, Tree, ClauseTree}
@@ -150,18 +152,23 @@ module _ (at : ℕ) where
   DeepPattern zero ps = Front BeginsPattern at ps
   DeepPattern (suc n) ps = PartOf (PatternForm (PatternIn n) (ConstantIn n)) (InGroup (PatternIn n) (DeepPattern n) (ConstantIn n) (DeepConstant n)) (BehindVariable (PastMark m.Equals (DeepPattern n))) ps
 
-  abbrev pub DeepAngles : ℕ → List Piece → Type 0
-  DeepAngles n ps = DeepNoted (λ l. BareAngles (PatternIn l)) (λ l. PastMark m.Less (InCommas (PatternIn l) (DeepPattern l))) n ps
+  -- inside one of the patterns that stand in angles, which in a `receive` is the first
+  abbrev pub InAngles : ℕ → Subject → List Piece → Type 0
+  InAngles n subjects.Values ps = InCommas (PatternIn n) (DeepPattern n) ps
+  InAngles n subjects.Message ps = InItems (PatternIn n) (DeepPattern n) 1 ps
 
-  abbrev pub DeepPatterns : ℕ → List Piece → Type 0
-  DeepPatterns n ps = DeepPattern n ps ⊎ DeepAngles n ps
+  abbrev pub DeepAngles : ℕ → Subject → List Piece → Type 0
+  DeepAngles n subject ps = DeepNoted (λ l. BareAngles subject (PatternIn l)) (λ l. PastMark m.Less (InAngles l subject)) n ps
+
+  abbrev pub DeepPatterns : ℕ → Subject → List Piece → Type 0
+  DeepPatterns n subject ps = DeepPattern n ps ⊎ DeepAngles n subject ps
 
   -- inside an expression whose parts have at most n levels
-  pub data InForm (n : ℕ) (Inner : List Piece → Tree → List Piece → Type 0) (Deep : List Piece → Type 0) (Clauses : List Piece → ClauseTree → List Piece → Type 0) (DeepClauses : List Piece → Type 0) : List Piece → Type 0 where
+  pub data InForm (n : ℕ) (Inner : List Piece → Tree → List Piece → Type 0) (Deep : List Piece → Type 0) (Clauses : Subject → List Piece → ClauseTree → List Piece → Type 0) (DeepClauses : Subject → List Piece → Type 0) : List Piece → Type 0 where
     in_group : {ps : List Piece} → InGroup Inner Deep (ConstantIn n) (DeepConstant n) ps → InForm n Inner Deep Clauses DeepClauses ps
     in_values : {ps : List Piece} → PastMark m.Less (InCommas Inner Deep) ps → InForm n Inner Deep Clauses DeepClauses ps
     in_let : {ps : List Piece} → PastWord k.Let (Part (Variables n) (DeepVariables n) (PastMark m.Equals (Part Inner Deep (PastWord k.In Deep)))) ps → InForm n Inner Deep Clauses DeepClauses ps
-    in_case : {ps : List Piece} → PastWord k.Case (Part Inner Deep (PastWord k.Of (InRow Clauses DeepClauses))) ps → InForm n Inner Deep Clauses DeepClauses ps
+    in_case : {ps : List Piece} → PastWord k.Case (Part Inner Deep (PastWord k.Of (InRow (Clauses subjects.Values) (DeepClauses subjects.Values)))) ps → InForm n Inner Deep Clauses DeepClauses ps
     in_do : {ps : List Piece} → PastWord k.Do (Part Inner Deep Deep) ps → InForm n Inner Deep Clauses DeepClauses ps
     in_apply : {ps : List Piece} → PastWord k.Apply (PartOf (FunctionName n) (DeepName n) (λ named. PastMark m.LeftParenthesis (InItems Inner Deep named.function.arity))) ps → InForm n Inner Deep Clauses DeepClauses ps
     in_call : {ps : List Piece} → PastWord k.Call (Part (AtomIn n) (DeepAtom n) (PastMark m.Colon (Part (AtomIn n) (DeepAtom n) (PastMark m.LeftParenthesis (InCommas Inner Deep))))) ps → InForm n Inner Deep Clauses DeepClauses ps
@@ -169,21 +176,23 @@ module _ (at : ℕ) where
     in_try : {ps : List Piece} → PastWord k.Try (Part Inner Deep (PastWord k.Of (Part (Variables n) (DeepVariables n) (PastMark m.Arrow (Part Inner Deep (PastWord k.Catch (Part (CaughtVariables n) (DeepCaught n) (PastMark m.Arrow Deep)))))))) ps
         → InForm n Inner Deep Clauses DeepClauses ps
     in_catch : {ps : List Piece} → PastWord k.Catch Deep ps → InForm n Inner Deep Clauses DeepClauses ps
+    in_receive : {ps : List Piece} → PastWord k.Receive (Part (Row (Clauses subjects.Message)) (InRow (Clauses subjects.Message) (DeepClauses subjects.Message)) (PastWord k.After (Part Inner Deep (PastMark m.Arrow Deep)))) ps
+        → InForm n Inner Deep Clauses DeepClauses ps
 
   -- inside a clause that is not annotated
-  abbrev pub InClause : ℕ → (List Piece → Tree → List Piece → Type 0) → (List Piece → Type 0) → List Piece → Type 0
-  InClause n Inner Deep ps = Part (PatternsIn n) (DeepPatterns n) (PastWord k.When (Part Inner Deep (PastMark m.Arrow Deep))) ps
+  abbrev pub InClause : ℕ → Subject → (List Piece → Tree → List Piece → Type 0) → (List Piece → Type 0) → List Piece → Type 0
+  InClause n subject Inner Deep ps = Part (PatternsIn n subject) (DeepPatterns n subject) (PastWord k.When (Part Inner Deep (PastMark m.Arrow Deep))) ps
 
   -- in the module `own`
   module _ (own : List ℕ) where
     abbrev mutual
       pub DeepExpression : ℕ → List Piece → Type 0
       DeepExpression zero ps = Front BeginsExpression at ps
-      DeepExpression (suc n) ps = InForm n (Expression own n) (DeepExpression n) (Clause own n) (λ qs. InClause n (Expression own n) (DeepExpression n) qs ⊎ DeepAnnotatedClause n qs) ps
+      DeepExpression (suc n) ps = InForm n (Expression own n) (DeepExpression n) (Clause own n) (λ subject qs. InClause n subject (Expression own n) (DeepExpression n) qs ⊎ DeepAnnotatedClause n subject qs) ps
 
-      pub DeepAnnotatedClause : ℕ → List Piece → Type 0
-      DeepAnnotatedClause zero ps = Front BeginsAnnotation at ps
-      DeepAnnotatedClause (suc n) ps = InAnnotation (Clause own n) (λ qs. InClause n (Expression own n) (DeepExpression n) qs ⊎ DeepAnnotatedClause n qs) (ConstantIn n) (DeepConstant n) ps
+      pub DeepAnnotatedClause : ℕ → Subject → List Piece → Type 0
+      DeepAnnotatedClause zero subject ps = Front BeginsAnnotation at ps
+      DeepAnnotatedClause (suc n) subject ps = InAnnotation (Clause own n subject) (λ qs. InClause n subject (Expression own n) (DeepExpression n) qs ⊎ DeepAnnotatedClause n subject qs) (ConstantIn n) (DeepConstant n) ps
 
     abbrev pub DeepBareFun : ℕ → ℕ → List Piece → Type 0
     DeepBareFun arity n ps = PastWord k.Fun (PastMark m.LeftParenthesis (Part (Exactly (Variable n) m.RightParenthesis arity) (InItems (Variable n) (DeepVariable n) arity) (PastMark m.Arrow (DeepExpression n)))) ps

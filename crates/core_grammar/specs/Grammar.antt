@@ -7,7 +7,9 @@ use Rattle.core_tokens.specs.declared.token.Keyword.{Keyword}
 use Rattle.core_tokens.specs.declared.token.Keyword.TheVariants as k
 use Rattle.core_tokens.specs.declared.token.Mark.{Mark}
 use Rattle.core_tokens.specs.declared.token.Mark.TheVariants as m
-use Rattle.core_tree.specs.Calls.{Signature, signature, IsRead}
+use Rattle.core_grammar.specs.declared.subject.Subject.{Subject}
+use Rattle.core_grammar.specs.declared.subject.Subject.TheVariants as subjects
+use Rattle.core_tree.specs.Calls.{Signature, signature}
 use Rattle.core_tree.specs.PureCalls.{pure_signature}
 use Rattle.core_tokens.specs.Piece.{Piece, Shape}
 use Rattle.core_tokens.specs.Piece as lexemes
@@ -190,20 +192,25 @@ abbrev pub PatternIn : ℕ → List Piece → Pattern → List Piece → Type 0
 PatternIn zero ps q rest = ⊥
 PatternIn (suc n) ps q rest = PatternOrAlias (PatternForm (PatternIn n) (ConstantIn n)) (PatternIn n) ps q rest
 
+-- a clause of a `case` has any number of patterns, one of a `receive` has one
+abbrev pub Fits : Subject → List Pattern → Type 0
+Fits subjects.Values qs = Unit {0}
+Fits subjects.Message qs = length qs ≡ 1
+
 -- `<pat, ..>`
-pub data BareAngles (Item : List Piece → Pattern → List Piece → Type 0) : List Piece → List Pattern → List Piece → Type 0 where
-  patterns_in_angles : {ps rest : List Piece} {at : ℕ} {qs : List Pattern} → Enclosed Item m.Greater ps qs rest → BareAngles Item (mark at m.Less ∷ ps) qs rest
+pub data BareAngles (subject : Subject) (Item : List Piece → Pattern → List Piece → Type 0) : List Piece → List Pattern → List Piece → Type 0 where
+  patterns_in_angles : {ps rest : List Piece} {at : ℕ} {qs : List Pattern} → Enclosed Item m.Greater ps qs rest → Fits subject qs → BareAngles subject Item (mark at m.Less ∷ ps) qs rest
 
-abbrev pub Angles : ℕ → List Piece → List Pattern → List Piece → Type 0
-Angles n ps qs rest = Noted (λ l. BareAngles (PatternIn l)) n ps qs rest
+abbrev pub Angles : ℕ → Subject → List Piece → List Pattern → List Piece → Type 0
+Angles n subject ps qs rest = Noted (λ l. BareAngles subject (PatternIn l)) n ps qs rest
 
--- the patterns of a clause: one pattern, or several in angles
+-- the patterns of a clause: one pattern, or patterns in angles
 pub data ClausePatterns (One : List Piece → Pattern → List Piece → Type 0) (Many : List Piece → List Pattern → List Piece → Type 0) : List Piece → List Pattern → List Piece → Type 0 where
   one_pattern : {ps rest : List Piece} {q : Pattern} → One ps q rest → ClausePatterns One Many ps (q ∷ []) rest
   many_patterns : {ps rest : List Piece} {qs : List Pattern} → Many ps qs rest → ClausePatterns One Many ps qs rest
 
-abbrev pub PatternsIn : ℕ → List Piece → List Pattern → List Piece → Type 0
-PatternsIn n ps qs rest = ClausePatterns (PatternIn n) (Angles n) ps qs rest
+abbrev pub PatternsIn : ℕ → Subject → List Piece → List Pattern → List Piece → Type 0
+PatternsIn n subject ps qs rest = ClausePatterns (PatternIn n) (Angles n subject) ps qs rest
 
 -- ---- calls
 
@@ -214,7 +221,7 @@ pub record IsUnlisted (called : Signature) : Type 0 where
 
 -- what a call in the module `own` calls, by its two names and the number of its arguments
 pub data Calls (own : List ℕ) : Signature → Callee → Type 0 where
-  calls_world : {kind : CallKind} → IsRead kind → Calls own (signature kind) (callees.World kind)
+  calls_world : {kind : CallKind} → Calls own (signature kind) (callees.World kind)
   calls_itself : {kind : PureCall} → Calls own (pure_signature kind) (callees.Pure kind)
   calls_export : {function_name : List ℕ} {arity : ℕ} → arity < 256 → IsUnlisted (record { module_name = own; function_name = function_name; arity = arity })
       → Calls own (record { module_name = own; function_name = function_name; arity = arity }) (callees.Exported (record { name = function_name; arity = arity }))
@@ -241,7 +248,7 @@ pub data BareClause (Patterns : List Piece → List Pattern → List Piece → T
       → BareClause Patterns Inner ps (record { patterns = qs; guard = guard; body = body }) rest
 
 -- the forms of expressions in the module `own`, whose parts have at most n levels
-pub data Form (own : List ℕ) (n : ℕ) (Inner : List Piece → Tree → List Piece → Type 0) (Clause : List Piece → ClauseTree → List Piece → Type 0) : List Piece → Tree → List Piece → Type 0 where
+pub data Form (own : List ℕ) (n : ℕ) (Inner : List Piece → Tree → List Piece → Type 0) (Clause : Subject → List Piece → ClauseTree → List Piece → Type 0) : List Piece → Tree → List Piece → Type 0 where
   a_number : {rest : List Piece} {at : ℕ} {i : ℤ} → Form own n Inner Clause (integer at i ∷ rest) (trees.Integer i) rest
   a_character : {rest : List Piece} {at c : ℕ} → Form own n Inner Clause (character at c ∷ rest) (trees.Character c) rest
   a_text : {rest : List Piece} {at : ℕ} {cs : List ℕ} → Form own n Inner Clause (text at cs ∷ rest) (trees.Text cs) rest
@@ -255,7 +262,7 @@ pub data Form (own : List ℕ) (n : ℕ) (Inner : List Piece → Tree → List P
   a_noted : {ps rest : List Piece} {t : Tree} → InNote Inner (ConstantIn n) ps t rest → Form own n Inner Clause ps t rest
   a_let : {ps p1 p2 rest : List Piece} {at bt ct : ℕ} {vs : List Mention} {t u : Tree} → Variables n ps vs (mark bt m.Equals ∷ p1) → Inner p1 t (word ct k.In ∷ p2) → Inner p2 u rest
       → Form own n Inner Clause (word at k.Let ∷ ps) (trees.Let vs t u) rest
-  a_case : {ps p1 p2 rest : List Piece} {at bt ct : ℕ} {t : Tree} {c : ClauseTree} {cs : List ClauseTree} → Inner ps t (word bt k.Of ∷ p1) → Clause p1 c p2 → Row Clause p2 cs (word ct k.End ∷ rest)
+  a_case : {ps p1 p2 rest : List Piece} {at bt ct : ℕ} {t : Tree} {c : ClauseTree} {cs : List ClauseTree} → Inner ps t (word bt k.Of ∷ p1) → Clause subjects.Values p1 c p2 → Row (Clause subjects.Values) p2 cs (word ct k.End ∷ rest)
       → Form own n Inner Clause (word at k.Case ∷ ps) (trees.Case at t (clauses_of (c ∷ cs))) rest
   a_do : {ps more rest : List Piece} {at : ℕ} {t u : Tree} → Inner ps t more → Inner more u rest → Form own n Inner Clause (word at k.Do ∷ ps) (trees.Do t u) rest
   an_apply : {ps p1 rest : List Piece} {at bt : ℕ} {named : NamedAt} {ts : List Tree} → FunctionName n ps named (mark bt m.LeftParenthesis ∷ p1) → Enclosed Inner m.RightParenthesis p1 ts rest → length ts ≡ named.function.arity
@@ -268,22 +275,24 @@ pub data Form (own : List ℕ) (n : ℕ) (Inner : List Piece → Tree → List P
   a_try : {ps p1 p2 p3 p4 rest : List Piece} {at bt ct dt et : ℕ} {vs ws : List Mention} {t u h : Tree} → Inner ps t (word bt k.Of ∷ p1) → Variables n p1 vs (mark ct m.Arrow ∷ p2) → Inner p2 u (word dt k.Catch ∷ p3) → CaughtVariables n p3 ws (mark et m.Arrow ∷ p4) → Inner p4 h rest
       → Form own n Inner Clause (word at k.Try ∷ ps) (trees.Try at t vs u ws h) rest
   a_catch : {ps rest : List Piece} {at : ℕ} {t : Tree} → Inner ps t rest → Form own n Inner Clause (word at k.Catch ∷ ps) (trees.Catch at t) rest
+  a_receive : {ps p1 p2 rest : List Piece} {at bt ct : ℕ} {cs : List ClauseTree} {t u : Tree} → Row (Clause subjects.Message) ps cs (word bt k.After ∷ p1) → Inner p1 t (mark ct m.Arrow ∷ p2) → Inner p2 u rest
+      → Form own n Inner Clause (word at k.Receive ∷ ps) (trees.Receive at (clauses_of cs) t u) rest
 
 module _ (own : List ℕ) where
   abbrev mutual
     -- an expression of at most so many levels of construct within construct
     pub Expression : ℕ → List Piece → Tree → List Piece → Type 0
     Expression zero ps t rest = ⊥
-    Expression (suc n) ps t rest = Form own n (Expression n) (Either (BareClause (PatternsIn n) (Expression n)) (AnnotatedClause n)) ps t rest
+    Expression (suc n) ps t rest = Form own n (Expression n) (λ subject. Either (BareClause (PatternsIn n subject) (Expression n)) (AnnotatedClause n subject)) ps t rest
 
-    -- a clause that is annotated once or more
-    pub AnnotatedClause : ℕ → List Piece → ClauseTree → List Piece → Type 0
-    AnnotatedClause zero ps c rest = ⊥
-    AnnotatedClause (suc n) ps c rest = InNote (Either (BareClause (PatternsIn n) (Expression n)) (AnnotatedClause n)) (ConstantIn n) ps c rest
+    -- a clause of a `case` or of a `receive` that is annotated once or more
+    pub AnnotatedClause : ℕ → Subject → List Piece → ClauseTree → List Piece → Type 0
+    AnnotatedClause zero subject ps c rest = ⊥
+    AnnotatedClause (suc n) subject ps c rest = InNote (Either (BareClause (PatternsIn n subject) (Expression n)) (AnnotatedClause n subject)) (ConstantIn n) ps c rest
 
-  -- a clause whose parts have at most so many levels
-  abbrev pub Clause : ℕ → List Piece → ClauseTree → List Piece → Type 0
-  Clause n ps c rest = Either (BareClause (PatternsIn n) (Expression n)) (AnnotatedClause n) ps c rest
+  -- a clause of a `case` or of a `receive` whose parts have at most so many levels
+  abbrev pub Clause : ℕ → Subject → List Piece → ClauseTree → List Piece → Type 0
+  Clause n subject ps c rest = Either (BareClause (PatternsIn n subject) (Expression n)) (AnnotatedClause n subject) ps c rest
 
 -- ---- modules
 

@@ -57,12 +57,11 @@ HigherOrderAt ps at = SomeAre (Front BeginsFunction at) ps ⊎ SomeAre (AppliesV
 pub data IsNoOperation : List Piece → Type 0 where
   operates_nothing : {ps : List Piece} {at bt : ℕ} {name : List ℕ} → ((callee : Callee) → ¬ (Operates name (arguments ps) callee)) → IsNoOperation (atom at name ∷ mark bt m.LeftParenthesis ∷ ps)
 
--- a token that begins a form that is not read: `#` of a binary, `~` of a map, a float, `receive`, or `primop` of another operation
+-- a token that begins a form that is not read: `#` of a binary, `~` of a map, a float, or `primop` of another operation
 abbrev pub BeginsUnread : Shape → List Piece → Type 0
 BeginsUnread (lexemes.Mark m.Hash) ps = Unit {0}
 BeginsUnread (lexemes.Mark m.Tilde) ps = Unit {0}
 BeginsUnread lexemes.Float ps = Unit {0}
-BeginsUnread (lexemes.Word k.Receive) ps = Unit {0}
 BeginsUnread (lexemes.Word k.Primop) ps = IsNoOperation ps
 BeginsUnread shape ps = ⊥
 

@@ -28,8 +28,7 @@ pub fn tokens_spell_one_module()
     ensures { (ps : List Piece) (a b : ModuleTree) → Spells ps a → Spells ps b → a ≡ b }
 {}
 
-/// In a module that tokens spell each call of the world is one that is read, with as many arguments as it
-/// has.
+/// In a module that tokens spell each call of the world has as many arguments as it takes.
 #[tactic(auto, using(crate::proofs::ServableTrees::module_servable))]
 pub fn spelt_calls_are_read()
     ensures { (ps : List Piece) (m : ModuleTree) → Spells ps m → IsServableModule m }

@@ -3,7 +3,9 @@
 #![tactic(auto)]
 
 pub mod laws;
+pub mod subject;
 pub mod unserved;
 
 pub use core_tokens::ReadFault;
+pub use subject::Subject;
 pub use unserved::Unserved;

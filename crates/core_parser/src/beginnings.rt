@@ -4,7 +4,7 @@ ghost use Rattle.core_tokens.specs.Piece.{shape_of, pieces};
 ghost use Rattle.core_grammar.specs.inside.DecoderForms.{is_function, begins_expression, deep_expression_of, expression_fault_of, deep_expression, expression_fault};
 ghost use Rattle.core_parser.specs.inside.ParserView.{state_of};
 
-use crate::parser::{Parser, is_foreign};
+use crate::parser::{Parser, fault_of, is_foreign};
 use core_tokens::{Keyword, Lexeme, Mark, ReadFault, Token};
 
 /// Whether an expression begins with the token.
@@ -83,12 +83,8 @@ fn expression_fault_of(length: usize, tokens: &[Token]) -> ReadFault
         [token, rest @ ..] => {
             if is_function(&token.lexeme, rest) {
                 ReadFault::HigherOrder(token.at)
-            } else if matches!(token.lexeme, Lexeme::Word(Keyword::Receive))
-                || is_foreign(&token.lexeme)
-            {
-                ReadFault::UnsupportedForm(token.at)
             } else {
-                ReadFault::Expected(token.at)
+                fault_of(length, tokens)
             }
         }
     }

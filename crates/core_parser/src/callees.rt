@@ -5,7 +5,7 @@ ghost use Rattle.core_tokens.specs.Piece.{pieces};
 ghost use Rattle.core_tokens.specs.declared.token.Mark.TheVariants.{LeftParenthesis};
 ghost use Rattle.core_tree.specs.Tree.{tree_of, callee_of};
 ghost use Rattle.core_grammar.specs.inside.Decoder.{MovesUnlessMemory, after_mark};
-ghost use Rattle.core_grammar.specs.inside.DecoderForms.{callee_fault_of, callee_fault, bare_callee_at, callee_at, applied_fault_of, applied_fault, applied_atom_at, behind_applied_by, bare_applied_at, applied_at, is_read, export_called, unlisted_called, callee_named, operation_named, earlier, refuse, judged};
+ghost use Rattle.core_grammar.specs.inside.DecoderForms.{callee_fault_of, callee_fault, bare_callee_at, callee_at, applied_fault_of, applied_fault, applied_atom_at, behind_applied_by, bare_applied_at, applied_at, export_called, unlisted_called, callee_named, operation_named, earlier, refuse, judged};
 ghost use Rattle.core_parser.specs.inside.ParserView.{state_of};
 
 use crate::beginnings::{begins_expression, is_function};
@@ -47,13 +47,6 @@ fn applied_fault_of(length: usize, tokens: &[Token]) -> ReadFault
             }
         }
     }
-}
-
-/// Whether the call of the world is read so far.
-fn is_read(kind: CallKind) -> bool
-    ensures { result ≡ is_read kind }
-{
-    matches!(kind, CallKind::New | CallKind::Insert | CallKind::Lookup)
 }
 
 /// What a call in the module `own` calls where no list has it: an exported function of that module, as far
@@ -104,13 +97,7 @@ pub fn callee_named(
 {
     let module_text = module_name.as_str();
     match CallKind::named(module_text, function_name.as_str(), arity) {
-        Some(kind) => {
-            if is_read(kind) {
-                Some(Callee::World(kind))
-            } else {
-                None
-            }
-        }
+        Some(kind) => Some(Callee::World(kind)),
         None => {
             let pure = PureCall::named(module_text, function_name.as_str(), arity);
             unlisted_called(own, module_name, function_name, arity, pure)

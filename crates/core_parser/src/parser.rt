@@ -44,7 +44,8 @@ pub fn is_foreign(lexeme: &Lexeme) -> bool
     )
 }
 
-fn fault_of(length: usize, tokens: &[Token]) -> ReadFault
+/// The fault at a token that cannot stand here, in a text of this length.
+pub(crate) fn fault_of(length: usize, tokens: &[Token]) -> ReadFault
     ensures { result ≡ fault_of length (pieces tokens.now) }
 {
     match tokens {

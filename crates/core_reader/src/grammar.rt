@@ -1,5 +1,6 @@
 // Definitions and modules (Core Erlang 1.0.3, "Module definitions").
 ghost use Rattle.std.specs.Prelude.{map};
+ghost use Rattle.core_tokens.specs.declared.token.Keyword.TheVariants.{End};
 ghost use Rattle.core_tokens.specs.declared.token.Mark.TheVariants.{RightBracket};
 ghost use Rattle.core_scopes.specs.Outcomes.{GivesUnlessMemory};
 ghost use Rattle.core_grammar.specs.inside.Decoder.{MovesUnlessMemory, items_at, closed_at, rows_at, noted_at, function_name_at};
@@ -207,7 +208,7 @@ impl<'a> ModuleReader<'a> {
 
     /// The definitions of the module `own`, as far as the last `end`.
     fn definitions(&mut self, own: &Atom, levels: u16) -> Result<Vec<Defined>, ReadFault>
-        ensures { MovesUnlessMemory (λ v. map defined_of v.items) result (state_in self.new) (rows_at (definition_at own.now levels) (state_in self.old)) }
+        ensures { MovesUnlessMemory (λ v. map defined_of v.items) result (state_in self.new) (rows_at (definition_at own.now levels) End (state_in self.old)) }
     {
         let mut definitions = Vec::new(self.forms.parser.alloc);
         let count = self.forms.parser.tokens.len();

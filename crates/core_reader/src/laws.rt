@@ -15,8 +15,7 @@ pub fn texts_say_one_module()
     tokens_spell_one_module();
 }
 
-/// In a module that a text says each call of the world is one that is read, with as many arguments as it
-/// has.
+/// In a module that a text says each call of the world has as many arguments as it takes.
 pub fn said_calls_are_read()
     ensures { (text : List ℕ) (m : ModuleTree) → SpellsModule text m → IsServableModule m }
 {

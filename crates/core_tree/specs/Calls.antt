@@ -57,13 +57,6 @@ signature GiveAway = table_call (codes "give_away") 3
 signature SetOptions = table_call (codes "setopts") 2
 signature Info = table_call (codes "info") 2
 
--- the calls that are read so far, and served
-abbrev pub IsRead : CallKind → Type 0
-IsRead New = Unit {0}
-IsRead Insert = Unit {0}
-IsRead Lookup = Unit {0}
-IsRead kind = ⊥
-
 -- all of the calls, each once
 abbrev pub calls : List CallKind
 calls = Spawn ∷ SpawnLink ∷ SpawnMonitor ∷ Bang ∷ Send ∷ Exit ∷ Link ∷ Unlink ∷ Monitor ∷ Demonitor ∷ DemonitorWith ∷ ProcessFlag ∷ Register ∷ Unregister ∷ Whereis ∷ IsProcessAlive ∷ MakeRef ∷ New ∷ Lookup ∷ Member ∷ LookupElement ∷ First ∷ Last ∷ Next ∷ Prev ∷ TableToList ∷ Insert ∷ InsertNew ∷ DeleteTable ∷ DeleteKey ∷ DeleteObject ∷ DeleteAllObjects ∷ Take ∷ UpdateCounter ∷ UpdateElement ∷ GiveAway ∷ SetOptions ∷ Info ∷ []

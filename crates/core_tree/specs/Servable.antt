@@ -1,6 +1,6 @@
--- Modules whose calls of the world are all read.
+-- Modules whose calls of the world have as many arguments as they take.
 use Rattle.std.specs.Prelude.{◌≡◌, ℕ, suc, List, [], ◌∷◌}
-use Rattle.core_tree.specs.Calls.{signature, IsRead}
+use Rattle.core_tree.specs.Calls.{signature}
 use Rattle.core_tree.specs.Syntax.{Callee, Tree, Trees, Clauses, DefinitionTree, ModuleTree}
 use Rattle.core_tree.specs.Callee as callees
 use Rattle.core_tree.specs.Expression as trees
@@ -10,9 +10,9 @@ abbrev pub count_of : Trees → ℕ
 count_of trees.NoMore = 0
 count_of (trees.Also t ts) = suc (count_of ts)
 
--- what is called with so many arguments is, where it is a call of the world, one that is read and has so many
+-- what is called with so many arguments takes so many, where it is a call of the world
 abbrev pub MayBeCalled : Callee → ℕ → Type 0
-MayBeCalled (callees.World kind) count = IsRead kind × (count ≡ (signature kind).arity)
+MayBeCalled (callees.World kind) count = count ≡ (signature kind).arity
 MayBeCalled (callees.Pure kind) count = Unit {0}
 MayBeCalled (callees.Exported function) count = Unit {0}
 MayBeCalled (callees.Defined named) count = Unit {0}
@@ -52,6 +52,6 @@ abbrev pub HaveServableBodies : List DefinitionTree → Type 0
 HaveServableBodies [] = Unit {0}
 HaveServableBodies (d ∷ ds) = IsServable d.body × HaveServableBodies ds
 
--- each call of the world in a module is one that is read, with as many arguments as it has
+-- each call of the world in a module has as many arguments as it takes
 abbrev pub IsServableModule : ModuleTree → Type 0
 IsServableModule m = HaveServableBodies m.definitions

@@ -10,9 +10,10 @@ use Rattle.core_tokens.specs.declared.fault.ReadFault.TheVariants as read
 use Rattle.explorer_engine.specs.Input.{IsInputOf}
 use Rattle.explorer_engine.specs.Engine.{IsRunOf, IsBadSchedule, IsGiven}
 use Rattle.explorer_engine.specs.Refusals.{refusal_of_replay}
-use Rattle.explorer_engine.specs.Replay.{Replays}
-use Rattle.explorer_engine.specs.declared.replay_fault.ReplayFault.{ReplayFault}
-use Rattle.explorer_engine.specs.declared.replay_fault.ReplayFault.TheVariants as replay
+use Rattle.world_model.specs.Asking.{program_of}
+use Rattle.replay_core.specs.Replay.{Replays}
+use Rattle.replay_core.specs.declared.replay_fault.ReplayFault.{ReplayFault}
+use Rattle.replay_core.specs.declared.replay_fault.ReplayFault.TheVariants as replay
 use Rattle.explorer_engine.specs.declared.verdict.RunFault.{RunFault}
 use Rattle.explorer_engine.specs.declared.verdict.RunFault.TheVariants as run
 use Rattle.explorer_engine.specs.declared.verdict.Verdict.{Verdict}
@@ -73,14 +74,14 @@ given_by : (all bytes word : List ℕ) (m : ModuleTree) (steps : List Step) → 
 given_by all bytes word m steps is spelt read = record { module_text = spells_all all bytes m is spelt; lawful = read.0; schedule_text = read.1 }
 
 stopped_by : (all bytes word : List ℕ) (old new : Option (List ℕ)) (failed : Bool) (m : ModuleTree) (steps : List Step) (fault : ReplayFault)
-    → IsGiven all word m steps → Replays m steps old new failed (Err fault) → IsRunOf all word old new failed (Err (refusal_of_replay fault))
+    → IsGiven all word m steps → Replays (program_of m) steps old new failed (Err fault) → IsRunOf all word old new failed (Err (refusal_of_replay fault))
 stopped_by all bytes word old new failed m steps (replay.NotEnabled place) given ends = record { program = m; steps = steps; given = given; end = ends }
 stopped_by all bytes word old new failed m steps replay.Memory given ends = record { program = m; steps = steps; given = given; end = ends }
 stopped_by all bytes word old new failed m steps replay.Write given ends = record { program = m; steps = steps; given = given; end = ends }
 
 -- a run whose replay stopped
 pub replay_stopped : (remaining : Option (List ℕ)) (bytes word : List ℕ) (old new : Option (List ℕ)) (failed : Bool) (m : ModuleTree) (steps : List Step) (fault : ReplayFault) (r : Result Verdict RunFault)
-    → r ≡ Err (refusal_of_replay fault) → IfSome remaining (λ all. IsInputOf 1048576 all bytes) → SpellsModule bytes m → AreLawful steps × (word ≡ text_of_schedule steps) → Replays m steps old new failed (Err fault)
+    → r ≡ Err (refusal_of_replay fault) → IfSome remaining (λ all. IsInputOf 1048576 all bytes) → SpellsModule bytes m → AreLawful steps × (word ≡ text_of_schedule steps) → Replays (program_of m) steps old new failed (Err fault)
     → IfSome remaining (λ input. IsRunOf input word old new failed r)
 replay_stopped None bytes word old new failed m steps fault r e is spelt read ends = tt
 replay_stopped (Some all) bytes word old new failed m steps fault r e is spelt read ends =
@@ -88,7 +89,7 @@ replay_stopped (Some all) bytes word old new failed m steps fault r e is spelt r
 
 -- a run that was done
 pub replayed : (remaining : Option (List ℕ)) (bytes word : List ℕ) (old new : Option (List ℕ)) (failed : Bool) (m : ModuleTree) (steps : List Step)
-    → IfSome remaining (λ all. IsInputOf 1048576 all bytes) → SpellsModule bytes m → AreLawful steps × (word ≡ text_of_schedule steps) → Replays m steps old new failed (Ok tt)
+    → IfSome remaining (λ all. IsInputOf 1048576 all bytes) → SpellsModule bytes m → AreLawful steps × (word ≡ text_of_schedule steps) → Replays (program_of m) steps old new failed (Ok tt)
     → IfSome remaining (λ input. IsRunOf input word old new failed (Ok Done))
 replayed None bytes word old new failed m steps is spelt read ends = tt
 replayed (Some all) bytes word old new failed m steps is spelt read ends = record { program = m; steps = steps; given = given_by all bytes word m steps is spelt read; end = ends }

@@ -9,8 +9,9 @@ use Rattle.term_core.specs.Text.{text_of_schedule}
 use Rattle.term_core.specs.declared.schedule.ScheduleFault.{ScheduleFault}
 use Rattle.term_core.specs.declared.schedule.ScheduleFault.TheVariants as schedule
 use Rattle.term_core.specs.declared.step.Step.{Step}
-use Rattle.explorer_engine.specs.Replay.{Replays, transcript}
-use Rattle.explorer_engine.specs.declared.replay_fault.ReplayFault.TheVariants as replay
+use Rattle.world_model.specs.Asking.{program_of}
+use Rattle.replay_core.specs.Replay.{Replays, transcript}
+use Rattle.replay_core.specs.declared.replay_fault.ReplayFault.TheVariants as replay
 use Rattle.explorer_engine.specs.declared.verdict.RunFault.{RunFault}
 use Rattle.explorer_engine.specs.declared.verdict.RunFault.TheVariants as run
 use Rattle.explorer_engine.specs.declared.verdict.Verdict.{Verdict}
@@ -48,13 +49,13 @@ pub record IsNoSchedule (input word : List ℕ) (old new : Option (List ℕ)) (f
 
 -- a run replayed its schedule to the end; or the input was refused as a module, or could not be read, or the schedule was refused, and nothing was written; or the replay stopped at a step or for lack of memory; or the output failed, at a write or at the flush
 abbrev pub IsRunOf : (input word : List ℕ) → (old new : Option (List ℕ)) → Bool → Result Verdict RunFault → Type 0
-IsRunOf input word old new failed (Ok Done) = IsReplayed input word (λ m steps. Replays m steps old new failed (Ok tt))
+IsRunOf input word old new failed (Ok Done) = IsReplayed input word (λ m steps. Replays (program_of m) steps old new failed (Ok tt))
 IsRunOf input word old new failed (Err (run.Input fault)) = IsRefusalOf input fault × WritesNothing old new failed
 IsRunOf input word old new failed (Err run.ReadFailed) = WritesNothing old new failed
 IsRunOf input word old new failed (Err (run.Schedule fault)) = IsNoSchedule input word old new failed fault
 IsRunOf input word old new failed (Err (run.Replay replay.Write)) = ⊥
-IsRunOf input word old new failed (Err (run.Replay fault)) = IsReplayed input word (λ m steps. Replays m steps old new failed (Err fault))
-IsRunOf input word old new failed (Err run.Output) = IsReplayed input word (λ m steps. BreaksOff old new failed (transcript m steps))
+IsRunOf input word old new failed (Err (run.Replay fault)) = IsReplayed input word (λ m steps. Replays (program_of m) steps old new failed (Err fault))
+IsRunOf input word old new failed (Err run.Output) = IsReplayed input word (λ m steps. BreaksOff old new failed (transcript (program_of m) steps))
 
 -- the run was refused before its replay: its input could not be read, or is no module, or the word is no schedule
 abbrev pub IsRefusedBefore : Result Verdict RunFault → Type 0

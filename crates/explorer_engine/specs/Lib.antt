@@ -1,9 +1,7 @@
-pub mod EventText
 pub mod FaultText
 pub mod Status
 pub mod Input
 pub mod Refusals
-pub mod Replay
 pub mod Engine
 pub mod Words
 pub mod Program

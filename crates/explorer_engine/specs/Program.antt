@@ -1,5 +1,5 @@
 -- What the program does with its words and its three streams.
-use Rattle.std.specs.Prelude.{◌≡◌, ◌⊎◌, ◌==◌, ℕ, Bool, List, codes, Option, Result, Ok, Err, IfSome}
+use Rattle.std.specs.Prelude.{◌≡◌, ◌⊎◌, ℕ, Bool, List, codes, Option, Result, Ok, Err, IfSome}
 use Rattle.term_core.specs.Stream.{WritesAll, BreaksOff}
 use Rattle.explorer_engine.specs.Engine.{IsRunOf, IsRefusedBefore, IsHandedOn, WritesNothing}
 use Rattle.explorer_engine.specs.FaultText.{text_of_fault}

@@ -2,8 +2,8 @@
 use Rattle.core_tokens.specs.declared.fault.ReadFault.TheVariants as read
 use Rattle.explorer_engine.specs.declared.input.InputFault.{InputFault}
 use Rattle.explorer_engine.specs.declared.input.InputFault.TheVariants as input
-use Rattle.explorer_engine.specs.declared.replay_fault.ReplayFault.{ReplayFault}
-use Rattle.explorer_engine.specs.declared.replay_fault.ReplayFault.TheVariants as replay
+use Rattle.replay_core.specs.declared.replay_fault.ReplayFault.{ReplayFault}
+use Rattle.replay_core.specs.declared.replay_fault.ReplayFault.TheVariants as replay
 use Rattle.explorer_engine.specs.declared.verdict.RunFault.{RunFault}
 use Rattle.explorer_engine.specs.declared.verdict.RunFault.TheVariants as run
 

@@ -4,8 +4,8 @@ use Rattle.core_tokens.specs.declared.fault.ReadFault.{ReadFault}
 use Rattle.core_tokens.specs.declared.fault.ReadFault.TheVariants as read
 use Rattle.term_core.specs.declared.schedule.ScheduleFault.{ScheduleFault}
 use Rattle.term_core.specs.declared.schedule.ScheduleFault.TheVariants as schedule
-use Rattle.explorer_engine.specs.declared.replay_fault.ReplayFault.{ReplayFault}
-use Rattle.explorer_engine.specs.declared.replay_fault.ReplayFault.TheVariants as replay
+use Rattle.replay_core.specs.declared.replay_fault.ReplayFault.{ReplayFault}
+use Rattle.replay_core.specs.declared.replay_fault.ReplayFault.TheVariants as replay
 use Rattle.explorer_engine.specs.declared.verdict.RunFault.{RunFault}
 use Rattle.explorer_engine.specs.declared.verdict.RunFault.TheVariants as run
 use Rattle.explorer_engine.specs.declared.verdict.Verdict.{Verdict}

@@ -4,9 +4,9 @@ ghost use Rattle.explorer_engine.specs.Engine.{IsRunOf, IsRefusedBefore, IsHande
 ghost use Rattle.explorer_engine.specs.Status.{status_of};
 
 use crate::input::read_input;
-use crate::replay::replay_and_flush;
 use crate::verdict::{RunFault, Verdict};
 use core_reader::read_module;
+use replay_core::replay_and_flush;
 use std::alloc::Global;
 use term_core::{Sink, Source, read_schedule};
 

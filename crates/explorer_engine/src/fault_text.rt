@@ -3,9 +3,9 @@ ghost use Rattle.std.specs.Prelude.{◌≡◌, false};
 ghost use Rattle.term_core.specs.Stream.{Writes};
 ghost use Rattle.explorer_engine.specs.FaultText.{placed, text_of_read_fault, text_of_schedule_fault, text_of_replay_fault, text_of_fault};
 
-use crate::replay_fault::ReplayFault;
 use crate::verdict::RunFault;
 use core_reader::ReadFault;
+use replay_core::ReplayFault;
 use term_core::{ScheduleFault, Sink, WriteFault, write_all, write_number};
 
 /// Writes the line of a refusal: the part that refused, the fault by its number and its name, and its

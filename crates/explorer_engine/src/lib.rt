@@ -5,11 +5,7 @@
 pub mod engine;
 pub mod fault_text;
 pub mod input;
-pub mod laws;
 pub mod program;
-pub mod replay;
-pub mod replay_fault;
-pub mod transcript;
 pub mod verdict;
 pub mod words;
 
@@ -17,7 +13,6 @@ pub use engine::run_replay;
 pub use fault_text::write_fault;
 pub use input::{INPUT_LIMIT, InputFault, PIECE_LIMIT, READ_LIMIT, read_input};
 pub use program::{WORDS_REFUSED, run};
-pub use replay_fault::ReplayFault;
-pub use transcript::write_event;
+pub use replay_core::ReplayFault;
 pub use verdict::{RunFault, Verdict, status};
 pub use words::{NAME, Words, read_words};

@@ -3,8 +3,8 @@ ghost use Rattle.std.specs.Prelude.{◌≡◌};
 ghost use Rattle.explorer_engine.specs.Status.{status_of, status_of_fault, status_of_read_fault, status_of_schedule_fault, status_of_replay_fault};
 
 use crate::input::InputFault;
-use crate::replay_fault::ReplayFault;
 use core_reader::ReadFault;
+use replay_core::ReplayFault;
 use term_core::{ScheduleFault, WriteFault};
 
 /// What a run that was not refused came to.

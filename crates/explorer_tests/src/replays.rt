@@ -26,8 +26,33 @@ const DOWN_FROM_10000: &str =
 const COMPILED: &str =
     "module 'm' ['main'/0,'module_info'/0]\n    attributes ['file' = [{\"m.erl\",1}]]\n'main'/0 = ( fun () ->\n  case ( 3 -| [5] ) of\n    <X> when try let <A> = call 'erlang':'hd'(X)\n                 in call 'erlang':'=:='(A,1)\n             of <V> -> V catch <T,R> -> 'false' -> 'one'\n    ( <Y> when 'true' -> 'other' -| ['compiler_generated'] )\n  end -| [{'function',{'main',0}}] )\n'module_info'/0 = fun () -> call 'erlang':'get_module_info'('m')\nend\n";
 
+// A table is given away, and its old owner writes it.
+const GIFT: &str =
+    "module 'm' ['main'/0,'c'/0] attributes [] 'main'/0 = fun () -> do call 'ets':'new'('t',['named_table']) let <C> = call 'erlang':'spawn'('m','c',[]) in do call 'ets':'give_away'('t',C,'d') call 'ets':'insert'('t',{'a',1}) 'c'/0 = fun () -> receive <X> when 'true' -> X after 'infinity' -> 'x' end";
+
+// A table passes to its heir, or goes where that ended first.
+const HEIR: &str =
+    "module 'm' ['main'/0,'c'/0,'d'/0] attributes [] 'main'/0 = fun () -> let <C> = call 'erlang':'spawn'('m','c',[]) in do call 'ets':'new'('t',['named_table',{'heir',C,'d'}]) call 'erlang':'spawn'('m','d',[]) 'c'/0 = fun () -> receive <X> when 'true' -> call 'ets':'insert'('t',{'a',1}) after 0 -> 'gone' 'd'/0 = fun () -> call 'ets':'lookup'('t','a') end";
+
+// A process that traps exits is killed by a signal, and is told where a linked process kills itself.
+const KILL: &str =
+    "module 'm' ['main'/0,'c'/0] attributes [] 'main'/0 = fun () -> let <C> = call 'erlang':'spawn'('m','c',[]) in call 'erlang':'exit'(C,'kill') 'c'/0 = fun () -> do call 'erlang':'process_flag'('trap_exit','true') receive <X> when 'true' -> X after 'infinity' -> 'x' end";
+
+const KILLED: &str =
+    "module 'm' ['main'/0,'c'/0] attributes [] 'main'/0 = fun () -> do call 'erlang':'process_flag'('trap_exit','true') do call 'erlang':'spawn_link'('m','c',[]) receive <X> when 'true' -> X after 'infinity' -> 'x' 'c'/0 = fun () -> call 'erlang':'exit'('kill') end";
+
+// Each call of processes and of tables, once.
+const EVERY_CALL: &str =
+    "module 'm' ['main'/0,'c'/0] attributes [] 'main'/0 = fun () -> let <A> = call 'erlang':'spawn'('m','c',[]) in let <B> = call 'erlang':'spawn_link'('m','c',[]) in let <M> = call 'erlang':'spawn_monitor'('m','c',[]) in case M of <{C,Q}> when 'true' -> let <R> = call 'erlang':'monitor'('process',A) in let <F> = call 'erlang':'make_ref'() in do call 'erlang':'process_flag'('trap_exit','true') do call 'erlang':'register'('n',A) do call 'erlang':'whereis'('n') do call 'erlang':'!'('n',{'a',1}) do call 'erlang':'send'(A,'b') do call 'erlang':'link'(A) do call 'erlang':'unlink'(A) do call 'erlang':'unregister'('n') do call 'erlang':'demonitor'(R) do call 'erlang':'demonitor'(F,['flush']) do call 'erlang':'is_process_alive'(B) do call 'erlang':'exit'(B,'bad') do call 'erlang':'exit'(C,'kill') do receive <X> when 'true' -> X after 0 -> 'none' do call 'ets':'new'('t',['named_table','public']) do call 'ets':'insert'('t',[{'a',1},{'b',2}]) do call 'ets':'insert_new'('t',{'c',3}) do call 'ets':'lookup'('t','a') do call 'ets':'member'('t','b') do call 'ets':'lookup_element'('t','c',2) do call 'ets':'first'('t') do call 'ets':'last'('t') do call 'ets':'next'('t','a') do call 'ets':'prev'('t','b') do call 'ets':'tab2list'('t') do call 'ets':'update_counter'('t','a',5) do call 'ets':'update_element'('t','a',{2,'z'}) do call 'ets':'take'('t','b') do call 'ets':'delete'('t','a') do call 'ets':'delete_object'('t',{'c',3}) do call 'ets':'delete_all_objects'('t') do call 'ets':'setopts'('t',{'heir',A,'d'}) do call 'ets':'info'('t','heir') do call 'ets':'give_away'('t',A,'g') let <U> = call 'ets':'new'('u',['bag']) in call 'ets':'delete'(U) end 'c'/0 = fun () -> receive <X> when 'true' -> X after 'infinity' -> 'x' end";
+
+const EVERY_TURN: &str =
+    "P P P P P P P P P P P P P P P P P P P>P.2 P.2>P P>P.3 P.3>P P P P P P P P P P P P P P P P P P P P P P P P P>P.1 P.1 P.1 P";
+
+const EVERY_LINE: &str =
+    "1 P erlang:spawn('m','c',[]) -> P.1\n2 P erlang:spawn_link('m','c',[]) -> P.2\n3 P erlang:spawn_monitor('m','c',[]) -> {P.3,#P.3}\n4 P erlang:monitor('process',P.1) -> #P.4\n5 P erlang:make_ref() -> #P.5\n6 P erlang:process_flag('trap_exit','true') -> 'false'\n7 P erlang:register('n',P.1) -> 'true'\n8 P erlang:whereis('n') -> P.1\n9 P erlang:!('n',{'a',1}) -> {'a',1}\n10 P erlang:send(P.1,'b') -> 'b'\n11 P erlang:link(P.1) -> 'true'\n12 P erlang:unlink(P.1) -> 'true'\n13 P erlang:unregister('n') -> 'true'\n14 P erlang:demonitor(#P.4) -> 'true'\n15 P erlang:demonitor(#P.5,['flush']) -> 'true'\n16 P erlang:is_process_alive(P.2) -> 'true'\n17 P erlang:exit(P.2,'bad') -> 'true'\n18 P erlang:exit(P.3,'kill') -> 'true'\n19 P>P.2 exit 'bad' -> ends 'bad'\n20 P.2>P exit 'bad' -> {'EXIT',P.2,'bad'}\n21 P>P.3 exit 'kill' -> ends 'killed'\n22 P.3>P down #P.3 -> {'DOWN',#P.3,'process',P.3,'killed'}\n23 P receives {'EXIT',P.2,'bad'}\n24 P ets:new('t',['named_table','public']) -> 't'\n25 P ets:insert('t',[{'a',1},{'b',2}]) -> 'true'\n26 P ets:insert_new('t',{'c',3}) -> 'true'\n27 P ets:lookup('t','a') -> [{'a',1}]\n28 P ets:member('t','b') -> 'true'\n29 P ets:lookup_element('t','c',2) -> 3\n30 P ets:first('t') -> 'a'\n31 P ets:last('t') -> 'a'\n32 P ets:next('t','a') -> 'b'\n33 P ets:prev('t','b') -> 'c'\n34 P ets:tab2list('t') -> [{'a',1},{'b',2},{'c',3}]\n35 P ets:update_counter('t','a',5) -> 6\n36 P ets:update_element('t','a',{2,'z'}) -> 'true'\n37 P ets:take('t','b') -> [{'b',2}]\n38 P ets:delete('t','a') -> 'true'\n39 P ets:delete_object('t',{'c',3}) -> 'true'\n40 P ets:delete_all_objects('t') -> 'true'\n41 P ets:setopts('t',{'heir',P.1,'d'}) -> 'true'\n42 P ets:info('t','heir') -> P.1\n43 P ets:give_away('t',P.1,'g') -> 'true'\n44 P ets:new('u',['bag']) -> #P.40\n45 P ets:delete(#P.40) -> 'true'\n46 P>P.1 brings {'a',1}\n47 P.1 receives {'a',1}\n48 P.1 ends 'normal'\n49 P ends 'normal'\n";
+
 // A module and a schedule, the lines that are written, the line of the refusal, and the status.
-const ROWS: [(&str, &str, &str, &str, u8); 25] = [
+const ROWS: [(&str, &str, &str, &str, u8); 31] = [
     (TABLE, TURNS, LINES, "", 0),
     (TABLE, "", "", "", 0),
     (
@@ -150,6 +175,42 @@ const ROWS: [(&str, &str, &str, &str, u8); 25] = [
         "",
         0,
     ),
+    (
+        GIFT,
+        "P P P P P>P.2 P.2",
+        "1 P ets:new('t',['named_table']) -> 't'\n2 P erlang:spawn('m','c',[]) -> P.2\n3 P ets:give_away('t',P.2,'d') -> 'true'\n4 P ets:insert('t',{'a',1}) -> badarg (5 ProtectedWrite, owner P.2)\n5 P>P.2 brings {'ETS-TRANSFER','t',P,'d'}\n6 P.2 receives {'ETS-TRANSFER','t',P,'d'}\n",
+        "",
+        0,
+    ),
+    (
+        HEIR,
+        "P P P P P>P.1 P.1 P.1 P.3",
+        "1 P erlang:spawn('m','c',[]) -> P.1\n2 P ets:new('t',['named_table',{'heir',P.1,'d'}]) -> 't'\n3 P erlang:spawn('m','d',[]) -> P.3\n4 P ends 'normal'\n5 P>P.1 brings {'ETS-TRANSFER','t',P,'d'}\n6 P.1 receives {'ETS-TRANSFER','t',P,'d'}\n7 P.1 ets:insert('t',{'a',1}) -> 'true'\n8 P.3 ets:lookup('t','a') -> [{'a',1}]\n",
+        "",
+        0,
+    ),
+    (
+        HEIR,
+        "P P P P.1 P.1 P P.3",
+        "1 P erlang:spawn('m','c',[]) -> P.1\n2 P ets:new('t',['named_table',{'heir',P.1,'d'}]) -> 't'\n3 P erlang:spawn('m','d',[]) -> P.3\n4 P.1 times out\n5 P.1 ends 'normal'\n6 P ends 'normal'\n7 P.3 ets:lookup('t','a') -> badarg (2 NoTable)\n",
+        "",
+        0,
+    ),
+    (
+        KILL,
+        "P P.1 P P>P.1",
+        "1 P erlang:spawn('m','c',[]) -> P.1\n2 P.1 erlang:process_flag('trap_exit','true') -> 'false'\n3 P erlang:exit(P.1,'kill') -> 'true'\n4 P>P.1 exit 'kill' -> ends 'killed'\n",
+        "",
+        0,
+    ),
+    (
+        KILLED,
+        "P P P.2 P.2>P P",
+        "1 P erlang:process_flag('trap_exit','true') -> 'false'\n2 P erlang:spawn_link('m','c',[]) -> P.2\n3 P.2 ends 'kill'\n4 P.2>P exit 'kill' -> {'EXIT',P.2,'kill'}\n5 P receives {'EXIT',P.2,'kill'}\n",
+        "",
+        0,
+    ),
+    (EVERY_CALL, EVERY_TURN, EVERY_LINE, "", 0),
     // both are refused
     ("module 'm", "P  P", "", "input: 1 BadToken at 7\n", 2),
 ];
@@ -168,9 +229,9 @@ fn line_of(alloc: Global, outcome: &Result<Verdict, RunFault>) -> Result<Vec<u8>
 fn answers_byte_for_byte(rt: HostRuntime) -> Result<(), Fail> {
     let alloc = rt.alloc();
     for (text, schedule, lines, line, number) in ROWS {
-        for (read, write) in [(1000, 1000), (1, 1000), (1000, 1)] {
+        for (read, write) in [(10_000, 10_000), (1, 10_000), (10_000, 1)] {
             let mut source = MemorySource::in_pieces(text.as_bytes(), read, u64::MAX);
-            let mut sink = MemorySink::in_pieces(alloc, 1000, write)?;
+            let mut sink = MemorySink::in_pieces(alloc, 10_000, write)?;
             let outcome = run_replay(alloc, &mut source, schedule, &mut sink);
             assert_eq!(rt;
                 status(&outcome),
@@ -214,5 +275,36 @@ fn a_write_that_fails_leaves_what_was_written(rt: HostRuntime) -> Result<(), Fai
         assert_eq!(rt; sink.bytes.len(), room);
         assert!(rt; LINES.as_bytes().starts_with(&sink.bytes), "at {room}");
     }
+    Ok(())
+}
+
+// Begins 1,000 processes, each of which makes eight references and ends.
+const PROCESSES: &str =
+    "module 'm' ['main'/0,'c'/1] attributes [] 'begin'/1 = fun (N) -> case N of <0> when 'true' -> 'ok' <M> when 'true' -> do call 'erlang':'spawn'('m','c',[8]) apply 'begin'/1(call 'erlang':'-'(N,1)) end 'c'/1 = fun (N) -> case N of <0> when 'true' -> 'ok' <M> when 'true' -> do call 'erlang':'make_ref'() apply 'c'/1(call 'erlang':'-'(N,1)) end 'main'/0 = fun () -> apply 'begin'/1(1000) end";
+
+// The turns of the first process, and those of each other to its end.
+fn all_turns(alloc: Global) -> Result<String, AllocError> {
+    let mut turns = String::from_str(alloc, "P ".repeat(alloc, 1_001)?.as_str())?;
+    for number in 1..1_001 {
+        let turn = format!(in alloc; "P.{number} ")?;
+        turns.push_str(turn.repeat(alloc, 9)?.as_str())?;
+    }
+    let _ = turns.pop();
+    Ok(turns)
+}
+
+#[test]
+fn a_replay_has_1000_processes_and_10001_events(rt: HostRuntime) -> Result<(), Fail> {
+    let alloc = rt.alloc();
+    let turns = all_turns(alloc)?;
+    let mut source = MemorySource::new(PROCESSES.as_bytes());
+    let mut sink = MemorySink::with_room(alloc, 1_000_000)?;
+    let outcome = run_replay(alloc, &mut source, turns.as_str(), &mut sink);
+    assert_eq!(rt; outcome, Ok(Verdict::Done));
+    assert!(rt;
+        sink.bytes.ends_with(
+            b"\n10000 P.1000 erlang:make_ref() -> #P.1000.8\n10001 P.1000 ends 'normal'\n"
+        )
+    );
     Ok(())
 }

@@ -1,13 +1,17 @@
 // The lines of events made by hand, byte for byte.
 use core_tree::CallKind;
-use explorer_engine::write_event;
+use proc_links::Effect;
+use proc_signals::Signal;
+use report_text::write_event;
 use std::alloc::{AllocError, Global};
 use std::process::Abort;
 use std::sync::Arc;
 use std::test::Fail;
 use term_core::{Pid, RefId, Step, Term, Terms, list_onto};
 use test_support::MemorySink;
-use world_core::{Deed, Event, Rule};
+use world_calls::Refusal;
+use world_core::{Deed, Event};
+use world_model::rule::Rule;
 
 // How many bytes a sink takes at a time.
 const PIECES: [usize; 2] = [1, 1000];
@@ -183,8 +187,7 @@ fn refused(alloc: Global, rule: Rule, numbers: Option<&[u64]>) -> Result<Deed, A
     Ok(Deed::Refused {
         kind: CallKind::Lookup,
         arguments: Arc::new(alloc, Terms::from_vec(arguments))?,
-        rule,
-        owner,
+        refusal: Refusal::ByRule(rule, owner),
     })
 }
 
@@ -210,4 +213,55 @@ fn prints_ends_and_waits(rt: HostRuntime) -> Result<(), Fail> {
         Deed::TimedOut,
         b"4 P.1 times out\n",
     )
+}
+
+// The reference `#P.1`.
+fn reference(alloc: Global) -> Result<RefId, AllocError> {
+    RefId::new(alloc, pid(alloc, &[])?, 1)
+}
+
+// Asserts that the line of a delivery from the first process to another is this one.
+fn brings(
+    rt: &impl Abort,
+    alloc: Global,
+    signal: Signal,
+    effect: Effect,
+    line: &[u8],
+) -> Result<(), Fail> {
+    let event = Event {
+        step: Step::Deliver(pid(alloc, &[])?, pid(alloc, &[2])?),
+        deed: Deed::Delivered(signal, effect),
+    };
+    let mut sink = MemorySink::with_room(alloc, 1000)?;
+    assert!(rt; write_event(&mut sink, 5, &event).is_ok());
+    assert_eq!(rt; sink.bytes.as_slice(), line);
+    Ok(())
+}
+
+#[test]
+fn prints_signals_that_are_delivered(rt: HostRuntime) -> Result<(), Fail> {
+    let alloc = rt.alloc();
+    let a = Term::atom(alloc, "a")?;
+    let put = Effect::Put(a.copy()?);
+    let line = b"5 P>P.2 brings 'a'\n";
+    brings(&rt, alloc, Signal::Message(a.copy()?), put, line)?;
+    let ends = Effect::Ends(Term::atom(alloc, "killed")?);
+    let line = b"5 P>P.2 exit 'a' -> ends 'killed'\n";
+    brings(&rt, alloc, Signal::Exit(a.copy()?), ends, line)?;
+    let line = b"5 P>P.2 exit 'a' -> ignored\n";
+    brings(&rt, alloc, Signal::Exit(a.copy()?), Effect::Ignored, line)?;
+    let line = b"5 P>P.2 exit 'a' -> dropped\n";
+    brings(
+        &rt,
+        alloc,
+        Signal::LinkExit(a.copy()?),
+        Effect::Dropped,
+        line,
+    )?;
+    let down = Signal::Down(reference(alloc)?, a.copy()?);
+    let line = b"5 P>P.2 down #P.1 -> dropped\n";
+    brings(&rt, alloc, down, Effect::Dropped, line)?;
+    let put = Effect::Put(a.copy()?);
+    let down = Signal::Down(reference(alloc)?, a);
+    brings(&rt, alloc, down, put, b"5 P>P.2 down #P.1 -> 'a'\n")
 }

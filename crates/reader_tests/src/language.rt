@@ -6,7 +6,7 @@ use std::process::Abort;
 use std::test::Fail;
 
 // Asserts that each text is read.
-fn reads(rt: &impl Abort, alloc: Global, table: &[&[u8]]) {
+pub(super) fn reads(rt: &impl Abort, alloc: Global, table: &[&[u8]]) {
     for text in table {
         let answer = read_module(alloc, text).err();
         assert_eq!(rt; answer, None);
@@ -281,7 +281,7 @@ fn reads_alike(rt: &impl Abort, alloc: Global, text: &[u8]) -> Result<(), Fail> 
 }
 
 // Asserts that a form is read a thousand levels deep, and not one level deeper.
-fn nests(
+pub(super) fn nests(
     rt: &impl Abort,
     alloc: Global,
     front: &[u8],

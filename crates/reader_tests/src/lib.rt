@@ -3,11 +3,15 @@
 #![tactic(auto)]
 
 #[cfg(test)]
+mod calls;
+#[cfg(test)]
 mod language;
 #[cfg(test)]
 mod module_texts;
 #[cfg(test)]
 mod module_tokens;
+#[cfg(test)]
+mod receives;
 #[cfg(test)]
 mod scopes;
 #[cfg(test)]

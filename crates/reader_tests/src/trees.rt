@@ -65,7 +65,7 @@ fn tells_pure_calls_apart(rt: HostRuntime) {
 // The texts below differ from one another, and each part of each form differs between two of them.
 
 // Expressions in which `A` and `B` are bound.
-const EXPRESSIONS: [&str; 46] = [
+const EXPRESSIONS: [&str; 53] = [
     "1",
     "2",
     "$a",
@@ -110,6 +110,13 @@ const EXPRESSIONS: [&str; 46] = [
     "case 2 of <7,1> when 1 -> 1 end",
     "case 1 of <7,1> when 2 -> 1 end",
     "case 1 of <7,1> when 1 -> 2 end",
+    "receive after 1 -> 1",
+    "receive after 2 -> 1",
+    "receive after 1 -> 2",
+    "receive 7 when 1 -> 1 after 1 -> 1",
+    "receive 8 when 1 -> 1 after 1 -> 1",
+    "receive 7 when 1 -> 2 after 1 -> 1",
+    "receive 7 when 1 -> 1 7 when 1 -> 1 after 1 -> 1",
     "call 'ets':'insert'(1,1)",
     "call 'ets':'insert'(1,2)",
 ];
@@ -210,7 +217,7 @@ fn are_apart(rt: &impl Abort, here: &[Module], there: &[Module]) {
 fn compares_modules_but_for_places(rt: HostRuntime) -> Result<(), Fail> {
     let here = modules(rt.alloc(), "")?;
     let there = modules(rt.alloc(), "     ")?;
-    assert_eq!(rt; here.len(), 97);
+    assert_eq!(rt; here.len(), 104);
     are_apart(&rt, &here, &there);
     Ok(())
 }

@@ -1,10 +1,10 @@
 -- What a flush at the end makes of a replay.
-use Rattle.std.proofs.Common.{◌≡◌, ℕ, Bool, true, false, List, [], Option, None, refl, sym, append-nil}
+use Rattle.std.proofs.Common.{◌≡◌, ℕ, Bool, true, List, [], Option, sym, append-nil}
 use Rattle.std.specs.Prelude.{Result, Ok, Err}
 use Rattle.std.specs.Io.KnownBytes.{Keeps}
 use Rattle.std.proofs.KnownBytes.{Appends-kept}
 use Rattle.world_model.specs.Requests.{Program}
-use Rattle.term_core.specs.Stream.{AppendsBeginning, WritesAll, BreaksOff}
+use Rattle.term_core.specs.Stream.{AppendsBeginning, WritesAll}
 use Rattle.term_core.specs.declared.step.Step.{Step}
 use Rattle.replay_core.specs.Replay.{Replays, transcript}
 use Rattle.replay_core.specs.declared.replay_fault.ReplayFault.{ReplayFault}

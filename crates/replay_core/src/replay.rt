@@ -1,7 +1,7 @@
 // The replay of one schedule.
 ghost use Rattle.std.specs.Prelude.{◌≡◌, ℕ, true, false, List, None, Some, OnOk};
 ghost use Rattle.term_core.specs.declared.step.Step.{Step};
-ghost use Rattle.worlds.specs.Seen.{program_in};
+ghost use Rattle.world_core.specs.Seen.{program_in};
 ghost use Rattle.world_model.specs.Asking.{program_of};
 ghost use Rattle.world_model.specs.Requests.{Program};
 ghost use Rattle.world_model.specs.Run.{run};
@@ -12,7 +12,7 @@ use core_tree::Module;
 use report_text::write_event;
 use std::alloc::Global;
 use term_core::{Sink, Step};
-use worlds::{World, WorldFault};
+use world_core::{World, WorldFault};
 
 /// Where no step of a schedule stops a replay, the schedule is a run with the history that is reached;
 /// else the steps before that step are, and with it they are none.

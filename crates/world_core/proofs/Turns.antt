@@ -1,70 +1,53 @@
--- What an event does to the turns, the answers and the life of a process.
-use Rattle.std.proofs.Common.{◌≡◌, Bool, true, false, not, ◌&&◌, ℕ, ◌+◌, ◌≤◌, List, [], ◌∷◌, ◌++◌, length, refl, ap, ◌∙◌, arith, if◌then◌else◌}
-use Rattle.term_core.specs.declared.step.Step.{Step}
+-- A process that lives has a turn, unless it waits.
+use Rattle.std.proofs.Common.{◌≡◌, ◌∙◌, Bool, true, false, List, Option, Some, None, refl, sym, ap, if◌then◌else◌, option_map, true≢false}
+use Rattle.term_core.specs.Meaning.{Meaning}
 use Rattle.term_core.specs.declared.step.Step.TheVariants.{Turn}
-use Rattle.core_eval.specs.Ask.{is_first}
-use Rattle.world_core.specs.Events.{Happening, History}
-use Rattle.world_core.specs.History.{is_turn_of, is_end, alive, turns, answers, answer_in}
-use Rattle.world_core.proofs.SameNames.{same_pid-self, same_pid-false}
+use Rattle.core_tree.specs.declared.call.CallKind.{CallKind}
+use Rattle.world_model.specs.Calls.{call_of}
+use Rattle.world_model.specs.Cells.{Alive, Contents, Machine, Mailbox}
+use Rattle.world_model.specs.Events.{Deed, Event, event, History}
+use Rattle.world_model.specs.Names.{Pid}
+use Rattle.world_model.specs.Requests.{Program, Request, Calls, Receives, Ends, RunsAway}
+use Rattle.world_model.specs.Run.{next_event}
+use Rattle.world_model.specs.Steps.{asked, deed_asked, must_wait, received, selected_of}
+use Rattle.world_model.specs.World.{alive, contents}
+use Rattle.world_core.specs.Waiting.{WaitsAt, Waits}
 
--- ---- the process whose turn it is
+served_if : (b : Bool) (deed : Deed) → (b ≡ true → ⊥) → (d : Deed) × ((if b then None else Some deed) ≡ Some d)
+served_if true deed not = absurd (not refl)
+served_if false deed not = (deed, refl)
 
--- a turn is one of its process
-own_turn : (p : List ℕ) (step : Step) → step ≡ Turn p → is_turn_of p step ≡ true
-own_turn p step is = ap (is_turn_of p) is ∙ same_pid-self p
+received_if : (waits : Bool) (o : Option Meaning) → ((waits ≡ true) × (o ≡ None) → ⊥) → (d : Deed) × (received waits o ≡ Some d)
+received_if true None not = absurd (not (refl, refl))
+received_if false None not = (_, refl)
+received_if waits (Some message) not = (_, refl)
 
-pub turns-own : (h : History) (e : Happening) (p : List ℕ) → e.step ≡ Turn p → turns (e ∷ h) p ≡ turns h p + 1
-turns-own h e p is = ap (λ b. if b then turns h p + 1 else turns h p) (own_turn p e.step is)
+has_deed : (v : Contents) (p : Pid) (request : Request) → (WaitsAt v p request → ⊥) → (d : Deed) × (deed_asked v p request ≡ Some d)
+has_deed v p (Calls kind arguments) not = served_if (must_wait v p (call_of kind arguments)) _ not
+has_deed v p (Receives waits selects) not = received_if waits (selected_of selects (v (Mailbox p))) not
+has_deed v p (Ends reason) not = (_, refl)
+has_deed v p RunsAway not = (_, refl)
 
-pub answers-own : (h : History) (e : Happening) (p : List ℕ) → e.step ≡ Turn p → answers (e ∷ h) p ≡ answers h p ++ answer_in e.deed
-answers-own h e p is = ap (λ b. if b then answers h p ++ answer_in e.deed else answers h p) (own_turn p e.step is)
+none_if : (b : Bool) (deed : Deed) → b ≡ true → (if b then None else Some deed) ≡ None
+none_if true deed e = refl
+none_if false deed e = absurd (true≢false (sym e))
 
-pub alive-own : (h : History) (e : Happening) (p : List ℕ) → e.step ≡ Turn p → alive (e ∷ h) p ≡ (alive h p && not (is_end e.deed))
-alive-own h e p is = ap (λ b. alive h p && not (b && is_end e.deed)) (own_turn p e.step is)
+none_received : (waits : Bool) (o : Option Meaning) → waits ≡ true → o ≡ None → received waits o ≡ None
+none_received waits o w e = λ i. received (w i) (e i)
 
--- ---- another process, whose turn it is not
+has_none : (v : Contents) (p : Pid) (request : Request) → WaitsAt v p request → deed_asked v p request ≡ None
+has_none v p (Calls kind arguments) waits = none_if (must_wait v p (call_of kind arguments)) _ waits
+has_none v p (Receives waits_ selects) waits = none_received waits_ (selected_of selects (v (Mailbox p))) waits.0 waits.1
+has_none v p (Ends reason) waits = absurd waits
+has_none v p RunsAway waits = absurd waits
 
-pub turns-other : (h : History) (e : Happening) (p : List ℕ) → is_turn_of p e.step ≡ false → turns (e ∷ h) p ≡ turns h p
-turns-other h e p n = ap (λ b. if b then turns h p + 1 else turns h p) n
+event_of : (a : Program) (h : History) (p : Pid) (b : Bool) (o : Option Deed) (d : Deed) → b ≡ true → o ≡ Some d → option_map (event (Turn p)) (if b then o else None) ≡ Some (event (Turn p) d)
+event_of a h p b o d lives is = λ i. option_map (event (Turn p)) (if lives i then is i else None)
 
-pub answers-other : (h : History) (e : Happening) (p : List ℕ) → is_turn_of p e.step ≡ false → answers (e ∷ h) p ≡ answers h p
-answers-other h e p n = ap (λ b. if b then answers h p ++ answer_in e.deed else answers h p) n
+pub has_turn : (a : Program) (h : History) (p : Pid) → alive h p ≡ true → (Waits a h p → ⊥) → (e : Event) × (next_event a h (Turn p) ≡ Some e)
+has_turn a h p lives not =
+    let d = has_deed (contents h) p (asked a p (contents h (Machine p))) (λ waits. not (lives, waits)) in
+    (event (Turn p) d.0, event_of a h p (contents h (Alive p)) _ d.0 lives d.1)
 
-and_true : (b : Bool) → (b && true) ≡ b
-and_true true = refl
-and_true false = refl
-
-pub alive-other : (h : History) (e : Happening) (p : List ℕ) → is_turn_of p e.step ≡ false → alive (e ∷ h) p ≡ alive h p
-alive-other h e p n = ap (λ b. alive h p && not (b && is_end e.deed)) n ∙ and_true (alive h p)
-
--- a turn of one process is none of another
-pub is_turn_of-other : (p q : List ℕ) → (p ≡ q → ⊥) → is_turn_of q (Turn p) ≡ false
-is_turn_of-other p q n = same_pid-false p q n
-
--- ---- how many turns, and who lives
-
-grows : (b : Bool) (n : ℕ) → n ≤ (if b then n + 1 else n)
-grows true n = omega arith
-grows false n = omega arith
-
--- no turn is forgotten
-pub turns_grow : (h : History) (e : Happening) (p : List ℕ) → turns h p ≤ turns (e ∷ h) p
-turns_grow h e p = grows (is_turn_of p e.step) (turns h p)
-
-at_most_one_more : (b : Bool) (n l : ℕ) → n ≤ l → (if b then n + 1 else n) ≤ l + 1
-at_most_one_more true n l h = omega arith
-at_most_one_more false n l h = omega arith
-
--- there are no more turns than events
-pub turns_length : (h : History) (p : List ℕ) → turns h p ≤ length h
-turns_length [] p = omega arith
-turns_length (e ∷ h) p = let less = at_most_one_more (is_turn_of p e.step) (turns h p) (length h) (turns_length h p) in omega (arith, less)
-
-false_and : (a b : Bool) → a ≡ false → (a && b) ≡ false
-false_and true b e = cc
-false_and false b e = refl
-
--- no process but the first is alive
-pub others_are_not_alive : (h : History) (p : List ℕ) → is_first p ≡ false → alive h p ≡ false
-others_are_not_alive [] p n = n
-others_are_not_alive (e ∷ h) p n = false_and (alive h p) (not (is_turn_of p e.step && is_end e.deed)) (others_are_not_alive h p n)
+pub has_no_turn : (a : Program) (h : History) (p : Pid) → Waits a h p → next_event a h (Turn p) ≡ None
+has_no_turn a h p waits = λ i. option_map (event (Turn p)) (if waits.0 i then has_none (contents h) p (asked a p (contents h (Machine p))) waits.1 i else None)

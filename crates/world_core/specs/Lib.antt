@@ -1,14 +1,5 @@
-pub mod Names
-pub mod Calls
-pub mod Options
-pub mod Objects
-pub mod Rules
-pub mod Answers
-pub mod Effects
-pub mod Events
-pub mod History
-pub mod Run
-pub mod Laws
-pub mod Deeds
+pub mod Shared
 pub mod Seen
+pub mod Advanced
+pub mod Waiting
 pub mod inside

@@ -1,6 +1,3 @@
-pub mod Stored
-pub mod Agreement
-pub mod DeedCodes
-pub mod Records
-pub mod Settings
-pub mod TableCalls
+pub mod EventCodes
+pub mod Enabling
+pub mod Showing

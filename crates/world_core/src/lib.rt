@@ -1,15 +1,13 @@
-// The explored world: processes, their tables, and the list of what happened.
+// The explored world: what its processes, signals and tables are after a schedule, and what happened under it.
 #![tactic(auto)]
 
-pub mod event;
+mod enabled;
+mod events;
 pub mod fault;
 pub mod laws;
-mod process;
-pub mod tables;
-mod turn;
+mod shows;
 pub mod world;
 
-pub use event::{Deed, Event};
 pub use fault::WorldFault;
-pub use tables::rule::Rule;
 pub use world::World;
+pub use world_steps::{Deed, Event};

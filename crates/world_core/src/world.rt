@@ -1,33 +1,37 @@
 // The world of one schedule.
-ghost use Rattle.std.specs.Prelude.{◌≡◌, ◌↔◌, [], true, false, Some, None, IfOk, OnOk, OnErr, IfErr, IsErr, IsSome, MatchResult, Contains, option_map, is_some};
+ghost use Rattle.std.specs.Prelude.{◌≡◌, ◌↔◌, [], true, false, Some, None, IfOk, OnOk, OnErr, IfErr, IsErr, IsSome, MatchResult, Contains, option_map, map};
+ghost use Rattle.findings.specs.Identities.{identity_in};
 ghost use Rattle.term_core.specs.declared.step.Step.{Step};
-ghost use Rattle.core_tree.specs.Syntax.{ModuleTree};
-ghost use Rattle.world_core.specs.inside.Agreement.{IsProcess};
-ghost use Rattle.world_core.specs.Deeds.{happening_of};
-ghost use Rattle.world_core.specs.Events.{History};
-ghost use Rattle.world_core.specs.Run.{next_event, grown, run, schedule_of, latest, AreInOrder};
+ghost use Rattle.world_core.specs.Advanced.{Advances};
+ghost use Rattle.world_core.specs.Seen.{new_world, program_in};
 ghost use Rattle.world_core.specs.declared.fault.WorldFault.TheVariants.{NotEnabled, Memory};
+ghost use Rattle.world_model.specs.Run.{enabled_steps, extended, latest, next_event, run, schedule_of};
+ghost use Rattle.world_model.specs.Shown.{shown};
+ghost use Rattle.world_model.specs.StepLaws.{AreInOrder};
+ghost use Rattle.world_model.specs.World.{alive, contents};
+ghost use Rattle.world_records.specs.Records.{Agrees};
+ghost use Rattle.world_steps.specs.Deeds.{event_in};
 
-use crate::event::Event;
+use crate::enabled::enabled_steps;
+use crate::events::Events;
 use crate::fault::WorldFault;
-use crate::process::Process;
-use crate::tables::store::Tables;
-use crate::turn::{is_enabled, turn};
-use core_eval::start;
+use crate::shows::shown_by_world;
 use core_tree::Module;
-use std::alloc::{AllocError, Global};
+use findings::Identity;
+use std::alloc::Global;
 use std::marker::Model;
-use term_core::{Atom, Pid, Step, Terms};
+use term_core::{Pid, Step};
+use world_records::Records;
+use world_steps::{Event, act};
 
-/// A world: the processes of a module, their tables, and what happened so far. Contracts see the
-/// module, the events, the latest first, and whether memory was wanting once; what the processes and
-/// the tables are is reported by the events.
+/// A world: what the processes of a module, their signals and their tables are after what happened so far, and what
+/// happened. Contracts see the module, the events, the latest first, and whether memory was wanting once; all else is
+/// told by the events. Copies share all of it until one of them takes a step.
 #[derive(Drop)]
 pub struct World<'m> {
     program: &'m Module,
-    process: Process<'m>,
-    tables: Tables,
-    events: Vec<Event>,
+    records: Records<'m>,
+    events: Events,
     is_spent: bool,
 }
 
@@ -39,39 +43,12 @@ impl<'m> Model for World<'m> {
 
     ghost coded = { coded_seen };
 
-    ghost use Rattle.world_core.specs.Deeds.{history_of};
-    ghost use Rattle.world_core.specs.inside.Agreement.{IsWorld};
+    ghost use Rattle.world_core.specs.inside.Enabling.{IsWorld};
+    ghost use Rattle.world_core.specs.Shared.{events_in};
 
-    ghost view = { λ w. record { program = w.program.now; history = history_of w.events.items; spent = w.is_spent } };
+    ghost view = { λ w. record { program = w.program.now; history = events_in w.events; spent = w.is_spent } };
 
-    ghost invariant = { λ w. w.is_spent ≡ false → IsWorld w.program.now (history_of w.events.items) w.process w.tables };
-}
-
-/// The first process of a module, at its beginning.
-fn first_process<'m>(alloc: Global, program: &'m Module) -> Result<Process<'m>, AllocError>
-    ensures { IfOk result (λ process. (process.pid ≡ []) × IsProcess program.now [] process) }
-{
-    let main = Atom::new(alloc, "main")?;
-    let arguments = Terms::new(alloc);
-    let pid = Pid::new(alloc, Vec::new(alloc))?;
-    let machine = start(alloc, program, pid.copy()?, &program.name, &main, arguments)?;
-    Ok(Process {
-        pid,
-        machine,
-        turns: 0,
-        is_alive: true,
-    })
-}
-
-/// Whether a step is a turn of the process, and enabled. It takes no memory.
-fn is_next(process: &Process<'_>, step: &Step) -> bool
-    ensures { (m : ModuleTree) → (h : History) → process.now.pid ≡ [] → IsProcess m h process.now
-        → result ≡ is_some (next_event m h step.now) }
-{
-    match step {
-        Step::Turn(pid) => *pid == process.pid && is_enabled(process),
-        Step::Deliver(_, _) => false,
-    }
+    ghost invariant = { λ w. w.is_spent ≡ false → IsWorld w.program.now (events_in w.events) w.records };
 }
 
 impl<'m> World<'m> {
@@ -81,28 +58,47 @@ impl<'m> World<'m> {
     ///
     /// `Memory` where memory ran out.
     pub fn open(alloc: Global, program: &'m Module) -> Result<World<'m>, WorldFault>
-        ensures { MatchResult result
-            (λ world. world ≡ record { program = program.now; history = []; spent = false })
-            (λ fault. fault ≡ Memory) }
+        ensures { MatchResult result (λ world. world ≡ new_world program.now) (λ fault. fault ≡ Memory) }
     {
         Ok(World {
             program,
-            process: first_process(alloc, program)?,
-            tables: Tables::new(alloc),
-            events: Vec::new(alloc),
+            records: Records::open(alloc, program)?,
+            events: Events::Nothing,
             is_spent: false,
         })
     }
 
-    /// The steps that are enabled, in their order: turns of processes that live and need not wait.
+    /// The same world, which shares memory with this one. It is one step for each of its parts, whatever they hold and
+    /// however much happened.
+    ///
+    /// # Errors
+    ///
+    /// `Memory` where the copies can no longer be counted, or memory was wanting in an earlier step.
+    pub fn copy(&self) -> Result<World<'m>, WorldFault>
+        ensures copied { IfOk result (λ copied. copied ≡ self.now) }
+        ensures memory { IfErr result (λ fault. fault ≡ Memory) }
+        ensures spent { self.now.spent ≡ true → IsErr result }
+    {
+        if self.is_spent {
+            // A spent world is not copied.
+            return Err(WorldFault::Memory);
+        }
+        Ok(World {
+            program: self.program,
+            records: self.records.copy()?,
+            events: self.events.copy()?,
+            is_spent: false,
+        })
+    }
+
+    /// The steps that are enabled, in their order: turns of processes that live and need not wait, and then deliveries
+    /// of signals to processes that live.
     ///
     /// # Errors
     ///
     /// `Memory` where memory ran out, now or in an earlier step.
     pub fn enabled(&self, alloc: Global) -> Result<Vec<Step>, WorldFault>
-        ensures exactly { IfOk result (λ steps. (step : Step) →
-            Contains steps.items step ↔ IsSome (next_event self.now.program self.now.history step)) }
-        ensures in_order { IfOk result (λ steps. AreInOrder steps.items) }
+        ensures listed { IfOk result (λ steps. steps.items ≡ enabled_steps (program_in self.now) self.now.history) }
         ensures memory { IfErr result (λ fault. fault ≡ Memory) }
         ensures spent { self.now.spent ≡ true → IsErr result }
     {
@@ -110,11 +106,7 @@ impl<'m> World<'m> {
             // A spent world does not show what is enabled.
             return Err(WorldFault::Memory);
         }
-        let mut steps = Vec::new(alloc);
-        if !is_enabled(&self.process) {
-            return Ok(steps);
-        }
-        steps.push(Step::Turn(self.process.pid.copy()?))?;
+        let steps = enabled_steps(&self.records, alloc)?;
         Ok(steps)
     }
 
@@ -122,15 +114,15 @@ impl<'m> World<'m> {
     ///
     /// # Errors
     ///
-    /// `NotEnabled` where there is no such event, and then the world is unchanged; `Memory` where memory
-    /// was wanting, now or in an earlier step: the world is spent, and every later call answers `Memory`.
+    /// `NotEnabled` where there is no such event, and then the world is unchanged; `Memory` where memory was wanting,
+    /// now or in an earlier step: the world is spent, and every later call answers `Memory`.
     pub fn step(&mut self, alloc: Global, step: &Step) -> Result<(), WorldFault>
-        ensures ok { OnOk result (grown self.old.history (next_event self.old.program self.old.history step.now) ≡ Some self.new.history) }
+        ensures ok { OnOk result (extended self.old.history (next_event (program_in self.old) self.old.history step.now) ≡ Some self.new.history) }
         ensures lives { OnOk result (self.new.spent ≡ false) }
         ensures program { self.new.program ≡ self.old.program }
-        ensures not_enabled { result ≡ Err NotEnabled → next_event self.old.program self.old.history step.now ≡ None }
+        ensures not_enabled { result ≡ Err NotEnabled → next_event (program_in self.old) self.old.history step.now ≡ None }
         ensures unchanged { result ≡ Err NotEnabled → self.new ≡ self.old }
-        ensures only { self.old.spent ≡ false → next_event self.old.program self.old.history step.now ≡ None → result ≡ Err NotEnabled }
+        ensures only { self.old.spent ≡ false → next_event (program_in self.old) self.old.history step.now ≡ None → IsErr result }
         ensures spent { result ≡ Err Memory → self.new.spent ≡ true }
         ensures kept { OnErr result (self.new.history ≡ self.old.history) }
         ensures stays_spent { self.old.spent ≡ true → result ≡ Err Memory }
@@ -139,24 +131,123 @@ impl<'m> World<'m> {
             // A spent world stays spent.
             return Err(WorldFault::Memory);
         }
-        if !is_next(&self.process, step) {
-            return Err(WorldFault::NotEnabled);
-        }
         self.is_spent = true;
-        let deed = turn(alloc, &mut self.process, &mut self.tables)?;
+        let Some(deed) = act(&mut self.records, alloc, step)? else {
+            self.is_spent = false;
+            return Err(WorldFault::NotEnabled);
+        };
         let step = step.copy()?;
-        self.events.push(Event { step, deed })?;
+        let before = self.events.copy()?;
+        self.events = before.with(alloc, Event { step, deed })?;
         self.is_spent = false;
         Ok(())
     }
 
-    /// The event that happened last. It takes no memory.
+    /// Takes one step after the other.
+    ///
+    /// # Errors
+    ///
+    /// `NotEnabled` at the first step that is not enabled, with its place, counted from 1: the steps before it were
+    /// taken. `Memory` where memory was wanting, with the place of the step then, or 1 where it was wanting before: the
+    /// world is spent.
+    pub fn advance(&mut self, alloc: Global, steps: &[Step]) -> Result<(), (u64, WorldFault)>
+        ensures advanced { Advances self.old steps.now result self.new }
+        ensures program { self.new.program ≡ self.old.program }
+        ensures stays_spent { self.old.spent ≡ true → result ≡ Err (1, Memory) }
+    {
+        if self.is_spent {
+            // A spent world stays spent.
+            return Err((1, WorldFault::Memory));
+        }
+        for (index, step) in steps.iter().enumerate() {
+            match self.step(alloc, step) {
+                Ok(()) => {}
+                Err(fault) => return Err((index as u64 + 1, fault)),
+            }
+        }
+        Ok(())
+    }
+
+    /// The event that happened last, if anything did. It takes no memory.
     pub fn last_event(&self) -> Option<&Event>
-        ensures event { option_map (λ event. happening_of event.now) result ≡ latest self.now.history }
+        ensures event { option_map (λ event. event_in event.now) result ≡ latest (Some self.now.history) }
 
         // The events are the history of their steps.
-        ensures is_run { self.now.spent ≡ false → run self.now.program (schedule_of self.now.history) ≡ Some self.now.history }
+        ensures is_run { self.now.spent ≡ false → run (program_in self.now) (schedule_of self.now.history) ≡ Some self.now.history }
     {
-        self.events.last()
+        self.events.latest()
+    }
+
+    /// What the world shows, its errors and its refusal: by its last event the end of a process with another reason
+    /// than `normal`, a process that made too many applications without a request, or a refused call of a table; and
+    /// the deadlock of those that live, where no step is enabled (`Identity::is_error` and `Identity::is_refusal` tell
+    /// which is which).
+    ///
+    /// # Errors
+    ///
+    /// `Memory` where memory ran out, now or in an earlier step.
+    pub fn errors_here(&self, alloc: Global) -> Result<Vec<Identity>, WorldFault>
+        ensures shown { IfOk result (λ found. map identity_in found.items ≡ shown (program_in self.now) self.now.history) }
+        ensures memory { IfErr result (λ fault. fault ≡ Memory) }
+        ensures spent { self.now.spent ≡ true → IsErr result }
+    {
+        let enabled = self.enabled(alloc)?;
+        let found = self.errors_among(alloc, enabled.as_slice())?;
+        Ok(found)
+    }
+
+    /// The same for a caller that has the enabled steps, as `enabled` gives them. Given others, it answers a deadlock
+    /// just where there are none of them and some process lives.
+    ///
+    /// # Errors
+    ///
+    /// `Memory` where memory ran out, now or in an earlier step.
+    pub fn errors_among(&self, alloc: Global, enabled: &[Step]) -> Result<Vec<Identity>, WorldFault>
+        ensures shown { IfOk result (λ found. enabled.now ≡ enabled_steps (program_in self.now) self.now.history → map identity_in found.items ≡ shown (program_in self.now) self.now.history) }
+        ensures memory { IfErr result (λ fault. fault ≡ Memory) }
+        ensures spent { self.now.spent ≡ true → IsErr result }
+    {
+        if self.is_spent {
+            // What a spent world shows is not known.
+            return Err(WorldFault::Memory);
+        }
+        let found = shown_by_world(&self.records, alloc, self.events.latest(), enabled)?;
+        Ok(found)
+    }
+
+    /// The steps that were taken, the first one first.
+    ///
+    /// # Errors
+    ///
+    /// `Memory` where memory ran out.
+    pub fn schedule(&self, alloc: Global) -> Result<Vec<Step>, WorldFault>
+        ensures taken { IfOk result (λ steps. steps.items ≡ schedule_of self.now.history) }
+        ensures memory { IfErr result (λ fault. fault ≡ Memory) }
+    {
+        let mut steps = self.events.steps(alloc)?;
+        steps.reverse();
+        Ok(steps)
+    }
+
+    /// The parts of the world, which are what the history leaves: processes, mailboxes, signals on their way, links,
+    /// watches, names and tables. Of a spent world they may be anything. It takes no memory.
+    pub fn records(&self) -> &Records<'m>
+        ensures { self.now.spent ≡ false → Agrees self.now.program result.now (contents self.now.history) }
+    {
+        &self.records
+    }
+
+    /// Whether a process lives; of a spent world that may be either. It takes no memory.
+    pub fn alive(&self, pid: &Pid) -> bool
+        ensures { self.now.spent ≡ false → result ≡ alive self.now.history pid.now }
+    {
+        self.records.processes().lives(pid)
+    }
+
+    /// Whether memory was wanting once, so that every call answers `Memory`. It takes no memory.
+    pub fn is_spent(&self) -> bool
+        ensures { result ≡ self.now.spent }
+    {
+        self.is_spent
     }
 }

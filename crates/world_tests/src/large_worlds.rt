@@ -4,6 +4,7 @@ use core_reader::read_module;
 use std::alloc::Global;
 use std::process::Abort;
 use std::test::Fail;
+use term_core::{Pid, Step};
 use world_core::World;
 
 // Takes a turn, and asserts what happened.
@@ -46,7 +47,26 @@ fn a_table_has_10000_rows_and_a_world_20000_events(rt: HostRuntime) -> Result<()
     happens(&rt, alloc, &mut world, "new 't' ['named_table'] -> 't'")?;
     puts(&rt, alloc, &mut world, 10_000)?;
     gets(&rt, alloc, &mut world, 10_000)?;
-    happens(&rt, alloc, &mut world, "'normal'")
+    let copied = world.copy()?;
+    happens(&rt, alloc, &mut world, "'normal'")?;
+    assert_eq!(rt; copied.schedule(alloc)?.len(), 20_001);
+    assert_eq!(rt; copied.enabled(alloc)?.len(), 1);
+    Ok(())
+}
+
+#[test]
+fn a_world_takes_20002_steps_in_a_row(rt: HostRuntime) -> Result<(), Fail> {
+    let alloc = rt.alloc();
+    let program = read_module(alloc, ROWS)?;
+    let mut steps = Vec::new(alloc);
+    for _ in 0..20_002 {
+        steps.push(turn(alloc)?)?;
+    }
+    let mut world = World::open(alloc, &program)?;
+    assert_eq!(rt; world.advance(alloc, &steps), Ok(()));
+    assert!(rt; world.schedule(alloc)? == steps);
+    assert!(rt; world.enabled(alloc)?.is_empty());
+    Ok(())
 }
 
 // Makes a table with the number of each turn in it, `count` down to 1: table k is made by turn 2k - 1.
@@ -86,4 +106,33 @@ fn a_world_has_1000_tables(rt: HostRuntime) -> Result<(), Fail> {
     makes(&rt, alloc, &mut world, 1_000)?;
     finds(&rt, alloc, &mut world, 1_000)?;
     happens(&rt, alloc, &mut world, "'normal'")
+}
+
+// Begins 1,000 processes, each of which sends a message to the first.
+const PROCESSES: &[u8] =
+    b"module 'm' ['main'/0,'c'/1] attributes [] 'begin'/1 = fun (N) -> case N of <0> when 'true' -> 'ok' <M> when 'true' -> do call 'erlang':'spawn'('m','c',[call 'erlang':'self'()]) apply 'begin'/1(call 'erlang':'-'(N,1)) end 'main'/0 = fun () -> apply 'begin'/1(1000) 'c'/1 = fun (P) -> call 'erlang':'!'(P,'a') end";
+
+// The turn of the process that turn `number` of the first one began.
+fn turn_of_child(alloc: Global, number: u64) -> Result<Step, Fail> {
+    let mut numbers = Vec::new(alloc);
+    numbers.push(number)?;
+    Ok(Step::Turn(Pid::new(alloc, numbers)?))
+}
+
+#[test]
+fn a_world_has_1000_processes_and_their_signals(rt: HostRuntime) -> Result<(), Fail> {
+    let alloc = rt.alloc();
+    let program = read_module(alloc, PROCESSES)?;
+    let mut world = World::open(alloc, &program)?;
+    for _ in 0..1_000 {
+        world.step(alloc, &turn(alloc)?)?;
+    }
+    assert_eq!(rt; world.enabled(alloc)?.len(), 1_001);
+    for index in 0..1_000 {
+        world.step(alloc, &turn_of_child(alloc, index + 1)?)?;
+    }
+    // each has its last turn, and a message on its way
+    assert_eq!(rt; world.enabled(alloc)?.len(), 2_001);
+    assert_eq!(rt; world.copy()?.schedule(alloc)?.len(), 2_000);
+    Ok(())
 }

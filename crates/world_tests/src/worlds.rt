@@ -7,6 +7,7 @@ use std::process::Abort;
 use std::test::Fail;
 use term_core::{Output, Pid, Step, WriteFault, write_all, write_number, write_pid, write_term};
 use test_support::{nested, write_named};
+use world_calls::Refusal;
 use world_core::{Deed, World, WorldFault};
 
 // What stands before the body of `main/0`, which begins at 57.
@@ -45,8 +46,7 @@ fn write_deed(deed: &Deed, sink: &mut Output<Vec<u8>>) -> Result<(), WriteFault>
         Deed::Refused {
             kind,
             arguments,
-            rule,
-            owner,
+            refusal: Refusal::ByRule(rule, owner),
         } => {
             write_named(kind.function_name(), arguments, sink)?;
             write_all(sink, b" refused by ")?;
@@ -56,6 +56,12 @@ fn write_deed(deed: &Deed, sink: &mut Output<Vec<u8>>) -> Result<(), WriteFault>
         Deed::Ended(reason) => write_term(reason, sink),
         Deed::RanAway => write_all(sink, b"runs away"),
         Deed::TimedOut => write_all(sink, b"times out"),
+        Deed::Received(message) => {
+            write_all(sink, b"receives ")?;
+            write_term(message, sink)
+        }
+        Deed::Delivered(_, _) => write_all(sink, b"delivered"),
+        _ => write_all(sink, b"something else"),
     }
 }
 
@@ -119,12 +125,12 @@ const REFUSED: [(&str, &str); 13] = [
     ),
     ("call 'ets':'new'(7,[])", "new 7 [] refused by 7\n"),
     (
-        "call 'ets':'new'([],['bag'])",
-        "new [] ['bag'] refused by 7\n",
+        "call 'ets':'new'([],['table'])",
+        "new [] ['table'] refused by 7\n",
     ),
     (
-        "call 'ets':'new'('t',['bag'])",
-        "new 't' ['bag'] refused by 8\n",
+        "call 'ets':'new'('t',['table'])",
+        "new 't' ['table'] refused by 8\n",
     ),
     (
         "call 'ets':'new'('t','set')",
@@ -139,8 +145,8 @@ const REFUSED: [(&str, &str); 13] = [
         "new 't' ['set',7] refused by 8\n",
     ),
     (
-        "call 'ets':'new'('t',[{'keypos',2}])",
-        "new 't' [{'keypos',2}] refused by 8\n",
+        "call 'ets':'new'('t',[{'keypos',0}])",
+        "new 't' [{'keypos',0}] refused by 8\n",
     ),
     (
         "call 'ets':'new'('t',{'set'})",
@@ -155,8 +161,8 @@ const REFUSED_LATER: [(&str, &str); 11] = [
         "new 't' ['named_table'] refused by 9\n",
     ),
     (
-        "call 'ets':'new'('t',['named_table','bag'])",
-        "new 't' ['named_table','bag'] refused by 8\n",
+        "call 'ets':'new'('t',['named_table','table'])",
+        "new 't' ['named_table','table'] refused by 8\n",
     ),
     (
         "call 'ets':'insert'('u',{'a',1})",
@@ -301,5 +307,25 @@ fn a_chain_of_do_is_bounded_by_the_reader(rt: HostRuntime) -> Result<(), Fail> {
         let fault = program(rt.alloc(), body.as_str()).err();
         assert_eq!(rt; fault, Some(ReadFault::TooDeep(7_053)), "{count}");
     }
+    Ok(())
+}
+
+// Each call of a world is served where there is memory for it.
+#[test]
+fn each_call_of_a_world_is_served(rt: HostRuntime) -> Result<(), Fail> {
+    let alloc = rt.alloc();
+    let program = program(alloc, "'ok'")?;
+    let world = World::open(alloc, &program)?;
+    let first = Pid::new(alloc, Vec::new(alloc))?;
+    let steps = world.enabled(alloc)?;
+    assert_eq!(rt; steps.len(), 1);
+    let mut ended = world.copy()?;
+    assert!(rt; ended.advance(alloc, &steps).is_ok());
+    assert!(rt; world.alive(&first));
+    assert!(rt; !ended.alive(&first));
+    assert!(rt; world.records().processes().lives(&first));
+    assert!(rt; ended.enabled(alloc)?.is_empty());
+    assert!(rt; ended.schedule(alloc)? == steps);
+    assert!(rt; !ended.is_spent());
     Ok(())
 }

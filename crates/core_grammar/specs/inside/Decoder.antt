@@ -6,6 +6,8 @@ use Rattle.core_tokens.specs.declared.token.Keyword.{Keyword}
 use Rattle.core_tokens.specs.declared.token.Keyword.TheVariants as k
 use Rattle.core_tokens.specs.declared.token.Mark.{Mark}
 use Rattle.core_tokens.specs.declared.token.Mark.TheVariants as m
+use Rattle.core_grammar.specs.declared.subject.Subject.{Subject}
+use Rattle.core_grammar.specs.declared.subject.Subject.TheVariants as subjects
 use Rattle.core_tokens.specs.Piece.{Piece, Shape}
 use Rattle.core_tokens.specs.Piece as lexemes
 use Rattle.core_tree.specs.Syntax.{Mention, NamedAt, Pattern, patterns_of, Constant, constants_of}
@@ -92,6 +94,11 @@ word_number k.Catch = 14
 word_number k.Receive = 15
 word_number k.After = 16
 word_number k.Letrec = 17
+
+-- the keyword that stands after clauses
+abbrev pub word_behind : Subject → Keyword
+word_behind subjects.Values = k.End
+word_behind subjects.Message = k.After
 
 abbrev pub is_mark : Mark → Shape → Bool
 is_mark x (lexemes.Mark y) = mark_number y == mark_number x
@@ -294,14 +301,14 @@ module _ {X : Type 0} (item : State → Read X) where
     xs ← more x.1
     Ok (x.0 ∷ xs.0, xs.1)
 
-  -- at most so many items one after the other, as far as an `end`
-  unfoldable pub row_at : ℕ → State → Read (List X)
-  row_at zero s = Err (fault s)
-  row_at (suc n) s = row_by (row_at n) (after_word k.End s.pieces) s
+  -- at most so many items one after the other, as far as this keyword
+  unfoldable pub row_at : Keyword → ℕ → State → Read (List X)
+  row_at close zero s = Err (fault s)
+  row_at close (suc n) s = row_by (row_at close n) (after_word close s.pieces) s
 
-  -- items one after the other, as far as an `end`
-  unfoldable pub rows_at : State → Read (List X)
-  rows_at s = row_at (length s.pieces) s
+  -- items one after the other, as far as this keyword
+  unfoldable pub rows_at : Keyword → State → Read (List X)
+  rows_at close s = row_at close (length s.pieces) s
 
 -- ---- constants
 

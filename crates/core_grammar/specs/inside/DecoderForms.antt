@@ -1,12 +1,13 @@
 -- Reading expressions and clauses from left to right, with the fault that comes first by place.
-use Rattle.std.specs.Prelude.{ℕ, zero, suc, List, [], ◌∷◌, length, Option, Some, None, Ok, Err, Bool, true, false, ◌&&◌, ◌||◌, ◌==◌, nat_lt, if◌then◌else◌, codes}
+use Rattle.std.specs.Prelude.{ℕ, zero, suc, List, [], ◌∷◌, ◌++◌, length, Option, Some, None, Ok, Err, Bool, true, false, ◌&&◌, ◌||◌, ◌==◌, nat_lt, if◌then◌else◌, codes}
 use Rattle.core_tokens.specs.declared.fault.ReadFault.{ReadFault}
 use Rattle.core_tokens.specs.declared.fault.ReadFault.TheVariants.{Expected, HigherOrder, UnsupportedCall, TooDeep, UnsupportedForm}
 use Rattle.core_tree.specs.declared.call.CallKind.{CallKind}
-use Rattle.core_tree.specs.declared.call.CallKind.TheVariants as calls
 use Rattle.core_tree.specs.declared.pure.PureCall.{PureCall}
 use Rattle.core_tokens.specs.declared.token.Keyword.TheVariants as k
 use Rattle.core_tokens.specs.declared.token.Mark.TheVariants as m
+use Rattle.core_grammar.specs.declared.subject.Subject.{Subject}
+use Rattle.core_grammar.specs.declared.subject.Subject.TheVariants as subjects
 use Rattle.core_tree.specs.Calls.{call_with}
 use Rattle.core_tree.specs.PureCalls.{pure_call_with}
 use Rattle.core_tokens.specs.Piece.{Piece, Shape}
@@ -19,7 +20,7 @@ use Rattle.core_grammar.specs.declared.unserved.Unserved.TheVariants as unserved
 use Rattle.term_core.specs.Kinds.{same_text}
 use Rattle.core_scopes.specs.Outcomes.{◌>>=◌}
 use Rattle.core_grammar.specs.Beginnings.{Beginning, OfAtom, OfOtherForm, OfFunction, beginning}
-use Rattle.core_grammar.specs.inside.Decoder.{place_of_unserved, State, Read, with_pieces, is_mark, is_word, after_mark, after_word, refusal, is_foreign, too_deep, mark_at, word_at, taken, atom_in, atom_at, named_by, behind_atom_at, closed_at, brackets_at, exactly_at, rows_at, begins_pattern_by, in_note_at, constant_at, noted_at, variables_at, caught_at, alias_at, pattern_at}
+use Rattle.core_grammar.specs.inside.Decoder.{place_of_unserved, State, Read, with_pieces, word_behind, is_mark, after_mark, after_word, refusal, is_foreign, too_deep, mark_at, word_at, taken, atom_in, atom_at, named_by, behind_atom_at, closed_at, brackets_at, exactly_at, rows_at, begins_pattern_by, in_note_at, constant_at, noted_at, variables_at, caught_at, alias_at, pattern_at}
 
 -- ---- expressions
 
@@ -53,7 +54,7 @@ abbrev pub expression_fault_of : ℕ → List Piece → ReadFault
 expression_fault_of stop [] = Expected stop
 expression_fault_of stop (p ∷ ps) =
     if is_function p.shape ps then HigherOrder p.at
-    else (if is_word k.Receive p.shape || is_foreign p.shape then UnsupportedForm p.at else Expected p.at)
+    else (if is_foreign p.shape then UnsupportedForm p.at else Expected p.at)
 
 unfoldable pub deep_expression : State → ReadFault
 deep_expression s = refusal s.refused (deep_expression_of s.stop s.pieces)
@@ -105,13 +106,6 @@ bare_applied_at s = do
 unfoldable pub applied_at : ℕ → State → Read NamedAt
 applied_at n s = noted_at (λ _. bare_applied_at) n s
 
--- the calls of the world that are read so far
-abbrev pub is_read : CallKind → Bool
-is_read calls.New = true
-is_read calls.Insert = true
-is_read calls.Lookup = true
-is_read kind = false
-
 -- an exported function of the module `own`, as far as the names tell
 abbrev pub export_called : List ℕ → List ℕ → List ℕ → ℕ → Option Callee
 export_called own module_name function_name arity =
@@ -122,7 +116,7 @@ unlisted_called own module_name function_name arity (Some kind) = Some (callees.
 unlisted_called own module_name function_name arity None = export_called own module_name function_name arity
 
 abbrev pub callee_by : List ℕ → List ℕ → List ℕ → ℕ → Option CallKind → Option Callee
-callee_by own module_name function_name arity (Some kind) = if is_read kind then Some (callees.World kind) else None
+callee_by own module_name function_name arity (Some kind) = Some (callees.World kind)
 callee_by own module_name function_name arity None = unlisted_called own module_name function_name arity (pure_call_with module_name function_name arity)
 
 -- what a call in the module `own` calls, by its two names and the number of its arguments
@@ -279,6 +273,14 @@ module _ (own : List ℕ) (n : ℕ) (inner : State → Read Tree) where
     t ← inner s
     Ok (trees.Catch at t.0, t.1)
 
+  -- the timeout of a `receive`, and what is done then
+  unfoldable pub expiry_at : State → Read (Tree × Tree)
+  expiry_at s = do
+    s1 ← word_at k.After s
+    t ← inner s1
+    u ← body_at t.1
+    Ok ((t.0, u.0), u.1)
+
   -- the guard of a clause and its body
   unfoldable pub guarded_at : State → Read (Tree × Tree)
   guarded_at s = do
@@ -331,46 +333,54 @@ module _ (own : List ℕ) (n : ℕ) (inner : State → Read Tree) where
     x ← in_note_at (constant_at n) (inside_start_at start) s
     aliased x.0 x.1
 
+-- patterns in angles: any number of them, or one
+unfoldable pub angles_at : ℕ → Subject → State → Read (List Pattern)
+angles_at n subjects.Values s = closed_at (pattern_at n) m.Greater s
+angles_at n subjects.Message s = do
+  qs ← exactly_at (pattern_at n) true 1 s
+  s1 ← mark_at m.Greater qs.1
+  Ok (qs.0, s1)
+
 -- patterns that no parenthesis stands before
-abbrev pub bare_start_by : ℕ → Option (List Piece) → State → Read Start
-bare_start_by n (Some ps) s = do
-  qs ← closed_at (pattern_at n) m.Greater (with_pieces s ps)
+abbrev pub bare_start_by : ℕ → Subject → Option (List Piece) → State → Read Start
+bare_start_by n subject (Some ps) s = do
+  qs ← angles_at n subject (with_pieces s ps)
   Ok (ManyPatterns qs.0, qs.1)
-bare_start_by n None s = do
+bare_start_by n subject None s = do
   q ← pattern_at n s
   Ok (OnePattern q.0, q.1)
 
-unfoldable pub bare_start_at : ℕ → State → Read Start
-bare_start_at n s = bare_start_by n (after_mark m.Less s.pieces) s
+unfoldable pub bare_start_at : ℕ → Subject → State → Read Start
+bare_start_at n subject s = bare_start_by n subject (after_mark m.Less s.pieces) s
 
-abbrev pub start_last : Option (List Piece) → State → Read Start
-start_last (Some ps) s = Err (too_deep s)
-start_last None s = bare_start_at 0 s
+abbrev pub start_last : Subject → Option (List Piece) → State → Read Start
+start_last subject (Some ps) s = Err (too_deep s)
+start_last subject None s = bare_start_at 0 subject s
 
 module _ (own : List ℕ) where
-  abbrev pub start_next : ℕ → (State → Read Tree) → (State → Read Start) → Option (List Piece) → State → Read Start
-  start_next n inner start (Some ps) s = noted_start_at own n inner start (with_pieces s ps)
-  start_next n inner start None s = bare_start_at (suc n) s
+  abbrev pub start_next : ℕ → Subject → (State → Read Tree) → (State → Read Start) → Option (List Piece) → State → Read Start
+  start_next n subject inner start (Some ps) s = noted_start_at own n inner start (with_pieces s ps)
+  start_next n subject inner start None s = bare_start_at (suc n) subject s
 
-  module _ (n : ℕ) (inner : State → Read Tree) (start : State → Read Start) where
+  module _ (n : ℕ) (inner : State → Read Tree) (start : Subject → State → Read Start) where
     -- a clause whose parts have at most n levels
-    unfoldable pub clause_at : State → Read ClauseTree
-    clause_at s = do
-      x ← start s
+    unfoldable pub clause_at : Subject → State → Read ClauseTree
+    clause_at subject s = do
+      x ← start subject s
       clause_of own n inner x.0 x.1
 
-    -- the clauses of a `case` as far as the `end`, of which the first was read before
-    unfoldable pub clauses_at : ClauseTree → State → Read (List ClauseTree)
-    clauses_at c s = do
-      cs ← rows_at clause_at s
-      Ok (c ∷ cs.0, cs.1)
+    -- the clauses as far as the keyword after them, of which these were read before
+    unfoldable pub clauses_at : Subject → List ClauseTree → State → Read (List ClauseTree)
+    clauses_at subject front s = do
+      cs ← rows_at (clause_at subject) (word_behind subject) s
+      Ok (front ++ cs.0, cs.1)
 
     -- what stands after the value of a `case`
     unfoldable pub choices_at : State → Read (List ClauseTree)
     choices_at s = do
       s1 ← word_at k.Of s
-      c ← clause_at s1
-      cs ← clauses_at c.0 c.1
+      c ← clause_at subjects.Values s1
+      cs ← clauses_at subjects.Values (c.0 ∷ []) c.1
       s2 ← word_at k.End cs.1
       Ok (cs.0, s2)
 
@@ -378,10 +388,19 @@ module _ (own : List ℕ) where
     case_at at s = do
       t ← inner s
       s1 ← word_at k.Of t.1
-      c ← clause_at s1
-      cs ← rows_at clause_at c.1
+      c ← clause_at subjects.Values s1
+      cs ← rows_at (clause_at subjects.Values) k.End c.1
       s2 ← word_at k.End cs.1
       Ok (trees.Case at t.0 (clauses_of (c.0 ∷ cs.0)), s2)
+
+    unfoldable pub receive_at : ℕ → State → Read Tree
+    receive_at at s = do
+      cs ← rows_at (clause_at subjects.Message) k.After s
+      s1 ← word_at k.After cs.1
+      t ← inner s1
+      s2 ← mark_at m.Arrow t.1
+      u ← inner s2
+      Ok (trees.Receive at (clauses_of cs.0) t.0 u.0, u.1)
 
     abbrev pub form_by : ℕ → Shape → List Piece → State → Read Tree
     form_by at (lexemes.Integer i) ps s = Ok (trees.Integer i, with_pieces s ps)
@@ -401,6 +420,7 @@ module _ (own : List ℕ) where
     form_by at (lexemes.Word k.Primop) ps s = primop_at own n inner at (with_pieces s ps)
     form_by at (lexemes.Word k.Try) ps s = try_at own n inner at (with_pieces s ps)
     form_by at (lexemes.Word k.Catch) ps s = catch_at own n inner at (with_pieces s ps)
+    form_by at (lexemes.Word k.Receive) ps s = receive_at at (with_pieces s ps)
     form_by at shape ps s = Err (expression_fault s)
 
     abbrev pub form_of : List Piece → State → Read Tree
@@ -416,6 +436,6 @@ module _ (own : List ℕ) where
     expression_at (suc n) s = form_at n (expression_at n) (start_at n) s
 
     -- what a clause begins with, whose parts have at most so many levels
-    pub start_at : ℕ → State → Read Start
-    start_at zero s = start_last (after_mark m.LeftParenthesis s.pieces) s
-    start_at (suc n) s = start_next n (expression_at n) (start_at n) (after_mark m.LeftParenthesis s.pieces) s
+    pub start_at : ℕ → Subject → State → Read Start
+    start_at zero subject s = start_last subject (after_mark m.LeftParenthesis s.pieces) s
+    start_at (suc n) subject s = start_next n subject (expression_at n) (start_at n subject) (after_mark m.LeftParenthesis s.pieces) s

@@ -107,7 +107,7 @@ front_at n s = do
 unfoldable pub bare_module_at : ℕ → State → Read (ModuleTree × ℕ)
 bare_module_at n s = do
   f ← front_at n s
-  ds ← rows_at (definition_at f.0.0 n) f.1
+  ds ← rows_at (definition_at f.0.0 n) k.End f.1
   s1 ← word_at k.End ds.1
   Ok ((record { name = f.0.0; exports = f.0.1; attributes = f.0.2; definitions = ds.0 }, place_of ds.1.stop ds.1.pieces), s1)
 

@@ -1,15 +1,17 @@
 -- Expressions and what clauses begin with, as the code reads them.
-use Rattle.std.proofs.Common.{◌≡◌, ◌≢◌, ℕ, zero, suc, ◌-◌, ◌<◌, List, [], ◌∷◌, length, Bool, true, false, is_some, Option, Some, None, Result, Ok, Err, refl, sym, ap, ◌∙◌, arith}
+use Rattle.std.proofs.Common.{◌≡◌, ◌≢◌, ℕ, zero, suc, ◌-◌, ◌<◌, List, [], length, Bool, true, false, is_some, Option, Some, None, Result, Ok, Err, refl, sym, ap, ◌∙◌, arith}
 use Rattle.core_tokens.specs.declared.fault.ReadFault.{ReadFault}
 use Rattle.core_tokens.specs.declared.fault.ReadFault.TheVariants.{Memory}
 use Rattle.core_tokens.specs.declared.token.Mark.TheVariants as m
+use Rattle.core_grammar.specs.declared.subject.Subject.{Subject}
+use Rattle.core_grammar.specs.declared.subject.Subject.TheVariants as subjects
 use Rattle.core_tokens.specs.declared.token.Keyword.TheVariants as k
 use Rattle.core_tokens.specs.Piece.{Piece}
 use Rattle.core_tree.specs.Syntax.{Mention, Pattern, Tree, ClauseTree, clauses_of}
 use Rattle.core_tree.specs.Expression as trees
 use Rattle.core_scopes.specs.Outcomes.{◌>>=◌}
-use Rattle.core_grammar.specs.inside.Decoder.{State, Read, with_pieces, after_mark, after_word, too_deep, variables_at, row_at}
-use Rattle.core_grammar.specs.inside.DecoderForms.{Start, OnePattern, ManyPatterns, WholeClause, deep_expression, form_at, expression_at, clause_of, start_by, started, bare_start_at, noted_start_at, start_at, body_at, in_at, bound_at, let_at, success_at, handler_at, branches_at, try_at, guarded_at, behind_patterns_at, clause_at, clauses_at, choices_at, case_at}
+use Rattle.core_grammar.specs.inside.Decoder.{State, Read, with_pieces, word_behind, after_mark, after_word, too_deep, variables_at, row_at}
+use Rattle.core_grammar.specs.inside.DecoderForms.{Start, OnePattern, ManyPatterns, WholeClause, deep_expression, form_at, expression_at, clause_of, start_by, started, bare_start_at, noted_start_at, start_at, body_at, in_at, bound_at, let_at, success_at, handler_at, branches_at, try_at, guarded_at, behind_patterns_at, clause_at, clauses_at, choices_at, case_at, expiry_at, receive_at}
 use Rattle.core_grammar.specs.inside.Decoder.{Opens}
 use Rattle.core_grammar.specs.inside.Notes.{opens_none, opens_some}
 use Rattle.core_grammar.specs.inside.Loops.{with_front, rows_behind}
@@ -28,48 +30,48 @@ module _ (own : List ℕ) where
 
   -- ---- the start of a clause
 
-  start_bare : (n : ℕ) (s : State) → after_mark m.LeftParenthesis s.pieces ≡ None → start_at own n s ≡ bare_start_at n s
+  start_bare : (n : ℕ) (subject : Subject) (s : State) → after_mark m.LeftParenthesis s.pieces ≡ None → start_at own n subject s ≡ bare_start_at n subject s
   unfolding expression_at start_at
-  start_bare zero s e = rw e refl
-  start_bare (suc n) s e = rw e refl
+  start_bare zero subject s e = rw e refl
+  start_bare (suc n) subject s e = rw e refl
 
-  start_deep : (n : ℕ) (s : State) (ps : List Piece) → n ≡ 0 → after_mark m.LeftParenthesis s.pieces ≡ Some ps → start_at own n s ≡ Err (too_deep s)
+  start_deep : (n : ℕ) (subject : Subject) (s : State) (ps : List Piece) → n ≡ 0 → after_mark m.LeftParenthesis s.pieces ≡ Some ps → start_at own n subject s ≡ Err (too_deep s)
   unfolding expression_at start_at
-  start_deep n s ps z e = rw (z, e) refl
+  start_deep n subject s ps z e = rw (z, e) refl
 
-  start_inside : (n : ℕ) (s : State) (ps : List Piece) → 0 < n → after_mark m.LeftParenthesis s.pieces ≡ Some ps
-      → start_at own n s ≡ noted_start_at own (n - 1) (expression_at own (n - 1)) (start_at own (n - 1)) (with_pieces s ps)
+  start_inside : (n : ℕ) (subject : Subject) (s : State) (ps : List Piece) → 0 < n → after_mark m.LeftParenthesis s.pieces ≡ Some ps
+      → start_at own n subject s ≡ noted_start_at own (n - 1) (expression_at own (n - 1)) (start_at own (n - 1) subject) (with_pieces s ps)
   unfolding expression_at start_at
-  start_inside zero s ps h e = absurd (omega arith)
-  start_inside (suc n) s ps h e =
+  start_inside zero subject s ps h e = absurd (omega arith)
+  start_inside (suc n) subject s ps h e =
       let f : suc n - 1 ≡ n = omega arith in
       rw (f, e) refl
 
-  pub start_is_deep : (e : ReadFault) (n : ℕ) (s s1 : State) → Opens n (Err e) s s1 → start_at own n s ≡ Err e
-  start_is_deep e n s s1 h = start_deep n s s1.pieces h.0 h.1 ∙ ap Err (sym h.2)
+  pub start_is_deep : (e : ReadFault) (n : ℕ) (subject : Subject) (s s1 : State) → Opens n (Err e) s s1 → start_at own n subject s ≡ Err e
+  start_is_deep e n subject s s1 h = start_deep n subject s s1.pieces h.0 h.1 ∙ ap Err (sym h.2)
 
-  pub bare_start_fails : (e : ReadFault) (b : Bool) (n : ℕ) (s s1 : State) → b ≡ false → Opens n (Ok b) s s1 → (e ≢ Memory → bare_start_at n s1 ≡ Err e) → e ≢ Memory → start_at own n s ≡ Err e
-  bare_start_fails e b n s s1 f h failed real =
+  pub bare_start_fails : (e : ReadFault) (b : Bool) (n : ℕ) (subject : Subject) (s s1 : State) → b ≡ false → Opens n (Ok b) s s1 → (e ≢ Memory → bare_start_at n subject s1 ≡ Err e) → e ≢ Memory → start_at own n subject s ≡ Err e
+  bare_start_fails e b n subject s s1 f h failed real =
       let o = opens_none b n s s1 f h in
-      start_bare n s o.0 ∙ ap (bare_start_at n) (sym o.1) ∙ failed real
+      start_bare n subject s o.0 ∙ ap (bare_start_at n subject) (sym o.1) ∙ failed real
 
-  pub bare_start_reads : (r : Start × State) (b : Bool) (n : ℕ) (s s1 : State) → b ≡ false → Opens n (Ok b) s s1 → bare_start_at n s1 ≡ Ok r → start_at own n s ≡ Ok r
-  bare_start_reads r b n s s1 f h read =
+  pub bare_start_reads : (r : Start × State) (b : Bool) (n : ℕ) (subject : Subject) (s s1 : State) → b ≡ false → Opens n (Ok b) s s1 → bare_start_at n subject s1 ≡ Ok r → start_at own n subject s ≡ Ok r
+  bare_start_reads r b n subject s s1 f h read =
       let o = opens_none b n s s1 f h in
-      start_bare n s o.0 ∙ ap (bare_start_at n) (sym o.1) ∙ read
+      start_bare n subject s o.0 ∙ ap (bare_start_at n subject) (sym o.1) ∙ read
 
-  noted_inside : (b : Bool) (n : ℕ) (s s1 : State) → b ≡ true → Opens n (Ok b) s s1 → start_at own n s ≡ noted_start_at own (n - 1) (expression_at own (n - 1)) (start_at own (n - 1)) s1
-  noted_inside b n s s1 t h =
+  noted_inside : (b : Bool) (n : ℕ) (subject : Subject) (s s1 : State) → b ≡ true → Opens n (Ok b) s s1 → start_at own n subject s ≡ noted_start_at own (n - 1) (expression_at own (n - 1)) (start_at own (n - 1) subject) s1
+  noted_inside b n subject s s1 t h =
       let o = opens_some b n s s1 t h in
-      start_inside n s s1.pieces o.0 o.1.0 ∙ ap (noted_start_at own (n - 1) (expression_at own (n - 1)) (start_at own (n - 1))) (sym o.1.1)
+      start_inside n subject s s1.pieces o.0 o.1.0 ∙ ap (noted_start_at own (n - 1) (expression_at own (n - 1)) (start_at own (n - 1) subject)) (sym o.1.1)
 
-  pub noted_start_fails : (e : ReadFault) (b : Bool) (n : ℕ) (s s1 : State) → b ≡ true → Opens n (Ok b) s s1
-      → (e ≢ Memory → noted_start_at own (n - 1) (expression_at own (n - 1)) (start_at own (n - 1)) s1 ≡ Err e) → e ≢ Memory → start_at own n s ≡ Err e
-  noted_start_fails e b n s s1 t h failed real = noted_inside b n s s1 t h ∙ failed real
+  pub noted_start_fails : (e : ReadFault) (b : Bool) (n : ℕ) (subject : Subject) (s s1 : State) → b ≡ true → Opens n (Ok b) s s1
+      → (e ≢ Memory → noted_start_at own (n - 1) (expression_at own (n - 1)) (start_at own (n - 1) subject) s1 ≡ Err e) → e ≢ Memory → start_at own n subject s ≡ Err e
+  noted_start_fails e b n subject s s1 t h failed real = noted_inside b n subject s s1 t h ∙ failed real
 
-  pub noted_start_reads : (r : Start × State) (b : Bool) (n : ℕ) (s s1 : State) → b ≡ true → Opens n (Ok b) s s1
-      → noted_start_at own (n - 1) (expression_at own (n - 1)) (start_at own (n - 1)) s1 ≡ Ok r → start_at own n s ≡ Ok r
-  noted_start_reads r b n s s1 t h read = noted_inside b n s s1 t h ∙ read
+  pub noted_start_reads : (r : Start × State) (b : Bool) (n : ℕ) (subject : Subject) (s s1 : State) → b ≡ true → Opens n (Ok b) s s1
+      → noted_start_at own (n - 1) (expression_at own (n - 1)) (start_at own (n - 1) subject) s1 ≡ Ok r → start_at own n subject s ≡ Ok r
+  noted_start_reads r b n subject s s1 t h read = noted_inside b n subject s s1 t h ∙ read
 
 -- ---- the start of a clause in parentheses
 
@@ -176,11 +178,11 @@ module _ (own : List ℕ) (n : ℕ) (inner : State → Read Tree) where
       let one : (guarded_at own n inner s >>= λ p. Ok (clause qs p.0.0 p.0.1, p.1)) ≡ Ok (clause qs g b, s1) = rw rest refl in
       clause_parts qs s ∙ one
 
-  module _ (start : State → Read Start) where
-    pub clauses_begin : (count : ℕ) (s : State) (c : ClauseTree) → count ≡ length s.pieces
-        → with_front (c ∷ []) (row_at (clause_at own n inner start) (count - 0) s) ≡ clauses_at own n inner start c s
+  module _ (start : Subject → State → Read Start) where
+    pub clauses_begin : (count : ℕ) (subject : Subject) (s : State) (front : List ClauseTree) → count ≡ length s.pieces
+        → with_front front (row_at (clause_at own n inner start subject) (word_behind subject) (count - 0) s) ≡ clauses_at own n inner start subject front s
     unfolding clauses_at
-    clauses_begin count s c e = rows_behind (clause_at own n inner start) (c ∷ []) count s e
+    clauses_begin count subject s front e = rows_behind (clause_at own n inner start subject) (word_behind subject) front count s e
 
     case_parts : (at : ℕ) (s : State) → case_at own n inner start at s
         ≡ (inner s >>= λ t. choices_at own n inner start t.1 >>= λ cs. Ok (trees.Case at t.0 (clauses_of cs.0), cs.1))
@@ -203,3 +205,26 @@ module _ (own : List ℕ) (n : ℕ) (inner : State → Read Tree) where
     case_reads at s s1 s2 t cs read rest =
         let one : (inner s >>= λ t. choices_at own n inner start t.1 >>= λ cs. Ok (trees.Case at t.0 (clauses_of cs.0), cs.1)) ≡ Ok (trees.Case at t (clauses_of cs), s2) = rw (read, rest) refl in
         case_parts at s ∙ one
+
+    receive_parts : (at : ℕ) (s : State) → receive_at own n inner start at s
+        ≡ (clauses_at own n inner start subjects.Message [] s >>= λ cs. expiry_at own n inner cs.1 >>= λ p. Ok (trees.Receive at (clauses_of cs.0) p.0.0 p.0.1, p.1))
+    unfolding receive_at clauses_at expiry_at body_at
+    receive_parts at s = simp in_turn
+
+    pub receive_fails : (e : ReadFault) (at : ℕ) (s : State) → (e ≢ Memory → clauses_at own n inner start subjects.Message [] s ≡ Err e) → e ≢ Memory → receive_at own n inner start at s ≡ Err e
+    receive_fails e at s failed real =
+        let read = failed real in
+        let one : (clauses_at own n inner start subjects.Message [] s >>= λ cs. expiry_at own n inner cs.1 >>= λ p. Ok (trees.Receive at (clauses_of cs.0) p.0.0 p.0.1, p.1)) ≡ Err e = rw read refl in
+        receive_parts at s ∙ one
+
+    pub receive_lacks : (e : ReadFault) (at : ℕ) (s s1 : State) (cs : List ClauseTree) → clauses_at own n inner start subjects.Message [] s ≡ Ok (cs, s1) → (e ≢ Memory → expiry_at own n inner s1 ≡ Err e) → e ≢ Memory → receive_at own n inner start at s ≡ Err e
+    receive_lacks e at s s1 cs read failed real =
+        let rest = failed real in
+        let one : (clauses_at own n inner start subjects.Message [] s >>= λ cs. expiry_at own n inner cs.1 >>= λ p. Ok (trees.Receive at (clauses_of cs.0) p.0.0 p.0.1, p.1)) ≡ Err e = rw (read, rest) refl in
+        receive_parts at s ∙ one
+
+    pub receive_reads : (at : ℕ) (s s1 s2 : State) (cs : List ClauseTree) (t u : Tree) → clauses_at own n inner start subjects.Message [] s ≡ Ok (cs, s1) → expiry_at own n inner s1 ≡ Ok ((t, u), s2)
+        → receive_at own n inner start at s ≡ Ok (trees.Receive at (clauses_of cs) t u, s2)
+    receive_reads at s s1 s2 cs t u read rest =
+        let one : (clauses_at own n inner start subjects.Message [] s >>= λ cs. expiry_at own n inner cs.1 >>= λ p. Ok (trees.Receive at (clauses_of cs.0) p.0.0 p.0.1, p.1)) ≡ Ok (trees.Receive at (clauses_of cs) t u, s2) = rw (read, rest) refl in
+        receive_parts at s ∙ one

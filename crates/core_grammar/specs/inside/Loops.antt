@@ -5,7 +5,7 @@ use Rattle.std.proofs.lemmas.Bool.Decides.{nat_tests}
 use Rattle.core_tokens.specs.declared.fault.ReadFault.{ReadFault}
 use Rattle.core_tokens.specs.declared.fault.ReadFault.TheVariants.{Memory}
 use Rattle.core_tokens.specs.declared.token.Mark.TheVariants as m
-use Rattle.core_tokens.specs.declared.token.Keyword.TheVariants as k
+use Rattle.core_tokens.specs.declared.token.Keyword.{Keyword}
 use Rattle.core_tokens.specs.declared.token.Token.{Token}
 use Rattle.core_tokens.specs.Piece.{pieces}
 use Rattle.core_scopes.specs.Outcomes.{◌>>=◌}
@@ -113,7 +113,7 @@ module _ {X : Type 0} (item : State → Read X) where
       let one : with_front front (exactly_at item first (count - i) s) ≡ Ok (front, s) = rw n (ap (λ (xs : List X). Ok (xs, s)) (append-nil front)) in
       sym so_far ∙ one
 
--- ---- items as far as an `end`
+-- ---- items as far as a keyword
 
 ends_by : {X : Type 0} (o : Option X) → is_some o ≡ true → (x : X) × (o ≡ Some x)
 ends_by None e = absurd cc
@@ -123,51 +123,51 @@ ends_not : {X : Type 0} (o : Option X) → is_some o ≡ false → o ≡ None
 ends_not None e = refl
 ends_not (Some x) e = absurd cc
 
-module _ {X : Type 0} (item : State → Read X) where
-  pub rows_behind : (front : List X) (count : ℕ) (s : State) → count ≡ length s.pieces → with_front front (row_at item (count - 0) s) ≡ with_front front (rows_at item s)
+module _ {X : Type 0} (item : State → Read X) (close : Keyword) where
+  pub rows_behind : (front : List X) (count : ℕ) (s : State) → count ≡ length s.pieces → with_front front (row_at item close (count - 0) s) ≡ with_front front (rows_at item close s)
   unfolding rows_at
   rows_behind front count s e =
       let n : count - 0 ≡ length s.pieces = omega arith in
       rw n refl
 
-  pub rows_begin : (count : ℕ) (s : State) → count ≡ length s.pieces → with_front [] (row_at item (count - 0) s) ≡ rows_at item s
+  pub rows_begin : (count : ℕ) (s : State) → count ≡ length s.pieces → with_front [] (row_at item close (count - 0) s) ≡ rows_at item close s
   unfolding rows_at
   rows_begin count s e =
       let n : count - 0 ≡ length s.pieces = omega arith in
-      rw n (front_none (row_at item (length s.pieces) s))
+      rw n (front_none (row_at item close (length s.pieces) s))
 
-  pub rows_on : (front : List X) (count i : ℕ) (s s1 : State) (x : X) (total : Read (List X)) → i < count → is_some (after_word k.End s.pieces) ≡ false → item s ≡ Ok (x, s1)
-      → with_front front (row_at item (count - i) s) ≡ total → with_front (front ++ x ∷ []) (row_at item (count - (i + 1)) s1) ≡ total
+  pub rows_on : (front : List X) (count i : ℕ) (s s1 : State) (x : X) (total : Read (List X)) → i < count → is_some (after_word close s.pieces) ≡ false → item s ≡ Ok (x, s1)
+      → with_front front (row_at item close (count - i) s) ≡ total → with_front (front ++ x ∷ []) (row_at item close (count - (i + 1)) s1) ≡ total
   unfolding row_at
   rows_on front count i s s1 x total lt more read so_far =
       let n : count - i ≡ suc (count - (i + 1)) = omega arith in
-      let no_end : after_word k.End s.pieces ≡ None = ends_not _ more in
-      let one : with_front front (row_at item (count - i) s) ≡ with_front (front ++ x ∷ []) (row_at item (count - (i + 1)) s1) =
-      rw (n, no_end, read) (regroup front x (row_at item (count - (i + 1)) s1)) in
+      let no_close : after_word close s.pieces ≡ None = ends_not _ more in
+      let one : with_front front (row_at item close (count - i) s) ≡ with_front (front ++ x ∷ []) (row_at item close (count - (i + 1)) s1) =
+      rw (n, no_close, read) (regroup front x (row_at item close (count - (i + 1)) s1)) in
       sym one ∙ so_far
 
-  pub rows_end : (front : List X) (count i : ℕ) (s : State) (total : Read (List X)) → i < count → is_some (after_word k.End s.pieces) ≡ true
-      → with_front front (row_at item (count - i) s) ≡ total → total ≡ Ok (front, s)
+  pub rows_end : (front : List X) (count i : ℕ) (s : State) (total : Read (List X)) → i < count → is_some (after_word close s.pieces) ≡ true
+      → with_front front (row_at item close (count - i) s) ≡ total → total ≡ Ok (front, s)
   unfolding row_at
   rows_end front count i s total lt at_end so_far =
       let n : count - i ≡ suc (count - (i + 1)) = omega arith in
-      let found = ends_by (after_word k.End s.pieces) at_end in
-      let one : with_front front (row_at item (count - i) s) ≡ Ok (front, s) = rw (n, found.1) (ap (λ (xs : List X). Ok (xs, s)) (append-nil front)) in
+      let found = ends_by (after_word close s.pieces) at_end in
+      let one : with_front front (row_at item close (count - i) s) ≡ Ok (front, s) = rw (n, found.1) (ap (λ (xs : List X). Ok (xs, s)) (append-nil front)) in
       sym so_far ∙ one
 
-  pub rows_fail : (e : ReadFault) (front : List X) (count i : ℕ) (s : State) (total : Read (List X)) → i < count → is_some (after_word k.End s.pieces) ≡ false → (e ≢ Memory → item s ≡ Err e)
-      → with_front front (row_at item (count - i) s) ≡ total → e ≢ Memory → total ≡ Err e
+  pub rows_fail : (e : ReadFault) (front : List X) (count i : ℕ) (s : State) (total : Read (List X)) → i < count → is_some (after_word close s.pieces) ≡ false → (e ≢ Memory → item s ≡ Err e)
+      → with_front front (row_at item close (count - i) s) ≡ total → e ≢ Memory → total ≡ Err e
   unfolding row_at
   rows_fail e front count i s total lt more failed so_far real =
       let n : count - i ≡ suc (count - (i + 1)) = omega arith in
-      let no_end : after_word k.End s.pieces ≡ None = ends_not _ more in
+      let no_close : after_word close s.pieces ≡ None = ends_not _ more in
       let read : item s ≡ Err e = failed real in
-      let one : with_front front (row_at item (count - i) s) ≡ Err e = rw (n, no_end, read) refl in
+      let one : with_front front (row_at item close (count - i) s) ≡ Err e = rw (n, no_close, read) refl in
       sym so_far ∙ one
 
-  pub rows_out : (front : List X) (count i : ℕ) (s : State) (total : Read (List X)) → count ≤ i → with_front front (row_at item (count - i) s) ≡ total → total ≡ Err (fault s)
+  pub rows_out : (front : List X) (count i : ℕ) (s : State) (total : Read (List X)) → count ≤ i → with_front front (row_at item close (count - i) s) ≡ total → total ≡ Err (fault s)
   unfolding row_at
   rows_out front count i s total le so_far =
       let n : count - i ≡ 0 = omega arith in
-      let one : with_front front (row_at item (count - i) s) ≡ Err (fault s) = rw n refl in
+      let one : with_front front (row_at item close (count - i) s) ≡ Err (fault s) = rw n refl in
       sym so_far ∙ one

@@ -7,7 +7,8 @@ use Rattle.term_core.specs.Schedule.{AreLawful}
 use Rattle.term_core.specs.Text.{text_of_schedule}
 use Rattle.term_core.specs.declared.step.Step.{Step}
 use Rattle.explorer_engine.specs.Engine.{IsBadSchedule}
-use Rattle.explorer_engine.specs.Replay.{Replays}
+use Rattle.world_model.specs.Asking.{program_of}
+use Rattle.replay_core.specs.Replay.{Replays}
 use Rattle.explorer_engine.proofs.EngineLaws.{module_refused, schedule_refused, replay_stopped, replayed, bad_by}
 use Rattle.explorer_engine.proofs.engine.run_replay.Goals as goal
 
@@ -37,7 +38,7 @@ returns-in_err-replay_and_flush-clause-run g c =
     c.in_ok-program.program c.in_ok-steps.steps.items c.in_err-replay_and_flush.field-0.0 c.from_residual-in_err-replay_and_flush.result (p.1 ∙ ap Err p.2) c.in_ok-text.ensures.input
     (subst (λ (t : List ℕ). SpellsModule t c.in_ok-program.program) c.deref.ensures.value c.in_ok-program.ensures.spelt)
     (subst (λ (w : List ℕ). AreLawful c.in_ok-steps.steps.items × (w ≡ text_of_schedule c.in_ok-steps.steps.items)) c.as_bytes.ensures.value c.in_ok-steps.ensures.ok)
-    (subst (λ (ss : List Step). Replays c.in_ok-program.program ss old new failed (Err c.in_err-replay_and_flush.field-0.0)) c.deref-2.ensures.value c.in_err-replay_and_flush.ensures.replay)
+    (subst (λ (ss : List Step). Replays (program_of c.in_ok-program.program) ss old new failed (Err c.in_err-replay_and_flush.field-0.0)) c.deref-2.ensures.value c.in_err-replay_and_flush.ensures.replay)
 
 pub returns-clause-run : goal.returns-clause-run
 returns-clause-run g c =
@@ -48,4 +49,4 @@ returns-clause-run g c =
     c.in_ok-program.program c.in_ok-steps.steps.items c.in_ok-text.ensures.input
     (subst (λ (t : List ℕ). SpellsModule t c.in_ok-program.program) c.deref.ensures.value c.in_ok-program.ensures.spelt)
     (subst (λ (w : List ℕ). AreLawful c.in_ok-steps.steps.items × (w ≡ text_of_schedule c.in_ok-steps.steps.items)) c.as_bytes.ensures.value c.in_ok-steps.ensures.ok)
-    (subst (λ (ss : List Step). Replays c.in_ok-program.program ss old new failed (Ok tt)) c.deref-2.ensures.value c.in_ok-replay_and_flush.ensures.replay)
+    (subst (λ (ss : List Step). Replays (program_of c.in_ok-program.program) ss old new failed (Ok tt)) c.deref-2.ensures.value c.in_ok-replay_and_flush.ensures.replay)

@@ -1,8 +1,8 @@
-use Rattle.std.proofs.Common.{◌≡◌, ◌∙◌, List, Some, option_map, ap, map}
+use Rattle.std.proofs.Common.{◌∙◌, ap, map}
 use Rattle.std.specs.Prelude.{Err}
 use Rattle.std.proofs.lemmas.Result.{err_from_is_err_and}
 use Rattle.clap.specs.Words.{app_of, subcommand_rows_of}
-use Rattle.explorer_engine.proofs.WordLaws.{refused_for_memory, word_of_replay, one_word, no_word, line_is_simple}
+use Rattle.explorer_engine.proofs.WordLaws.{refused_for_memory, word_of_replay, one_word, no_word}
 use Rattle.explorer_engine.proofs.words.read_words.Goals as goal
 
 pub returns-in_err-matches : goal.returns-in_err-matches

@@ -1,7 +1,7 @@
 use Rattle.std.proofs.Common.{sym, ap, subst, ◌∙◌}
 use Rattle.std.specs.Prelude.{Result, Err}
 use Rattle.std.proofs.lemmas.Result.{err_from_is_err_and}
-use Rattle.worlds.specs.Seen.{Seen}
+use Rattle.world_core.specs.Seen.{Seen}
 use Rattle.world_model.specs.Asking.{program_of}
 use Rattle.replay_core.specs.Replay.{Replays}
 use Rattle.replay_core.specs.declared.replay_fault.ReplayFault.{ReplayFault}

@@ -1,14 +1,18 @@
-use Rattle.std.proofs.Common.{map, sym, ap, ◌∙◌, arith, Err}
+use Rattle.std.proofs.Common.{◌≡◌, ℕ, Bool, List, [], is_some, map, sym, ap, ◌∙◌, arith, Err}
 use Rattle.std.proofs.lemmas.Result.{err_from_is_err_and}
 use Rattle.std.proofs.lemmas.List.{map-append}
-use Rattle.core_grammar.specs.inside.DecoderForms.{expression_at, start_at, clause_at, inside_start_at}
-use Rattle.core_grammar.specs.inside.Decoder.{constant_at}
+use Rattle.core_grammar.specs.inside.DecoderForms.{expression_at, start_at, clause_at, clauses_at, inside_start_at}
+use Rattle.core_tokens.specs.declared.token.Keyword.{Keyword}
+use Rattle.core_tokens.specs.Piece.{Piece}
+use Rattle.core_tree.specs.Syntax.{ClauseTree}
+use Rattle.core_grammar.specs.declared.subject.Subject.TheVariants as subjects
+use Rattle.core_grammar.specs.inside.Decoder.{State, word_behind, after_word, constant_at}
 use Rattle.core_grammar.specs.inside.Notes.{in_note_ends}
 use Rattle.core_parser.specs.inside.ParserView.{state_of}
 use Rattle.core_expressions.specs.inside.FormView.{state_in, start_of}
 use Rattle.core_tree.specs.Tree.{tree_of, pattern_of}
 use Rattle.core_grammar.specs.inside.Loops.{begins, goes_on, ends, fails, is_out, pieces_length, exactly_begin, exactly_on, exactly_lack_comma, exactly_lack, exactly_done, rows_on, rows_end, rows_fail, rows_out}
-use Rattle.core_grammar.specs.inside.Forms.{expression_zero, expression_more, start_is_deep, bare_start_fails, bare_start_reads, noted_start_fails, noted_start_reads, started_plain, started_fails, started_reads, let_fails, let_lacks, let_reads, try_fails, try_lacks, try_reads, clause_fails, clause_reads, clauses_begin, case_fails, case_lacks, case_reads}
+use Rattle.core_grammar.specs.inside.Forms.{expression_zero, expression_more, start_is_deep, bare_start_fails, bare_start_reads, noted_start_fails, noted_start_reads, started_plain, started_fails, started_reads, let_fails, let_lacks, let_reads, try_fails, try_lacks, try_reads, clause_fails, clause_reads, clauses_begin, case_fails, case_lacks, case_reads, receive_fails, receive_lacks, receive_reads}
 use Rattle.core_expressions.proofs.form_reader.FormReader.+expressions.Goals as goal
 
 -- ---- an expression
@@ -73,23 +77,23 @@ arguments-returns t c = exactly_done (expression_at c.args.own.now c.args.levels
 pub start-returns-in_err-opens_note : goal.start-returns-in_err-opens_note
 start-returns-in_err-opens_note t c =
     let p = err_from_is_err_and c.from_residual.result c.from_residual.ensures.1 in
-    rw (p.1, p.2) (λ real. start_is_deep c.args.own.now _ c.args.levels (state_in c.args.self.now) (state_of c.opens_note.new.self) c.in_err-opens_note.ensures)
+    rw (p.1, p.2) (λ real. start_is_deep c.args.own.now _ c.args.levels c.args.subject (state_in c.args.self.now) (state_of c.opens_note.new.self) c.in_err-opens_note.ensures)
 
 pub start-returns-in_err-bare_start : goal.start-returns-in_err-bare_start
 start-returns-in_err-bare_start t c =
     let p = err_from_is_err_and c.from_residual-in_err-bare_start.result c.from_residual-in_err-bare_start.ensures.1 in
-    rw (p.1, p.2) (bare_start_fails c.args.own.now _ _ c.args.levels (state_in c.args.self.now) (state_of c.opens_note.new.self) c.if-not-branch.true c.in_ok-opens_note.ensures c.in_err-bare_start.ensures)
+    rw (p.1, p.2) (bare_start_fails c.args.own.now _ _ c.args.levels c.args.subject (state_in c.args.self.now) (state_of c.opens_note.new.self) c.if-not-branch.true c.in_ok-opens_note.ensures c.in_err-bare_start.ensures)
 
 pub start-returns-then-not-branch : goal.start-returns-then-not-branch
-start-returns-then-not-branch t c = bare_start_reads c.args.own.now _ _ c.args.levels (state_in c.args.self.now) (state_of c.opens_note.new.self) c.if-not-branch.true c.in_ok-opens_note.ensures c.in_ok-bare_start.ensures
+start-returns-then-not-branch t c = bare_start_reads c.args.own.now _ _ c.args.levels c.args.subject (state_in c.args.self.now) (state_of c.opens_note.new.self) c.if-not-branch.true c.in_ok-opens_note.ensures c.in_ok-bare_start.ensures
 
 pub start-returns-in_err-noted_start : goal.start-returns-in_err-noted_start
 start-returns-in_err-noted_start t c =
     let p = err_from_is_err_and c.from_residual-in_err-noted_start.result c.from_residual-in_err-noted_start.ensures.1 in
-    rw (p.1, p.2) (noted_start_fails c.args.own.now _ _ c.args.levels (state_in c.args.self.now) (state_of c.opens_note.new.self) c.if-not-branch.false c.in_ok-opens_note.ensures c.in_err-noted_start.ensures)
+    rw (p.1, p.2) (noted_start_fails c.args.own.now _ _ c.args.levels c.args.subject (state_in c.args.self.now) (state_of c.opens_note.new.self) c.if-not-branch.false c.in_ok-opens_note.ensures c.in_err-noted_start.ensures)
 
 pub start-returns : goal.start-returns
-start-returns t c = noted_start_reads c.args.own.now _ _ c.args.levels (state_in c.args.self.now) (state_of c.opens_note.new.self) c.if-not-branch.false c.in_ok-opens_note.ensures c.in_ok-noted_start.ensures
+start-returns t c = noted_start_reads c.args.own.now _ _ c.args.levels c.args.subject (state_in c.args.self.now) (state_of c.opens_note.new.self) c.if-not-branch.false c.in_ok-opens_note.ensures c.in_ok-noted_start.ensures
 
 -- ---- the start of a clause in parentheses
 
@@ -106,7 +110,7 @@ started-returns t c = started_reads c.args.own.now c.args.levels (expression_at 
 
 pub start_in_note-returns : goal.start_in_note-returns
 start_in_note-returns t c =
-    rw c.and.ensures (in_note_ends (constant_at c.args.levels) (inside_start_at c.args.own.now c.args.levels (expression_at c.args.own.now c.args.levels) (start_at c.args.own.now c.args.levels)) start_of _ c.note.result (state_in c.args.self.now) (state_in c.inside_start.new.self) (state_of c.note.new.self) c.in_ok-start.ensures c.note.ensures)
+    rw c.and.ensures (in_note_ends (constant_at c.args.levels) (inside_start_at c.args.own.now c.args.levels (expression_at c.args.own.now c.args.levels) (start_at c.args.own.now c.args.levels c.args.subject)) start_of _ c.note.result (state_in c.args.self.now) (state_in c.inside_start.new.self) (state_of c.note.new.self) c.in_ok-start.ensures c.note.ensures)
 
 -- ---- a clause behind its patterns
 
@@ -118,25 +122,29 @@ behind_patterns-returns-in_err-guard t c =
 pub behind_patterns-returns : goal.behind_patterns-returns
 behind_patterns-returns t c = clause_reads c.args.own.now c.args.levels (expression_at c.args.own.now c.args.levels) (map pattern_of c.args.patterns.items) (state_in c.args.self.now) _ _ _ c.in_ok-guard.ensures
 
--- ---- the clauses of a `case`
+-- ---- clauses one after the other
+
+-- whether a keyword comes next, by another name of it
+at_keyword : (w v : Keyword) (ps : List Piece) (b : Bool) → b ≡ is_some (after_word w ps) → w ≡ v → is_some (after_word v ps) ≡ b
+at_keyword w v ps b e same = ap (λ (x : Keyword). is_some (after_word x ps)) (sym same) ∙ sym e
 
 pub clauses-clauses-init : goal.clauses-clauses-init
-clauses-clauses-init t c = rw (c.in_ok-push.ensures.items, c.new-clauses.ensures.items) (clauses_begin c.args.own.now c.args.levels (expression_at c.args.own.now c.args.levels) (start_at c.args.own.now c.args.levels) _ (state_in c.args.self.now) c.args.first (sym (pieces_length c.args.self.now.parser.tokens.now)))
+clauses-clauses-init t c = clauses_begin c.args.own.now c.args.levels (expression_at c.args.own.now c.args.levels) (start_at c.args.own.now c.args.levels) _ c.args.subject (state_in c.args.self.now) c.args.front.items (sym (pieces_length c.args.self.now.parser.tokens.now))
 
 pub clauses-returns-then-is_at_word : goal.clauses-returns-then-is_at_word
-clauses-returns-then-is_at_word t c = rows_end (clause_at c.args.own.now c.args.levels (expression_at c.args.own.now c.args.levels) (start_at c.args.own.now c.args.levels)) c.clauses.clauses.items _ c.clauses._taken (state_in c.clauses.self) _ (omega arith) (sym c.if-is_at_word.ensures) c.clauses.invariant
+clauses-returns-then-is_at_word t c = rows_end (clause_at c.args.own.now c.args.levels (expression_at c.args.own.now c.args.levels) (start_at c.args.own.now c.args.levels) c.args.subject) (word_behind c.args.subject) c.clauses.clauses.items _ c.clauses._taken (state_in c.clauses.self) _ (omega arith) (at_keyword _ _ _ _ c.if-is_at_word.ensures c.word_behind.ensures) c.clauses.invariant
 
 pub clauses-returns-in_err-clause : goal.clauses-returns-in_err-clause
 clauses-returns-in_err-clause t c =
-    let p = err_from_is_err_and c.from_residual-in_err-clause.result c.from_residual-in_err-clause.ensures.1 in
-    rw (p.1, p.2) (rows_fail (clause_at c.args.own.now c.args.levels (expression_at c.args.own.now c.args.levels) (start_at c.args.own.now c.args.levels)) _ c.clauses.clauses.items _ c.clauses._taken (state_in c.clauses.self) _ (omega arith) (sym c.if-is_at_word.ensures) c.in_err-clause.ensures c.clauses.invariant)
+    let p = err_from_is_err_and c.from_residual.result c.from_residual.ensures.1 in
+    rw (p.1, p.2) (rows_fail (clause_at c.args.own.now c.args.levels (expression_at c.args.own.now c.args.levels) (start_at c.args.own.now c.args.levels) c.args.subject) (word_behind c.args.subject) _ c.clauses.clauses.items _ c.clauses._taken (state_in c.clauses.self) _ (omega arith) (at_keyword _ _ _ _ c.if-is_at_word.ensures c.word_behind.ensures) c.in_err-clause.ensures c.clauses.invariant)
 
 pub clauses-clauses-preserved : goal.clauses-clauses-preserved
 clauses-clauses-preserved t c =
-    rw c.in_ok-push-2.ensures.items (rows_on (clause_at c.args.own.now c.args.levels (expression_at c.args.own.now c.args.levels) (start_at c.args.own.now c.args.levels)) c.clauses.clauses.items _ c.clauses._taken (state_in c.clauses.self) (state_in c.clause.new.self) _ _ (omega arith) (sym c.if-is_at_word.ensures) c.in_ok-clause.ensures c.clauses.invariant)
+    rw c.in_ok-push.ensures.items (rows_on (clause_at c.args.own.now c.args.levels (expression_at c.args.own.now c.args.levels) (start_at c.args.own.now c.args.levels) c.args.subject) (word_behind c.args.subject) c.clauses.clauses.items _ c.clauses._taken (state_in c.clauses.self) (state_in c.clause.new.self) _ _ (omega arith) (at_keyword _ _ _ _ c.if-is_at_word.ensures c.word_behind.ensures) c.in_ok-clause.ensures c.clauses.invariant)
 
 pub clauses-returns : goal.clauses-returns
-clauses-returns t c = λ _. rows_out (clause_at c.args.own.now c.args.levels (expression_at c.args.own.now c.args.levels) (start_at c.args.own.now c.args.levels)) c.clauses.clauses.items _ c.clauses._taken (state_in c.clauses.self) _ (omega arith) c.clauses.invariant ∙ ap Err (sym c.fault.ensures)
+clauses-returns t c = λ _. rows_out (clause_at c.args.own.now c.args.levels (expression_at c.args.own.now c.args.levels) (start_at c.args.own.now c.args.levels) c.args.subject) (word_behind c.args.subject) c.clauses.clauses.items _ c.clauses._taken (state_in c.clauses.self) _ (omega arith) c.clauses.invariant ∙ ap Err (sym c.fault.ensures)
 
 -- ---- `case`
 
@@ -182,3 +190,23 @@ try_in-returns-in_err-success t c =
 
 pub try_in-returns : goal.try_in-returns
 try_in-returns t c = rw c.in_ok-try_of.ensures (try_reads c.args.own.now c.args.levels (expression_at c.args.own.now c.args.levels) c.args.at (state_in c.args.self.now) _ _ _ _ _ c.in_ok-value.ensures c.in_ok-success.ensures)
+
+-- ---- `receive`
+
+-- no clause is read before the clauses of a `receive`
+no_front : (own : List ℕ) (n : ℕ) (front : List ClauseTree) (s : State) → front ≡ []
+    → clauses_at own n (expression_at own n) (start_at own n) subjects.Message [] s ≡ clauses_at own n (expression_at own n) (start_at own n) subjects.Message front s
+no_front own n front s none = ap (λ (cs : List ClauseTree). clauses_at own n (expression_at own n) (start_at own n) subjects.Message cs s) (sym none)
+
+pub receive-returns-in_err-clauses : goal.receive-returns-in_err-clauses
+receive-returns-in_err-clauses t c =
+    let p = err_from_is_err_and c.from_residual.result c.from_residual.ensures.1 in
+    rw (p.1, p.2) (receive_fails c.args.own.now c.args.levels (expression_at c.args.own.now c.args.levels) (start_at c.args.own.now c.args.levels) _ c.args.at (state_in c.args.self.now) (λ real. no_front _ _ _ (state_in c.args.self.now) c.new-front.ensures.items ∙ c.in_err-clauses.ensures real))
+
+pub receive-returns-in_err-timeout : goal.receive-returns-in_err-timeout
+receive-returns-in_err-timeout t c =
+    let p = err_from_is_err_and c.from_residual-in_err-timeout.result c.from_residual-in_err-timeout.ensures.1 in
+    rw (p.1, p.2) (receive_lacks c.args.own.now c.args.levels (expression_at c.args.own.now c.args.levels) (start_at c.args.own.now c.args.levels) _ c.args.at (state_in c.args.self.now) _ _ (no_front _ _ _ (state_in c.args.self.now) c.new-front.ensures.items ∙ c.in_ok-clauses.ensures) c.in_err-timeout.ensures)
+
+pub receive-returns : goal.receive-returns
+receive-returns t c = rw c.in_ok-receive_of.ensures (receive_reads c.args.own.now c.args.levels (expression_at c.args.own.now c.args.levels) (start_at c.args.own.now c.args.levels) c.args.at (state_in c.args.self.now) _ _ _ _ _ (no_front _ _ _ (state_in c.args.self.now) c.new-front.ensures.items ∙ c.in_ok-clauses.ensures) c.in_ok-timeout.ensures)

@@ -1,5 +1,5 @@
 use Rattle.std.proofs.Common.{◌≡◌, map, ◌+◌, ◌-◌, ◌*◌, ◌==◌, true}
-use Rattle.core_grammar.specs.inside.Decoder.{items_at, commas_at, exactly_at, row_at}
+use Rattle.core_grammar.specs.inside.Decoder.{word_behind, items_at, commas_at, exactly_at, row_at}
 use Rattle.core_grammar.specs.inside.DecoderForms.{expression_at, start_at, clause_at, clauses_at}
 use Rattle.core_expressions.specs.inside.FormView.{state_in}
 use Rattle.core_tree.specs.Tree.{tree_of}
@@ -114,6 +114,12 @@ decreases-clauses l = 11 * l.levels + 6
 abbrev pub decreases-choices : goal.decreases-choices
 decreases-choices l = 11 * l.levels + 7
 
+abbrev pub decreases-expiry : goal.decreases-expiry
+decreases-expiry l = 11 * l.levels + 2
+
+abbrev pub decreases-receive : goal.decreases-receive
+decreases-receive l = 11 * l.levels + 8
+
 abbrev pub invariant-expression_items-items : goal.invariant-expression_items-items
 invariant-expression_items-items l =
     with_front (map tree_of l.items.items) (commas_at (expression_at l.own l.levels) (l.count - l._taken) (state_in l.self)) ≡ items_at (expression_at l.own l.fn.levels) (state_in l.fn.self)
@@ -124,5 +130,5 @@ invariant-arguments-arguments l =
 
 abbrev pub invariant-clauses-clauses : goal.invariant-clauses-clauses
 invariant-clauses-clauses l =
-    with_front l.clauses.items (row_at (clause_at l.own l.levels (expression_at l.own l.levels) (start_at l.own l.levels)) (l.count - l._taken) (state_in l.self))
-    ≡ clauses_at l.own l.fn.levels (expression_at l.own l.fn.levels) (start_at l.own l.fn.levels) l.fn.first (state_in l.fn.self)
+    with_front l.clauses.items (row_at (clause_at l.own l.levels (expression_at l.own l.levels) (start_at l.own l.levels) l.subject) (word_behind l.subject) (l.count - l._taken) (state_in l.self))
+    ≡ clauses_at l.own l.fn.levels (expression_at l.own l.fn.levels) (start_at l.own l.fn.levels) l.fn.subject l.fn.front.items (state_in l.fn.self)

@@ -1,0 +1,165 @@
+// Calls of processes and of tables by their names and the numbers of their arguments.
+use crate::module_texts::answers;
+use core_reader::{ReadFault, read_module};
+use core_tree::{CALLS, Call, CallKind, Callee, Expr, Module};
+use std::test::Fail;
+
+// Each of them once, in the order of their list.
+const TEXTS: [&str; 38] = [
+    "call 'erlang':'spawn'(1,2,3)",
+    "call 'erlang':'spawn_link'(1,2,3)",
+    "call 'erlang':'spawn_monitor'(1,2,3)",
+    "call 'erlang':'!'(1,2)",
+    "call 'erlang':'send'(1,2)",
+    "call 'erlang':'exit'(1,2)",
+    "call 'erlang':'link'(1)",
+    "call 'erlang':'unlink'(1)",
+    "call 'erlang':'monitor'(1,2)",
+    "call 'erlang':'demonitor'(1)",
+    "call 'erlang':'demonitor'(1,2)",
+    "call 'erlang':'process_flag'(1,2)",
+    "call 'erlang':'register'(1,2)",
+    "call 'erlang':'unregister'(1)",
+    "call 'erlang':'whereis'(1)",
+    "call 'erlang':'is_process_alive'(1)",
+    "call 'erlang':'make_ref'()",
+    "call 'ets':'new'(1,2)",
+    "call 'ets':'lookup'(1,2)",
+    "call 'ets':'member'(1,2)",
+    "call 'ets':'lookup_element'(1,2,3)",
+    "call 'ets':'first'(1)",
+    "call 'ets':'last'(1)",
+    "call 'ets':'next'(1,2)",
+    "call 'ets':'prev'(1,2)",
+    "call 'ets':'tab2list'(1)",
+    "call 'ets':'insert'(1,2)",
+    "call 'ets':'insert_new'(1,2)",
+    "call 'ets':'delete'(1)",
+    "call 'ets':'delete'(1,2)",
+    "call 'ets':'delete_object'(1,2)",
+    "call 'ets':'delete_all_objects'(1)",
+    "call 'ets':'take'(1,2)",
+    "call 'ets':'update_counter'(1,2,3)",
+    "call 'ets':'update_element'(1,2,3)",
+    "call 'ets':'give_away'(1,2,3)",
+    "call 'ets':'setopts'(1,2)",
+    "call 'ets':'info'(1,2)",
+];
+
+// How many of the functions of a module have a call of this kind for a body.
+fn calls_of(module: Module, kind: CallKind) -> usize {
+    let mut found: usize = 0;
+    for (_function, definition) in module.definitions {
+        if let Expr::Call(
+            Call {
+                callee: Callee::World(called),
+                ..
+            },
+        ) = definition.body
+        {
+            if called.function_name() == kind.function_name() && called.arity() == kind.arity() {
+                found = found.saturating_add(1);
+            }
+        }
+    }
+    found
+}
+
+#[test]
+fn reads_every_call_of_the_world(rt: HostRuntime) -> Result<(), Fail> {
+    for (kind, call) in CALLS.iter().zip(TEXTS.iter()) {
+        let text = format!(in rt.alloc();
+            "module 'm' [] attributes [] 'main'/0 = fun () -> {call} end"
+        )?;
+        let module = read_module(rt.alloc(), text.as_bytes())?;
+        assert_eq!(rt; calls_of(module, *kind), 1);
+    }
+    Ok(())
+}
+
+// A call of the world is one also where the module has its name.
+#[test]
+fn reads_a_call_of_the_world_in_a_module_of_that_name(rt: HostRuntime) -> Result<(), Fail> {
+    let text =
+        b"module 'erlang' ['link'/1] attributes [] 'main'/0 = fun () -> call 'erlang':'link'(1) 'link'/1 = fun (X) -> X end";
+    let module = read_module(rt.alloc(), text)?;
+    assert_eq!(rt; calls_of(module, CallKind::Link), 1);
+    Ok(())
+}
+
+// Other numbers of arguments and other names, and calls of the world in guards.
+const FAULTS: [(&[u8], ReadFault); 17] = [
+    (
+        b"module 'm' ['main'/0] attributes [] 'main'/0 = fun () -> call 'erlang':'spawn'(1,2) end",
+        ReadFault::UnsupportedCall(57),
+    ),
+    (
+        b"module 'm' ['main'/0] attributes [] 'main'/0 = fun () -> call 'erlang':'spawn'(1,2,3,4) end",
+        ReadFault::UnsupportedCall(57),
+    ),
+    (
+        b"module 'm' ['main'/0] attributes [] 'main'/0 = fun () -> call 'erlang':'demonitor'() end",
+        ReadFault::UnsupportedCall(57),
+    ),
+    (
+        b"module 'm' ['main'/0] attributes [] 'main'/0 = fun () -> call 'erlang':'demonitor'(1,2,3) end",
+        ReadFault::UnsupportedCall(57),
+    ),
+    (
+        b"module 'm' ['main'/0] attributes [] 'main'/0 = fun () -> call 'erlang':'make_ref'(1) end",
+        ReadFault::UnsupportedCall(57),
+    ),
+    (
+        b"module 'm' ['main'/0] attributes [] 'main'/0 = fun () -> call 'ets':'delete'() end",
+        ReadFault::UnsupportedCall(57),
+    ),
+    (
+        b"module 'm' ['main'/0] attributes [] 'main'/0 = fun () -> call 'ets':'delete'(1,2,3) end",
+        ReadFault::UnsupportedCall(57),
+    ),
+    (
+        b"module 'm' ['main'/0] attributes [] 'main'/0 = fun () -> call 'ets':'info'(1) end",
+        ReadFault::UnsupportedCall(57),
+    ),
+    (
+        b"module 'm' ['main'/0] attributes [] 'main'/0 = fun () -> call 'ets':'new'(1) end",
+        ReadFault::UnsupportedCall(57),
+    ),
+    (
+        b"module 'm' ['main'/0] attributes [] 'main'/0 = fun () -> call 'ets':'match'(1,2) end",
+        ReadFault::UnsupportedCall(57),
+    ),
+    (
+        b"module 'm' ['main'/0] attributes [] 'main'/0 = fun () -> call 'ets':'spawn'(1,2,3) end",
+        ReadFault::UnsupportedCall(57),
+    ),
+    (
+        b"module 'm' ['main'/0] attributes [] 'main'/0 = fun () -> call 'erlang':'lookup'(1,2) end",
+        ReadFault::UnsupportedCall(57),
+    ),
+    (
+        b"module 'm' ['main'/0] attributes [] 'main'/0 = fun () -> call 'm':'link'(1) end",
+        ReadFault::UnsupportedCall(57),
+    ),
+    (
+        b"module 'm' ['main'/0] attributes [] 'main'/0 = fun () -> case 1 of <X> when call 'erlang':'make_ref'() -> 1 end end",
+        ReadFault::EffectInGuard(76),
+    ),
+    (
+        b"module 'm' ['main'/0] attributes [] 'main'/0 = fun () -> case 1 of <X> when call 'erlang':'!'(X,1) -> 1 end end",
+        ReadFault::EffectInGuard(76),
+    ),
+    (
+        b"module 'm' ['main'/0] attributes [] 'main'/0 = fun () -> case 1 of <X> when call 'ets':'info'(X,1) -> 1 end end",
+        ReadFault::EffectInGuard(76),
+    ),
+    (
+        b"module 'm' ['main'/0] attributes [] 'main'/0 = fun () -> case 1 of <X> when let Y = call 'erlang':'whereis'(X) in 'true' -> 1 end end",
+        ReadFault::EffectInGuard(84),
+    ),
+];
+
+#[test]
+fn names_faults_of_calls(rt: HostRuntime) {
+    answers(&rt, rt.alloc(), FAULTS.as_slice());
+}

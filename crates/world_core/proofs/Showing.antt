@@ -1,0 +1,62 @@
+-- What a world shows is what its records, its last event and its enabled steps tell.
+use Rattle.std.proofs.Common.{◌≡◌, ◌∙◌, ◌++◌, ℕ, List, [], ◌∷◌, Option, Some, None, refl, sym, ap, option_map, map, Bor, length, ◌==◌, false, true}
+use Rattle.std.proofs.lemmas.Bool.{false≢true}
+use Rattle.std.specs.BTreeMap.{is_at}
+use Rattle.std.specs.List.{list_any}
+use Rattle.std.specs.List.Sorted.{IsStrictlySortedBy}
+use Rattle.std.specs.Prelude.{option_copied}
+use Rattle.term_core.specs.Order.{order_of_lists}
+use Rattle.term_core.specs.declared.step.Step.{Step}
+use Rattle.term_core.specs.declared.step.Step.TheVariants.{Turn, Deliver}
+use Rattle.core_tree.specs.Syntax.{ModuleTree}
+use Rattle.proc_machines.specs.Processes.{lives_in, turns_in}
+use Rattle.world_model.specs.Asking.{program_of}
+use Rattle.world_model.specs.Events as events
+use Rattle.world_model.specs.Events.{History}
+use Rattle.world_model.specs.Names.{Pid}
+use Rattle.world_model.specs.Run.{enabled_steps, latest, living}
+use Rattle.world_model.specs.Shown.{deadlock_of, request_in, shown, shown_by, shown_last}
+use Rattle.world_model.specs.World.{contents, turns}
+use Rattle.world_records.specs.Records.{Agrees, processes_of}
+use Rattle.world_records.specs.declared.records.Records.{Records}
+use Rattle.world_steps.specs.Deeds.{deed_in, event_in}
+use Rattle.world_steps.specs.declared.deed.Event.{Event}
+use Rattle.world_core.specs.inside.Showing.{last_shown, request_by}
+use Rattle.world_core.proofs.Living.{living_are}
+
+event_is : (x y : events.Event) → Some x ≡ Some y → x ≡ y
+event_is x y e = cc
+
+none_is_not : (x : events.Event) → Some x ≡ None → ⊥
+none_is_not x e = absurd cc
+
+same_request : (h : History) (taken : Pid → ℕ) → ((p : Pid) → taken p ≡ turns h p) → (step : Step) → request_by taken step ≡ request_in step h
+same_request h taken same (Turn p) = same p
+same_request h taken same (Deliver s r) = refl
+
+pub last_is : (h : History) (taken : Pid → ℕ) (last : Option Event) → ((p : Pid) → taken p ≡ turns h p) → option_map event_in last ≡ latest (Some h) → last_shown taken last ≡ shown_last h
+last_is [] taken None same is = refl
+last_is [] taken (Some x) same is = absurd (none_is_not (event_in x) is)
+last_is (e ∷ h) taken None same is = absurd (none_is_not e (sym is))
+last_is (e ∷ h) taken (Some x) same is =
+    ap (λ n. shown_by x.step n (deed_in x.deed)) (same_request (e ∷ h) taken same x.step)
+    ∙ ap (λ (f : events.Event). shown_by f.step (request_in f.step (e ∷ h)) f.deed) (event_is (event_in x) e is)
+
+pub told_copied : (last : Option (Bor Event)) → option_map event_in (option_copied last) ≡ option_map (λ (event : Bor Event). event_in event.now) last
+told_copied None = refl
+told_copied (Some event) = refl
+
+pub not_empty : (steps : List Step) → false ≡ (length steps == 0) → steps ≡ [] → ⊥
+not_empty steps some none = false≢true (some ∙ ap (λ xs. length xs == 0) none)
+
+same_dead : (enabled open_ : List Step) (ps qs : List Pid) → enabled ≡ open_ → (enabled ≡ [] → ps ≡ qs) → deadlock_of enabled ps ≡ deadlock_of open_ qs
+same_dead [] open_ ps qs is same = λ i. deadlock_of (is i) (same refl i)
+same_dead (step ∷ steps) open_ ps qs is same = ap (λ e. deadlock_of e qs) is
+
+pub shows_all : (m : ModuleTree) (h : History) (records : Records) (last : Option (Bor Event)) (enabled : List Step) (ps : List Pid)
+    → Agrees m records (contents h) → option_map (λ (event : Bor Event). event_in event.now) last ≡ latest (Some h) → enabled ≡ enabled_steps (program_of m) h
+    → (enabled ≡ [] → IsStrictlySortedBy order_of_lists ps) → ((p : Pid) → list_any (is_at (order_of_lists p)) ps ≡ lives_in (processes_of records) p)
+    → last_shown (turns_in (processes_of records)) (option_copied last) ++ deadlock_of enabled ps ≡ shown (program_of m) h
+shows_all m h records last enabled ps told is listed sorted lives = λ i.
+    last_is h (turns_in (processes_of records)) (option_copied last) (λ p. told.processes_are.turns p) (told_copied last ∙ is) i
+    ++ same_dead enabled (enabled_steps (program_of m) h) ps (living h) listed (λ none. living_are h ps (sorted none) (λ p. lives p ∙ told.processes_are.alive p)) i

@@ -1,0 +1,6 @@
+use Rattle.world_core.specs.inside.Enabling.{PutsEnabled, deliveries_of}
+use Rattle.world_core.proofs.enabled.push_deliveries.Given as goal
+
+-- the deliveries so far are put behind the others, those that are enabled
+abbrev pub invariant-loop-from : goal.invariant-loop-from
+invariant-loop-from l = PutsEnabled l.records (deliveries_of l.yielded) l.fn.steps.items l.steps.items

@@ -1,0 +1,195 @@
+// What a world shows: what its last event is, and whether no step is enabled.
+ghost use Rattle.std.specs.Prelude.{◌≡◌, ◌++◌, [], IfOk, OnOk, map, option_copied, option_map};
+ghost use Rattle.core_tree.specs.Syntax.{ModuleTree};
+ghost use Rattle.findings.specs.Identities.{identity_in};
+ghost use Rattle.proc_links.specs.Effects.{fate_in};
+ghost use Rattle.proc_machines.specs.Processes.{turns_in};
+ghost use Rattle.std.specs.List.Sorted.{IsStrictlySortedBy};
+ghost use Rattle.term_core.specs.Order.{order_of_lists};
+ghost use Rattle.term_core.specs.Term.{meaning_of};
+ghost use Rattle.term_core.specs.declared.step.Step.TheVariants.{Turn, Deliver};
+ghost use Rattle.world_calls.specs.Replies.{refusal_in};
+ghost use Rattle.world_core.specs.inside.Showing.{told_by, last_shown};
+ghost use Rattle.world_model.specs.Asking.{program_of};
+ghost use Rattle.world_model.specs.Events.{History};
+ghost use Rattle.world_model.specs.Run.{enabled_steps, latest};
+ghost use Rattle.world_model.specs.Shown.{deadlock_of, shown, shown_by, shown_by_fate, shown_by_refusal, unless_normal};
+ghost use Rattle.world_model.specs.World.{contents};
+ghost use Rattle.world_records.specs.Records.{Agrees, processes_of};
+ghost use Rattle.world_steps.specs.Deeds.{deed_in, event_in};
+
+use core_tree::CallKind;
+use findings::Identity;
+use proc_links::Effect;
+use std::alloc::{AllocError, Global};
+use std::collections::BTreeSet;
+use std::sync::Arc;
+use term_core::{Pid, Step, Term, Terms};
+use world_calls::Refusal;
+use world_records::Records;
+use world_steps::{Deed, Event};
+
+// The end of a process, unless its reason is `normal`.
+fn end_of(pid: &Pid, reason: &Term) -> Result<Option<Identity>, AllocError>
+    ensures { IfOk result (λ shown. told_by shown ≡ unless_normal pid.now (meaning_of reason.now)) }
+{
+    if reason.is_the_atom("normal") {
+        return Ok(None);
+    }
+    Ok(Some(Identity::End {
+        pid: pid.copy()?,
+        reason: reason.copy()?,
+    }))
+}
+
+// A copy of an owner, if there is one.
+fn copy_owner(owner: &Option<Pid>) -> Result<Option<Pid>, AllocError>
+    ensures { IfOk result (λ copied. copied ≡ owner.now) }
+{
+    match owner {
+        Some(pid) => Ok(Some(pid.copy()?)),
+        None => Ok(None),
+    }
+}
+
+// A call that was refused, if it is one of tables, in the request of this number.
+fn refused(
+    pid: &Pid,
+    request: u64,
+    kind: CallKind,
+    arguments: &Arc<Terms>,
+    refusal: &Refusal,
+) -> Result<Option<Identity>, AllocError>
+    ensures { IfOk result (λ shown. told_by shown ≡ shown_by_refusal pid.now request kind arguments.now.value (refusal_in refusal.now)) }
+{
+    match refusal {
+        Refusal::ByRule(rule, owner) => Ok(Some(Identity::Refusal {
+            pid: pid.copy()?,
+            request,
+            kind,
+            arguments: Arc::try_clone(arguments)?,
+            rule: *rule,
+            owner: copy_owner(owner)?,
+        })),
+        Refusal::BadArgument | Refusal::NoProcess => Ok(None),
+    }
+}
+
+// What a turn shows, in the request of this number.
+fn by_turn(pid: &Pid, request: u64, deed: &Deed) -> Result<Option<Identity>, AllocError>
+    ensures { IfOk result (λ shown. told_by shown ≡ shown_by (Turn pid.now) request (deed_in deed.now)) }
+{
+    match deed {
+        Deed::Refused {
+            kind,
+            arguments,
+            refusal,
+        } => Ok(refused(pid, request, *kind, arguments, refusal)?),
+        Deed::EndedItself {
+            kind: _,
+            arguments: _,
+            reason,
+        } => Ok(end_of(pid, reason)?),
+        Deed::Ended(reason) => Ok(end_of(pid, reason)?),
+        Deed::RanAway => Ok(Some(Identity::Runaway(pid.copy()?))),
+        _ => Ok(None),
+    }
+}
+
+// What a delivered signal shows by its effect.
+fn by_effect(to: &Pid, effect: &Effect) -> Result<Option<Identity>, AllocError>
+    ensures { IfOk result (λ shown. told_by shown ≡ shown_by_fate to.now (fate_in effect.now)) }
+{
+    match effect {
+        Effect::Ends(reason) => Ok(end_of(to, reason)?),
+        Effect::Ignored | Effect::Dropped | Effect::Put(_) => Ok(None),
+    }
+}
+
+// What a delivery shows.
+fn by_delivery(from: &Pid, to: &Pid, deed: &Deed) -> Result<Option<Identity>, AllocError>
+    ensures { IfOk result (λ shown. told_by shown ≡ shown_by (Deliver from.now to.now) 0 (deed_in deed.now)) }
+{
+    match deed {
+        Deed::Delivered(_, effect) => Ok(by_effect(to, effect)?),
+        _ => Ok(None),
+    }
+}
+
+// What the last event shows, if there is one.
+fn by_last_event(
+    records: &Records<'_>,
+    event: Option<&Event>,
+) -> Result<Option<Identity>, AllocError>
+    ensures { IfOk result (λ shown. told_by shown ≡ last_shown (turns_in (processes_of records.now)) (option_copied event.entry)) }
+{
+    let Some(event) = event else {
+        return Ok(None);
+    };
+    match &event.step {
+        Step::Turn(pid) => Ok(by_turn(pid, records.processes().turns(pid), &event.deed)?),
+        Step::Deliver(from, to) => Ok(by_delivery(from, to, &event.deed)?),
+    }
+}
+
+// All processes of a set, in their order.
+fn listed(alloc: Global, pids: &BTreeSet<Pid>) -> Result<Vec<Pid>, AllocError>
+    ensures listed { IfOk result (λ listed. listed.items ≡ pids.now.keys) }
+    ensures in_order { IfOk result (λ _. IsStrictlySortedBy order_of_lists pids.now.keys) }
+{
+    let mut listed = Vec::new(alloc);
+    for pid in pids.iter() {
+        listed.push(pid.copy()?)?;
+    }
+    Ok(listed)
+}
+
+// The deadlock of these processes, where there are any and no step is enabled.
+fn deadlock(
+    alloc: Global,
+    enabled: &[Step],
+    living: &BTreeSet<Pid>,
+) -> Result<Option<Identity>, AllocError>
+    ensures dead { IfOk result (λ shown. told_by shown ≡ deadlock_of enabled.now living.now.keys) }
+    ensures in_order { IfOk result (λ _. enabled.now ≡ [] → IsStrictlySortedBy order_of_lists living.now.keys) }
+{
+    if !enabled.is_empty() {
+        return Ok(None);
+    }
+    let pids = listed(alloc, living)?;
+    if pids.is_empty() {
+        return Ok(None);
+    }
+    Ok(Some(Identity::Deadlock(pids)))
+}
+
+// Puts an identity behind others, if there is one.
+fn push_if_any(shown: &mut Vec<Identity>, identity: Option<Identity>) -> Result<(), AllocError>
+    ensures { OnOk result (map identity_in shown.new.items ≡ map identity_in shown.old.items ++ told_by identity) }
+{
+    if let Some(identity) = identity {
+        shown.push(identity)?;
+    }
+    Ok(())
+}
+
+/// What a world shows whose records, last event and enabled steps these are: the end of a process with another reason
+/// than `normal`, a process that made too many applications without a request, or a refused call of a table, whichever
+/// the last event is; and then the deadlock of those that live, where no step is enabled. `AllocError` if there is no
+/// memory for it.
+pub(crate) fn shown_by_world(
+    records: &Records<'_>,
+    alloc: Global,
+    event: Option<&Event>,
+    enabled: &[Step],
+) -> Result<Vec<Identity>, AllocError>
+    ensures { IfOk result (λ found. (m : ModuleTree) (h : History) → Agrees m records.now (contents h) → option_map (λ event. event_in event.now) event.entry ≡ latest (Some h) → enabled.now ≡ enabled_steps (program_of m) h → map identity_in found.items ≡ shown (program_of m) h) }
+{
+    let mut found = Vec::new(alloc);
+    push_if_any(&mut found, by_last_event(records, event)?)?;
+    push_if_any(
+        &mut found,
+        deadlock(alloc, enabled, records.processes().living())?,
+    )?;
+    Ok(found)
+}

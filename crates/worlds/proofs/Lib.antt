@@ -1,4 +1,0 @@
-pub mod Listed
-pub mod Worlds
-pub mod Runs
-pub mod Turns

@@ -1,7 +1,0 @@
-use Rattle.worlds.proofs.Worlds.{copied}
-use Rattle.worlds.specs.Shared.{events_in}
-use Rattle.worlds.proofs.world.World.copy.Goals as goal
-
-pub invariant_of-result : goal.invariant_of-result
-invariant_of-result c = λ _.
-    copied c.self.inside.program.now (events_in c.self.inside.events) (events_in c.in_ok-copy-2.field-0) c.self.inside.records c.in_ok-copy.field-0 c.in_ok-copy-2.ensures c.in_ok-copy.ensures (c.self.invariant c.if-self.false)

@@ -1,2 +1,0 @@
-pub mod EventCodes
-pub mod Enabling
