@@ -1,6 +1,0 @@
-pub mod Lists
-pub mod Runs
-pub mod Snapshots
-pub mod Frames
-pub mod Pieces
-pub mod Asleep
