@@ -2,9 +2,9 @@
 use proc_links::{Effect, Exits, Life, Linking, Links, Names, Naming, Sender, Watchers, on_exit};
 use std::alloc::{AllocError, Global};
 use std::collections::BTreeSet;
-use std::process::Abort;
 use std::test::Fail;
 use term_core::{Atom, Pid, RefId, Term};
+use test_support::same;
 
 const MANY: u64 = 10000;
 
@@ -261,18 +261,23 @@ fn shown(effect: &Effect) -> &str {
     }
 }
 
+// What an exit signal does.
+fn exit(alloc: Global, sender: Sender, reason: &str, exits: Exits) -> Result<Effect, AllocError> {
+    let from = pid(alloc, 1)?;
+    let reason = Term::atom(alloc, reason)?;
+    on_exit(alloc, sender, &from, &reason, exits)
+}
+
+// Tells whether an exit signal has this effect.
 fn exits_as(
-    rt: &impl Abort,
     alloc: Global,
     sender: Sender,
     reason: &str,
     exits: Exits,
     want: &str,
 ) -> Result<(), Fail> {
-    let reason = Term::atom(alloc, reason)?;
-    let effect = on_exit(alloc, sender, &pid(alloc, 1)?, &reason, exits)?;
-    assert_eq!(rt; shown(&effect), want);
-    Ok(())
+    let effect = exit(alloc, sender, reason, exits)?;
+    same(shown(&effect).as_bytes(), want.as_bytes())
 }
 
 const EXITS: [(Sender, &str, Exits, &str); 6] = [
@@ -287,36 +292,31 @@ const EXITS: [(Sender, &str, Exits, &str); 6] = [
 #[test]
 fn exit_signals_take_effect(rt: HostRuntime) -> Result<(), Fail> {
     for (sender, reason, exits, want) in &EXITS {
-        exits_as(&rt, rt.alloc(), *sender, reason, *exits, want)?;
+        exits_as(rt.alloc(), *sender, reason, *exits, want)?;
     }
     Ok(())
 }
 
-fn link_exits_as(
-    rt: &impl Abort,
-    alloc: Global,
-    links: &Links,
-    reason: &str,
-    want: &str,
-) -> Result<(), Fail> {
+// What the exit signal of a link does.
+fn link_exit(alloc: Global, links: &Links, reason: &str) -> Result<Effect, AllocError> {
+    let from = pid(alloc, 1)?;
+    let to = pid(alloc, 2)?;
     let reason = Term::atom(alloc, reason)?;
-    let effect = links.on_link_exit(
-        alloc,
-        &pid(alloc, 1)?,
-        &pid(alloc, 2)?,
-        &reason,
-        Exits::Untrapped,
-    )?;
-    assert_eq!(rt; shown(&effect), want);
-    Ok(())
+    links.on_link_exit(alloc, &from, &to, &reason, Exits::Untrapped)
+}
+
+// Tells whether the exit signal of a link has this effect.
+fn link_exits_as(alloc: Global, links: &Links, reason: &str, want: &str) -> Result<(), Fail> {
+    let effect = link_exit(alloc, links, reason)?;
+    same(shown(&effect).as_bytes(), want.as_bytes())
 }
 
 #[test]
 fn exit_signals_of_links_need_the_link(rt: HostRuntime) -> Result<(), Fail> {
     let mut links = Links::new(rt.alloc())?;
-    link_exits_as(&rt, rt.alloc(), &links, "bye", "dropped")?;
+    link_exits_as(rt.alloc(), &links, "bye", "dropped")?;
     links.pair(rt.alloc(), &pid(rt.alloc(), 1)?, &pid(rt.alloc(), 2)?)?;
-    link_exits_as(&rt, rt.alloc(), &links, "kill", "kill")?;
-    link_exits_as(&rt, rt.alloc(), &links, "normal", "ignored")?;
+    link_exits_as(rt.alloc(), &links, "kill", "kill")?;
+    link_exits_as(rt.alloc(), &links, "normal", "ignored")?;
     Ok(())
 }

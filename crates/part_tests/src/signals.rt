@@ -3,7 +3,6 @@ ghost use Rattle.std.specs.Prelude.{◌≡◌};
 
 use proc_signals::{Channels, Mailbox, Selector, Signal};
 use std::alloc::{AllocError, Global};
-use std::process::Abort;
 use std::test::Fail;
 use term_core::{Pid, RefId, Term, Terms};
 

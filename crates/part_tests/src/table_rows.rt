@@ -1,11 +1,10 @@
 // Rows of tables: each call with ample memory, each kind, and ten thousand rows.
 use ets_store::{Object, Rows};
 use std::alloc::{AllocError, Global};
-use std::process::Abort;
 use std::sync::Arc;
 use std::test::Fail;
 use term_core::{Term, Terms, write_term};
-use test_support::MemorySink;
+use test_support::{MemorySink, holds, same};
 use world_model::table::Kind;
 
 const MANY: i64 = 10_000;
@@ -37,107 +36,154 @@ fn table(alloc: Global, kind: Kind) -> Result<Rows, AllocError> {
     Ok(rows)
 }
 
-// Asserts what a term is printed as.
-fn prints(rt: &impl Abort, alloc: Global, term: &Term, text: &[u8]) -> Result<(), Fail> {
+// Tells whether a term is printed so.
+fn prints(alloc: Global, term: &Term, text: &[u8]) -> Result<(), Fail> {
     let mut sink = MemorySink::with_room(alloc, 1_000)?;
-    assert!(rt; write_term(term, &mut sink).is_ok());
-    assert!(rt; sink.bytes.as_slice() == text);
-    Ok(())
+    write_term(term, &mut sink)?;
+    same(sink.bytes.as_slice(), text)
 }
 
-// Asserts all objects of a table.
-fn holds(rt: &impl Abort, alloc: Global, rows: &Rows, text: &[u8]) -> Result<(), Fail> {
-    prints(rt, alloc, &rows.to_list(alloc)?, text)
+// Tells whether these are all objects of a table.
+fn has(alloc: Global, rows: &Rows, text: &[u8]) -> Result<(), Fail> {
+    let list = rows.to_list(alloc)?;
+    prints(alloc, &list, text)
 }
 
-// Asserts the key that a walk gives.
-fn is_key(rt: &impl Abort, found: Option<&Term>, key: i64) {
-    assert!(rt; found == Some(&Term::Int(key)));
+// Whether this is the key that a walk gives.
+fn is_key(found: Option<&Term>, key: i64) -> bool {
+    found == Some(&Term::Int(key))
 }
 
-fn holds_all(rt: &impl Abort, alloc: Global, kind: Kind, text: &[u8]) -> Result<(), Fail> {
-    holds(rt, alloc, &table(alloc, kind)?, text)
+// Tells whether these are all objects of a table of this kind.
+fn has_all(alloc: Global, kind: Kind, text: &[u8]) -> Result<(), Fail> {
+    let rows = table(alloc, kind)?;
+    has(alloc, &rows, text)
 }
 
 #[test]
 fn sets_hold_one_object_under_a_key(rt: HostRuntime) -> Result<(), Fail> {
-    holds_all(&rt, rt.alloc(), Kind::Set, b"[{1,5},{2,7}]")?;
-    holds_all(&rt, rt.alloc(), Kind::OrderedSet, b"[{1,5},{2,7}]")
+    has_all(rt.alloc(), Kind::Set, b"[{1,5},{2,7}]")?;
+    has_all(rt.alloc(), Kind::OrderedSet, b"[{1,5},{2,7}]")
 }
 
 #[test]
 fn bags_hold_several(rt: HostRuntime) -> Result<(), Fail> {
-    holds_all(&rt, rt.alloc(), Kind::Bag, b"[{1,5},{1,6},{2,7}]")?;
-    holds_all(
-        &rt,
-        rt.alloc(),
-        Kind::DuplicateBag,
-        b"[{1,5},{1,6},{1,5},{2,7}]",
-    )
+    has_all(rt.alloc(), Kind::Bag, b"[{1,5},{1,6},{2,7}]")?;
+    has_all(rt.alloc(), Kind::DuplicateBag, b"[{1,5},{1,6},{1,5},{2,7}]")
 }
 
-// All instances of an object go, a copy keeps them.
-fn deletes(rt: &impl Abort, alloc: Global, rows: &mut Rows) -> Result<(), Fail> {
-    let copied = rows.copy()?;
-    rows.delete_object(alloc, &pair(alloc, 1, 5)?)?;
-    holds(rt, alloc, rows, b"[{1,6},{2,7}]")?;
+// Deletes all instances of an object.
+fn delete_object(alloc: Global, rows: &mut Rows, key: i64, value: i64) -> Result<(), AllocError> {
+    let object = pair(alloc, key, value)?;
+    rows.delete_object(alloc, &object)
+}
+
+// Tells whether all instances of an object go.
+fn deletes_object(alloc: Global, rows: &mut Rows) -> Result<(), Fail> {
+    delete_object(alloc, rows, 1, 5)?;
+    has(alloc, rows, b"[{1,6},{2,7}]")
+}
+
+// Tells whether all objects under a key go.
+fn deletes_key(alloc: Global, rows: &mut Rows) -> Result<(), Fail> {
     rows.delete_key(&Term::Int(1))?;
-    holds(rt, alloc, rows, b"[{2,7}]")?;
-    holds(rt, alloc, &copied, b"[{1,5},{1,6},{1,5},{2,7}]")
+    has(alloc, rows, b"[{2,7}]")
+}
+
+// Tells whether objects go, and a copy keeps them.
+fn deletes(alloc: Global, rows: &mut Rows, copied: &Rows) -> Result<(), Fail> {
+    deletes_object(alloc, rows)?;
+    deletes_key(alloc, rows)?;
+    has(alloc, copied, b"[{1,5},{1,6},{1,5},{2,7}]")
 }
 
 #[test]
 fn deletes_objects(rt: HostRuntime) -> Result<(), Fail> {
-    deletes(&rt, rt.alloc(), &mut table(rt.alloc(), Kind::DuplicateBag)?)
+    let mut rows = table(rt.alloc(), Kind::DuplicateBag)?;
+    let copied = rows.copy()?;
+    deletes(rt.alloc(), &mut rows, &copied)
 }
 
-fn takes(rt: &impl Abort, alloc: Global, rows: &mut Rows) -> Result<(), Fail> {
-    prints(
-        rt,
-        alloc,
-        &rows.lookup(alloc, &Term::Int(1))?,
-        b"[{1,5},{1,6}]",
-    )?;
-    prints(
-        rt,
-        alloc,
-        &rows.take(alloc, &Term::Int(1))?,
-        b"[{1,5},{1,6}]",
-    )?;
-    prints(rt, alloc, &rows.take(alloc, &Term::Int(1))?, b"[]")?;
-    assert!(rt; !rows.has_key(&Term::Int(1)));
+// Tells whether these objects stand under the key 1.
+fn finds(alloc: Global, rows: &Rows, text: &[u8]) -> Result<(), Fail> {
+    let found = rows.lookup(alloc, &Term::Int(1))?;
+    prints(alloc, &found, text)
+}
+
+// Tells whether these objects are taken from under the key 1.
+fn takes_out(alloc: Global, rows: &mut Rows, text: &[u8]) -> Result<(), Fail> {
+    let taken = rows.take(alloc, &Term::Int(1))?;
+    prints(alloc, &taken, text)
+}
+
+// Tells whether objects are found, then taken, and then gone.
+fn takes_once(alloc: Global, rows: &mut Rows) -> Result<(), Fail> {
+    finds(alloc, rows, b"[{1,5},{1,6}]")?;
+    takes_out(alloc, rows, b"[{1,5},{1,6}]")?;
+    takes_out(alloc, rows, b"[]")
+}
+
+// Tells whether nothing is left once a table is cleared.
+fn clears(alloc: Global, rows: &mut Rows) -> Result<(), Fail> {
     rows.clear(alloc)?;
-    holds(rt, alloc, rows, b"[]")
+    has(alloc, rows, b"[]")
+}
+
+fn takes(alloc: Global, rows: &mut Rows) -> Result<(), Fail> {
+    takes_once(alloc, rows)?;
+    holds(!rows.has_key(&Term::Int(1)), "a taken key is gone")?;
+    clears(alloc, rows)
 }
 
 #[test]
 fn takes_objects(rt: HostRuntime) -> Result<(), Fail> {
-    takes(&rt, rt.alloc(), &mut table(rt.alloc(), Kind::Bag)?)
+    takes(rt.alloc(), &mut table(rt.alloc(), Kind::Bag)?)
 }
 
-fn alters(rt: &impl Abort, alloc: Global, rows: &mut Rows) -> Result<(), Fail> {
+// Alters elements under two keys, and none under a key that is not there.
+fn alter(alloc: Global, rows: &mut Rows) -> Result<(), AllocError> {
     rows.update_counter(alloc, &Term::Int(1), 2, -3)?;
     rows.update_element(alloc, &Term::Int(2), 2, Term::Nil)?;
-    rows.update_element(alloc, &Term::Int(3), 2, Term::Nil)?;
-    holds(rt, alloc, rows, b"[{1,-3},{2,[]}]")
+    rows.update_element(alloc, &Term::Int(3), 2, Term::Nil)
+}
+
+fn alters(alloc: Global, rows: &mut Rows) -> Result<(), Fail> {
+    alter(alloc, rows)?;
+    has(alloc, rows, b"[{1,-3},{2,[]}]")
 }
 
 #[test]
 fn alters_elements(rt: HostRuntime) -> Result<(), Fail> {
-    alters(&rt, rt.alloc(), &mut table(rt.alloc(), Kind::Set)?)
+    alters(rt.alloc(), &mut table(rt.alloc(), Kind::Set)?)
 }
 
-fn is_new(rt: &impl Abort, alloc: Global, rows: &mut Rows) -> Result<(), Fail> {
-    let known = [pair(alloc, 3, 1)?, pair(alloc, 2, 1)?];
-    assert!(rt; !rows.insert_new(alloc, &known)?);
-    let fresh = [pair(alloc, 3, 1)?, pair(alloc, 3, 2)?];
-    assert!(rt; rows.insert_new(alloc, &fresh)?);
-    holds(rt, alloc, rows, b"[{1,5},{2,7},{3,2}]")
+// Whether two objects with these keys and values are put in, since their keys are new.
+fn are_put_in(
+    alloc: Global,
+    rows: &mut Rows,
+    one: (i64, i64),
+    two: (i64, i64),
+) -> Result<bool, AllocError> {
+    let objects = [pair(alloc, one.0, one.1)?, pair(alloc, two.0, two.1)?];
+    rows.insert_new(alloc, &objects)
+}
+
+// Whether objects are put in where all their keys are new, and not else.
+fn are_put_in_where_new(alloc: Global, rows: &mut Rows) -> Result<bool, AllocError> {
+    let known = are_put_in(alloc, rows, (3, 1), (2, 1))?;
+    let new = are_put_in(alloc, rows, (3, 1), (3, 2))?;
+    Ok(!known && new)
+}
+
+fn is_new(alloc: Global, rows: &mut Rows) -> Result<(), Fail> {
+    let is_so = are_put_in_where_new(alloc, rows)?;
+    holds(is_so, "objects are put in where their keys are new")?;
+    has(alloc, rows, b"[{1,5},{2,7},{3,2}]")
 }
 
 #[test]
 fn inserts_what_is_new(rt: HostRuntime) -> Result<(), Fail> {
-    is_new(&rt, rt.alloc(), &mut table(rt.alloc(), Kind::Set)?)
+    is_new(rt.alloc(), &mut table(rt.alloc(), Kind::Set)?)
 }
 
 /// The even keys below twenty thousand, the greatest first.
@@ -151,18 +197,19 @@ fn many(alloc: Global, kind: Kind) -> Result<Rows, AllocError> {
     Ok(rows)
 }
 
-fn walks(rt: &impl Abort, rows: &Rows, last: i64, before: i64) {
-    is_key(rt, rows.first(), 0);
-    is_key(rt, rows.last(), last);
-    is_key(rt, rows.next(&Term::Int(500)), 502);
-    is_key(rt, rows.next(&Term::Int(501)), 502);
-    is_key(rt, rows.prev(&Term::Int(501)), before);
-    assert!(rt; rows.next(&Term::Int(19_998)).is_none());
+// Whether walks over the keys give these.
+fn walks(rows: &Rows, last: i64, before: i64) -> bool {
+    is_key(rows.first(), 0)
+        && is_key(rows.last(), last)
+        && is_key(rows.next(&Term::Int(500)), 502)
+        && is_key(rows.next(&Term::Int(501)), 502)
+        && is_key(rows.prev(&Term::Int(501)), before)
+        && rows.next(&Term::Int(19_998)).is_none()
 }
 
 #[test]
 fn walks_over_many_keys(rt: HostRuntime) -> Result<(), Fail> {
-    walks(&rt, &many(rt.alloc(), Kind::OrderedSet)?, 19_998, 500);
-    walks(&rt, &many(rt.alloc(), Kind::Set)?, 0, 502);
+    assert!(rt; walks(&many(rt.alloc(), Kind::OrderedSet)?, 19_998, 500));
+    assert!(rt; walks(&many(rt.alloc(), Kind::Set)?, 0, 502));
     Ok(())
 }

@@ -8,11 +8,12 @@ mod runs;
 
 use crate::requests::text_of;
 use core_eval::{Answer, Machine};
-use runs::{Long, MAIN, ask_all, ask_long, asks, first_process, process, program, run_on};
-use std::alloc::Global;
+use core_reader::Module;
+use runs::{Long, MAIN, ask_all, ask_long, asks, ends, first_process, process, program, run_on};
+use std::alloc::{AllocError, Global};
 use std::test::Fail;
 use term_core::{Pid, Term};
-use test_support::nested;
+use test_support::{nested, same};
 
 // Bodies, and what a process with such a body asks; each request is answered by its number.
 const IN_ORDER: [(&str, &str); 2] = [
@@ -46,8 +47,8 @@ const UP_TO_THE_LIMIT: [Long; 7] = [
 
 #[test]
 fn evaluates(rt: HostRuntime) -> Result<(), Fail> {
-    ask_all(&rt, rt.alloc(), MAIN, &IN_ORDER)?;
-    ask_long(&rt, rt.alloc(), &UP_TO_THE_LIMIT)
+    ask_all(rt.alloc(), MAIN, &IN_ORDER)?;
+    ask_long(rt.alloc(), &UP_TO_THE_LIMIT)
 }
 
 // A `do` in a `do`, a thousand deep; it is the first part of the outer one, or the second.
@@ -57,7 +58,7 @@ const DEEP: [(&str, &str); 2] = [("do ", " 7"), ("do 7 ", "")];
 fn a_thousand_levels_run(rt: HostRuntime) -> Result<(), Fail> {
     for (opening, closing) in DEEP {
         let body = nested(rt.alloc(), "", opening, 999, "7", closing)?;
-        asks(&rt, rt.alloc(), MAIN, body.as_str(), "'normal'")?;
+        asks(rt.alloc(), MAIN, body.as_str(), "'normal'")?;
     }
     Ok(())
 }
@@ -86,25 +87,47 @@ const STRINGS_AND_VALUES: [(&str, &str); 9] = [
 
 #[test]
 fn evaluates_strings_and_values(rt: HostRuntime) -> Result<(), Fail> {
-    ask_all(&rt, rt.alloc(), MAIN, &STRINGS_AND_VALUES)
+    ask_all(rt.alloc(), MAIN, &STRINGS_AND_VALUES)
 }
 
 // Answers that do not fit, and then a refusal.
-fn refused(alloc: Global, machine: &mut Machine) -> Result<Vec<u8>, Fail> {
+fn refuse(alloc: Global, machine: &mut Machine) -> Result<(), AllocError> {
     machine.resume(alloc, Answer::TimedOut)?;
     machine.resume(alloc, Answer::Message(Term::Nil))?;
     let badarg = Term::atom(alloc, "badarg")?;
-    machine.resume(alloc, Answer::Raise(badarg))?;
-    run_on(alloc, machine)
+    machine.resume(alloc, Answer::Raise(badarg))
 }
 
-// What a copy asks, and the last of it again.
-fn copied(alloc: Global, machine: &Machine) -> Result<Vec<u8>, Fail> {
-    let mut other = machine.copy(alloc)?;
-    let mut text = run_on(alloc, &mut other)?;
-    let last = other.request().copy()?;
-    text.extend_from_slice(text_of(alloc, &last)?.as_slice())?;
+// Tells whether a machine asks this after these answers.
+fn refused_ends(alloc: Global, machine: &mut Machine, want: &str) -> Result<(), Fail> {
+    refuse(alloc, machine)?;
+    ends(alloc, machine, want)
+}
+
+// What a copy of the request of a machine is as text.
+fn last_of(alloc: Global, machine: &Machine) -> Result<Vec<u8>, Fail> {
+    let last = machine.request().copy()?;
+    Ok(text_of(alloc, &last)?)
+}
+
+// What a machine asks, and the last of it again.
+fn run_on_twice(alloc: Global, machine: &mut Machine) -> Result<Vec<u8>, Fail> {
+    let mut text = run_on(alloc, machine)?;
+    let last = last_of(alloc, machine)?;
+    text.extend_from_slice(last.as_slice())?;
     Ok(text)
+}
+
+// Tells whether a machine asks this, the last of it twice.
+fn ends_twice(alloc: Global, machine: &mut Machine, want: &str) -> Result<(), Fail> {
+    let text = run_on_twice(alloc, machine)?;
+    same(text.as_slice(), want.as_bytes())
+}
+
+// Tells whether a copy asks this, the last of it twice.
+fn copy_ends_twice(alloc: Global, machine: &Machine, want: &str) -> Result<(), Fail> {
+    let mut other = machine.copy(alloc)?;
+    ends_twice(alloc, &mut other, want)
 }
 
 const CALLS: &str = "call 'ets':'lookup'('t',call 'ets':'lookup'('t',5))";
@@ -113,31 +136,33 @@ const CALLS: &str = "call 'ets':'lookup'('t',call 'ets':'lookup'('t',5))";
 fn refused_calls_end_the_process(rt: HostRuntime) -> Result<(), Fail> {
     let program = program(rt.alloc(), MAIN, CALLS)?;
     let mut machine = first_process(rt.alloc(), &program, "main")?;
-    let text = refused(rt.alloc(), &mut machine)?;
-    assert_eq!(rt; text.as_slice(), b"{'badarg',[]}".as_slice());
-    Ok(())
+    refused_ends(rt.alloc(), &mut machine, "{'badarg',[]}")
 }
 
 #[test]
 fn a_copy_asks_the_same(rt: HostRuntime) -> Result<(), Fail> {
     let program = program(rt.alloc(), MAIN, CALLS)?;
     let machine = first_process(rt.alloc(), &program, "main")?;
-    let text = copied(rt.alloc(), &machine)?;
-    assert_eq!(rt;
-        text.as_slice(),
-        b"lookup 't' 5\nlookup 't' 1\n'normal''normal'".as_slice()
-    );
-    Ok(())
+    let want = "lookup 't' 5\nlookup 't' 1\n'normal''normal'";
+    copy_ends_twice(rt.alloc(), &machine, want)
 }
 
 const CHILD: [u64; 1] = [1];
 
-// What the process `P.1` asks that is to begin with this function.
-fn other(alloc: Global, name: &str) -> Result<Vec<u8>, Fail> {
-    let program = program(alloc, MAIN, "0")?;
-    let child = Pid::new(alloc, Vec::from_slice(alloc, &CHILD)?)?;
-    let mut machine = process(alloc, &program, child, name)?;
-    run_on(alloc, &mut machine)
+// The process `P.1` of a module at the function with this name.
+fn child_process<'m>(
+    alloc: Global,
+    program: &'m Module,
+    name: &str,
+) -> Result<Machine<'m>, AllocError> {
+    let numbers = Vec::from_slice(alloc, &CHILD)?;
+    process(alloc, program, Pid::new(alloc, numbers)?, name)
+}
+
+// Tells whether the process `P.1` asks this that is to begin with the function with this name.
+fn child_begins(alloc: Global, program: &Module, name: &str, want: &str) -> Result<(), Fail> {
+    let mut machine = child_process(alloc, program, name)?;
+    ends(alloc, &mut machine, want)
 }
 
 // A function that is not exported, and one that is not there.
@@ -145,9 +170,9 @@ const NOT_EXPORTED: [&str; 2] = ["main", "none"];
 
 #[test]
 fn other_processes_begin_at_exports(rt: HostRuntime) -> Result<(), Fail> {
+    let program = program(rt.alloc(), MAIN, "0")?;
     for name in NOT_EXPORTED {
-        let text = other(rt.alloc(), name)?;
-        assert_eq!(rt; text.as_slice(), b"{'undef',[]}".as_slice());
+        child_begins(rt.alloc(), &program, name, "{'undef',[]}")?;
     }
     Ok(())
 }

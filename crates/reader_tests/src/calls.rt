@@ -2,6 +2,7 @@
 use crate::module_texts::answers;
 use core_reader::{ReadFault, read_module};
 use core_tree::{CALLS, Call, CallKind, Callee, Expr, Module};
+use std::alloc::Global;
 use std::test::Fail;
 
 // Each of them once, in the order of their list.
@@ -65,13 +66,16 @@ fn calls_of(module: Module, kind: CallKind) -> usize {
     found
 }
 
+// The module with this body.
+fn module_with(alloc: Global, body: &str) -> Result<Module, ReadFault> {
+    let text = format!(in alloc; "module 'm' [] attributes [] 'main'/0 = fun () -> {body} end")?;
+    read_module(alloc, text.as_bytes())
+}
+
 #[test]
 fn reads_every_call_of_the_world(rt: HostRuntime) -> Result<(), Fail> {
     for (kind, call) in CALLS.iter().zip(TEXTS.iter()) {
-        let text = format!(in rt.alloc();
-            "module 'm' [] attributes [] 'main'/0 = fun () -> {call} end"
-        )?;
-        let module = read_module(rt.alloc(), text.as_bytes())?;
+        let module = module_with(rt.alloc(), call)?;
         assert_eq!(rt; calls_of(module, *kind), 1);
     }
     Ok(())
@@ -160,6 +164,6 @@ const FAULTS: [(&[u8], ReadFault); 17] = [
 ];
 
 #[test]
-fn names_faults_of_calls(rt: HostRuntime) {
-    answers(&rt, rt.alloc(), FAULTS.as_slice());
+fn names_faults_of_calls(rt: HostRuntime) -> Result<(), Fail> {
+    answers(rt.alloc(), FAULTS.as_slice())
 }

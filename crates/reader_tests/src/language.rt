@@ -1,16 +1,16 @@
 // Texts of the whole language: those that are modules, and those that are refused, with fault and place.
-use crate::module_texts::answers;
-use core_reader::{ReadFault, read_module};
-use std::alloc::Global;
-use std::process::Abort;
+use crate::module_texts::{answers, answers_with, are_alike, refuses_every_front};
+use core_reader::ReadFault;
+use std::alloc::{AllocError, Global};
 use std::test::Fail;
+use test_support::holds;
 
-// Asserts that each text is read.
-pub(super) fn reads(rt: &impl Abort, alloc: Global, table: &[&[u8]]) {
+// Tells whether each text is read.
+pub(super) fn reads(alloc: Global, table: &[&[u8]]) -> Result<(), Fail> {
     for text in table {
-        let answer = read_module(alloc, text).err();
-        assert_eq!(rt; answer, None);
+        answers_with(alloc, text, None)?;
     }
+    Ok(())
 }
 
 // Modules with every form.
@@ -33,8 +33,8 @@ const FORMS: [&[u8]; 15] = [
 ];
 
 #[test]
-fn reads_every_form(rt: HostRuntime) {
-    reads(&rt, rt.alloc(), FORMS.as_slice());
+fn reads_every_form(rt: HostRuntime) -> Result<(), Fail> {
+    reads(rt.alloc(), FORMS.as_slice())
 }
 
 // Faults of forms.
@@ -202,8 +202,8 @@ const FAULTS_OF_FORMS: [(&[u8], ReadFault); 40] = [
 ];
 
 #[test]
-fn names_faults_of_forms(rt: HostRuntime) {
-    answers(&rt, rt.alloc(), FAULTS_OF_FORMS.as_slice());
+fn names_faults_of_forms(rt: HostRuntime) -> Result<(), Fail> {
+    answers(rt.alloc(), FAULTS_OF_FORMS.as_slice())
 }
 
 // What a compiler writes of a small module, as Core Erlang 1.0.3.
@@ -222,14 +222,8 @@ end"
 }
 
 #[test]
-fn refuses_every_front_of_a_compiled_module(rt: HostRuntime) {
-    let text = compiled();
-    assert!(rt; read_module(rt.alloc(), text).is_ok());
-    for end in 0..text.len() {
-        let answer = read_module(rt.alloc(), &text[..end]).err();
-        assert!(rt; answer.is_some());
-        assert_ne!(rt; answer, Some(ReadFault::Memory));
-    }
+fn refuses_every_front_of_a_compiled_module(rt: HostRuntime) -> Result<(), Fail> {
+    refuses_every_front(rt.alloc(), compiled())
 }
 
 // So many times the front, a middle, and as many times the back, as the body of `main/0`; and where the middle
@@ -240,7 +234,7 @@ fn around(
     front: &[u8],
     middle: &[u8],
     back: &[u8],
-) -> Result<(Vec<u8>, usize), Fail> {
+) -> Result<(Vec<u8>, usize), AllocError> {
     let mut text = Vec::from_slice(alloc, b"module 'm' [] attributes [] 'main'/0 = fun () -> ")?;
     for _ in 0..count {
         text.extend_from_slice(front)?;
@@ -273,33 +267,40 @@ const PLACES: [(&[u8], &[u8], usize); 14] = [
     (b"primop 'match_fail'(", b")", 0),
 ];
 
-// Asserts that a text is read, twice to the same module.
-fn reads_alike(rt: &impl Abort, alloc: Global, text: &[u8]) -> Result<(), Fail> {
-    let first = read_module(alloc, text)?;
-    assert!(rt; first == read_module(alloc, text)?);
-    Ok(())
+// Tells whether a text is read, twice to the same module.
+fn reads_alike(alloc: Global, text: &[u8]) -> Result<(), Fail> {
+    let is_same = are_alike(alloc, text, text)?;
+    holds(is_same, "a text is read to the same module again")
 }
 
-// Asserts that a form is read a thousand levels deep, and not one level deeper.
-pub(super) fn nests(
-    rt: &impl Abort,
+// Tells whether a form is read a thousand levels deep.
+fn nests_to_the_limit(alloc: Global, front: &[u8], back: &[u8]) -> Result<(), Fail> {
+    let (text, _) = around(alloc, 999, front, b"1", back)?;
+    reads_alike(alloc, text.as_slice())
+}
+
+// Tells whether a form is refused one level deeper, at a place so far before its end.
+fn stops_past_the_limit(
     alloc: Global,
     front: &[u8],
     back: &[u8],
     before: usize,
 ) -> Result<(), Fail> {
-    let (text, _) = around(alloc, 999, front, b"1", back)?;
-    reads_alike(rt, alloc, text.as_slice())?;
     let (text, place) = around(alloc, 1_000, front, b"1", back)?;
     let fault = ReadFault::TooDeep(place.saturating_sub(before));
-    assert_eq!(rt; read_module(alloc, text.as_slice()).err(), Some(fault));
-    Ok(())
+    answers_with(alloc, text.as_slice(), Some(fault))
+}
+
+// Tells whether a form is read a thousand levels deep, and not one level deeper.
+pub(super) fn nests(alloc: Global, front: &[u8], back: &[u8], before: usize) -> Result<(), Fail> {
+    nests_to_the_limit(alloc, front, back)?;
+    stops_past_the_limit(alloc, front, back, before)
 }
 
 #[test]
 fn nests_a_thousand_levels_in_every_place(rt: HostRuntime) -> Result<(), Fail> {
     for (front, back, before) in PLACES {
-        nests(&rt, rt.alloc(), front, back, before)?;
+        nests(rt.alloc(), front, back, before)?;
     }
     Ok(())
 }

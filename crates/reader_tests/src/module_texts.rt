@@ -1,16 +1,49 @@
 // Texts with the fault and the place that the rules give each, and whole modules.
 use core_reader::{ReadFault, read_module};
 use std::alloc::Global;
-use std::process::Abort;
+use std::str;
 use std::test::Fail;
-use test_support::nested;
+use test_support::{holds, nested};
 
-// Asserts what the reader answers to each text.
-pub(super) fn answers(rt: &impl Abort, alloc: Global, table: &[(&[u8], ReadFault)]) {
-    for (text, fault) in table {
-        let answer = read_module(alloc, text).err();
-        assert_eq!(rt; answer, Some(*fault));
+// Tells whether the reader answers to this text with this fault, or with none.
+pub(super) fn answers_with(
+    alloc: Global,
+    text: &[u8],
+    fault: Option<ReadFault>,
+) -> Result<(), Fail> {
+    let answer = read_module(alloc, text).err();
+    holds(answer == fault, str::from_utf8(text).unwrap_or("bytes"))
+}
+
+// Tells whether a text is refused, and not for want of memory.
+fn refuses(alloc: Global, text: &[u8]) -> Result<(), Fail> {
+    let answer = read_module(alloc, text).err();
+    let is_refused = answer.is_some() && answer != Some(ReadFault::Memory);
+    holds(is_refused, str::from_utf8(text).unwrap_or("bytes"))
+}
+
+// Tells whether a text is read, and none of what it begins with.
+pub(super) fn refuses_every_front(alloc: Global, text: &[u8]) -> Result<(), Fail> {
+    answers_with(alloc, text, None)?;
+    for end in 0..text.len() {
+        refuses(alloc, &text[..end])?;
     }
+    Ok(())
+}
+
+// Whether two texts are read to the same module.
+pub(super) fn are_alike(alloc: Global, one: &[u8], other: &[u8]) -> Result<bool, ReadFault> {
+    let first = read_module(alloc, one)?;
+    let second = read_module(alloc, other)?;
+    Ok(first == second)
+}
+
+// Tells whether the reader answers to each of these texts with the fault beside it.
+pub(super) fn answers(alloc: Global, table: &[(&[u8], ReadFault)]) -> Result<(), Fail> {
+    for row in table {
+        answers_with(alloc, row.0, Some(row.1))?;
+    }
+    Ok(())
 }
 
 // Texts of modules.
@@ -77,8 +110,8 @@ const BAD_TOKENS: [(&[u8], ReadFault); 13] = [
 ];
 
 #[test]
-fn names_bad_tokens(rt: HostRuntime) {
-    answers(&rt, rt.alloc(), BAD_TOKENS.as_slice());
+fn names_bad_tokens(rt: HostRuntime) -> Result<(), Fail> {
+    answers(rt.alloc(), BAD_TOKENS.as_slice())
 }
 
 // Tokens with which the grammar cannot go on.
@@ -115,8 +148,8 @@ const UNEXPECTED_TOKENS: [(&[u8], ReadFault); 8] = [
 ];
 
 #[test]
-fn names_unexpected_tokens(rt: HostRuntime) {
-    answers(&rt, rt.alloc(), UNEXPECTED_TOKENS.as_slice());
+fn names_unexpected_tokens(rt: HostRuntime) -> Result<(), Fail> {
+    answers(rt.alloc(), UNEXPECTED_TOKENS.as_slice())
 }
 
 // Forms and calls that are not read.
@@ -168,8 +201,8 @@ const FORMS_NOT_READ: [(&[u8], ReadFault); 11] = [
 ];
 
 #[test]
-fn names_forms_that_are_not_read(rt: HostRuntime) {
-    answers(&rt, rt.alloc(), FORMS_NOT_READ.as_slice());
+fn names_forms_that_are_not_read(rt: HostRuntime) -> Result<(), Fail> {
+    answers(rt.alloc(), FORMS_NOT_READ.as_slice())
 }
 
 // Faults of the scopes.
@@ -251,22 +284,16 @@ const FAULTS_OF_SCOPES: [(&[u8], ReadFault); 19] = [
 ];
 
 #[test]
-fn names_faults_of_scopes(rt: HostRuntime) {
-    answers(&rt, rt.alloc(), FAULTS_OF_SCOPES.as_slice());
+fn names_faults_of_scopes(rt: HostRuntime) -> Result<(), Fail> {
+    answers(rt.alloc(), FAULTS_OF_SCOPES.as_slice())
 }
 
 #[test]
 fn answers_long_texts(rt: HostRuntime) -> Result<(), Fail> {
-    let mut text = Vec::new(rt.alloc());
-    for _blank in 0..1_048_576 {
-        text.push(b' ')?;
-    }
-    let longest = read_module(rt.alloc(), &text).err();
-    assert_eq!(rt; longest, Some(ReadFault::Expected(1_048_576)));
+    let mut text = vec![in rt.alloc(); b' '; 1_048_576]?;
+    answers_with(rt.alloc(), &text, Some(ReadFault::Expected(1_048_576)))?;
     text.push(b' ')?;
-    let too_long = read_module(rt.alloc(), &text).err();
-    assert_eq!(rt; too_long, Some(ReadFault::TooLong(1_048_576)));
-    Ok(())
+    answers_with(rt.alloc(), &text, Some(ReadFault::TooLong(1_048_576)))
 }
 
 // A list of half a million integers fills the text.
@@ -275,11 +302,10 @@ fn reads_a_module_of_a_million_tokens(rt: HostRuntime) -> Result<(), Fail> {
     let front = "module 'm' [] attributes [] 'main'/0 = fun () -> [";
     let mut text = nested(rt.alloc(), front, "1,", 524_260, "1] end", "")?;
     assert_eq!(rt; text.len(), 1_048_576);
-    assert!(rt; read_module(rt.alloc(), text.as_bytes()).is_ok());
+    answers_with(rt.alloc(), text.as_bytes(), None)?;
     text.push(' ')?;
-    let too_long = read_module(rt.alloc(), text.as_bytes()).err();
-    assert_eq!(rt; too_long, Some(ReadFault::TooLong(1_048_576)));
-    Ok(())
+    let too_long = Some(ReadFault::TooLong(1_048_576));
+    answers_with(rt.alloc(), text.as_bytes(), too_long)
 }
 
 // A module with every form that is read.
@@ -295,23 +321,14 @@ end"
 }
 
 #[test]
-fn refuses_every_front_of_a_module(rt: HostRuntime) {
-    let text = whole();
-    assert!(rt; read_module(rt.alloc(), text).is_ok());
-    for end in 0..text.len() {
-        let answer = read_module(rt.alloc(), &text[..end]).err();
-        assert!(rt; answer.is_some());
-        assert_ne!(rt; answer, Some(ReadFault::Memory));
-    }
+fn refuses_every_front_of_a_module(rt: HostRuntime) -> Result<(), Fail> {
+    refuses_every_front(rt.alloc(), whole())
 }
 
 #[test]
 fn reads_equal_values_from_one_text(rt: HostRuntime) -> Result<(), Fail> {
-    let first = read_module(rt.alloc(), whole())?;
-    let second = read_module(rt.alloc(), whole())?;
-    assert!(rt; first == second);
     let other = b"module 'm' [] attributes [] 'main'/0 = fun () -> 1 end";
-    let other = read_module(rt.alloc(), other)?;
-    assert!(rt; first != other);
+    assert!(rt; are_alike(rt.alloc(), whole(), whole())?);
+    assert!(rt; !are_alike(rt.alloc(), whole(), other)?);
     Ok(())
 }

@@ -5,7 +5,7 @@ use core_tree::Expr;
 use std::alloc::{AllocError, Global};
 use std::fmt::Write;
 use std::test::Fail;
-use test_support::nested;
+use test_support::{holds, nested};
 
 // What the tokens of a text spell.
 fn read(alloc: Global, text: &str) -> Result<Module, ReadFault> {
@@ -94,20 +94,32 @@ const FAULTS: [(&str, ReadFault); 16] = [
     ),
 ];
 
+// Tells whether the tokens of a text are read, or with which fault they are refused.
+fn answers_with(alloc: Global, text: &str, fault: Option<ReadFault>) -> Result<(), Fail> {
+    let answer = read(alloc, text).err();
+    holds(answer == fault, text)
+}
+
 #[test]
-fn finds_the_first_fault(rt: HostRuntime) {
+fn finds_the_first_fault(rt: HostRuntime) -> Result<(), Fail> {
     for (text, fault) in FAULTS {
-        assert_eq!(rt; read(rt.alloc(), text).err(), Some(fault), "{text}");
+        answers_with(rt.alloc(), text, Some(fault))?;
     }
+    Ok(())
 }
 
 // What stands before a body, which begins at 54.
 const FRONT: &str = "module 'm' [ ] attributes [ ] 'main' / 0 = fun ( ) -> ";
 
+// The module with this body.
+fn in_front(alloc: Global, body: &str) -> Result<String, AllocError> {
+    format!(in alloc; "{FRONT}{body} end")
+}
+
 // The module whose body is so many lists, one in another, around an integer.
 fn in_lists(alloc: Global, depth: usize) -> Result<String, AllocError> {
     let body = nested(alloc, "", "[", depth, "1", "]")?;
-    Ok(format!(in alloc; "{FRONT}{body} end")?)
+    in_front(alloc, body.as_str())
 }
 
 // How many lists, and the fault.
@@ -123,7 +135,7 @@ const DEPTHS: [(usize, Option<ReadFault>); 3] = [
 fn nests_a_thousand_levels(rt: HostRuntime) -> Result<(), Fail> {
     for (depth, fault) in DEPTHS {
         let text = in_lists(rt.alloc(), depth)?;
-        assert_eq!(rt; read(rt.alloc(), text.as_str()).err(), fault);
+        answers_with(rt.alloc(), text.as_str(), fault)?;
     }
     Ok(())
 }
@@ -131,27 +143,31 @@ fn nests_a_thousand_levels(rt: HostRuntime) -> Result<(), Fail> {
 #[test]
 fn reads_a_long_list(rt: HostRuntime) -> Result<(), Fail> {
     let body = nested(rt.alloc(), "[", "1,", 100_000, "1]", "")?;
-    let text = format!(in rt.alloc(); "{FRONT}{body} end")?;
-    assert_eq!(rt; read(rt.alloc(), text.as_str()).err(), None);
-    Ok(())
+    let text = in_front(rt.alloc(), body.as_str())?;
+    answers_with(rt.alloc(), text.as_str(), None)
 }
 
-// So many definitions.
+// How many definitions a module has.
+fn definition_count(alloc: Global, text: &str) -> Result<usize, ReadFault> {
+    let module = read(alloc, text)?;
+    Ok(module.definitions.len())
+}
+
+// A module with so many definitions beside `main/0`.
 fn definitions(alloc: Global, count: u64) -> Result<String, AllocError> {
-    let mut text = String::new(alloc);
+    let front = "module 'm' [] attributes [] 'main'/0 = fun () -> 1 ";
+    let mut text = String::from_str(alloc, front)?;
     for number in 0..count {
         write!(text, "'f{number}'/0 = fun () -> 1 ")?;
     }
+    text.push_str("end")?;
     Ok(text)
 }
 
 // More than a text of lawful length has room for.
 #[test]
 fn reads_70000_definitions(rt: HostRuntime) -> Result<(), Fail> {
-    let front = "module 'm' [] attributes [] 'main'/0 = fun () -> 1 ";
-    let definitions = definitions(rt.alloc(), 70_000)?;
-    let text = format!(in rt.alloc(); "{front}{definitions}end")?;
-    let module = read(rt.alloc(), text.as_str())?;
-    assert_eq!(rt; module.definitions.len(), 70_001);
+    let text = definitions(rt.alloc(), 70_000)?;
+    assert_eq!(rt; definition_count(rt.alloc(), text.as_str())?, 70_001);
     Ok(())
 }

@@ -1,8 +1,8 @@
 // Texts with `receive`: those that are modules, and those that are refused, with fault and place.
 use crate::language::{nests, reads};
-use crate::module_texts::answers;
-use core_reader::{ReadFault, read_module};
-use std::alloc::Global;
+use crate::module_texts::{answers, are_alike, refuses_every_front};
+use core_reader::ReadFault;
+use std::alloc::{AllocError, Global};
 use std::test::Fail;
 
 // Clauses with one pattern, bare, in angles and annotated; several, and none; receives in one another.
@@ -24,8 +24,8 @@ const FORMS: [&[u8]; 14] = [
 ];
 
 #[test]
-fn reads_receives(rt: HostRuntime) {
-    reads(&rt, rt.alloc(), FORMS.as_slice());
+fn reads_receives(rt: HostRuntime) -> Result<(), Fail> {
+    reads(rt.alloc(), FORMS.as_slice())
 }
 
 // Faults in a `receive`: two patterns or none in angles, what is neither a clause nor `after`, and those of the
@@ -178,8 +178,8 @@ const FAULTS: [(&[u8], ReadFault); 36] = [
 ];
 
 #[test]
-fn names_faults_of_receives(rt: HostRuntime) {
-    answers(&rt, rt.alloc(), FAULTS.as_slice());
+fn names_faults_of_receives(rt: HostRuntime) -> Result<(), Fail> {
+    answers(rt.alloc(), FAULTS.as_slice())
 }
 
 // Each place of a `receive` where an expression stands, as in the table of the other forms.
@@ -193,7 +193,7 @@ const PLACES: [(&[u8], &[u8], usize); 4] = [
 #[test]
 fn nests_receives_a_thousand_levels(rt: HostRuntime) -> Result<(), Fail> {
     for (front, back, before) in PLACES {
-        nests(&rt, rt.alloc(), front, back, before)?;
+        nests(rt.alloc(), front, back, before)?;
     }
     Ok(())
 }
@@ -208,19 +208,23 @@ const SAME: [&str; 5] = [
 ];
 
 // A receive with this clause, as text.
-fn text_of(alloc: Global, clause: &str) -> Result<String, Fail> {
-    Ok(format!(in alloc;
+fn text_of(alloc: Global, clause: &str) -> Result<String, AllocError> {
+    format!(in alloc;
         "module 'm' [] attributes [] 'main'/0 = fun () -> receive {clause} after 0 -> 1 end"
-    )?)
+    )
+}
+
+// Whether two clauses say the same.
+fn says_the_same(alloc: Global, one: &str, other: &str) -> Result<bool, ReadFault> {
+    let first = text_of(alloc, one)?;
+    let second = text_of(alloc, other)?;
+    are_alike(alloc, first.as_bytes(), second.as_bytes())
 }
 
 #[test]
 fn reads_one_pattern_in_every_way(rt: HostRuntime) -> Result<(), Fail> {
-    let first = text_of(rt.alloc(), SAME[0])?;
-    let first = read_module(rt.alloc(), first.as_bytes())?;
     for clause in SAME {
-        let text = text_of(rt.alloc(), clause)?;
-        assert!(rt; read_module(rt.alloc(), text.as_bytes())? == first);
+        assert!(rt; says_the_same(rt.alloc(), SAME[0], clause)?);
     }
     Ok(())
 }
@@ -229,11 +233,5 @@ fn reads_one_pattern_in_every_way(rt: HostRuntime) -> Result<(), Fail> {
 fn refuses_every_front_of_a_receive(rt: HostRuntime) -> Result<(), Fail> {
     let text = text_of(rt.alloc(), "( <{X,Y}> when 'true' -> X -| [1] )")?;
     let text = text.as_bytes();
-    assert!(rt; read_module(rt.alloc(), text).is_ok());
-    for end in 0..text.len() {
-        let answer = read_module(rt.alloc(), &text[..end]).err();
-        assert!(rt; answer.is_some());
-        assert_ne!(rt; answer, Some(ReadFault::Memory));
-    }
-    Ok(())
+    refuses_every_front(rt.alloc(), text)
 }

@@ -31,11 +31,23 @@ fn draft_of(alloc: Global, module: Module) -> Result<Draft, AllocError> {
 const CLOSED: &[u8] =
     b"module 'm' ['f'/0] attributes ['a' = 1] 'main'/0 = fun () -> apply 'f'/0() 'f'/0 = fun () -> let <X,Z> = <1,2> in case 3 of <Y> when 'true' -> {X,Y,Z} end end";
 
+// The module of a text, closed once more.
+fn closed_again(alloc: Global, text: &[u8]) -> Result<Module, ReadFault> {
+    let module = read_module(alloc, text)?;
+    let draft = draft_of(alloc, module)?;
+    closed_module(alloc, draft)
+}
+
+// Whether it is the same.
+fn is_handed_out(alloc: Global, text: &[u8]) -> Result<bool, ReadFault> {
+    let closed = closed_again(alloc, text)?;
+    let module = read_module(alloc, text)?;
+    Ok(closed == module)
+}
+
 #[test]
 fn hands_out_a_closed_module(rt: HostRuntime) -> Result<(), Fail> {
-    let module = read_module(rt.alloc(), CLOSED)?;
-    let closed = closed_module(rt.alloc(), draft_of(rt.alloc(), module)?)?;
-    assert!(rt; closed == read_module(rt.alloc(), CLOSED)?);
+    assert!(rt; is_handed_out(rt.alloc(), CLOSED)?);
     Ok(())
 }
 
@@ -51,8 +63,9 @@ const FAULTS: [(usize, &[u8], ReadFault); 3] = [
 ];
 
 // The fault of a module without so many of its definitions.
-fn fault_without(alloc: Global, text: &[u8], count: usize) -> Result<Option<ReadFault>, Fail> {
-    let mut draft = draft_of(alloc, read_module(alloc, text)?)?;
+fn fault_without(alloc: Global, text: &[u8], count: usize) -> Result<Option<ReadFault>, ReadFault> {
+    let module = read_module(alloc, text)?;
+    let mut draft = draft_of(alloc, module)?;
     let kept = draft.definitions.len().saturating_sub(count);
     draft.definitions.truncate(kept);
     Ok(closed_module(alloc, draft).err())

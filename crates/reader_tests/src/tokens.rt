@@ -1,50 +1,67 @@
 // The tokens of texts, each with its place, and the faults.
 use core_tokens::{Lexeme, ReadFault, Token, tokens};
-use std::alloc::Global;
+use std::alloc::{AllocError, Global};
 use std::fmt::Write;
-use std::process::Abort;
 use std::test::Fail;
-use term_core::Atom;
+use test_support::same;
+
+// The characters of a variable.
+fn put_variable(out: &mut String, name: &[u8]) -> Result<(), AllocError> {
+    for c in name {
+        out.push(char::from(*c))?;
+    }
+    out.push(' ')
+}
+
+// The codes of the characters of a string.
+fn put_string(out: &mut String, characters: &[char]) -> Result<(), AllocError> {
+    out.push('"')?;
+    for c in characters {
+        write!(out, "{},", u32::from(*c))?;
+    }
+    out.push_str("\" ")
+}
 
 // What stands in a token, a string as the codes of its characters.
-fn put(out: &mut String, token: &Token) -> Result<(), Fail> {
+fn put_lexeme(out: &mut String, lexeme: &Lexeme) -> Result<(), AllocError> {
+    match lexeme {
+        Lexeme::Word(keyword) => write!(out, "{keyword:?} "),
+        Lexeme::Mark(mark) => write!(out, "{mark:?} "),
+        Lexeme::Atom(atom) => write!(out, "'{}' ", atom.as_str()),
+        Lexeme::Variable(name) => put_variable(out, name),
+        Lexeme::Integer(number) => write!(out, "{number} "),
+        Lexeme::Float => out.push_str("float "),
+        Lexeme::Character(c) => write!(out, "${} ", u32::from(*c)),
+        Lexeme::Text(characters) => put_string(out, characters),
+    }
+}
+
+// The place of a token, and what stands in it.
+fn put(out: &mut String, token: &Token) -> Result<(), AllocError> {
     let at = token.at;
     write!(out, "{at}:")?;
-    match &token.lexeme {
-        Lexeme::Word(keyword) => write!(out, "{keyword:?} ")?,
-        Lexeme::Mark(mark) => write!(out, "{mark:?} ")?,
-        Lexeme::Atom(atom) => write!(out, "'{}' ", atom.as_str())?,
-        Lexeme::Variable(name) => {
-            for c in name {
-                out.push(char::from(*c))?;
-            }
-            out.push(' ')?;
-        }
-        Lexeme::Integer(number) => write!(out, "{number} ")?,
-        Lexeme::Float => write!(out, "float ")?,
-        Lexeme::Character(c) => write!(out, "${} ", u32::from(*c))?,
-        Lexeme::Text(characters) => {
-            out.push('"')?;
-            for c in characters {
-                write!(out, "{},", u32::from(*c))?;
-            }
-            out.push_str("\" ")?;
-        }
+    put_lexeme(out, &token.lexeme)
+}
+
+fn put_all(out: &mut String, found: &[Token]) -> Result<(), AllocError> {
+    for token in found {
+        put(out, token)?;
     }
     Ok(())
 }
 
 // The tokens of a text, or its fault.
-fn shown(alloc: Global, text: &[u8]) -> Result<String, Fail> {
-    let mut out = String::new(alloc);
-    match tokens(alloc, text) {
-        Ok(found) => {
-            for token in &found {
-                put(&mut out, token)?;
-            }
-        }
-        Err(fault) => write!(out, "{fault}")?,
+fn put_answer(out: &mut String, answer: &Result<Vec<Token>, ReadFault>) -> Result<(), AllocError> {
+    match answer {
+        Ok(found) => put_all(out, found),
+        Err(fault) => write!(out, "{fault}"),
     }
+}
+
+// The tokens of a text, or its fault.
+fn shown(alloc: Global, text: &[u8]) -> Result<String, AllocError> {
+    let mut out = String::new(alloc);
+    put_answer(&mut out, &tokens(alloc, text))?;
     Ok(out)
 }
 
@@ -188,22 +205,27 @@ const QUOTES: [(&str, &str); 25] = [
     ("\u{a0}", "1 BadToken at 0"),
 ];
 
-fn expect_all(rt: &impl Abort, alloc: Global, cases: &[(&str, &str)]) -> Result<(), Fail> {
-    for (text, want) in cases {
-        let found = shown(alloc, text.as_bytes())?;
-        assert_eq!(rt; found.as_str(), *want, "{text}");
+// Tells whether a text has these tokens, or this fault.
+fn expect(alloc: Global, text: &str, want: &str) -> Result<(), Fail> {
+    let found = shown(alloc, text.as_bytes())?;
+    same(found.as_bytes(), want.as_bytes())
+}
+
+fn expect_all(alloc: Global, cases: &[(&str, &str)]) -> Result<(), Fail> {
+    for case in cases {
+        expect(alloc, case.0, case.1)?;
     }
     Ok(())
 }
 
+const TEXTS: [&[(&str, &str)]; 5] = [&WORDS, &NUMBERS, &RANGES, &NAMES, &QUOTES];
+
 #[test]
 fn reads_tokens(rt: HostRuntime) -> Result<(), Fail> {
-    let alloc = rt.alloc();
-    expect_all(&rt, alloc, &WORDS)?;
-    expect_all(&rt, alloc, &NUMBERS)?;
-    expect_all(&rt, alloc, &RANGES)?;
-    expect_all(&rt, alloc, &NAMES)?;
-    expect_all(&rt, alloc, &QUOTES)
+    for cases in TEXTS {
+        expect_all(rt.alloc(), cases)?;
+    }
+    Ok(())
 }
 
 // The faults, and their texts.
@@ -242,7 +264,7 @@ fn writes_faults(rt: HostRuntime) -> Result<(), Fail> {
 }
 
 // A byte so many times over.
-fn repeated(alloc: Global, byte: u8, count: usize) -> Result<Vec<u8>, Fail> {
+fn repeated(alloc: Global, byte: u8, count: usize) -> Result<Vec<u8>, AllocError> {
     let mut bytes = Vec::new(alloc);
     for _ in 0..count {
         bytes.push(byte)?;
@@ -250,24 +272,28 @@ fn repeated(alloc: Global, byte: u8, count: usize) -> Result<Vec<u8>, Fail> {
     Ok(bytes)
 }
 
+// A string of a million characters that is not closed.
+fn open_string(alloc: Global) -> Result<Vec<u8>, AllocError> {
+    let mut text = repeated(alloc, b'"', 1)?;
+    let characters = repeated(alloc, b'a', 1_000_000)?;
+    text.extend_from_slice(&characters)?;
+    Ok(text)
+}
+
+// How many tokens a text has.
+fn count(alloc: Global, text: &[u8]) -> Result<usize, ReadFault> {
+    let found = tokens(alloc, text)?;
+    Ok(found.len())
+}
+
 #[test]
 fn long_texts(rt: HostRuntime) -> Result<(), Fail> {
     let alloc = rt.alloc();
     let marks = repeated(alloc, b',', 1_000_000)?;
-    let Ok(found) = tokens(alloc, &marks) else {
-        return Err("a million marks are tokens".into());
-    };
-    assert_eq!(rt; found.len(), 1_000_000);
-    let mut text = repeated(alloc, b'"', 1)?;
-    text.extend_from_slice(&repeated(alloc, b'a', 1_000_000)?)?;
-    let Err(fault) = tokens(alloc, &text) else {
-        return Err("a string that is open is no token".into());
-    };
-    assert_eq!(rt; fault, ReadFault::BadToken(0));
+    assert_eq!(rt; count(alloc, &marks)?, 1_000_000);
+    let mut text = open_string(alloc)?;
+    assert_eq!(rt; count(alloc, &text).err(), Some(ReadFault::BadToken(0)));
     text.push(b'"')?;
-    let Ok(found) = tokens(alloc, &text) else {
-        return Err("a long string is a token".into());
-    };
-    assert_eq!(rt; found.len(), 1);
+    assert_eq!(rt; count(alloc, &text)?, 1);
     Ok(())
 }

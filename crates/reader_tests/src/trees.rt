@@ -1,13 +1,13 @@
 // Names of calls, and modules that are the same or are not.
-use core_reader::read_module;
+use core_reader::{ReadFault, read_module};
 use core_tree::{
     Call, CallKind, Callee, Case, Clauses, Definition, Expr, Exprs, FunctionName, Module,
     NamedFunction, PURE_CALLS, PureCall, Variable,
 };
-use std::alloc::Global;
-use std::process::Abort;
+use std::alloc::{AllocError, Global};
 use std::test::Fail;
 use term_core::Atom;
+use test_support::holds;
 
 // Calls with their names and numbers of arguments.
 const CALL_NAMES: [(CallKind, &str, &str, usize); 7] = [
@@ -167,50 +167,102 @@ const WHOLE: [&str; 6] = [
 const FUNCTIONS: &str =
     " 'main'/0 = fun () -> 1 'f'/1 = fun (A) -> 1 'f'/2 = fun (A,B) -> 1 'g'/1 = fun (A) -> 1 'h'/2 = fun (A,B) -> ";
 
-// A module whose tokens stand so many blanks further on; its parts are a front, and an expression between two
-// texts.
-fn module_of(
+// The text of a module whose tokens stand so many blanks further on; its parts are a front, and an expression
+// between two texts.
+fn text_of(
     alloc: Global,
     shift: &str,
     front: &str,
     before: &str,
     expression: &str,
     after: &str,
-) -> Result<Module, Fail> {
-    let text = format!(in alloc;
-        "{shift}module 'm' {front}{FUNCTIONS}{before}{expression}{after} end"
-    )?;
-    Ok(read_module(alloc, text.as_bytes())?)
+) -> Result<String, AllocError> {
+    format!(in alloc; "{shift}module 'm' {front}{FUNCTIONS}{before}{expression}{after} end")
+}
+
+// Reads one more module.
+fn push_module(alloc: Global, all: &mut Vec<Module>, text: &str) -> Result<(), ReadFault> {
+    let module = read_module(alloc, text.as_bytes())?;
+    all.push(module)?;
+    Ok(())
+}
+
+const NO_FRONT: &str = "[] attributes []";
+
+// The modules with the expressions above.
+fn push_expressions(alloc: Global, all: &mut Vec<Module>, shift: &str) -> Result<(), ReadFault> {
+    for expression in EXPRESSIONS {
+        let text = text_of(alloc, shift, NO_FRONT, "", expression, "")?;
+        push_module(alloc, all, text.as_str())?;
+    }
+    Ok(())
+}
+
+// The modules with the patterns above.
+fn push_patterns(alloc: Global, all: &mut Vec<Module>, shift: &str) -> Result<(), ReadFault> {
+    for pattern in PATTERNS {
+        let after = "> when 1 -> 1 end";
+        let text = text_of(alloc, shift, NO_FRONT, "case 1 of <7,", pattern, after)?;
+        push_module(alloc, all, text.as_str())?;
+    }
+    Ok(())
+}
+
+// The modules with the fronts above.
+fn push_fronts(alloc: Global, all: &mut Vec<Module>, shift: &str) -> Result<(), ReadFault> {
+    for front in FRONTS {
+        let text = text_of(alloc, shift, front, "", "0", "")?;
+        push_module(alloc, all, text.as_str())?;
+    }
+    Ok(())
+}
+
+// The whole modules above.
+fn push_whole(alloc: Global, all: &mut Vec<Module>, shift: &str) -> Result<(), ReadFault> {
+    for whole in WHOLE {
+        let text = format!(in alloc; "{shift}{whole}")?;
+        push_module(alloc, all, text.as_str())?;
+    }
+    Ok(())
+}
+
+// The modules with the expressions and with the patterns.
+fn push_bodies(alloc: Global, all: &mut Vec<Module>, shift: &str) -> Result<(), ReadFault> {
+    push_expressions(alloc, all, shift)?;
+    push_patterns(alloc, all, shift)
 }
 
 // All modules of the texts above.
-fn modules(alloc: Global, shift: &str) -> Result<Vec<Module>, Fail> {
+fn push_all(alloc: Global, all: &mut Vec<Module>, shift: &str) -> Result<(), ReadFault> {
+    push_bodies(alloc, all, shift)?;
+    push_fronts(alloc, all, shift)?;
+    push_whole(alloc, all, shift)
+}
+
+fn modules(alloc: Global, shift: &str) -> Result<Vec<Module>, ReadFault> {
     let mut all = Vec::new(alloc);
-    let no_front = "[] attributes []";
-    for expression in EXPRESSIONS {
-        all.push(module_of(alloc, shift, no_front, "", expression, "")?)?;
-    }
-    for pattern in PATTERNS {
-        let after = "> when 1 -> 1 end";
-        all.push(module_of(alloc, shift, no_front, "case 1 of <7,", pattern, after)?)?;
-    }
-    for front in FRONTS {
-        all.push(module_of(alloc, shift, front, "", "0", "")?)?;
-    }
-    for whole in WHOLE {
-        let text = format!(in alloc; "{shift}{whole}")?;
-        all.push(read_module(alloc, text.as_bytes())?)?;
-    }
+    push_all(alloc, &mut all, shift)?;
     Ok(all)
 }
 
-// Asserts that two modules are the same where they stand at one place of the two rows, and not else.
-fn are_apart(rt: &impl Abort, here: &[Module], there: &[Module]) {
-    for (i, one) in here.iter().enumerate() {
-        for (j, other) in there.iter().enumerate() {
-            assert_eq!(rt; *one == *other, i == j, "modules {i} and {j}");
-        }
+// Tells whether a module is the same as the one at this place of a row, and as no other of it.
+fn is_apart(one: &Module, there: &[Module], i: usize) -> Result<(), Fail> {
+    for (j, other) in there.iter().enumerate() {
+        let is_same = *one == *other;
+        holds(
+            is_same == (i == j),
+            "modules are the same at one place of the rows, and not else",
+        )?;
     }
+    Ok(())
+}
+
+// Tells whether two modules are the same where they stand at one place of the two rows, and not else.
+fn are_apart(here: &[Module], there: &[Module]) -> Result<(), Fail> {
+    for (i, one) in here.iter().enumerate() {
+        is_apart(one, there, i)?;
+    }
+    Ok(())
 }
 
 #[test]
@@ -218,83 +270,90 @@ fn compares_modules_but_for_places(rt: HostRuntime) -> Result<(), Fail> {
     let here = modules(rt.alloc(), "")?;
     let there = modules(rt.alloc(), "     ")?;
     assert_eq!(rt; here.len(), 104);
-    are_apart(&rt, &here, &there);
-    Ok(())
+    are_apart(&here, &there)
 }
 
 // What is compared below differs in one part alone, as no two texts do.
 
-fn atom(alloc: Global, text: &str) -> Result<Atom, Fail> {
-    Ok(Atom::new(alloc, text)?)
-}
-
-fn function(alloc: Global, name: &str, arity: u8) -> Result<FunctionName, Fail> {
-    let name = atom(alloc, name)?;
+fn function(alloc: Global, name: &str, arity: u8) -> Result<FunctionName, AllocError> {
+    let name = Atom::new(alloc, name)?;
     Ok(FunctionName { name, arity })
 }
 
-fn named(alloc: Global, at: usize, name: &str, arity: u8) -> Result<NamedFunction, Fail> {
+fn exported(alloc: Global, name: &str, arity: u8) -> Result<Callee, AllocError> {
     let function = function(alloc, name, arity)?;
-    Ok(NamedFunction { at, function })
+    Ok(Callee::Exported(function))
 }
 
-fn callee(alloc: Global, at: usize, i: usize) -> Result<Callee, Fail> {
-    Ok(match i {
-        0 => Callee::World(CallKind::Insert),
-        1 => Callee::World(CallKind::Lookup),
-        2 => Callee::Pure(PureCall::Add),
-        3 => Callee::Pure(PureCall::Subtract),
-        4 => Callee::Exported(function(alloc, "f", 1)?),
-        5 => Callee::Exported(function(alloc, "f", 2)?),
-        6 => Callee::Exported(function(alloc, "g", 1)?),
-        7 => Callee::Defined(named(alloc, at, "f", 1)?),
-        8 => Callee::Defined(named(alloc, at, "f", 2)?),
-        9 => Callee::Defined(named(alloc, at, "g", 1)?),
-        10 => Callee::MatchFail,
-        _ => Callee::Raise,
-    })
+fn defined(alloc: Global, at: usize, name: &str, arity: u8) -> Result<Callee, AllocError> {
+    let function = function(alloc, name, arity)?;
+    Ok(Callee::Defined(NamedFunction { at, function }))
+}
+
+fn callee(alloc: Global, at: usize, i: usize) -> Result<Callee, AllocError> {
+    match i {
+        0 => Ok(Callee::World(CallKind::Insert)),
+        1 => Ok(Callee::World(CallKind::Lookup)),
+        2 => Ok(Callee::Pure(PureCall::Add)),
+        3 => Ok(Callee::Pure(PureCall::Subtract)),
+        4 => exported(alloc, "f", 1),
+        5 => exported(alloc, "f", 2),
+        6 => exported(alloc, "g", 1),
+        7 => defined(alloc, at, "f", 1),
+        8 => defined(alloc, at, "f", 2),
+        9 => defined(alloc, at, "g", 1),
+        10 => Ok(Callee::MatchFail),
+        _ => Ok(Callee::Raise),
+    }
+}
+
+// A call with no argument.
+fn call(alloc: Global, at: usize, i: usize) -> Result<Expr, AllocError> {
+    let callee = callee(alloc, at, i)?;
+    Ok(Expr::Call(Call {
+        at,
+        callee,
+        arguments: Exprs(Vec::new(alloc)),
+    }))
+}
+
+// A `case` with no clause.
+fn case(alloc: Global, at: usize) -> Result<Expr, AllocError> {
+    let case = Case {
+        at,
+        value: Expr::Integer(1),
+        clauses: Clauses(Vec::new(alloc)),
+    };
+    Ok(Expr::Case(Box::new(alloc, case)?))
 }
 
 /// A call of each callee, a `case` with no clause, and an integer.
-fn body(alloc: Global, at: usize, i: usize) -> Result<Expr, Fail> {
+fn body(alloc: Global, at: usize, i: usize) -> Result<Expr, AllocError> {
     match i {
-        0..=11 => Ok(Expr::Call(Call {
-            at,
-            callee: callee(alloc, at, i)?,
-            arguments: Exprs(Vec::new(alloc)),
-        })),
-        12 => Ok(Expr::Case(Box::new(
-            alloc,
-            Case {
-                at,
-                value: Expr::Integer(1),
-                clauses: Clauses(Vec::new(alloc)),
-            },
-        )?)),
+        0..=11 => call(alloc, at, i),
+        12 => case(alloc, at),
         _ => Ok(Expr::Integer(1)),
     }
 }
 
-/// A module of no text: a definition is added to one that was read.
-fn with_definition(
+// One parameter.
+fn parameters(alloc: Global, at: usize, name: &str) -> Result<Vec<Variable>, AllocError> {
+    let name = Vec::from_slice(alloc, name.as_bytes())?;
+    Ok(vec![in alloc; Variable { at, name }]?)
+}
+
+fn definition(
     alloc: Global,
     at: usize,
-    name: &str,
-    arity: u8,
     parameter: &str,
     body: Expr,
-) -> Result<Module, Fail> {
-    let mut module = read_module(alloc, WHOLE[0].as_bytes())?;
-    let function = function(alloc, name, arity)?;
-    let name = Vec::from_slice(alloc, parameter.as_bytes())?;
-    let parameters = vec![in alloc; Variable { at, name }]?;
-    let definition = Definition {
+) -> Result<Definition, AllocError> {
+    let parameters = parameters(alloc, at, parameter)?;
+    Ok(Definition {
         at,
         parameters,
         body,
-    };
-    module.definitions.insert(function, definition)?;
-    Ok(module)
+    })
 }
 
 // Functions by their names, their numbers of arguments, a parameter and a body.
@@ -318,12 +377,37 @@ const DEFINED: [(&str, u8, &str, usize); 17] = [
     ("f", 1, "B", 13),
 ];
 
+// A function, with this place at all that has one.
+fn define(
+    alloc: Global,
+    module: &mut Module,
+    at: usize,
+    row: &(&str, u8, &str, usize),
+) -> Result<(), AllocError> {
+    let function = function(alloc, row.0, row.1)?;
+    let body = body(alloc, at, row.3)?;
+    let definition = definition(alloc, at, row.2, body)?;
+    module.definitions.insert(function, definition)?;
+    Ok(())
+}
+
+/// A module of no text: a definition is added to one that was read.
+fn with_definition(
+    alloc: Global,
+    at: usize,
+    row: &(&str, u8, &str, usize),
+) -> Result<Module, ReadFault> {
+    let mut module = read_module(alloc, WHOLE[0].as_bytes())?;
+    define(alloc, &mut module, at, row)?;
+    Ok(module)
+}
+
 // All of them in modules, with this place at all that has one.
-fn modules_of_no_text(alloc: Global, at: usize) -> Result<Vec<Module>, Fail> {
+fn modules_of_no_text(alloc: Global, at: usize) -> Result<Vec<Module>, ReadFault> {
     let mut all = Vec::new(alloc);
-    for (name, arity, parameter, i) in DEFINED {
-        let body = body(alloc, at, i)?;
-        all.push(with_definition(alloc, at, name, arity, parameter, body)?)?;
+    for row in &DEFINED {
+        let module = with_definition(alloc, at, row)?;
+        all.push(module)?;
     }
     Ok(all)
 }
@@ -332,6 +416,5 @@ fn modules_of_no_text(alloc: Global, at: usize) -> Result<Vec<Module>, Fail> {
 fn compares_what_no_text_says(rt: HostRuntime) -> Result<(), Fail> {
     let here = modules_of_no_text(rt.alloc(), 0)?;
     let there = modules_of_no_text(rt.alloc(), 5)?;
-    are_apart(&rt, &here, &there);
-    Ok(())
+    are_apart(&here, &there)
 }

@@ -131,7 +131,7 @@ const OBJECTS_ARE_FOUND: [&[Line]; 4] = [
 #[test]
 fn objects_are_found(rt: HostRuntime) -> Result<(), Fail> {
     for lines in OBJECTS_ARE_FOUND {
-        happen(&rt, rt.alloc(), lines)?;
+        happen(rt.alloc(), lines)?;
     }
     Ok(())
 }
@@ -283,7 +283,7 @@ const OBJECTS_ARE_PUT_IN: [&[Line]; 6] = [
 #[test]
 fn objects_are_put_in(rt: HostRuntime) -> Result<(), Fail> {
     for lines in OBJECTS_ARE_PUT_IN {
-        happen(&rt, rt.alloc(), lines)?;
+        happen(rt.alloc(), lines)?;
     }
     Ok(())
 }
@@ -459,7 +459,7 @@ const OBJECTS_ARE_TAKEN_OUT: [&[Line]; 7] = [
 #[test]
 fn objects_are_taken_out(rt: HostRuntime) -> Result<(), Fail> {
     for lines in OBJECTS_ARE_TAKEN_OUT {
-        happen(&rt, rt.alloc(), lines)?;
+        happen(rt.alloc(), lines)?;
     }
     Ok(())
 }
@@ -609,7 +609,7 @@ const ELEMENTS_ARE_UPDATED: [&[Line]; 4] = [
 #[test]
 fn elements_are_updated(rt: HostRuntime) -> Result<(), Fail> {
     for lines in ELEMENTS_ARE_UPDATED {
-        happen(&rt, rt.alloc(), lines)?;
+        happen(rt.alloc(), lines)?;
     }
     Ok(())
 }
@@ -705,7 +705,7 @@ const ITEMS_ARE_TOLD: [&[Line]; 5] = [
 #[test]
 fn items_are_told(rt: HostRuntime) -> Result<(), Fail> {
     for lines in ITEMS_ARE_TOLD {
-        happen(&rt, rt.alloc(), lines)?;
+        happen(rt.alloc(), lines)?;
     }
     Ok(())
 }

@@ -81,7 +81,7 @@ const OTHERS_ARE_REFUSED: [&[Line]; 7] = [
 #[test]
 fn others_are_refused(rt: HostRuntime) -> Result<(), Fail> {
     for lines in OTHERS_ARE_REFUSED {
-        happen(&rt, rt.alloc(), lines)?;
+        happen(rt.alloc(), lines)?;
     }
     Ok(())
 }
@@ -190,7 +190,7 @@ const TABLES_ARE_GIVEN_AWAY: [&[Line]; 6] = [
 #[test]
 fn tables_are_given_away(rt: HostRuntime) -> Result<(), Fail> {
     for lines in TABLES_ARE_GIVEN_AWAY {
-        happen(&rt, rt.alloc(), lines)?;
+        happen(rt.alloc(), lines)?;
     }
     Ok(())
 }
@@ -309,7 +309,7 @@ const TABLES_GO_TO_HEIRS: [&[Line]; 8] = [
 #[test]
 fn tables_go_to_heirs(rt: HostRuntime) -> Result<(), Fail> {
     for lines in TABLES_GO_TO_HEIRS {
-        happen(&rt, rt.alloc(), lines)?;
+        happen(rt.alloc(), lines)?;
     }
     Ok(())
 }

@@ -59,7 +59,7 @@ const OBJECTS_ARE_JUDGED: [&[Line]; 3] = [
 #[test]
 fn objects_are_judged(rt: HostRuntime) -> Result<(), Fail> {
     for lines in OBJECTS_ARE_JUDGED {
-        happen(&rt, rt.alloc(), lines)?;
+        happen(rt.alloc(), lines)?;
     }
     Ok(())
 }
@@ -231,7 +231,7 @@ const UPDATES_ARE_JUDGED: [&[Line]; 5] = [
 #[test]
 fn updates_are_judged(rt: HostRuntime) -> Result<(), Fail> {
     for lines in UPDATES_ARE_JUDGED {
-        happen(&rt, rt.alloc(), lines)?;
+        happen(rt.alloc(), lines)?;
     }
     Ok(())
 }
@@ -379,7 +379,7 @@ const OPTIONS_ARE_JUDGED: [&[Line]; 17] = [
 #[test]
 fn options_are_judged(rt: HostRuntime) -> Result<(), Fail> {
     for lines in OPTIONS_ARE_JUDGED {
-        happen(&rt, rt.alloc(), lines)?;
+        happen(rt.alloc(), lines)?;
     }
     Ok(())
 }
@@ -429,7 +429,7 @@ const TABLE_ARGUMENTS_ARE_JUDGED_FIRST: [&[Line]; 4] = [
 #[test]
 fn table_arguments_are_judged_first(rt: HostRuntime) -> Result<(), Fail> {
     for lines in TABLE_ARGUMENTS_ARE_JUDGED_FIRST {
-        happen(&rt, rt.alloc(), lines)?;
+        happen(rt.alloc(), lines)?;
     }
     Ok(())
 }

@@ -2,18 +2,19 @@
 ghost use Rattle.std.specs.Prelude.{◌≡◌, false};
 
 use core_eval::{Answer, Machine, Request, start};
-use core_reader::{Module, read_module};
+use core_reader::{Module, ReadFault, read_module};
 use core_tree::CallKind;
 use ets_calls::{TableArgument, TableCall, TableOption, TableRequest};
 use ets_rules::{Tables, Transfer};
 use std::alloc::{AllocError, Global};
 use std::collections::BTreeSet;
-use std::process::Abort;
+use std::fmt::Write;
 use std::test::Fail;
 use term_core::{
     Atom, Output, Pid, RefId, Term, Terms, WriteFault, write_all, write_number, write_pid,
     write_term,
 };
+use test_support::same;
 use world_model::rule::Rule;
 
 /// A line: the name that its answer gets, if any; the number of the process that calls, where 0 is the first; the
@@ -187,21 +188,53 @@ fn answer_of(outcome: Outcome) -> Term {
     }
 }
 
-// The body of `main/0`: a call for each line, which carries who calls, the name of the call and its arguments.
-fn body_of(alloc: Global, lines: &[Line]) -> Result<String, Fail> {
-    let mut body = String::new(alloc);
-    for (name, who, call, arguments, _want) in lines {
-        let carrier = format!(in alloc; "call 'ets':'insert'({{{who},'{call}'}},[{arguments}]) ")?;
-        if name.is_empty() {
-            body.push_str("do ")?;
-            body.push_str(carrier.as_str())?;
-        } else {
-            let bound = format!(in alloc; "let <{name}> = {carrier} in ")?;
-            body.push_str(bound.as_str())?;
-        }
+// What stands before the call of a line, where its answer gets this name or none.
+fn push_front(text: &mut String, name: &str) -> Result<(), AllocError> {
+    if name.is_empty() {
+        text.push_str("do ")
+    } else {
+        write!(text, "let <{name}> = ")
     }
-    body.push_str("'ok'")?;
-    Ok(body)
+}
+
+// What stands after it.
+fn push_back(text: &mut String, name: &str) -> Result<(), AllocError> {
+    if name.is_empty() {
+        text.push(' ')
+    } else {
+        text.push_str(" in ")
+    }
+}
+
+// A call that carries who calls, the name of the call and its arguments.
+fn push_carrier(
+    text: &mut String,
+    who: u64,
+    call: &str,
+    arguments: &str,
+) -> Result<(), AllocError> {
+    write!(
+        text,
+        "call 'ets':'insert'({{{who},'{call}'}},[{arguments}])"
+    )
+}
+
+// The line as a part of the body of `main/0`.
+fn push_line(text: &mut String, line: &Line) -> Result<(), AllocError> {
+    let (name, who, call, arguments, _want) = line;
+    push_front(text, name)?;
+    push_carrier(text, *who, call, arguments)?;
+    push_back(text, name)
+}
+
+// A module with the body of `main/0`: a call for each line.
+fn text_of_lines(alloc: Global, lines: &[Line]) -> Result<String, AllocError> {
+    let mut text = String::from_str(alloc, "module 'm' [] attributes [] 'main'/0 = fun () -> ")?;
+    for line in lines {
+        push_line(&mut text, line)?;
+    }
+    text.push_str("'ok' end")?;
+    Ok(text)
 }
 
 // The items of a list.
@@ -287,21 +320,33 @@ impl Scene {
     }
 }
 
-// Asserts what each line comes to, one after the other.
-fn lines_happen(
-    rt: &impl Abort,
+// Tells whether a call came to this.
+fn came_to(alloc: Global, outcome: &Outcome, want: &str) -> Result<(), Fail> {
+    let text = text_of(alloc, outcome)?;
+    same(text.as_slice(), want.as_bytes())
+}
+
+// Tells whether the call that a machine stands at comes to this, and goes on to the next.
+fn happens(
     alloc: Global,
+    scene: &mut Scene,
     machine: &mut Machine,
-    lines: &[Line],
+    request: u64,
+    want: &str,
 ) -> Result<(), Fail> {
+    let outcome = scene.asked(alloc, request, machine.request())?;
+    came_to(alloc, &outcome, want)?;
+    machine.resume(alloc, Answer::Value(answer_of(outcome)))?;
+    Ok(())
+}
+
+// Tells whether each line comes to what stands in it, one after the other.
+fn lines_happen(alloc: Global, machine: &mut Machine, lines: &[Line]) -> Result<(), Fail> {
     let mut scene = Scene::new(alloc)?;
     let mut request: u64 = 0;
-    for (_name, _who, call, _arguments, want) in lines {
+    for (_name, _who, _call, _arguments, want) in lines {
         request = request.saturating_add(1);
-        let outcome = scene.asked(alloc, request, machine.request())?;
-        let text = text_of(alloc, &outcome)?;
-        assert_eq!(rt; text.as_slice(), want.as_bytes(), "{request} {call}");
-        machine.resume(alloc, Answer::Value(answer_of(outcome)))?;
+        happens(alloc, &mut scene, machine, request, want)?;
     }
     Ok(())
 }
@@ -320,11 +365,21 @@ fn machine_of<'m>(alloc: Global, program: &'m Module) -> Result<Machine<'m>, All
     )
 }
 
-/// Asserts what each of these lines comes to, one after the other, with four processes and no table at first.
-pub(crate) fn happen(rt: &impl Abort, alloc: Global, lines: &[Line]) -> Result<(), Fail> {
-    let body = body_of(alloc, lines)?;
-    let text = format!(in alloc; "module 'm' [] attributes [] 'main'/0 = fun () -> {body} end")?;
-    let program = read_module(alloc, text.as_bytes())?;
-    let mut machine = machine_of(alloc, &program)?;
-    lines_happen(rt, alloc, &mut machine, lines)
+// The module of these lines.
+fn program_of(alloc: Global, lines: &[Line]) -> Result<Module, ReadFault> {
+    let text = text_of_lines(alloc, lines)?;
+    read_module(alloc, text.as_bytes())
+}
+
+// Tells whether each line comes to what stands in it, in a process of this module.
+fn lines_happen_in(alloc: Global, program: &Module, lines: &[Line]) -> Result<(), Fail> {
+    let mut machine = machine_of(alloc, program)?;
+    lines_happen(alloc, &mut machine, lines)
+}
+
+/// Tells whether each of these lines comes to what stands in it, one after the other, with four processes and no
+/// table at first.
+pub(crate) fn happen(alloc: Global, lines: &[Line]) -> Result<(), Fail> {
+    let program = program_of(alloc, lines)?;
+    lines_happen_in(alloc, &program, lines)
 }

@@ -176,7 +176,7 @@ const KEYS_ARE_WALKED: [&[Line]; 6] = [
 #[test]
 fn keys_are_walked(rt: HostRuntime) -> Result<(), Fail> {
     for lines in KEYS_ARE_WALKED {
-        happen(&rt, rt.alloc(), lines)?;
+        happen(rt.alloc(), lines)?;
     }
     Ok(())
 }

@@ -1,10 +1,9 @@
 // Long lists and deep terms: made, read, copied, compared, hashed, printed and dropped.
 use crate::term_order::differ;
 use std::alloc::{AllocError, Global};
-use std::process::Abort;
 use std::test::Fail;
 use term_core::{Term, Terms, list_onto, write_term};
-use test_support::MemorySink;
+use test_support::{MemorySink, holds};
 
 const MILLION: u64 = 1_000_000;
 
@@ -49,33 +48,37 @@ fn in_both(alloc: Global, core: Term) -> Result<Term, AllocError> {
     Ok(term)
 }
 
-// Asserts the size, that a copy is the same, and how many bytes are printed.
-fn walks(
-    rt: &impl Abort,
-    alloc: Global,
-    term: &Term,
-    nodes: u64,
-    bytes: usize,
-) -> Result<(), Fail> {
-    assert_eq!(rt; term.nodes(), nodes);
-    let copied = term.copy()?;
-    assert!(rt; copied == *term);
+// Tells whether so many bytes are printed.
+fn prints(alloc: Global, term: &Term, bytes: usize) -> Result<(), Fail> {
     let mut sink = MemorySink::with_room(alloc, bytes)?;
-    assert!(rt; write_term(&copied, &mut sink).is_ok());
-    assert_eq!(rt; sink.bytes.len(), bytes);
-    Ok(())
+    write_term(term, &mut sink)?;
+    holds(sink.bytes.len() == bytes, "so many bytes are printed")
+}
+
+// A copy, which is the same.
+fn copy_of(term: &Term) -> Result<Term, Fail> {
+    let copied = term.copy()?;
+    holds(copied == *term, "a copy is the same")?;
+    Ok(copied)
+}
+
+// Tells whether the term has this size, a copy is the same, and so many bytes are printed.
+fn walks(alloc: Global, term: &Term, nodes: u64, bytes: usize) -> Result<(), Fail> {
+    holds(term.nodes() == nodes, "a term has so many nodes")?;
+    let copied = copy_of(term)?;
+    prints(alloc, &copied, bytes)
 }
 
 #[test]
 fn walks_long_lists(rt: HostRuntime) -> Result<(), Fail> {
     let list = sevens(rt.alloc(), Term::Nil)?;
-    walks(&rt, rt.alloc(), &list, 2_000_001, 2_000_001)
+    walks(rt.alloc(), &list, 2_000_001, 2_000_001)
 }
 
 #[test]
 fn walks_deep_terms(rt: HostRuntime) -> Result<(), Fail> {
     let term = in_both(rt.alloc(), Term::Int(1))?;
-    walks(&rt, rt.alloc(), &term, 15_001, 20_001)
+    walks(rt.alloc(), &term, 15_001, 20_001)
 }
 
 // How many cells the list has before it ends, or more than a million.
@@ -124,14 +127,14 @@ fn copies_share_a_long_list(rt: HostRuntime) -> Result<(), Fail> {
     let kept = list.copy()?;
     copies(rt.alloc(), &list)?;
     drop(list);
-    walks(&rt, rt.alloc(), &kept, 2_000_001, 2_000_001)
+    walks(rt.alloc(), &kept, 2_000_001, 2_000_001)
 }
 
 #[test]
 fn a_long_list_is_compared_by_a_loop(rt: HostRuntime) -> Result<(), Fail> {
     let lesser = sevens(rt.alloc(), Term::Int(1))?;
     let greater = sevens(rt.alloc(), Term::Int(2))?;
-    differ(&rt, &lesser, &greater);
+    assert!(rt; differ(&lesser, &greater));
     Ok(())
 }
 
@@ -139,7 +142,7 @@ fn a_long_list_is_compared_by_a_loop(rt: HostRuntime) -> Result<(), Fail> {
 fn lists_nested_10000_deep_are_compared(rt: HostRuntime) -> Result<(), Fail> {
     let lesser = in_lists(rt.alloc(), DEPTH, Term::Int(1))?;
     let greater = in_lists(rt.alloc(), DEPTH, Term::Int(2))?;
-    differ(&rt, &lesser, &greater);
+    assert!(rt; differ(&lesser, &greater));
     Ok(())
 }
 
@@ -147,6 +150,6 @@ fn lists_nested_10000_deep_are_compared(rt: HostRuntime) -> Result<(), Fail> {
 fn tuples_nested_10000_deep_are_compared(rt: HostRuntime) -> Result<(), Fail> {
     let lesser = in_tuples(rt.alloc(), DEPTH, Term::Int(1))?;
     let greater = in_tuples(rt.alloc(), DEPTH, Term::Int(2))?;
-    differ(&rt, &lesser, &greater);
+    assert!(rt; differ(&lesser, &greater));
     Ok(())
 }

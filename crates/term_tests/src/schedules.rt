@@ -1,35 +1,37 @@
 // Texts that are schedules, and the first bad step of those that are none.
-use std::alloc::Global;
+use std::alloc::{AllocError, Global};
 use std::fmt::Write;
-use std::process::Abort;
 use std::test::Fail;
 use term_core::{Pid, ScheduleFault, Step, read_schedule, write_schedule, write_step};
-use test_support::{MemorySink, nested};
+use test_support::{MemorySink, holds, nested, same};
 
-// The numbers of a pid, each after a blank.
-fn describe(text: &mut String, pid: &Pid) -> Result<(), Fail> {
+// A word, and the numbers of a pid, each after a blank.
+fn describe(text: &mut String, word: &str, pid: &Pid) -> Result<(), AllocError> {
+    text.push_str(word)?;
     for number in pid.numbers() {
         write!(text, " {number}")?;
     }
     Ok(())
 }
 
+fn describe_delivery(text: &mut String, from: &Pid, to: &Pid) -> Result<(), AllocError> {
+    describe(text, "from", from)?;
+    describe(text, " to", to)
+}
+
+// A step in other words.
+fn describe_step(text: &mut String, step: &Step) -> Result<(), AllocError> {
+    match step {
+        Step::Turn(pid) => describe(text, "turn", pid),
+        Step::Deliver(from, to) => describe_delivery(text, from, to),
+    }
+}
+
 // The steps in other words.
-fn described(alloc: Global, steps: &[Step]) -> Result<String, Fail> {
+fn described(alloc: Global, steps: &[Step]) -> Result<String, AllocError> {
     let mut text = String::new(alloc);
     for step in steps {
-        match step {
-            Step::Turn(pid) => {
-                text.push_str("turn")?;
-                describe(&mut text, pid)?;
-            }
-            Step::Deliver(from, to) => {
-                text.push_str("from")?;
-                describe(&mut text, from)?;
-                text.push_str(" to")?;
-                describe(&mut text, to)?;
-            }
-        }
+        describe_step(&mut text, step)?;
         text.push(';')?;
     }
     Ok(text)
@@ -58,31 +60,34 @@ fn reads_schedules(rt: HostRuntime) -> Result<(), Fail> {
     Ok(())
 }
 
-// Asserts that the schedule is written so, and no byte more.
-fn writes(rt: &impl Abort, alloc: Global, steps: &[Step], text: &[u8]) -> Result<(), Fail> {
+// Tells whether the schedule is written so, and no byte more.
+fn writes(alloc: Global, steps: &[Step], text: &[u8]) -> Result<(), Fail> {
     let mut sink = MemorySink::with_room(alloc, text.len())?;
-    assert!(rt; write_schedule(steps, &mut sink).is_ok());
-    assert_eq!(rt; sink.bytes.as_slice(), text);
-    Ok(())
+    write_schedule(steps, &mut sink)?;
+    same(sink.bytes.as_slice(), text)
 }
 
 #[test]
 fn writes_schedules(rt: HostRuntime) -> Result<(), Fail> {
     for (text, _) in SCHEDULES {
         let steps = read_schedule(rt.alloc(), text)?;
-        writes(&rt, rt.alloc(), &steps, text)?;
+        writes(rt.alloc(), &steps, text)?;
     }
     Ok(())
 }
 
-// Asserts that the copy of the step is the same, and is written so.
-fn copies(rt: &impl Abort, alloc: Global, step: &Step, text: &[u8]) -> Result<(), Fail> {
-    let copied = step.copy()?;
-    assert!(rt; copied == *step);
+// Tells whether the step is written so.
+fn writes_step(alloc: Global, step: &Step, text: &[u8]) -> Result<(), Fail> {
     let mut sink = MemorySink::with_room(alloc, 100)?;
-    assert!(rt; write_step(&copied, &mut sink).is_ok());
-    assert_eq!(rt; sink.bytes.as_slice(), text);
-    Ok(())
+    write_step(step, &mut sink)?;
+    same(sink.bytes.as_slice(), text)
+}
+
+// Tells whether the copy of the step is the same, and is written so.
+fn copies(alloc: Global, step: &Step, text: &[u8]) -> Result<(), Fail> {
+    let copied = step.copy()?;
+    holds(copied == *step, "a copy is the same")?;
+    writes_step(alloc, &copied, text)
 }
 
 // Schedules of one step.
@@ -93,7 +98,7 @@ fn copies_and_writes_steps(rt: HostRuntime) -> Result<(), Fail> {
     for text in STEPS {
         let steps = read_schedule(rt.alloc(), text)?;
         let step = steps.first().ok_or("a schedule has a step")?;
-        copies(&rt, rt.alloc(), step, text)?;
+        copies(rt.alloc(), step, text)?;
     }
     Ok(())
 }
@@ -103,7 +108,7 @@ fn reads_a_schedule_of_100000_steps(rt: HostRuntime) -> Result<(), Fail> {
     let text = nested(rt.alloc(), "", "P.7 ", 99_999, "P", "")?;
     let steps = read_schedule(rt.alloc(), text.as_bytes())?;
     assert_eq!(rt; steps.len(), 100_000);
-    writes(&rt, rt.alloc(), &steps, text.as_bytes())
+    writes(rt.alloc(), &steps, text.as_bytes())
 }
 
 // Texts of no schedule, and the place of the first bad step.

@@ -3,14 +3,13 @@ use crate::term_words::Word::{Int, List, Onto, Tuple};
 use crate::term_words::{Word, all_of, term, terms};
 use crate::terms::prints;
 use std::alloc::{AllocError, Global};
-use std::process::Abort;
 use std::sync::Arc;
 use std::test::Fail;
 use term_core::{Pair, Term, Terms, list_onto};
 
-// Asserts that the term is printed so, and drops it.
-fn prints_at_last(rt: &impl Abort, alloc: Global, term: Term, text: &[u8]) -> Result<(), Fail> {
-    prints(rt, alloc, &term, text)
+// Tells whether the term is printed so, and drops it.
+fn prints_at_last(alloc: Global, term: Term, text: &[u8]) -> Result<(), Fail> {
+    prints(alloc, &term, text)
 }
 
 // A list of this head and a copy of this tail.
@@ -20,14 +19,19 @@ fn before(alloc: Global, head: i64, tail: &Term) -> Result<Term, AllocError> {
 
 const SEVENS: [Word; 3] = [Int(7), Int(7), List(2)];
 
+// Lists of 1 and of 2 with one tail, which is dropped.
+fn two_lists(alloc: Global) -> Result<(Term, Term), AllocError> {
+    let tail = term(alloc, &SEVENS)?;
+    let one = before(alloc, 1, &tail)?;
+    let two = before(alloc, 2, &tail)?;
+    Ok((one, two))
+}
+
 #[test]
 fn a_tail_outlives_the_list_before_it(rt: HostRuntime) -> Result<(), Fail> {
-    let tail = term(rt.alloc(), &SEVENS)?;
-    let one = before(rt.alloc(), 1, &tail)?;
-    let two = before(rt.alloc(), 2, &tail)?;
-    drop(tail);
-    prints_at_last(&rt, rt.alloc(), one, b"[1,7,7]")?;
-    prints_at_last(&rt, rt.alloc(), two, b"[2,7,7]")
+    let (one, two) = two_lists(rt.alloc())?;
+    prints_at_last(rt.alloc(), one, b"[1,7,7]")?;
+    prints_at_last(rt.alloc(), two, b"[2,7,7]")
 }
 
 const PAIR: [Word; 3] = [Int(1), List(0), Tuple(2)];
@@ -38,13 +42,18 @@ fn twice(alloc: Global, term: &Term) -> Result<Term, AllocError> {
     Term::cell(alloc, head, term.copy()?)
 }
 
+// A cell of two copies of a tuple, which is dropped.
+fn cell_of_tuples(alloc: Global) -> Result<Term, AllocError> {
+    let tuple = term(alloc, &PAIR)?;
+    twice(alloc, &tuple)
+}
+
 #[test]
 fn a_tuple_outlives_its_copy(rt: HostRuntime) -> Result<(), Fail> {
-    let tuple = term(rt.alloc(), &PAIR)?;
-    let list = twice(rt.alloc(), &tuple)?;
-    drop(tuple);
-    prints_at_last(&rt, rt.alloc(), list.copy()?, b"[{1,[]}|{1,[]}]")?;
-    prints_at_last(&rt, rt.alloc(), list, b"[{1,[]}|{1,[]}]")
+    let list = cell_of_tuples(rt.alloc())?;
+    let copied = list.copy()?;
+    prints_at_last(rt.alloc(), copied, b"[{1,[]}|{1,[]}]")?;
+    prints_at_last(rt.alloc(), list, b"[{1,[]}|{1,[]}]")
 }
 
 // A list of copies of these terms, the last in the place of its end.

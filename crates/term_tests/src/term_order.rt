@@ -4,9 +4,8 @@ use crate::term_words::{Word, all_of, terms};
 use std::alloc::{AllocError, Global};
 use std::cmp::Ordering;
 use std::hash::{DefaultHasher, Hash, Hasher};
-use std::process::Abort;
 use std::test::Fail;
-use term_core::{Pair, Step, Term, Terms, compare_schedules, read_schedule};
+use term_core::{Pair, ScheduleFault, Step, Term, Terms, compare_schedules, read_schedule};
 
 /// Terms in ascending order.
 const ASCENDING: [Word; 42] = [
@@ -64,22 +63,34 @@ fn hash_of<T: Hash>(value: &T) -> u64 {
     state.finish()
 }
 
-/// Asserts the order of two values, and that `==`, `<` and the hash are those of it.
-fn compares<T: Ord + Hash>(rt: &impl Abort, a: &T, b: &T, want: Ordering) {
-    assert_eq!(rt; a.cmp(b), want);
-    assert_eq!(rt; *a == *b, want == Ordering::Equal);
-    assert_eq!(rt; *a < *b, want == Ordering::Less);
-    assert_eq!(rt; hash_of(a) == hash_of(b), want == Ordering::Equal);
+/// Whether two values have this order, and `==`, `<` and the hash are those of it.
+fn compares<T: Ord + Hash>(a: &T, b: &T, want: Ordering) -> bool {
+    let is_equal = want == Ordering::Equal;
+    a.cmp(b) == want
+        && (*a == *b) == is_equal
+        && (*a < *b) == (want == Ordering::Less)
+        && (hash_of(a) == hash_of(b)) == is_equal
 }
 
-/// Asserts that the order of the values is that of their places, where the two slices hold the same values
-/// in ascending order.
-fn check_ascending<T: Ord + Hash>(rt: &impl Abort, one: &[T], two: &[T]) {
-    for (i, a) in one.iter().enumerate() {
-        for (j, b) in two.iter().enumerate() {
-            compares(rt, a, b, i.cmp(&j));
+/// Whether the order of this value and of each in a slice is that of its place and theirs.
+fn has_its_place<T: Ord + Hash>(a: &T, i: usize, values: &[T]) -> bool {
+    for (j, b) in values.iter().enumerate() {
+        if !compares(a, b, i.cmp(&j)) {
+            return false;
         }
     }
+    true
+}
+
+/// Whether the order of the values is that of their places, where the two slices hold the same values in
+/// ascending order.
+fn are_ascending<T: Ord + Hash>(one: &[T], two: &[T]) -> bool {
+    for (i, a) in one.iter().enumerate() {
+        if !has_its_place(a, i, two) {
+            return false;
+        }
+    }
+    true
 }
 
 #[test]
@@ -87,7 +98,7 @@ fn terms_stand_in_the_written_order(rt: HostRuntime) -> Result<(), Fail> {
     let one = all_of(rt.alloc(), &ASCENDING)?;
     let two = all_of(rt.alloc(), &ASCENDING)?;
     assert_eq!(rt; one.len(), 30);
-    check_ascending(&rt, &one, &two);
+    assert!(rt; are_ascending(&one, &two));
     Ok(())
 }
 
@@ -112,7 +123,7 @@ fn parts(alloc: Global) -> Result<Vec<Terms>, AllocError> {
 #[test]
 fn lists_of_terms_go_item_by_item(rt: HostRuntime) -> Result<(), Fail> {
     let lists = parts(rt.alloc())?;
-    check_ascending(&rt, &lists, &lists);
+    assert!(rt; are_ascending(&lists, &lists));
     Ok(())
 }
 
@@ -130,7 +141,7 @@ fn cells(alloc: Global) -> Result<Vec<Pair>, AllocError> {
 #[test]
 fn cells_go_by_head_and_then_by_tail(rt: HostRuntime) -> Result<(), Fail> {
     let pairs = cells(rt.alloc())?;
-    check_ascending(&rt, &pairs, &pairs);
+    assert!(rt; are_ascending(&pairs, &pairs));
     Ok(())
 }
 
@@ -142,7 +153,7 @@ fn turns_come_before_deliveries(rt: HostRuntime) -> Result<(), Fail> {
     let one = read_schedule(rt.alloc(), STEPS)?;
     let two = read_schedule(rt.alloc(), STEPS)?;
     assert_eq!(rt; one.len(), 8);
-    check_ascending(&rt, &one, &two);
+    assert!(rt; are_ascending(&one, &two));
     Ok(())
 }
 
@@ -151,27 +162,29 @@ const SCHEDULES: [&[u8]; 9] = [
     b"", b"P", b"P.9", b"P>P.1", b"P P", b"P P.9", b"P P>P.1", b"P.9 P", b"P P P",
 ];
 
-// Asserts the order of this schedule, which stands at this place of the table, and of each in the table.
-fn is_ordered(rt: &impl Abort, alloc: Global, schedule: &[Step], i: usize) -> Result<(), Fail> {
+// Whether this schedule, which stands at this place of the table, has the order of its place to each in the table.
+fn is_ordered(alloc: Global, schedule: &[Step], i: usize) -> Result<bool, ScheduleFault> {
     for (j, text) in SCHEDULES.iter().enumerate() {
         let other = read_schedule(alloc, text)?;
-        assert_eq!(rt; compare_schedules(schedule, &other), i.cmp(&j), "at {i}");
+        if compare_schedules(schedule, &other) != i.cmp(&j) {
+            return Ok(false);
+        }
     }
-    Ok(())
+    Ok(true)
 }
 
 #[test]
 fn schedules_go_by_length_first(rt: HostRuntime) -> Result<(), Fail> {
     for (i, text) in SCHEDULES.iter().enumerate() {
         let schedule = read_schedule(rt.alloc(), text)?;
-        is_ordered(&rt, rt.alloc(), &schedule, i)?;
+        assert!(rt; is_ordered(rt.alloc(), &schedule, i)?, "at {i}");
     }
     Ok(())
 }
 
-/// Compares the lesser with the greater both ways and each with itself.
-pub(crate) fn differ(rt: &impl Abort, lesser: &Term, greater: &Term) {
-    compares(rt, lesser, greater, Ordering::Less);
-    compares(rt, greater, lesser, Ordering::Greater);
-    compares(rt, lesser, lesser, Ordering::Equal);
+/// Whether the lesser comes before the greater, the greater after it, and the lesser with itself.
+pub(crate) fn differ(lesser: &Term, greater: &Term) -> bool {
+    compares(lesser, greater, Ordering::Less)
+        && compares(greater, lesser, Ordering::Greater)
+        && compares(lesser, lesser, Ordering::Equal)
 }

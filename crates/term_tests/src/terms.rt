@@ -2,20 +2,24 @@
 use crate::term_words::Word::{Int, List, Name, Onto, Pid, Ref, Tuple};
 use crate::term_words::{Word, all_of, term, terms};
 use std::alloc::{AllocError, Global};
-use std::process::Abort;
 use std::test::Fail;
 use term_core::{Term, write_term};
-use test_support::MemorySink;
+use test_support::{MemorySink, holds, same};
 
 // How many bytes a sink takes at a time.
 const PIECES: [usize; 3] = [1, 3, 1000];
 
-// Asserts that the term is printed so, in one write or in many.
-pub(crate) fn prints(rt: &impl Abort, alloc: Global, term: &Term, text: &[u8]) -> Result<(), Fail> {
+// Tells whether the term is printed so, so many bytes at a time.
+fn prints_in_pieces(alloc: Global, term: &Term, text: &[u8], piece: usize) -> Result<(), Fail> {
+    let mut sink = MemorySink::in_pieces(alloc, 1000, piece)?;
+    write_term(term, &mut sink)?;
+    same(sink.bytes.as_slice(), text)
+}
+
+// Tells whether the term is printed so, in one write or in many.
+pub(crate) fn prints(alloc: Global, term: &Term, text: &[u8]) -> Result<(), Fail> {
     for piece in PIECES {
-        let mut sink = MemorySink::in_pieces(alloc, 1000, piece)?;
-        assert!(rt; write_term(term, &mut sink).is_ok());
-        assert_eq!(rt; sink.bytes.as_slice(), text);
+        prints_in_pieces(alloc, term, text, piece)?;
     }
     Ok(())
 }
@@ -88,7 +92,7 @@ const PRINTED: [(&[Word], &[u8]); 22] = [
 fn prints_terms(rt: HostRuntime) -> Result<(), Fail> {
     for (words, text) in PRINTED {
         let made = term(rt.alloc(), words)?;
-        prints(&rt, rt.alloc(), &made, text)?;
+        prints(rt.alloc(), &made, text)?;
     }
     Ok(())
 }
@@ -103,19 +107,32 @@ fn copies_its_name(alloc: Global, term: &Term) -> Result<bool, AllocError> {
     }
 }
 
-// Asserts that the copy of the term that these words make is the same, and is printed so.
-fn copies(rt: &impl Abort, alloc: Global, words: &[Word], text: &[u8]) -> Result<(), Fail> {
+// Whether a copy is the same, and that of its name.
+fn is_copied(alloc: Global, made: &Term, copied: &Term) -> Result<bool, AllocError> {
+    let is_same_name = copies_its_name(alloc, made)?;
+    Ok(is_same_name && *copied == *made)
+}
+
+// A copy of the term that these words make.
+fn copy_of(alloc: Global, words: &[Word]) -> Result<Option<Term>, AllocError> {
     let made = term(alloc, words)?;
-    assert!(rt; copies_its_name(alloc, &made)?);
     let copied = made.copy()?;
-    assert!(rt; copied == made);
-    prints(rt, alloc, &copied, text)
+    let is_same = is_copied(alloc, &made, &copied)?;
+    Ok(if is_same { Some(copied) } else { None })
+}
+
+// Tells whether the copy of the term that these words make is the same, and is printed so.
+fn copies(alloc: Global, words: &[Word], text: &[u8]) -> Result<(), Fail> {
+    match copy_of(alloc, words)? {
+        Some(copied) => prints(alloc, &copied, text),
+        None => holds(false, "a copy is the same"),
+    }
 }
 
 #[test]
 fn copies_terms(rt: HostRuntime) -> Result<(), Fail> {
     for (words, text) in PRINTED {
-        copies(&rt, rt.alloc(), words, text)?;
+        copies(rt.alloc(), words, text)?;
         let parts = terms(rt.alloc(), words)?;
         assert!(rt; parts.copy(rt.alloc())? == parts);
     }
@@ -126,9 +143,8 @@ const WHOLE: [Word; 5] = [Name("a"), Int(1), Tuple(2), Ref(&[], 7), Onto(1)];
 
 const WHOLE_TEXT: &[u8] = b"[{'a',1}|#P.7]";
 
-// Asserts that a sink with so much room, which takes so many bytes at a time, gets so many, and fails.
+// Tells whether a sink with so much room, which takes so many bytes at a time, gets so many, and fails.
 fn breaks_off(
-    rt: &impl Abort,
     alloc: Global,
     term: &Term,
     room: usize,
@@ -136,18 +152,19 @@ fn breaks_off(
     count: usize,
 ) -> Result<(), Fail> {
     let mut sink = MemorySink::in_pieces(alloc, room, piece)?;
-    assert!(rt; write_term(term, &mut sink).is_err(), "room {room}");
-    assert_eq!(rt; sink.bytes.len(), count);
-    assert!(rt; WHOLE_TEXT.starts_with(&sink.bytes));
-    assert!(rt; sink.has_failed);
-    Ok(())
+    let has_failed = write_term(term, &mut sink).is_err() && sink.has_failed;
+    let is_front = sink.bytes.len() == count && WHOLE_TEXT.starts_with(&sink.bytes);
+    holds(
+        has_failed && is_front,
+        "a sink without room breaks a term off",
+    )
 }
 
 #[test]
 fn breaks_off_where_the_sink_fails(rt: HostRuntime) -> Result<(), Fail> {
     let term = term(rt.alloc(), &WHOLE)?;
     for room in 0..WHOLE_TEXT.len() {
-        breaks_off(&rt, rt.alloc(), &term, room, 1000, room)?;
+        breaks_off(rt.alloc(), &term, room, 1000, room)?;
     }
-    breaks_off(&rt, rt.alloc(), &term, 100, 0, 0)
+    breaks_off(rt.alloc(), &term, 100, 0, 0)
 }

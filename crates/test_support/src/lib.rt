@@ -2,16 +2,55 @@
 // a call is as text. No crate of the program lists this one.
 #![tactic(auto)]
 
-ghost use Rattle.std.specs.Prelude.{◌≡◌, [], ◌+◌, ◌++◌, ◌==◌, ◌&&◌, ◌||◌, not, min, IfOk, IsOkAnd, OnErr, OnOk, Some, None, false, is_err, is_ok, length, string_bytes, EachIndex, slice_index};
+ghost use Rattle.std.specs.Prelude.{◌≡◌, ◌↔◌, [], ◌+◌, ◌++◌, ◌==◌, ◌&&◌, ◌||◌, not, min, IfOk, IsOk, IsOkAnd, OnErr, OnOk, Some, None, false, true, is_err, is_ok, length, string_bytes, EachIndex, slice_index};
 ghost use Rattle.std.specs.List.{repeat};
 ghost use Rattle.std.specs.Io.{ReadsAtMost, WritesAtMost};
 ghost use Rattle.std.specs.Io.KnownBytes.{Keeps, ReadConsumes, WriteAppends};
 ghost use Rattle.term_core.specs.Stream.{took_nothing};
 
 use std::alloc::{AllocError, Global};
-use std::io;
 use std::io::ErrorKind;
+use std::test::Fail;
+use std::{io, str};
 use term_core::{Output, Sink, Source, Terms, WriteFault, write_all, write_term};
+
+// What was found, and what was wanted.
+fn difference(got: &[u8], wanted: &[u8]) -> Fail {
+    match (str::from_utf8(got), str::from_utf8(wanted)) {
+        (Ok(got), Ok(wanted)) => Fail::new(format_args!("got {got}, wanted {wanted}")),
+        _ => Fail::new(format_args!("got {got:?}, wanted {wanted:?}")),
+    }
+}
+
+/// Tells whether a text is the one that is wanted.
+///
+/// # Errors
+///
+/// A failure that has both texts, where they differ.
+pub fn same(got: &[u8], wanted: &[u8]) -> Result<(), Fail>
+    ensures same { IsOk result ↔ got.now ≡ wanted.now }
+{
+    if got == wanted {
+        Ok(())
+    } else {
+        Err(difference(got, wanted))
+    }
+}
+
+/// Tells whether something holds that is to hold.
+///
+/// # Errors
+///
+/// A failure that has the text `what`, where it does not hold.
+pub fn holds(is_so: bool, what: &str) -> Result<(), Fail>
+    ensures holds { is_ok result ≡ is_so }
+{
+    if is_so {
+        Ok(())
+    } else {
+        Err(Fail::new(format_args!("{what}")))
+    }
+}
 
 /// A text with equal parts on both sides of its middle: `front`, `count` times `opening`, `middle`, and as many
 /// times `closing`; or `AllocError` if there is no memory for it.

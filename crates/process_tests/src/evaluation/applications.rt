@@ -1,18 +1,17 @@
 // Applications of the module's own functions.
-use super::runs::{MAIN, ask_all, begins, first_process, program, run_on};
+use super::runs::{ask_all, begins, ends, first_process, program};
 use core_eval::Machine;
 use core_reader::Module;
-use core_tree::{Call, Callee, Definition, Expr, Exprs, FunctionName, NamedFunction, Variable};
+use core_tree::{Call, Callee, Expr, Exprs, FunctionName, NamedFunction, Variable};
 use std::alloc::{AllocError, Global};
 use std::fmt::Write;
-use std::process::Abort;
 use std::test::Fail;
 use term_core::Atom;
 use test_support::nested;
 
 // Functions, of which `swap` and `fails` are exported.
 const FUNCTIONS: &str =
-    "module 'm' ['swap'/2,'fails'/0] attributes [] 'swap'/2 = fun (X,Y) -> {Y,X} 'take'/1 = fun (X) -> call 'ets':'lookup'('t',X) 'free'/0 = fun () -> 0 'two'/0 = fun () -> <1,2> 'fails'/0 = fun () -> primop 'match_fail'(5) 'letters'/0 = fun () -> call 'ets':'lookup'('t',\"aa\") 'each'/1 = fun (X) -> case X of <[X|Y]> when 'true' -> do call 'ets':'lookup'('t',X) apply 'each'/1(Y) <[]> when 'true' -> 'done' end 'main'/0 = fun () -> ";
+    "module 'm' ['swap'/2,'fails'/0] attributes [] 'swap'/2 = fun (X,Y) -> {Y,X} 'take'/1 = fun (X) -> call 'ets':'lookup'('t',X) 'two'/0 = fun () -> <1,2> 'fails'/0 = fun () -> primop 'match_fail'(5) 'letters'/0 = fun () -> call 'ets':'lookup'('t',\"aa\") 'each'/1 = fun (X) -> case X of <[X|Y]> when 'true' -> do call 'ets':'lookup'('t',X) apply 'each'/1(Y) <[]> when 'true' -> 'done' end 'main'/0 = fun () -> ";
 
 // Applications, and what is asked.
 const APPLICATIONS: [(&str, &str); 10] = [
@@ -55,7 +54,7 @@ const APPLICATIONS: [(&str, &str); 10] = [
 
 #[test]
 fn functions_are_applied(rt: HostRuntime) -> Result<(), Fail> {
-    ask_all(&rt, rt.alloc(), FUNCTIONS, &APPLICATIONS)
+    ask_all(rt.alloc(), FUNCTIONS, &APPLICATIONS)
 }
 
 fn function(alloc: Global, name: &str, arity: u8) -> Result<FunctionName, AllocError> {
@@ -88,26 +87,25 @@ fn variable(alloc: Global, name: &str) -> Result<Expr, AllocError> {
     Ok(Expr::Variable(Variable { at: 0, name }))
 }
 
-// The module where the function with this name and no parameters has another body.
-fn redefined(alloc: Global, body: &str, name: &str, other: Expr) -> Result<Module, Fail> {
-    let mut program = program(alloc, FUNCTIONS, body)?;
-    let definition = Definition {
-        at: 0,
-        parameters: Vec::new(alloc),
-        body: other,
-    };
-    let name = function(alloc, name, 0)?;
-    program.definitions.insert(name, definition)?;
+// The module whose last function has this body, and what stands before it.
+fn redefined(alloc: Global, front: &str, body: Expr) -> Result<Module, Fail> {
+    let mut program = program(alloc, front, "0")?;
+    if let Some(definition) = program.definitions.last_mut() {
+        definition.body = body;
+    }
     Ok(program)
 }
+
+// A function with a variable that applies the last one.
+const APPLIES_THE_LAST: &str =
+    "module 'm' [] attributes [] 'main'/0 = fun () -> let <X> = 1 in apply 'free'/0() 'free'/0 = fun () -> ";
 
 // No module that is read has such a function: it sees the variables of its caller.
 #[test]
 fn functions_see_no_other_variables(rt: HostRuntime) -> Result<(), Fail> {
     let other = variable(rt.alloc(), "X")?;
-    let body = "let <X> = 1 in apply 'free'/0()";
-    let program = redefined(rt.alloc(), body, "free", other)?;
-    begins(&rt, rt.alloc(), &program, "main", "{'unbound',[]}")
+    let program = redefined(rt.alloc(), APPLIES_THE_LAST, other)?;
+    begins(rt.alloc(), &program, "main", "{'unbound',[]}")
 }
 
 // Functions that are not there, or with another number of arguments.
@@ -118,8 +116,8 @@ const UNDEFINED: [(&str, u8); 3] = [("none", 0), ("swap", 1), ("swap", 0)];
 fn applied_functions_are_defined(rt: HostRuntime) -> Result<(), Fail> {
     for (name, arity) in UNDEFINED {
         let other = application(rt.alloc(), name, arity)?;
-        let program = redefined(rt.alloc(), "0", "main", other)?;
-        begins(&rt, rt.alloc(), &program, "main", "{'undef',[]}")?;
+        let program = redefined(rt.alloc(), FUNCTIONS, other)?;
+        begins(rt.alloc(), &program, "main", "{'undef',[]}")?;
     }
     Ok(())
 }
@@ -180,6 +178,11 @@ const ROWS: [(&str, &str, &str); 8] = [
     ),
 ];
 
+// The name of a link and the number of its parameters.
+fn push_name(text: &mut String, link: u64) -> Result<(), AllocError> {
+    write!(text, "'f{link}'/1")
+}
+
 // A link that applies the next within what stands around it.
 fn push_link(
     text: &mut String,
@@ -188,10 +191,14 @@ fn push_link(
     around: (&str, &str),
 ) -> Result<(), AllocError> {
     let (front, back) = around;
-    write!(
-        text,
-        "'f{link}'/1 = fun (X) -> {front}apply 'f{next}'/1(X){back} "
-    )
+    push_name(text, link)?;
+    text.push_str(" = fun (X) -> ")?;
+    text.push_str(front)?;
+    text.push_str("apply ")?;
+    push_name(text, next)?;
+    text.push_str("(X)")?;
+    text.push_str(back)?;
+    text.push(' ')
 }
 
 // The links from the second on.
@@ -202,10 +209,15 @@ fn push_links(text: &mut String, around: (&str, &str)) -> Result<(), AllocError>
     push_link(text, LAST, 0, around)
 }
 
+// A function with this name, no parameter and this body.
+fn push_function(text: &mut String, name: &str, body: &str) -> Result<(), AllocError> {
+    write!(text, "'{name}'/0 = fun () -> {body} ")
+}
+
 // The functions of the rows.
 fn push_rows(text: &mut String) -> Result<(), AllocError> {
-    for (name, body, _) in ROWS {
-        write!(text, "'{name}'/0 = fun () -> {body} ")?;
+    for row in &ROWS {
+        push_function(text, row.0, row.1)?;
     }
     Ok(())
 }
@@ -229,9 +241,9 @@ fn chain(alloc: Global, around: (&str, &str)) -> Result<Module, Fail> {
 // As the last thing that a link does, and with something left to do after it.
 const AROUND: [(&str, &str); 2] = [("", ""), ("do ", " 'done'")];
 
-fn go_on(rt: &impl Abort, alloc: Global, program: &Module) -> Result<(), Fail> {
-    for (name, _, want) in ROWS {
-        begins(rt, alloc, program, name, want)?;
+fn go_on(alloc: Global, program: &Module) -> Result<(), Fail> {
+    for row in &ROWS {
+        begins(alloc, program, row.0, row.2)?;
     }
     Ok(())
 }
@@ -240,7 +252,7 @@ fn go_on(rt: &impl Abort, alloc: Global, program: &Module) -> Result<(), Fail> {
 fn applications_go_on_up_to_the_limit(rt: HostRuntime) -> Result<(), Fail> {
     for around in AROUND {
         let program = chain(rt.alloc(), around)?;
-        go_on(&rt, rt.alloc(), &program)?;
+        go_on(rt.alloc(), &program)?;
     }
     Ok(())
 }
@@ -273,27 +285,41 @@ const CONSTRUCTS: [(&str, &str, &str); 3] = [
     ),
 ];
 
-// Asserts what a machine asks to its end.
-fn ends(rt: &impl Abort, alloc: Global, machine: &mut Machine, want: &str) -> Result<(), Fail> {
-    let text = run_on(alloc, machine)?;
-    assert_eq!(rt; text.as_slice(), want.as_bytes());
+// A copy is dropped in its depth.
+fn is_dropped(alloc: Global, machine: &Machine) -> Result<(), AllocError> {
+    let _copied = machine.copy(alloc)?;
     Ok(())
 }
 
-// One copy is dropped in its depth, and one goes on after the machine has ended.
-fn is_kept(rt: &impl Abort, alloc: Global, program: &Module, want: &str) -> Result<(), Fail> {
-    let mut machine = first_process(alloc, program, "main")?;
+// One machine goes on after the other has ended.
+fn end_alike(
+    alloc: Global,
+    machine: &mut Machine,
+    copied: &mut Machine,
+    want: &str,
+) -> Result<(), Fail> {
+    ends(alloc, machine, want)?;
+    ends(alloc, copied, want)
+}
+
+// A copy goes on after the machine has ended.
+fn is_copied(alloc: Global, machine: &mut Machine, want: &str) -> Result<(), Fail> {
     let mut copied = machine.copy(alloc)?;
-    drop(machine.copy(alloc)?);
-    ends(rt, alloc, &mut machine, want)?;
-    ends(rt, alloc, &mut copied, want)
+    end_alike(alloc, machine, &mut copied, want)
+}
+
+// One copy is dropped in its depth, and one goes on after the machine has ended.
+fn is_kept(alloc: Global, program: &Module, want: &str) -> Result<(), Fail> {
+    let mut machine = first_process(alloc, program, "main")?;
+    is_dropped(alloc, &machine)?;
+    is_copied(alloc, &mut machine, want)
 }
 
 #[test]
 fn a_stack_of_200000_frames_is_kept_copied_and_dropped(rt: HostRuntime) -> Result<(), Fail> {
     for (opening, closing, want) in CONSTRUCTS {
         let program = deep(rt.alloc(), opening, closing)?;
-        is_kept(&rt, rt.alloc(), &program, want)?;
+        is_kept(rt.alloc(), &program, want)?;
     }
     Ok(())
 }

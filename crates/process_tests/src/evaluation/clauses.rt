@@ -46,7 +46,7 @@ const CLAUSES: [(&str, &str); 8] = [
 
 #[test]
 fn takes_the_first_clause(rt: HostRuntime) -> Result<(), Fail> {
-    ask_all(&rt, rt.alloc(), MAIN, &CLAUSES)
+    ask_all(rt.alloc(), MAIN, &CLAUSES)
 }
 
 // A case of a long tuple that no clause takes, after its items.
@@ -59,6 +59,6 @@ const TOO_LONG: [Long; 1] = [("case {", "1,", 9_997, NO_CLAUSE, "{'system_limit'
 fn a_case_without_a_clause_keeps_the_limit(rt: HostRuntime) -> Result<(), Fail> {
     let body = nested(rt.alloc(), "case {", "1,", 9_996, NO_CLAUSE, "")?;
     let want = nested(rt.alloc(), "{{'case_clause',{", "1,", 9_996, "1}},[]}", "")?;
-    asks(&rt, rt.alloc(), MAIN, body.as_str(), want.as_str())?;
-    ask_long(&rt, rt.alloc(), &TOO_LONG)
+    asks(rt.alloc(), MAIN, body.as_str(), want.as_str())?;
+    ask_long(rt.alloc(), &TOO_LONG)
 }

@@ -30,7 +30,7 @@ const ENDS: [(&str, &str); 7] = [
 
 #[test]
 fn ends_by_exceptions(rt: HostRuntime) -> Result<(), Fail> {
-    ask_all(&rt, rt.alloc(), MAIN, &ENDS)
+    ask_all(rt.alloc(), MAIN, &ENDS)
 }
 
 // The call that takes what is caught.
@@ -47,7 +47,7 @@ const CATCHES: [(&str, &str, &str); 5] = [
 
 #[test]
 fn catches_exceptions(rt: HostRuntime) -> Result<(), Fail> {
-    ask_within(&rt, rt.alloc(), CATCH, &CATCHES)
+    ask_within(rt.alloc(), CATCH, &CATCHES)
 }
 
 // The call that takes an error with a long tuple.
@@ -61,8 +61,8 @@ fn what_is_caught_keeps_the_limit(rt: HostRuntime) -> Result<(), Fail> {
     let body = nested(rt.alloc(), CATCH_LONG, "1,", 9_994, "1}))", "")?;
     let front = "lookup 't' {'EXIT',{{";
     let want = nested(rt.alloc(), front, "1,", 9_994, "1},[]}}\n'normal'", "")?;
-    asks(&rt, rt.alloc(), MAIN, body.as_str(), want.as_str())?;
-    ask_long(&rt, rt.alloc(), &TOO_LONG)
+    asks(rt.alloc(), MAIN, body.as_str(), want.as_str())?;
+    ask_long(rt.alloc(), &TOO_LONG)
 }
 
 // The call that takes what a `try` gives, and its handlers of two and of three variables.
@@ -103,5 +103,5 @@ const HANDLES: [(&str, &str, &str); 8] = [
 
 #[test]
 fn handles_exceptions(rt: HostRuntime) -> Result<(), Fail> {
-    ask_within(&rt, rt.alloc(), TRY, &HANDLES)
+    ask_within(rt.alloc(), TRY, &HANDLES)
 }

@@ -53,6 +53,6 @@ const LONG_RESULTS: [Long; 3] = [
 
 #[test]
 fn a_process_answers_its_own_calls(rt: HostRuntime) -> Result<(), Fail> {
-    ask_all(&rt, rt.alloc(), MAIN, &OWN_CALLS)?;
-    ask_long(&rt, rt.alloc(), &LONG_RESULTS)
+    ask_all(rt.alloc(), MAIN, &OWN_CALLS)?;
+    ask_long(rt.alloc(), &LONG_RESULTS)
 }

@@ -1,54 +1,17 @@
 // Receives: which messages they take, how they go on, and which timeouts there are.
-use super::runs::{MAIN, first_process, program, run_on};
+use super::runs::{MAIN, ends, first_process, program};
 use crate::requests::text_of;
 use core_eval::{Answer, Machine};
 use core_reader::Module;
-use core_tree::{Case, Expr, Receive};
 use std::alloc::{AllocError, Global};
-use std::mem::replace;
-use std::process::Abort;
 use std::test::Fail;
-use term_core::{Atom, Term, Terms};
+use term_core::{Term, Terms};
+use test_support::{holds, same};
 
-// A `case` as a receive: what its clauses match is the timeout, and the body of its last clause the action.
-fn as_receive(alloc: Global, case: Case) -> Result<Expr, AllocError> {
-    let Case {
-        at,
-        value,
-        mut clauses,
-    } = case;
-    let action = match clauses.0.pop() {
-        Some(clause) => clause.body,
-        None => Expr::Integer(0),
-    };
-    Ok(Expr::Receive(Box::new(
-        alloc,
-        Receive {
-            at,
-            clauses,
-            timeout: value,
-            action,
-        },
-    )?))
-}
-
-// The module where the body of the last function, a `case`, is a receive.
-fn receiver(alloc: Global, front: &str, body: &str) -> Result<Module, Fail> {
-    let mut program = program(alloc, front, body)?;
-    if let Some(definition) = program.definitions.last_mut() {
-        let body = replace(&mut definition.body, Expr::Integer(0));
-        if let Expr::Case(case) = body {
-            definition.body = as_receive(alloc, Box::into_inner(case))?;
-        }
-    }
-    Ok(program)
-}
-
-// Asserts what a machine asks.
-fn stands(rt: &impl Abort, alloc: Global, machine: &Machine, want: &str) -> Result<(), Fail> {
+// Tells whether a machine asks this.
+fn stands(alloc: Global, machine: &Machine, want: &str) -> Result<(), Fail> {
     let text = text_of(alloc, machine.request())?;
-    assert_eq!(rt; text.as_slice(), want.as_bytes());
-    Ok(())
+    same(text.as_slice(), want.as_bytes())
 }
 
 // The pair of the atom `'a'` and a number.
@@ -64,70 +27,111 @@ const PAIRS: &str =
     "module 'm' [] attributes [] 'main'/0 = fun () -> do apply 'f'/2(1,2) 'x' 'f'/2 = fun (X,Y) -> ";
 
 const OF_PAIRS: &str =
-    "case 'infinity' of <{'a',Z}> when call 'erlang':'=:='(Z,X) -> call 'ets':'insert'(Z,Y) <{'a',Z}> when call 'erlang':'error'(Z) -> 0 <'b'> when 'true' -> call 'ets':'lookup'('t',X) <W> when 'true' -> 'late' end";
+    "receive <{'a',Z}> when call 'erlang':'=:='(Z,X) -> call 'ets':'insert'(Z,Y) <{'a',Z}> when call 'erlang':'error'(Z) -> 0 <'b'> when 'true' -> call 'ets':'lookup'('t',X) after 'infinity' -> 'late'";
 
-// Asserts whether a machine takes a message.
-fn selects(
-    rt: &impl Abort,
-    alloc: Global,
-    machine: &Machine,
-    message: &Term,
-    want: bool,
-) -> Result<(), Fail> {
-    assert_eq!(rt; machine.selects(alloc, message)?, want);
-    Ok(())
+// Tells whether a machine takes a message, as it should, or does not, as it should.
+fn selects(alloc: Global, machine: &Machine, message: &Term, want: bool) -> Result<(), Fail> {
+    let is_taken = machine.selects(alloc, message)?;
+    holds(is_taken == want, "a message is taken, or not")
 }
 
-// Asserts that a machine of these pairs takes those with its first parameter, and the atom.
-fn takes_its_pairs(rt: &impl Abort, alloc: Global, machine: &Machine) -> Result<(), Fail> {
-    stands(rt, alloc, machine, "receives")?;
-    selects(rt, alloc, machine, &pair(alloc, 1)?, true)?;
-    selects(rt, alloc, machine, &pair(alloc, 2)?, false)?;
-    selects(rt, alloc, machine, &Term::atom(alloc, "b")?, true)?;
-    selects(rt, alloc, machine, &Term::atom(alloc, "c")?, false)
+// Tells whether a machine takes the pair of a number, as it should, or does not, as it should.
+fn selects_pair(alloc: Global, machine: &Machine, number: i64, want: bool) -> Result<(), Fail> {
+    let message = pair(alloc, number)?;
+    selects(alloc, machine, &message, want)
 }
 
-// Asserts that what does not fit changes nothing, and that a pair goes on to the end.
-fn goes_on_with_a_pair(rt: &impl Abort, alloc: Global, machine: &mut Machine) -> Result<(), Fail> {
+// Tells whether a machine takes an atom, as it should, or does not, as it should.
+fn selects_atom(alloc: Global, machine: &Machine, name: &str, want: bool) -> Result<(), Fail> {
+    let message = Term::atom(alloc, name)?;
+    selects(alloc, machine, &message, want)
+}
+
+// Tells whether a machine takes the pairs with its first parameter.
+fn takes_its_pairs(alloc: Global, machine: &Machine) -> Result<(), Fail> {
+    selects_pair(alloc, machine, 1, true)?;
+    selects_pair(alloc, machine, 2, false)
+}
+
+// Tells whether a machine takes its atom.
+fn takes_its_atom(alloc: Global, machine: &Machine) -> Result<(), Fail> {
+    selects_atom(alloc, machine, "b", true)?;
+    selects_atom(alloc, machine, "c", false)
+}
+
+// Tells whether a machine receives, and takes what its clauses select.
+fn takes_its_own(alloc: Global, machine: &Machine) -> Result<(), Fail> {
+    stands(alloc, machine, "receives")?;
+    takes_its_pairs(alloc, machine)?;
+    takes_its_atom(alloc, machine)
+}
+
+// A machine gets the pair of a number.
+fn resume_with_pair(alloc: Global, machine: &mut Machine, number: i64) -> Result<(), AllocError> {
+    let message = pair(alloc, number)?;
+    machine.resume(alloc, Answer::Message(message))
+}
+
+// A machine gets an atom.
+fn resume_with_atom(alloc: Global, machine: &mut Machine, name: &str) -> Result<(), AllocError> {
+    let message = Term::atom(alloc, name)?;
+    machine.resume(alloc, Answer::Message(message))
+}
+
+// A machine gets answers that do not fit.
+fn resume_wrongly(alloc: Global, machine: &mut Machine) -> Result<(), AllocError> {
     machine.resume(alloc, Answer::TimedOut)?;
-    machine.resume(alloc, Answer::Value(Term::Nil))?;
-    stands(rt, alloc, machine, "receives")?;
-    machine.resume(alloc, Answer::Message(pair(alloc, 1)?))?;
-    let asked = run_on(alloc, machine)?;
-    assert_eq!(rt; asked.as_slice(), b"insert 1 2\n'normal'".as_slice());
-    selects(rt, alloc, machine, &pair(alloc, 1)?, false)
+    machine.resume(alloc, Answer::Value(Term::Nil))
+}
+
+// Tells whether what does not fit changes nothing, and that a pair goes on to the end.
+fn goes_on_with_a_pair(alloc: Global, machine: &mut Machine) -> Result<(), Fail> {
+    resume_wrongly(alloc, machine)?;
+    stands(alloc, machine, "receives")?;
+    resume_with_pair(alloc, machine, 1)?;
+    ends(alloc, machine, "insert 1 2\n'normal'")?;
+    selects_pair(alloc, machine, 1, false)
+}
+
+fn takes_and_goes_on(alloc: Global, machine: &mut Machine) -> Result<(), Fail> {
+    takes_its_own(alloc, machine)?;
+    goes_on_with_a_pair(alloc, machine)
 }
 
 #[test]
 fn receives_take_what_a_clause_selects(rt: HostRuntime) -> Result<(), Fail> {
     let alloc = rt.alloc();
-    let program = receiver(alloc, PAIRS, OF_PAIRS)?;
+    let program = program(alloc, PAIRS, OF_PAIRS)?;
     let mut machine = first_process(alloc, &program, "main")?;
-    takes_its_pairs(&rt, alloc, &machine)?;
-    goes_on_with_a_pair(&rt, alloc, &mut machine)
+    takes_and_goes_on(alloc, &mut machine)
 }
 
-// Asserts that a copy waits for the same, and goes its own way.
-fn copy_goes_its_own_way(
-    rt: &impl Abort,
-    alloc: Global,
-    machine: &mut Machine,
-) -> Result<(), Fail> {
+// Tells whether a machine, once the other has gone on, still takes the atom and goes on with it.
+fn goes_on_with_an_atom(alloc: Global, machine: &mut Machine) -> Result<(), Fail> {
+    stands(alloc, machine, "receives")?;
+    selects_atom(alloc, machine, "b", true)?;
+    resume_with_atom(alloc, machine, "b")?;
+    stands(alloc, machine, "lookup 't' 1")
+}
+
+fn go_apart(alloc: Global, machine: &mut Machine, copy: &mut Machine) -> Result<(), Fail> {
+    resume_with_pair(alloc, machine, 1)?;
+    goes_on_with_an_atom(alloc, copy)?;
+    stands(alloc, machine, "insert 1 2")
+}
+
+// Tells whether a copy waits for the same, and goes its own way.
+fn copy_goes_its_own_way(alloc: Global, machine: &mut Machine) -> Result<(), Fail> {
     let mut copy = machine.copy(alloc)?;
-    machine.resume(alloc, Answer::Message(pair(alloc, 1)?))?;
-    stands(rt, alloc, &copy, "receives")?;
-    selects(rt, alloc, &copy, &Term::atom(alloc, "b")?, true)?;
-    copy.resume(alloc, Answer::Message(Term::atom(alloc, "b")?))?;
-    stands(rt, alloc, &copy, "lookup 't' 1")?;
-    stands(rt, alloc, machine, "insert 1 2")
+    go_apart(alloc, machine, &mut copy)
 }
 
 #[test]
 fn a_copy_receives_the_same(rt: HostRuntime) -> Result<(), Fail> {
     let alloc = rt.alloc();
-    let program = receiver(alloc, PAIRS, OF_PAIRS)?;
+    let program = program(alloc, PAIRS, OF_PAIRS)?;
     let mut machine = first_process(alloc, &program, "main")?;
-    copy_goes_its_own_way(&rt, alloc, &mut machine)
+    copy_goes_its_own_way(alloc, &mut machine)
 }
 
 // Timeouts, what is asked with them, and what where no message came in time.
@@ -140,29 +144,33 @@ const TIMEOUTS: [(&str, &str, &str); 6] = [
     ("'soon'", "{'timeout_value',[]}", "{'timeout_value',[]}"),
 ];
 
-// Asserts what a machine asks, and what it asks where no message came in time.
-fn times_out(
-    rt: &impl Abort,
-    alloc: Global,
-    machine: &mut Machine,
-    first: &str,
-    then: &str,
-) -> Result<(), Fail> {
-    stands(rt, alloc, machine, first)?;
+// Tells whether a machine asks the first, and then the other where no message came in time.
+fn times_out(alloc: Global, machine: &mut Machine, first: &str, then: &str) -> Result<(), Fail> {
+    stands(alloc, machine, first)?;
     machine.resume(alloc, Answer::TimedOut)?;
-    stands(rt, alloc, machine, then)
+    stands(alloc, machine, then)
+}
+
+// Tells whether the first process of a module does so.
+fn times_out_in(alloc: Global, program: &Module, first: &str, then: &str) -> Result<(), Fail> {
+    let mut machine = first_process(alloc, program, "main")?;
+    times_out(alloc, &mut machine, first, then)
+}
+
+// The module with a receive that has this timeout.
+fn with_timeout(alloc: Global, timeout: &str) -> Result<Module, Fail> {
+    let body = format!(in alloc;
+        "receive <X> when 'true' -> X after {timeout} -> call 'ets':'lookup'('t',9)"
+    )?;
+    program(alloc, MAIN, body.as_str())
 }
 
 #[test]
 fn timeouts_are_judged_first(rt: HostRuntime) -> Result<(), Fail> {
     let alloc = rt.alloc();
     for (timeout, first, then) in TIMEOUTS {
-        let body = format!(in alloc;
-            "case {timeout} of <X> when 'true' -> X <X> when 'true' -> call 'ets':'lookup'('t',9) end"
-        )?;
-        let program = receiver(alloc, MAIN, body.as_str())?;
-        let mut machine = first_process(alloc, &program, "main")?;
-        times_out(&rt, alloc, &mut machine, first, then)?;
+        let program = with_timeout(alloc, timeout)?;
+        times_out_in(alloc, &program, first, then)?;
     }
     Ok(())
 }

@@ -3,18 +3,23 @@ use crate::requests::text_of;
 use core_eval::{Answer, Machine, Request, start};
 use core_reader::{Module, read_module};
 use std::alloc::{AllocError, Global};
-use std::process::Abort;
 use std::test::Fail;
 use term_core::{Atom, Pid, Term, Terms};
-use test_support::nested;
+use test_support::{nested, same};
 
 // What stands before the body of `'main'/0`, where the module `m` has no other function.
 pub(crate) const MAIN: &str = "module 'm' [] attributes [] 'main'/0 = fun () -> ";
 
+// The module of this text.
+fn module_of(alloc: Global, text: &str) -> Result<Module, Fail> {
+    let module = read_module(alloc, text.as_bytes())?;
+    Ok(module)
+}
+
 // The module whose last function has this body, and what stands before it.
 pub(crate) fn program(alloc: Global, front: &str, body: &str) -> Result<Module, Fail> {
     let text = format!(in alloc; "{front}{body} end")?;
-    Ok(read_module(alloc, text.as_bytes())?)
+    module_of(alloc, text.as_str())
 }
 
 // A process at the function of `m` with this name.
@@ -51,41 +56,28 @@ pub(crate) fn run_on(alloc: Global, machine: &mut Machine) -> Result<Vec<u8>, Fa
     Ok(text)
 }
 
-// Asserts what the first process asks that begins with the function of this name.
-pub(crate) fn begins(
-    rt: &impl Abort,
-    alloc: Global,
-    program: &Module,
-    name: &str,
-    want: &str,
-) -> Result<(), Fail> {
+// Tells whether a machine asks this to its end.
+pub(crate) fn ends(alloc: Global, machine: &mut Machine, want: &str) -> Result<(), Fail> {
+    let text = run_on(alloc, machine)?;
+    same(text.as_slice(), want.as_bytes())
+}
+
+// Tells whether the first process asks this that begins with the function of this name.
+pub(crate) fn begins(alloc: Global, program: &Module, name: &str, want: &str) -> Result<(), Fail> {
     let mut machine = first_process(alloc, program, name)?;
-    let text = run_on(alloc, &mut machine)?;
-    assert_eq!(rt; text.as_slice(), want.as_bytes());
-    Ok(())
+    ends(alloc, &mut machine, want)
 }
 
-// Asserts what the first process asks of the module with this front and this last body.
-pub(crate) fn asks(
-    rt: &impl Abort,
-    alloc: Global,
-    front: &str,
-    body: &str,
-    want: &str,
-) -> Result<(), Fail> {
+// Tells whether the first process asks this of the module with this front and this last body.
+pub(crate) fn asks(alloc: Global, front: &str, body: &str, want: &str) -> Result<(), Fail> {
     let program = program(alloc, front, body)?;
-    begins(rt, alloc, &program, "main", want)
+    begins(alloc, &program, "main", want)
 }
 
-// Asserts what is asked for each of these bodies.
-pub(crate) fn ask_all(
-    rt: &impl Abort,
-    alloc: Global,
-    front: &str,
-    rows: &[(&str, &str)],
-) -> Result<(), Fail> {
-    for (body, want) in rows {
-        asks(rt, alloc, front, body, want)?;
+// Tells whether for each of these bodies is asked what stands beside it.
+pub(crate) fn ask_all(alloc: Global, front: &str, rows: &[(&str, &str)]) -> Result<(), Fail> {
+    for row in rows {
+        asks(alloc, front, row.0, row.1)?;
     }
     Ok(())
 }
@@ -99,25 +91,25 @@ pub(crate) type Long = (
     &'static str,
 );
 
-// Asserts what is asked for each of these bodies of `'main'/0`.
-pub(crate) fn ask_long(rt: &impl Abort, alloc: Global, rows: &[Long]) -> Result<(), Fail> {
+// Tells whether for each of these bodies of `'main'/0` is asked what stands beside it.
+pub(crate) fn ask_long(alloc: Global, rows: &[Long]) -> Result<(), Fail> {
     for (front, unit, count, back, want) in rows {
         let body = nested(alloc, front, unit, *count, back, "")?;
-        asks(rt, alloc, MAIN, body.as_str(), want)?;
+        asks(alloc, MAIN, body.as_str(), want)?;
     }
     Ok(())
 }
 
-// Asserts what is asked where each of these expressions stands between this front and its back.
+// Tells whether what stands beside each of these expressions is asked where it stands between this front and its
+// back.
 pub(crate) fn ask_within(
-    rt: &impl Abort,
     alloc: Global,
     front: &str,
     rows: &[(&str, &str, &str)],
 ) -> Result<(), Fail> {
     for (inner, back, want) in rows {
         let body = format!(in alloc; "{front}{inner}{back}")?;
-        asks(rt, alloc, MAIN, body.as_str(), want)?;
+        asks(alloc, MAIN, body.as_str(), want)?;
     }
     Ok(())
 }

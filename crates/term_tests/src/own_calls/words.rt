@@ -1,10 +1,12 @@
 // What calls answer to terms that are made from words, as text.
+ghost use Rattle.std.specs.Prelude.{◌≡◌, false};
+
 use crate::term_words::{Word, pid, terms};
 use core_tree::PureCall;
 use pure_calls::{Class, Outcome, answer};
 use std::alloc::{AllocError, Global};
 use std::test::Fail;
-use term_core::{Output, Pid, WriteFault, write_all, write_term};
+use term_core::{Output, Pid, Term, WriteFault, write_all, write_term};
 
 // The numbers of the pid `P.1`.
 const OWN: [u64; 1] = [1];
@@ -21,16 +23,32 @@ fn class_text(class: Class) -> &'static [u8] {
     }
 }
 
+// Writes the class and the reason of an exception.
+fn write_exception(
+    class: Class,
+    reason: &Term,
+    sink: &mut Output<Vec<u8>>,
+) -> Result<(), WriteFault>
+    requires { sink.old.has_failed ≡ false }
+{
+    write_all(sink, class_text(class))?;
+    write_term(reason, sink)
+}
+
+// Writes the value, or the class and the reason.
+fn write_outcome(outcome: &Outcome, sink: &mut Output<Vec<u8>>) -> Result<(), WriteFault>
+    requires { sink.old.has_failed ≡ false }
+{
+    match outcome {
+        Outcome::Value(term) => write_term(term, sink),
+        Outcome::Raised(class, reason) => write_exception(*class, reason, sink),
+    }
+}
+
 // The value, or the class and the reason.
 fn text_of(alloc: Global, outcome: &Outcome) -> Result<Vec<u8>, WriteFault> {
     let mut sink = Output::new(Vec::new(alloc));
-    match outcome {
-        Outcome::Value(term) => write_term(term, &mut sink)?,
-        Outcome::Raised(class, reason) => {
-            write_all(&mut sink, class_text(*class))?;
-            write_term(reason, &mut sink)?;
-        }
-    }
+    write_outcome(outcome, &mut sink)?;
     Ok(sink.writer)
 }
 
