@@ -1,4 +1,5 @@
 pub mod InputLaws
 pub mod EngineLaws
-pub mod WordLaws
+pub mod ExploredLaws
 pub mod RunLaws
+pub mod ReportLaws

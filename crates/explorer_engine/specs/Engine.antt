@@ -50,27 +50,31 @@ pub record IsNoSchedule (input word : List ℕ) (old new : Option (List ℕ)) (f
 -- a run replayed its schedule to the end; or the input was refused as a module, or could not be read, or the schedule was refused, and nothing was written; or the replay stopped at a step or for lack of memory; or the output failed, at a write or at the flush
 abbrev pub IsRunOf : (input word : List ℕ) → (old new : Option (List ℕ)) → Bool → Result Verdict RunFault → Type 0
 IsRunOf input word old new failed (Ok Done) = IsReplayed input word (λ m steps. Replays (program_of m) steps old new failed (Ok tt))
+IsRunOf input word old new failed (Ok _) = ⊥
 IsRunOf input word old new failed (Err (run.Input fault)) = IsRefusalOf input fault × WritesNothing old new failed
 IsRunOf input word old new failed (Err run.ReadFailed) = WritesNothing old new failed
 IsRunOf input word old new failed (Err (run.Schedule fault)) = IsNoSchedule input word old new failed fault
 IsRunOf input word old new failed (Err (run.Replay replay.Write)) = ⊥
 IsRunOf input word old new failed (Err (run.Replay fault)) = IsReplayed input word (λ m steps. Replays (program_of m) steps old new failed (Err fault))
+IsRunOf input word old new failed (Err (run.Explore fault)) = ⊥
 IsRunOf input word old new failed (Err run.Output) = IsReplayed input word (λ m steps. BreaksOff old new failed (transcript (program_of m) steps))
 
--- the run was refused before its replay: its input could not be read, or is no module, or the word is no schedule
+-- the run was refused before its work: its input could not be read, or is no module, or the word is no schedule, or there was no memory to begin
 abbrev pub IsRefusedBefore : Result Verdict RunFault → Type 0
-IsRefusedBefore (Ok Done) = ⊥
+IsRefusedBefore (Ok verdict) = ⊥
 IsRefusedBefore (Err (run.Input fault)) = Unit {0}
 IsRefusedBefore (Err run.ReadFailed) = Unit {0}
 IsRefusedBefore (Err (run.Schedule fault)) = Unit {0}
 IsRefusedBefore (Err (run.Replay fault)) = ⊥
+IsRefusedBefore (Err (run.Explore fault)) = Unit {0}
 IsRefusedBefore (Err run.Output) = ⊥
 
--- what was replayed was handed on by a flush, unless the output has failed
+-- what was written was handed on by a flush, unless the output has failed
 abbrev pub IsHandedOn : Result Verdict RunFault → Bool → Type 0
-IsHandedOn (Ok Done) flushed = flushed ≡ true
+IsHandedOn (Ok verdict) flushed = flushed ≡ true
 IsHandedOn (Err (run.Input fault)) flushed = Unit {0}
 IsHandedOn (Err run.ReadFailed) flushed = Unit {0}
 IsHandedOn (Err (run.Schedule fault)) flushed = Unit {0}
 IsHandedOn (Err (run.Replay fault)) flushed = flushed ≡ true
+IsHandedOn (Err (run.Explore fault)) flushed = Unit {0}
 IsHandedOn (Err run.Output) flushed = Unit {0}

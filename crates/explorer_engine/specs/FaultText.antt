@@ -7,6 +7,7 @@ use Rattle.term_core.specs.declared.schedule.ScheduleFault.{ScheduleFault}
 use Rattle.term_core.specs.declared.schedule.ScheduleFault.TheVariants as schedule
 use Rattle.replay_core.specs.declared.replay_fault.ReplayFault.{ReplayFault}
 use Rattle.replay_core.specs.declared.replay_fault.ReplayFault.TheVariants as replay
+use Rattle.search_crew.specs.declared.fault.SearchFault.TheVariants as search
 use Rattle.explorer_engine.specs.declared.verdict.RunFault.{RunFault}
 use Rattle.explorer_engine.specs.declared.verdict.RunFault.TheVariants as run
 
@@ -50,4 +51,5 @@ text_of_fault (run.Input fault) = text_of_read_fault fault
 text_of_fault run.ReadFailed = codes "input: read failed\n"
 text_of_fault (run.Schedule fault) = text_of_schedule_fault fault
 text_of_fault (run.Replay fault) = text_of_replay_fault fault
+text_of_fault (run.Explore search.Memory) = codes "explore: 1 Memory\n"
 text_of_fault run.Output = codes "output failed\n"

@@ -3,6 +3,5 @@ pub mod Status
 pub mod Input
 pub mod Refusals
 pub mod Engine
-pub mod Words
+pub mod Explored
 pub mod Program
-pub mod inside

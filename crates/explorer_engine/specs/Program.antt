@@ -1,13 +1,16 @@
 -- What the program does with its words and its three streams.
-use Rattle.std.specs.Prelude.{◌≡◌, ◌⊎◌, ℕ, Bool, List, codes, Option, Result, Ok, Err, IfSome}
+use Rattle.std.specs.Prelude.{◌≡◌, ◌⊎◌, ℕ, Bool, List, codes, Option, Result, Ok, Err, IfSome, string_bytes}
 use Rattle.term_core.specs.Stream.{WritesAll, BreaksOff}
+use Rattle.findings.specs.declared.options.Options.{Options}
+use Rattle.command_words.specs.Words.{AsksExplore, AsksReplay, IsExplore, IsInRange, IsReplay}
+use Rattle.command_words.specs.declared.words.Words.{Words}
+use Rattle.command_words.specs.declared.words.Words.TheVariants.{Replay, Explore}
 use Rattle.explorer_engine.specs.Engine.{IsRunOf, IsRefusedBefore, IsHandedOn, WritesNothing}
 use Rattle.explorer_engine.specs.FaultText.{text_of_fault}
 use Rattle.explorer_engine.specs.Status.{status_of}
-use Rattle.explorer_engine.specs.Words.{IsReplay}
+use Rattle.explorer_engine.specs.Explored.{IsExplorationOf, IsCleanIfSaid}
 use Rattle.explorer_engine.specs.declared.verdict.RunFault.{RunFault}
 use Rattle.explorer_engine.specs.declared.verdict.Verdict.{Verdict}
-use Rattle.explorer_engine.specs.declared.verdict.Verdict.TheVariants.{Done}
 
 -- what was done to a stream: the bytes that it told before and after, whether a call on it has failed, and whether its last call was a flush that succeeded
 pub record Written : Type 0 where
@@ -28,25 +31,33 @@ IsUntouched w = WritesNothing w.old w.new w.failed
 abbrev pub Gets : Written → List ℕ → Type 0
 Gets w text = WritesAll w.old w.new w.failed text ⊎ BreaksOff w.old w.new w.failed text
 
--- a refusal is reported by its line, and a run that was done by nothing
+-- a refusal is reported by its line, and any other end by nothing
 abbrev pub IsReported : Written → Result Verdict RunFault → Type 0
-IsReported errors (Ok Done) = IsUntouched errors
+IsReported errors (Ok verdict) = IsUntouched errors
 IsReported errors (Err fault) = Gets errors (text_of_fault fault)
 
--- the schedule that the words ask for was run on the input: what the run wrote to the output was flushed, the third stream got the line of a refusal or nothing, and the status is that of the run
+-- what was asked for was done with the input: a schedule was replayed, or the schedules were explored
+abbrev pub IsDone : Words → List ℕ → (old new : Option (List ℕ)) → Bool → Result Verdict RunFault → Type 0
+IsDone (Replay schedule) input old new failed outcome = IsRunOf input (string_bytes schedule) old new failed outcome
+IsDone (Explore options) input old new failed outcome = IsExplorationOf input options old new failed outcome × IsCleanIfSaid input options outcome
+
+-- what the words ask for was done with the input: what it wrote to the output was flushed, the third stream got the line of a refusal or nothing, and the status is that of its end
 pub record IsRun (words : List (List ℕ)) (input : Option (List ℕ)) (output errors : Written) (status : ℕ) : Type 0 where
-  pub schedule : List ℕ
-  pub asked : (word : List ℕ) → IsReplay words word → schedule ≡ word
+  pub asked : Words
+  pub replay : (schedule : List ℕ) → IsReplay words schedule → AsksReplay schedule asked
+  pub explore : (options : Options) → IsExplore words options → AsksExplore options asked
+  pub in_range : IsInRange asked
   pub outcome : Result Verdict RunFault
-  pub run : IfSome input (λ bytes. IsRunOf bytes schedule output.old output.new output.failed outcome)
+  pub run : IfSome input (λ bytes. IsDone asked bytes output.old output.new output.failed outcome)
   pub silent : IsRefusedBefore outcome → IsUntouched output
   pub flushed : IsHandedOn outcome output.flushed
   pub reported : IsReported errors outcome
   pub status_is : status ≡ status_of outcome
 
--- the words were refused: the output got nothing, and the third stream a text, which is that of no memory where the words are a replay
+-- the words were refused: the output got nothing, and the third stream a text, which is that of no memory where the words are a replay or an exploration
 pub record AreRefused (words : List (List ℕ)) (output errors : Written) : Type 0 where
   pub silent : IsUntouched output
   pub text : List ℕ
   pub told : Gets errors text
-  pub memory : (word : List ℕ) → IsReplay words word → text ≡ codes "error: out of memory\n"
+  pub no_replay : (schedule : List ℕ) → IsReplay words schedule → text ≡ codes "error: out of memory\n"
+  pub no_exploration : (options : Options) → IsExplore words options → text ≡ codes "error: out of memory\n"

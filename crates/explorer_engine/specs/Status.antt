@@ -6,10 +6,11 @@ use Rattle.term_core.specs.declared.schedule.ScheduleFault.{ScheduleFault}
 use Rattle.term_core.specs.declared.schedule.ScheduleFault.TheVariants as schedule
 use Rattle.replay_core.specs.declared.replay_fault.ReplayFault.{ReplayFault}
 use Rattle.replay_core.specs.declared.replay_fault.ReplayFault.TheVariants as replay
+use Rattle.search_crew.specs.declared.fault.SearchFault.TheVariants as search
 use Rattle.explorer_engine.specs.declared.verdict.RunFault.{RunFault}
 use Rattle.explorer_engine.specs.declared.verdict.RunFault.TheVariants as run
 use Rattle.explorer_engine.specs.declared.verdict.Verdict.{Verdict}
-use Rattle.explorer_engine.specs.declared.verdict.Verdict.TheVariants.{Done}
+use Rattle.explorer_engine.specs.declared.verdict.Verdict.TheVariants.{Done, Clean, Errors, Incomplete}
 
 -- a module that was refused, or the lack of memory
 abbrev pub status_of_read_fault : ReadFault → ℕ
@@ -33,9 +34,17 @@ status_of_fault (run.Input fault) = status_of_read_fault fault
 status_of_fault run.ReadFailed = 2
 status_of_fault (run.Schedule fault) = status_of_schedule_fault fault
 status_of_fault (run.Replay fault) = status_of_replay_fault fault
+status_of_fault (run.Explore search.Memory) = 3
 status_of_fault run.Output = 4
+
+-- of what was not refused: done, or without an error; with errors; nodes were left
+abbrev pub status_of_verdict : Verdict → ℕ
+status_of_verdict Done = 0
+status_of_verdict Clean = 0
+status_of_verdict Errors = 1
+status_of_verdict Incomplete = 3
 
 -- of a run
 abbrev pub status_of : Result Verdict RunFault → ℕ
-status_of (Ok Done) = 0
+status_of (Ok verdict) = status_of_verdict verdict
 status_of (Err fault) = status_of_fault fault

@@ -6,6 +6,7 @@ ghost use Rattle.explorer_engine.specs.FaultText.{placed, text_of_read_fault, te
 use crate::verdict::RunFault;
 use core_reader::ReadFault;
 use replay_core::ReplayFault;
+use search_crew::SearchFault;
 use term_core::{ScheduleFault, Sink, WriteFault, write_all, write_number};
 
 /// Writes the line of a refusal: the part that refused, the fault by its number and its name, and its
@@ -20,6 +21,7 @@ pub fn write_fault<W: Sink>(sink: &mut W, fault: &RunFault) -> Result<(), WriteF
         RunFault::ReadFailed => write_all(sink, b"input: read failed\n"),
         RunFault::Schedule(fault) => write_schedule_fault(sink, fault),
         RunFault::Replay(fault) => write_replay_fault(sink, fault),
+        RunFault::Explore(SearchFault::Memory) => write_all(sink, b"explore: 1 Memory\n"),
         RunFault::Output => write_all(sink, b"output failed\n"),
     }
 }

@@ -1,16 +1,20 @@
 // The whole program over its three streams, from its words to its exit status.
-ghost use Rattle.std.specs.Prelude.{◌≡◌, ◌≢◌, ◌==◌, ℕ, List, false, codes, map};
+ghost use Rattle.std.specs.Prelude.{◌≡◌, ◌≢◌, ◌==◌, ℕ, List, IfSome, false, codes, map};
 ghost use Rattle.clap.specs.Values.{kind_of};
 ghost use Rattle.term_core.specs.Stream.{Writes};
-ghost use Rattle.explorer_engine.specs.Program.{IsRun, IsReported, AreRefused, written};
+ghost use Rattle.command_words.specs.Words.{IsInRange};
+ghost use Rattle.explorer_engine.specs.Engine.{IsRefusedBefore, IsHandedOn, WritesNothing};
+ghost use Rattle.explorer_engine.specs.Program.{IsDone, IsRun, IsReported, AreRefused, written};
 ghost use Rattle.explorer_engine.specs.Status.{status_of};
 
 use crate::engine::run_replay;
+use crate::explore::run_explore;
 use crate::fault_text::write_fault;
 use crate::verdict::{RunFault, Verdict, status};
-use crate::words::read_words;
 use clap::Error;
 use clap::error::ErrorKind;
+use command_words::{Words, read_words};
+use search_crew::Gate;
 use std::alloc::Global;
 use std::convert::AsStr;
 use term_core::{Sink, Source, WriteFault, write_all};
@@ -22,16 +26,17 @@ pub const WORDS_REFUSED: u8 = 64;
 pub const NO_MEMORY_FOR_WORDS: &[u8] = b"error: out of memory\n";
 
 /// Does what the words of a command line ask for, of which the first is the program's name, and gives
-/// the exit status: replays a schedule in the module that the input has, writes the transcript to the
-/// output and flushes that, and reports a refusal by its line on the third stream, which it does not
-/// flush. Where the words are refused, with status 64, the third stream gets the parser's text, and the
-/// output nothing.
-pub fn run<S: AsStr, R: Source, W: Sink, E: Sink>(
+/// the exit status: replays a schedule in the module that the input has, or explores its schedules, writes the
+/// transcript or the report to the output and flushes that, and reports a refusal by its line on the third stream,
+/// which it does not flush. The gate is told of the work of an exploration. Where the words are refused, with status
+/// 64, the third stream gets the parser's text, and the output nothing.
+pub fn run<S: AsStr, R: Source, W: Sink, E: Sink, G: Gate>(
     alloc: Global,
     words: &[S],
     input: &mut R,
     output: &mut W,
     errors: &mut E,
+    gate: &G,
 ) -> u8
     requires readable { R.has_failed input.old ≡ false }
     requires writable { W.has_failed output.old ≡ false }
@@ -47,13 +52,35 @@ pub fn run<S: AsStr, R: Source, W: Sink, E: Sink>(
 {
     match read_words(alloc, words) {
         Ok(asked) => {
-            let outcome = run_replay(alloc, input, asked.schedule(), output);
+            let outcome = run_asked(alloc, &asked, input, gate, output);
             report(&outcome, errors)
         }
         Err(error) => {
             let _ = write_words_error(alloc, &error, errors);
             WORDS_REFUSED
         }
+    }
+}
+
+// Does what was asked for.
+fn run_asked<R: Source, G: Gate, W: Sink>(
+    alloc: Global,
+    asked: &Words,
+    input: &mut R,
+    gate: &G,
+    output: &mut W,
+) -> Result<Verdict, RunFault>
+    requires readable { R.has_failed input.old ≡ false }
+    requires writable { W.has_failed output.old ≡ false }
+    requires range { IsInRange asked.now }
+    ensures run { IfSome (R.remaining input.old) (λ bytes. IsDone asked.now bytes (W.contents output.old) (W.contents output.new) (W.has_failed output.new) result) }
+    ensures silent { IsRefusedBefore result → WritesNothing (W.contents output.old) (W.contents output.new) (W.has_failed output.new) }
+    ensures failed { W.has_failed output.new ≡ (status_of result == 4) }
+    ensures flushed { IsHandedOn result (W.is_flushed output.new) }
+{
+    match asked {
+        Words::Replay(schedule) => run_replay(alloc, input, schedule.as_str(), output),
+        Words::Explore(options) => run_explore(alloc, input, options, gate, output),
     }
 }
 

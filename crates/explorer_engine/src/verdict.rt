@@ -1,10 +1,11 @@
 // How a run ends: its verdict or its refusal, and the exit status that reports it.
 ghost use Rattle.std.specs.Prelude.{◌≡◌};
-ghost use Rattle.explorer_engine.specs.Status.{status_of, status_of_fault, status_of_read_fault, status_of_schedule_fault, status_of_replay_fault};
+ghost use Rattle.explorer_engine.specs.Status.{status_of, status_of_verdict, status_of_fault, status_of_read_fault, status_of_schedule_fault, status_of_replay_fault};
 
 use crate::input::InputFault;
 use core_reader::ReadFault;
 use replay_core::ReplayFault;
+use search_crew::SearchFault;
 use term_core::{ScheduleFault, WriteFault};
 
 /// What a run that was not refused came to.
@@ -12,6 +13,12 @@ use term_core::{ScheduleFault, WriteFault};
 pub enum Verdict {
     /// The whole schedule was replayed.
     Done,
+    /// All nodes were visited, and none shows an error.
+    Clean,
+    /// All nodes were visited, and some show errors.
+    Errors,
+    /// Not all nodes were visited.
+    Incomplete,
 }
 
 /// Why a run was refused.
@@ -25,6 +32,8 @@ pub enum RunFault {
     Schedule(ScheduleFault),
     /// The replay stopped.
     Replay(ReplayFault),
+    /// The search was not begun.
+    Explore(SearchFault),
     /// The output could not be written or flushed.
     Output,
 }
@@ -75,6 +84,16 @@ impl From<ReplayFault> for RunFault {
     }
 }
 
+impl From<SearchFault> for RunFault {
+    ghost use Rattle.explorer_engine.specs.declared.verdict.RunFault.TheVariants as run;
+
+    ghost from_gives = { λ fault refusal. refusal ≡ run.Explore fault };
+
+    fn from(fault: SearchFault) -> RunFault {
+        RunFault::Explore(fault)
+    }
+}
+
 impl From<WriteFault> for RunFault {
     ghost use Rattle.explorer_engine.specs.declared.verdict.RunFault.TheVariants as run;
 
@@ -85,14 +104,27 @@ impl From<WriteFault> for RunFault {
     }
 }
 
-/// The exit status of a run: 0 where it was done, 2 where what it was given was refused, 3 where there
-/// was no memory, and 4 where its output could not be written.
+/// The exit status of a run: 0 where it was done or found no error, 1 where it visited all nodes and found errors, 2
+/// where what it was given was refused, 3 where there was no memory or nodes were left, and 4 where its output could
+/// not be written.
 pub fn status(outcome: &Result<Verdict, RunFault>) -> u8
     ensures { result ≡ status_of outcome.now }
 {
     match outcome {
-        Ok(Verdict::Done) => 0,
+        Ok(verdict) => verdict_status(*verdict),
         Err(fault) => fault_status(fault),
+    }
+}
+
+// The exit status of what was not refused.
+fn verdict_status(verdict: Verdict) -> u8
+    ensures { result ≡ status_of_verdict verdict }
+{
+    match verdict {
+        Verdict::Done => 0,
+        Verdict::Clean => 0,
+        Verdict::Errors => 1,
+        Verdict::Incomplete => 3,
     }
 }
 
@@ -105,6 +137,7 @@ fn fault_status(fault: &RunFault) -> u8
         RunFault::ReadFailed => 2,
         RunFault::Schedule(fault) => schedule_status(fault),
         RunFault::Replay(fault) => replay_status(fault),
+        RunFault::Explore(SearchFault::Memory) => 3,
         RunFault::Output => 4,
     }
 }

@@ -3,8 +3,6 @@
 #![tactic(auto)]
 
 #[cfg(test)]
-mod command_words;
-#[cfg(test)]
 mod input;
 #[cfg(test)]
 mod refusals;
@@ -12,3 +10,5 @@ mod refusals;
 mod replays;
 #[cfg(test)]
 mod transcript;
+#[cfg(test)]
+mod words;

@@ -1,11 +1,11 @@
 // The status and the line of each refusal, alone and as the whole program reports it.
 use core_tokens::ReadFault;
 use explorer_engine::{InputFault, NAME, ReplayFault, RunFault, Verdict, run, status, write_fault};
+use sleep_tree::Unwatched;
 use std::alloc::{AllocError, Global};
-use std::process::Abort;
 use std::test::Fail;
 use term_core::ScheduleFault;
-use test_support::{MemorySink, MemorySource};
+use test_support::{MemorySink, MemorySource, holds, same};
 
 // Refusals with their status and their line.
 const REFUSALS: [(RunFault, u8, &[u8]); 9] = [
@@ -56,44 +56,38 @@ const REFUSALS: [(RunFault, u8, &[u8]); 9] = [
     ),
 ];
 
-// Asserts the status and the line of a refusal.
-fn tells(
-    rt: &impl Abort,
-    alloc: Global,
-    fault: RunFault,
-    number: u8,
-    line: &[u8],
-) -> Result<(), Fail> {
-    assert_eq!(rt; status(&Err(fault)), number, "{fault:?}");
+// Tells whether a refusal has this line.
+fn writes(alloc: Global, fault: &RunFault, line: &[u8]) -> Result<(), Fail> {
     let mut sink = MemorySink::with_room(alloc, 100)?;
-    let result = write_fault(&mut sink, &fault);
-    assert!(rt; result.is_ok());
-    assert_eq!(rt; sink.bytes.as_slice(), line);
-    Ok(())
+    write_fault(&mut sink, fault)?;
+    same(sink.bytes.as_slice(), line)
+}
+
+// Tells whether a refusal has this status and this line.
+fn tells(alloc: Global, fault: RunFault, number: u8, line: &[u8]) -> Result<(), Fail> {
+    holds(status(&Err(fault)) == number, "a refusal has its status")?;
+    writes(alloc, &fault, line)
 }
 
 #[test]
 fn tells_each_refusal_by_its_status_and_its_line(rt: HostRuntime) -> Result<(), Fail> {
     assert_eq!(rt; status(&Ok(Verdict::Done)), 0);
     for (fault, number, line) in REFUSALS {
-        tells(&rt, rt.alloc(), fault, number, line)?;
+        tells(rt.alloc(), fault, number, line)?;
     }
     tells(
-        &rt,
         rt.alloc(),
         RunFault::from(InputFault::Memory),
         3,
         b"input: 15 Memory\n",
     )?;
     tells(
-        &rt,
         rt.alloc(),
         RunFault::from(InputFault::ReadFailed),
         2,
         b"input: read failed\n",
     )?;
     tells(
-        &rt,
         rt.alloc(),
         RunFault::from(ReplayFault::Write),
         4,
@@ -194,7 +188,14 @@ fn reported(
     let mut output = MemorySink::with_flushes(alloc, room, flushes)?;
     let mut errors = MemorySink::with_room(alloc, 100)?;
     let words = [NAME, "replay", schedule];
-    let status = run(alloc, &words, &mut input, &mut output, &mut errors);
+    let status = run(
+        alloc,
+        &words,
+        &mut input,
+        &mut output,
+        &mut errors,
+        &Unwatched,
+    );
     Ok((status, output.bytes, errors.bytes))
 }
 

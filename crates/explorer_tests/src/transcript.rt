@@ -4,11 +4,10 @@ use proc_links::Effect;
 use proc_signals::Signal;
 use report_text::write_event;
 use std::alloc::{AllocError, Global};
-use std::process::Abort;
 use std::sync::Arc;
 use std::test::Fail;
 use term_core::{Pid, RefId, Step, Term, Terms, list_onto};
-use test_support::MemorySink;
+use test_support::{MemorySink, same};
 use world_calls::Refusal;
 use world_core::{Deed, Event};
 use world_model::rule::Rule;
@@ -20,9 +19,21 @@ fn pid(alloc: Global, numbers: &[u64]) -> Result<Pid, AllocError> {
     Pid::new(alloc, Vec::from_slice(alloc, numbers)?)
 }
 
-// Asserts that the line is written so, in one write or in many.
+// Tells whether the line of an event is written so, so many bytes at a time.
+fn writes(
+    alloc: Global,
+    number: u64,
+    event: &Event,
+    line: &[u8],
+    piece: usize,
+) -> Result<(), Fail> {
+    let mut sink = MemorySink::in_pieces(alloc, 1000, piece)?;
+    write_event(&mut sink, number, event)?;
+    same(sink.bytes.as_slice(), line)
+}
+
+// Tells whether the line is written so, in one write or in many.
 fn prints(
-    rt: &impl Abort,
     alloc: Global,
     number: u64,
     process: &[u64],
@@ -34,9 +45,7 @@ fn prints(
         deed,
     };
     for piece in PIECES {
-        let mut sink = MemorySink::in_pieces(alloc, 1000, piece)?;
-        assert!(rt; write_event(&mut sink, number, &event).is_ok());
-        assert_eq!(rt; sink.bytes.as_slice(), line);
+        writes(alloc, number, &event, line, piece)?;
     }
     Ok(())
 }
@@ -74,7 +83,7 @@ fn prints_a_table_that_is_made(rt: HostRuntime) -> Result<(), Fail> {
     let arguments = table_and(alloc, list(alloc, Term::atom(alloc, "named_table")?)?)?;
     let deed = served(alloc, CallKind::New, arguments, Term::atom(alloc, "t")?)?;
     let line = b"3 P.2 ets:new('t',['named_table']) -> 't'\n";
-    prints(&rt, alloc, 3, &[2], deed, line)
+    prints(alloc, 3, &[2], deed, line)
 }
 
 #[test]
@@ -88,7 +97,7 @@ fn prints_an_object_that_is_put(rt: HostRuntime) -> Result<(), Fail> {
         Term::atom(alloc, "true")?,
     )?;
     let line = b"3 P.2 ets:insert('t',{'a',1}) -> 'true'\n";
-    prints(&rt, alloc, 3, &[2], deed, line)
+    prints(alloc, 3, &[2], deed, line)
 }
 
 #[test]
@@ -102,7 +111,7 @@ fn prints_objects_that_are_found(rt: HostRuntime) -> Result<(), Fail> {
         list(alloc, object(alloc)?)?,
     )?;
     let line = b"3 P.2 ets:lookup('t','a') -> [{'a',1}]\n";
-    prints(&rt, alloc, 3, &[2], deed, line)
+    prints(alloc, 3, &[2], deed, line)
 }
 
 #[test]
@@ -112,7 +121,7 @@ fn prints_a_message_that_is_sent(rt: HostRuntime) -> Result<(), Fail> {
     let arguments = vec![in alloc; Term::Pid(pid(alloc, &[])?), message.copy()?]?;
     let deed = served(alloc, CallKind::Bang, arguments, message)?;
     let line = b"3 P.2 erlang:!(P,'b') -> 'b'\n";
-    prints(&rt, alloc, 3, &[2], deed, line)
+    prints(alloc, 3, &[2], deed, line)
 }
 
 #[test]
@@ -121,7 +130,7 @@ fn prints_a_reference_that_is_made(rt: HostRuntime) -> Result<(), Fail> {
     let reference = Term::Ref(RefId::new(alloc, pid(alloc, &[])?, 1)?);
     let deed = served(alloc, CallKind::MakeRef, Vec::new(alloc), reference)?;
     let line = b"3 P.2 erlang:make_ref() -> #P.1\n";
-    prints(&rt, alloc, 3, &[2], deed, line)
+    prints(alloc, 3, &[2], deed, line)
 }
 
 // Rules with the owner that is reported, and the lines of their refusals.
@@ -195,7 +204,7 @@ fn refused(alloc: Global, rule: Rule, numbers: Option<&[u64]>) -> Result<Deed, A
 fn prints_refused_calls(rt: HostRuntime) -> Result<(), Fail> {
     for (rule, owner, line) in REFUSED {
         let deed = refused(rt.alloc(), rule, owner)?;
-        prints(&rt, rt.alloc(), 1, &[], deed, line)?;
+        prints(rt.alloc(), 1, &[], deed, line)?;
     }
     Ok(())
 }
@@ -203,16 +212,9 @@ fn prints_refused_calls(rt: HostRuntime) -> Result<(), Fail> {
 #[test]
 fn prints_ends_and_waits(rt: HostRuntime) -> Result<(), Fail> {
     let end = Deed::Ended(Term::atom(rt.alloc(), "normal")?);
-    prints(&rt, rt.alloc(), 4, &[], end, b"4 P ends 'normal'\n")?;
-    prints(&rt, rt.alloc(), 1, &[], Deed::RanAway, b"1 P runs away\n")?;
-    prints(
-        &rt,
-        rt.alloc(),
-        4,
-        &[1],
-        Deed::TimedOut,
-        b"4 P.1 times out\n",
-    )
+    prints(rt.alloc(), 4, &[], end, b"4 P ends 'normal'\n")?;
+    prints(rt.alloc(), 1, &[], Deed::RanAway, b"1 P runs away\n")?;
+    prints(rt.alloc(), 4, &[1], Deed::TimedOut, b"4 P.1 times out\n")
 }
 
 // The reference `#P.1`.
@@ -220,22 +222,13 @@ fn reference(alloc: Global) -> Result<RefId, AllocError> {
     RefId::new(alloc, pid(alloc, &[])?, 1)
 }
 
-// Asserts that the line of a delivery from the first process to another is this one.
-fn brings(
-    rt: &impl Abort,
-    alloc: Global,
-    signal: Signal,
-    effect: Effect,
-    line: &[u8],
-) -> Result<(), Fail> {
+// Tells whether the line of a delivery from the first process to another is this one.
+fn brings(alloc: Global, signal: Signal, effect: Effect, line: &[u8]) -> Result<(), Fail> {
     let event = Event {
         step: Step::Deliver(pid(alloc, &[])?, pid(alloc, &[2])?),
         deed: Deed::Delivered(signal, effect),
     };
-    let mut sink = MemorySink::with_room(alloc, 1000)?;
-    assert!(rt; write_event(&mut sink, 5, &event).is_ok());
-    assert_eq!(rt; sink.bytes.as_slice(), line);
-    Ok(())
+    writes(alloc, 5, &event, line, 1000)
 }
 
 #[test]
@@ -244,24 +237,18 @@ fn prints_signals_that_are_delivered(rt: HostRuntime) -> Result<(), Fail> {
     let a = Term::atom(alloc, "a")?;
     let put = Effect::Put(a.copy()?);
     let line = b"5 P>P.2 brings 'a'\n";
-    brings(&rt, alloc, Signal::Message(a.copy()?), put, line)?;
+    brings(alloc, Signal::Message(a.copy()?), put, line)?;
     let ends = Effect::Ends(Term::atom(alloc, "killed")?);
     let line = b"5 P>P.2 exit 'a' -> ends 'killed'\n";
-    brings(&rt, alloc, Signal::Exit(a.copy()?), ends, line)?;
+    brings(alloc, Signal::Exit(a.copy()?), ends, line)?;
     let line = b"5 P>P.2 exit 'a' -> ignored\n";
-    brings(&rt, alloc, Signal::Exit(a.copy()?), Effect::Ignored, line)?;
+    brings(alloc, Signal::Exit(a.copy()?), Effect::Ignored, line)?;
     let line = b"5 P>P.2 exit 'a' -> dropped\n";
-    brings(
-        &rt,
-        alloc,
-        Signal::LinkExit(a.copy()?),
-        Effect::Dropped,
-        line,
-    )?;
+    brings(alloc, Signal::LinkExit(a.copy()?), Effect::Dropped, line)?;
     let down = Signal::Down(reference(alloc)?, a.copy()?);
     let line = b"5 P>P.2 down #P.1 -> dropped\n";
-    brings(&rt, alloc, down, Effect::Dropped, line)?;
+    brings(alloc, down, Effect::Dropped, line)?;
     let put = Effect::Put(a.copy()?);
     let down = Signal::Down(reference(alloc)?, a);
-    brings(&rt, alloc, down, put, b"5 P>P.2 down #P.1 -> 'a'\n")
+    brings(alloc, down, put, b"5 P>P.2 down #P.1 -> 'a'\n")
 }

@@ -2,6 +2,7 @@
 #![tactic(auto)]
 
 use explorer_engine::{WORDS_REFUSED, run};
+use sleep_tree::Unwatched;
 use std::env;
 use std::io::BufWriter;
 use std::process::ExitCode;
@@ -28,10 +29,18 @@ fn main(rt: HostRuntime) -> ExitCode {
             &mut input,
             &mut Output::new(writer),
             &mut errors,
+            &Unwatched,
         ),
         Err(_) => {
             let mut output = Output::new(rt.stdout());
-            run(alloc, &words, &mut input, &mut output, &mut errors)
+            run(
+                alloc,
+                &words,
+                &mut input,
+                &mut output,
+                &mut errors,
+                &Unwatched,
+            )
         }
     };
     ExitCode::from(status)

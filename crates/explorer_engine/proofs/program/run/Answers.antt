@@ -4,12 +4,14 @@ use Rattle.explorer_engine.proofs.program.run.Goals as goal
 
 pub returns-in-Ok-clause-run : goal.returns-in-Ok-clause-run
 returns-in-Ok-clause-run g c ran = record {
-  schedule = c.schedule.result.now;
-  asked = λ word asks. c.schedule.ensures ∙ c.in-Ok.ensures word asks;
-  outcome = c.run_replay-outcome.result;
-  run = c.run_replay-outcome.ensures.run;
-  silent = c.run_replay-outcome.ensures.silent;
-  flushed = c.run_replay-outcome.ensures.flushed;
+  asked = c.in-Ok.asked;
+  replay = c.in-Ok.ensures.replay;
+  explore = c.in-Ok.ensures.explore;
+  in_range = c.in-Ok.ensures.range;
+  outcome = c.run_asked-outcome.result;
+  run = c.run_asked-outcome.ensures.run;
+  silent = c.run_asked-outcome.ensures.silent;
+  flushed = c.run_asked-outcome.ensures.flushed;
   reported = c.report.ensures.line;
   status_is = c.report.ensures.status;
 }
@@ -19,5 +21,6 @@ returns-in-Err-clause-refused g c refused = record {
   silent = record { same = refl; sound = c.requires.writable };
   text = c.write_words_error.ensures.0;
   told = gets _ _ _ _ _ c.write_words_error.ensures.2;
-  memory = λ word asks. c.write_words_error.ensures.1 (c.in-Err.ensures word asks);
+  no_replay = λ schedule asks. c.write_words_error.ensures.1 (c.in-Err.ensures.replay schedule asks);
+  no_exploration = λ options asks. c.write_words_error.ensures.1 (c.in-Err.ensures.explore options asks);
 }

@@ -1,0 +1,14 @@
+pub mod Asked
+pub mod CommandLine
+pub mod Entered
+pub mod Explored
+pub mod Found
+pub mod Kept
+pub mod Named
+pub mod Numbers
+pub mod Once
+pub mod Options
+pub mod Ranges
+pub mod Reading
+pub mod Replayed
+pub mod Rows

@@ -1,0 +1,123 @@
+-- Options that are given once each are new, one after the other, and in their ranges.
+use Rattle.std.proofs.Common.{◌≡◌, ◌∙◌, ◌||◌, ℕ, ◌≤◌, ◌+◌, Bool, false, List, [], ◌∷◌, ◌++◌, length, cond, codes, refl, ap, arith}
+use Rattle.std.specs.List.{count_by}
+use Rattle.std.specs.Str.{bytes_eq}
+use Rattle.std.proofs.lemmas.List.Folds.{list_any-append}
+use Rattle.std.proofs.lemmas.List.Sums.{sum_by-cons}
+use Rattle.clap.specs.Walk.{Row, Text, has_row}
+use Rattle.command_words.specs.Words.{Given, depth, nodes, allow_deadlock, strict_access, depths_of, nodes_of, is_allow_deadlock, is_strict_access}
+use Rattle.command_words.proofs.Options.{AreLawful, AreNew}
+use Rattle.command_words.proofs.Rows.{id_of, row_of}
+
+-- no option of the list has this name
+abbrev IsNoneOf : Text → List Given → Type 0
+IsNoneOf id [] = Unit {0}
+IsNoneOf id (given ∷ rest) = (bytes_eq id (id_of given) ≡ false) × IsNoneOf id rest
+
+no_depth : (given : List Given) → length (depths_of given) ≤ 0 → IsNoneOf (codes "depth") given
+no_depth [] few = tt
+no_depth (depth n ∷ rest) few = absurd (omega arith)
+no_depth (nodes n ∷ rest) few = (refl, no_depth rest few)
+no_depth (allow_deadlock ∷ rest) few = (refl, no_depth rest few)
+no_depth (strict_access ∷ rest) few = (refl, no_depth rest few)
+
+no_nodes : (given : List Given) → length (nodes_of given) ≤ 0 → IsNoneOf (codes "nodes") given
+no_nodes [] few = tt
+no_nodes (nodes n ∷ rest) few = absurd (omega arith)
+no_nodes (depth n ∷ rest) few = (refl, no_nodes rest few)
+no_nodes (allow_deadlock ∷ rest) few = (refl, no_nodes rest few)
+no_nodes (strict_access ∷ rest) few = (refl, no_nodes rest few)
+
+counted : (p : Given → Bool) (given : Given) (rest : List Given) → count_by p (given ∷ rest) ≡ cond (p given) 1 0 + count_by p rest
+counted p given rest = sum_by-cons (λ x. cond (p x) 1 0) given rest
+
+no_allow_deadlock : (given : List Given) → count_by is_allow_deadlock given ≤ 0 → IsNoneOf (codes "allow-deadlock") given
+no_allow_deadlock [] few = tt
+no_allow_deadlock (allow_deadlock ∷ rest) few = absurd (omega (arith, counted is_allow_deadlock allow_deadlock rest))
+no_allow_deadlock (depth n ∷ rest) few = (refl, no_allow_deadlock rest (omega (arith, counted is_allow_deadlock (depth n) rest)))
+no_allow_deadlock (nodes n ∷ rest) few = (refl, no_allow_deadlock rest (omega (arith, counted is_allow_deadlock (nodes n) rest)))
+no_allow_deadlock (strict_access ∷ rest) few = (refl, no_allow_deadlock rest (omega (arith, counted is_allow_deadlock strict_access rest)))
+
+no_strict_access : (given : List Given) → count_by is_strict_access given ≤ 0 → IsNoneOf (codes "strict-access") given
+no_strict_access [] few = tt
+no_strict_access (strict_access ∷ rest) few = absurd (omega (arith, counted is_strict_access strict_access rest))
+no_strict_access (depth n ∷ rest) few = (refl, no_strict_access rest (omega (arith, counted is_strict_access (depth n) rest)))
+no_strict_access (nodes n ∷ rest) few = (refl, no_strict_access rest (omega (arith, counted is_strict_access (nodes n) rest)))
+no_strict_access (allow_deadlock ∷ rest) few = (refl, no_strict_access rest (omega (arith, counted is_strict_access allow_deadlock rest)))
+
+-- no name comes twice
+abbrev AreApart : List Given → Type 0
+AreApart [] = Unit {0}
+AreApart (given ∷ rest) = IsNoneOf (id_of given) rest × AreApart rest
+
+-- each option is given at most once
+pub record AreOnce (given : List Given) : Type 0 where
+  pub depths : length (depths_of given) ≤ 1
+  pub nodes : length (nodes_of given) ≤ 1
+  pub allow_deadlock : count_by is_allow_deadlock given ≤ 1
+  pub strict_access : count_by is_strict_access given ≤ 1
+
+-- the options after the first are given no more often
+fewer_depths : (first : Given) (rest : List Given) → length (depths_of rest) ≤ length (depths_of (first ∷ rest))
+fewer_depths (depth n) rest = omega arith
+fewer_depths (nodes n) rest = omega arith
+fewer_depths allow_deadlock rest = omega arith
+fewer_depths strict_access rest = omega arith
+
+fewer_nodes : (first : Given) (rest : List Given) → length (nodes_of rest) ≤ length (nodes_of (first ∷ rest))
+fewer_nodes (depth n) rest = omega arith
+fewer_nodes (nodes n) rest = omega arith
+fewer_nodes allow_deadlock rest = omega arith
+fewer_nodes strict_access rest = omega arith
+
+rest_once : (first : Given) (rest : List Given) → AreOnce (first ∷ rest) → AreOnce rest
+rest_once first rest once = record {
+  depths = omega (arith, once.depths, fewer_depths first rest);
+  nodes = omega (arith, once.nodes, fewer_nodes first rest);
+  allow_deadlock = omega (arith, once.allow_deadlock, counted is_allow_deadlock first rest);
+  strict_access = omega (arith, once.strict_access, counted is_strict_access first rest);
+}
+
+first_apart : (first : Given) (rest : List Given) → AreOnce (first ∷ rest) → IsNoneOf (id_of first) rest
+first_apart (depth n) rest once = no_depth rest (omega (arith, once.depths))
+first_apart (nodes n) rest once = no_nodes rest (omega (arith, once.nodes))
+first_apart allow_deadlock rest once = no_allow_deadlock rest (omega (arith, once.allow_deadlock, counted is_allow_deadlock allow_deadlock rest))
+first_apart strict_access rest once = no_strict_access rest (omega (arith, once.strict_access, counted is_strict_access strict_access rest))
+
+apart : (given : List Given) → AreOnce given → AreApart given
+apart [] once = tt
+apart (first ∷ rest) once = (first_apart first rest once, apart rest (rest_once first rest once))
+
+-- no option has a row among these
+abbrev AreUnseen : List Row → List Given → Type 0
+AreUnseen rows [] = Unit {0}
+AreUnseen rows (given ∷ rest) = (has_row (id_of given) rows ≡ false) × AreUnseen rows rest
+
+unseen_after : (rows : List Row) (first : Given) (given : List Given) → IsNoneOf (id_of first) given → AreUnseen rows given → AreUnseen (rows ++ row_of first ∷ []) given
+unseen_after rows first [] none unseen = tt
+unseen_after rows first (given ∷ rest) none unseen =
+    let one : has_row (id_of given) (row_of first ∷ []) ≡ false = ap (λ b. b || false) none.0 in
+    (list_any-append (λ r. bytes_eq r.id (id_of given)) rows (row_of first ∷ []) ∙ (λ i. unseen.0 i || one i), unseen_after rows first rest none.1 unseen.1)
+
+new_by : (rows : List Row) (given : List Given) → AreUnseen rows given → AreApart given → AreNew rows given
+new_by rows [] unseen differ = tt
+new_by rows (first ∷ rest) unseen differ = (unseen.0, new_by (rows ++ row_of first ∷ []) rest (unseen_after rows first rest differ.0 unseen.1) differ.1)
+
+unseen_at_first : (given : List Given) → AreUnseen [] given
+unseen_at_first [] = tt
+unseen_at_first (given ∷ rest) = (refl, unseen_at_first rest)
+
+pub once_are_new : (given : List Given) → AreOnce given → AreNew [] given
+once_are_new given once = new_by [] given (unseen_at_first given) (apart given once)
+
+-- each number of a list
+abbrev pub Each : (ℕ → Type 0) → List ℕ → Type 0
+Each P [] = Unit {0}
+Each P (n ∷ rest) = P n × Each P rest
+
+pub lawful_by : (given : List Given) → Each (λ n. n ≤ 400) (depths_of given) → Each (λ n. (1 ≤ n) × (n ≤ 10000000)) (nodes_of given) → AreLawful given
+lawful_by [] depths numbers = tt
+lawful_by (depth n ∷ rest) depths numbers = (depths.0, lawful_by rest depths.1 numbers)
+lawful_by (nodes n ∷ rest) depths numbers = (numbers.0, lawful_by rest depths numbers.1)
+lawful_by (allow_deadlock ∷ rest) depths numbers = (tt, lawful_by rest depths numbers)
+lawful_by (strict_access ∷ rest) depths numbers = (tt, lawful_by rest depths numbers)

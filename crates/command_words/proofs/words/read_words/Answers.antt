@@ -1,0 +1,98 @@
+use Rattle.std.proofs.Common.{◌≡◌, ◌∙◌, None, Some, ap, map, subst, sym}
+use Rattle.std.specs.Prelude.{Err}
+use Rattle.std.proofs.lemmas.Result.{err_from_is_err_and}
+use Rattle.clap.specs.Words.{app_of, subcommand_of, subcommand_rows_of}
+use Rattle.command_words.specs.Words.{AsksExplore, AsksReplay}
+use Rattle.command_words.specs.inside.CommandLine.{command_line}
+use Rattle.command_words.specs.inside.Found.{AreOptionsOf, schedule_in}
+use Rattle.command_words.proofs.Asked.{explore_has_no_schedule, explore_is_found, explore_passes, explore_reads, found_in_range}
+use Rattle.command_words.proofs.Named.{explore_named, replay_named}
+use Rattle.command_words.proofs.Reading.{entered_is, no_word_found, passes_is, refused_for_memory, word_found}
+use Rattle.command_words.proofs.Replayed.{replay_enters, replay_passes}
+use Rattle.command_words.proofs.words.read_words.Goals as goal
+
+pub returns-in_err-matches-clause-replay : goal.returns-in_err-matches-clause-replay
+returns-in_err-matches-clause-replay g c schedule asks =
+    let words = map g.S.AsStr.text c.args.words.now in
+    let p = err_from_is_err_and c.from_residual-in_err-matches.result c.from_residual-in_err-matches.ensures.1 in
+    refused_for_memory (app_of c.in_ok-command.command) words (AsksReplay schedule) c.in_err-matches.field-0.0 c.from_residual-in_err-matches.result
+    c.in_ok-command.ensures.line (replay_passes words schedule asks) c.in_err-matches.ensures.kinds (p.1 ∙ ap Err p.2)
+
+pub returns-in_err-matches-clause-explore : goal.returns-in_err-matches-clause-explore
+returns-in_err-matches-clause-explore g c options asks =
+    let words = map g.S.AsStr.text c.args.words.now in
+    let p = err_from_is_err_and c.from_residual-in_err-matches.result c.from_residual-in_err-matches.ensures.1 in
+    refused_for_memory (app_of c.in_ok-command.command) words (AsksExplore options) c.in_err-matches.field-0.0 c.from_residual-in_err-matches.result
+    c.in_ok-command.ensures.line (explore_passes words options asks) c.in_err-matches.ensures.kinds (p.1 ∙ ap Err p.2)
+
+pub returns-in-Some-clause-replay : goal.returns-in-Some-clause-replay
+returns-in-Some-clause-replay g c schedule asks =
+    let words = map g.S.AsStr.text c.args.words.now in
+    let entered = entered_is (app_of c.in_ok-command.command) words (subcommand_rows_of c.in_ok-matches.matches) c.in_ok-command.ensures.line c.in_ok-matches.ensures.matches in
+    let found = word_found c.found_schedule.result c.in-Some.schedule _ c.found_schedule.ensures c.in-Some.is in
+    let same : Some c.in-Some.schedule.now ≡ Some schedule = sym found ∙ ap schedule_in entered ∙ replay_enters words schedule asks in
+    let word : c.in-Some.schedule.now ≡ schedule = cc in
+    c.in_ok-from_str.ensures.ok ∙ word
+
+pub returns-in-Some-clause-explore : goal.returns-in-Some-clause-explore
+returns-in-Some-clause-explore g c options asks =
+    let words = map g.S.AsStr.text c.args.words.now in
+    let entered = entered_is (app_of c.in_ok-command.command) words (subcommand_rows_of c.in_ok-matches.matches) c.in_ok-command.ensures.line c.in_ok-matches.ensures.matches in
+    let found = word_found c.found_schedule.result c.in-Some.schedule _ c.found_schedule.ensures c.in-Some.is in
+    let same : Some c.in-Some.schedule.now ≡ None = sym found ∙ ap schedule_in entered ∙ explore_has_no_schedule words options asks in
+    cc
+
+pub returns-in-Some-clause-named : goal.returns-in-Some-clause-named
+returns-in-Some-clause-named g c =
+    let words = map g.S.AsStr.text c.args.words.now in
+    let entered = entered_is (app_of c.in_ok-command.command) words (subcommand_rows_of c.in_ok-matches.matches) c.in_ok-command.ensures.line c.in_ok-matches.ensures.matches in
+    let found = word_found c.found_schedule.result c.in-Some.schedule _ c.found_schedule.ensures c.in-Some.is in
+    replay_named words c.in-Some.schedule.now (passes_is (app_of c.in_ok-command.command) words c.in_ok-command.ensures.line c.in_ok-matches.ensures.kinds) (sym (ap schedule_in entered) ∙ found)
+
+pub returns-in_default-found_options-clause-replay : goal.returns-in_default-found_options-clause-replay
+returns-in_default-found_options-clause-replay g c schedule asks =
+    let words = map g.S.AsStr.text c.args.words.now in
+    let entered = entered_is (app_of c.in_ok-command.command) words (subcommand_rows_of c.in_ok-matches.matches) c.in_ok-command.ensures.line c.in_ok-matches.ensures.matches in
+    let found = no_word_found c.found_schedule.result _ c.found_schedule.ensures c.in_default.is in
+    let same : None ≡ Some schedule = sym found ∙ ap schedule_in entered ∙ replay_enters words schedule asks in
+    cc
+
+pub returns-in_default-found_options-clause-explore : goal.returns-in_default-found_options-clause-explore
+returns-in_default-found_options-clause-explore g c options asks =
+    let words = map g.S.AsStr.text c.args.words.now in
+    let entered = entered_is (app_of c.in_ok-command.command) words (subcommand_rows_of c.in_ok-matches.matches) c.in_ok-command.ensures.line c.in_ok-matches.ensures.matches in
+    let found : AreOptionsOf (subcommand_of command_line words) None = subst (λ r. AreOptionsOf (subcommand_of command_line words) r) c.in_default-found_options.is
+    (subst (λ o. AreOptionsOf o c.found_options.result) entered c.found_options.ensures) in
+    absurd (explore_is_found words options asks found)
+
+pub returns-clause-replay : goal.returns-clause-replay
+returns-clause-replay g c schedule asks =
+    let words = map g.S.AsStr.text c.args.words.now in
+    let entered = entered_is (app_of c.in_ok-command.command) words (subcommand_rows_of c.in_ok-matches.matches) c.in_ok-command.ensures.line c.in_ok-matches.ensures.matches in
+    let found = no_word_found c.found_schedule.result _ c.found_schedule.ensures c.in_default.is in
+    let same : None ≡ Some schedule = sym found ∙ ap schedule_in entered ∙ replay_enters words schedule asks in
+    cc
+
+pub returns-clause-explore : goal.returns-clause-explore
+returns-clause-explore g c options asks =
+    let words = map g.S.AsStr.text c.args.words.now in
+    let entered = entered_is (app_of c.in_ok-command.command) words (subcommand_rows_of c.in_ok-matches.matches) c.in_ok-command.ensures.line c.in_ok-matches.ensures.matches in
+    let found : AreOptionsOf (subcommand_of command_line words) (Some c.in-Some-found_options.options) =
+    subst (λ r. AreOptionsOf (subcommand_of command_line words) r) c.in-Some-found_options.is (subst (λ o. AreOptionsOf o c.found_options.result) entered c.found_options.ensures) in
+    explore_reads words options c.in-Some-found_options.options asks found
+
+pub returns-clause-range : goal.returns-clause-range
+returns-clause-range g c =
+    let words = map g.S.AsStr.text c.args.words.now in
+    let entered = entered_is (app_of c.in_ok-command.command) words (subcommand_rows_of c.in_ok-matches.matches) c.in_ok-command.ensures.line c.in_ok-matches.ensures.matches in
+    let found : AreOptionsOf (subcommand_of command_line words) (Some c.in-Some-found_options.options) =
+    subst (λ r. AreOptionsOf (subcommand_of command_line words) r) c.in-Some-found_options.is (subst (λ o. AreOptionsOf o c.found_options.result) entered c.found_options.ensures) in
+    found_in_range words c.in-Some-found_options.options (passes_is (app_of c.in_ok-command.command) words c.in_ok-command.ensures.line c.in_ok-matches.ensures.kinds) found
+
+pub returns-clause-named : goal.returns-clause-named
+returns-clause-named g c =
+    let words = map g.S.AsStr.text c.args.words.now in
+    let entered = entered_is (app_of c.in_ok-command.command) words (subcommand_rows_of c.in_ok-matches.matches) c.in_ok-command.ensures.line c.in_ok-matches.ensures.matches in
+    let found : AreOptionsOf (subcommand_of command_line words) (Some c.in-Some-found_options.options) =
+    subst (λ r. AreOptionsOf (subcommand_of command_line words) r) c.in-Some-found_options.is (subst (λ o. AreOptionsOf o c.found_options.result) entered c.found_options.ensures) in
+    explore_named words c.in-Some-found_options.options (passes_is (app_of c.in_ok-command.command) words c.in_ok-command.ensures.line c.in_ok-matches.ensures.kinds) found

@@ -1,0 +1,114 @@
+-- What the words of a command line ask for.
+use Rattle.std.specs.Prelude.{◌≡◌, ℕ, ◌==◌, ◌≤◌, Bool, true, false, List, [], ◌∷◌, ◌++◌, codes, count_by, if◌then◌else◌, Result, MatchResult, string_bytes}
+use Rattle.std.specs.Fmt.{decimal}
+use Rattle.clap.specs.Values.{kind_of}
+use Rattle.clap.specs.declared.error.Error.{Error}
+use Rattle.clap.specs.declared.error.kind.ErrorKind.TheVariants.{OutOfMemory}
+use Rattle.findings.specs.declared.options.Options.{Options}
+use Rattle.command_words.specs.declared.words.Words.{Words}
+use Rattle.command_words.specs.declared.words.Words.TheVariants.{Replay, Explore}
+
+-- a word that begins with a hyphen, which the parser may take for an option
+abbrev pub begins_with_hyphen : List ℕ → Bool
+begins_with_hyphen [] = false
+begins_with_hyphen (byte ∷ rest) = byte == 45
+
+-- the words are the name of the program, `replay` and this schedule, which begins with no hyphen
+pub record IsReplay (words : List (List ℕ)) (schedule : List ℕ) : Type 0 where
+  pub name : List ℕ
+  pub words_are : words ≡ name ∷ codes "replay" ∷ schedule ∷ []
+  pub plain : begins_with_hyphen schedule ≡ false
+
+-- an option of `explore`, as it may be given
+pub data Given : Type 0 where
+  depth : ℕ → Given
+  nodes : ℕ → Given
+  allow_deadlock : Given
+  strict_access : Given
+
+-- its words: a number is given by its decimal digits
+abbrev pub words_of : Given → List (List ℕ)
+words_of (depth n) = codes "--depth" ∷ decimal n ∷ []
+words_of (nodes n) = codes "--nodes" ∷ decimal n ∷ []
+words_of allow_deadlock = codes "--allow-deadlock" ∷ []
+words_of strict_access = codes "--strict-access" ∷ []
+
+-- the words of one option after another
+abbrev pub words_of_all : List Given → List (List ℕ)
+words_of_all [] = []
+words_of_all (option ∷ rest) = words_of option ++ words_of_all rest
+
+-- the numbers that are given by `--depth`
+abbrev pub depths_of : List Given → List ℕ
+depths_of [] = []
+depths_of (depth n ∷ rest) = n ∷ depths_of rest
+depths_of (_ ∷ rest) = depths_of rest
+
+-- the numbers that are given by `--nodes`
+abbrev pub nodes_of : List Given → List ℕ
+nodes_of [] = []
+nodes_of (nodes n ∷ rest) = n ∷ nodes_of rest
+nodes_of (_ ∷ rest) = nodes_of rest
+
+abbrev pub is_allow_deadlock : Given → Bool
+is_allow_deadlock allow_deadlock = true
+is_allow_deadlock _ = false
+
+abbrev pub is_strict_access : Given → Bool
+is_strict_access strict_access = true
+is_strict_access _ = false
+
+-- a number that may be given once, or else is the default
+abbrev pub IsGivenOr : ℕ → List ℕ → ℕ → Type 0
+IsGivenOr default [] n = n ≡ default
+IsGivenOr default (given ∷ []) n = n ≡ given
+IsGivenOr default _ n = ⊥
+
+-- the ranges of a command line: the budget and the number of workers are always the same
+pub record AreInRange (options : Options) : Type 0 where
+  pub depth : options.depth ≤ 400
+  pub least_nodes : 1 ≤ options.nodes
+  pub most_nodes : options.nodes ≤ 10000000
+  pub budget : options.budget ≡ 64
+  pub workers : options.workers ≡ 1
+
+-- the words are the name of the program, `explore` and options in any order: `--depth` once, each other one once or not at all
+pub record IsExplore (words : List (List ℕ)) (options : Options) : Type 0 where
+  pub name : List ℕ
+  pub given : List Given
+  pub words_are : words ≡ name ∷ codes "explore" ∷ words_of_all given
+  pub depth : depths_of given ≡ options.depth ∷ []
+  pub nodes : IsGivenOr 1000000 (nodes_of given) options.nodes
+  pub allow_deadlock : count_by is_allow_deadlock given ≡ (if options.flags.allow_deadlock then 1 else 0)
+  pub strict_access : count_by is_strict_access given ≡ (if options.flags.strict_access then 1 else 0)
+  pub in_range : AreInRange options
+
+-- the words are the name of the program, this name of a command, and others
+pub record IsNamed (words : List (List ℕ)) (command : List ℕ) : Type 0 where
+  pub name : List ℕ
+  pub rest : List (List ℕ)
+  pub words_are : words ≡ name ∷ command ∷ rest
+
+-- the name of the command that was read
+abbrev pub command_of : Words → List ℕ
+command_of (Replay word) = codes "replay"
+command_of (Explore options) = codes "explore"
+
+-- what was read is the replay of this schedule
+abbrev pub AsksReplay : List ℕ → Words → Type 0
+AsksReplay schedule (Replay word) = string_bytes word ≡ schedule
+AsksReplay schedule (Explore options) = ⊥
+
+-- what was read is an exploration with these options
+abbrev pub AsksExplore : Options → Words → Type 0
+AsksExplore options (Replay word) = ⊥
+AsksExplore options (Explore found) = found ≡ options
+
+-- the options of an exploration are in their ranges
+abbrev pub IsInRange : Words → Type 0
+IsInRange (Replay word) = Unit {0}
+IsInRange (Explore options) = AreInRange options
+
+-- the words were read as what they ask for, or there was no memory for them
+abbrev pub AreReadAs : (Words → Type 0) → Result Words Error → Type 0
+AreReadAs Asks r = MatchResult r Asks (λ e. kind_of e ≡ OutOfMemory)

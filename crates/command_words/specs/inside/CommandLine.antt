@@ -1,0 +1,59 @@
+-- The command line as its parser reads it.
+use Rattle.std.specs.Prelude.{◌≡◌, ℕ, List, [], ◌∷◌, codes, Some, true, false}
+use Rattle.clap.specs.Simple.{built_leaf, inherited, marked_built, with_leaf_noted}
+use Rattle.clap.specs.Words.{App, Rule, Shape, app_of, new_app, new_rule, rule_of, with_rule, with_subcommand}
+use Rattle.clap.specs.declared.builder.action.ArgAction.TheVariants.{Set, SetTrue}
+use Rattle.clap.specs.declared.builder.arg.Arg.{Arg}
+use Rattle.clap.specs.declared.builder.command.Command.{Command}
+use Rattle.clap.specs.declared.builder.command.Command.TheViews.{out-Command}
+use Rattle.clap.specs.declared.builder.value_parser.ValueParser.TheVariants.{Unsigned}
+
+-- the argument of `replay`, which has to be there
+abbrev pub schedule_rule : Rule
+schedule_rule = record (new_rule (codes "SCHEDULE")) { required = true; action = Some Set }
+
+-- `replay SCHEDULE`
+abbrev pub replay_command : App
+replay_command = with_rule (new_app (codes "replay")) schedule_rule
+
+-- `--depth N`, which has to be there
+abbrev pub depth_rule : Rule
+depth_rule = record (new_rule (codes "depth")) { long = Some (codes "depth"); required = true; action = Some Set; value_names = 1; parser = Some (Unsigned 0 400) }
+
+-- `--nodes N`
+abbrev pub nodes_rule : Rule
+nodes_rule = record (new_rule (codes "nodes")) { long = Some (codes "nodes"); action = Some Set; value_names = 1; parser = Some (Unsigned 1 10000000); defaults = codes "1000000" ∷ [] }
+
+-- an option that stands alone
+abbrev pub flag_rule : List ℕ → Rule
+flag_rule name = record (new_rule name) { long = Some name; action = Some SetTrue }
+
+-- `explore` with its options
+abbrev pub explore_command : App
+explore_command = with_rule (with_rule (with_rule (with_rule (new_app (codes "explore")) depth_rule) nodes_rule) (flag_rule (codes "allow-deadlock"))) (flag_rule (codes "strict-access"))
+
+-- the program's name and a subcommand, which has to be there
+abbrev pub program_command : App
+program_command = record (new_app (codes "schedule_explorer")) { top = record (new_app (codes "schedule_explorer")).top { subcommand_required = true } }
+
+-- the whole
+abbrev pub command_line : App
+command_line = with_subcommand (with_subcommand program_command replay_command.top) explore_command.top
+
+-- the command is this one, and has no argument that its subcommands have too
+pub record IsMadeAs (app : App) (made : Command) : Type 0 where
+  pub line : app_of made ≡ app
+  pub local : (out-Command made).has_globals ≡ false
+
+-- the argument is read by this rule, and is one of its command alone
+pub record IsArgument (rule : Rule) (made : Arg) : Type 0 where
+  pub rule_is : rule_of made ≡ rule
+  pub local : made.global ≡ false
+
+-- the program's command as its subcommands see it when it is built
+abbrev pub program_built : Shape
+program_built = with_leaf_noted (marked_built command_line.top)
+
+-- `explore` when it is built, with its option for help
+abbrev pub explore_built : Shape
+explore_built = built_leaf (inherited program_built explore_command.top)

@@ -1,0 +1,143 @@
+// The commands of the program and their arguments, and what the parser found of them.
+ghost use Rattle.std.specs.Prelude.{◌≡◌, option_map, IfOk, IfErr};
+ghost use Rattle.clap.specs.Values.{kind_of};
+ghost use Rattle.clap.specs.Words.{app_of, found_of, one_of, rows_of, subcommand_rows_of};
+ghost use Rattle.command_words.specs.inside.CommandLine.{IsArgument, IsMadeAs, command_line, depth_rule, explore_command, flag_rule, nodes_rule, replay_command};
+ghost use Rattle.command_words.specs.inside.Found.{AreOptionsOf, ReadsNumber, schedule_in};
+
+use clap::error::ErrorKind;
+use clap::{Arg, ArgAction, ArgMatches, Command, Error, value_parser};
+use findings::{Flags, Options};
+use std::alloc::Global;
+
+/// The name of the program.
+pub const NAME: &str = "schedule_explorer";
+
+/// How many nodes a worker visits before it hands the rest back.
+pub const BUDGET: u64 = 64;
+
+/// How many workers explore.
+pub const WORKERS: u64 = 1;
+
+// The program's command line.
+pub(crate) fn command<'a>(alloc: Global) -> Result<Command<'a>, Error>
+    ensures line { IfOk result (λ made. app_of made ≡ command_line) }
+    ensures memory { IfErr result (λ e. kind_of e ≡ ErrorKind.OutOfMemory) }
+{
+    let explorer = Command::new(alloc, NAME)
+        .about(
+            "Runs a module of Core Erlang, read from standard input, under schedules of its processes",
+        )
+        .subcommand_required(true)
+        .subcommand(replay_command(alloc)?)?
+        .subcommand(explore_command(alloc)?)?;
+    Ok(explorer)
+}
+
+// `replay SCHEDULE`.
+fn replay_command<'a>(alloc: Global) -> Result<Command<'a>, Error>
+    ensures line { IfOk result (λ made. IsMadeAs replay_command made) }
+    ensures memory { IfErr result (λ e. kind_of e ≡ ErrorKind.OutOfMemory) }
+{
+    let schedule = Arg::new(alloc, "SCHEDULE")
+        .required(true)
+        .action(ArgAction::Set)
+        .help("Steps with one blank between them, as one word: \"P P.2 P>P.2\"");
+    let replay = Command::new(alloc, "replay")
+        .about("Replays a schedule, and prints what each of its steps did")
+        .arg(schedule)?;
+    Ok(replay)
+}
+
+// `explore` and its options.
+fn explore_command<'a>(alloc: Global) -> Result<Command<'a>, Error>
+    ensures line { IfOk result (λ made. IsMadeAs explore_command made) }
+    ensures memory { IfErr result (λ e. kind_of e ≡ ErrorKind.OutOfMemory) }
+{
+    let allow_deadlock = flag(
+        alloc,
+        "allow-deadlock",
+        "Does not report schedules after which all processes wait for ever",
+    );
+    let strict_access = flag(
+        alloc,
+        "strict-access",
+        "Also reports calls that are refused because of who makes them",
+    );
+    let explore = Command::new(alloc, "explore")
+        .about(
+            "Explores all schedules up to a number of steps, and reports the errors that they lead to",
+        )
+        .arg(depth_option(alloc))?
+        .arg(nodes_option(alloc))?
+        .arg(allow_deadlock)?
+        .arg(strict_access)?;
+    Ok(explore)
+}
+
+// `--depth N`.
+fn depth_option<'a>(alloc: Global) -> Arg<'a>
+    ensures { IsArgument depth_rule result }
+{
+    Arg::new(alloc, "depth")
+        .long("depth")
+        .required(true)
+        .action(ArgAction::Set)
+        .value_name("N")
+        .value_parser(value_parser!(u64).range(0..=400))
+        .help("How many steps a schedule may have, from 0 to 400")
+}
+
+// `--nodes N`.
+fn nodes_option<'a>(alloc: Global) -> Arg<'a>
+    ensures { IsArgument nodes_rule result }
+{
+    Arg::new(alloc, "nodes")
+        .long("nodes")
+        .action(ArgAction::Set)
+        .value_name("N")
+        .value_parser(value_parser!(u64).range(1..=10_000_000))
+        .default_value("1000000")
+        .help("How many schedules may be visited, from 1 to 10000000")
+}
+
+// An option that stands alone.
+fn flag<'a>(alloc: Global, name: &'a str, help: &'a str) -> Arg<'a>
+    ensures { IsArgument (flag_rule name.entry.now) result }
+{
+    Arg::new(alloc, name)
+        .long(name)
+        .action(ArgAction::SetTrue)
+        .help(help)
+}
+
+// The schedule that is to be replayed.
+pub(crate) fn found_schedule<'a>(matches: &ArgMatches<'a>) -> Option<&'a str>
+    ensures { option_map (λ word. word.now) result ≡ schedule_in (subcommand_rows_of matches.now) }
+{
+    matches.subcommand_matches("replay")?.get_str("SCHEDULE")
+}
+
+// The options of the exploration.
+pub(crate) fn found_options(matches: &ArgMatches<'_>) -> Option<Options>
+    ensures { AreOptionsOf (subcommand_rows_of matches.now) result }
+{
+    let given = matches.subcommand_matches("explore")?;
+    Some(Options {
+        depth: found_number(given, "depth")?,
+        nodes: found_number(given, "nodes")?,
+        budget: BUDGET,
+        workers: WORKERS,
+        flags: Flags {
+            allow_deadlock: given.get_flag("allow-deadlock"),
+            strict_access: given.get_flag("strict-access"),
+        },
+    })
+}
+
+// The number that an option has.
+fn found_number(matches: &ArgMatches<'_>, id: &str) -> Option<u64>
+    ensures { ReadsNumber (one_of id.now (rows_of (found_of matches.now))) result }
+{
+    matches.get_one::<u64>(id)
+}

@@ -1,0 +1,8 @@
+// The words of the command line: what the program is asked to do.
+#![tactic(auto)]
+
+pub mod command_line;
+pub mod words;
+
+pub use command_line::{BUDGET, NAME, WORKERS};
+pub use words::{Words, read_words};

@@ -1,0 +1,86 @@
+-- What a search came to, and what of its report was written, says what an exploration comes to.
+use Rattle.std.proofs.Common.{◌≡◌, ℕ, Bool, true, false, List, [], ◌∷◌, Option, Some, None, IfSome, refl, sym, subst}
+use Rattle.std.specs.Prelude.{Result, Ok, Err}
+use Rattle.core_tree.specs.Syntax.{ModuleTree}
+use Rattle.core_reader.specs.ModuleText.{SpellsModule}
+use Rattle.core_reader.specs.Refusal.{IsRefusalOf}
+use Rattle.core_tokens.specs.declared.fault.ReadFault.{ReadFault}
+use Rattle.term_core.specs.Stream.{WritesAll, BreaksOff}
+use Rattle.world_model.specs.Asking.{program_of}
+use Rattle.world_model.specs.Names.{IsAmong}
+use Rattle.world_model.specs.Shown.{Identity, is_error}
+use Rattle.coverage.specs.Findings.{Finding, IsFound}
+use Rattle.coverage.specs.Shown.{IsShown}
+use Rattle.findings.specs.declared.options.Options.{Options}
+use Rattle.findings.specs.declared.outcome.Outcome.{Outcome}
+use Rattle.findings.specs.declared.outcome.Outcome.TheVariants as outcomes
+use Rattle.sleep_tree.specs.Explorations.{ExplorationSeen, program_in}
+use Rattle.search_crew.specs.Outcomes.{IsOutcome, IsExact, explored_by}
+use Rattle.search_crew.specs.declared.fault.SearchFault.{SearchFault}
+use Rattle.report_text.specs.ReportText.{text_of_report}
+use Rattle.explorer_engine.specs.Explored.{IsExplored, IsExplorationOf, IsCleanIfSaid, ShowsNoError, complete_verdict, verdict_of}
+use Rattle.explorer_engine.specs.Input.{IsInputOf}
+use Rattle.explorer_engine.specs.declared.verdict.RunFault.{RunFault}
+use Rattle.explorer_engine.specs.declared.verdict.RunFault.TheVariants as run
+use Rattle.explorer_engine.specs.declared.verdict.Verdict.{Verdict}
+use Rattle.explorer_engine.specs.declared.verdict.Verdict.TheVariants.{Clean}
+use Rattle.explorer_engine.proofs.EngineLaws.{spells_all, refused_all}
+
+-- a module that was refused
+pub module_refused : (remaining : Option (List ℕ)) (bytes : List ℕ) (options : Options) (contents : Option (List ℕ)) (failed : Bool) (fault : ReadFault) (r : Result Verdict RunFault)
+    → r ≡ Err (run.Input fault) → IfSome remaining (λ all. IsInputOf 1048576 all bytes) → IsRefusalOf bytes fault → failed ≡ false
+    → IfSome remaining (λ input. IsExplorationOf input options contents contents failed r)
+module_refused None bytes options contents failed fault r e is refusal sound = tt
+module_refused (Some all) bytes options contents failed fault r e is refusal sound =
+    subst (λ (r : Result Verdict RunFault). IsExplorationOf all options contents contents failed r) (sym e) (refused_all all bytes fault is refusal, record { same = refl; sound = sound })
+
+-- a search that was not begun
+pub not_begun : (remaining : Option (List ℕ)) (bytes : List ℕ) (options : Options) (contents : Option (List ℕ)) (failed : Bool) (m : ModuleTree) (fault : SearchFault) (r : Result Verdict RunFault)
+    → r ≡ Err (run.Explore fault) → IfSome remaining (λ all. IsInputOf 1048576 all bytes) → SpellsModule bytes m → failed ≡ false
+    → IfSome remaining (λ input. IsExplorationOf input options contents contents failed r)
+not_begun None bytes options contents failed m fault r e is spelt sound = tt
+not_begun (Some all) bytes options contents failed m fault r e is spelt sound =
+    subst (λ (r : Result Verdict RunFault). IsExplorationOf all options contents contents failed r) (sym e) (record { program = m; module_text = spells_all all bytes m is spelt; quiet = record { same = refl; sound = sound } })
+
+explored : (all bytes : List ℕ) (options : Options) (m : ModuleTree) (outcome : Outcome)
+    → IsInputOf 1048576 all bytes → SpellsModule bytes m → IsOutcome (explored_by m options) options.nodes outcome → IsExact (explored_by m options) outcome → IsExplored all options outcome
+explored all bytes options m outcome is spelt comes exact = record { program = m; module_text = spells_all all bytes m is spelt; is_outcome = comes; is_exact = exact }
+
+-- a report that was written
+pub reported : (remaining : Option (List ℕ)) (bytes : List ℕ) (options : Options) (old new : Option (List ℕ)) (failed : Bool) (m : ModuleTree) (outcome : Outcome) (verdict : Verdict)
+    → IfSome remaining (λ all. IsInputOf 1048576 all bytes) → SpellsModule bytes m → IsOutcome (explored_by m options) options.nodes outcome → IsExact (explored_by m options) outcome
+    → WritesAll old new failed (text_of_report options.depth outcome) → verdict ≡ verdict_of outcome → IfSome remaining (λ input. IsExplorationOf input options old new failed (Ok verdict))
+reported None bytes options old new failed m outcome verdict is spelt comes exact written told = tt
+reported (Some all) bytes options old new failed m outcome verdict is spelt comes exact written told =
+    record { outcome = outcome; explored = explored all bytes options m outcome is spelt comes exact; written = written; told = told }
+
+-- one that broke off
+pub broken : (remaining : Option (List ℕ)) (bytes : List ℕ) (options : Options) (old new : Option (List ℕ)) (failed : Bool) (m : ModuleTree) (outcome : Outcome) (r : Result Verdict RunFault)
+    → r ≡ Err run.Output → IfSome remaining (λ all. IsInputOf 1048576 all bytes) → SpellsModule bytes m → IsOutcome (explored_by m options) options.nodes outcome → IsExact (explored_by m options) outcome
+    → BreaksOff old new failed (text_of_report options.depth outcome) → IfSome remaining (λ input. IsExplorationOf input options old new failed r)
+broken None bytes options old new failed m outcome r e is spelt comes exact part = tt
+broken (Some all) bytes options old new failed m outcome r e is spelt comes exact part =
+    subst (λ (r : Result Verdict RunFault). IsExplorationOf all options old new failed r) (sym e) (record { outcome = outcome; explored = explored all bytes options m outcome is spelt comes exact; broken = part })
+
+-- ---- clean means none
+
+-- where all that is listed is none, no schedule shows one
+none_found : (e : ExplorationSeen) (outcome : Outcome) → IsExact e outcome → verdict_of outcome ≡ Clean → (i : Identity) → is_error e.flags i ≡ true → IsShown (program_in e) e.depth i → ⊥
+none_found e (outcomes.Complete findings nodes) exact is i error shown = go findings.errors is ((exact i).errors.1 (error, shown))
+  where
+    go : (fs : List Finding) → complete_verdict fs ≡ Clean → IsFound i fs → ⊥
+    go [] clean there = there.1
+    go (f ∷ fs) clean there = absurd cc
+none_found e (outcomes.Incomplete cause findings) exact is i error shown = absurd cc
+
+pub clean_means_none : (remaining : Option (List ℕ)) (bytes : List ℕ) (options : Options) (m : ModuleTree) (outcome : Outcome) (verdict : Verdict)
+    → ((text : List ℕ) (a b : ModuleTree) → SpellsModule text a → SpellsModule text b → a ≡ b)
+    → IfSome remaining (λ all. IsInputOf 1048576 all bytes) → SpellsModule bytes m → IsExact (explored_by m options) outcome → verdict ≡ verdict_of outcome
+    → IfSome remaining (λ input. IsCleanIfSaid input options (Ok verdict))
+clean_means_none None bytes options m outcome verdict once is spelt exact told = tt
+clean_means_none (Some all) bytes options m outcome verdict once is spelt exact told = λ said k spells.
+    let same : m ≡ k = once all m k (spells_all all bytes m is spelt) spells in
+    subst (λ (n : ModuleTree). ShowsNoError n options) same (none_found (explored_by m options) outcome exact (clean (Ok verdict) verdict refl told said))
+  where
+    clean : (r : Result Verdict RunFault) (v : Verdict) → r ≡ Ok v → v ≡ verdict_of outcome → r ≡ Ok Clean → verdict_of outcome ≡ Clean
+    clean r v is told said = cc

@@ -1,0 +1,35 @@
+use Rattle.std.proofs.Common.{◌≡◌, ℕ, List, ap, subst, ◌∙◌}
+use Rattle.std.specs.Prelude.{Ok, Err}
+use Rattle.std.proofs.lemmas.Result.{err_from_is_err_and}
+use Rattle.core_reader.specs.ModuleText.{SpellsModule}
+use Rattle.explorer_engine.proofs.ExploredLaws.{broken, clean_means_none, not_begun, reported}
+use Rattle.explorer_engine.proofs.explore.run_explore.Goals as goal
+
+pub returns-in_err-outcome-clause-run : goal.returns-in_err-outcome-clause-run
+returns-in_err-outcome-clause-run g c =
+    let p = err_from_is_err_and c.from_residual-in_err-outcome.result c.from_residual-in_err-outcome.ensures.1 in
+    not_begun (g.R.Source.remaining c.args.source.now) c.in_ok-text.text.items c.args.options.now (g.W.Sink.contents c.args.sink.now) (g.W.Sink.has_failed c.args.sink.now)
+    c.in_ok-program.program c.in_err-outcome.field-0.0 c.from_residual-in_err-outcome.result (p.1 ∙ ap Err p.2) c.in_ok-text.ensures.input
+    (subst (λ (t : List ℕ). SpellsModule t c.in_ok-program.program) c.deref.ensures.value c.in_ok-program.ensures.spelt) c.requires.writable
+
+pub returns-in_err-write_and_flush-clause-run : goal.returns-in_err-write_and_flush-clause-run
+returns-in_err-write_and_flush-clause-run g c =
+    let p = err_from_is_err_and c.from_residual-in_err-write_and_flush.result c.from_residual-in_err-write_and_flush.ensures.1 in
+    broken (g.R.Source.remaining c.args.source.now) c.in_ok-text.text.items c.args.options.now (g.W.Sink.contents c.args.sink.now) (g.W.Sink.contents c.write_and_flush.new.sink) (g.W.Sink.has_failed c.write_and_flush.new.sink)
+    c.in_ok-program.program c.in_ok-outcome.outcome c.from_residual-in_err-write_and_flush.result (p.1 ∙ ap Err p.2) c.in_ok-text.ensures.input
+    (subst (λ (t : List ℕ). SpellsModule t c.in_ok-program.program) c.deref.ensures.value c.in_ok-program.ensures.spelt)
+    c.in_ok-outcome.ensures.outcome c.in_ok-outcome.ensures.exact c.in_err-write_and_flush.ensures.written
+
+pub returns-clause-run : goal.returns-clause-run
+returns-clause-run g c =
+    reported (g.R.Source.remaining c.args.source.now) c.in_ok-text.text.items c.args.options.now (g.W.Sink.contents c.args.sink.now) (g.W.Sink.contents c.write_and_flush.new.sink) (g.W.Sink.has_failed c.write_and_flush.new.sink)
+    c.in_ok-program.program c.in_ok-outcome.outcome c.verdict_of.result c.in_ok-text.ensures.input
+    (subst (λ (t : List ℕ). SpellsModule t c.in_ok-program.program) c.deref.ensures.value c.in_ok-program.ensures.spelt)
+    c.in_ok-outcome.ensures.outcome c.in_ok-outcome.ensures.exact c.in_ok-write_and_flush.ensures.written c.verdict_of.ensures
+
+pub returns-clause-clean : goal.returns-clause-clean
+returns-clause-clean g c =
+    clean_means_none (g.R.Source.remaining c.args.source.now) c.in_ok-text.text.items c.args.options.now c.in_ok-program.program c.in_ok-outcome.outcome c.verdict_of.result
+    c.texts_say_one_module.ensures c.in_ok-text.ensures.input
+    (subst (λ (t : List ℕ). SpellsModule t c.in_ok-program.program) c.deref.ensures.value c.in_ok-program.ensures.spelt)
+    c.in_ok-outcome.ensures.exact c.verdict_of.ensures

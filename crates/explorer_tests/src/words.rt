@@ -1,0 +1,126 @@
+// The words of the command line.
+use explorer_engine::{NAME, Words, read_words, run};
+use sleep_tree::Unwatched;
+use std::test::Fail;
+use test_support::{MemorySink, MemorySource};
+
+// Blanks stand as they are.
+#[test]
+fn reads_the_words_of_a_replay(rt: HostRuntime) -> Result<(), Fail> {
+    for text in ["P P.2>P", "", " P", "P "] {
+        let Words::Replay(schedule) = read_words(rt.alloc(), &[NAME, "replay", text])? else {
+            return Err(Fail::from("the words are no replay"));
+        };
+        assert_eq!(rt; schedule.as_str(), text);
+    }
+    Ok(())
+}
+
+// Words of an exploration, and its depth, its limit of nodes, and its flags.
+const EXPLORATIONS: [(&[&str], u64, u64, bool, bool); 4] = [
+    (
+        &[NAME, "explore", "--depth", "0"],
+        0,
+        1_000_000,
+        false,
+        false,
+    ),
+    (
+        &[NAME, "explore", "--depth", "400", "--nodes", "10000000"],
+        400,
+        10_000_000,
+        false,
+        false,
+    ),
+    (
+        &[
+            NAME,
+            "explore",
+            "--allow-deadlock",
+            "--nodes",
+            "1",
+            "--depth",
+            "7",
+        ],
+        7,
+        1,
+        true,
+        false,
+    ),
+    (
+        &[
+            NAME,
+            "explore",
+            "--strict-access",
+            "--depth",
+            "12",
+            "--allow-deadlock",
+        ],
+        12,
+        1_000_000,
+        true,
+        true,
+    ),
+];
+
+#[test]
+fn reads_the_words_of_an_exploration(rt: HostRuntime) -> Result<(), Fail> {
+    for (words, depth, nodes, allow_deadlock, strict_access) in EXPLORATIONS {
+        let Words::Explore(options) = read_words(rt.alloc(), words)? else {
+            return Err(Fail::from("the words are no exploration"));
+        };
+        assert_eq!(rt; options.depth, depth);
+        assert_eq!(rt; options.nodes, nodes);
+        assert_eq!(rt; options.flags.allow_deadlock, allow_deadlock);
+        assert_eq!(rt; options.flags.strict_access, strict_access);
+    }
+    Ok(())
+}
+
+// Words of no command.
+const REFUSED: [&[&str]; 11] = [
+    &[NAME],
+    &[NAME, "replay"],
+    &[NAME, "replay", "P", "P"],
+    &[NAME, "explore"],
+    &[NAME, "explore", "--depth", "401"],
+    &[NAME, "explore", "--depth", "-1"],
+    &[NAME, "explore", "--depth", "3", "--nodes", "0"],
+    &[NAME, "explore", "--depth", "3", "--nodes", "10000001"],
+    &[NAME, "help"],
+    &[NAME, "--help"],
+    &[NAME, "replay", "--help"],
+];
+
+#[test]
+fn refuses_other_words(rt: HostRuntime) {
+    for words in REFUSED {
+        assert!(rt; read_words(rt.alloc(), words).is_err(), "{words:?}");
+    }
+}
+
+// They end the program with status 64. Nothing is read, and the third stream alone gets the parser's text.
+#[test]
+fn reports_other_words(rt: HostRuntime) -> Result<(), Fail> {
+    for words in REFUSED {
+        let mut input = MemorySource::in_pieces(b"", 1, 0);
+        let mut output = MemorySink::with_room(rt.alloc(), 0)?;
+        let mut errors = MemorySink::with_room(rt.alloc(), 4000)?;
+        let status = run(
+            rt.alloc(),
+            words,
+            &mut input,
+            &mut output,
+            &mut errors,
+            &Unwatched,
+        );
+        assert_eq!(rt; status, 64, "{words:?}");
+        assert!(rt; !input.has_failed && !output.has_failed);
+        let Err(error) = read_words(rt.alloc(), words) else {
+            return Err(Fail::from("the words are those of a command"));
+        };
+        let text = format!(in rt.alloc(); "{error}")?;
+        assert_eq!(rt; errors.bytes.as_slice(), text.as_bytes());
+    }
+    Ok(())
+}

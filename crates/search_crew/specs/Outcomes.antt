@@ -1,0 +1,48 @@
+-- What a search comes to.
+use Rattle.std.specs.Prelude.{◌≡◌, ◌≤◌, ◌<◌, ◌↔◌, ℕ, List, length, true}
+use Rattle.core_tree.specs.Syntax.{ModuleTree}
+use Rattle.world_model.specs.Names.{IsAmong}
+use Rattle.world_model.specs.Shown.{Identity, is_error, is_refusal}
+use Rattle.coverage.specs.Findings.{Finding, Findings, IsFound, findings_of}
+use Rattle.coverage.specs.Jobs.{node_count, root}
+use Rattle.coverage.specs.Shown.{IsShown, RunShows}
+use Rattle.findings.specs.Identities.{flags_in}
+use Rattle.findings.specs.declared.options.Options.{Options}
+use Rattle.findings.specs.declared.outcome.Cause.TheVariants.{NodeLimit, Memory}
+use Rattle.findings.specs.declared.outcome.Outcome.{Outcome}
+use Rattle.findings.specs.declared.outcome.Outcome.TheVariants.{Complete, Incomplete}
+use Rattle.sleep_tree.specs.Explorations.{ExplorationSeen, program_in}
+
+-- the exploration of a module that the options ask for
+abbrev pub explored_by : ModuleTree → Options → ExplorationSeen
+explored_by m options = record { program = m; depth = options.depth; flags = flags_in options.flags }
+
+-- what all nodes of the tree show, and how many they are
+abbrev pub all_findings : ExplorationSeen → Findings
+all_findings e = findings_of e.flags (program_in e) e.depth
+
+abbrev pub all_nodes : ExplorationSeen → ℕ
+all_nodes e = node_count (program_in e) e.depth root
+
+-- each finding is shown by its schedule, which is not too long
+abbrev pub AreShown : ExplorationSeen → List Finding → Type 0
+AreShown e found = (f : Finding) → IsAmong f found → (length f.schedule ≤ e.depth) × RunShows (program_in e) f.schedule f.identity
+
+abbrev pub AllAreShown : ExplorationSeen → Findings → Type 0
+AllAreShown e findings = AreShown e findings.errors × AreShown e findings.refusals
+
+-- a search within a limit of nodes: complete, it found what the nodes show, and counted them, which the limit allows; it stopped at the limit only where the nodes are more
+abbrev pub IsOutcome : ExplorationSeen → ℕ → Outcome → Type 0
+IsOutcome e limit (Complete findings nodes) = (findings ≡ all_findings e) × (nodes ≡ all_nodes e) × (nodes ≤ limit)
+IsOutcome e limit (Incomplete NodeLimit findings) = (limit < all_nodes e) × AllAreShown e findings
+IsOutcome e limit (Incomplete Memory findings) = AllAreShown e findings
+
+-- an error is listed exactly where some schedule shows it of at most so many steps, and a refusal
+pub record IsListedOf (e : ExplorationSeen) (findings : Findings) (i : Identity) : Type 0 where
+  pub errors : IsFound i findings.errors ↔ ((is_error e.flags i ≡ true) × IsShown (program_in e) e.depth i)
+  pub refusals : IsFound i findings.refusals ↔ ((is_refusal i ≡ true) × IsShown (program_in e) e.depth i)
+
+-- what a complete search lists, no more and no less
+abbrev pub IsExact : ExplorationSeen → Outcome → Type 0
+IsExact e (Complete findings nodes) = (i : Identity) → IsListedOf e findings i
+IsExact e (Incomplete cause findings) = Unit {0}

@@ -1,0 +1,28 @@
+// Why a search cannot be begun.
+ghost use Rattle.std.specs.Prelude.{◌≡◌};
+ghost use Rattle.search_crew.specs.declared.fault.SearchFault.TheVariants.{Memory as MemoryFault};
+
+use std::alloc::{AllocError, AllocFailed};
+
+/// Why a search was not begun.
+#[derive(Clone, Copy, Debug, PartialEq, Eq)]
+pub enum SearchFault {
+    /// There was no memory for the first job.
+    Memory,
+}
+
+impl From<AllocError> for SearchFault {
+    ghost from_gives = { λ _ f. f ≡ MemoryFault };
+
+    fn from(_error: AllocError) -> SearchFault {
+        SearchFault::Memory
+    }
+}
+
+impl<T: Drop> From<AllocFailed<T>> for SearchFault {
+    ghost from_gives = { λ _ f. f ≡ MemoryFault };
+
+    fn from(_error: AllocFailed<T>) -> SearchFault {
+        SearchFault::Memory
+    }
+}

@@ -1,0 +1,162 @@
+-- What a stack of frames leaves to be visited.
+use Rattle.std.proofs.Common.{◌≡◌, inl, inr, ◌<◌, ◌^◌, ℕ, zero, suc, ◌+◌, ◌-◌, true, List, [], ◌∷◌, ◌++◌, length, filter, not, Option, Some, None, is_some, refl, sym, ap, ◌∙◌, subst, arith, append_assoc, append-nil}
+use Rattle.std.specs.List.{AllByRecursion}
+use Rattle.term_core.specs.declared.step.Step.{Step}
+use Rattle.world_core.specs.Seen.{Seen, program_in}
+use Rattle.world_model.specs.Asking.{program_of}
+use Rattle.world_model.specs.Events.{Event, History}
+use Rattle.world_model.specs.Names.{IsAmong}
+use Rattle.world_model.specs.Requests.{Program}
+use Rattle.world_model.specs.Run.{next_event, extended, enabled_steps, schedule_of}
+use Rattle.world_model.proofs.Opened.{listed_enabled}
+use Rattle.coverage.specs.Explored.{same_step}
+use Rattle.coverage.specs.Jobs.{Node, asleep_below, awake_steps, nodes_after, nodes_along, node_at, nodes_from}
+use Rattle.coverage.proofs.Lists.{kept_passes}
+use Rattle.sleep_sets.specs.Search.{is_among}
+use Rattle.sleep_tree.specs.Explorations.{ExplorationSeen}
+use Rattle.sleep_tree.specs.inside.Frames.{NodeSeen, FrameSeen, own_node, nodes_of_node, nodes_of_frame, nodes_of_frames, AreEnabled, IsFrame, IsNodeOf, IsFrameOf, AreFramesOf}
+use Rattle.sleep_tree.specs.inside.Snapshots.{IsNode}
+use Rattle.sleep_tree.proofs.Lists.{all_append}
+use Rattle.sleep_tree.proofs.Runs.{IsNext, next_of, longer, one_longer, not_none}
+
+-- a frame on top
+pub frames_push : (fs : List FrameSeen) (f : FrameSeen) → nodes_of_frames (fs ++ f ∷ []) ≡ nodes_of_frame f ++ nodes_of_frames fs
+frames_push [] f = sym (append-nil (nodes_of_frame f))
+frames_push (g ∷ fs) f =
+    ap (λ vs. vs ++ nodes_of_frame g) (frames_push fs f) ∙ append_assoc (nodes_of_frame f) (nodes_of_frames fs) (nodes_of_frame g)
+
+-- ---- a node is visited
+
+module _ (a : Program) (h : History) (schedule slept : List Step) where
+  at_depth : (n : ℕ) → n ≡ 0 → nodes_from a n h schedule slept ≡ node_at a n h schedule slept ∷ []
+  at_depth zero e = refl
+  at_depth (suc n) e = absurd (omega (arith, e))
+
+  all_asleep : (n : ℕ) → awake_steps a h slept ≡ [] → nodes_from a n h schedule slept ≡ node_at a n h schedule slept ∷ []
+  all_asleep zero e = refl
+  all_asleep (suc n) e = ap (λ line. node_at a (suc n) h schedule slept ∷ nodes_along (nodes_from a n) a h schedule slept line) e
+
+  with_more : (n : ℕ) → (n ≡ 0 → ⊥) → nodes_from a n h schedule slept ≡ node_at a n h schedule slept ∷ nodes_along (nodes_from a (n - 1)) a h schedule slept (awake_steps a h slept)
+  with_more zero some = absurd (some refl)
+  with_more (suc n) some =
+      let e : n ≡ suc n - 1 = omega arith in
+      ap (λ (k : ℕ). node_at a (suc n) h schedule slept ∷ nodes_along (nodes_from a k) a h schedule slept (awake_steps a h slept)) e
+
+-- one that has no children
+pub deep_node : (v : NodeSeen) (vs : List Node) → v.left ≡ 0 → nodes_of_node v ++ vs ≡ own_node v ∷ vs
+deep_node v vs none = ap (λ us. us ++ vs) (at_depth (program_of v.program) v.history (schedule_of v.history) v.slept v.left none)
+
+pub sleeping_node : (v : NodeSeen) (vs : List Node) → awake_steps (program_of v.program) v.history v.slept ≡ [] → nodes_of_node v ++ vs ≡ own_node v ∷ vs
+sleeping_node v vs none = ap (λ us. us ++ vs) (all_asleep (program_of v.program) v.history (schedule_of v.history) v.slept v.left none)
+
+-- one whose frame is put on the stack
+abbrev pub frame_of : NodeSeen → List Step → FrameSeen
+frame_of v line = record { program = v.program; history = v.history; slept = v.slept; line = line; left = v.left - 1 }
+
+pub opened_node : (v : NodeSeen) (line : List Step) (fs gs : List FrameSeen) → (v.left ≡ 0 → ⊥) → line ≡ awake_steps (program_of v.program) v.history v.slept → gs ≡ fs ++ frame_of v line ∷ [] → nodes_of_node v ++ nodes_of_frames fs ≡ own_node v ∷ nodes_of_frames gs
+opened_node v line fs gs some is now =
+    ap (λ vs. vs ++ nodes_of_frames fs) (with_more (program_of v.program) v.history (schedule_of v.history) v.slept v.left some)
+    ∙ ap (λ xs. own_node v ∷ (nodes_along (nodes_from (program_of v.program) (v.left - 1)) (program_of v.program) v.history (schedule_of v.history) v.slept xs ++ nodes_of_frames fs)) (sym is)
+    ∙ sym (ap (λ vs. own_node v ∷ vs) (ap nodes_of_frames now ∙ frames_push fs (frame_of v line)))
+
+pub opened_is_of : (e : ExplorationSeen) (v : NodeSeen) (line : List Step) (fs gs : List FrameSeen) → (v.left ≡ 0 → ⊥) → gs ≡ fs ++ frame_of v line ∷ [] → IsNodeOf e v → AreFramesOf e fs → AreFramesOf e gs
+opened_is_of e v line fs gs some now belongs all =
+    let more : (v.left - 1) + 1 ≡ v.left = omega (arith, some_left v.left some) in
+    subst (AreFramesOf e) (sym now) (all_append (IsFrameOf e) fs (frame_of v line ∷ []) all (record { program = belongs.program; deep = ap (λ (k : ℕ). length (schedule_of v.history) + k) more ∙ belongs.deep }, tt))
+  where
+    some_left : (n : ℕ) → (n ≡ 0 → ⊥) → (n - 1) + 1 ≡ n
+    some_left zero some = absurd (some refl)
+    some_left (suc n) some = omega arith
+
+-- those of the enabled steps that do not sleep are the steps that are taken
+pub awake_are : (a : Program) (h : History) (enabled given slept : List Step) → enabled ≡ enabled_steps a h → given ≡ slept → filter (λ s. not (is_among same_step given s)) enabled ≡ awake_steps a h slept
+awake_are a h enabled given slept all same = λ i. filter (λ s. not (is_among same_step (same i) s)) (all i)
+
+-- the steps of its line can be taken
+pub awake_enabled : (a : Program) (h : History) (slept line : List Step) → line ≡ awake_steps a h slept → AreEnabled a h line
+awake_enabled a h slept line is s there none =
+    absurd (not_none _ _ (some_event (next_event a h s) (listed_enabled a h s (kept_passes _ (enabled_steps a h) s (subst (IsAmong s) is there)).1)).1 none)
+  where
+    some_event : (o : Option Event) → is_some o ≡ true → (e : Event) × (o ≡ Some e)
+    some_event None is = absurd cc
+    some_event (Some e) is = (e, refl)
+
+pub opened_frame : (w : Seen) (taken left : ℕ) (slept line : List Step) (snapshot : Seen) → IsNode w taken left snapshot → (left ≡ 0 → ⊥) → line ≡ awake_steps (program_in w) w.history slept → IsFrame w taken (left - 1) line snapshot
+opened_frame w taken left slept line snapshot n some is = record {
+  node = record { lives = n.lives; reached = n.reached; counted = n.counted; fits = fits left some n.fits; is_snapshot = n.is_snapshot };
+  enabled = awake_enabled (program_in w) w.history slept line is;
+}
+  where
+    fits : (k : ℕ) → (k ≡ 0 → ⊥) → taken + k < 2 ^ 64 → taken + ((k - 1) + 1) < 2 ^ 64
+    fits zero some less = absurd (some refl)
+    fits (suc k) some less = omega (arith, less)
+
+-- ---- the next child
+
+-- the node below a frame by the first step of its line
+pub record IsChild (f : FrameSeen) (s : Step) (rest : List Step) (v : NodeSeen) : Type 0 where
+  pub line : f.line ≡ s ∷ rest
+  pub program : v.program ≡ f.program
+  pub history : extended f.history (next_event (program_of f.program) f.history s) ≡ Some v.history
+  pub slept : (f.left ≡ 0 → ⊥) → v.slept ≡ asleep_below (program_of f.program) f.history f.slept s
+  pub left : v.left ≡ f.left
+
+-- at the depth it does not matter what sleeps
+any_sleep : (a : Program) (n : ℕ) (h : History) (schedule one other : List Step) → ((n ≡ 0 → ⊥) → one ≡ other) → nodes_from a n h schedule one ≡ nodes_from a n h schedule other
+any_sleep a zero h schedule one other same = refl
+any_sleep a (suc n) h schedule one other same = ap (λ z. nodes_from a (suc n) h schedule z) (same (λ e. absurd (omega (arith, e))))
+
+-- the nodes that are left behind it
+abbrev pub others : FrameSeen → Step → List Step → List Node
+others f s rest =
+    nodes_along (nodes_from (program_of f.program) f.left) (program_of f.program) f.history (schedule_of f.history) (f.slept ++ s ∷ []) rest
+
+child_nodes : (f : FrameSeen) (s : Step) (rest : List Step) (v : NodeSeen) → IsChild f s rest v → nodes_after (λ g. nodes_from (program_of f.program) f.left g (schedule_of f.history ++ s ∷ []) (asleep_below (program_of f.program) f.history f.slept s)) f.history (next_event (program_of f.program) f.history s) ≡ nodes_of_node v
+child_nodes f s rest v c =
+    let a = program_of f.program in
+    let asleep = asleep_below a f.history f.slept s in
+    let next = next_of a f.history s v.history c.history in
+    ap (nodes_after (λ g. nodes_from a f.left g (schedule_of f.history ++ s ∷ []) asleep) f.history) next.is_next
+    ∙ ap (λ g. nodes_from a f.left g (schedule_of f.history ++ s ∷ []) asleep) (sym next.grown)
+    ∙ ap (λ t. nodes_from a f.left v.history t asleep) (sym (longer a f.history s v.history next))
+    ∙ any_sleep a f.left v.history (schedule_of v.history) asleep v.slept (λ some. sym (c.slept some))
+    ∙ (λ i. nodes_from (program_of (sym c.program i)) (sym c.left i) v.history (schedule_of v.history) v.slept)
+
+child_first : (f : FrameSeen) (s : Step) (rest : List Step) (v : NodeSeen) → IsChild f s rest v → nodes_of_frame f ≡ nodes_of_node v ++ others f s rest
+child_first f s rest v c =
+    ap (nodes_along (nodes_from (program_of f.program) f.left) (program_of f.program) f.history (schedule_of f.history) f.slept) c.line
+    ∙ ap (λ vs. vs ++ others f s rest) (child_nodes f s rest v c)
+
+pub last_child : (f : FrameSeen) (s : Step) (v : NodeSeen) (vs : List Node) → IsChild f s [] v → nodes_of_frame f ++ vs ≡ nodes_of_node v ++ vs
+last_child f s v vs c = ap (λ us. us ++ vs) (child_first f s [] v c ∙ append-nil (nodes_of_node v))
+
+-- the frame with one step less
+abbrev pub frame_after : FrameSeen → Step → List Step → FrameSeen
+frame_after f s rest = record { program = f.program; history = f.history; slept = f.slept ++ s ∷ []; line = rest; left = f.left }
+
+pub more_children : (f : FrameSeen) (s : Step) (rest : List Step) (v : NodeSeen) (fs gs : List FrameSeen) → IsChild f s rest v → gs ≡ fs ++ frame_after f s rest ∷ [] → nodes_of_frame f ++ nodes_of_frames fs ≡ nodes_of_node v ++ nodes_of_frames gs
+more_children f s rest v fs gs c now =
+    ap (λ us. us ++ nodes_of_frames fs) (child_first f s rest v c) ∙ append_assoc (nodes_of_node v) (others f s rest) (nodes_of_frames fs)
+    ∙ ap (λ us. nodes_of_node v ++ us) (sym (ap nodes_of_frames now ∙ frames_push fs (frame_after f s rest)))
+
+-- it is a node of the exploration
+pub child_is_of : (e : ExplorationSeen) (f : FrameSeen) (s : Step) (rest : List Step) (v : NodeSeen) → IsChild f s rest v → IsFrameOf e f → IsNodeOf e v
+child_is_of e f s rest v c belongs =
+    let next = next_of (program_of f.program) f.history s v.history c.history in
+    record {
+      program = c.program ∙ belongs.program;
+      deep = omega (arith, one_longer (program_of f.program) f.history s v.history next, belongs.deep, c.left);
+    }
+
+-- so is the frame with one step less
+pub more_are_of : (e : ExplorationSeen) (f : FrameSeen) (s : Step) (rest : List Step) (fs gs : List FrameSeen) → gs ≡ fs ++ frame_after f s rest ∷ [] → IsFrameOf e f → AreFramesOf e fs → AreFramesOf e gs
+more_are_of e f s rest fs gs now belongs all =
+    subst (AreFramesOf e) (sym now) (all_append (IsFrameOf e) fs (frame_after f s rest ∷ []) all (record { program = belongs.program; deep = belongs.deep }, tt))
+
+-- its line can be taken
+pub frame_goes_on : (w : Seen) (taken left : ℕ) (s : Step) (line rest : List Step) (snapshot : Seen) → line ≡ rest → IsFrame w taken left (s ∷ line) snapshot → IsFrame w taken left rest snapshot
+frame_goes_on w taken left s line rest snapshot is f =
+    record { node = f.node; enabled = λ t there. f.enabled t (inr (subst (IsAmong t) (sym is) there)) }
+
+pub first_enabled : (w : Seen) (taken left : ℕ) (s : Step) (line : List Step) (snapshot : Seen) → IsFrame w taken left (s ∷ line) snapshot → next_event (program_in w) w.history s ≡ None → ⊥
+first_enabled w taken left s line snapshot f = f.enabled s (inl refl)

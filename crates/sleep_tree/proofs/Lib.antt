@@ -1,0 +1,6 @@
+pub mod Lists
+pub mod Runs
+pub mod Snapshots
+pub mod Frames
+pub mod Pieces
+pub mod Asleep

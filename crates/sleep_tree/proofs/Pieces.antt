@@ -1,0 +1,117 @@
+-- What one more visit does to what was done.
+use Rattle.std.proofs.Common.{◌≡◌, ◌<◌, ◌≤◌, ℕ, zero, suc, ◌+◌, Bool, List, [], ◌∷◌, ◌++◌, length, map, Some, refl, sym, ap, ◌∙◌, subst, arith, append_assoc, append-nil, length-append}
+use Rattle.std.specs.List.{AllByRecursion}
+use Rattle.term_core.specs.declared.step.Step.{Step}
+use Rattle.findings.specs.Laws.{AddsSchedule}
+use Rattle.world_core.specs.Seen.{Seen}
+use Rattle.world_model.specs.Asking.{program_of}
+use Rattle.world_model.specs.Names.{IsAmong}
+use Rattle.world_model.specs.Run.{run, schedule_of}
+use Rattle.world_model.specs.Shown.{Identity, Flags, is_error, is_refusal, shown}
+use Rattle.coverage.specs.Findings.{Finding, Findings, IsLeast, found, findings_among}
+use Rattle.coverage.specs.Jobs as tree
+use Rattle.coverage.specs.Jobs.{Job, Node, nodes_along, node_at, nodes_from, schedules_of}
+use Rattle.coverage.proofs.FindingLaws.{least}
+use Rattle.coverage.proofs.JobLaws.{map_join}
+use Rattle.coverage.proofs.Lists.{among_left}
+use Rattle.sleep_tree.specs.Explorations.{ExplorationSeen, JobSeen, program_in, nodes_of, nodes_of_all, findings_of}
+use Rattle.sleep_tree.specs.Meanings.{AreShown, AreOfJob}
+use Rattle.sleep_tree.specs.Pieces.{IsDone, AreOf, IsPiece}
+use Rattle.sleep_tree.specs.inside.Frames.{NodeSeen, FrameSeen, own_node, nodes_of_node, nodes_of_frame, nodes_of_frames, IsNodeOf, IsFrameOf, AreFramesOf, IsExploring}
+use Rattle.sleep_tree.proofs.Frames.{frames_push}
+use Rattle.sleep_tree.proofs.Lists.{all_append, all_front, all_back}
+
+pub all_join : (e : ExplorationSeen) (js ks : List JobSeen) → nodes_of_all e (js ++ ks) ≡ nodes_of_all e js ++ nodes_of_all e ks
+all_join e [] ks = refl
+all_join e (j ∷ js) ks =
+    ap (λ vs. nodes_of e j.name ++ vs) (all_join e js ks) ∙ sym (append_assoc (nodes_of e j.name) (nodes_of_all e js) (nodes_of_all e ks))
+
+-- ---- visits
+
+-- how one more visit adds what its node shows
+abbrev pub Adds : ExplorationSeen → NodeSeen → Findings → Findings → Type 0
+Adds e v old new = (done : List Node) → old ≡ findings_of e done → new ≡ findings_of e (done ++ own_node v ∷ [])
+
+-- a visit that adds what the world shows does so
+pub node_adds : (e : ExplorationSeen) (w : Seen) (slept : List Step) (left : ℕ) (flags : Flags) (f g : Findings) (done : List Node) → e.flags ≡ flags → w.program ≡ e.program → run (program_of w.program) (schedule_of w.history) ≡ Some w.history → AddsSchedule flags (schedule_of w.history) (shown (program_of w.program) w.history) f g → f ≡ findings_of e done → g ≡ findings_of e (done ++ own_node (record { program = w.program; history = w.history; slept = slept; left = left }) ∷ [])
+node_adds e w slept left flags f g done same belongs runs adds old =
+    let own : NodeSeen = record { program = w.program; history = w.history; slept = slept; left = left } in
+    let s = schedule_of w.history in
+    adds (program_of w.program) (schedules_of done) w.history runs refl (old ∙ (λ i. findings_among (same i) (program_of (sym belongs i)) (schedules_of done)))
+    ∙ (λ i. findings_among (sym same i) (program_of (belongs i)) (schedules_of done ++ s ∷ []))
+    ∙ ap (findings_among e.flags (program_in e)) (sym (map_join (λ (v : Node). v.schedule) done (own_node own ∷ [])))
+
+done_more : (e : ExplorationSeen) (done : List Node) (f g : Findings) (k : ℕ) (v : NodeSeen) → IsDone e done f k → Adds e v f g → IsDone e (done ++ own_node v ∷ []) g (k + 1)
+done_more e done f g k v d adds =
+    record { found = adds done d.found; counted = omega (arith, d.counted, length-append done (own_node v ∷ [])) }
+
+-- the first visit
+pub exploring_first : (e : ExplorationSeen) (name : Job) (v : NodeSeen) (f g : Findings) (fs gs : List FrameSeen) → nodes_of_node v ≡ nodes_of e name → fs ≡ [] → f ≡ findings_of e [] → nodes_of_node v ++ nodes_of_frames fs ≡ own_node v ∷ nodes_of_frames gs → Adds e v f g → AreFramesOf e gs → IsExploring e name g 1 gs
+exploring_first e name v f g fs gs own none nothing now adds belong = record {
+  done = own_node v ∷ [];
+  is_done = record { found = adds [] nothing; counted = refl };
+  made_up = sym own ∙ sym (append-nil (nodes_of_node v)) ∙ ap (λ xs. nodes_of_node v ++ nodes_of_frames xs) (sym none) ∙ now;
+  are_of = belong;
+}
+
+-- one more
+pub exploring_more : (e : ExplorationSeen) (name : Job) (f g : Findings) (k : ℕ) (all fs gs hs : List FrameSeen) (frame : FrameSeen) (v : NodeSeen) → IsExploring e name f k all → all ≡ fs ++ frame ∷ [] → nodes_of_frame frame ++ nodes_of_frames fs ≡ nodes_of_node v ++ nodes_of_frames gs → nodes_of_node v ++ nodes_of_frames gs ≡ own_node v ∷ nodes_of_frames hs → Adds e v f g → AreFramesOf e hs → IsExploring e name g (k + 1) hs
+exploring_more e name f g k all fs gs hs frame v x popped down opened adds belong = record {
+  done = x.done ++ own_node v ∷ [];
+  is_done = done_more e x.done f g k v x.is_done adds;
+  made_up = x.made_up ∙ ap (λ vs. x.done ++ vs) (ap nodes_of_frames popped ∙ frames_push fs frame ∙ down ∙ opened) ∙ sym (append_assoc x.done (own_node v ∷ []) (nodes_of_frames hs));
+  are_of = belong;
+}
+
+-- the frame on top, and those below it
+pub popped : (e : ExplorationSeen) (all fs : List FrameSeen) (frame : FrameSeen) → AreFramesOf e all → all ≡ fs ++ frame ∷ [] → IsFrameOf e frame × AreFramesOf e fs
+popped e all fs frame belong is =
+    let both : AreFramesOf e (fs ++ frame ∷ []) = subst (AreFramesOf e) is belong in
+    ((all_back (IsFrameOf e) fs (frame ∷ []) both).0, all_front (IsFrameOf e) fs (frame ∷ []) both)
+
+-- ---- the rest
+
+-- a node has at least one
+node_some : (v : NodeSeen) → 1 ≤ length (nodes_of_node v)
+node_some v = go v.left
+  where
+    go : (n : ℕ) → 1 ≤ length (nodes_from (program_of v.program) n v.history (schedule_of v.history) v.slept)
+    go zero = omega arith
+    go (suc n) = omega arith
+
+-- one more job
+pub rest_more : (e : ExplorationSeen) (rest more : List JobSeen) (all fs gs : List FrameSeen) (frame : FrameSeen) (v : NodeSeen) (job : JobSeen) (total : List Node) → nodes_of_all e rest ++ nodes_of_frames all ≡ total → more ≡ rest ++ job ∷ [] → all ≡ fs ++ frame ∷ [] → nodes_of_frame frame ++ nodes_of_frames fs ≡ nodes_of_node v ++ nodes_of_frames gs → nodes_of e job.name ≡ nodes_of_node v → nodes_of_all e more ++ nodes_of_frames gs ≡ total
+rest_more e rest more all fs gs frame v job total whole pushed is down own =
+    ap (λ js. nodes_of_all e js ++ nodes_of_frames gs) pushed
+    ∙ ap (λ vs. vs ++ nodes_of_frames gs) (all_join e rest (job ∷ []) ∙ ap (λ vs. nodes_of_all e rest ++ vs) (append-nil (nodes_of e job.name) ∙ own))
+    ∙ append_assoc (nodes_of_all e rest) (nodes_of_node v) (nodes_of_frames gs)
+    ∙ ap (λ vs. nodes_of_all e rest ++ vs) (sym (ap nodes_of_frames is ∙ frames_push fs frame ∙ down)) ∙ whole
+
+pub rest_smaller : (all fs gs : List FrameSeen) (frame : FrameSeen) (v : NodeSeen) → all ≡ fs ++ frame ∷ [] → nodes_of_frame frame ++ nodes_of_frames fs ≡ nodes_of_node v ++ nodes_of_frames gs → length (nodes_of_frames gs) < length (nodes_of_frames all)
+rest_smaller all fs gs frame v is down =
+    let same : length (nodes_of_frames all) ≡ length (nodes_of_node v ++ nodes_of_frames gs) = ap length (ap nodes_of_frames is ∙ frames_push fs frame ∙ down) in
+    omega (arith, same, length-append (nodes_of_node v) (nodes_of_frames gs), node_some v)
+
+pub rest_are_of : (e : ExplorationSeen) (rest more : List JobSeen) (job : JobSeen) → more ≡ rest ++ job ∷ [] → AreOf e rest → job.exploration ≡ e → AreOf e more
+rest_are_of e rest more job pushed all own =
+    subst (AreOf e) (sym pushed) (all_append (λ (j : JobSeen). j.exploration ≡ e) rest (job ∷ []) all (own, tt))
+
+-- what is left at the end
+pub piece_made : (e : ExplorationSeen) (name : Job) (f : Findings) (k : ℕ) (fs : List FrameSeen) (rest : List JobSeen) → IsExploring e name f k fs → nodes_of_all e rest ≡ nodes_of_frames fs → AreOf e rest → IsPiece e name f k rest
+piece_made e name f k fs rest x same belong =
+    record { done = x.done; is_done = x.is_done; made_up = x.made_up ∙ ap (λ vs. x.done ++ vs) (sym same); are_of = belong }
+
+-- ---- what its findings are
+
+shown_of : (e : ExplorationSeen) (name : Job) (test : Identity → Bool) (done more : List Node) (fs : List Finding) → nodes_of e name ≡ done ++ more → fs ≡ found test (program_in e) (schedules_of done) → AreShown e name fs
+shown_of e name test done more fs made_up is f there =
+    let l : IsLeast (program_in e) (schedules_of done) f = least test (program_in e) (schedules_of done) f (subst (IsAmong f) is there) in (
+      subst (IsAmong f.schedule) (sym (ap schedules_of made_up ∙ map_join (λ (v : Node). v.schedule) done more)) (among_left (schedules_of done) (schedules_of more) f.schedule l.is_among),
+      l.shows,
+    )
+
+pub piece_shown : (e : ExplorationSeen) (name : Job) (f : Findings) (k : ℕ) (rest : List JobSeen) → IsPiece e name f k rest → AreOfJob e name f
+piece_shown e name f k rest p = (
+  shown_of e name (is_error e.flags) p.done (nodes_of_all e rest) f.errors p.made_up (ap (λ (x : Findings). x.errors) p.is_done.found),
+  shown_of e name is_refusal p.done (nodes_of_all e rest) f.refusals p.made_up (ap (λ (x : Findings). x.refusals) p.is_done.found),
+)

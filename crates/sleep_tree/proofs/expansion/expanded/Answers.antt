@@ -1,0 +1,35 @@
+use Rattle.std.proofs.Common.{◌≡◌, ◌∙◌, ap, sym, subst, arith}
+use Rattle.findings.specs.Identities.{flags_in}
+use Rattle.sleep_tree.specs.Explorations.{ExplorationSeen}
+use Rattle.sleep_tree.specs.inside.Frames.{AreFramesOf}
+use Rattle.sleep_tree.proofs.Pieces.{popped, exploring_first, exploring_more}
+use Rattle.sleep_tree.proofs.expansion.expanded.Goals as goal
+
+pub loop-nodes-init : goal.loop-nodes-init
+loop-nodes-init g c =
+    let e = c.args.job.now.exploration in
+    let same : e.flags ≡ flags_in c.exploration-exploration.result.flags = sym (ap (λ (x : ExplorationSeen). x.flags) c.exploration-exploration.ensures) in
+    record {
+      exploring = exploring_first e c.args.job.now.name c.in_ok-first.first c.new-findings.result c.visit.new.findings c.new-frames.result.items c.visit.new.frames.items
+          c.in_ok-first.ensures.nodes c.new-frames.ensures.items c.new-findings.ensures c.in_ok-visit.ensures.nodes
+          (λ done old. c.in_ok-visit.ensures.found e done same c.in_ok-first.ensures.is_of old)
+          (c.in_ok-visit.ensures.are_of e c.in_ok-first.ensures.is_of (subst (AreFramesOf e) (sym c.new-frames.ensures.items) tt));
+      some = omega arith;
+      within = omega arith;
+    }
+
+pub loop-nodes-preserved : goal.loop-nodes-preserved
+loop-nodes-preserved g c =
+    let e = c.args.job.now.exploration in
+    let same : e.flags ≡ flags_in c.exploration-exploration.result.flags = sym (ap (λ (x : ExplorationSeen). x.flags) c.exploration-exploration.ensures) in
+    let x = c.loop-nodes.invariant.exploring in
+    let b = popped e c.loop-nodes.frames.items c.pop.new.self.items c.in-Some.frame x.are_of c.in-Some.ensures.items in
+    let below = c.in_ok-node.ensures.are_of e b.0 b.1 in
+    record {
+      exploring = exploring_more e c.args.job.now.name c.loop-nodes.findings c.visit-in-loop-nodes.new.findings c.loop-nodes.nodes c.loop-nodes.frames.items c.pop.new.self.items c.descend.new.frames.items c.visit-in-loop-nodes.new.frames.items c.in-Some.frame c.in_ok-node.node
+          x c.in-Some.ensures.items c.in_ok-node.ensures.nodes c.in_ok-visit-2.ensures.nodes
+          (λ done old. c.in_ok-visit-2.ensures.found e done same below.0 old)
+          (c.in_ok-visit-2.ensures.are_of e below.0 below.1);
+      some = omega arith;
+      within = omega arith;
+    }

@@ -1,0 +1,14 @@
+use Rattle.std.proofs.Common.{◌≤◌, ◌-◌}
+use Rattle.sleep_tree.specs.inside.Frames.{IsExploring}
+use Rattle.sleep_tree.proofs.expansion.expanded.Given as goal
+
+-- the nodes so far were visited, and the stack leaves the others
+abbrev pub invariant-loop-nodes : goal.invariant-loop-nodes
+invariant-loop-nodes g l = record {
+  exploring : IsExploring l.job.exploration l.job.name l.findings l.nodes l.frames.items;
+  some : 1 ≤ l.nodes;
+  within : l.nodes ≤ l.budget;
+}
+
+abbrev pub decreases-loop-nodes : goal.decreases-loop-nodes
+decreases-loop-nodes g l = l.budget - l.nodes

@@ -1,0 +1,4 @@
+pub mod inside
+pub mod Explorations
+pub mod Pieces
+pub mod Meanings

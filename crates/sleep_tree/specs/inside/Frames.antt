@@ -1,0 +1,76 @@
+-- The stack of an expansion: nodes that were visited, and whose children were not all.
+use Rattle.std.specs.List.{AllByRecursion}
+use Rattle.std.specs.Prelude.{◌≡◌, ◌+◌, ℕ, List, [], ◌∷◌, ◌++◌, None, length}
+use Rattle.core_tree.specs.Syntax.{ModuleTree}
+use Rattle.term_core.specs.declared.step.Step.{Step}
+use Rattle.world_model.specs.Asking.{program_of}
+use Rattle.world_model.specs.Events.{History}
+use Rattle.world_model.specs.Names.{IsAmong}
+use Rattle.world_model.specs.Requests.{Program}
+use Rattle.world_model.specs.Run.{next_event, schedule_of}
+use Rattle.coverage.specs.Findings.{Findings}
+use Rattle.coverage.specs.Jobs.{Job, Node, node_at, nodes_from, nodes_along}
+use Rattle.sleep_tree.specs.Explorations.{ExplorationSeen, nodes_of}
+use Rattle.sleep_tree.specs.Pieces.{IsDone}
+use Rattle.sleep_tree.specs.inside.Snapshots.{IsNode}
+use Rattle.world_core.specs.Seen.{Seen, program_in}
+
+-- a node that is to be visited, as contracts see it: how many steps may follow it
+pub record NodeSeen : Type 0 where
+  pub program : ModuleTree
+  pub history : History
+  pub slept : List Step
+  pub left : ℕ
+
+-- the node, and the nodes from it on
+abbrev pub own_node : NodeSeen → Node
+own_node v = node_at (program_of v.program) v.left v.history (schedule_of v.history) v.slept
+
+abbrev pub nodes_of_node : NodeSeen → List Node
+nodes_of_node v = nodes_from (program_of v.program) v.left v.history (schedule_of v.history) v.slept
+
+-- a node that was visited: the steps that sleep for the next of its children, the steps that are still to be taken there, and how many steps may follow a child
+pub record FrameSeen : Type 0 where
+  pub program : ModuleTree
+  pub history : History
+  pub slept : List Step
+  pub line : List Step
+  pub left : ℕ
+
+-- the nodes that it leaves to be visited
+abbrev pub nodes_of_frame : FrameSeen → List Node
+nodes_of_frame f =
+    nodes_along (nodes_from (program_of f.program) f.left) (program_of f.program) f.history (schedule_of f.history) f.slept f.line
+
+-- those that a stack leaves, whose last frame comes first
+abbrev pub nodes_of_frames : List FrameSeen → List Node
+nodes_of_frames [] = []
+nodes_of_frames (f ∷ fs) = nodes_of_frames fs ++ nodes_of_frame f
+
+-- each step of a line can be taken
+abbrev pub AreEnabled : Program → History → List Step → Type 0
+AreEnabled a h line = (s : Step) → IsAmong s line → next_event a h s ≡ None → ⊥
+
+-- a node of which steps are still to be taken, all of them enabled, and so many may follow each
+pub record IsFrame (w : Seen) (taken left : ℕ) (line : List Step) (snapshot : Seen) : Type 0 where
+  pub node : IsNode w taken (left + 1) snapshot
+  pub enabled : AreEnabled (program_in w) w.history line
+
+-- the node is one of the exploration
+pub record IsNodeOf (e : ExplorationSeen) (v : NodeSeen) : Type 0 where
+  pub program : v.program ≡ e.program
+  pub deep : length (schedule_of v.history) + v.left ≡ e.depth
+
+pub record IsFrameOf (e : ExplorationSeen) (f : FrameSeen) : Type 0 where
+  pub program : f.program ≡ e.program
+  pub deep : length (schedule_of f.history) + (f.left + 1) ≡ e.depth
+
+abbrev pub AreFramesOf : ExplorationSeen → List FrameSeen → Type 0
+AreFramesOf e fs = AllByRecursion (IsFrameOf e) fs
+
+-- the nodes of a job are those that were visited, and then those that the stack leaves
+pub record IsExploring (e : ExplorationSeen) (name : Job) (findings : Findings) (nodes : ℕ) (frames : List FrameSeen) : Type 0 where
+  pub done : List Node
+  pub is_done : IsDone e done findings nodes
+  pub made_up : nodes_of e name ≡ done ++ nodes_of_frames frames
+  pub are_of : AreFramesOf e frames

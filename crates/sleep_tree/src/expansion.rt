@@ -1,0 +1,117 @@
+// The expansion of a job.
+ghost use Rattle.std.specs.Prelude.{◌≡◌, ◌≤◌, IfOk, IfErr};
+ghost use Rattle.sleep_tree.specs.Explorations.{exploration_in, nodes_of_all};
+ghost use Rattle.sleep_tree.specs.Meanings.{AreOfJob};
+ghost use Rattle.sleep_tree.specs.Pieces.{AreOf, IsPiece};
+ghost use Rattle.sleep_tree.specs.inside.Frames.{AreFramesOf, nodes_of_frames};
+
+use crate::exploration::Exploration;
+use crate::frame::{Frame, descend};
+use crate::gate::Gate;
+use crate::job::Job;
+use crate::names::{JobName, Ticket};
+use crate::piece::Piece;
+use crate::visit::visit;
+use findings::Findings;
+use std::alloc::Global;
+use world_core::WorldFault;
+
+/// What was found, how many nodes were visited, and the jobs of the others.
+#[derive(Drop)]
+struct Done<'m> {
+    findings: Findings,
+    nodes: u64,
+    rest: Vec<Job<'m>>,
+}
+
+/// The jobs of the nodes that a stack leaves, in the order in which the search visits them. `Memory` where there is none.
+fn rest_of<'m>(
+    alloc: Global,
+    exploration: Exploration<'m>,
+    frames: Vec<Frame<'m>>,
+) -> Result<Vec<Job<'m>>, WorldFault>
+    requires { AreFramesOf (exploration_in exploration) frames.items }
+    ensures nodes { IfOk result (λ rest. nodes_of_all (exploration_in exploration.entry) rest.items ≡ nodes_of_frames frames.entry.items) }
+    ensures are_of { IfOk result (λ rest. AreOf (exploration_in exploration.entry) rest.items) }
+{
+    let mut frames = frames;
+    let mut rest = Vec::new(alloc);
+    while let Some(frame) = frames.pop() {
+        let node = descend(alloc, frame, &mut frames)?;
+        let job = Job::of_node(alloc, node, exploration)?;
+        rest.push(job)?;
+    }
+    Ok(rest)
+}
+
+/// Visits at most so many nodes of a job, depth first, at least one. `Memory` where there is none.
+fn expanded<'m, G: Gate>(
+    alloc: Global,
+    job: &Job<'m>,
+    budget: u64,
+    gate: &G,
+) -> Result<Done<'m>, WorldFault>
+    requires { 1 ≤ budget }
+    ensures piece { IfOk result (λ done. IsPiece job.now.exploration job.now.name done.findings done.nodes done.rest.items) }
+    ensures nodes { IfOk result (λ done. (1 ≤ done.nodes) × (done.nodes ≤ budget)) }
+{
+    let exploration = job.exploration();
+    let mut findings = Findings::new(alloc);
+    let mut frames = Vec::new(alloc);
+    let first = job.start(alloc)?;
+    gate.turn(job.number());
+    visit(alloc, exploration.flags, first, &mut findings, &mut frames)?;
+    let mut nodes = 1;
+    while nodes < budget {
+        let Some(frame) = frames.pop() else {
+            break;
+        };
+        let node = descend(alloc, frame, &mut frames)?;
+        gate.turn(job.number());
+        visit(alloc, exploration.flags, node, &mut findings, &mut frames)?;
+        nodes += 1;
+    }
+    let rest = rest_of(alloc, exploration, frames)?;
+    Ok(Done {
+        findings,
+        nodes,
+        rest,
+    })
+}
+
+/// Visits at most `budget` nodes of a job, depth first, at least one: the nodes of the job are those, and then those of
+/// the jobs that are left.
+///
+/// # Errors
+///
+/// What the job is called, where there was no memory.
+pub fn expand<'m, G: Gate>(
+    alloc: Global,
+    job: Job<'m>,
+    budget: u64,
+    gate: &G,
+) -> Result<Piece<'m>, JobName>
+    requires { 1 ≤ budget }
+    ensures ticket { IfOk result (λ piece. piece.ticket ≡ record { number = job.entry.number; name = job.entry.name }) }
+    ensures exploration { IfOk result (λ piece. piece.exploration ≡ job.entry.exploration) }
+    ensures piece { IfOk result (λ piece. IsPiece job.entry.exploration job.entry.name piece.findings piece.nodes piece.rest) }
+    ensures shown { IfOk result (λ piece. AreOfJob job.entry.exploration job.entry.name piece.findings) }
+    ensures nodes { IfOk result (λ piece. (1 ≤ piece.nodes) × (piece.nodes ≤ budget)) }
+    ensures refused { IfErr result (λ name. name ≡ job.entry.name) }
+{
+    let Ok(done) = expanded(alloc, &job, budget, gate) else {
+        return Err(job.into_name());
+    };
+    let exploration = job.exploration();
+    let number = job.number();
+    Ok(Piece {
+        ticket: Ticket {
+            number,
+            name: job.into_name(),
+        },
+        exploration,
+        findings: done.findings,
+        nodes: done.nodes,
+        rest: done.rest,
+    })
+}

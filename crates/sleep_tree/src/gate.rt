@@ -1,0 +1,20 @@
+// What a caller sees of the work.
+
+/// What is told of the work while it is done. Its calls return.
+pub trait Gate {
+    /// A node is about to be visited, for the ticket of this number.
+    fn turn(&self, ticket: u64);
+
+    /// A piece was given back for the ticket of this number.
+    fn given(&self, ticket: u64);
+}
+
+/// A gate that does nothing: nobody watches the work.
+#[derive(Clone, Copy)]
+pub struct Unwatched;
+
+impl Gate for Unwatched {
+    fn turn(&self, _ticket: u64) {}
+
+    fn given(&self, _ticket: u64) {}
+}

@@ -1,0 +1,81 @@
+// The names of jobs.
+ghost use Rattle.std.specs.Prelude.{◌≡◌, IfOk};
+
+use std::alloc::{AllocError, Global};
+use std::marker::Model;
+use term_core::Step;
+
+/// What a job is called: the steps that lead to its node, and those that sleep there.
+#[derive(Drop)]
+pub struct JobName {
+    /// The steps that lead to its node.
+    pub prefix: Vec<Step>,
+    /// The steps that sleep there.
+    pub slept: Vec<Step>,
+}
+
+impl Model for JobName {
+    ghost use Rattle.coverage.specs.Jobs.{Job};
+    ghost use Rattle.sleep_tree.specs.inside.Codes.{coded_name};
+
+    ghost Value = { Job };
+
+    ghost coded = { coded_name };
+
+    ghost view = { λ n. record { prefix = n.prefix.items; slept = n.slept.items } };
+}
+
+/// A job that was handed out.
+#[derive(Drop)]
+pub struct Ticket {
+    /// Its number, 0 for a job that was not handed out.
+    pub number: u64,
+    /// What the job is called.
+    pub name: JobName,
+}
+
+impl Model for Ticket {
+    ghost use Rattle.sleep_tree.specs.Explorations.{TicketSeen};
+    ghost use Rattle.sleep_tree.specs.inside.Codes.{coded_ticket};
+
+    ghost Value = { TicketSeen };
+
+    ghost coded = { coded_ticket };
+
+    ghost view = { λ t. record { number = t.number; name = t.name } };
+}
+
+/// A copy of steps, or `AllocError` if there is no memory for it.
+pub(crate) fn copy_steps(alloc: Global, steps: &[Step]) -> Result<Vec<Step>, AllocError>
+    ensures { IfOk result (λ copied. copied.items ≡ steps.now) }
+{
+    let mut copied = Vec::with_capacity(alloc, steps.len())?;
+    for step in steps {
+        copied.push(step.copy()?)?;
+    }
+    Ok(copied)
+}
+
+impl JobName {
+    /// The same name, or `AllocError` if there is no memory for it.
+    pub fn copy(&self, alloc: Global) -> Result<JobName, AllocError>
+        ensures { IfOk result (λ copied. copied ≡ self.now) }
+    {
+        Ok(JobName {
+            prefix: copy_steps(alloc, self.prefix.as_slice())?,
+            slept: copy_steps(alloc, self.slept.as_slice())?,
+        })
+    }
+}
+
+impl Ticket {
+    /// The same ticket, or `AllocError` if there is no memory for it.
+    pub fn copy(&self, alloc: Global) -> Result<Ticket, AllocError>
+        ensures { IfOk result (λ copied. copied ≡ self.now) }
+    {
+        Ok(Ticket {
+            number: self.number,
+            name: self.name.copy(alloc)?,
+        })
+    }
+}

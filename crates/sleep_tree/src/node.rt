@@ -1,0 +1,89 @@
+// A node that is to be visited.
+ghost use Rattle.std.specs.Prelude.{◌≡◌, ◌+◌, ◌%◌, None, Some, IfOk};
+ghost use Rattle.world_core.specs.Seen.{program_in};
+ghost use Rattle.world_model.specs.Run.{extended, next_event};
+ghost use Rattle.sleep_tree.specs.inside.Snapshots.{IsNode};
+
+use std::alloc::Global;
+use std::marker::Model;
+use std::sync::Arc;
+use term_core::Step;
+use world_core::{World, WorldFault};
+
+/// A node: its world, how many steps led to it, the steps that sleep there, how many steps may follow, and the snapshot
+/// of the world after the greatest number of its steps that 16 divides.
+#[derive(Drop)]
+pub(crate) struct Node<'m> {
+    pub(crate) world: World<'m>,
+    pub(crate) taken: u64,
+    pub(crate) slept: Vec<Step>,
+    pub(crate) left: u64,
+    pub(crate) snapshot: Arc<World<'m>>,
+}
+
+impl<'m> Model for Node<'m> {
+    ghost use Rattle.sleep_tree.specs.inside.Codes.{coded_node};
+    ghost use Rattle.sleep_tree.specs.inside.Frames.{NodeSeen};
+    ghost use Rattle.sleep_tree.specs.inside.Snapshots.{IsNode};
+
+    ghost Value = { NodeSeen };
+
+    ghost coded = { coded_node };
+
+    ghost view = { λ n. record { program = n.world.program; history = n.world.history; slept = n.slept.items; left = n.left } };
+
+    ghost invariant = { λ n. IsNode n.world n.taken n.left n.snapshot.value };
+}
+
+/// The snapshot for a world, from the one for the steps before its last. `Memory` where there is none, or the copies can
+/// no longer be counted.
+fn renewed<'m>(
+    alloc: Global,
+    world: &World<'m>,
+    taken: u64,
+    snapshot: Arc<World<'m>>,
+) -> Result<Arc<World<'m>>, WorldFault>
+    ensures whole { IfOk result (λ renewed. taken % 16 ≡ 0 → renewed.value ≡ world.now) }
+    ensures part { IfOk result (λ renewed. (taken % 16 ≡ 0 → ⊥) → renewed.value ≡ snapshot.entry.value) }
+{
+    if taken % 16 == 0 {
+        return Ok(Arc::new(alloc, world.copy()?)?);
+    }
+    Ok(snapshot)
+}
+
+impl<'m> Node<'m> {
+    /// The node that an enabled step leads to, from a world that is taken over. `Memory` where there is none.
+    pub(crate) fn below(
+        alloc: Global,
+        world: World<'m>,
+        taken: u64,
+        slept: Vec<Step>,
+        step: &Step,
+        left: u64,
+        snapshot: Arc<World<'m>>,
+    ) -> Result<Node<'m>, WorldFault>
+        requires node { IsNode world taken (left + 1) snapshot.value }
+        requires enabled { next_event (program_in world) world.history step.now ≡ None → ⊥ }
+        ensures program { IfOk result (λ node. node.program ≡ world.entry.program) }
+        ensures history { IfOk result (λ node. extended world.entry.history (next_event (program_in world.entry) world.entry.history step.now) ≡ Some node.history) }
+        ensures slept { IfOk result (λ node. node.slept ≡ slept.items) }
+        ensures left { IfOk result (λ node. node.left ≡ left) }
+    {
+        let mut world = world;
+        match world.step(alloc, step) {
+            Ok(()) => {}
+            Err(WorldFault::Memory) => return Err(WorldFault::Memory),
+            Err(WorldFault::NotEnabled) => unreachable!(),
+        }
+        let taken = taken + 1;
+        let snapshot = renewed(alloc, &world, taken, snapshot)?;
+        Ok(Node {
+            world,
+            taken,
+            slept,
+            left,
+            snapshot,
+        })
+    }
+}
