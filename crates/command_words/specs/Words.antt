@@ -50,10 +50,12 @@ nodes_of [] = []
 nodes_of (nodes n ∷ rest) = n ∷ nodes_of rest
 nodes_of (_ ∷ rest) = nodes_of rest
 
+-- whether it is the option that counts a deadlock as no error
 abbrev pub is_allow_deadlock : Given → Bool
 is_allow_deadlock allow_deadlock = true
 is_allow_deadlock _ = false
 
+-- whether it is the option that counts as an error a call that is refused because of who makes it
 abbrev pub is_strict_access : Given → Bool
 is_strict_access strict_access = true
 is_strict_access _ = false

@@ -57,12 +57,12 @@ fn explore_command<'a>(alloc: Global) -> Result<Command<'a>, Error>
     let allow_deadlock = flag(
         alloc,
         "allow-deadlock",
-        "Does not report schedules after which all processes wait for ever",
+        "Does not count a deadlock as an error",
     );
     let strict_access = flag(
         alloc,
         "strict-access",
-        "Also reports calls that are refused because of who makes them",
+        "Counts a call as an error that is refused because of who makes it",
     );
     let explore = Command::new(alloc, "explore")
         .about(
@@ -98,7 +98,7 @@ fn nodes_option<'a>(alloc: Global) -> Arg<'a>
         .value_name("N")
         .value_parser(value_parser!(u64).range(1..=10_000_000))
         .default_value("1000000")
-        .help("How many schedules may be visited, from 1 to 10000000")
+        .help("How many nodes of the tree of schedules may be visited, from 1 to 10000000")
 }
 
 // An option that stands alone.

@@ -2,7 +2,7 @@
 use Rattle.std.specs.Prelude.{◌≡◌, ◌⊎◌, ℕ, Bool, List, codes, Option, Result, Ok, Err, IfSome, string_bytes}
 use Rattle.term_core.specs.Stream.{WritesAll, BreaksOff}
 use Rattle.findings.specs.declared.options.Options.{Options}
-use Rattle.command_words.specs.Words.{AsksExplore, AsksReplay, IsExplore, IsInRange, IsReplay}
+use Rattle.command_words.specs.Words.{AsksExplore, AsksReplay, IsExplore, IsInRange, IsNamed, IsReplay, command_of}
 use Rattle.command_words.specs.declared.words.Words.{Words}
 use Rattle.command_words.specs.declared.words.Words.TheVariants.{Replay, Explore}
 use Rattle.explorer_engine.specs.Engine.{IsRunOf, IsRefusedBefore, IsHandedOn, WritesNothing}
@@ -46,6 +46,7 @@ pub record IsRun (words : List (List ℕ)) (input : Option (List ℕ)) (output e
   pub asked : Words
   pub replay : (schedule : List ℕ) → IsReplay words schedule → AsksReplay schedule asked
   pub explore : (options : Options) → IsExplore words options → AsksExplore options asked
+  pub named : IsNamed words (command_of asked)
   pub in_range : IsInRange asked
   pub outcome : Result Verdict RunFault
   pub run : IfSome input (λ bytes. IsDone asked bytes output.old output.new output.failed outcome)

@@ -18,8 +18,8 @@ use term_core::{Sink, Source, WriteFault};
 
 /// Reads a module from the source, visits the tree of its schedules within the options, and writes the report to the
 /// sink, which is flushed at the end: each error, and each table call that is refused, that some schedule of at most
-/// so many steps shows, with its least schedule. The gate is told of the work. Nothing is written before the search
-/// has ended.
+/// so many steps shows, with the least schedule of a node that shows it. The gate is told of the work. Nothing is
+/// written before the search has ended.
 ///
 /// # Errors
 ///

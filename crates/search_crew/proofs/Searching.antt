@@ -79,8 +79,8 @@ shown_here e fs among f there = (nodes_run (program_in e) e.depth f.schedule (su
 pub all_shown : (e : ExplorationSeen) (found : Findings) (nodes : ℕ) (open_ : List JobSeen) → IsSearch e found nodes open_ → AllAreShown e found
 all_shown e found nodes open_ search =
     let told = piece_shown e root found nodes (reverse open_) search in (
-      λ f there. (shown_here e found.errors (λ g among. (told.0 g among).0) f there, (told.0 f there).1),
-      λ f there. (shown_here e found.refusals (λ g among. (told.1 g among).0) f there, (told.1 f there).1),
+      λ f there. ((told.0 f there).0, shown_here e found.errors (λ g among. (told.0 g among).1) f there, (told.0 f there).2),
+      λ f there. ((told.1 f there).0, shown_here e found.refusals (λ g among. (told.1 g among).1) f there, (told.1 f there).2),
     )
 
 all_done : (e : ExplorationSeen) (found : Findings) (nodes : ℕ) (search : IsSearch e found nodes []) → nodes_of e root ≡ search.done

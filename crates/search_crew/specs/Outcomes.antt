@@ -1,5 +1,5 @@
 -- What a search comes to.
-use Rattle.std.specs.Prelude.{◌≡◌, ◌≤◌, ◌<◌, ◌↔◌, ℕ, List, length, true}
+use Rattle.std.specs.Prelude.{◌≡◌, ◌≤◌, ◌<◌, ◌↔◌, ℕ, Bool, List, length, true}
 use Rattle.core_tree.specs.Syntax.{ModuleTree}
 use Rattle.world_model.specs.Names.{IsAmong}
 use Rattle.world_model.specs.Shown.{Identity, is_error, is_refusal}
@@ -24,12 +24,12 @@ all_findings e = findings_of e.flags (program_in e) e.depth
 abbrev pub all_nodes : ExplorationSeen → ℕ
 all_nodes e = node_count (program_in e) e.depth root
 
--- each finding is shown by its schedule, which is not too long
-abbrev pub AreShown : ExplorationSeen → List Finding → Type 0
-AreShown e found = (f : Finding) → IsAmong f found → (length f.schedule ≤ e.depth) × RunShows (program_in e) f.schedule f.identity
+-- each finding is of the kind, and is shown by its schedule, which is not too long
+abbrev pub AreShown : (Identity → Bool) → ExplorationSeen → List Finding → Type 0
+AreShown is_of_kind e found = (f : Finding) → IsAmong f found → (is_of_kind f.identity ≡ true) × (length f.schedule ≤ e.depth) × RunShows (program_in e) f.schedule f.identity
 
 abbrev pub AllAreShown : ExplorationSeen → Findings → Type 0
-AllAreShown e findings = AreShown e findings.errors × AreShown e findings.refusals
+AllAreShown e findings = AreShown (is_error e.flags) e findings.errors × AreShown is_refusal e findings.refusals
 
 -- a search within a limit of nodes: complete, it found what the nodes show, and counted them, which the limit allows; it stopped at the limit only where the nodes are more
 abbrev pub IsOutcome : ExplorationSeen → ℕ → Outcome → Type 0

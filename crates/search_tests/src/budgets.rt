@@ -1,27 +1,24 @@
-// The reports of one exploration with several budgets.
+// The reports of explorations with several budgets.
 ghost use Rattle.std.specs.Prelude.{◌≡◌, ◌≤◌};
 
+use crate::modules::{INSERTS, LINE, MAKERS, MESSAGES, MIXED, WRITERS};
 use core_reader::{Module, read_module};
-use findings::{Flags, Options};
+use findings::{Flags, Options, Outcome};
 use report_text::write_report;
 use search_crew::{Unwatched, search};
 use std::alloc::Global;
 use std::test::Fail;
 use term_core::{Output, WriteFault};
+use test_support::same;
 
-// Two processes that write one table of a third, which ends.
-const WRITERS: &str =
-    "module 'm' ['main'/0,'c'/1] attributes [] 'main'/0 = fun () -> do call 'ets':'new'('t',['named_table','public']) do call 'erlang':'spawn'('m','c',['a']) call 'erlang':'spawn'('m','c',['b']) 'c'/1 = fun (X) -> do call 'ets':'insert'('t',{X,1}) call 'ets':'lookup'('t','a') end";
-
-const DEPTH: u64 = 9;
-
-// What is explored, with a budget.
-fn options(budget: u64) -> Options
+/// What is explored, with a budget.
+pub(crate) fn options(depth: u64, budget: u64) -> Options
+    ensures depth { result.depth ≡ depth }
     ensures budget { result.budget ≡ budget }
     ensures nodes { result.nodes ≡ 1000000 }
 {
     Options {
-        depth: DEPTH,
+        depth,
         nodes: 1_000_000,
         budget,
         workers: 1,
@@ -33,31 +30,76 @@ fn options(budget: u64) -> Options
 }
 
 // The text of a report.
-fn text_of(alloc: Global, outcome: &findings::Outcome) -> Result<Vec<u8>, WriteFault> {
+fn text_of(alloc: Global, depth: u64, outcome: &Outcome) -> Result<Vec<u8>, WriteFault> {
     let mut sink = Output::new(Vec::new(alloc));
-    write_report(&mut sink, DEPTH, outcome)?;
+    write_report(&mut sink, depth, outcome)?;
     Ok(sink.writer)
 }
 
 // The report with a budget.
-fn reported(alloc: Global, program: &Module, budget: u64) -> Result<Vec<u8>, Fail>
+fn reported(alloc: Global, program: &Module, depth: u64, budget: u64) -> Result<Vec<u8>, Fail>
     requires some { 1 ≤ budget }
     requires most { budget ≤ 10000000 }
 {
-    let Ok(outcome) = search(alloc, program, &options(budget), &Unwatched) else {
+    let Ok(outcome) = search(alloc, program, &options(depth, budget), &Unwatched) else {
         return Err(Fail::from("the search was not begun"));
     };
-    let text = text_of(alloc, &outcome)?;
+    let text = text_of(alloc, depth, &outcome)?;
     Ok(text)
 }
 
+// Whether the report of a module is the same with budgets of 1, 2 and 64.
+fn budgets_change_nothing_of(alloc: Global, text: &str, depth: u64) -> Result<(), Fail> {
+    let program = read_module(alloc, text.as_bytes())?;
+    let many = reported(alloc, &program, depth, 64)?;
+    let two = reported(alloc, &program, depth, 2)?;
+    same(two.as_slice(), many.as_slice())?;
+    let one = reported(alloc, &program, depth, 1)?;
+    same(one.as_slice(), many.as_slice())
+}
+
+// Modules, and how many steps their schedules have.
+const EXPLORED: [(&str, u64); 5] = [
+    (WRITERS, 9),
+    (MAKERS, 5),
+    (INSERTS, 12),
+    (MESSAGES, 12),
+    (MIXED, 16),
+];
+
 #[test]
 fn budgets_change_nothing(rt: HostRuntime) -> Result<(), Fail> {
-    let program = read_module(rt.alloc(), WRITERS.as_bytes())?;
-    let many = reported(rt.alloc(), &program, 64)?;
-    let two = reported(rt.alloc(), &program, 2)?;
-    let one = reported(rt.alloc(), &program, 1)?;
-    assert_eq!(rt; two.as_slice(), many.as_slice());
-    assert_eq!(rt; one.as_slice(), many.as_slice());
+    for (text, depth) in EXPLORED {
+        budgets_change_nothing_of(rt.alloc(), text, depth)?;
+    }
+    Ok(())
+}
+
+// The nodes of a clean exploration.
+fn counted(alloc: Global, program: &Module, depth: u64, budget: u64) -> Result<u64, Fail>
+    requires some { 1 ≤ budget }
+    requires most { budget ≤ 10000000 }
+{
+    match search(alloc, program, &options(depth, budget), &Unwatched) {
+        Ok(Outcome::Complete(found, nodes)) => {
+            if found.errors().len() == 0 && found.refusals().len() == 0 {
+                return Ok(nodes);
+            }
+            Err(Fail::from("something was found"))
+        }
+        _ => Err(Fail::from("the search was not complete")),
+    }
+}
+
+// Depths, and how many nodes the line has then.
+const NODES: [(u64, u64); 3] = [(40, 22), (17, 18), (16, 17)];
+
+#[test]
+fn a_line_has_a_node_for_each_turn(rt: HostRuntime) -> Result<(), Fail> {
+    let program = read_module(rt.alloc(), LINE.as_bytes())?;
+    for (depth, nodes) in NODES {
+        assert_eq!(rt; counted(rt.alloc(), &program, depth, 1)?, nodes, "{depth}");
+        assert_eq!(rt; counted(rt.alloc(), &program, depth, 64)?, nodes, "{depth}");
+    }
     Ok(())
 }

@@ -19,6 +19,7 @@ use Rattle.sleep_tree.specs.Meanings.{AreShown, AreOfJob}
 use Rattle.sleep_tree.specs.Pieces.{IsDone, AreOf, IsPiece}
 use Rattle.sleep_tree.specs.inside.Frames.{NodeSeen, FrameSeen, own_node, nodes_of_node, nodes_of_frame, nodes_of_frames, IsNodeOf, IsFrameOf, AreFramesOf, IsExploring}
 use Rattle.sleep_tree.proofs.Frames.{frames_push}
+use Rattle.sleep_tree.proofs.Kinds.{found_passes}
 use Rattle.sleep_tree.proofs.Lists.{all_append, all_front, all_back}
 
 pub all_join : (e : ExplorationSeen) (js ks : List JobSeen) → nodes_of_all e (js ++ ks) ≡ nodes_of_all e js ++ nodes_of_all e ks
@@ -103,9 +104,11 @@ piece_made e name f k fs rest x same belong =
 
 -- ---- what its findings are
 
-shown_of : (e : ExplorationSeen) (name : Job) (test : Identity → Bool) (done more : List Node) (fs : List Finding) → nodes_of e name ≡ done ++ more → fs ≡ found test (program_in e) (schedules_of done) → AreShown e name fs
+shown_of : (e : ExplorationSeen) (name : Job) (test : Identity → Bool) (done more : List Node) (fs : List Finding) → nodes_of e name ≡ done ++ more → fs ≡ found test (program_in e) (schedules_of done) → AreShown test e name fs
 shown_of e name test done more fs made_up is f there =
-    let l : IsLeast (program_in e) (schedules_of done) f = least test (program_in e) (schedules_of done) f (subst (IsAmong f) is there) in (
+    let there_too : IsAmong f (found test (program_in e) (schedules_of done)) = subst (IsAmong f) is there in
+    let l : IsLeast (program_in e) (schedules_of done) f = least test (program_in e) (schedules_of done) f there_too in (
+      found_passes test (program_in e) (schedules_of done) f there_too,
       subst (IsAmong f.schedule) (sym (ap schedules_of made_up ∙ map_join (λ (v : Node). v.schedule) done more)) (among_left (schedules_of done) (schedules_of more) f.schedule l.is_among),
       l.shows,
     )

@@ -7,6 +7,7 @@ returns-in-Ok-clause-run g c ran = record {
   asked = c.in-Ok.asked;
   replay = c.in-Ok.ensures.replay;
   explore = c.in-Ok.ensures.explore;
+  named = c.in-Ok.ensures.named;
   in_range = c.in-Ok.ensures.range;
   outcome = c.run_asked-outcome.result;
   run = c.run_asked-outcome.ensures.run;

@@ -1,0 +1,29 @@
+// Modules whose schedules are explored.
+
+/// Two processes that write one table of a third, which ends.
+pub(crate) const WRITERS: &str =
+    "module 'm' ['main'/0,'c'/1] attributes [] 'main'/0 = fun () -> do call 'ets':'new'('t',['named_table','public']) do call 'erlang':'spawn'('m','c',['a']) call 'erlang':'spawn'('m','c',['b']) 'c'/1 = fun (X) -> do call 'ets':'insert'('t',{X,1}) call 'ets':'lookup'('t','a') end";
+
+/// Two processes that make a table each.
+pub(crate) const MAKERS: &str =
+    "module 'm' ['main'/0,'c'/0] attributes [] 'main'/0 = fun () -> do call 'erlang':'spawn'('m','c',[]) call 'ets':'new'('a',[]) 'c'/0 = fun () -> call 'ets':'new'('b',[]) end";
+
+/// A process that writes into a table of another, which may have ended.
+pub(crate) const STRANGER: &str =
+    "module 'm' ['main'/0,'c'/0] attributes [] 'main'/0 = fun () -> do call 'ets':'new'('t',['named_table']) call 'erlang':'spawn'('m','c',[]) 'c'/0 = fun () -> call 'ets':'insert'('t',{'a',1}) end";
+
+/// One process that makes twenty references.
+pub(crate) const LINE: &str =
+    "module 'm' ['main'/0] attributes [] 'main'/0 = fun () -> apply 'f'/1(20) 'f'/1 = fun (N) -> case N of <0> when 'true' -> 'ok' <M> when 'true' -> do call 'erlang':'make_ref'() apply 'f'/1(call 'erlang':'-'(M,1)) end end";
+
+/// Three processes that write one table.
+pub(crate) const INSERTS: &str =
+    "module 'm' ['main'/0,'c'/1] attributes [] 'main'/0 = fun () -> do call 'ets':'new'('t',['named_table','public']) do call 'erlang':'spawn'('m','c',['a']) do call 'erlang':'spawn'('m','c',['b']) do call 'erlang':'spawn'('m','c',['d']) receive <X> when 'true' -> X after 'infinity' -> 'x' 'c'/1 = fun (V) -> do call 'ets':'insert'('t',{1,V}) do call 'ets':'insert'('t',{1,V}) do call 'ets':'insert'('t',{2,V}) do call 'ets':'insert'('t',{2,V}) do call 'ets':'insert'('t',{1,V}) 'ok' end";
+
+/// Three processes that send messages to one that selects among them.
+pub(crate) const MESSAGES: &str =
+    "module 'm' ['main'/0,'c'/2] attributes [] 'main'/0 = fun () -> let <Me> = call 'erlang':'self'() in do call 'erlang':'spawn'('m','c',[Me,'a']) do call 'erlang':'spawn'('m','c',[Me,'b']) do call 'erlang':'spawn'('m','c',[Me,'d']) do receive <{'a',X}> when call 'erlang':'>'(X,0) -> X <{Y,Z}> when 'true' -> Z after 'infinity' -> 'x' do receive <{'a',X}> when call 'erlang':'>'(X,0) -> X <{Y,Z}> when 'true' -> Z after 'infinity' -> 'x' do receive <{'a',X}> when call 'erlang':'>'(X,0) -> X <{Y,Z}> when 'true' -> Z after 'infinity' -> 'x' do receive <{'a',X}> when call 'erlang':'>'(X,0) -> X <{Y,Z}> when 'true' -> Z after 'infinity' -> 'x' do receive <{'a',X}> when call 'erlang':'>'(X,0) -> X <{Y,Z}> when 'true' -> Z after 'infinity' -> 'x' do receive <{'a',X}> when call 'erlang':'>'(X,0) -> X <{Y,Z}> when 'true' -> Z after 'infinity' -> 'x' 'ok' 'c'/2 = fun (To,V) -> do call 'erlang':'!'(To,{V,1}) do call 'erlang':'!'(To,{V,2}) do call 'erlang':'!'(To,{V,3}) 'ok' end";
+
+/// A table that is inherited, a watch, links and a name.
+pub(crate) const MIXED: &str =
+    "module 'm' ['main'/0,'c'/1,'d'/1] attributes [] 'main'/0 = fun () -> let <Me> = call 'erlang':'self'() in do call 'erlang':'process_flag'('trap_exit','true') do call 'ets':'new'('t',['named_table','public','ordered_set',{'heir',Me,'h'}]) let <C> = call 'erlang':'spawn_link'('m','c',[Me]) in let <M> = call 'erlang':'monitor'('process',C) in let <D> = call 'erlang':'spawn_link'('m','d',[C]) in do call 'ets':'give_away'('t',C,'g') do call 'ets':'lookup'('t',1) receive <{'EXIT',A,B}> when 'true' -> do catch call 'ets':'insert'('t',{1,2}) call 'ets':'tab2list'('t') <{'DOWN',F,G,H,I}> when 'true' -> call 'ets':'first'('t') after 10 -> catch call 'ets':'update_counter'('t',1,1) 'c'/1 = fun (P) -> do call 'erlang':'register'('n',call 'erlang':'self'()) do call 'ets':'insert_new'('t',[{1,1},{2,2}]) receive <{'ETS-TRANSFER',J,K,L}> when 'true' -> do call 'ets':'take'('t',1) call 'erlang':'exit'('bye') after 'infinity' -> 'x' 'd'/1 = fun (Q) -> do catch call 'ets':'update_counter'('t',1,{2,1}) do call 'erlang':'send'(Q,'hi') do call 'ets':'insert'('t',{2,'d'}) call 'erlang':'exit'(Q,'kill') end";
