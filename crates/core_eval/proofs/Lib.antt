@@ -1,10 +1,6 @@
 pub mod Errors
 pub mod Stops
-pub mod Rooms
-pub mod ApplyLaw
 pub mod Running
 pub mod Lookups
 pub mod Selecting
 pub mod Choosing
-pub mod WorkedRows
-pub mod ReadRequests

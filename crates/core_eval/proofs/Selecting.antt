@@ -8,12 +8,12 @@ use Rattle.term_core.specs.Meaning.{Meaning}
 use Rattle.core_eval.specs.declared.control.Halt.TheVariants as halts
 use Rattle.core_eval.specs.declared.control.Pause.{Pause}
 use Rattle.core_eval.specs.declared.control.Pause.TheVariants as pauses
-use Rattle.core_eval.specs.Applications.{setting_of}
-use Rattle.core_eval.specs.Ask.{request_of}
-use Rattle.core_eval.specs.Asked.{Asked, Call, Receive, Runaway}
+use Rattle.eval_rules.specs.Applications.{setting_of}
+use Rattle.eval_rules.specs.Ask.{request_of}
+use Rattle.eval_rules.specs.Asked.{Asked, Call, Receive, Runaway}
 use Rattle.core_eval.specs.Told.{Told, is_selected}
 use Rattle.core_eval.specs.Told as told
-use Rattle.core_eval.specs.Evaluation.{before, Setting, Stops, at_rest, evaluate, holds, selects}
+use Rattle.eval_rules.specs.Evaluation.{before, Setting, Stops, at_rest, evaluate, holds, selects}
 use Rattle.core_stack.specs.Holes.{Hole, Wait, receive_on, scope}
 use Rattle.core_eval.specs.Filled.{standing, through, waiting}
 use Rattle.core_stack.specs.Holes as holes

@@ -2,11 +2,11 @@
 use Rattle.std.proofs.Common.{◌≡◌, Bool, List, [], ◌∷◌, refl, ap}
 use Rattle.std.specs.Prelude.{Option, Some, None}
 use Rattle.core_tree.specs.Syntax.{clauses_of}
-use Rattle.core_eval.specs.Asked.{Asked}
-use Rattle.core_eval.specs.Asked as asked
-use Rattle.core_eval.specs.Ask.{request_of}
+use Rattle.eval_rules.specs.Asked.{Asked}
+use Rattle.eval_rules.specs.Asked as asked
+use Rattle.eval_rules.specs.Ask.{request_of}
 use Rattle.core_eval.specs.Told.{Told, Call, Receive, End, Runaway, told}
-use Rattle.core_eval.specs.Evaluation.{State, before, Setting, Stops, selects}
+use Rattle.eval_rules.specs.Evaluation.{State, before, Setting, Stops, selects}
 use Rattle.core_stack.specs.Holes.{Hole, Wait, receive_on, scope}
 use Rattle.core_eval.specs.Filled.{waiting, through, standing}
 use Rattle.core_stack.specs.Holes as holes

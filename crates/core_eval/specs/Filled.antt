@@ -7,12 +7,12 @@ use Rattle.core_stack.specs.Holes.{Hole, Parts, Tail, Body, Second, Clauses, Gua
 use Rattle.core_stack.specs.Matching.{Environment, bound}
 use Rattle.core_stack.specs.Purposes.{Purpose}
 use Rattle.core_stack.specs.Purposes as purposes
-use Rattle.core_eval.specs.Asked.{Asked, Answered}
-use Rattle.core_eval.specs.Asked as asked
+use Rattle.eval_rules.specs.Asked.{Asked, Answered}
+use Rattle.eval_rules.specs.Asked as asked
 use Rattle.core_eval.specs.Told.{Told}
 use Rattle.core_eval.specs.Told as told
-use Rattle.core_eval.specs.Evaluation.{State, before, Outcome, Yields, Stops, Setting, then_do, handled, one, limited, called, caught, caught_values, called_with, within, guarded, waits_with, timed, evaluate, evaluate_all, choose, receive}
-use Rattle.core_eval.specs.Ask.{request_of}
+use Rattle.eval_rules.specs.Evaluation.{State, before, Outcome, Yields, Stops, Setting, then_do, handled, one, limited, called, caught, caught_values, called_with, within, guarded, waits_with, timed, evaluate, evaluate_all, choose, receive}
+use Rattle.eval_rules.specs.Ask.{request_of}
 
 -- what the values become
 abbrev pub finish : Setting → Purpose → Environment → List Meaning → State → Outcome

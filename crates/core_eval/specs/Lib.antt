@@ -1,14 +1,5 @@
-pub mod Asked
 pub mod Told
 pub mod Requests
-pub mod Outcomes
-pub mod Exceptions
-pub mod Clauses
-pub mod Receiving
-pub mod Evaluation
-pub mod Applications
-pub mod Ask
-pub mod Servable
 pub mod Filled
 pub mod Standing
 pub mod inside

@@ -4,7 +4,7 @@ use Rattle.core_eval.specs.declared.request.Request.{Request}
 use Rattle.core_eval.specs.declared.request.Request.TheVariants as requests
 use Rattle.core_eval.specs.declared.request.Answer.{Answer}
 use Rattle.core_eval.specs.declared.request.Answer.TheVariants as answers
-use Rattle.core_eval.specs.Asked.{Answered, Value, Raise, Message, TimedOut}
+use Rattle.eval_rules.specs.Asked.{Answered, Value, Raise, Message, TimedOut}
 use Rattle.core_eval.specs.Told.{Told, Call, Receive, End, Runaway}
 
 -- what a request tells, without where it lies in memory

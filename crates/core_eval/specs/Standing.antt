@@ -3,8 +3,8 @@ use Rattle.std.specs.Prelude.{◌≡◌, ℕ, Bool, false, List, [], refl}
 use Rattle.std.specs.Coded.{Coded, code_by, coded×, coded_list, coded_ℕ, coded_bool}
 use Rattle.core_tree.specs.Syntax.{ModuleTree}
 use Rattle.core_tree.specs.inside.SyntaxCodes.{coded_module}
-use Rattle.core_eval.specs.Applications.{setting_of}
-use Rattle.core_eval.specs.Asked.{Asked, Answered}
+use Rattle.eval_rules.specs.Applications.{setting_of}
+use Rattle.eval_rules.specs.Asked.{Asked, Answered}
 use Rattle.core_eval.specs.Told.{Told}
 use Rattle.core_stack.specs.Holes.{Hole}
 use Rattle.core_eval.specs.Filled.{standing}

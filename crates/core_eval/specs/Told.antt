@@ -2,8 +2,8 @@
 use Rattle.std.specs.Prelude.{Bool, false, List}
 use Rattle.core_tree.specs.declared.call.CallKind.{CallKind}
 use Rattle.term_core.specs.Meaning.{Meaning}
-use Rattle.core_eval.specs.Asked.{Asked}
-use Rattle.core_eval.specs.Asked as asked
+use Rattle.eval_rules.specs.Asked.{Asked}
+use Rattle.eval_rules.specs.Asked as asked
 
 -- a request without which messages a receive takes
 pub data Told : Type 0 where

@@ -3,7 +3,7 @@ ghost use Rattle.std.specs.Prelude.{◌≡◌, ◌≤◌, ◌++◌, ◌∷◌, [
 ghost use Rattle.term_core.specs.Meaning.{Tuple, meanings_of};
 ghost use Rattle.term_core.specs.Term.{meaning_of};
 ghost use Rattle.term_core.specs.Words.{text_of_word};
-ghost use Rattle.core_eval.specs.Evaluation.{error, limited, limited_error};
+ghost use Rattle.eval_rules.specs.Evaluation.{error, limited, limited_error};
 ghost use Rattle.core_eval.specs.inside.Steps.{Means, load};
 
 use crate::control::Control;

@@ -5,7 +5,7 @@ ghost use Rattle.core_tree.specs.Expression as trees;
 ghost use Rattle.core_tree.specs.Callee as callees;
 ghost use Rattle.core_tree.specs.Tree.{callee_of, tree_of};
 ghost use Rattle.term_core.specs.Term.{meaning_of};
-ghost use Rattle.core_eval.specs.Evaluation.{called_with, limited, value_or_error};
+ghost use Rattle.eval_rules.specs.Evaluation.{called_with, limited, value_or_error};
 ghost use Rattle.core_stack.specs.Matching.{lookup, text_of};
 ghost use Rattle.core_stack.specs.inside.Frames.{purpose_of};
 ghost use Rattle.core_stack.specs.Holes.{scope};

@@ -1,7 +1,7 @@
 // Where a process begins, and what it applies.
 ghost use Rattle.std.specs.Prelude.{◌≡◌, true, false, IfOk, OnOk, option_map, option_copied};
-ghost use Rattle.core_eval.specs.Applications.{definition};
-ghost use Rattle.core_eval.specs.Ask.{entry, first_function, is_exported};
+ghost use Rattle.eval_rules.specs.Applications.{definition};
+ghost use Rattle.eval_rules.specs.Ask.{entry, first_function, is_exported};
 ghost use Rattle.core_eval.specs.inside.Functions.{function_in};
 ghost use Rattle.core_eval.specs.inside.Steps.{Begins, IsBared, keeps_once};
 ghost use Rattle.core_stack.specs.Holes.{keeps_on_top};

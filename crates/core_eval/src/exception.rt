@@ -2,8 +2,8 @@
 // of them.
 ghost use Rattle.std.specs.Prelude.{◌≡◌, ◌≤◌, IfOk};
 ghost use Rattle.term_core.specs.Term.{meaning_of};
-ghost use Rattle.core_eval.specs.Ask.{reason_of};
-ghost use Rattle.core_eval.specs.Evaluation.{begins_with, caught, caught_values, class_in, class_name, class_named, match_reason, raised_again, trace_of};
+ghost use Rattle.eval_rules.specs.Ask.{reason_of};
+ghost use Rattle.eval_rules.specs.Evaluation.{begins_with, caught, caught_values, class_in, class_name, class_named, match_reason, raised_again, trace_of};
 ghost use Rattle.core_eval.specs.inside.Steps.{Means, load};
 
 use crate::build::{error, limited, pair};

@@ -6,7 +6,7 @@ ghost use Rattle.core_tree.specs.Syntax.{clauses_of};
 ghost use Rattle.core_tree.specs.inside.Sizes.{size_of_clause_list};
 ghost use Rattle.core_tree.specs.Tree.{tree_of};
 ghost use Rattle.term_core.specs.Term.{meaning_of};
-ghost use Rattle.core_eval.specs.Evaluation.{Raises, Yields, as_one, choose, no_clause};
+ghost use Rattle.eval_rules.specs.Evaluation.{Raises, Yields, as_one, choose, no_clause};
 ghost use Rattle.core_stack.specs.inside.Frames.{hole_of};
 ghost use Rattle.core_stack.specs.Holes.{scope};
 ghost use Rattle.core_eval.specs.Filled.{filled};

@@ -6,7 +6,6 @@ mod control;
 mod enter;
 mod entry;
 mod exception;
-pub mod laws;
 mod leave;
 pub mod machine;
 mod pure;

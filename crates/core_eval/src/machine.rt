@@ -1,7 +1,7 @@
 // The machine of one process.
 ghost use Rattle.std.specs.Prelude.{◌≡◌, ◌∷◌, true, false, List, IfOk, OnOk, OnErr, IsErr, option_map};
-ghost use Rattle.core_eval.specs.Ask.{ask, entry};
-ghost use Rattle.core_eval.specs.Asked.{Answered};
+ghost use Rattle.eval_rules.specs.Ask.{ask, entry};
+ghost use Rattle.eval_rules.specs.Asked.{Answered};
 ghost use Rattle.core_eval.specs.Requests.{told_by, answered_of};
 ghost use Rattle.core_eval.specs.Standing.{StandsAt, after, is_spent, stands_at};
 ghost use Rattle.core_eval.specs.Told.{is_selected, told};

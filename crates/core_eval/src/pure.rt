@@ -1,7 +1,7 @@
 // The calls that a process answers by itself.
 ghost use Rattle.std.specs.Prelude.{◌≤◌, IfOk};
 ghost use Rattle.pure_calls.specs.Calls.{answer_of};
-ghost use Rattle.core_eval.specs.Evaluation.{limited_answer};
+ghost use Rattle.eval_rules.specs.Evaluation.{limited_answer};
 ghost use Rattle.core_eval.specs.inside.Steps.{Means, load};
 
 use crate::build::limited;

@@ -1,9 +1,9 @@
 // The run of a machine to its next request.
 ghost use Rattle.std.specs.Prelude.{◌≡◌, List, IfOk};
-ghost use Rattle.core_eval.specs.Applications.{setting_of};
-ghost use Rattle.core_eval.specs.Asked.{Answered};
-ghost use Rattle.core_eval.specs.Ask.{request_of};
-ghost use Rattle.core_eval.specs.Evaluation.{Setting, State, before};
+ghost use Rattle.eval_rules.specs.Applications.{setting_of};
+ghost use Rattle.eval_rules.specs.Asked.{Answered};
+ghost use Rattle.eval_rules.specs.Ask.{request_of};
+ghost use Rattle.eval_rules.specs.Evaluation.{Setting, State, before};
 ghost use Rattle.core_stack.specs.Holes.{Hole};
 ghost use Rattle.core_eval.specs.Filled.{standing};
 ghost use Rattle.core_eval.specs.Requests.{told_by};

@@ -3,8 +3,8 @@ ghost use Rattle.std.specs.Prelude.{◌≡◌, ◌++◌, ◌∷◌, [], IfOk};
 ghost use Rattle.core_tree.specs.Syntax.{ModuleTree, clauses_of};
 ghost use Rattle.core_tree.specs.Tree.{tree_of};
 ghost use Rattle.term_core.specs.Term.{meaning_of};
-ghost use Rattle.core_eval.specs.Applications.{setting_of};
-ghost use Rattle.core_eval.specs.Evaluation.{at_rest, evaluate, holds, is_true, selects};
+ghost use Rattle.eval_rules.specs.Applications.{setting_of};
+ghost use Rattle.eval_rules.specs.Evaluation.{at_rest, evaluate, holds, is_true, selects};
 ghost use Rattle.core_stack.specs.Holes.{scope};
 ghost use Rattle.core_eval.specs.inside.Steps.{gave_true};
 

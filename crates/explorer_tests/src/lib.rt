@@ -9,6 +9,4 @@ mod refusals;
 #[cfg(test)]
 mod replays;
 #[cfg(test)]
-mod transcript;
-#[cfg(test)]
 mod words;

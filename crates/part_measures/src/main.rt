@@ -21,16 +21,20 @@ fn work(alloc: Global, name: &str, size: u32) -> Result<u32, AllocError> {
         "copies" => copy_often(alloc, size),
         "signals" => send_through(alloc, size),
         "receive" => receive_past(alloc, size),
-        _ => Ok(contents_of(name, size)
-            .and_then(|contents| copy_world(alloc, contents))
-            .unwrap_or(0)),
+        _ => Ok(
+            contents_of(name, size)
+                .and_then(|contents| copy_world(alloc, contents))
+                .unwrap_or(0),
+        ),
     }
 }
 
 fn main(rt: HostRuntime) -> Result<(), Error> {
     let words: Vec<String> = env::args(&rt)?.collect(rt.alloc())?;
     let [_, name, size] = words.as_slice() else {
-        println!(rt; "usage: part_measures set|ordered_set|copies|signals|receive|processes|references|messages|objects SIZE")?;
+        println!(rt;
+            "usage: part_measures set|ordered_set|copies|signals|receive|processes|references|messages|objects SIZE"
+        )?;
         return Ok(());
     };
     let size: u32 = size.as_str().parse()?;

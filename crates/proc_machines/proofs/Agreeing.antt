@@ -3,8 +3,8 @@ use Rattle.std.proofs.Common.{◌≡◌, Bool, true, false, List, [], ◌∷◌,
 use Rattle.std.proofs.lemmas.Slice.Eq.{bytes_eq-Decides}
 use Rattle.term_core.specs.Meaning.{Meaning}
 use Rattle.core_tree.specs.Syntax.{ModuleTree}
-use Rattle.core_eval.specs.Ask.{ask, is_first}
-use Rattle.core_eval.specs.Asked.{Answered}
+use Rattle.eval_rules.specs.Ask.{ask, is_first}
+use Rattle.eval_rules.specs.Asked.{Answered}
 use Rattle.core_eval.specs.Standing as standing
 use Rattle.core_eval.specs.Standing.{Standing, is_spent}
 use Rattle.world_model.specs.Asking.{entry_of}

@@ -3,8 +3,8 @@ use Rattle.std.specs.BTreeMap.{get}
 use Rattle.std.specs.Prelude.{◌≡◌, ◌+◌, ◌++◌, ℕ, List, Option, Some, None, option_map, if◌then◌else◌}
 use Rattle.term_core.specs.Order.{order_of_lists}
 use Rattle.core_tree.specs.Syntax.{ModuleTree}
-use Rattle.core_eval.specs.Ask.{ask}
-use Rattle.core_eval.specs.Asked.{Answered}
+use Rattle.eval_rules.specs.Ask.{ask}
+use Rattle.eval_rules.specs.Asked.{Answered}
 use Rattle.core_eval.specs.Standing.{Standing, StandsAt}
 use Rattle.world_model.specs.Asking.{entry_of}
 use Rattle.world_model.specs.Cells as cells

@@ -34,7 +34,10 @@ fn a_world_takes_its_steps(rt: HostRuntime) -> Result<(), Fail> {
     let mut ended = world.copy()?;
     holds(ended.advance(alloc, &steps).is_ok(), "the step is taken")?;
     let pid = first(alloc)?;
-    holds(world.alive(&pid) && !ended.alive(&pid), "the copy has ended")?;
+    holds(
+        world.alive(&pid) && !ended.alive(&pid),
+        "the copy has ended",
+    )?;
     holds(ended.enabled(alloc)?.is_empty(), "no step is enabled")?;
     holds(ended.schedule(alloc)? == steps, "the schedule")?;
     holds(!ended.is_spent(), "it is not spent")
@@ -59,11 +62,17 @@ fn steps_have_footprints(rt: HostRuntime) -> Result<(), Fail> {
     let one = Step::Turn(first(alloc)?);
     let other = Step::Turn(second(alloc)?);
     let records = world.records();
-    holds(!independent(records, alloc, &one, &other)?, "the second is not there")?;
+    holds(
+        !independent(records, alloc, &one, &other)?,
+        "the second is not there",
+    )?;
     world.step(alloc, &one)?;
     let records = world.records();
     let cells = footprint(records, alloc, &one)?;
     holds(!cells.reads.is_empty() && !cells.writes.is_empty(), "cells")?;
     holds(independent(records, alloc, &one, &other)?, "two tables")?;
-    holds(!independent(records, alloc, &one, &one)?, "a step and itself")
+    holds(
+        !independent(records, alloc, &one, &one)?,
+        "a step and itself",
+    )
 }

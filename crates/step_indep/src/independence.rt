@@ -13,9 +13,9 @@ use crate::footprints::Footprint;
 use crate::meeting::are_apart;
 use crate::step::footprint_of;
 use std::alloc::{AllocError, Global};
+use step_enabled::is_enabled;
 use term_core::Step;
 use world_records::Records;
-use world_steps::is_enabled;
 
 // Whether a step is enabled, and apart from this footprint.
 fn is_apart_from(

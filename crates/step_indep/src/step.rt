@@ -16,9 +16,9 @@ use crate::footprints::Footprint;
 use crate::readings::lives;
 use crate::turn::turn;
 use std::alloc::{AllocError, Global};
+use step_enabled::is_enabled;
 use term_core::{Pid, Step};
 use world_records::Records;
-use world_steps::is_enabled;
 
 // The turn of a process that lives.
 fn add_turn(

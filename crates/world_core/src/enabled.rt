@@ -12,9 +12,9 @@ ghost use Rattle.world_records.specs.Records.{Agrees};
 
 use std::alloc::{AllocError, Global};
 use std::collections::BTreeSet;
+use step_enabled::is_enabled;
 use term_core::{Pid, Step};
 use world_records::Records;
-use world_steps::is_enabled;
 
 // Puts a step behind others, if it is enabled.
 fn push_if_enabled(

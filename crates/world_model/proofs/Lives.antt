@@ -4,8 +4,8 @@ use Rattle.std.specs.Prelude.{◌∷◌, ◌+◌, ◌≡◌, ◌++◌, ◌&&◌,
 use Rattle.term_core.specs.Meaning.{Meaning}
 use Rattle.term_core.specs.declared.step.Step.{Step}
 use Rattle.term_core.specs.declared.step.Step.TheVariants.{Deliver, Turn}
-use Rattle.core_eval.specs.Asked as answered
-use Rattle.core_eval.specs.Asked.{Answered}
+use Rattle.eval_rules.specs.Asked as answered
+use Rattle.eval_rules.specs.Asked.{Answered}
 use Rattle.world_model.specs.Calls.{Spawn, SpawnWay, Alone, Linked, Watched, Call, OnTable, call_of, Flag}
 use Rattle.world_model.specs.Cells.{Alive, Machine, Contents, Trap, Course}
 use Rattle.world_model.specs.Changes.{after, changed, Fetches, Turns}

@@ -9,7 +9,7 @@ use Rattle.term_core.specs.StepOrder.{order_of_steps}
 use Rattle.term_core.specs.inside.StepOrderLaws.{steps_total, same_step}
 use Rattle.term_core.specs.declared.step.Step.{Step}
 use Rattle.term_core.specs.declared.step.Step.TheVariants.{Turn, Deliver}
-use Rattle.core_eval.specs.Ask.{is_first}
+use Rattle.eval_rules.specs.Ask.{is_first}
 use Rattle.world_model.specs.Cells.{Contents, Alive, Tail, meet, Machine, Front}
 use Rattle.world_model.specs.Changes.{Change, set_in_order, set_before, Lives, Puts, changed, Dies, Touches, after}
 use Rattle.world_model.specs.Events.{Signal, History, event}

@@ -9,8 +9,8 @@ use Rattle.term_core.specs.Meaning.{Meaning}
 use Rattle.term_core.specs.inside.StepOrderLaws.{same_reference_id}
 use Rattle.term_core.specs.declared.step.Step.{Step}
 use Rattle.term_core.specs.declared.step.Step.TheVariants.{Turn, Deliver}
-use Rattle.core_eval.specs.Asked as answered
-use Rattle.core_eval.specs.Asked.{Answered}
+use Rattle.eval_rules.specs.Asked as answered
+use Rattle.eval_rules.specs.Asked.{Answered}
 use Rattle.world_model.specs.Calls.{Call, TableCall, DeleteTable, GiveAway, SetOptions, Spawn, SpawnWay, Alone, Linked, Watched, New, OnTable, call_of}
 use Rattle.world_model.specs.Cells.{Table, Cell, Owned, Contents, Alive, TableName, Links, Watchers, NameOf}
 use Rattle.world_model.specs.Changes.{set_in_order, set_before, without_first, after, Frees, Inherits, changed, Touches, Goes, Wipes, Loses, Makes, Gains, Lives, Begins, Empties, Dies, Halts, Turns, Fetches}

@@ -3,7 +3,7 @@ use Rattle.std.proofs.Common.{◌≡◌, Bool, true, false, ◌||◌, List, [], 
 use Rattle.std.specs.List.{list_any}
 use Rattle.std.specs.Prelude.{option_map, ℕ}
 use Rattle.term_core.specs.Meaning.{Meaning}
-use Rattle.core_eval.specs.Asked as answered
+use Rattle.eval_rules.specs.Asked as answered
 use Rattle.world_model.specs.Calls.{TableCall, DeleteTable, GiveAway, SetOptions}
 use Rattle.world_model.specs.Cells.{Table, Content, Contents, Cell, Alive, Owned, Links, Watchers, NameOf, Row}
 use Rattle.world_model.specs.Changes.{after, Inherits, changed, Frees, Goes, Wipes, Loses, Turns, Empties, Dies}

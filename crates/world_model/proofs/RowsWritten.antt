@@ -2,7 +2,7 @@
 use Rattle.std.proofs.Common.{◌≡◌, Bool, true, false, ◌&&◌, List, [], ◌∷◌, ◌++◌, map, ap, Option, Some, None, refl, ◌∙◌, if◌then◌else◌}
 use Rattle.std.specs.List.{cons_option}
 use Rattle.std.specs.Option.{option_or}
-use Rattle.core_eval.specs.Asked as answered
+use Rattle.eval_rules.specs.Asked as answered
 use Rattle.world_model.specs.Calls.{Lookup, Member, LookupElement, First, Last, Next, Prev, ToList, Insert, InsertNew, DeleteTable, DeleteKey, DeleteObject, DeleteAll, Take, UpdateCounter, UpdateElement, GiveAway, SetOptions, Info, TableCall}
 use Rattle.world_model.specs.Cells.{Table, Row, Rows, Contents, meet}
 use Rattle.world_model.specs.Changes.{Change, cell_of, Inherits, Frees, after, changed, Goes, Wipes, Loses, Turns}

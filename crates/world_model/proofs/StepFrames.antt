@@ -6,7 +6,7 @@ use Rattle.term_core.specs.Meaning.{Meaning}
 use Rattle.term_core.specs.declared.step.Step.{Step}
 use Rattle.term_core.specs.declared.step.Step.TheVariants.{Turn, Deliver}
 use Rattle.core_tree.specs.declared.call.CallKind.{CallKind}
-use Rattle.core_eval.specs.Asked as answered
+use Rattle.eval_rules.specs.Asked as answered
 use Rattle.world_model.specs.Calls.{Call, SendExit, IsAlive, call_of}
 use Rattle.world_model.specs.Cells.{Contents, Trap, Alive, Machine, Mailbox, Front}
 use Rattle.world_model.specs.Changes.{Turns, Change, after, Fetches}

@@ -1,7 +1,7 @@
 -- The cells of the world, and what each contains.
 use Rattle.std.specs.Prelude.{ℕ, Bool, false, ◌&&◌, List, Option}
 use Rattle.term_core.specs.Meaning.{Meaning}
-use Rattle.core_eval.specs.Asked.{Answered}
+use Rattle.eval_rules.specs.Asked.{Answered}
 use Rattle.world_model.specs.Events.{Signal}
 use Rattle.world_model.specs.Names.{Name, Pid, Ref, same_pid, same_ref, same_name}
 use Rattle.world_model.specs.Requests.{Origin}

@@ -5,7 +5,7 @@ use Rattle.std.specs.declared.cmp.Ordering.{Ordering}
 use Rattle.std.specs.declared.cmp.Ordering.TheVariants.{Less, Equal, Greater}
 use Rattle.term_core.specs.Meaning.{Meaning}
 use Rattle.term_core.specs.Order.{order_of_lists}
-use Rattle.core_eval.specs.Asked.{Answered}
+use Rattle.eval_rules.specs.Asked.{Answered}
 use Rattle.world_model.specs.Cells.{Table, Rows, Row, Cell, Machine, Alive, Trap, Mailbox, Front, Tail, Links, Watchers, Watch, Holder, NameOf, TableName, Owned, meet, Content, Contents}
 use Rattle.world_model.specs.Events.{Signal}
 use Rattle.world_model.specs.Names.{Name, Pid, Ref, same_pid, same_ref, same_term, order_of_refs}

@@ -2,8 +2,8 @@
 use Rattle.std.specs.Prelude.{◌∷◌, ◌+◌, if◌then◌else◌, ◌++◌, ◌≡◌, ◌&&◌, Option, Some, None, Bool, false, true, List, [], unwrap_or}
 use Rattle.term_core.specs.declared.step.Step.{Step}
 use Rattle.term_core.specs.declared.step.Step.TheVariants.{Turn, Deliver}
-use Rattle.core_eval.specs.Asked as answered
-use Rattle.core_eval.specs.Asked.{Answered}
+use Rattle.eval_rules.specs.Asked as answered
+use Rattle.eval_rules.specs.Asked.{Answered}
 use Rattle.world_model.specs.Calls.{Call, Spawn, call_of, Flag}
 use Rattle.world_model.specs.Events.{Deed, Ended, RanAway, EndedItself, Delivered, Kills, Event, History, Served, Refused, Received, TimedOut}
 use Rattle.world_model.specs.Names.{Pid, same_pid}

@@ -3,8 +3,8 @@ use Rattle.std.specs.FinMap.{empty}
 use Rattle.std.specs.Prelude.{◌∷◌, [], None, false, Bool, ℕ, List, Option, option_map}
 use Rattle.term_core.specs.Meaning.{Meaning}
 use Rattle.term_core.specs.declared.step.Step.{Step}
-use Rattle.core_eval.specs.Ask.{is_first}
-use Rattle.core_eval.specs.Asked.{Answered}
+use Rattle.eval_rules.specs.Ask.{is_first}
+use Rattle.eval_rules.specs.Asked.{Answered}
 use Rattle.world_model.specs.Calls.{Call, TableArgument, TableCall}
 use Rattle.world_model.specs.Cells.{Table, Row, Rows, Contents, Machine, Alive, Trap, Mailbox, Front, Tail, Links, Watch, Watchers, Holder, NameOf, TableName, Owned}
 use Rattle.world_model.specs.Changes.{after}

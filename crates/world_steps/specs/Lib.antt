@@ -1,3 +1,2 @@
 pub mod Deeds
 pub mod Stepping
-pub mod inside

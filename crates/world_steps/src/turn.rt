@@ -15,11 +15,11 @@ ghost use Rattle.world_calls.specs.Replies.{refusal_in};
 ghost use Rattle.world_steps.specs.Stepping.{IsStepped, Steps, Turns};
 
 use crate::deed::Deed;
-use crate::waiting::must_wait;
 use core_eval::{Answer, Request};
 use core_tree::CallKind;
 use std::alloc::{AllocError, Global};
 use std::sync::Arc;
+use step_enabled::must_wait;
 use term_core::{Pid, Term, Terms, Word};
 use world_calls::{Refusal, Reply, serve};
 use world_records::Records;

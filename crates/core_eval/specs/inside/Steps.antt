@@ -12,11 +12,11 @@ use Rattle.core_eval.specs.declared.control.Halt.TheVariants as halts
 use Rattle.core_eval.specs.declared.control.Pause.{Pause}
 use Rattle.core_eval.specs.declared.control.Pause.TheVariants as pauses
 use Rattle.core_stack.specs.Matching.{Environment, bound}
-use Rattle.core_eval.specs.Evaluation.{State, before, Outcome, Yields, Raises, Setting, then_do, called, choose, guarded, is_true, limited_answer, within, evaluate, evaluate_all}
+use Rattle.eval_rules.specs.Evaluation.{State, before, Outcome, Yields, Raises, Setting, then_do, called, choose, guarded, is_true, limited_answer, within, evaluate, evaluate_all}
 use Rattle.pure_calls.specs.Calls.{answer_of}
-use Rattle.core_eval.specs.Applications.{body_with}
-use Rattle.core_eval.specs.Ask.{request_of}
-use Rattle.core_eval.specs.Asked.{Answered}
+use Rattle.eval_rules.specs.Applications.{body_with}
+use Rattle.eval_rules.specs.Ask.{request_of}
+use Rattle.eval_rules.specs.Asked.{Answered}
 use Rattle.core_eval.specs.Told.{Told}
 use Rattle.core_eval.specs.Told as told
 use Rattle.core_stack.specs.Holes.{Purpose, Hole, only_keeps, scope, receive_on, waits_on, keeps_on_top}

@@ -1,8 +1,8 @@
 use Rattle.std.proofs.Common.{◌≡◌, ◌∙◌, refl, ap, sym, arith}
-use Rattle.core_eval.specs.Applications.{setting_of}
-use Rattle.core_eval.specs.Ask.{request_of}
-use Rattle.core_eval.specs.Asked.{Asked}
-use Rattle.core_eval.specs.Evaluation.{Setting, State}
+use Rattle.eval_rules.specs.Applications.{setting_of}
+use Rattle.eval_rules.specs.Ask.{request_of}
+use Rattle.eval_rules.specs.Asked.{Asked}
+use Rattle.eval_rules.specs.Evaluation.{Setting, State}
 use Rattle.core_stack.specs.Holes.{Hole}
 use Rattle.std.specs.Prelude.{List}
 use Rattle.core_eval.specs.declared.control.Pause.{Pause}

@@ -1,8 +1,8 @@
 use Rattle.std.proofs.Common.{◌≡◌, List}
-use Rattle.core_eval.specs.Applications.{setting_of}
-use Rattle.core_eval.specs.Ask.{request_of}
-use Rattle.core_eval.specs.Asked.{Answered}
-use Rattle.core_eval.specs.Evaluation.{before}
+use Rattle.eval_rules.specs.Applications.{setting_of}
+use Rattle.eval_rules.specs.Ask.{request_of}
+use Rattle.eval_rules.specs.Asked.{Answered}
+use Rattle.eval_rules.specs.Evaluation.{before}
 use Rattle.core_eval.specs.inside.Steps.{going}
 use Rattle.core_eval.proofs.run.run.Given as goal
 

@@ -1,6 +1,6 @@
 use Rattle.std.proofs.Common.{◌∷◌, [], subst}
 use Rattle.term_core.specs.Term.{meaning_of}
-use Rattle.core_eval.specs.Asked as answered
+use Rattle.eval_rules.specs.Asked as answered
 use Rattle.world_model.specs.Calls.{call_of}
 use Rattle.world_model.specs.Changes.{Turns, after}
 use Rattle.world_model.specs.Lines.{line}

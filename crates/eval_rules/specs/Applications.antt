@@ -3,10 +3,10 @@ use Rattle.std.specs.Prelude.{ℕ, zero, suc, ◌+◌, ◌-◌, ◌*◌, List, [
 use Rattle.core_tree.specs.Syntax.{Mention, Tree, Function, DefinitionTree, ModuleTree}
 use Rattle.core_tree.specs.Functions.{same_function}
 use Rattle.term_core.specs.Meaning.{Meaning}
-use Rattle.core_eval.specs.Asked.{Runaway}
+use Rattle.eval_rules.specs.Asked.{Runaway}
 use Rattle.core_stack.specs.Matching.{bound}
-pub use Rattle.core_eval.specs.Outcomes.{limit}
-use Rattle.core_eval.specs.Evaluation.{State, Outcome, Stops, Setting, error, within, evaluate}
+pub use Rattle.eval_rules.specs.Outcomes.{limit}
+use Rattle.eval_rules.specs.Evaluation.{State, Outcome, Stops, Setting, error, within, evaluate}
 
 -- the parameters and the body of a function
 abbrev pub definition : Function → List DefinitionTree → Option (List Mention × Tree)

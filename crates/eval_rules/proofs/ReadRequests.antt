@@ -15,12 +15,12 @@ use Rattle.pure_calls.specs.declared.outcome.Class.TheVariants.{Error, Exit, Thr
 use Rattle.pure_calls.specs.Answers.{Answer}
 use Rattle.pure_calls.specs.Answers as answers
 use Rattle.pure_calls.specs.Calls.{answer_of}
-use Rattle.core_eval.specs.Asked.{Answered, Value, Raise, Message, TimedOut}
+use Rattle.eval_rules.specs.Asked.{Answered, Value, Raise, Message, TimedOut}
 use Rattle.core_stack.specs.Matching.{Environment, lookup, bound, text_of, match_each}
-use Rattle.core_eval.specs.Evaluation.{State, before, name, Outcome, Yields, Raises, Stops, Setting, then_do, handled, one, node_limit, limited, limited_error, served, caught, caught_values, limited_answer, class_in, raised_again, value_or_error, within, is_true, guarded, taken, as_one, no_clause, waits_with, timed, received, called_with, evaluate, evaluate_all, choose}
-use Rattle.core_eval.specs.Applications.{definition, body_with, limit, counted, applied, room, apply_of}
-use Rattle.core_eval.specs.Ask.{Entry, first_function, is_open, function_of, request_of, ask}
-use Rattle.core_eval.specs.Servable.{IsReadRequest}
+use Rattle.eval_rules.specs.Evaluation.{State, before, name, Outcome, Yields, Raises, Stops, Setting, then_do, handled, one, node_limit, limited, limited_error, served, caught, caught_values, limited_answer, class_in, raised_again, value_or_error, within, is_true, guarded, taken, as_one, no_clause, waits_with, timed, received, called_with, evaluate, evaluate_all, choose}
+use Rattle.eval_rules.specs.Applications.{definition, body_with, limit, counted, applied, room, apply_of}
+use Rattle.eval_rules.specs.Ask.{Entry, first_function, is_open, function_of, request_of, ask}
+use Rattle.eval_rules.specs.Servable.{IsReadRequest}
 
 -- an evaluation that stops, stops at a request that is read
 abbrev Fine : Outcome → Type 0

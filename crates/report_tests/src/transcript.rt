@@ -9,8 +9,8 @@ use std::test::Fail;
 use term_core::{Pid, RefId, Step, Term, Terms, list_onto};
 use test_support::{MemorySink, same};
 use world_calls::Refusal;
-use world_core::{Deed, Event};
 use world_model::rule::Rule;
+use world_steps::{Deed, Event};
 
 // How many bytes a sink takes at a time.
 const PIECES: [usize; 2] = [1, 1000];

@@ -8,8 +8,8 @@ use Rattle.core_tree.specs.Callee as callees
 use Rattle.core_tree.specs.Expression as trees
 use Rattle.term_core.specs.Meaning as terms
 use Rattle.term_core.specs.Meaning.{Meaning, Int, Tuple, Nil, Cons, Pid, meanings_of}
-use Rattle.core_eval.specs.Asked.{Asked, Call, End, Runaway, Answered, Value, Raise, Message}
-use Rattle.core_eval.specs.Ask.{ask, entry}
+use Rattle.eval_rules.specs.Asked.{Asked, Call, End, Runaway, Answered, Value, Raise, Message}
+use Rattle.eval_rules.specs.Ask.{ask, entry}
 
 abbrev a_call : CallKind → List Tree → Tree
 a_call kind ts = trees.Call 0 (callees.World kind) (trees_of ts)

@@ -1,7 +1,7 @@
 // Calls that wait.
 ghost use Rattle.std.specs.Prelude.{◌≡◌, option_copied};
 ghost use Rattle.term_core.specs.Term.{meaning_of};
-ghost use Rattle.world_steps.specs.inside.Waiting.{asked_of};
+ghost use Rattle.step_enabled.specs.inside.Waiting.{asked_of};
 ghost use Rattle.core_tree.specs.Syntax.{ModuleTree};
 ghost use Rattle.world_model.specs.Calls.{call_of, call_of_one};
 ghost use Rattle.world_model.specs.Cells.{Contents};
@@ -38,12 +38,7 @@ fn asked_of(kind: CallKind, arguments: &Terms) -> Option<&Pid>
 
 /// Whether a call must wait: `is_process_alive/1` of a process that lives does, until the caller's own signals to it
 /// have arrived (erlang manual, `is_process_alive/1`). It takes no memory.
-pub(crate) fn must_wait(
-    records: &Records<'_>,
-    caller: &Pid,
-    kind: CallKind,
-    arguments: &Terms,
-) -> bool
+pub fn must_wait(records: &Records<'_>, caller: &Pid, kind: CallKind, arguments: &Terms) -> bool
     ensures { (m : ModuleTree) (v : Contents) → Agrees m records.now v → result ≡ must_wait v caller.now (call_of kind arguments.now) }
 {
     let Some(whom) = asked_of(kind, arguments) else {

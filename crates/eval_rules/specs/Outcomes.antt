@@ -8,7 +8,7 @@ use Rattle.pure_calls.specs.declared.outcome.Class.{Class}
 use Rattle.pure_calls.specs.declared.outcome.Class.TheVariants.{Error}
 use Rattle.pure_calls.specs.Answers.{Answer}
 use Rattle.pure_calls.specs.Answers as answers
-use Rattle.core_eval.specs.Asked.{Asked, Call, Answered, Value, Raise, Message, TimedOut}
+use Rattle.eval_rules.specs.Asked.{Asked, Call, Answered, Value, Raise, Message, TimedOut}
 
 -- the answers that are still to come, and the applications made since the last one
 pub record State : Type 0 where

@@ -3,7 +3,7 @@ use Rattle.std.specs.Prelude.{Bool, false, List, [], ◌∷◌, ◌++◌, Option
 use Rattle.term_core.specs.Meaning.{Meaning, Tuple, NoMore, meanings_of}
 use Rattle.term_core.specs.Kinds.{is_the_atom}
 use Rattle.core_stack.specs.Matching.{Environment}
-use Rattle.core_eval.specs.Outcomes.{State, Outcome, Yields, Raises, Stops, name, error, limited_error}
+use Rattle.eval_rules.specs.Outcomes.{State, Outcome, Yields, Raises, Stops, name, error, limited_error}
 
 -- the value of a variable; no module that was read has one that is not bound
 abbrev pub value_or_error : Option Meaning → State → Outcome

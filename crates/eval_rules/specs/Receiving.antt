@@ -2,10 +2,10 @@
 use Rattle.std.specs.Prelude.{ℕ, pos, ◌||◌, Bool, true, false, List, [], ◌∷◌, ◌++◌, Option, Some, None, if◌then◌else◌, int_lt, codes}
 use Rattle.term_core.specs.Meaning.{Meaning, Int}
 use Rattle.term_core.specs.Kinds.{is_the_atom}
-use Rattle.core_eval.specs.Asked.{Receive, Answered, Value, Raise, Message, TimedOut}
+use Rattle.eval_rules.specs.Asked.{Receive, Answered, Value, Raise, Message, TimedOut}
 use Rattle.core_stack.specs.Matching.{Environment}
-use Rattle.core_eval.specs.Outcomes.{State, before, limit, Outcome, Yields, Raises, Stops, error}
-use Rattle.core_eval.specs.Clauses.{is_true}
+use Rattle.eval_rules.specs.Outcomes.{State, before, limit, Outcome, Yields, Raises, Stops, error}
+use Rattle.eval_rules.specs.Clauses.{is_true}
 
 -- the longest timeout, in milliseconds
 abbrev pub longest_timeout : ℕ

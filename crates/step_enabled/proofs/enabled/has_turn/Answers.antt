@@ -6,11 +6,11 @@ use Rattle.proc_machines.specs.Processes.{lives_in, request_with, selects_in}
 use Rattle.term_core.specs.Term.{meaning_of}
 use Rattle.world_model.specs.Requests as requests
 use Rattle.world_records.specs.Records.{processes_of}
-use Rattle.world_steps.proofs.Stepped.{same_in, turn_has, call_has, timeout_has, wait_has}
+use Rattle.step_enabled.proofs.Enabled.{same_in, turn_has, call_has, timeout_has, wait_has}
 use Rattle.world_model.specs.Calls.{call_of}
 use Rattle.world_model.specs.Cells as cells
 use Rattle.world_model.specs.Steps.{must_wait, selected_of}
-use Rattle.world_steps.proofs.enabled.has_turn.Goals as goal
+use Rattle.step_enabled.proofs.enabled.has_turn.Goals as goal
 
 pub returns-in-Call : goal.returns-in-Call
 returns-in-Call c = λ m v told.

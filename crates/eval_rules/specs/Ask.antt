@@ -6,11 +6,11 @@ use Rattle.core_tree.specs.Syntax.{Mention, Tree, Function, NamedAt, ModuleTree}
 use Rattle.core_tree.specs.Functions.{same_function}
 use Rattle.term_core.specs.Meaning.{Meaning, Tuple, Nil, meanings_of}
 use Rattle.term_core.specs.Meaning as terms
-use Rattle.core_eval.specs.Asked.{Asked, End, Answered}
+use Rattle.eval_rules.specs.Asked.{Asked, End, Answered}
 use Rattle.pure_calls.specs.declared.outcome.Class.{Class}
 use Rattle.pure_calls.specs.declared.outcome.Class.TheVariants.{Error, Exit, Throw}
-use Rattle.core_eval.specs.Evaluation.{before, Outcome, Yields, Raises, Stops}
-use Rattle.core_eval.specs.Applications.{definition, body_with, setting_of}
+use Rattle.eval_rules.specs.Evaluation.{before, Outcome, Yields, Raises, Stops}
+use Rattle.eval_rules.specs.Applications.{definition, body_with, setting_of}
 
 -- where a process begins: a function by module and name, and its arguments
 pub record Entry : Type 0 where

@@ -8,10 +8,10 @@ use Rattle.term_core.specs.Term.{list_onto}
 use Rattle.pure_calls.specs.declared.outcome.Class.TheVariants.{Error}
 use Rattle.pure_calls.specs.Calls.{answer_of}
 use Rattle.core_stack.specs.Matching.{Environment, lookup, bound, text_of, match_each}
-pub use Rattle.core_eval.specs.Outcomes.{State, before, Outcome, Yields, Raises, Stops, Setting, then_do, handled, name, error, one, node_limit, within_limit, limited, limited_error, undefined, limited_answer, served, called}
-pub use Rattle.core_eval.specs.Exceptions.{class_name, trace_of, caught_values, caught, begins_with, match_reason, class_named, class_in, raised_again}
-pub use Rattle.core_eval.specs.Clauses.{value_or_error, within, is_true, guarded, taken, as_one, no_clause}
-pub use Rattle.core_eval.specs.Receiving.{longest_timeout, waits_with, timed, received, at_rest, holds, is_taken}
+pub use Rattle.eval_rules.specs.Outcomes.{State, before, Outcome, Yields, Raises, Stops, Setting, then_do, handled, name, error, one, node_limit, within_limit, limited, limited_error, undefined, limited_answer, served, called}
+pub use Rattle.eval_rules.specs.Exceptions.{class_name, trace_of, caught_values, caught, begins_with, match_reason, class_named, class_in, raised_again}
+pub use Rattle.eval_rules.specs.Clauses.{value_or_error, within, is_true, guarded, taken, as_one, no_clause}
+pub use Rattle.eval_rules.specs.Receiving.{longest_timeout, waits_with, timed, received, at_rest, holds, is_taken}
 
 module _ (setting : Setting) where
   -- what is applied to arguments; a call that was read has as many of them as it wants

@@ -3,10 +3,10 @@ use Rattle.std.proofs.Common.{◌≡◌, ℕ, zero, suc, ◌+◌, ◌-◌, ◌<�
 use Rattle.std.proofs.lemmas.Bool.{ltb-true}
 use Rattle.core_tree.specs.Syntax.{Function, ModuleTree}
 use Rattle.term_core.specs.Meaning.{Meaning}
-use Rattle.core_eval.specs.Asked.{Runaway}
-use Rattle.core_eval.specs.Evaluation.{State, Outcome, Stops}
-use Rattle.core_eval.specs.Applications.{definition, body_with, limit, counted, applied_once, applied, room, apply_of}
-use Rattle.core_eval.proofs.Rooms.{Both, alone, wider, both_bodies}
+use Rattle.eval_rules.specs.Asked.{Runaway}
+use Rattle.eval_rules.specs.Evaluation.{State, Outcome, Stops}
+use Rattle.eval_rules.specs.Applications.{definition, body_with, limit, counted, applied_once, applied, room, apply_of}
+use Rattle.eval_rules.proofs.Rooms.{Both, alone, wider, both_bodies}
 
 -- an application takes room
 counted-room : (s : State) → s.made < limit → room (counted s) + 1 ≡ room s

@@ -3,11 +3,11 @@ ghost use Rattle.std.specs.Prelude.{◌≡◌, ℕ, List};
 ghost use Rattle.core_tree.specs.Servable.{IsServableModule};
 ghost use Rattle.core_tree.specs.Syntax.{Function, ModuleTree};
 ghost use Rattle.term_core.specs.Meaning.{Meaning};
-ghost use Rattle.core_eval.specs.Applications.{applied_once, apply_of};
-ghost use Rattle.core_eval.specs.Ask.{Entry, ask};
-ghost use Rattle.core_eval.specs.Asked.{Answered};
-ghost use Rattle.core_eval.specs.Evaluation.{State};
-ghost use Rattle.core_eval.specs.Servable.{IsReadRequest};
+ghost use Rattle.eval_rules.specs.Applications.{applied_once, apply_of};
+ghost use Rattle.eval_rules.specs.Ask.{Entry, ask};
+ghost use Rattle.eval_rules.specs.Asked.{Answered};
+ghost use Rattle.eval_rules.specs.Evaluation.{State};
+ghost use Rattle.eval_rules.specs.Servable.{IsReadRequest};
 
 /// An application of a function of a module gives what its body gives where the applications in the body
 /// are applications like it, or runs away where as many were made as may be: how deep they are nested has

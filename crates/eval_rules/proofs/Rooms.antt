@@ -9,13 +9,13 @@ use Rattle.term_core.specs.Meaning.{Meaning, Tuple, Nil, meanings_of, node_count
 use Rattle.term_core.specs.Term.{list_onto}
 use Rattle.pure_calls.specs.declared.outcome.Class.{Class}
 use Rattle.pure_calls.specs.declared.outcome.Class.TheVariants.{Error, Exit, Throw}
-use Rattle.core_eval.specs.Asked.{Receive, Answered, Value, Raise, Message, TimedOut}
+use Rattle.eval_rules.specs.Asked.{Receive, Answered, Value, Raise, Message, TimedOut}
 use Rattle.core_stack.specs.Matching.{Environment, lookup, bound, text_of, match_each}
-use Rattle.core_eval.specs.Evaluation.{State, before, name, Outcome, Yields, Raises, Stops, Setting, then_do, handled, one, node_limit, limited, served, called, caught, caught_values, limited_answer, class_in, raised_again, value_or_error, within, is_true, guarded, taken, no_clause, waits_with, timed, received, at_rest, holds, is_taken, called_with, evaluate, evaluate_all, choose, selects}
+use Rattle.eval_rules.specs.Evaluation.{State, before, name, Outcome, Yields, Raises, Stops, Setting, then_do, handled, one, node_limit, limited, served, called, caught, caught_values, limited_answer, class_in, raised_again, value_or_error, within, is_true, guarded, taken, no_clause, waits_with, timed, received, at_rest, holds, is_taken, called_with, evaluate, evaluate_all, choose, selects}
 use Rattle.pure_calls.specs.Answers.{Answer}
 use Rattle.pure_calls.specs.Answers as answers
 use Rattle.pure_calls.specs.Calls.{answer_of}
-use Rattle.core_eval.specs.Applications.{limit, room, body_with}
+use Rattle.eval_rules.specs.Applications.{limit, room, body_with}
 
 -- an evaluation ends with no more room than this
 abbrev pub Fits : ℕ → Outcome → Type 0

@@ -4,7 +4,7 @@ use Rattle.term_core.specs.Meaning.{Meaning, Tuple, Nil, NoMore, Also, meanings_
 use Rattle.term_core.specs.Kinds.{is_the_atom}
 use Rattle.pure_calls.specs.declared.outcome.Class.{Class}
 use Rattle.pure_calls.specs.declared.outcome.Class.TheVariants.{Error, Exit, Throw}
-use Rattle.core_eval.specs.Outcomes.{State, Outcome, Yields, Raises, name, error, limited}
+use Rattle.eval_rules.specs.Outcomes.{State, Outcome, Yields, Raises, name, error, limited}
 
 -- the atom of a class
 abbrev pub class_name : Class → Meaning

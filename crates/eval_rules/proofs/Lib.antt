@@ -1,0 +1,4 @@
+pub mod Rooms
+pub mod ApplyLaw
+pub mod WorkedRows
+pub mod ReadRequests

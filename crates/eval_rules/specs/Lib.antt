@@ -1,0 +1,9 @@
+pub mod Asked
+pub mod Outcomes
+pub mod Exceptions
+pub mod Clauses
+pub mod Receiving
+pub mod Evaluation
+pub mod Applications
+pub mod Ask
+pub mod Servable

@@ -1,0 +1,5 @@
+// Tests of the lines of events.
+#![tactic(auto)]
+
+#[cfg(test)]
+mod transcript;
