@@ -1,4 +1,4 @@
-// Tests of the program: its words and its input, the lines of events and of refusals, the bytes and the status of a
+// Tests of the program: its words and its input, the lines of refusals, the bytes and the status of a
 // whole run.
 #![tactic(auto)]
 
