@@ -1,1 +1,1 @@
-pub mod Enabled
+pub mod Doing

@@ -4,7 +4,7 @@ use Rattle.proc_machines.specs.Processes.{lives_in, selects_in}
 use Rattle.proc_machines.specs.Receivers.{taken_by}
 use Rattle.proc_mailboxes.specs.Mailboxes.{messages_in}
 use Rattle.world_model.specs.Steps.{selected_of}
-use Rattle.step_enabled.proofs.Enabled.{firsts}
+use Rattle.step_enabled.proofs.Doing.{firsts}
 use Rattle.step_enabled.proofs.enabled.has_message.Goals as goal
 
 pub returns-in_default : goal.returns-in_default

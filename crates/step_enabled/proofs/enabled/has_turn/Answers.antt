@@ -6,7 +6,7 @@ use Rattle.proc_machines.specs.Processes.{lives_in, request_with, selects_in}
 use Rattle.term_core.specs.Term.{meaning_of}
 use Rattle.world_model.specs.Requests as requests
 use Rattle.world_records.specs.Records.{processes_of}
-use Rattle.step_enabled.proofs.Enabled.{same_in, turn_has, call_has, timeout_has, wait_has}
+use Rattle.step_enabled.proofs.Doing.{same_in, turn_has, call_has, timeout_has, wait_has}
 use Rattle.world_model.specs.Calls.{call_of}
 use Rattle.world_model.specs.Cells as cells
 use Rattle.world_model.specs.Steps.{must_wait, selected_of}

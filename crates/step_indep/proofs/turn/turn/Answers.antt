@@ -8,7 +8,7 @@ use Rattle.term_core.specs.declared.step.Step.TheVariants.{Turn}
 use Rattle.world_model.specs.Requests as requests
 use Rattle.world_model.specs.Steps.{deed_asked, reads_of_request, runaway}
 use Rattle.world_records.specs.Records.{processes_of}
-use Rattle.step_enabled.proofs.Enabled.{same_in}
+use Rattle.step_enabled.proofs.Doing.{same_in}
 use Rattle.step_indep.specs.Footprints.{Adds}
 use Rattle.step_indep.specs.Independence.{written_by}
 use Rattle.step_indep.proofs.Calling.{request_adds}

@@ -5,7 +5,7 @@ use Rattle.proc_machines.specs.Processes.{lives_in, request_with, selects_in}
 use Rattle.term_core.specs.Term.{meaning_of}
 use Rattle.world_model.specs.Requests as requests
 use Rattle.world_records.specs.Records.{processes_of}
-use Rattle.step_enabled.proofs.Enabled.{same_in}
+use Rattle.step_enabled.proofs.Doing.{same_in}
 use Rattle.world_steps.proofs.Stepped.{turn_asked}
 use Rattle.world_steps.proofs.turn.turn.Goals as goal
 
