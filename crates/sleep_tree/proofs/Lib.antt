@@ -2,6 +2,6 @@ pub mod Lists
 pub mod Runs
 pub mod Snapshots
 pub mod Frames
-pub mod Kinds
+pub mod Passing
 pub mod Pieces
 pub mod Asleep

@@ -19,7 +19,7 @@ use Rattle.sleep_tree.specs.Meanings.{AreShown, AreOfJob}
 use Rattle.sleep_tree.specs.Pieces.{IsDone, AreOf, IsPiece}
 use Rattle.sleep_tree.specs.inside.Frames.{NodeSeen, FrameSeen, own_node, nodes_of_node, nodes_of_frame, nodes_of_frames, IsNodeOf, IsFrameOf, AreFramesOf, IsExploring}
 use Rattle.sleep_tree.proofs.Frames.{frames_push}
-use Rattle.sleep_tree.proofs.Kinds.{found_passes}
+use Rattle.sleep_tree.proofs.Passing.{found_passes}
 use Rattle.sleep_tree.proofs.Lists.{all_append, all_front, all_back}
 
 pub all_join : (e : ExplorationSeen) (js ks : List JobSeen) → nodes_of_all e (js ++ ks) ≡ nodes_of_all e js ++ nodes_of_all e ks
