@@ -1,6 +1,7 @@
 // A piece of work that was done.
 ghost use Rattle.std.specs.Prelude.{◌≡◌, IfOk};
 ghost use Rattle.sleep_tree.specs.Explorations.{exploration_in};
+ghost use Rattle.sleep_tree.specs.Pieces.{IsPiece};
 
 use crate::exploration::Exploration;
 use crate::job::Job;
@@ -71,6 +72,7 @@ impl<'m> Piece<'m> {
     pub fn into_parts(self) -> (Findings, Vec<Job<'m>>)
         ensures found { result.0 ≡ self.entry.findings }
         ensures rest { result.1.items ≡ self.entry.rest }
+        ensures piece { IsPiece self.entry.exploration self.entry.ticket.name self.entry.findings self.entry.nodes self.entry.rest }
     {
         (self.findings, self.rest)
     }

@@ -8,7 +8,6 @@ ghost use Rattle.world_model.specs.Run.{IsRun};
 
 use std::alloc::{AllocError, Global};
 use step_indep::asleep_below;
-use step_indep::laws::{footprints_are_of_histories, names_mean_tables};
 use term_core::Step;
 use world_core::World;
 
@@ -58,7 +57,5 @@ pub(crate) fn sleep_below(
     if left == 0 {
         return Ok(Vec::new(alloc));
     }
-    footprints_are_of_histories();
-    names_mean_tables();
     asleep_below(world.records(), alloc, slept, step)
 }

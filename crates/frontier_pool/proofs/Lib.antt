@@ -1,0 +1,8 @@
+pub mod Places
+pub mod Jobs
+pub mod Legal
+pub mod Sums
+pub mod Tickets
+pub mod Compared
+pub mod Frontiers
+pub mod Outcomes

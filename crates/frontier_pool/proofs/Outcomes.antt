@@ -1,0 +1,50 @@
+-- What a pool comes to.
+use Rattle.std.proofs.Common.{◌≡◌, ℕ, ◌<◌, ◌≤◌, List, [], ◌++◌, Option, Some, None, refl, subst, sym, ◌∙◌, ap, arith, append-nil, length-append}
+use Rattle.std.specs.List.Sorted.{IsPermutation}
+use Rattle.std.proofs.lemmas.List.Sorted.{length_permutation}
+use Rattle.coverage.specs.Findings.{Findings}
+use Rattle.coverage.specs.Jobs.{Node, root}
+use Rattle.findings.specs.declared.outcome.Cause.{Cause}
+use Rattle.findings.specs.declared.outcome.Outcome.TheVariants.{Complete, Incomplete}
+use Rattle.sleep_tree.specs.Explorations.{ExplorationSeen, JobSeen, TicketSeen, names_of, nodes_of}
+use Rattle.frontier_pool.specs.Calls.{ComesTo}
+use Rattle.frontier_pool.specs.Explorations.{nodes_of_jobs}
+use Rattle.frontier_pool.specs.Seen.{cause_of, listed, seen_of, standing_of}
+use Rattle.frontier_pool.specs.Sums.{AddsUp, names_out, nodes_left}
+use Rattle.frontier_pool.specs.declared.entry.PoolEvent.{PoolEvent}
+use Rattle.frontier_pool.specs.declared.entry.Stop.{Stop}
+use Rattle.frontier_pool.specs.inside.Frontiers.{IsFrontier}
+use Rattle.frontier_pool.proofs.Sums.{all_shown, legal_adds_up, shows_the_same}
+
+pub adds_up : (e : ExplorationSeen) (limit : ℕ) (todo : List JobSeen) (out : List TicketSeen) (f : Findings) (n taken : ℕ) (events : List PoolEvent) (s : Option Stop) → IsFrontier e limit todo out f n taken events s → AddsUp e limit (standing_of todo out f n taken s)
+adds_up e limit todo out f n taken events s p = legal_adds_up e limit (listed events s) (standing_of todo out f n taken s) p.legal
+
+-- where nothing stopped it, the limit was not passed
+pub within_limit : (e : ExplorationSeen) (limit : ℕ) (todo : List JobSeen) (out : List TicketSeen) (f : Findings) (n taken : ℕ) (events : List PoolEvent) (s : Option Stop) → IsFrontier e limit todo out f n taken events s → s ≡ None → n ≤ limit
+within_limit e limit todo out f n taken events s p is_s = (adds_up e limit todo out f n taken events s p).within (ap (λ (x : Option Stop). cause_of x) is_s)
+
+pub comes_complete : (e : ExplorationSeen) (limit : ℕ) (todo : List JobSeen) (out : List TicketSeen) (f : Findings) (n taken : ℕ) (events : List PoolEvent) (s : Option Stop) → IsFrontier e limit todo out f n taken events s
+    → s ≡ None → todo ≡ [] → out ≡ [] → ComesTo (seen_of e limit todo out f n taken events s) (Complete f n)
+comes_complete e limit todo out f n taken events s p is_s is_todo is_out =
+    let a = adds_up e limit todo out f n taken events s p in
+    let none : nodes_left e (standing_of todo out f n taken s) ≡ [] = (λ i. nodes_of_jobs e (names_of (is_todo i) ++ names_out (is_out i))) in
+    let all : IsPermutation (nodes_of e root) a.visited = subst (IsPermutation (nodes_of e root)) (ap (λ (l : List Node). a.visited ++ l) none ∙ append-nil a.visited) a.made_up in (
+      is_s,
+      a.is_done.found ∙ sym (shows_the_same e (nodes_of e root) a.visited all),
+      a.is_done.counted ∙ length_permutation (nodes_of e root) a.visited all,
+      within_limit e limit todo out f n taken events s p is_s,
+    )
+
+pub comes_incomplete : (e : ExplorationSeen) (limit : ℕ) (todo : List JobSeen) (out : List TicketSeen) (f : Findings) (n taken : ℕ) (events : List PoolEvent) (s : Option Stop) (stop : Stop) → IsFrontier e limit todo out f n taken events s
+    → s ≡ Some stop → ComesTo (seen_of e limit todo out f n taken events s) (Incomplete stop.cause f)
+comes_incomplete e limit todo out f n taken events s stop p is_s =
+    let to = standing_of todo out f n taken s in
+    let a = adds_up e limit todo out f n taken events s p in
+    let why = ap (λ (x : Option Stop). cause_of x) is_s in (
+      why,
+      refl,
+      all_shown e limit to a,
+      λ is.
+          let above : limit < n = a.limited (why ∙ ap (λ (c : Cause). Some c) is) in
+          omega (arith, length_permutation (nodes_of e root) (a.visited ++ nodes_left e to) a.made_up, length-append a.visited (nodes_left e to), a.is_done.counted),
+    )

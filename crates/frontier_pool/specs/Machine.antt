@@ -1,0 +1,107 @@
+-- The pool of open jobs as a machine: its states, how one follows another, and which lists of entries are legal.
+use Rattle.std.specs.Prelude.{◌≡◌, ℕ, ◌+◌, List, [], ◌∷◌, ◌++◌, Option, Some, None, if◌then◌else◌, nat_lt, reverse}
+use Rattle.coverage.specs.Findings.{Findings}
+use Rattle.coverage.specs.Jobs.{Job, Node, root}
+use Rattle.findings.specs.Merging.{merged_findings, nothing}
+use Rattle.findings.specs.declared.outcome.Cause.{Cause}
+use Rattle.findings.specs.declared.outcome.Cause.TheVariants.{NodeLimit, Memory}
+use Rattle.sleep_tree.specs.Explorations.{ExplorationSeen, TicketSeen, nodes_of}
+use Rattle.sleep_tree.specs.Pieces.{IsDone}
+use Rattle.frontier_pool.specs.Explorations.{nodes_of_jobs}
+use Rattle.frontier_pool.specs.declared.entry.PoolEvent.{PoolEvent}
+use Rattle.frontier_pool.specs.declared.entry.PoolEvent.TheVariants.{Took, Gave}
+
+-- a state: the jobs that are open, the last of which is on top, and those that are out; what the nodes that were visited show, and how many they are; how many jobs were handed out; why no more are
+pub record Standing : Type 0 where
+  pub todo : List Job
+  pub out : List TicketSeen
+  pub findings : Findings
+  pub nodes : ℕ
+  pub taken : ℕ
+  pub cause : Option Cause
+
+-- an entry of a list: a job was handed out or a piece came back, or there was no memory
+pub data Entry : Type 0 where
+  Enters : PoolEvent → Entry
+  Stops : Entry
+
+-- at the beginning the job of the whole tree is open, and nothing was done
+abbrev pub opening : Standing
+opening = record { todo = root ∷ []; out = []; findings = nothing; nodes = 0; taken = 0; cause = None }
+
+-- ---- a job is handed out
+
+-- the state after it, with the jobs that are still open
+abbrev pub after_take : Standing → TicketSeen → List Job → Standing
+after_take s ticket open_ = record { todo = open_; out = s.out ++ ticket ∷ []; findings = s.findings; nodes = s.nodes; taken = s.taken + 1; cause = s.cause }
+
+-- any open job goes out under the next number, not after a stop
+pub record Takes (s : Standing) (ticket : TicketSeen) (t : Standing) : Type 0 where
+  pub front : List Job
+  pub back : List Job
+  pub goes_on : s.cause ≡ None
+  pub is_open : s.todo ≡ front ++ ticket.name ∷ back
+  pub is_next : ticket.number ≡ s.taken + 1
+  pub leaves : t ≡ after_take s ticket (front ++ back)
+
+-- ---- its piece comes back
+
+-- the nodes of a job are those that were visited, which show what was found, and then those of the jobs that are left
+pub record MakesUp (e : ExplorationSeen) (name : Job) (findings : Findings) (nodes : ℕ) (rest : List Job) : Type 0 where
+  pub visited : List Node
+  pub is_done : IsDone e visited findings nodes
+  pub made_up : nodes_of e name ≡ visited ++ nodes_of_jobs e rest
+
+-- above the limit of nodes there is a cause; the first one stays
+abbrev pub cause_after : ℕ → ℕ → Option Cause → Option Cause
+cause_after limit nodes None = if nat_lt limit nodes then Some NodeLimit else None
+cause_after limit nodes (Some cause) = Some cause
+
+-- the state after it, with the tickets that are still out: the first of the jobs that are left is on top
+abbrev pub after_give : ℕ → Standing → List TicketSeen → Findings → ℕ → List Job → Standing
+after_give limit s out findings nodes rest = record {
+  todo = s.todo ++ reverse rest;
+  out = out;
+  findings = merged_findings s.findings findings;
+  nodes = s.nodes + nodes;
+  taken = s.taken;
+  cause = cause_after limit (s.nodes + nodes) s.cause;
+}
+
+-- the job of any ticket that is out was expanded: what is done of it is added, and what is left of it is open
+pub record Gives (e : ExplorationSeen) (limit : ℕ) (s : Standing) (ticket : TicketSeen) (t : Standing) : Type 0 where
+  pub front : List TicketSeen
+  pub back : List TicketSeen
+  pub findings : Findings
+  pub nodes : ℕ
+  pub rest : List Job
+  pub is_out : s.out ≡ front ++ ticket ∷ back
+  pub made_up : MakesUp e ticket.name findings nodes rest
+  pub leaves : t ≡ after_give limit s (front ++ back) findings nodes rest
+
+-- ---- there is no memory
+
+-- the state after it: nothing but the cause is another
+abbrev pub stopped : Standing → Standing
+stopped s = record { todo = s.todo; out = s.out; findings = s.findings; nodes = s.nodes; taken = s.taken; cause = Some Memory }
+
+-- ---- lists of entries
+
+-- an entry names its ticket by the number
+abbrev pub EntersBy : ExplorationSeen → ℕ → Standing → PoolEvent → Standing → Type 0
+EntersBy e limit s (Took number) t = (ticket : TicketSeen) × (ticket.number ≡ number) × Takes s ticket t
+EntersBy e limit s (Gave number) t = (ticket : TicketSeen) × (ticket.number ≡ number) × Gives e limit s ticket t
+
+-- it stops where nothing stopped it before
+abbrev pub StepsBy : ExplorationSeen → ℕ → Standing → Entry → Standing → Type 0
+StepsBy e limit s (Enters event) t = EntersBy e limit s event t
+StepsBy e limit s Stops t = (s.cause ≡ None) × (t ≡ stopped s)
+
+-- the entries lead from one state to another
+abbrev pub Leads : ExplorationSeen → ℕ → Standing → List Entry → Standing → Type 0
+Leads e limit s [] t = t ≡ s
+Leads e limit s (x ∷ xs) t = (m : Standing) × StepsBy e limit s x m × Leads e limit m xs t
+
+-- a legal list leads there from the beginning
+abbrev pub IsLegal : ExplorationSeen → ℕ → List Entry → Standing → Type 0
+IsLegal e limit entries s = Leads e limit opening entries s

@@ -1,0 +1,47 @@
+-- What is done, open and out adds up to the tree.
+use Rattle.std.specs.List.Sorted.{IsPermutation}
+use Rattle.std.specs.Prelude.{◌≡◌, ◌≤◌, ◌<◌, ◌+◌, ℕ, List, ◌++◌, Some, None, length, map}
+use Rattle.coverage.specs.Jobs.{Job, Node, root}
+use Rattle.findings.specs.Merging.{merged_findings}
+use Rattle.findings.specs.declared.outcome.Cause.TheVariants.{NodeLimit}
+use Rattle.sleep_tree.specs.Explorations.{ExplorationSeen, TicketSeen, nodes_of, findings_of}
+use Rattle.sleep_tree.specs.Meanings.{AreOfJob}
+use Rattle.sleep_tree.specs.Pieces.{IsDone}
+use Rattle.frontier_pool.specs.Explorations.{nodes_of_jobs}
+use Rattle.frontier_pool.specs.Machine.{Standing, Entry, IsLegal}
+
+-- the jobs that are out
+abbrev pub names_out : List TicketSeen → List Job
+names_out tickets = map (λ (ticket : TicketSeen). ticket.name) tickets
+
+-- the jobs that are not done: those that are open, and those that are out
+abbrev pub jobs_left : Standing → List Job
+jobs_left s = s.todo ++ names_out s.out
+
+-- and their nodes
+abbrev pub nodes_left : ExplorationSeen → Standing → List Node
+nodes_left e s = nodes_of_jobs e (jobs_left s)
+
+-- the nodes of the tree are, in some order, those that were visited and those of the jobs that are left; the limit is the cause only above it, and above it there is a cause
+pub record AddsUp (e : ExplorationSeen) (limit : ℕ) (s : Standing) : Type 0 where
+  pub visited : List Node
+  pub is_done : IsDone e visited s.findings s.nodes
+  pub made_up : IsPermutation (nodes_of e root) (visited ++ nodes_left e s)
+  pub limited : s.cause ≡ Some NodeLimit → limit < s.nodes
+  pub within : s.cause ≡ None → s.nodes ≤ limit
+
+-- so what was found and what the jobs that are left show is what the tree shows, their nodes are as many as it has, and each finding is shown by a node with its schedule
+pub record SumsUp (e : ExplorationSeen) (s : Standing) : Type 0 where
+  pub found : findings_of e (nodes_of e root) ≡ merged_findings s.findings (findings_of e (nodes_left e s))
+  pub counted : length (nodes_of e root) ≡ s.nodes + length (nodes_left e s)
+  pub shown : AreOfJob e root s.findings
+
+-- ---- laws
+
+-- wherever a legal list leads
+abbrev pub LegalAddsUp : Type 0
+LegalAddsUp = (e : ExplorationSeen) (limit : ℕ) (entries : List Entry) (s : Standing) → IsLegal e limit entries s → AddsUp e limit s
+
+-- and sums up
+abbrev pub LegalSumsUp : Type 0
+LegalSumsUp = (e : ExplorationSeen) (limit : ℕ) (entries : List Entry) (s : Standing) → IsLegal e limit entries s → SumsUp e s

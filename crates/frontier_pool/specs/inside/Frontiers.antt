@@ -1,0 +1,32 @@
+-- What holds of the fields of a pool.
+use Rattle.std.specs.Prelude.{ℕ, ◌*◌, ◌^◌, ◌<◌, ◌≤◌, List, Option, Some, None, length, slice_index_or}
+use Rattle.coverage.specs.Findings.{Findings}
+use Rattle.sleep_tree.specs.Explorations.{ExplorationSeen, JobSeen, TicketSeen}
+use Rattle.frontier_pool.specs.Explorations.{AreJobsOf}
+use Rattle.frontier_pool.specs.Machine.{IsLegal}
+use Rattle.frontier_pool.specs.Seen.{listed, standing_of}
+use Rattle.frontier_pool.specs.declared.entry.PoolEvent.{PoolEvent}
+use Rattle.frontier_pool.specs.declared.entry.Stop.{Stop}
+
+-- a stop is not behind the end of the list
+abbrev pub IsPlaced : List PoolEvent → Option Stop → Type 0
+IsPlaced events None = Unit {0}
+IsPlaced events (Some stop) = stop.place ≤ length events
+
+-- each number is less than those of the tickets behind it
+abbrev pub AreRising : List TicketSeen → Type 0
+AreRising out = (i j : ℕ) (d : TicketSeen) → i < j → j < length out → (slice_index_or out i d).number < (slice_index_or out j d).number
+
+-- none is more than this
+abbrev pub AreAtMost : ℕ → List TicketSeen → Type 0
+AreAtMost taken out = (i : ℕ) (d : TicketSeen) → i < length out → (slice_index_or out i d).number ≤ taken
+
+-- the list is legal and leads there; each open job is of the exploration; the tickets that are out stand in their order; and the counts fit
+pub record IsFrontier (e : ExplorationSeen) (limit : ℕ) (todo : List JobSeen) (out : List TicketSeen) (findings : Findings) (nodes taken : ℕ) (events : List PoolEvent) (stop : Option Stop) : Type 0 where
+  pub legal : IsLegal e limit (listed events stop) (standing_of todo out findings nodes taken stop)
+  pub placed : IsPlaced events stop
+  pub carried : AreJobsOf e todo
+  pub rising : AreRising out
+  pub given : AreAtMost taken out
+  pub bounded : nodes ≤ 2 ^ 64 * length events
+  pub numbered : taken ≤ length events

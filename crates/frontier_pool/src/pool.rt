@@ -1,0 +1,84 @@
+// A pool behind a lock.
+ghost use Rattle.std.specs.Prelude.{◌≡◌, ◌+◌, IfOk, OnOk, OnErr};
+ghost use Rattle.frontier_pool.specs.Calls.{entries_in};
+
+use crate::answer::{GiveFault, Taken};
+use crate::seat::{PoolName, Seat};
+use crate::state::PoolState;
+use sleep_tree::{Piece, Ticket};
+use std::alloc::{AllocError, Global};
+use std::sync::{Condvar, Mutex, Wait};
+
+/// A pool that threads share.
+#[derive(Drop)]
+pub struct Pool<'m, N: PoolName> {
+    state: Mutex<PoolState<'m, N>>,
+    changed: Condvar,
+}
+
+impl<'m, N: PoolName> Pool<'m, N> {
+    /// The state behind a lock.
+    pub fn new(state: PoolState<'m, N>) -> Pool<'m, N> {
+        Pool {
+            state: Mutex::new(state),
+            changed: Condvar::new(),
+        }
+    }
+
+    /// Hands out a job to a seat, and wakes the others.
+    ///
+    /// # Errors
+    ///
+    /// `AllocError` if there is no memory: pool and seat are unchanged.
+    pub fn take<R: Wait>(
+        &self,
+        rt: &R,
+        alloc: Global,
+        seat: &mut Seat<N>,
+    ) -> Result<Taken<'m>, AllocError>
+        ensures entered { IfOk result (λ taken. seat.new ≡ seat.old + entries_in taken) }
+        ensures refused { OnErr result (seat.new ≡ seat.old) }
+    {
+        let taken = self.state.lock(rt).take(alloc, seat);
+        self.changed.notify_all();
+        taken
+    }
+
+    /// Takes in the piece of a ticket from a seat, and wakes the others.
+    ///
+    /// # Errors
+    ///
+    /// Those of the pool's state; the seat is unchanged.
+    pub fn give<R: Wait>(
+        &self,
+        rt: &R,
+        seat: &mut Seat<N>,
+        ticket: &Ticket,
+        piece: Piece<'m>,
+    ) -> Result<(), GiveFault<'m>>
+        ensures entered { OnOk result (seat.new ≡ seat.old + 1) }
+        ensures refused { OnErr result (seat.new ≡ seat.old) }
+    {
+        let given = self.state.lock(rt).give(seat, ticket, piece);
+        self.changed.notify_all();
+        given
+    }
+
+    /// Stops the pool for want of memory, and wakes the others.
+    pub fn stop<R: Wait>(&self, rt: &R) {
+        self.state.lock(rt).stop();
+        self.changed.notify_all();
+    }
+
+    /// Waits while no job is open and one is out.
+    pub fn wait<R: Wait>(&self, rt: &R) {
+        let _state = self
+            .changed
+            .wait_while(rt, self.state.lock(rt), |state| state.is_idle());
+    }
+
+    /// The state, out of its lock.
+    pub fn into_state(self) -> PoolState<'m, N> {
+        self.state.into_inner()
+    }
+}
