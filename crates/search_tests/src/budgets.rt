@@ -11,8 +11,8 @@ use std::test::Fail;
 use term_core::{Output, WriteFault};
 use test_support::same;
 
-/// What is explored, with a budget.
-pub(crate) fn options(depth: u64, budget: u64) -> Options
+// What is explored, with a budget.
+fn options(depth: u64, budget: u64) -> Options
     ensures depth { result.depth ≡ depth }
     ensures budget { result.budget ≡ budget }
     ensures nodes { result.nodes ≡ 1000000 }
