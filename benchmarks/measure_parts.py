@@ -24,10 +24,10 @@ ROWS = [
     ("signals through one channel", "signals", 10_000, lambda size: size),
     ("signals through one channel", "signals", 100_000, lambda size: size),
     ("10,000 receives, each past so many messages", "receive", 1_000, lambda size: 10_000),
-    ("a million copies of a world of ten processes, by its references made", "references", 400, lambda size: 2_030 + size),
-    ("the same by its messages", "messages", 1_000, lambda size: 430 + 2 * size),
-    ("the same by the objects of its table", "objects", 10_000, lambda size: 2_410 + size // 500),
-    ("the same by its processes", "processes", 10, lambda size: 2_420 + size),
+    ("a million copies of a world of ten processes, by its references made", "references", 400, lambda size: 1_030 + size),
+    ("the same by its messages", "messages", 1_000, lambda size: 430 + size),
+    ("the same by the objects of its table", "objects", 10_000, lambda size: 1_410 + size // 500),
+    ("the same by its processes", "processes", 10, lambda size: 1_420 + size),
 ]
 
 

@@ -1,14 +1,7 @@
-// Tests of the search: worlds step by step, jobs one by one, explorations with several budgets,
-// and by several workers.
+// Tests of the search: explorations with several budgets.
 #![tactic(auto)]
 
 #[cfg(test)]
 mod budgets;
 #[cfg(test)]
-mod jobs;
-#[cfg(test)]
 mod modules;
-#[cfg(test)]
-mod workers;
-#[cfg(test)]
-mod worlds;
