@@ -1,16 +1,18 @@
 #!/usr/bin/env python3
 """Explores three modules with the built program, and tells how fast.
 
-    benchmarks/explore.py [--runs N] [--program PROGRAM]
+    benchmarks/explore.py [--runs N] [--workers N ..] [--program PROGRAM]
 
-A row tells a module, the depth, the nodes that were visited, which have to be as many as the row says, the seconds of
-a processor of the fastest of N runs, and how many nodes that is a second. It wants Python 3.9 or later and nothing
-besides.
+A row tells a module, the depth, the nodes that were visited, which have to be as many as the row says, how many
+workers there were, the seconds of the clock of the fastest of N runs and those of a processor, how many nodes that is
+a second of the clock, how many times as fast as one worker that is, and the memory of the program. The report has to
+be the same for any number of workers. It wants Python 3.9 or later and nothing besides.
 """
 import argparse
 import os
 import subprocess
 import sys
+import time
 from pathlib import Path
 
 HERE = Path(__file__).resolve().parent
@@ -23,33 +25,50 @@ ROWS = [
 ]
 
 
-def run_of(program, name, depth, nodes):
-    """The seconds of a processor of one run."""
-    words = [program, "explore", "--depth", str(depth), "--nodes", "10000000"]
+def run_of(program, name, depth, nodes, workers):
+    """The seconds of the clock and of processors of one run, its memory in kilobytes, and its report."""
+    words = [program, "explore", "--depth", str(depth), "--nodes", "10000000", "--workers", str(workers)]
+    began = time.monotonic()
     with open(HERE / f"{name}.core", "rb") as module:
         run = subprocess.Popen(words, stdin=module, stdout=subprocess.PIPE)
         report = run.stdout.read().decode()
         _, _, used = os.wait4(run.pid, 0)
+    seconds = time.monotonic() - began
     first = f"depth {depth}, nodes {nodes}, complete\n"
     if not report.startswith(first):
         sys.exit(f"{name}: the report begins with {report[:80]!r} and not with {first!r}")
-    return used.ru_utime + used.ru_stime
+    return seconds, used.ru_utime + used.ru_stime, used.ru_maxrss, report
+
+
+def fastest(program, name, depth, nodes, workers, runs):
+    """The fastest of some runs, all of which have the same report."""
+    found = [run_of(program, name, depth, nodes, workers) for _ in range(runs)]
+    if len({report for _, _, _, report in found}) != 1:
+        sys.exit(f"{name}: two runs have two reports")
+    return min(found)
 
 
 def main():
     parser = argparse.ArgumentParser(description=__doc__, formatter_class=argparse.RawDescriptionHelpFormatter)
     parser.add_argument("--runs", type=int, default=3)
+    parser.add_argument("--workers", type=int, nargs="+", default=[1, 2, 4, 16])
     parser.add_argument("--program", default=PROGRAM)
     asked = parser.parse_args()
     if asked.runs < 1:
         parser.error("--runs is at least 1")
     if not Path(asked.program).is_file():
         sys.exit("there is no program: run the script schedule_explorer at the root first")
-    print("| module | depth | nodes | seconds | nodes a second |")
-    print("| --- | --- | --- | --- | --- |")
+    print("| module | depth | nodes | workers | seconds | of a processor | nodes a second | times one worker | MB |")
+    print("| --- | --- | --- | --- | --- | --- | --- | --- | --- |")
     for name, depth, nodes in ROWS:
-        seconds = min(run_of(asked.program, name, depth, nodes) for _ in range(asked.runs))
-        print(f"| `{name}` | {depth} | {nodes:,} | {seconds:.3f} | {nodes / seconds:,.0f} |", flush=True)
+        single, whole = None, None
+        for workers in asked.workers:
+            seconds, processor, memory, report = fastest(asked.program, name, depth, nodes, workers, asked.runs)
+            single, whole = single or seconds, whole or report
+            if report != whole:
+                sys.exit(f"{name}: {workers} workers have another report")
+            speed = f"{nodes / seconds:,.0f} | {single / seconds:.2f} | {memory / 1024:.1f}"
+            print(f"| `{name}` | {depth} | {nodes:,} | {workers} | {seconds:.3f} | {processor:.3f} | {speed} |", flush=True)
 
 
 if __name__ == "__main__":

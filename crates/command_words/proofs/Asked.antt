@@ -10,7 +10,7 @@ use Rattle.std.proofs.lemmas.List.Sums.{sum_by-cons}
 use Rattle.clap.specs.Words.{Row, Text, fault_of, one_of, subcommand_of}
 use Rattle.clap.specs.declared.parser.matches.ValueSource.TheVariants.{CommandLine, DefaultValue}
 use Rattle.findings.specs.declared.options.Options.{Options}
-use Rattle.command_words.specs.Words.{AreInRange, Given, IsExplore, IsGivenOr, is_allow_deadlock, is_strict_access, nodes_of, words_of_all}
+use Rattle.command_words.specs.Words.{AreInRange, Given, IsExplore, IsGivenOr, is_allow_deadlock, is_strict_access, nodes_of, words_of_all, workers_of}
 use Rattle.command_words.specs.inside.CommandLine.{command_line}
 use Rattle.command_words.specs.inside.Found.{AreOptionsIn, AreOptionsOf, AreRead, ReadsFlag, ReadsNumber, schedule_in}
 use Rattle.command_words.proofs.Entered.{entered_rows, number_fits}
@@ -18,8 +18,8 @@ use Rattle.command_words.proofs.Explored.{level_passes, line_enters, line_passes
 use Rattle.command_words.proofs.Numbers.{decimal_is_number, decimal_value}
 use Rattle.command_words.proofs.Once.{AreOnce, Each, lawful_by, once_are_new}
 use Rattle.command_words.proofs.Options.{AreLawful, AreNew}
-use Rattle.command_words.proofs.Ranges.{depth_fits, nodes_fits}
-use Rattle.command_words.proofs.Rows.{allow_deadlock_left, allow_deadlock_row, depth_left, depth_row, nodes_left, nodes_row, row_at, row_of, row_with, strict_access_left, strict_access_row, text_of_row, with_defaults}
+use Rattle.command_words.proofs.Ranges.{depth_fits, nodes_fits, workers_fits}
+use Rattle.command_words.proofs.Rows.{allow_deadlock_left, allow_deadlock_row, depth_left, depth_row, nodes_left, nodes_row, row_at, row_of, row_with, strict_access_left, strict_access_row, text_of_row, with_defaults, workers_left, workers_row}
 
 -- ---- the options of an exploration, each once and in its range
 
@@ -27,20 +27,21 @@ at_most_once : (n : ℕ) (flag : Bool) → n ≡ cond flag 1 0 → n ≤ 1
 at_most_once n true is = omega arith
 at_most_once n false is = omega arith
 
-nodes_once : (default n : ℕ) (counts : List ℕ) → IsGivenOr default counts n → length counts ≤ 1
-nodes_once default n [] is = omega arith
-nodes_once default n (m ∷ []) is = omega arith
-nodes_once default n (m ∷ (k ∷ rest)) is = absurd is
+given_once : (default n : ℕ) (counts : List ℕ) → IsGivenOr default counts n → length counts ≤ 1
+given_once default n [] is = omega arith
+given_once default n (m ∷ []) is = omega arith
+given_once default n (m ∷ (k ∷ rest)) is = absurd is
 
-nodes_lawful : (default n : ℕ) (counts : List ℕ) → IsGivenOr default counts n → 1 ≤ n → n ≤ 10000000 → Each (λ m. (1 ≤ m) × (m ≤ 10000000)) counts
-nodes_lawful default n [] is least most = tt
-nodes_lawful default n (m ∷ []) is least most = ((subst (λ k. 1 ≤ k) is least, subst (λ k. k ≤ 10000000) is most), tt)
-nodes_lawful default n (m ∷ (k ∷ rest)) is least most = absurd is
+given_lawful : (high default n : ℕ) (counts : List ℕ) → IsGivenOr default counts n → 1 ≤ n → n ≤ high → Each (λ m. (1 ≤ m) × (m ≤ high)) counts
+given_lawful high default n [] is least most = tt
+given_lawful high default n (m ∷ []) is least most = ((subst (λ k. 1 ≤ k) is least, subst (λ k. k ≤ high) is most), tt)
+given_lawful high default n (m ∷ (k ∷ rest)) is least most = absurd is
 
 once_of : (words : List Text) (options : Options) (asks : IsExplore words options) → AreOnce asks.given
 once_of words options asks = record {
   depths = omega (arith, ap length asks.depth);
-  nodes = nodes_once 1000000 options.nodes (nodes_of asks.given) asks.nodes;
+  nodes = given_once 1000000 options.nodes (nodes_of asks.given) asks.nodes;
+  workers = given_once 1 options.workers (workers_of asks.given) asks.workers;
   allow_deadlock = at_most_once _ options.flags.allow_deadlock asks.allow_deadlock;
   strict_access = at_most_once _ options.flags.strict_access asks.strict_access;
 }
@@ -51,7 +52,8 @@ new_of words options asks = once_are_new asks.given (once_of words options asks)
 lawful_of : (words : List Text) (options : Options) (asks : IsExplore words options) → AreLawful asks.given
 lawful_of words options asks =
     lawful_by asks.given (subst (Each (λ n. n ≤ 400)) (sym asks.depth) (asks.in_range.depth, tt))
-    (nodes_lawful 1000000 options.nodes (nodes_of asks.given) asks.nodes asks.in_range.least_nodes asks.in_range.most_nodes)
+    (given_lawful 10000000 1000000 options.nodes (nodes_of asks.given) asks.nodes asks.in_range.least_nodes asks.in_range.most_nodes)
+    (given_lawful 16 1 options.workers (workers_of asks.given) asks.workers asks.in_range.some_workers asks.in_range.most_workers)
 
 -- the words of an exploration have no fault
 pub explore_passes : (words : List Text) (options : Options) → IsExplore words options → fault_of command_line words ≡ []
@@ -94,6 +96,24 @@ nodes_text words options asks = by (nodes_of asks.given) refl asks.nodes
     by : (l : List ℕ) → nodes_of asks.given ≡ l → IsGivenOr 1000000 l options.nodes → one_of (codes "nodes") (rows_of_given asks.given) ≡ Some (decimal options.nodes)
     by [] is default = text_of_row (codes "nodes") (codes "1000000") DefaultValue (rows_of_given asks.given) (found [] is) ∙ ap Some (million ∙ ap decimal (sym default))
     by (n ∷ []) is given = text_of_row (codes "nodes") (decimal n) CommandLine (rows_of_given asks.given) (found (n ∷ []) is) ∙ ap (λ m. Some (decimal m)) (sym given)
+    by (n ∷ (m ∷ rest)) is none = absurd none
+
+one_digit : codes "1" ≡ decimal 1
+unfolding digits
+one_digit = refl
+
+workers_text : (words : List Text) (options : Options) (asks : IsExplore words options) → one_of (codes "workers") (rows_of_given asks.given) ≡ Some (decimal options.workers)
+workers_text words options asks = by (workers_of asks.given) refl asks.workers
+  where
+    found : (l : List ℕ) → workers_of asks.given ≡ l
+        → row_at (codes "workers") (rows_of_given asks.given) ≡ Some (unwrap_or (option_map (λ n. row_with CommandLine (codes "workers") (decimal n)) (slice_get l 0)) (row_with DefaultValue (codes "workers") (codes "1")))
+    found l is =
+        workers_left (map row_of asks.given)
+        ∙ ap (λ o. Some (unwrap_or o (row_with DefaultValue (codes "workers") (codes "1")))) (workers_row asks.given ∙ ap (λ l. option_map (λ n. row_with CommandLine (codes "workers") (decimal n)) (slice_get l 0)) is)
+
+    by : (l : List ℕ) → workers_of asks.given ≡ l → IsGivenOr 1 l options.workers → one_of (codes "workers") (rows_of_given asks.given) ≡ Some (decimal options.workers)
+    by [] is default = text_of_row (codes "workers") (codes "1") DefaultValue (rows_of_given asks.given) (found [] is) ∙ ap Some (one_digit ∙ ap decimal (sym default))
+    by (n ∷ []) is given = text_of_row (codes "workers") (decimal n) CommandLine (rows_of_given asks.given) (found (n ∷ []) is) ∙ ap (λ m. Some (decimal m)) (sym given)
     by (n ∷ (m ∷ rest)) is none = absurd none
 
 none_counted : (p : Given → Bool) (given : List Given) → count_by p given ≡ 0 → list_any p given ≡ false
@@ -144,7 +164,7 @@ same_options words options found asks read =
     let depth : found.depth ≡ options.depth = number_read _ options.depth found.depth (omega (arith, range.depth)) (depth_text words options asks) read.depth in
     let nodes : found.nodes ≡ options.nodes = number_read _ options.nodes found.nodes (omega (arith, range.most_nodes)) (nodes_text words options asks) read.nodes in
     let budget : found.budget ≡ options.budget = read.budget ∙ sym range.budget in
-    let workers : found.workers ≡ options.workers = read.workers ∙ sym range.workers in
+    let workers : found.workers ≡ options.workers = number_read _ options.workers found.workers (omega (arith, range.most_workers)) (workers_text words options asks) read.workers in
     let deadlock : found.flags.allow_deadlock ≡ options.flags.allow_deadlock = flag_read _ options.flags.allow_deadlock found.flags.allow_deadlock
     (flag_text (codes "allow-deadlock") is_allow_deadlock asks.given options.flags.allow_deadlock asks.allow_deadlock (allow_deadlock_left (map row_of asks.given)) (allow_deadlock_row asks.given)) read.allow_deadlock in
     let access : found.flags.strict_access ≡ options.flags.strict_access = flag_read _ options.flags.strict_access found.flags.strict_access
@@ -161,9 +181,10 @@ explore_reads words options found asks read =
 pub explore_is_found : (words : List Text) (options : Options) → IsExplore words options → AreOptionsOf (subcommand_of command_line words) None → ⊥
 explore_is_found words options asks read = by (subst (λ o. AreOptionsOf o None) (explore_enters words options asks) read)
   where
-    by : ReadsNumber (one_of (codes "depth") (rows_of_given asks.given)) None ⊎ ReadsNumber (one_of (codes "nodes") (rows_of_given asks.given)) None → ⊥
+    by : ReadsNumber (one_of (codes "depth") (rows_of_given asks.given)) None ⊎ (ReadsNumber (one_of (codes "nodes") (rows_of_given asks.given)) None ⊎ ReadsNumber (one_of (codes "workers") (rows_of_given asks.given)) None) → ⊥
     by (inl depth) = number_not_read _ options.depth (omega (arith, asks.in_range.depth)) (depth_text words options asks) depth
-    by (inr nodes) = number_not_read _ options.nodes (omega (arith, asks.in_range.most_nodes)) (nodes_text words options asks) nodes
+    by (inr (inl nodes)) = number_not_read _ options.nodes (omega (arith, asks.in_range.most_nodes)) (nodes_text words options asks) nodes
+    by (inr (inr workers)) = number_not_read _ options.workers (omega (arith, asks.in_range.most_workers)) (workers_text words options asks) workers
 
 -- ---- any words
 
@@ -176,7 +197,8 @@ found_in_range words found none read = by (subcommand_of command_line words) ref
         let walk = entered_rows words rows none entered in
         let depth = number_fits 0 400 found.depth (one_of (codes "depth") rows) read.depth (λ text is. depth_fits walk.words text walk.passes (ap (one_of (codes "depth")) (sym walk.rows_are) ∙ is)) in
         let nodes = number_fits 1 10000000 found.nodes (one_of (codes "nodes") rows) read.nodes (λ text is. nodes_fits walk.words text walk.passes (ap (one_of (codes "nodes")) (sym walk.rows_are) ∙ is)) in
-        record { depth = depth.1; least_nodes = nodes.0; most_nodes = nodes.1; budget = read.budget; workers = read.workers }
+        let workers = number_fits 1 16 found.workers (one_of (codes "workers") rows) read.workers (λ text is. workers_fits walk.words text walk.passes (ap (one_of (codes "workers")) (sym walk.rows_are) ∙ is)) in
+        record { depth = depth.1; least_nodes = nodes.0; most_nodes = nodes.1; budget = read.budget; some_workers = workers.0; most_workers = workers.1 }
 
     by : (o : Option (Text × List Row)) → subcommand_of command_line words ≡ o → AreOptionsOf o (Some found) → AreInRange found
     by None entered read = cc

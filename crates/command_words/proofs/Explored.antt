@@ -14,7 +14,7 @@ use Rattle.clap.specs.declared.error.kind.ErrorKind.TheVariants.{DisplayHelp, Mi
 use Rattle.clap.proofs.FaultLemmas.{stopped_fault}
 use Rattle.clap.proofs.OnLiterals.{clap_on_literals}
 use Rattle.command_words.specs.Words.{Given, depth, depths_of, words_of_all}
-use Rattle.command_words.specs.inside.CommandLine.{command_line, depth_rule, explore_built, flag_rule, nodes_rule}
+use Rattle.command_words.specs.inside.CommandLine.{command_line, depth_rule, explore_built, flag_rule, nodes_rule, workers_rule}
 use Rattle.command_words.proofs.Options.{AreLawful, AreNew, IsReady, both_none, options_pass, options_ready}
 use Rattle.command_words.proofs.Rows.{depth_left, depth_row, row_of, with_defaults}
 
@@ -33,13 +33,15 @@ unfolding defaults_fault
 defaults_pass rows =
     let one = with_default rows (filled depth_rule) in
     let two = with_default one (filled nodes_rule) in
-    let three = with_default two (filled (flag_rule (codes "allow-deadlock"))) in
-    let four = with_default three (filled (flag_rule (codes "strict-access"))) in
+    let three = with_default two (filled workers_rule) in
+    let four = with_default three (filled (flag_rule (codes "allow-deadlock"))) in
+    let five = with_default four (filled (flag_rule (codes "strict-access"))) in
     both_none _ _ (no_default_fault (has_row (codes "depth") rows) [])
     (both_none _ _ (no_fault (has_row (codes "nodes") one || false))
-    (both_none _ _ (no_fault (has_row (codes "allow-deadlock") two || false))
-    (both_none _ _ (no_fault (has_row (codes "strict-access") three || false))
-    (both_none _ _ (no_default_fault (has_row (codes "help") four) (DisplayHelp ∷ [])) refl))))
+    (both_none _ _ (no_fault (has_row (codes "workers") two || false))
+    (both_none _ _ (no_fault (has_row (codes "allow-deadlock") three || false))
+    (both_none _ _ (no_fault (has_row (codes "strict-access") four || false))
+    (both_none _ _ (no_default_fault (has_row (codes "help") five) (DisplayHelp ∷ [])) refl)))))
 
 -- ---- the level of `explore`
 

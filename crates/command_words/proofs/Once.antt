@@ -5,7 +5,7 @@ use Rattle.std.specs.Str.{bytes_eq}
 use Rattle.std.proofs.lemmas.List.Folds.{list_any-append}
 use Rattle.std.proofs.lemmas.List.Sums.{sum_by-cons}
 use Rattle.clap.specs.Walk.{Row, Text, has_row}
-use Rattle.command_words.specs.Words.{Given, depth, nodes, allow_deadlock, strict_access, depths_of, nodes_of, is_allow_deadlock, is_strict_access}
+use Rattle.command_words.specs.Words.{Given, depth, nodes, workers, allow_deadlock, strict_access, depths_of, nodes_of, workers_of, is_allow_deadlock, is_strict_access}
 use Rattle.command_words.proofs.Options.{AreLawful, AreNew}
 use Rattle.command_words.proofs.Rows.{id_of, row_of}
 
@@ -18,6 +18,7 @@ no_depth : (given : List Given) → length (depths_of given) ≤ 0 → IsNoneOf 
 no_depth [] few = tt
 no_depth (depth n ∷ rest) few = absurd (omega arith)
 no_depth (nodes n ∷ rest) few = (refl, no_depth rest few)
+no_depth (workers n ∷ rest) few = (refl, no_depth rest few)
 no_depth (allow_deadlock ∷ rest) few = (refl, no_depth rest few)
 no_depth (strict_access ∷ rest) few = (refl, no_depth rest few)
 
@@ -25,8 +26,17 @@ no_nodes : (given : List Given) → length (nodes_of given) ≤ 0 → IsNoneOf (
 no_nodes [] few = tt
 no_nodes (nodes n ∷ rest) few = absurd (omega arith)
 no_nodes (depth n ∷ rest) few = (refl, no_nodes rest few)
+no_nodes (workers n ∷ rest) few = (refl, no_nodes rest few)
 no_nodes (allow_deadlock ∷ rest) few = (refl, no_nodes rest few)
 no_nodes (strict_access ∷ rest) few = (refl, no_nodes rest few)
+
+no_workers : (given : List Given) → length (workers_of given) ≤ 0 → IsNoneOf (codes "workers") given
+no_workers [] few = tt
+no_workers (workers n ∷ rest) few = absurd (omega arith)
+no_workers (depth n ∷ rest) few = (refl, no_workers rest few)
+no_workers (nodes n ∷ rest) few = (refl, no_workers rest few)
+no_workers (allow_deadlock ∷ rest) few = (refl, no_workers rest few)
+no_workers (strict_access ∷ rest) few = (refl, no_workers rest few)
 
 counted : (p : Given → Bool) (given : Given) (rest : List Given) → count_by p (given ∷ rest) ≡ cond (p given) 1 0 + count_by p rest
 counted p given rest = sum_by-cons (λ x. cond (p x) 1 0) given rest
@@ -36,6 +46,7 @@ no_allow_deadlock [] few = tt
 no_allow_deadlock (allow_deadlock ∷ rest) few = absurd (omega (arith, counted is_allow_deadlock allow_deadlock rest))
 no_allow_deadlock (depth n ∷ rest) few = (refl, no_allow_deadlock rest (omega (arith, counted is_allow_deadlock (depth n) rest)))
 no_allow_deadlock (nodes n ∷ rest) few = (refl, no_allow_deadlock rest (omega (arith, counted is_allow_deadlock (nodes n) rest)))
+no_allow_deadlock (workers n ∷ rest) few = (refl, no_allow_deadlock rest (omega (arith, counted is_allow_deadlock (workers n) rest)))
 no_allow_deadlock (strict_access ∷ rest) few = (refl, no_allow_deadlock rest (omega (arith, counted is_allow_deadlock strict_access rest)))
 
 no_strict_access : (given : List Given) → count_by is_strict_access given ≤ 0 → IsNoneOf (codes "strict-access") given
@@ -43,6 +54,7 @@ no_strict_access [] few = tt
 no_strict_access (strict_access ∷ rest) few = absurd (omega (arith, counted is_strict_access strict_access rest))
 no_strict_access (depth n ∷ rest) few = (refl, no_strict_access rest (omega (arith, counted is_strict_access (depth n) rest)))
 no_strict_access (nodes n ∷ rest) few = (refl, no_strict_access rest (omega (arith, counted is_strict_access (nodes n) rest)))
+no_strict_access (workers n ∷ rest) few = (refl, no_strict_access rest (omega (arith, counted is_strict_access (workers n) rest)))
 no_strict_access (allow_deadlock ∷ rest) few = (refl, no_strict_access rest (omega (arith, counted is_strict_access allow_deadlock rest)))
 
 -- no name comes twice
@@ -54,6 +66,7 @@ AreApart (given ∷ rest) = IsNoneOf (id_of given) rest × AreApart rest
 pub record AreOnce (given : List Given) : Type 0 where
   pub depths : length (depths_of given) ≤ 1
   pub nodes : length (nodes_of given) ≤ 1
+  pub workers : length (workers_of given) ≤ 1
   pub allow_deadlock : count_by is_allow_deadlock given ≤ 1
   pub strict_access : count_by is_strict_access given ≤ 1
 
@@ -61,19 +74,29 @@ pub record AreOnce (given : List Given) : Type 0 where
 fewer_depths : (first : Given) (rest : List Given) → length (depths_of rest) ≤ length (depths_of (first ∷ rest))
 fewer_depths (depth n) rest = omega arith
 fewer_depths (nodes n) rest = omega arith
+fewer_depths (workers n) rest = omega arith
 fewer_depths allow_deadlock rest = omega arith
 fewer_depths strict_access rest = omega arith
 
 fewer_nodes : (first : Given) (rest : List Given) → length (nodes_of rest) ≤ length (nodes_of (first ∷ rest))
 fewer_nodes (depth n) rest = omega arith
 fewer_nodes (nodes n) rest = omega arith
+fewer_nodes (workers n) rest = omega arith
 fewer_nodes allow_deadlock rest = omega arith
 fewer_nodes strict_access rest = omega arith
+
+fewer_workers : (first : Given) (rest : List Given) → length (workers_of rest) ≤ length (workers_of (first ∷ rest))
+fewer_workers (depth n) rest = omega arith
+fewer_workers (nodes n) rest = omega arith
+fewer_workers (workers n) rest = omega arith
+fewer_workers allow_deadlock rest = omega arith
+fewer_workers strict_access rest = omega arith
 
 rest_once : (first : Given) (rest : List Given) → AreOnce (first ∷ rest) → AreOnce rest
 rest_once first rest once = record {
   depths = omega (arith, once.depths, fewer_depths first rest);
   nodes = omega (arith, once.nodes, fewer_nodes first rest);
+  workers = omega (arith, once.workers, fewer_workers first rest);
   allow_deadlock = omega (arith, once.allow_deadlock, counted is_allow_deadlock first rest);
   strict_access = omega (arith, once.strict_access, counted is_strict_access first rest);
 }
@@ -81,6 +104,7 @@ rest_once first rest once = record {
 first_apart : (first : Given) (rest : List Given) → AreOnce (first ∷ rest) → IsNoneOf (id_of first) rest
 first_apart (depth n) rest once = no_depth rest (omega (arith, once.depths))
 first_apart (nodes n) rest once = no_nodes rest (omega (arith, once.nodes))
+first_apart (workers n) rest once = no_workers rest (omega (arith, once.workers))
 first_apart allow_deadlock rest once = no_allow_deadlock rest (omega (arith, once.allow_deadlock, counted is_allow_deadlock allow_deadlock rest))
 first_apart strict_access rest once = no_strict_access rest (omega (arith, once.strict_access, counted is_strict_access strict_access rest))
 
@@ -115,9 +139,10 @@ abbrev pub Each : (ℕ → Type 0) → List ℕ → Type 0
 Each P [] = Unit {0}
 Each P (n ∷ rest) = P n × Each P rest
 
-pub lawful_by : (given : List Given) → Each (λ n. n ≤ 400) (depths_of given) → Each (λ n. (1 ≤ n) × (n ≤ 10000000)) (nodes_of given) → AreLawful given
-lawful_by [] depths numbers = tt
-lawful_by (depth n ∷ rest) depths numbers = (depths.0, lawful_by rest depths.1 numbers)
-lawful_by (nodes n ∷ rest) depths numbers = (numbers.0, lawful_by rest depths numbers.1)
-lawful_by (allow_deadlock ∷ rest) depths numbers = (tt, lawful_by rest depths numbers)
-lawful_by (strict_access ∷ rest) depths numbers = (tt, lawful_by rest depths numbers)
+pub lawful_by : (given : List Given) → Each (λ n. n ≤ 400) (depths_of given) → Each (λ n. (1 ≤ n) × (n ≤ 10000000)) (nodes_of given) → Each (λ n. (1 ≤ n) × (n ≤ 16)) (workers_of given) → AreLawful given
+lawful_by [] depths numbers crews = tt
+lawful_by (depth n ∷ rest) depths numbers crews = (depths.0, lawful_by rest depths.1 numbers crews)
+lawful_by (nodes n ∷ rest) depths numbers crews = (numbers.0, lawful_by rest depths numbers.1 crews)
+lawful_by (workers n ∷ rest) depths numbers crews = (crews.0, lawful_by rest depths numbers crews.1)
+lawful_by (allow_deadlock ∷ rest) depths numbers crews = (tt, lawful_by rest depths numbers crews)
+lawful_by (strict_access ∷ rest) depths numbers crews = (tt, lawful_by rest depths numbers crews)

@@ -15,8 +15,8 @@ use Rattle.clap.specs.declared.parser.matches.ValueSource.TheVariants.{CommandLi
 use Rattle.clap.specs.ValueTests.{is_unsigned_in}
 use Rattle.command_words.proofs.Numbers.{decimal_fits, decimal_is_plain}
 use Rattle.clap.proofs.OnLiterals.{clap_on_literals}
-use Rattle.command_words.specs.Words.{Given, begins_with_hyphen, depth, nodes, allow_deadlock, strict_access, words_of, words_of_all}
-use Rattle.command_words.specs.inside.CommandLine.{depth_rule, explore_built, flag_rule, nodes_rule}
+use Rattle.command_words.specs.Words.{Given, begins_with_hyphen, depth, nodes, workers, allow_deadlock, strict_access, words_of, words_of_all}
+use Rattle.command_words.specs.inside.CommandLine.{depth_rule, explore_built, flag_rule, nodes_rule, workers_rule}
 use Rattle.command_words.proofs.Rows.{id_of, row_of, row_with, used_once}
 
 -- two steps pass where each does
@@ -32,6 +32,7 @@ pub record IsReady (rows : List Row) (h : Held) : Type 0 where
 abbrev pub IsLawful : Given → Type 0
 IsLawful (depth n) = n ≤ 400
 IsLawful (nodes n) = (1 ≤ n) × (n ≤ 10000000)
+IsLawful (workers n) = (1 ≤ n) × (n ≤ 16)
 IsLawful allow_deadlock = Unit {0}
 IsLawful strict_access = Unit {0}
 
@@ -56,6 +57,12 @@ nodes_passes value rows none fits =
     both_none (repeat_fault false (codes "nodes") rows) _ (first_use (codes "nodes") rows none)
     (both_none (value_kinds false (Unsigned 1 10000000) value) [] (value_passes 1 10000000 value fits) refl)
 
+workers_passes : (value : Text) (rows : List Row) → has_row (codes "workers") rows ≡ false → is_unsigned_in 1 16 value ≡ true
+    → use_fault false (filled workers_rule) (value ∷ []) rows ≡ []
+workers_passes value rows none fits =
+    both_none (repeat_fault false (codes "workers") rows) _ (first_use (codes "workers") rows none)
+    (both_none (value_kinds false (Unsigned 1 16) value) [] (value_passes 1 16 value fits) refl)
+
 -- ---- the words of one option
 
 -- what is held after an option that has a number, and after a flag
@@ -68,6 +75,7 @@ with_flag id h = reacted explore_built.rules (filled (flag_rule id)) [] h
 abbrev after : Given → Held → Held
 after (depth n) h = with_number (codes "depth") (decimal n) h
 after (nodes n) h = with_number (codes "nodes") (decimal n) h
+after (workers n) h = with_number (codes "workers") (decimal n) h
 after allow_deadlock h = with_flag (codes "allow-deadlock") h
 after strict_access h = with_flag (codes "strict-access") h
 
@@ -82,6 +90,10 @@ depth_word h = refl
 nodes_word : (h : Held) → walked explore_built.rules [] (walk_from h) (codes "--nodes") ≡ waiting_for (codes "nodes") h
 unfolding clap_on_literals
 nodes_word h = refl
+
+workers_word : (h : Held) → walked explore_built.rules [] (walk_from h) (codes "--workers") ≡ waiting_for (codes "workers") h
+unfolding clap_on_literals
+workers_word h = refl
 
 allow_deadlock_word : (h : Held) → walked explore_built.rules [] (walk_from h) (codes "--allow-deadlock") ≡ walk_from (with_flag (codes "allow-deadlock") h)
 unfolding clap_on_literals
@@ -101,6 +113,11 @@ unfolding clap_on_literals
 nodes_number h [] plain = refl
 nodes_number h (byte ∷ rest) plain = simp plain refl
 
+workers_number : (h : Held) (value : Text) → begins_with_hyphen value ≡ false → walked explore_built.rules [] (waiting_for (codes "workers") h) value ≡ walk_from (with_number (codes "workers") value h)
+unfolding clap_on_literals
+workers_number h [] plain = refl
+workers_number h (byte ∷ rest) plain = simp plain refl
+
 depth_word_passes : (h : Held) → settle_fault explore_built.rules false h ≡ [] → turn_fault explore_built [] (walk_from h) (codes "--depth") ≡ []
 unfolding clap_on_literals
 depth_word_passes h settles = both_none (settle_fault explore_built.rules false h) [] settles refl
@@ -108,6 +125,10 @@ depth_word_passes h settles = both_none (settle_fault explore_built.rules false 
 nodes_word_passes : (h : Held) → settle_fault explore_built.rules false h ≡ [] → turn_fault explore_built [] (walk_from h) (codes "--nodes") ≡ []
 unfolding clap_on_literals
 nodes_word_passes h settles = both_none (settle_fault explore_built.rules false h) [] settles refl
+
+workers_word_passes : (h : Held) → settle_fault explore_built.rules false h ≡ [] → turn_fault explore_built [] (walk_from h) (codes "--workers") ≡ []
+unfolding clap_on_literals
+workers_word_passes h settles = both_none (settle_fault explore_built.rules false h) [] settles refl
 
 number_passes : (id : Text) (h : Held) (value : Text) → begins_with_hyphen value ≡ false → turn_fault explore_built [] (waiting_for id h) value ≡ []
 unfolding clap_on_literals
@@ -137,6 +158,9 @@ option_walks (depth n) h rest lawful =
 option_walks (nodes n) h rest lawful =
     let plain : begins_with_hyphen (decimal n) ≡ false = decimal_is_plain n (omega arith) in
     ap (λ w. fold (walked explore_built.rules []) w rest) (ap (λ w. walked explore_built.rules [] w (decimal n)) (nodes_word h) ∙ nodes_number h (decimal n) plain)
+option_walks (workers n) h rest lawful =
+    let plain : begins_with_hyphen (decimal n) ≡ false = decimal_is_plain n (omega arith) in
+    ap (λ w. fold (walked explore_built.rules []) w rest) (ap (λ w. walked explore_built.rules [] w (decimal n)) (workers_word h) ∙ workers_number h (decimal n) plain)
 option_walks allow_deadlock h rest lawful = ap (λ w. fold (walked explore_built.rules []) w rest) (allow_deadlock_word h)
 option_walks strict_access h rest lawful = ap (λ w. fold (walked explore_built.rules []) w rest) (strict_access_word h)
 
@@ -158,6 +182,10 @@ option_passes (nodes n) rows h rest ready none lawful =
     let plain : begins_with_hyphen (decimal n) ≡ false = decimal_is_plain n (omega arith) in
     passes_on (walk_from h) (waiting_for (codes "nodes") h) (codes "--nodes") (decimal n ∷ rest) (nodes_word_passes h ready.settles) (nodes_word h)
     ∙ passes_on (waiting_for (codes "nodes") h) (walk_from (after (nodes n) h)) (decimal n) rest (number_passes (codes "nodes") h (decimal n) plain) (nodes_number h (decimal n) plain)
+option_passes (workers n) rows h rest ready none lawful =
+    let plain : begins_with_hyphen (decimal n) ≡ false = decimal_is_plain n (omega arith) in
+    passes_on (walk_from h) (waiting_for (codes "workers") h) (codes "--workers") (decimal n ∷ rest) (workers_word_passes h ready.settles) (workers_word h)
+    ∙ passes_on (waiting_for (codes "workers") h) (walk_from (after (workers n) h)) (decimal n) rest (number_passes (codes "workers") h (decimal n) plain) (workers_number h (decimal n) plain)
 option_passes allow_deadlock rows h rest ready none lawful =
     passes_on (walk_from h) (walk_from (after allow_deadlock h)) (codes "--allow-deadlock") rest (allow_deadlock_passes rows h ready none) (allow_deadlock_word h)
 option_passes strict_access rows h rest ready none lawful =
@@ -187,6 +215,10 @@ option_ready (nodes n) rows h ready none lawful =
     let here : has_row (codes "nodes") (settled explore_built.rules h).rows ≡ false = ap (has_row (codes "nodes")) ready.rows_are ∙ none in
     number_ready (codes "nodes") (decimal n) rows h ready none
     (nodes_passes (decimal n) (settled explore_built.rules h).rows here (decimal_fits 1 10000000 n lawful.0 lawful.1 (omega arith))) refl
+option_ready (workers n) rows h ready none lawful =
+    let here : has_row (codes "workers") (settled explore_built.rules h).rows ≡ false = ap (has_row (codes "workers")) ready.rows_are ∙ none in
+    number_ready (codes "workers") (decimal n) rows h ready none
+    (workers_passes (decimal n) (settled explore_built.rules h).rows here (decimal_fits 1 16 n lawful.0 lawful.1 (omega arith))) refl
 option_ready allow_deadlock rows h ready none lawful = flag_ready (codes "allow-deadlock") rows h ready none
 option_ready strict_access rows h ready none lawful = flag_ready (codes "strict-access") rows h ready none
 

@@ -16,7 +16,7 @@ use Rattle.clap.specs.declared.builder.value_parser.ValueParser.{ValueParser}
 use Rattle.clap.specs.declared.builder.value_parser.ValueParser.TheVariants.{Unsigned}
 use Rattle.clap.specs.declared.parser.matches.ValueSource.{ValueSource}
 use Rattle.clap.specs.declared.parser.matches.ValueSource.TheVariants.{CommandLine, DefaultValue}
-use Rattle.command_words.specs.inside.CommandLine.{depth_rule, explore_built, flag_rule, nodes_rule}
+use Rattle.command_words.specs.inside.CommandLine.{depth_rule, explore_built, flag_rule, nodes_rule, workers_rule}
 use Rattle.command_words.proofs.Kept.{both_pass, walk_leaves}
 
 -- values that are not at fault passed their parser
@@ -50,12 +50,15 @@ among p (x ∷ xs) a found = by (p x) found (among p xs a)
     by true found rest = inl (cc)
     by false found rest = inr (rest found)
 
--- the two options of `explore` that have a number, as they are built
+-- the options of `explore` that have a number, as they are built
 abbrev depth_built : Rule
 depth_built = filled depth_rule
 
 abbrev nodes_built : Rule
 nodes_built = filled nodes_rule
+
+abbrev workers_built : Rule
+workers_built = filled workers_rule
 
 -- the values of an argument are numbers in its range, and are read as they are written
 module _ (id : Text) (low high : ℕ) where
@@ -143,9 +146,10 @@ module _ (id : Text) (low high : ℕ) where
 
   -- each use of an option keeps them, where one of a number does
   each_use_fits : (values : List Text) (rows : List Row) → (use_fault false depth_built values rows ≡ [] → AllFit (used depth_built values rows))
-      → (use_fault false nodes_built values rows ≡ [] → AllFit (used nodes_built values rows)) → bytes_eq (codes "allow-deadlock") id ≡ false → bytes_eq (codes "strict-access") id ≡ false
+      → (use_fault false nodes_built values rows ≡ [] → AllFit (used nodes_built values rows)) → (use_fault false workers_built values rows ≡ [] → AllFit (used workers_built values rows))
+      → bytes_eq (codes "allow-deadlock") id ≡ false → bytes_eq (codes "strict-access") id ≡ false
       → (p : Rule → Bool) (a : Rule) → find p explore_built.rules ≡ Some a → use_fault false a values rows ≡ [] → AllFit rows → AllFit (used a values rows)
-  each_use_fits values rows depth nodes no_deadlock no_access p a found none fit = by (among p explore_built.rules a found)
+  each_use_fits values rows depth nodes workers no_deadlock no_access p a found none fit = by (among p explore_built.rules a found)
     where
       at : (x : Rule) → a ≡ x → (use_fault false x values rows ≡ [] → AllFit (used x values rows)) → AllFit (used a values rows)
       at x is kept = subst (λ y. use_fault false y values rows ≡ [] → AllFit (used y values rows)) (sym is) kept none
@@ -153,20 +157,23 @@ module _ (id : Text) (low high : ℕ) where
       by : Among a explore_built.rules → AllFit (used a values rows)
       by (inl is) = at depth_built is depth
       by (inr (inl is)) = at nodes_built is nodes
-      by (inr (inr (inl is))) = at _ is (λ none. other_used_fits (codes "allow-deadlock") AsWritten _ rows no_deadlock fit)
-      by (inr (inr (inr (inl is)))) = at _ is (λ none. other_used_fits (codes "strict-access") AsWritten _ rows no_access fit)
-      by (inr (inr (inr (inr (inl is))))) = at _ is (λ none. fit)
-      by (inr (inr (inr (inr (inr nothing))))) = absurd nothing
+      by (inr (inr (inl is))) = at workers_built is workers
+      by (inr (inr (inr (inl is)))) = at _ is (λ none. other_used_fits (codes "allow-deadlock") AsWritten _ rows no_deadlock fit)
+      by (inr (inr (inr (inr (inl is))))) = at _ is (λ none. other_used_fits (codes "strict-access") AsWritten _ rows no_access fit)
+      by (inr (inr (inr (inr (inr (inl is)))))) = at _ is (λ none. fit)
+      by (inr (inr (inr (inr (inr (inr nothing)))))) = absurd nothing
 
   -- and so does each default
   defaults_fit : (rows : List Row) → ((rows : List Row) → AllFit rows → AllFit (with_values (codes "nodes") AsWritten DefaultValue (codes "1000000" ∷ []) rows))
+      → ((rows : List Row) → AllFit rows → AllFit (with_values (codes "workers") AsWritten DefaultValue (codes "1" ∷ []) rows))
       → bytes_eq (codes "allow-deadlock") id ≡ false → bytes_eq (codes "strict-access") id ≡ false → AllFit rows → AllFit (fold with_default rows explore_built.rules)
-  defaults_fit rows nodes no_deadlock no_access fit =
+  defaults_fit rows nodes workers no_deadlock no_access fit =
       let one = default_fits depth_built rows fit fit in
       let two = default_fits nodes_built _ (nodes _ one) one in
-      let three = default_fits (filled (flag_rule (codes "allow-deadlock"))) _ (others_fit (codes "allow-deadlock") AsWritten DefaultValue _ _ no_deadlock two) two in
-      let four = default_fits (filled (flag_rule (codes "strict-access"))) _ (others_fit (codes "strict-access") AsWritten DefaultValue _ _ no_access three) three in
-      default_fits (filled help_rule) _ four four
+      let three = default_fits workers_built _ (workers _ two) two in
+      let four = default_fits (filled (flag_rule (codes "allow-deadlock"))) _ (others_fit (codes "allow-deadlock") AsWritten DefaultValue _ _ no_deadlock three) three in
+      let five = default_fits (filled (flag_rule (codes "strict-access"))) _ (others_fit (codes "strict-access") AsWritten DefaultValue _ _ no_access four) four in
+      default_fits (filled help_rule) _ five five
 
   -- what a walk without a fault leaves of an id
   left_fits : (words : List Text) (text : Text)
@@ -178,19 +185,30 @@ module _ (id : Text) (low high : ℕ) where
       let second = both_pass (settle_fault explore_built.rules false (walk explore_built.rules [] nothing_held words).held) _ first.1 in
       text_fits (rows_after explore_built.rules [] words) text (defaults _ (walk_leaves explore_built AllFit uses [] words nothing_held first.0 second.0 tt)) reads
 
--- where an exploration is not at fault, its depth and its number of nodes are in their ranges
+-- where an exploration is not at fault, its depth and its numbers of nodes and of workers are in their ranges
 pub depth_fits : (words : List Text) (text : Text) → level_fault explore_built [] nothing_held words false [] ≡ [] → one_of (codes "depth") (rows_after explore_built.rules [] words) ≡ Some text
     → is_unsigned_in 0 400 text ≡ true
 depth_fits words text =
     left_fits (codes "depth") 0 400 words text
     (λ p a values rows found none fit. each_use_fits (codes "depth") 0 400 values rows (λ none. used_fits (codes "depth") 0 400 _ _ _ rows none fit)
-    (λ none. other_used_fits (codes "depth") 0 400 (codes "nodes") AsWritten _ rows refl fit) refl refl p a found none fit)
-    (λ rows fit. defaults_fit (codes "depth") 0 400 rows (λ rows fit. others_fit (codes "depth") 0 400 (codes "nodes") AsWritten DefaultValue _ rows refl fit) refl refl fit)
+    (λ none. other_used_fits (codes "depth") 0 400 (codes "nodes") AsWritten _ rows refl fit) (λ none. other_used_fits (codes "depth") 0 400 (codes "workers") AsWritten _ rows refl fit) refl refl p a found none fit)
+    (λ rows fit. defaults_fit (codes "depth") 0 400 rows (λ rows fit. others_fit (codes "depth") 0 400 (codes "nodes") AsWritten DefaultValue _ rows refl fit)
+    (λ rows fit. others_fit (codes "depth") 0 400 (codes "workers") AsWritten DefaultValue _ rows refl fit) refl refl fit)
 
 pub nodes_fits : (words : List Text) (text : Text) → level_fault explore_built [] nothing_held words false [] ≡ [] → one_of (codes "nodes") (rows_after explore_built.rules [] words) ≡ Some text
     → is_unsigned_in 1 10000000 text ≡ true
 nodes_fits words text =
     left_fits (codes "nodes") 1 10000000 words text
     (λ p a values rows found none fit. each_use_fits (codes "nodes") 1 10000000 values rows (λ none. other_used_fits (codes "nodes") 1 10000000 (codes "depth") AsWritten _ rows refl fit)
-    (λ none. used_fits (codes "nodes") 1 10000000 _ _ _ rows none fit) refl refl p a found none fit)
-    (λ rows fit. defaults_fit (codes "nodes") 1 10000000 rows (λ rows fit. own_fit (codes "nodes") 1 10000000 AsWritten DefaultValue _ rows refl refl fit) refl refl fit)
+    (λ none. used_fits (codes "nodes") 1 10000000 _ _ _ rows none fit) (λ none. other_used_fits (codes "nodes") 1 10000000 (codes "workers") AsWritten _ rows refl fit) refl refl p a found none fit)
+    (λ rows fit. defaults_fit (codes "nodes") 1 10000000 rows (λ rows fit. own_fit (codes "nodes") 1 10000000 AsWritten DefaultValue _ rows refl refl fit)
+    (λ rows fit. others_fit (codes "nodes") 1 10000000 (codes "workers") AsWritten DefaultValue _ rows refl fit) refl refl fit)
+
+pub workers_fits : (words : List Text) (text : Text) → level_fault explore_built [] nothing_held words false [] ≡ [] → one_of (codes "workers") (rows_after explore_built.rules [] words) ≡ Some text
+    → is_unsigned_in 1 16 text ≡ true
+workers_fits words text =
+    left_fits (codes "workers") 1 16 words text
+    (λ p a values rows found none fit. each_use_fits (codes "workers") 1 16 values rows (λ none. other_used_fits (codes "workers") 1 16 (codes "depth") AsWritten _ rows refl fit)
+    (λ none. other_used_fits (codes "workers") 1 16 (codes "nodes") AsWritten _ rows refl fit) (λ none. used_fits (codes "workers") 1 16 _ _ _ rows none fit) refl refl p a found none fit)
+    (λ rows fit. defaults_fit (codes "workers") 1 16 rows (λ rows fit. others_fit (codes "workers") 1 16 (codes "nodes") AsWritten DefaultValue _ rows refl fit)
+    (λ rows fit. own_fit (codes "workers") 1 16 AsWritten DefaultValue _ rows refl refl fit) refl refl fit)

@@ -11,8 +11,8 @@ use Rattle.clap.specs.Walk.{Row, Rule, Text, at_row, default_rows, has_row, more
 use Rattle.clap.specs.declared.builder.value_parser.Reading.TheVariants.{AsWritten}
 use Rattle.clap.specs.declared.parser.matches.ValueSource.{ValueSource}
 use Rattle.clap.specs.declared.parser.matches.ValueSource.TheVariants.{CommandLine, DefaultValue}
-use Rattle.command_words.specs.Words.{Given, depth, nodes, allow_deadlock, strict_access, depths_of, nodes_of, is_allow_deadlock, is_strict_access}
-use Rattle.command_words.specs.inside.CommandLine.{depth_rule, explore_built, flag_rule, nodes_rule}
+use Rattle.command_words.specs.Words.{Given, depth, nodes, workers, allow_deadlock, strict_access, depths_of, nodes_of, workers_of, is_allow_deadlock, is_strict_access}
+use Rattle.command_words.specs.inside.CommandLine.{depth_rule, explore_built, flag_rule, nodes_rule, workers_rule}
 
 -- the row of one value
 abbrev pub row_with : ValueSource → Text → Text → Row
@@ -22,12 +22,14 @@ row_with source id value = record { id = id; values = value ∷ []; count = None
 abbrev pub id_of : Given → Text
 id_of (depth n) = codes "depth"
 id_of (nodes n) = codes "nodes"
+id_of (workers n) = codes "workers"
 id_of allow_deadlock = codes "allow-deadlock"
 id_of strict_access = codes "strict-access"
 
 abbrev pub value_of : Given → Text
 value_of (depth n) = decimal n
 value_of (nodes n) = decimal n
+value_of (workers n) = decimal n
 value_of allow_deadlock = codes "true"
 value_of strict_access = codes "true"
 
@@ -88,6 +90,7 @@ pub depth_row : (given : List Given) → row_at (codes "depth") (map row_of give
 depth_row [] = refl
 depth_row (depth n ∷ rest) = refl
 depth_row (nodes n ∷ rest) = depth_row rest
+depth_row (workers n ∷ rest) = depth_row rest
 depth_row (allow_deadlock ∷ rest) = depth_row rest
 depth_row (strict_access ∷ rest) = depth_row rest
 
@@ -95,14 +98,24 @@ pub nodes_row : (given : List Given) → row_at (codes "nodes") (map row_of give
 nodes_row [] = refl
 nodes_row (nodes n ∷ rest) = refl
 nodes_row (depth n ∷ rest) = nodes_row rest
+nodes_row (workers n ∷ rest) = nodes_row rest
 nodes_row (allow_deadlock ∷ rest) = nodes_row rest
 nodes_row (strict_access ∷ rest) = nodes_row rest
+
+pub workers_row : (given : List Given) → row_at (codes "workers") (map row_of given) ≡ option_map (λ n. row_of (workers n)) (slice_get (workers_of given) 0)
+workers_row [] = refl
+workers_row (workers n ∷ rest) = refl
+workers_row (depth n ∷ rest) = workers_row rest
+workers_row (nodes n ∷ rest) = workers_row rest
+workers_row (allow_deadlock ∷ rest) = workers_row rest
+workers_row (strict_access ∷ rest) = workers_row rest
 
 pub allow_deadlock_row : (given : List Given) → row_at (codes "allow-deadlock") (map row_of given) ≡ cond (list_any is_allow_deadlock given) (Some (row_of allow_deadlock)) None
 allow_deadlock_row [] = refl
 allow_deadlock_row (allow_deadlock ∷ rest) = refl
 allow_deadlock_row (depth n ∷ rest) = allow_deadlock_row rest
 allow_deadlock_row (nodes n ∷ rest) = allow_deadlock_row rest
+allow_deadlock_row (workers n ∷ rest) = allow_deadlock_row rest
 allow_deadlock_row (strict_access ∷ rest) = allow_deadlock_row rest
 
 pub strict_access_row : (given : List Given) → row_at (codes "strict-access") (map row_of given) ≡ cond (list_any is_strict_access given) (Some (row_of strict_access)) None
@@ -110,6 +123,7 @@ strict_access_row [] = refl
 strict_access_row (strict_access ∷ rest) = refl
 strict_access_row (depth n ∷ rest) = strict_access_row rest
 strict_access_row (nodes n ∷ rest) = strict_access_row rest
+strict_access_row (workers n ∷ rest) = strict_access_row rest
 strict_access_row (allow_deadlock ∷ rest) = strict_access_row rest
 
 -- ---- the defaults
@@ -156,46 +170,60 @@ abbrev first_two : List Row → List Row
 first_two rows = with_default (with_default rows (filled depth_rule)) (filled nodes_rule)
 
 abbrev first_three : List Row → List Row
-first_three rows = with_default (first_two rows) (filled (flag_rule (codes "allow-deadlock")))
+first_three rows = with_default (first_two rows) (filled workers_rule)
 
 abbrev first_four : List Row → List Row
-first_four rows = with_default (first_three rows) (filled (flag_rule (codes "strict-access")))
+first_four rows = with_default (first_three rows) (filled (flag_rule (codes "allow-deadlock")))
 
-all_as_four : (id : Text) (rows : List Row) → row_at id (with_defaults rows) ≡ row_at id (first_four rows)
-all_as_four id rows = ap (row_at id) (no_default (filled help_rule) (first_four rows) refl)
+abbrev first_five : List Row → List Row
+first_five rows = with_default (first_four rows) (filled (flag_rule (codes "strict-access")))
 
-four_as_three : (id : Text) (rows : List Row) → bytes_eq (codes "strict-access") id ≡ false → row_at id (first_four rows) ≡ row_at id (first_three rows)
-four_as_three id rows differs = default_other (filled (flag_rule (codes "strict-access"))) (codes "false") id (first_three rows) refl refl differs
+all_as_five : (id : Text) (rows : List Row) → row_at id (with_defaults rows) ≡ row_at id (first_five rows)
+all_as_five id rows = ap (row_at id) (no_default (filled help_rule) (first_five rows) refl)
 
-three_as_two : (id : Text) (rows : List Row) → bytes_eq (codes "allow-deadlock") id ≡ false → row_at id (first_three rows) ≡ row_at id (first_two rows)
-three_as_two id rows differs = default_other (filled (flag_rule (codes "allow-deadlock"))) (codes "false") id (first_two rows) refl refl differs
+five_as_four : (id : Text) (rows : List Row) → bytes_eq (codes "strict-access") id ≡ false → row_at id (first_five rows) ≡ row_at id (first_four rows)
+five_as_four id rows differs = default_other (filled (flag_rule (codes "strict-access"))) (codes "false") id (first_four rows) refl refl differs
+
+four_as_three : (id : Text) (rows : List Row) → bytes_eq (codes "allow-deadlock") id ≡ false → row_at id (first_four rows) ≡ row_at id (first_three rows)
+four_as_three id rows differs = default_other (filled (flag_rule (codes "allow-deadlock"))) (codes "false") id (first_three rows) refl refl differs
+
+three_as_two : (id : Text) (rows : List Row) → bytes_eq (codes "workers") id ≡ false → row_at id (first_three rows) ≡ row_at id (first_two rows)
+three_as_two id rows differs = default_other (filled workers_rule) (codes "1") id (first_two rows) refl refl differs
 
 two_as_none : (id : Text) (rows : List Row) → bytes_eq (codes "nodes") id ≡ false → row_at id (first_two rows) ≡ row_at id rows
 two_as_none id rows differs =
     default_other (filled nodes_rule) (codes "1000000") id (with_default rows (filled depth_rule)) refl refl differs ∙ ap (row_at id) (no_default (filled depth_rule) rows refl)
 
 pub depth_left : (rows : List Row) → row_at (codes "depth") (with_defaults rows) ≡ row_at (codes "depth") rows
-depth_left rows = all_as_four (codes "depth") rows ∙ four_as_three (codes "depth") rows refl ∙ three_as_two (codes "depth") rows refl ∙ two_as_none (codes "depth") rows refl
+depth_left rows =
+    all_as_five (codes "depth") rows ∙ five_as_four (codes "depth") rows refl ∙ four_as_three (codes "depth") rows refl ∙ three_as_two (codes "depth") rows refl ∙ two_as_none (codes "depth") rows refl
 
 pub nodes_left : (rows : List Row)
     → row_at (codes "nodes") (with_defaults rows) ≡ Some (unwrap_or (row_at (codes "nodes") rows) (row_with DefaultValue (codes "nodes") (codes "1000000")))
 nodes_left rows =
-    all_as_four (codes "nodes") rows ∙ four_as_three (codes "nodes") rows refl ∙ three_as_two (codes "nodes") rows refl
+    all_as_five (codes "nodes") rows ∙ five_as_four (codes "nodes") rows refl ∙ four_as_three (codes "nodes") rows refl ∙ three_as_two (codes "nodes") rows refl
     ∙ default_own (filled nodes_rule) (codes "1000000") (with_default rows (filled depth_rule)) refl refl refl
     ∙ ap (λ l. Some (unwrap_or (row_at (codes "nodes") l) (row_with DefaultValue (codes "nodes") (codes "1000000")))) (no_default (filled depth_rule) rows refl)
+
+pub workers_left : (rows : List Row)
+    → row_at (codes "workers") (with_defaults rows) ≡ Some (unwrap_or (row_at (codes "workers") rows) (row_with DefaultValue (codes "workers") (codes "1")))
+workers_left rows =
+    all_as_five (codes "workers") rows ∙ five_as_four (codes "workers") rows refl ∙ four_as_three (codes "workers") rows refl
+    ∙ default_own (filled workers_rule) (codes "1") (first_two rows) refl refl refl
+    ∙ ap (λ o. Some (unwrap_or o (row_with DefaultValue (codes "workers") (codes "1")))) (two_as_none (codes "workers") rows refl)
 
 pub allow_deadlock_left : (rows : List Row)
     → row_at (codes "allow-deadlock") (with_defaults rows) ≡ Some (unwrap_or (row_at (codes "allow-deadlock") rows) (row_with DefaultValue (codes "allow-deadlock") (codes "false")))
 allow_deadlock_left rows =
-    all_as_four (codes "allow-deadlock") rows ∙ four_as_three (codes "allow-deadlock") rows refl
-    ∙ default_own (filled (flag_rule (codes "allow-deadlock"))) (codes "false") (first_two rows) refl refl refl
-    ∙ ap (λ o. Some (unwrap_or o (row_with DefaultValue (codes "allow-deadlock") (codes "false")))) (two_as_none (codes "allow-deadlock") rows refl)
+    all_as_five (codes "allow-deadlock") rows ∙ five_as_four (codes "allow-deadlock") rows refl
+    ∙ default_own (filled (flag_rule (codes "allow-deadlock"))) (codes "false") (first_three rows) refl refl refl
+    ∙ ap (λ o. Some (unwrap_or o (row_with DefaultValue (codes "allow-deadlock") (codes "false")))) (three_as_two (codes "allow-deadlock") rows refl ∙ two_as_none (codes "allow-deadlock") rows refl)
 
 pub strict_access_left : (rows : List Row)
     → row_at (codes "strict-access") (with_defaults rows) ≡ Some (unwrap_or (row_at (codes "strict-access") rows) (row_with DefaultValue (codes "strict-access") (codes "false")))
 strict_access_left rows =
-    all_as_four (codes "strict-access") rows ∙ default_own (filled (flag_rule (codes "strict-access"))) (codes "false") (first_three rows) refl refl refl
-    ∙ ap (λ o. Some (unwrap_or o (row_with DefaultValue (codes "strict-access") (codes "false")))) (three_as_two (codes "strict-access") rows refl ∙ two_as_none (codes "strict-access") rows refl)
+    all_as_five (codes "strict-access") rows ∙ default_own (filled (flag_rule (codes "strict-access"))) (codes "false") (first_four rows) refl refl refl
+    ∙ ap (λ o. Some (unwrap_or o (row_with DefaultValue (codes "strict-access") (codes "false")))) (four_as_three (codes "strict-access") rows refl ∙ three_as_two (codes "strict-access") rows refl ∙ two_as_none (codes "strict-access") rows refl)
 
 -- the text that is read of a row
 pub text_of_row : (id value : Text) (source : ValueSource) (rows : List Row) → row_at id rows ≡ Some (row_with source id value) → one_of id rows ≡ Some value

@@ -23,6 +23,7 @@ pub record IsReplay (words : List (List ℕ)) (schedule : List ℕ) : Type 0 whe
 pub data Given : Type 0 where
   depth : ℕ → Given
   nodes : ℕ → Given
+  workers : ℕ → Given
   allow_deadlock : Given
   strict_access : Given
 
@@ -30,6 +31,7 @@ pub data Given : Type 0 where
 abbrev pub words_of : Given → List (List ℕ)
 words_of (depth n) = codes "--depth" ∷ decimal n ∷ []
 words_of (nodes n) = codes "--nodes" ∷ decimal n ∷ []
+words_of (workers n) = codes "--workers" ∷ decimal n ∷ []
 words_of allow_deadlock = codes "--allow-deadlock" ∷ []
 words_of strict_access = codes "--strict-access" ∷ []
 
@@ -50,6 +52,12 @@ nodes_of [] = []
 nodes_of (nodes n ∷ rest) = n ∷ nodes_of rest
 nodes_of (_ ∷ rest) = nodes_of rest
 
+-- the numbers that are given by `--workers`
+abbrev pub workers_of : List Given → List ℕ
+workers_of [] = []
+workers_of (workers n ∷ rest) = n ∷ workers_of rest
+workers_of (_ ∷ rest) = workers_of rest
+
 -- whether it is the option that counts a deadlock as no error
 abbrev pub is_allow_deadlock : Given → Bool
 is_allow_deadlock allow_deadlock = true
@@ -66,13 +74,14 @@ IsGivenOr default [] n = n ≡ default
 IsGivenOr default (given ∷ []) n = n ≡ given
 IsGivenOr default _ n = ⊥
 
--- the ranges of a command line: the budget and the number of workers are always the same
+-- the ranges of a command line: the budget is always the same
 pub record AreInRange (options : Options) : Type 0 where
   pub depth : options.depth ≤ 400
   pub least_nodes : 1 ≤ options.nodes
   pub most_nodes : options.nodes ≤ 10000000
   pub budget : options.budget ≡ 64
-  pub workers : options.workers ≡ 1
+  pub some_workers : 1 ≤ options.workers
+  pub most_workers : options.workers ≤ 16
 
 -- the words are the name of the program, `explore` and options in any order: `--depth` once, each other one once or not at all
 pub record IsExplore (words : List (List ℕ)) (options : Options) : Type 0 where
@@ -81,6 +90,7 @@ pub record IsExplore (words : List (List ℕ)) (options : Options) : Type 0 wher
   pub words_are : words ≡ name ∷ codes "explore" ∷ words_of_all given
   pub depth : depths_of given ≡ options.depth ∷ []
   pub nodes : IsGivenOr 1000000 (nodes_of given) options.nodes
+  pub workers : IsGivenOr 1 (workers_of given) options.workers
   pub allow_deadlock : count_by is_allow_deadlock given ≡ (if options.flags.allow_deadlock then 1 else 0)
   pub strict_access : count_by is_strict_access given ≡ (if options.flags.strict_access then 1 else 0)
   pub in_range : AreInRange options

@@ -2,7 +2,7 @@
 ghost use Rattle.std.specs.Prelude.{◌≡◌, option_map, IfOk, IfErr};
 ghost use Rattle.clap.specs.Values.{kind_of};
 ghost use Rattle.clap.specs.Words.{app_of, found_of, one_of, rows_of, subcommand_rows_of};
-ghost use Rattle.command_words.specs.inside.CommandLine.{IsArgument, IsMadeAs, command_line, depth_rule, explore_command, flag_rule, nodes_rule, replay_command};
+ghost use Rattle.command_words.specs.inside.CommandLine.{IsArgument, IsMadeAs, command_line, depth_rule, explore_command, flag_rule, nodes_rule, replay_command, workers_rule};
 ghost use Rattle.command_words.specs.inside.Found.{AreOptionsOf, ReadsNumber, schedule_in};
 
 use clap::error::ErrorKind;
@@ -15,9 +15,6 @@ pub const NAME: &str = "schedule_explorer";
 
 /// How many nodes a worker visits before it hands the rest back.
 pub const BUDGET: u64 = 64;
-
-/// How many workers explore.
-pub const WORKERS: u64 = 1;
 
 // The program's command line.
 pub(crate) fn command<'a>(alloc: Global) -> Result<Command<'a>, Error>
@@ -70,6 +67,7 @@ fn explore_command<'a>(alloc: Global) -> Result<Command<'a>, Error>
         )
         .arg(depth_option(alloc))?
         .arg(nodes_option(alloc))?
+        .arg(workers_option(alloc))?
         .arg(allow_deadlock)?
         .arg(strict_access)?;
     Ok(explore)
@@ -101,6 +99,19 @@ fn nodes_option<'a>(alloc: Global) -> Arg<'a>
         .help("How many nodes of the tree of schedules may be visited, from 1 to 10000000")
 }
 
+// `--workers N`.
+fn workers_option<'a>(alloc: Global) -> Arg<'a>
+    ensures { IsArgument workers_rule result }
+{
+    Arg::new(alloc, "workers")
+        .long("workers")
+        .action(ArgAction::Set)
+        .value_name("N")
+        .value_parser(value_parser!(u64).range(1..=16))
+        .default_value("1")
+        .help("How many threads work at the exploration, from 1 to 16")
+}
+
 // An option that stands alone.
 fn flag<'a>(alloc: Global, name: &'a str, help: &'a str) -> Arg<'a>
     ensures { IsArgument (flag_rule name.entry.now) result }
@@ -127,7 +138,7 @@ pub(crate) fn found_options(matches: &ArgMatches<'_>) -> Option<Options>
         depth: found_number(given, "depth")?,
         nodes: found_number(given, "nodes")?,
         budget: BUDGET,
-        workers: WORKERS,
+        workers: found_number(given, "workers")?,
         flags: Flags {
             allow_deadlock: given.get_flag("allow-deadlock"),
             strict_access: given.get_flag("strict-access"),

@@ -1,5 +1,5 @@
 -- What an exploration of the program comes to, by the bytes that it is given.
-use Rattle.std.specs.Prelude.{◌≡◌, ◌≤◌, ℕ, Bool, true, List, [], ◌∷◌, Option, Result, Ok, Err}
+use Rattle.std.specs.Prelude.{◌≡◌, ℕ, Bool, true, List, [], ◌∷◌, Option, Result, Ok, Err}
 use Rattle.core_tree.specs.Syntax.{ModuleTree}
 use Rattle.core_reader.specs.ModuleText.{SpellsModule}
 use Rattle.core_reader.specs.Refusal.{IsRefusalOf}
@@ -12,7 +12,8 @@ use Rattle.findings.specs.Identities.{flags_in}
 use Rattle.findings.specs.declared.options.Options.{Options}
 use Rattle.findings.specs.declared.outcome.Outcome.{Outcome}
 use Rattle.findings.specs.declared.outcome.Outcome.TheVariants as outcomes
-use Rattle.search_crew.specs.Outcomes.{IsOutcome, IsExact, explored_by}
+use Rattle.search_crew.specs.Outcomes.{IsOutcome, IsExact}
+use Rattle.sleep_tree.specs.Explorations.{explored_by}
 use Rattle.report_text.specs.ReportText.{text_of_report}
 use Rattle.explorer_engine.specs.Engine.{WritesNothing}
 use Rattle.explorer_engine.specs.declared.verdict.RunFault.{RunFault}
@@ -49,20 +50,20 @@ pub record IsBrokenReport (input : List ℕ) (options : Options) (old new : Opti
   pub explored : IsExplored input options outcome
   pub broken : BreaksOff old new failed (text_of_report options.depth outcome)
 
--- the input is a module, and there was no memory to begin its search
-pub record IsNotBegun (input : List ℕ) (old new : Option (List ℕ)) (failed : Bool) : Type 0 where
+-- the input is a module, and the search of its schedules has no outcome
+pub record HasNoOutcome (input : List ℕ) (old new : Option (List ℕ)) (failed : Bool) : Type 0 where
   pub program : ModuleTree
   pub module_text : SpellsModule input program
   pub quiet : WritesNothing old new failed
 
--- an exploration wrote its report; or the input was refused as a module, or could not be read, or the search was not begun, and nothing was written; or the output failed, at a write or at the flush
+-- an exploration wrote its report; or the input was refused as a module, or could not be read, or the search has no outcome, and nothing was written; or the output failed, at a write or at the flush
 abbrev pub IsExplorationOf : List ℕ → Options → (old new : Option (List ℕ)) → Bool → Result Verdict RunFault → Type 0
 IsExplorationOf input options old new failed (Ok verdict) = IsReportOf input options old new failed verdict
 IsExplorationOf input options old new failed (Err (run.Input fault)) = IsRefusalOf input fault × WritesNothing old new failed
 IsExplorationOf input options old new failed (Err run.ReadFailed) = WritesNothing old new failed
 IsExplorationOf input options old new failed (Err (run.Schedule fault)) = ⊥
 IsExplorationOf input options old new failed (Err (run.Replay fault)) = ⊥
-IsExplorationOf input options old new failed (Err (run.Explore fault)) = IsNotBegun input old new failed
+IsExplorationOf input options old new failed (Err (run.Explore fault)) = HasNoOutcome input old new failed
 IsExplorationOf input options old new failed (Err run.Output) = IsBrokenReport input options old new failed
 
 -- no schedule of the module shows an error that has at most so many steps
@@ -72,9 +73,3 @@ ShowsNoError m options = (i : Identity) → is_error (flags_in options.flags) i 
 -- clean means none
 abbrev pub IsCleanIfSaid : List ℕ → Options → Result Verdict RunFault → Type 0
 IsCleanIfSaid input options result = result ≡ Ok Clean → (m : ModuleTree) → SpellsModule input m → ShowsNoError m options
-
--- the options that a search takes: it visits some nodes of a job, and may visit no more than this
-pub record AreTaken (options : Options) : Type 0 where
-  pub some_budget : 1 ≤ options.budget
-  pub budget : options.budget ≤ 10000000
-  pub nodes : options.nodes ≤ 10000000

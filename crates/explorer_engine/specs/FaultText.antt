@@ -52,4 +52,6 @@ text_of_fault run.ReadFailed = codes "input: read failed\n"
 text_of_fault (run.Schedule fault) = text_of_schedule_fault fault
 text_of_fault (run.Replay fault) = text_of_replay_fault fault
 text_of_fault (run.Explore search.Memory) = codes "explore: 1 Memory\n"
+text_of_fault (run.Explore search.NoThread) = codes "explore: 2 NoThread\n"
+text_of_fault (run.Explore search.StrangePool) = codes "explore: 3 StrangePool\n"
 text_of_fault run.Output = codes "output failed\n"

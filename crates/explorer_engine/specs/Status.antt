@@ -35,6 +35,8 @@ status_of_fault run.ReadFailed = 2
 status_of_fault (run.Schedule fault) = status_of_schedule_fault fault
 status_of_fault (run.Replay fault) = status_of_replay_fault fault
 status_of_fault (run.Explore search.Memory) = 3
+status_of_fault (run.Explore search.NoThread) = 3
+status_of_fault (run.Explore search.StrangePool) = 3
 status_of_fault run.Output = 4
 
 -- of what was not refused: done, or without an error; with errors; nodes were left

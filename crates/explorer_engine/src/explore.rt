@@ -1,9 +1,9 @@
 // An exploration of the program, from the bytes that it is given to the report that it writes.
-ghost use Rattle.std.specs.Prelude.{◌≡◌, ◌==◌, true, false, IfSome, OnOk, Err};
+ghost use Rattle.std.specs.Prelude.{◌≡◌, ◌==◌, ◌≤◌, true, false, IfSome, OnOk, Err};
 ghost use Rattle.report_text.specs.ReportText.{text_of_report};
 ghost use Rattle.term_core.specs.Stream.{Writes};
 ghost use Rattle.explorer_engine.specs.Engine.{IsRefusedBefore, IsHandedOn, WritesNothing};
-ghost use Rattle.explorer_engine.specs.Explored.{AreTaken, IsCleanIfSaid, IsExplorationOf, complete_verdict, verdict_of};
+ghost use Rattle.explorer_engine.specs.Explored.{IsCleanIfSaid, IsExplorationOf, complete_verdict, verdict_of};
 ghost use Rattle.explorer_engine.specs.Status.{status_of};
 
 use crate::input::read_input;
@@ -14,19 +14,23 @@ use findings::{FindingList, Options, Outcome};
 use report_text::write_report;
 use search_crew::{Gate, search};
 use std::alloc::Global;
+use std::sync::Wait;
+use std::thread::Threads;
 use term_core::{Sink, Source, WriteFault};
 
 /// Reads a module from the source, visits the tree of its schedules within the options, and writes the report to the
 /// sink, which is flushed at the end: each error, and each table call that is refused, that some schedule of at most
-/// so many steps shows, with the least schedule of a node that shows it. The gate is told of the work. Nothing is
-/// written before the search has ended.
+/// so many steps shows, with the least schedule of a node that shows it. The work is done by as many threads as
+/// the options say; how many there are changes nothing of the report of a complete exploration. The gate is told of the
+/// work. Nothing is written before the search has ended.
 ///
 /// # Errors
 ///
-/// `Input` where the source gives no module, `ReadFailed` where it cannot be read, `Explore` where there was no memory
-/// to begin the search, and then nothing was written. `Output` where the sink has failed, at a write or at the flush:
+/// `Input` where the source gives no module, `ReadFailed` where it cannot be read, `Explore` where the search has no
+/// outcome, and then nothing was written. `Output` where the sink has failed, at a write or at the flush:
 /// then a beginning of the report was written.
-pub fn run_explore<R: Source, G: Gate, W: Sink>(
+pub fn run_explore<T: Threads + Wait + Sync, R: Source, G: Gate + Sync, W: Sink>(
+    rt: &T,
     alloc: Global,
     source: &mut R,
     options: &Options,
@@ -35,7 +39,7 @@ pub fn run_explore<R: Source, G: Gate, W: Sink>(
 ) -> Result<Verdict, RunFault>
     requires readable { R.has_failed source.old ≡ false }
     requires writable { W.has_failed sink.old ≡ false }
-    requires options { AreTaken options.now }
+    requires budget { 1 ≤ options.now.budget }
 
     // Where the source reports its bytes.
     ensures run { IfSome (R.remaining source.old) (λ input.
@@ -53,7 +57,7 @@ pub fn run_explore<R: Source, G: Gate, W: Sink>(
     texts_say_one_module();
     let text = read_input(alloc, source)?;
     let program = read_module(alloc, &text)?;
-    let outcome = search(alloc, &program, options, gate)?;
+    let outcome = search(rt, alloc, &program, options, gate)?;
     write_and_flush(sink, options.depth, &outcome)?;
     Ok(verdict_of(&outcome))
 }

@@ -22,6 +22,8 @@ pub fn write_fault<W: Sink>(sink: &mut W, fault: &RunFault) -> Result<(), WriteF
         RunFault::Schedule(fault) => write_schedule_fault(sink, fault),
         RunFault::Replay(fault) => write_replay_fault(sink, fault),
         RunFault::Explore(SearchFault::Memory) => write_all(sink, b"explore: 1 Memory\n"),
+        RunFault::Explore(SearchFault::NoThread) => write_all(sink, b"explore: 2 NoThread\n"),
+        RunFault::Explore(SearchFault::StrangePool) => write_all(sink, b"explore: 3 StrangePool\n"),
         RunFault::Output => write_all(sink, b"output failed\n"),
     }
 }

@@ -17,6 +17,8 @@ use command_words::{Words, read_words};
 use search_crew::Gate;
 use std::alloc::Global;
 use std::convert::AsStr;
+use std::sync::Wait;
+use std::thread::Threads;
 use term_core::{Sink, Source, WriteFault, write_all};
 
 /// The exit status where the words are not those of a command, or there was no memory for them.
@@ -30,7 +32,8 @@ pub const NO_MEMORY_FOR_WORDS: &[u8] = b"error: out of memory\n";
 /// transcript or the report to the output and flushes that, and reports a refusal by its line on the third stream,
 /// which it does not flush. The gate is told of the work of an exploration. Where the words are refused, with status
 /// 64, the third stream gets the parser's text, and the output nothing.
-pub fn run<S: AsStr, R: Source, W: Sink, E: Sink, G: Gate>(
+pub fn run<T: Threads + Wait + Sync, S: AsStr, R: Source, W: Sink, E: Sink, G: Gate + Sync>(
+    rt: &T,
     alloc: Global,
     words: &[S],
     input: &mut R,
@@ -52,7 +55,7 @@ pub fn run<S: AsStr, R: Source, W: Sink, E: Sink, G: Gate>(
 {
     match read_words(alloc, words) {
         Ok(asked) => {
-            let outcome = run_asked(alloc, &asked, input, gate, output);
+            let outcome = run_asked(rt, alloc, &asked, input, gate, output);
             report(&outcome, errors)
         }
         Err(error) => {
@@ -63,7 +66,8 @@ pub fn run<S: AsStr, R: Source, W: Sink, E: Sink, G: Gate>(
 }
 
 // Does what was asked for.
-fn run_asked<R: Source, G: Gate, W: Sink>(
+fn run_asked<T: Threads + Wait + Sync, R: Source, G: Gate + Sync, W: Sink>(
+    rt: &T,
     alloc: Global,
     asked: &Words,
     input: &mut R,
@@ -80,7 +84,7 @@ fn run_asked<R: Source, G: Gate, W: Sink>(
 {
     match asked {
         Words::Replay(schedule) => run_replay(alloc, input, schedule.as_str(), output),
-        Words::Explore(options) => run_explore(alloc, input, options, gate, output),
+        Words::Explore(options) => run_explore(rt, alloc, input, options, gate, output),
     }
 }
 

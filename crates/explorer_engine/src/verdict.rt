@@ -105,8 +105,8 @@ impl From<WriteFault> for RunFault {
 }
 
 /// The exit status of a run: 0 where it was done or found no error, 1 where it visited all nodes and found errors, 2
-/// where what it was given was refused, 3 where there was no memory or nodes were left, and 4 where its output could
-/// not be written.
+/// where what it was given was refused, 3 where there was no memory, nodes were left or the search has no outcome, and 4
+/// where its output could not be written.
 pub fn status(outcome: &Result<Verdict, RunFault>) -> u8
     ensures { result ≡ status_of outcome.now }
 {
@@ -138,6 +138,8 @@ fn fault_status(fault: &RunFault) -> u8
         RunFault::Schedule(fault) => schedule_status(fault),
         RunFault::Replay(fault) => replay_status(fault),
         RunFault::Explore(SearchFault::Memory) => 3,
+        RunFault::Explore(SearchFault::NoThread) => 3,
+        RunFault::Explore(SearchFault::StrangePool) => 3,
         RunFault::Output => 4,
     }
 }

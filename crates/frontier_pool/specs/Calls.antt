@@ -32,10 +32,14 @@ pub record HandsOut (s : Seen) (ticket : TicketSeen) (job : JobSeen) (t : Seen) 
   pub is_job : IsJobOf s.exploration ticket job
   pub leaves : t ≡ record { exploration = s.exploration; limit = s.limit; standing = t.standing; events = s.events ++ Took ticket.number ∷ []; stop = s.stop }
 
+-- no job is open, some are out, and nothing has stopped it
+abbrev pub IsIdle : Seen → Type 0
+IsIdle s = (s.stop ≡ None) × (s.standing.todo ≡ []) × (s.standing.out ≢ [])
+
 -- what a take answers and leaves
 abbrev pub TakesTo : Seen → Taken → Seen → Type 0
 TakesTo s (Work ticket job) t = HandsOut s ticket job t
-TakesTo s Idle t = (t ≡ s) × (s.stop ≡ None) × (s.standing.todo ≡ []) × (s.standing.out ≢ [])
+TakesTo s Idle t = (t ≡ s) × IsIdle s
 TakesTo s Finished t = (t ≡ s) × (s.stop ≡ None) × (s.standing.todo ≡ []) × (s.standing.out ≡ [])
 TakesTo s Stopped t = (t ≡ s) × (s.stop ≢ None)
 

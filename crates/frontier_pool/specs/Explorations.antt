@@ -2,16 +2,9 @@
 use Rattle.std.specs.List.{AllByRecursion}
 use Rattle.std.specs.Prelude.{◌≡◌, List}
 use Rattle.core_tree.specs.Sameness.{bare_module}
-use Rattle.core_tree.specs.Syntax.{ModuleTree}
 use Rattle.coverage.specs.Jobs as tree
 use Rattle.coverage.specs.Jobs.{Job, Node}
-use Rattle.findings.specs.Identities.{flags_in}
-use Rattle.findings.specs.declared.options.Options.{Options}
 use Rattle.sleep_tree.specs.Explorations.{ExplorationSeen, JobSeen, TicketSeen, program_in, nodes_of, findings_of}
-
--- the exploration of a module that the options ask for
-abbrev pub explored_by : ModuleTree → Options → ExplorationSeen
-explored_by m options = record { program = m; depth = options.depth; flags = flags_in options.flags }
 
 -- two explorations are one: the same modules but for the places of their parts in the text, to one depth, under the same flags
 pub record AreOne (e f : ExplorationSeen) : Type 0 where

@@ -1,7 +1,7 @@
 // The jobs that are open and out, and what is done: a pool without its seats.
-ghost use Rattle.std.specs.Prelude.{◌≡◌, ◌≢◌, ℕ, ◌+◌, ◌^◌, ◌<◌, ◌≤◌, true, length, [], None, IfOk, IfErr, OnOk, OnErr};
-ghost use Rattle.frontier_pool.specs.Calls.{Accepts, ComesTo, IsDone, IsOwn, RefusesTo, TakesTo, opened, stop_after, stopped_seen};
-ghost use Rattle.frontier_pool.specs.Explorations.{explored_by};
+ghost use Rattle.std.specs.Prelude.{◌≡◌, ℕ, ◌+◌, ◌^◌, ◌<◌, ◌≤◌, true, false, length, [], None, IfOk, IfErr, OnOk, OnErr};
+ghost use Rattle.frontier_pool.specs.Calls.{Accepts, ComesTo, IsDone, IsIdle, IsOwn, RefusesTo, TakesTo, opened, stop_after, stopped_seen};
+ghost use Rattle.sleep_tree.specs.Explorations.{explored_by};
 ghost use Rattle.frontier_pool.specs.Machine.{IsLegal};
 ghost use Rattle.frontier_pool.specs.Seen.{listed};
 ghost use Rattle.frontier_pool.specs.Sums.{AddsUp, SumsUp};
@@ -247,7 +247,8 @@ impl<'m> Frontier<'m> {
 
     /// Whether a `take` would answer `Idle`. It takes no memory.
     pub fn is_idle(&self) -> bool
-        ensures { result ≡ true → (self.now.stop ≡ None) × (self.now.standing.todo ≡ []) × (self.now.standing.out ≢ []) }
+        ensures idle { result ≡ true → IsIdle self.now }
+        ensures busy { result ≡ false → IsIdle self.now → ⊥ }
     {
         if let Some(_) = self.stop {
             return false;

@@ -1,7 +1,7 @@
 // What lies under the lock of a pool.
-ghost use Rattle.std.specs.Prelude.{◌≡◌, ◌≢◌, ℕ, ◌+◌, ◌≤◌, true, [], None, IfOk, IfErr, OnOk, OnErr, length, sum, vec_len};
-ghost use Rattle.frontier_pool.specs.Calls.{Accepts, ComesTo, IsDone, IsOwn, RefusesTo, TakesTo, entries_in, opened, stopped_seen};
-ghost use Rattle.frontier_pool.specs.Explorations.{explored_by};
+ghost use Rattle.std.specs.Prelude.{◌≡◌, ℕ, ◌+◌, ◌≤◌, true, false, [], None, IfOk, IfErr, OnOk, OnErr, length, sum, vec_len};
+ghost use Rattle.frontier_pool.specs.Calls.{Accepts, ComesTo, IsDone, IsIdle, IsOwn, RefusesTo, TakesTo, entries_in, opened, stopped_seen};
+ghost use Rattle.sleep_tree.specs.Explorations.{explored_by};
 ghost use Rattle.frontier_pool.specs.Machine.{IsLegal};
 ghost use Rattle.frontier_pool.specs.Seen.{listed};
 ghost use Rattle.frontier_pool.specs.Sums.{AddsUp, SumsUp};
@@ -193,7 +193,8 @@ impl<'m, N: PoolName> PoolState<'m, N> {
 
     /// Whether a `take` would answer `Idle`. It takes no memory.
     pub fn is_idle(&self) -> bool
-        ensures { result ≡ true → (self.now.stop ≡ None) × (self.now.standing.todo ≡ []) × (self.now.standing.out ≢ []) }
+        ensures idle { result ≡ true → IsIdle self.now }
+        ensures busy { result ≡ false → IsIdle self.now → ⊥ }
     {
         self.frontier.is_idle()
     }

@@ -1,8 +1,10 @@
-// The program: names the three streams and the words, and does the rest in `explorer_engine`.
+// The program: names the three streams and the words, tells how far it is, and does the rest in `explorer_engine`.
 #![tactic(auto)]
 
+mod progress;
+
 use explorer_engine::{WORDS_REFUSED, run};
-use sleep_tree::Unwatched;
+use progress::{Erasing, Progress};
 use std::env;
 use std::io::BufWriter;
 use std::process::ExitCode;
@@ -20,26 +22,29 @@ fn main(rt: HostRuntime) -> ExitCode {
     let Some(words) = words_of(&rt) else {
         return ExitCode::from(WORDS_REFUSED);
     };
+    let progress = Progress::new(&rt, rt.stderr());
     let mut input = Input::new(rt.stdin());
-    let mut errors = Output::new(rt.stderr());
-    let status = match BufWriter::new(alloc, rt.stdout()) {
+    let mut errors = Output::new(Erasing::new(&progress, rt.stderr()));
+    let status = match BufWriter::new(alloc, Erasing::new(&progress, rt.stdout())) {
         Ok(writer) => run(
+            &rt,
             alloc,
             &words,
             &mut input,
             &mut Output::new(writer),
             &mut errors,
-            &Unwatched,
+            &progress,
         ),
         Err(_) => {
-            let mut output = Output::new(rt.stdout());
+            let mut output = Output::new(Erasing::new(&progress, rt.stdout()));
             run(
+                &rt,
                 alloc,
                 &words,
                 &mut input,
                 &mut output,
                 &mut errors,
-                &Unwatched,
+                &progress,
             )
         }
     };

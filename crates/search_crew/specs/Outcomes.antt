@@ -1,21 +1,14 @@
 -- What a search comes to.
 use Rattle.std.specs.Prelude.{◌≡◌, ◌≤◌, ◌<◌, ◌↔◌, ℕ, Bool, List, length, true}
-use Rattle.core_tree.specs.Syntax.{ModuleTree}
 use Rattle.world_model.specs.Names.{IsAmong}
 use Rattle.world_model.specs.Shown.{Identity, is_error, is_refusal}
 use Rattle.coverage.specs.Findings.{Finding, Findings, IsFound, findings_of}
 use Rattle.coverage.specs.Jobs.{node_count, root}
 use Rattle.coverage.specs.Shown.{IsShown, RunShows}
-use Rattle.findings.specs.Identities.{flags_in}
-use Rattle.findings.specs.declared.options.Options.{Options}
 use Rattle.findings.specs.declared.outcome.Cause.TheVariants.{NodeLimit, Memory}
 use Rattle.findings.specs.declared.outcome.Outcome.{Outcome}
 use Rattle.findings.specs.declared.outcome.Outcome.TheVariants.{Complete, Incomplete}
 use Rattle.sleep_tree.specs.Explorations.{ExplorationSeen, program_in}
-
--- the exploration of a module that the options ask for
-abbrev pub explored_by : ModuleTree → Options → ExplorationSeen
-explored_by m options = record { program = m; depth = options.depth; flags = flags_in options.flags }
 
 -- what all nodes of the tree show, and how many they are
 abbrev pub all_findings : ExplorationSeen → Findings

@@ -1,87 +1,141 @@
-// The search.
-ghost use Rattle.std.specs.Prelude.{◌≡◌, ◌≤◌, ◌++◌, IfOk, OnErr, OnOk, reverse};
-ghost use Rattle.findings.specs.Laws.{AddsSchedules};
-ghost use Rattle.search_crew.specs.Outcomes.{IsExact, IsOutcome, explored_by};
+// A search by several workers.
+ghost use Rattle.std.specs.Prelude.{◌≡◌, ◌+◌, ◌<◌, ◌≤◌, IfOk, vec_len, vec_capacity};
+ghost use Rattle.std.specs.Thread.{IsSend, IsSync};
+ghost use Rattle.search_crew.specs.Outcomes.{IsExact, IsOutcome};
+ghost use Rattle.sleep_tree.specs.Explorations.{explored_by};
 
 use crate::fault::SearchFault;
+use crate::worker::{Back, work};
 use core_tree::Module;
-use findings::{Cause, Findings, Options, Outcome};
-use sleep_tree::{Gate, Job, expand};
-use std::alloc::{AllocError, Global};
+use findings::{Options, Outcome};
+use frontier_pool::laws::places_do_not_matter;
+use frontier_pool::{Pool, PoolName, PoolState, Seat};
+use sleep_tree::Gate;
+use std::alloc::Global;
+use std::marker::Brand;
+use std::sync::Wait;
+use std::sync::ledger::Blank;
+use std::thread;
+use std::thread::Threads;
 
-// Puts jobs on a stack, the first of them on top. `AllocError` if there is no memory for it.
-fn push_all<'m>(stack: &mut Vec<Job<'m>>, jobs: Vec<Job<'m>>) -> Result<(), AllocError>
-    ensures { OnOk result (stack.new.items ≡ stack.old.items ++ reverse jobs.entry.items) }
+/// Puts an item behind the others, where there is room for it.
+fn put<T: Drop>(items: &mut Vec<T>, item: T)
+    requires { vec_len items.old < vec_capacity items.old }
+    ensures len { vec_len items.new ≡ vec_len items.old + 1 }
+    ensures capacity { vec_capacity items.old ≤ vec_capacity items.new }
 {
-    let mut jobs = jobs;
-    while let Some(job) = jobs.pop() {
-        stack.push(job)?;
+    if items.push(item).is_err() {
+        unreachable!();
     }
-    Ok(())
 }
 
-// Adds a piece to what was found and to the jobs on a stack. `AllocError` if there is no memory for it, and then
-// nothing is added to what was found.
-fn take_in<'m>(
-    findings: &mut Findings,
-    stack: &mut Vec<Job<'m>>,
-    more: Findings,
-    rest: Vec<Job<'m>>,
-) -> Result<(), AllocError>
-    ensures found { OnOk result (AddsSchedules findings.old more findings.new) }
-    ensures pushed { OnOk result (stack.new.items ≡ stack.old.items ++ reverse rest.entry.items) }
-    ensures err { OnErr result (findings.new ≡ findings.old) }
+/// Starts a worker at each seat, and joins them all: the seats come back. `Memory` where there was no room for the
+/// workers, `NoThread` where one could not be started, `StrangePool` where the pool refused a piece.
+fn work_together<'m, N: PoolName + Send + Sync, R: Threads + Wait + Sync, G: Gate + Sync>(
+    rt: &R,
+    alloc: Global,
+    pool: &Pool<'m, N>,
+    seats: Vec<Seat<N>>,
+    budget: u64,
+    gate: &G,
+) -> Result<Vec<Seat<N>>, SearchFault>
+    requires { 1 ≤ budget }
 {
-    push_all(stack, rest)?;
-    findings.merge(more)
+    let workers = seats.len();
+    let mut handles = Vec::with_capacity(alloc, workers)?;
+    let mut back = Vec::with_capacity(alloc, workers)?;
+    thread::scope(
+        thread::scope_env(),
+        rt,
+        move |scope| -> Result<Vec<Seat<N>>, SearchFault>
+            requires shared { IsSend N.row × IsSync N.row × IsSync R.row × IsSync G.row }
+            requires budget { 1 ≤ budget }
+            requires room { (vec_len seats ≤ vec_capacity handles) × (vec_len seats ≤ vec_capacity back) × (vec_len handles ≡ 0) × (vec_len back ≡ 0) }
+        {
+            let mut fault = Ok(());
+            let mut seats = seats;
+            while let Some(seat) = seats.pop() {
+                match scope.spawn(move || work(rt, alloc, pool, seat, budget, gate)) {
+                    Ok(handle) => put(&mut handles, handle),
+                    Err(_) => {
+                        pool.stop(rt);
+                        fault = Err(SearchFault::NoThread);
+                        break;
+                    }
+                }
+            }
+            while let Some(handle) = handles.pop() {
+                let Back { seat, is_strange } = handle.join(rt);
+                if is_strange {
+                    fault = fault.and(Err(SearchFault::StrangePool));
+                }
+                put(&mut back, seat);
+            }
+            fault?;
+            Ok(back)
+        },
+    )
+}
+
+/// The search at a pool that has a name.
+fn searched<N: PoolName + Send + Sync, R: Threads + Wait + Sync, G: Gate + Sync>(
+    rt: &R,
+    alloc: Global,
+    blank: Blank,
+    program: &Module,
+    options: &Options,
+    gate: &G,
+) -> Result<Outcome, SearchFault>
+    requires name { blank.name ≡ N.name }
+    requires parts { blank.parts ≡ N.parts }
+    requires seats { (N.seats ≡ N.parts) × (options.now.workers ≡ N.seats) }
+    requires budget { 1 ≤ options.now.budget }
+    ensures outcome { IfOk result (λ outcome. IsOutcome (explored_by program.now options.now) options.now.nodes outcome) }
+    ensures exact { IfOk result (λ outcome. IsExact (explored_by program.now options.now) outcome) }
+{
+    places_do_not_matter();
+    let (state, seats) = PoolState::<'_, N>::open(alloc, blank, program, options)?;
+    let pool = Pool::new(state);
+    let seats = work_together(rt, alloc, &pool, seats, options.budget, gate)?;
+    let state = pool.into_state();
+    match state.finish(seats, program, options) {
+        Ok(outcome) => Ok(outcome),
+        Err(_) => Err(SearchFault::StrangePool),
+    }
 }
 
 /// Visits the nodes of the tree of schedules with sleep sets (Godefroid, "Partial-Order Methods for the Verification of
-/// Concurrent Systems"), depth first, each once: what they show, and how many they are. The gate is told of each node
-/// before it is visited, and of each job after it was expanded; jobs are numbered from 1.
+/// Concurrent Systems"), each once, by so many workers: what they show, and how many they are. Each worker is a thread
+/// of its own; it takes a job from a pool, expands it while no lock is held, and gives back what it found and the jobs
+/// that are left. The gate is told of each node before it is visited, and of each job after its piece was accepted;
+/// jobs are numbered from 1.
 ///
 /// It is `Complete` where all nodes were visited, which are at most as many as may be; `Incomplete` for `NodeLimit` only
-/// where they are more, and for `Memory` where there was none: then each finding is shown by its schedule. The budget,
-/// how many nodes of a job are visited before the next one is taken, changes nothing of a complete search.
+/// where they are more, and for `Memory` where there was none: then each finding is shown by its schedule. How many
+/// workers there are, and how many nodes of a job one visits before it gives the job back, change nothing of a complete
+/// search. It returns when all workers have ended.
 ///
 /// # Errors
 ///
-/// `Memory` where there was none for the first job.
-pub fn search<G: Gate>(
+/// `Memory` where there was none before a worker was started, `NoThread` where one could not be started, `StrangePool`
+/// where the pool refused a piece or its end.
+pub fn search<R: Threads + Wait + Sync, G: Gate + Sync>(
+    rt: &R,
     alloc: Global,
     program: &Module,
     options: &Options,
     gate: &G,
 ) -> Result<Outcome, SearchFault>
     requires some { 1 ≤ options.now.budget }
-    requires budget { options.now.budget ≤ 10000000 }
-    requires nodes { options.now.nodes ≤ 10000000 }
     ensures outcome { IfOk result (λ outcome. IsOutcome (explored_by program.now options.now) options.now.nodes outcome) }
     ensures exact { IfOk result (λ outcome. IsExact (explored_by program.now options.now) outcome) }
 {
-    let mut stack = Vec::new(alloc);
-    let root = Job::root(alloc, program, options)?;
-    stack.push(root)?;
-    let mut findings = Findings::new(alloc);
-    let mut nodes = 0;
-    let mut number = 0;
-    while let Some(job) = stack.pop() {
-        let mut job = job;
-        number += 1;
-        job.set_number(number);
-        let Ok(piece) = expand(alloc, job, options.budget, gate) else {
-            return Ok(Outcome::Incomplete(Cause::Memory, findings));
-        };
-        let visited = piece.nodes();
-        let (more, rest) = piece.into_parts();
-        let Ok(()) = take_in(&mut findings, &mut stack, more, rest) else {
-            return Ok(Outcome::Incomplete(Cause::Memory, findings));
-        };
-        gate.given(number);
-        nodes += visited;
-        if nodes > options.nodes {
-            return Ok(Outcome::Incomplete(Cause::NodeLimit, findings));
-        }
-    }
-    Ok(Outcome::Complete(findings, nodes))
+    searched::<Brand, R, G>(
+        rt,
+        alloc,
+        Blank::new(options.workers),
+        program,
+        options,
+        gate,
+    )
 }

@@ -1,14 +1,18 @@
-// Why a search cannot be begun.
+// Why a search has no outcome.
 ghost use Rattle.std.specs.Prelude.{◌≡◌};
 ghost use Rattle.search_crew.specs.declared.fault.SearchFault.TheVariants.{Memory as MemoryFault};
 
 use std::alloc::{AllocError, AllocFailed};
 
-/// Why a search was not begun.
+/// Why a search has no outcome.
 #[derive(Clone, Copy, Debug, PartialEq, Eq)]
 pub enum SearchFault {
-    /// There was no memory for the first job.
+    /// There was no memory for the first job, the seats or the room for the workers: no worker was started.
     Memory,
+    /// A worker could not be started. Those that were have ended.
+    NoThread,
+    /// The pool refused a piece, or its end.
+    StrangePool,
 }
 
 impl From<AllocError> for SearchFault {

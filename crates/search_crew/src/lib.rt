@@ -1,8 +1,9 @@
-// The search: the jobs of an exploration, expanded one after another.
+// The search: workers take the jobs of an exploration from a pool, expand them, and give them back.
 #![tactic(auto)]
 
 pub mod crew;
 pub mod fault;
+mod worker;
 
 pub use crew::search;
 pub use fault::SearchFault;

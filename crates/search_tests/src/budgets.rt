@@ -7,15 +7,15 @@ use findings::{Flags, Options, Outcome};
 use report_text::write_report;
 use search_crew::{Unwatched, search};
 use std::alloc::Global;
+use std::sync::Wait;
 use std::test::Fail;
+use std::thread::Threads;
 use term_core::{Output, WriteFault};
 use test_support::same;
 
-// What is explored, with a budget.
-fn options(depth: u64, budget: u64) -> Options
-    ensures depth { result.depth ≡ depth }
+/// What is explored, with a budget.
+pub(crate) fn options(depth: u64, budget: u64) -> Options
     ensures budget { result.budget ≡ budget }
-    ensures nodes { result.nodes ≡ 1000000 }
 {
     Options {
         depth,
@@ -29,19 +29,24 @@ fn options(depth: u64, budget: u64) -> Options
     }
 }
 
-// The text of a report.
-fn text_of(alloc: Global, depth: u64, outcome: &Outcome) -> Result<Vec<u8>, WriteFault> {
+/// The text of a report.
+pub(crate) fn text_of(alloc: Global, depth: u64, outcome: &Outcome) -> Result<Vec<u8>, WriteFault> {
     let mut sink = Output::new(Vec::new(alloc));
     write_report(&mut sink, depth, outcome)?;
     Ok(sink.writer)
 }
 
 // The report with a budget.
-fn reported(alloc: Global, program: &Module, depth: u64, budget: u64) -> Result<Vec<u8>, Fail>
-    requires some { 1 ≤ budget }
-    requires most { budget ≤ 10000000 }
+fn reported<T: Threads + Wait + Sync>(
+    rt: &T,
+    alloc: Global,
+    program: &Module,
+    depth: u64,
+    budget: u64,
+) -> Result<Vec<u8>, Fail>
+    requires { 1 ≤ budget }
 {
-    let Ok(outcome) = search(alloc, program, &options(depth, budget), &Unwatched) else {
+    let Ok(outcome) = search(rt, alloc, program, &options(depth, budget), &Unwatched) else {
         return Err(Fail::from("the search was not begun"));
     };
     let text = text_of(alloc, depth, &outcome)?;
@@ -49,12 +54,17 @@ fn reported(alloc: Global, program: &Module, depth: u64, budget: u64) -> Result<
 }
 
 // Whether the report of a module is the same with budgets of 1, 2 and 64.
-fn budgets_change_nothing_of(alloc: Global, text: &str, depth: u64) -> Result<(), Fail> {
+fn budgets_change_nothing_of<T: Threads + Wait + Sync>(
+    rt: &T,
+    alloc: Global,
+    text: &str,
+    depth: u64,
+) -> Result<(), Fail> {
     let program = read_module(alloc, text.as_bytes())?;
-    let many = reported(alloc, &program, depth, 64)?;
-    let two = reported(alloc, &program, depth, 2)?;
+    let many = reported(rt, alloc, &program, depth, 64)?;
+    let two = reported(rt, alloc, &program, depth, 2)?;
     same(two.as_slice(), many.as_slice())?;
-    let one = reported(alloc, &program, depth, 1)?;
+    let one = reported(rt, alloc, &program, depth, 1)?;
     same(one.as_slice(), many.as_slice())
 }
 
@@ -70,17 +80,22 @@ const EXPLORED: [(&str, u64); 5] = [
 #[test]
 fn budgets_change_nothing(rt: HostRuntime) -> Result<(), Fail> {
     for (text, depth) in EXPLORED {
-        budgets_change_nothing_of(rt.alloc(), text, depth)?;
+        budgets_change_nothing_of(&rt, rt.alloc(), text, depth)?;
     }
     Ok(())
 }
 
 // The nodes of a clean exploration.
-fn counted(alloc: Global, program: &Module, depth: u64, budget: u64) -> Result<u64, Fail>
-    requires some { 1 ≤ budget }
-    requires most { budget ≤ 10000000 }
+fn counted<T: Threads + Wait + Sync>(
+    rt: &T,
+    alloc: Global,
+    program: &Module,
+    depth: u64,
+    budget: u64,
+) -> Result<u64, Fail>
+    requires { 1 ≤ budget }
 {
-    match search(alloc, program, &options(depth, budget), &Unwatched) {
+    match search(rt, alloc, program, &options(depth, budget), &Unwatched) {
         Ok(Outcome::Complete(found, nodes)) => {
             if found.errors().len() == 0 && found.refusals().len() == 0 {
                 return Ok(nodes);
@@ -98,8 +113,16 @@ const NODES: [(u64, u64); 3] = [(40, 22), (17, 18), (16, 17)];
 fn a_line_has_a_node_for_each_turn(rt: HostRuntime) -> Result<(), Fail> {
     let program = read_module(rt.alloc(), LINE.as_bytes())?;
     for (depth, nodes) in NODES {
-        assert_eq!(rt; counted(rt.alloc(), &program, depth, 1)?, nodes, "{depth}");
-        assert_eq!(rt; counted(rt.alloc(), &program, depth, 64)?, nodes, "{depth}");
+        assert_eq!(rt;
+            counted(&rt, rt.alloc(), &program, depth, 1)?,
+            nodes,
+            "{depth}"
+        );
+        assert_eq!(rt;
+            counted(&rt, rt.alloc(), &program, depth, 64)?,
+            nodes,
+            "{depth}"
+        );
     }
     Ok(())
 }

@@ -1,7 +1,9 @@
-// Tests of the search: explorations with several budgets.
+// Tests of the search: explorations with several budgets, and by several workers.
 #![tactic(auto)]
 
 #[cfg(test)]
 mod budgets;
 #[cfg(test)]
 mod modules;
+#[cfg(test)]
+mod workers;

@@ -8,6 +8,10 @@ pub(crate) const WRITERS: &str =
 pub(crate) const MAKERS: &str =
     "module 'm' ['main'/0,'c'/0] attributes [] 'main'/0 = fun () -> do call 'erlang':'spawn'('m','c',[]) call 'ets':'new'('a',[]) 'c'/0 = fun () -> call 'ets':'new'('b',[]) end";
 
+/// A process that writes into a table of another, which may have ended.
+pub(crate) const STRANGER: &str =
+    "module 'm' ['main'/0,'c'/0] attributes [] 'main'/0 = fun () -> do call 'ets':'new'('t',['named_table']) call 'erlang':'spawn'('m','c',[]) 'c'/0 = fun () -> call 'ets':'insert'('t',{'a',1}) end";
+
 /// One process that makes twenty references.
 pub(crate) const LINE: &str =
     "module 'm' ['main'/0] attributes [] 'main'/0 = fun () -> apply 'f'/1(20) 'f'/1 = fun (N) -> case N of <0> when 'true' -> 'ok' <M> when 'true' -> do call 'erlang':'make_ref'() apply 'f'/1(call 'erlang':'-'(M,1)) end end";

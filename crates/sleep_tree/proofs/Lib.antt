@@ -4,4 +4,3 @@ pub mod Snapshots
 pub mod Frames
 pub mod Passing
 pub mod Pieces
-pub mod Asleep

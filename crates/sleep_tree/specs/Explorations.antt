@@ -8,6 +8,7 @@ use Rattle.coverage.specs.Findings.{Findings, findings_among}
 use Rattle.coverage.specs.Jobs as tree
 use Rattle.coverage.specs.Jobs.{Job, Node, schedules_of}
 use Rattle.findings.specs.Identities.{flags_in}
+use Rattle.findings.specs.declared.options.Options.{Options}
 use Rattle.sleep_tree.specs.declared.exploration.Exploration.{Exploration}
 
 -- a module, how many steps a schedule may have, and what counts as an error
@@ -18,6 +19,10 @@ pub record ExplorationSeen : Type 0 where
 
 abbrev pub exploration_in : Exploration → ExplorationSeen
 exploration_in e = record { program = e.program.now; depth = e.depth; flags = flags_in e.flags }
+
+-- the one of a module that the options ask for
+abbrev pub explored_by : ModuleTree → Options → ExplorationSeen
+explored_by m options = record { program = m; depth = options.depth; flags = flags_in options.flags }
 
 -- the program that the module is
 abbrev pub program_in : ExplorationSeen → Program

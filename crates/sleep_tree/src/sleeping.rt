@@ -1,15 +1,13 @@
 // Which steps are taken at a node, and which sleep below one.
-ghost use Rattle.std.specs.Prelude.{◌≡◌, filter, not, reverse, false, IfOk};
+ghost use Rattle.std.specs.Prelude.{◌≡◌, filter, not, reverse, IfOk};
 ghost use Rattle.coverage.specs.Explored.{same_step};
 ghost use Rattle.coverage.specs.Jobs.{asleep_below};
 ghost use Rattle.sleep_sets.specs.Search.{is_among};
 ghost use Rattle.world_core.specs.Seen.{program_in};
-ghost use Rattle.world_model.specs.Run.{IsRun};
 
 use std::alloc::{AllocError, Global};
-use step_indep::asleep_below;
 use term_core::Step;
-use world_core::World;
+use world_core::{World, WorldFault};
 
 /// Whether a step sleeps.
 fn is_asleep(slept: &[Step], step: &Step) -> bool
@@ -42,20 +40,19 @@ pub(crate) fn awake_backwards(
 }
 
 /// The steps that sleep below a step, where more steps may follow. At the depth none is asked for, and no footprint is
-/// computed.
+/// computed. `Memory` where there is none.
 pub(crate) fn sleep_below(
     alloc: Global,
     world: &World<'_>,
     slept: &[Step],
     step: &Step,
     left: u64,
-) -> Result<Vec<Step>, AllocError>
-    requires lives { world.now.spent ≡ false }
-    requires is_run { IsRun (program_in world.now) world.now.history }
+) -> Result<Vec<Step>, WorldFault>
     ensures { IfOk result (λ asleep. (left ≡ 0 → ⊥) → asleep.items ≡ asleep_below (program_in world.now) world.now.history slept.now step.now) }
 {
     if left == 0 {
         return Ok(Vec::new(alloc));
     }
-    asleep_below(world.records(), alloc, slept, step)
+    let asleep = world.asleep_below(alloc, slept, step)?;
+    Ok(asleep)
 }

@@ -6,6 +6,7 @@ mod events;
 pub mod fault;
 pub mod laws;
 mod shows;
+mod sleeping;
 pub mod world;
 
 pub use fault::WorldFault;

@@ -24,13 +24,17 @@ depth_rule = record (new_rule (codes "depth")) { long = Some (codes "depth"); re
 abbrev pub nodes_rule : Rule
 nodes_rule = record (new_rule (codes "nodes")) { long = Some (codes "nodes"); action = Some Set; value_names = 1; parser = Some (Unsigned 1 10000000); defaults = codes "1000000" ∷ [] }
 
+-- `--workers N`
+abbrev pub workers_rule : Rule
+workers_rule = record (new_rule (codes "workers")) { long = Some (codes "workers"); action = Some Set; value_names = 1; parser = Some (Unsigned 1 16); defaults = codes "1" ∷ [] }
+
 -- an option that stands alone
 abbrev pub flag_rule : List ℕ → Rule
 flag_rule name = record (new_rule name) { long = Some name; action = Some SetTrue }
 
 -- `explore` with its options
 abbrev pub explore_command : App
-explore_command = with_rule (with_rule (with_rule (with_rule (new_app (codes "explore")) depth_rule) nodes_rule) (flag_rule (codes "allow-deadlock"))) (flag_rule (codes "strict-access"))
+explore_command = with_rule (with_rule (with_rule (with_rule (with_rule (new_app (codes "explore")) depth_rule) nodes_rule) workers_rule) (flag_rule (codes "allow-deadlock"))) (flag_rule (codes "strict-access"))
 
 -- the program's name and a subcommand, which has to be there
 abbrev pub program_command : App

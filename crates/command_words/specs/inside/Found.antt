@@ -31,13 +31,13 @@ pub record AreRead (rows : List Row) (options : Options) : Type 0 where
   pub depth : ReadsNumber (one_of (codes "depth") rows) (Some options.depth)
   pub nodes : ReadsNumber (one_of (codes "nodes") rows) (Some options.nodes)
   pub budget : options.budget ≡ 64
-  pub workers : options.workers ≡ 1
+  pub workers : ReadsNumber (one_of (codes "workers") rows) (Some options.workers)
   pub allow_deadlock : ReadsFlag (one_of (codes "allow-deadlock") rows) options.flags.allow_deadlock
   pub strict_access : ReadsFlag (one_of (codes "strict-access") rows) options.flags.strict_access
 
--- options are read where both numbers are there
+-- options are read where all numbers are there
 abbrev pub AreOptionsIn : List Row → Option Options → Type 0
-AreOptionsIn rows None = ReadsNumber (one_of (codes "depth") rows) None ⊎ ReadsNumber (one_of (codes "nodes") rows) None
+AreOptionsIn rows None = ReadsNumber (one_of (codes "depth") rows) None ⊎ (ReadsNumber (one_of (codes "nodes") rows) None ⊎ ReadsNumber (one_of (codes "workers") rows) None)
 AreOptionsIn rows (Some options) = AreRead rows options
 
 -- and where `explore` was found

@@ -13,14 +13,14 @@ returns c =
       depth = c.in_ok-found_number.field-0;
       nodes = c.in_ok-found_number-2.field-0;
       budget = 64;
-      workers = 1;
+      workers = c.in_ok-found_number-3.field-0;
       flags = record { allow_deadlock = c.get_flag.result; strict_access = c.get_flag-2.result };
     } in
     let read : AreRead (rows_of found) options = record {
       depth = c.in_ok-found_number.ensures;
       nodes = c.in_ok-found_number-2.ensures;
       budget = refl;
-      workers = refl;
+      workers = c.in_ok-found_number-3.ensures;
       allow_deadlock = flag_of found (codes "allow-deadlock") c.get_flag.result c.get_flag.ensures.value c.get_flag.ensures.other;
       strict_access = flag_of found (codes "strict-access") c.get_flag-2.result c.get_flag-2.ensures.value c.get_flag-2.ensures.other;
     } in

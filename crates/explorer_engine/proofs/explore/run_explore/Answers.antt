@@ -2,8 +2,16 @@ use Rattle.std.proofs.Common.{◌≡◌, ℕ, List, ap, subst, ◌∙◌}
 use Rattle.std.specs.Prelude.{Ok, Err}
 use Rattle.std.proofs.lemmas.Result.{err_from_is_err_and}
 use Rattle.core_reader.specs.ModuleText.{SpellsModule}
-use Rattle.explorer_engine.proofs.ExploredLaws.{broken, clean_means_none, not_begun, reported}
+use Rattle.core_reader.specs.Refusal.{IsRefusalOf}
+use Rattle.explorer_engine.proofs.ExploredLaws.{broken, clean_means_none, module_refused, not_begun, reported}
 use Rattle.explorer_engine.proofs.explore.run_explore.Goals as goal
+
+pub returns-in_err-program-clause-run : goal.returns-in_err-program-clause-run
+returns-in_err-program-clause-run g c =
+    let p = err_from_is_err_and c.from_residual-in_err-program.result c.from_residual-in_err-program.ensures.1 in
+    module_refused (g.R.Source.remaining c.args.source.now) c.in_ok-text.text.items c.args.options.now (g.W.Sink.contents c.args.sink.now) (g.W.Sink.has_failed c.args.sink.now)
+    c.in_err-program.field-0.0 c.from_residual-in_err-program.result (p.1 ∙ ap Err p.2) c.in_ok-text.ensures.input
+    (subst (λ (t : List ℕ). IsRefusalOf t c.in_err-program.field-0.0) c.deref.ensures.value c.in_err-program.ensures.refusal) c.requires.writable
 
 pub returns-in_err-outcome-clause-run : goal.returns-in_err-outcome-clause-run
 returns-in_err-outcome-clause-run g c =

@@ -107,6 +107,7 @@ fn reports_other_words(rt: HostRuntime) -> Result<(), Fail> {
         let mut output = MemorySink::with_room(rt.alloc(), 0)?;
         let mut errors = MemorySink::with_room(rt.alloc(), 4000)?;
         let status = run(
+            &rt,
             rt.alloc(),
             words,
             &mut input,

@@ -1,6 +1,6 @@
 -- Which steps stay asleep, in the words of the history that led there.
-use Rattle.std.proofs.Common.{◌≡◌, ◌&&◌, Bool, List, Option, Some, None, is_some, option_map, filter, refl, sym, subst, ◌∙◌}
-use Rattle.std.specs.Prelude.{IsSome, Result, Ok, Err, IfOk}
+use Rattle.std.proofs.Common.{◌≡◌, ◌&&◌, Bool, List, Option, Some, None, is_some, option_map, filter, refl, sym, subst}
+use Rattle.std.specs.Prelude.{IsSome}
 use Rattle.term_core.specs.declared.step.Step.{Step}
 use Rattle.world_model.specs.Events.{Deed, event, History}
 use Rattle.world_model.specs.Independence as model
@@ -35,9 +35,3 @@ same_independent a h s t = λ i.
 
 pub same_asleep : (a : Program) (h : History) (slept : List Step) (s : Step) → here.asleep_below a (contents h) slept s ≡ filter (model.are_independent a h s) slept
 same_asleep a h slept s = λ i. filter (λ t. same_independent a h s t i) slept
-
--- what an answer's items are at some module and contents, and what that is
-pub given_asleep : {T E M V : Type 0} (r : Result T E) (items : T → List Step) (Holds : M → V → Type 0) (Names : V → Type 0) (asleep : M → V → List Step) (m : M) (v : V) (More : Type 0) (other : List Step)
-    → IfOk r (λ x. (n : M) (u : V) → Holds n u → Names u → items x ≡ asleep n u) → Holds m v → Names v → asleep m v ≡ other → IfOk r (λ x. More → items x ≡ other)
-given_asleep (Ok x) items Holds Names asleep m v More other kept holds names same = λ some. kept m v holds names ∙ same
-given_asleep (Err e) items Holds Names asleep m v More other kept holds names same = kept

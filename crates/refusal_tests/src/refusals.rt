@@ -3,7 +3,9 @@ use core_tokens::ReadFault;
 use explorer_engine::{InputFault, NAME, ReplayFault, RunFault, Verdict, run, status, write_fault};
 use sleep_tree::Unwatched;
 use std::alloc::{AllocError, Global};
+use std::sync::Wait;
 use std::test::Fail;
+use std::thread::Threads;
 use term_core::ScheduleFault;
 use test_support::{MemorySink, MemorySource, holds, same};
 
@@ -177,7 +179,8 @@ const RUNS: [(&[u8], &str, (u64, usize, u64), u8, &[u8], &[u8]); 11] = [
 
 // The status, the output and what is reported of a run of a module and a schedule, where the streams allow so
 // many reads, so many bytes of output, and so many flushes of it.
-fn reported(
+fn reported<T: Threads + Wait + Sync>(
+    rt: &T,
     alloc: Global,
     module: &[u8],
     schedule: &str,
@@ -189,6 +192,7 @@ fn reported(
     let mut errors = MemorySink::with_room(alloc, 100)?;
     let words = [NAME, "replay", schedule];
     let status = run(
+        rt,
         alloc,
         &words,
         &mut input,
@@ -202,7 +206,7 @@ fn reported(
 #[test]
 fn reports_a_run_by_its_status_and_its_line(rt: HostRuntime) -> Result<(), Fail> {
     for (module, schedule, allowed, number, lines, line) in RUNS {
-        let (status, output, errors) = reported(rt.alloc(), module, schedule, allowed)?;
+        let (status, output, errors) = reported(&rt, rt.alloc(), module, schedule, allowed)?;
         assert_eq!(rt; status, number, "{schedule}");
         assert_eq!(rt; output.as_slice(), lines);
         assert_eq!(rt; errors.as_slice(), line);

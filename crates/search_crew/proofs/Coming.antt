@@ -1,0 +1,81 @@
+-- What a finished pool comes to is what the search comes to.
+use Rattle.std.proofs.Common.{◌≡◌, ◌≤◌, ◌<◌, ℕ, List, Some, None, Option, length, refl, sym, ap, ◌∙◌, subst, true}
+use Rattle.world_model.specs.Names.{IsAmong}
+use Rattle.world_model.specs.Requests.{Program}
+use Rattle.world_model.specs.Shown.{Flags, Identity, is_error, is_refusal}
+use Rattle.coverage.specs.Findings.{Finding, Findings, findings_among}
+use Rattle.coverage.specs.Jobs.{Node, root, schedules_of}
+use Rattle.coverage.specs.Shown.{RunShows}
+use Rattle.coverage.proofs.FindingLaws.{errors_exact, refusals_exact}
+use Rattle.coverage.proofs.JobLaws.{root_nodes}
+use Rattle.coverage.proofs.ShownLaws.{nodes_run}
+use Rattle.findings.specs.declared.outcome.Cause.TheVariants.{NodeLimit, Memory}
+use Rattle.findings.specs.declared.outcome.Outcome.{Outcome}
+use Rattle.findings.specs.declared.outcome.Outcome.TheVariants.{Complete, Incomplete}
+use Rattle.frontier_pool.specs.Calls.{ComesTo, IsOwn}
+use Rattle.frontier_pool.specs.Explorations.{AreOne, OneHasTheSameNodes, OneShowsTheSame}
+use Rattle.frontier_pool.specs.Seen.{Seen}
+use Rattle.frontier_pool.proofs.Jobs.{same_program}
+use Rattle.sleep_tree.specs.Explorations.{ExplorationSeen, findings_of, nodes_of, program_in}
+use Rattle.sleep_tree.specs.Meanings.{AreOfJob}
+use Rattle.search_crew.specs.Outcomes.{AllAreShown, IsExact, IsListedOf, IsOutcome, all_findings, all_nodes}
+
+-- ---- what was found
+
+-- the findings of the root's nodes are those of the tree
+all_found : (e f : ExplorationSeen) (found : Findings) → OneHasTheSameNodes → OneShowsTheSame → AreOne e f → found ≡ findings_of e (nodes_of e root) → found ≡ all_findings f
+all_found e f found nodes_same shows_same one is =
+    is ∙ ap (findings_of e) (nodes_same e f root one) ∙ shows_same e f (nodes_of f root) one ∙ ap (findings_among f.flags (program_in f)) (root_nodes (program_in f) f.depth)
+
+-- and its nodes are as many
+all_counted : (e f : ExplorationSeen) (nodes : ℕ) → OneHasTheSameNodes → AreOne e f → nodes ≡ length (nodes_of e root) → nodes ≡ all_nodes f
+all_counted e f nodes nodes_same one is = is ∙ ap length (nodes_same e f root one)
+
+-- ---- what is shown
+
+-- a schedule of the root's nodes is not too long
+is_short : (e : ExplorationSeen) (f : Finding) → IsAmong f.schedule (schedules_of (nodes_of e root)) → length f.schedule ≤ e.depth
+is_short e f there = (nodes_run (program_in e) e.depth f.schedule (subst (IsAmong f.schedule) (root_nodes (program_in e) e.depth) there)).0
+
+all_shown : (e : ExplorationSeen) (found : Findings) → AreOfJob e root found → AllAreShown e found
+all_shown e found told = (
+  λ g there. ((told.0 g there).0, is_short e g (told.0 g there).1, (told.0 g there).2),
+  λ g there. ((told.1 g there).0, is_short e g (told.1 g there).1, (told.1 g there).2),
+)
+
+shown_as : (e f : ExplorationSeen) (found : Findings) → AreOne e f → AllAreShown e found → AllAreShown f found
+shown_as e f found one told = (
+  λ g there. (
+    subst (λ (flags : Flags). is_error flags g.identity ≡ true) one.flags (told.0 g there).0,
+    subst (λ (n : ℕ). length g.schedule ≤ n) one.depth (told.0 g there).1,
+    subst (λ (a : Program). RunShows a g.schedule g.identity) (same_program e f one) (told.0 g there).2,
+  ),
+  λ g there. (
+    (told.1 g there).0,
+    subst (λ (n : ℕ). length g.schedule ≤ n) one.depth (told.1 g there).1,
+    subst (λ (a : Program). RunShows a g.schedule g.identity) (same_program e f one) (told.1 g there).2,
+  ),
+)
+
+-- ---- what it comes to
+
+pub comes_to : (s : Seen) (e : ExplorationSeen) (limit : ℕ) (outcome : Outcome) → OneHasTheSameNodes → OneShowsTheSame → IsOwn s e limit → ComesTo s outcome → IsOutcome e limit outcome
+comes_to s e limit (Complete findings nodes) nodes_same shows_same own comes = (
+  all_found s.exploration e findings nodes_same shows_same own.0 comes.1,
+  all_counted s.exploration e nodes nodes_same own.0 comes.2,
+  subst (λ (n : ℕ). nodes ≤ n) own.1 comes.3,
+)
+comes_to s e limit (Incomplete NodeLimit findings) nodes_same shows_same own comes = (
+  subst (λ (n : ℕ). n < all_nodes e) own.1 (subst (λ (n : ℕ). s.limit < n) (ap length (nodes_same s.exploration e root own.0)) (comes.3 refl)),
+  shown_as s.exploration e findings own.0 (all_shown s.exploration findings comes.2),
+)
+comes_to s e limit (Incomplete Memory findings) nodes_same shows_same own comes =
+    shown_as s.exploration e findings own.0 (all_shown s.exploration findings comes.2)
+
+-- what all nodes show is all that schedules show
+listed_all : (e : ExplorationSeen) (found : Findings) → found ≡ all_findings e → (i : Identity) → IsListedOf e found i
+listed_all e found is i = subst (λ f. IsListedOf e f i) (sym is) (record { errors = errors_exact e.flags (program_in e) e.depth i; refusals = refusals_exact e.flags (program_in e) e.depth i })
+
+pub is_exact : (e : ExplorationSeen) (limit : ℕ) (outcome : Outcome) → IsOutcome e limit outcome → IsExact e outcome
+is_exact e limit (Complete findings nodes) comes = listed_all e findings comes.0
+is_exact e limit (Incomplete cause findings) comes = tt

@@ -1,0 +1,92 @@
+// What one worker does.
+ghost use Rattle.std.specs.Prelude.{◌≤◌};
+
+use frontier_pool::{GiveFault, Pool, PoolName, Seat, Taken};
+use sleep_tree::{Gate, Job, Ticket, expand};
+use std::alloc::Global;
+use std::sync::Wait;
+
+/// What a worker hands back: its seat, and whether the pool refused a piece of it.
+#[derive(Drop)]
+pub(crate) struct Back<N: PoolName> {
+    pub(crate) seat: Seat<N>,
+    pub(crate) is_strange: bool,
+}
+
+/// How a worker goes on behind a job.
+#[derive(Clone, Copy)]
+enum Progress {
+    GoesOn,
+    Ends,
+    IsStrange,
+}
+
+/// Expands a job, while no lock is held, and gives its piece back. Where memory is wanting, or the pool refuses the
+/// piece, it stops the pool.
+fn expand_one<'m, N: PoolName, R: Wait, G: Gate>(
+    rt: &R,
+    alloc: Global,
+    pool: &Pool<'m, N>,
+    seat: &mut Seat<N>,
+    ticket: &Ticket,
+    job: Job<'m>,
+    budget: u64,
+    gate: &G,
+) -> Progress
+    requires { 1 ≤ budget }
+{
+    let Ok(piece) = expand(alloc, job, budget, gate) else {
+        pool.stop(rt);
+        return Progress::Ends;
+    };
+    match pool.give(rt, seat, ticket, piece) {
+        Ok(()) => {
+            gate.given(ticket.number);
+            Progress::GoesOn
+        }
+        Err(GiveFault::Memory) => {
+            pool.stop(rt);
+            Progress::Ends
+        }
+        Err(GiveFault::StrangeTicket(_) | GiveFault::StrangePiece(_)) => {
+            pool.stop(rt);
+            Progress::IsStrange
+        }
+    }
+}
+
+/// Takes jobs, expands them and gives them back, until no job is left or the pool was stopped. It waits where no job is
+/// open and one is out.
+pub(crate) fn work<'m, N: PoolName, R: Wait, G: Gate>(
+    rt: &R,
+    alloc: Global,
+    pool: &Pool<'m, N>,
+    seat: Seat<N>,
+    budget: u64,
+    gate: &G,
+) -> Back<N>
+    requires { 1 ≤ budget }
+{
+    let mut seat = seat;
+    let mut progress = Progress::GoesOn;
+    for _ in rt.forever() {
+        let Progress::GoesOn = progress else {
+            break;
+        };
+        let Ok(taken) = pool.take(rt, alloc, &mut seat) else {
+            pool.stop(rt);
+            break;
+        };
+        match taken {
+            Taken::Idle => pool.wait(rt),
+            Taken::Finished | Taken::Stopped => break,
+            Taken::Work(ticket, job) => {
+                progress = expand_one(rt, alloc, pool, &mut seat, &ticket, job, budget, gate);
+            }
+        }
+    }
+    Back {
+        seat,
+        is_strange: matches!(progress, Progress::IsStrange),
+    }
+}
