@@ -10,8 +10,10 @@ be the same for any number of workers. It wants Python 3.9 or later and nothing 
 """
 import argparse
 import os
+import re
 import subprocess
 import sys
+import tempfile
 import time
 from pathlib import Path
 
@@ -25,19 +27,34 @@ ROWS = [
 ]
 
 
+def memory_of(process):
+    """The most memory that a process had so far, in kilobytes; 0 where it has ended."""
+    try:
+        status = Path(f"/proc/{process}/status").read_text()
+    except OSError:
+        return 0
+    found = re.search(r"VmHWM:\s+(\d+)", status)
+    return int(found[1]) if found else 0
+
+
 def run_of(program, name, depth, nodes, workers):
     """The seconds of the clock and of processors of one run, its memory in kilobytes, and its report."""
     words = [program, "explore", "--depth", str(depth), "--nodes", "10000000", "--workers", str(workers)]
+    memory, ended = 0, 0
     began = time.monotonic()
-    with open(HERE / f"{name}.core", "rb") as module:
-        run = subprocess.Popen(words, stdin=module, stdout=subprocess.PIPE)
-        report = run.stdout.read().decode()
-        _, _, used = os.wait4(run.pid, 0)
-    seconds = time.monotonic() - began
+    with open(HERE / f"{name}.core", "rb") as module, tempfile.TemporaryFile() as out:
+        run = subprocess.Popen(words, stdin=module, stdout=out)
+        while not ended:
+            memory = max(memory, memory_of(run.pid))
+            time.sleep(0.01)
+            ended, _, used = os.wait4(run.pid, os.WNOHANG)
+        seconds = time.monotonic() - began
+        out.seek(0)
+        report = out.read().decode()
     first = f"depth {depth}, nodes {nodes}, complete\n"
     if not report.startswith(first):
         sys.exit(f"{name}: the report begins with {report[:80]!r} and not with {first!r}")
-    return seconds, used.ru_utime + used.ru_stime, used.ru_maxrss, report
+    return seconds, used.ru_utime + used.ru_stime, memory, report
 
 
 def fastest(program, name, depth, nodes, workers, runs):
