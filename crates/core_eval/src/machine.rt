@@ -21,13 +21,25 @@ use term_core::{Atom, Pid, Term, Terms};
 
 /// A process of a module, which stands at a request. Contracts see where it stands: `after` of it
 /// says what it asks after any further answers, and `is_spent` whether memory was wanting in `resume`.
-#[derive(Drop)]
 pub struct Machine<'m> {
     program: &'m Module,
     pid: Pid,
     stack: Stack<'m>,
     request: Request,
     is_spent: bool,
+}
+
+// A value that others hold as parts of theirs is dropped by a call, which is proved here alone.
+impl Drop for Machine<'_> {
+    fn drop(self) {
+        let Machine {
+            program: _,
+            pid: _,
+            stack: _,
+            request: _,
+            is_spent: _,
+        } = self;
+    }
 }
 
 impl<'m> Model for Machine<'m> {

@@ -16,8 +16,14 @@ pub struct Binding<'m> {
 }
 
 /// Variables and their values, the innermost last. Contracts see them as a list, the innermost first.
-#[derive(Drop)]
 pub struct Bindings<'m>(Vec<Binding<'m>>);
+
+// Dropped by a call, so that no crate above proves again how.
+impl Drop for Bindings<'_> {
+    fn drop(self) {
+        let Bindings(_) = self;
+    }
+}
 
 impl<'m> Model for Bindings<'m> {
     ghost use Rattle.core_stack.specs.Matching.{Environment};
@@ -113,8 +119,14 @@ impl<'m> Bindings<'m> {
 
 /// Variables and their values that are gathered from the inside out. Contracts see them as a list, the
 /// innermost first.
-#[derive(Drop)]
 pub struct Seen<'m>(Vec<Binding<'m>>);
+
+// Dropped by a call, so that no crate above proves again how.
+impl Drop for Seen<'_> {
+    fn drop(self) {
+        let Seen(_) = self;
+    }
+}
 
 impl<'m> Model for Seen<'m> {
     ghost use Rattle.core_stack.specs.Matching.{Environment};

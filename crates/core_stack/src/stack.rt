@@ -17,10 +17,16 @@ use term_core::Term;
 
 /// Frames: those that were put on top since the stack was settled, the innermost last, and below them those
 /// that its copies share. Contracts see them as the list of what they leave out, the innermost first.
-#[derive(Drop)]
 pub struct Stack<'m> {
     top: Vec<Frame<'m>>,
     below: Layers<'m>,
+}
+
+// A value that others hold as parts of theirs is dropped by a call, which is proved here alone.
+impl Drop for Stack<'_> {
+    fn drop(self) {
+        let Stack { top: _, below: _ } = self;
+    }
 }
 
 impl<'m> Model for Stack<'m> {

@@ -25,9 +25,16 @@ pub enum Const {
 }
 
 /// Constants in order. Contracts see them as a list.
-#[derive(Drop)]
 #[cycle(constant)]
 pub struct Consts(pub Vec<Const>);
+
+// Dropped by a call, so that no crate above proves again how.
+impl Drop for Consts {
+    #[cycle(constant_drop)]
+    fn drop(self) {
+        let Consts(_) = self;
+    }
+}
 
 impl Model for Consts {
     ghost use Rattle.std.specs.Prelude.{List, map};
@@ -53,13 +60,20 @@ impl Model for Consts {
 }
 
 /// The first items of a list and the constant after them. Contracts see it as the pair of both.
-#[derive(Drop)]
 #[cycle(constant)]
 pub struct OntoConst {
     /// The items in front, at least one where they were read.
     pub items: Consts,
     /// What stands after them.
     pub tail: Const,
+}
+
+// Dropped by a call, so that no crate above proves again how.
+impl Drop for OntoConst {
+    #[cycle(constant_drop)]
+    fn drop(self) {
+        let OntoConst { items: _, tail: _ } = self;
+    }
 }
 
 impl Model for OntoConst {

@@ -8,12 +8,18 @@ use std::marker::Model;
 use term_core::Atom;
 
 /// The name of a function: an atom and the number of its arguments, 0 to 255.
-#[derive(Drop)]
 pub struct FunctionName {
     /// The name without the number of arguments.
     pub name: Atom,
     /// The number of arguments.
     pub arity: u8,
+}
+
+// Dropped by a call, so that no crate above proves again how.
+impl Drop for FunctionName {
+    fn drop(self) {
+        let FunctionName { name: _, arity: _ } = self;
+    }
 }
 
 impl Model for FunctionName {
@@ -86,12 +92,18 @@ impl Model for NamedFunction {
 }
 
 /// An attribute, which has no meaning.
-#[derive(Drop)]
 pub struct Attribute {
     /// The name of the attribute.
     pub name: Atom,
     /// What the attribute is set to.
     pub value: Const,
+}
+
+// Dropped by a call, so that no crate above proves again how.
+impl Drop for Attribute {
+    fn drop(self) {
+        let Attribute { name: _, value: _ } = self;
+    }
 }
 
 impl Model for Attribute {
@@ -107,7 +119,6 @@ impl Model for Attribute {
 }
 
 /// What a function's name is defined as: its parameters, as many as the name says, and its body.
-#[derive(Drop)]
 pub struct Definition {
     /// The place of the first byte of the name.
     pub at: usize,
@@ -117,8 +128,18 @@ pub struct Definition {
     pub body: Expr,
 }
 
+// Dropped by a call, so that no crate above proves again how.
+impl Drop for Definition {
+    fn drop(self) {
+        let Definition {
+            at: _,
+            parameters: _,
+            body: _,
+        } = self;
+    }
+}
+
 /// A module (Core Erlang 1.0.3, "Module definitions").
-#[derive(Drop)]
 pub struct Module {
     /// The name of the module.
     pub name: Atom,
@@ -128,6 +149,18 @@ pub struct Module {
     pub attributes: Vec<Attribute>,
     /// The definitions by name, in the order of the text.
     pub definitions: IndexMap<FunctionName, Definition>,
+}
+
+// A value that others hold as parts of theirs is dropped by a call, which is proved here alone.
+impl Drop for Module {
+    fn drop(self) {
+        let Module {
+            name: _,
+            exports: _,
+            attributes: _,
+            definitions: _,
+        } = self;
+    }
 }
 
 impl Model for Module {

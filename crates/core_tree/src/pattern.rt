@@ -29,9 +29,16 @@ pub enum Pattern {
 }
 
 /// Patterns in order. Contracts see them as a list.
-#[derive(Drop)]
 #[cycle(pattern)]
 pub struct Patterns(pub Vec<Pattern>);
+
+// Dropped by a call, so that no crate above proves again how.
+impl Drop for Patterns {
+    #[cycle(pattern_drop)]
+    fn drop(self) {
+        let Patterns(_) = self;
+    }
+}
 
 impl Model for Patterns {
     ghost use Rattle.std.specs.Prelude.{List, map};
@@ -58,13 +65,20 @@ impl Model for Patterns {
 
 /// The patterns of the first items of a list and that of what stands after them. Contracts see it as the
 /// pair of both.
-#[derive(Drop)]
 #[cycle(pattern)]
 pub struct OntoPattern {
     /// The patterns of the first items, at least one where they were read.
     pub items: Patterns,
     /// The pattern of what stands after them.
     pub tail: Pattern,
+}
+
+// Dropped by a call, so that no crate above proves again how.
+impl Drop for OntoPattern {
+    #[cycle(pattern_drop)]
+    fn drop(self) {
+        let OntoPattern { items: _, tail: _ } = self;
+    }
 }
 
 impl Model for OntoPattern {
@@ -91,13 +105,23 @@ impl Model for OntoPattern {
 }
 
 /// A variable that names what the whole of a pattern matches. Contracts see it as the pair of both.
-#[derive(Drop)]
 #[cycle(pattern)]
 pub struct Alias {
     /// The variable.
     pub variable: Variable,
     /// The pattern.
     pub whole: Pattern,
+}
+
+// Dropped by a call, so that no crate above proves again how.
+impl Drop for Alias {
+    #[cycle(pattern_drop)]
+    fn drop(self) {
+        let Alias {
+            variable: _,
+            whole: _,
+        } = self;
+    }
 }
 
 impl Model for Alias {

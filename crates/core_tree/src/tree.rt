@@ -67,9 +67,16 @@ pub enum Expr {
 }
 
 /// Expressions in order. Contracts see them as a list.
-#[derive(Drop)]
 #[cycle(expr)]
 pub struct Exprs(pub Vec<Expr>);
+
+// Dropped by a call, so that no crate above proves again how.
+impl Drop for Exprs {
+    #[cycle(expr_drop)]
+    fn drop(self) {
+        let Exprs(_) = self;
+    }
+}
 
 impl Model for Exprs {
     ghost use Rattle.std.specs.Prelude.{List, map};
@@ -95,13 +102,20 @@ impl Model for Exprs {
 }
 
 /// The first items of a list and what stands after them. Contracts see it as the pair of both.
-#[derive(Drop)]
 #[cycle(expr)]
 pub struct Onto {
     /// The first items, at least one where they were read.
     pub items: Exprs,
     /// What stands after them.
     pub tail: Expr,
+}
+
+// Dropped by a call, so that no crate above proves again how.
+impl Drop for Onto {
+    #[cycle(expr_drop)]
+    fn drop(self) {
+        let Onto { items: _, tail: _ } = self;
+    }
 }
 
 impl Model for Onto {
@@ -129,7 +143,6 @@ impl Model for Onto {
 
 /// The variables of a `let`, the expression whose values they take, and the body. Contracts see it as
 /// the tuple of the three.
-#[derive(Drop)]
 #[cycle(expr)]
 pub struct Let {
     /// The variables, as many as there are values.
@@ -138,6 +151,18 @@ pub struct Let {
     pub value: Expr,
     /// The expression in which the variables are bound.
     pub body: Expr,
+}
+
+// Dropped by a call, so that no crate above proves again how.
+impl Drop for Let {
+    #[cycle(expr_drop)]
+    fn drop(self) {
+        let Let {
+            variables: _,
+            value: _,
+            body: _,
+        } = self;
+    }
 }
 
 impl Model for Let {
@@ -165,13 +190,23 @@ impl Model for Let {
 }
 
 /// Two expressions of which the first is evaluated for its effect. Contracts see it as their pair.
-#[derive(Drop)]
 #[cycle(expr)]
 pub struct Do {
     /// The expression whose value is dropped.
     pub first: Expr,
     /// The expression whose values are those of the whole.
     pub second: Expr,
+}
+
+// Dropped by a call, so that no crate above proves again how.
+impl Drop for Do {
+    #[cycle(expr_drop)]
+    fn drop(self) {
+        let Do {
+            first: _,
+            second: _,
+        } = self;
+    }
 }
 
 impl Model for Do {
@@ -199,7 +234,6 @@ impl Model for Do {
 
 /// A call, an `apply` or a `primop`: the place of its word, what it applies, and as many arguments as that
 /// has. Contracts see it as the tuple of the three.
-#[derive(Drop)]
 #[cycle(expr)]
 pub struct Call {
     /// The place of the first byte of its word.
@@ -208,6 +242,18 @@ pub struct Call {
     pub callee: Callee,
     /// The arguments in order.
     pub arguments: Exprs,
+}
+
+// Dropped by a call, so that no crate above proves again how.
+impl Drop for Call {
+    #[cycle(expr_drop)]
+    fn drop(self) {
+        let Call {
+            at: _,
+            callee: _,
+            arguments: _,
+        } = self;
+    }
 }
 
 impl Model for Call {
@@ -236,7 +282,6 @@ impl Model for Call {
 /// A clause of a `case`, with as many patterns as there are values, or of a `receive`, with one: its patterns, a
 /// guard and a body. Contracts see it as the
 /// record of the three.
-#[derive(Drop)]
 #[cycle(expr)]
 pub struct Clause {
     /// The patterns, one for each value.
@@ -245,6 +290,18 @@ pub struct Clause {
     pub guard: Expr,
     /// What is evaluated where the clause is taken.
     pub body: Expr,
+}
+
+// Dropped by a call, so that no crate above proves again how.
+impl Drop for Clause {
+    #[cycle(expr_drop)]
+    fn drop(self) {
+        let Clause {
+            patterns: _,
+            guard: _,
+            body: _,
+        } = self;
+    }
 }
 
 impl Model for Clause {
@@ -270,9 +327,16 @@ impl Model for Clause {
 }
 
 /// Clauses in order, at least one where they were read. Contracts see them as a list.
-#[derive(Drop)]
 #[cycle(expr)]
 pub struct Clauses(pub Vec<Clause>);
+
+// Dropped by a call, so that no crate above proves again how.
+impl Drop for Clauses {
+    #[cycle(expr_drop)]
+    fn drop(self) {
+        let Clauses(_) = self;
+    }
+}
 
 impl Model for Clauses {
     ghost use Rattle.std.specs.Prelude.{List};
@@ -297,7 +361,6 @@ impl Model for Clauses {
 
 /// A choice by clauses: the place of its word `case`, the expression whose values are matched, and the
 /// clauses. Contracts see it as the tuple of the three.
-#[derive(Drop)]
 #[cycle(expr)]
 pub struct Case {
     /// The place of the first byte of its word.
@@ -306,6 +369,18 @@ pub struct Case {
     pub value: Expr,
     /// The clauses, which are tried in order.
     pub clauses: Clauses,
+}
+
+// Dropped by a call, so that no crate above proves again how.
+impl Drop for Case {
+    #[cycle(expr_drop)]
+    fn drop(self) {
+        let Case {
+            at: _,
+            value: _,
+            clauses: _,
+        } = self;
+    }
 }
 
 impl Model for Case {
@@ -335,7 +410,6 @@ impl Model for Case {
 /// An expression whose exceptions are handled: the place of its word `try`; the expression, the variables of
 /// its values and what is evaluated with them; the two or three variables of an exception and its handler.
 /// Contracts see it as the tuple of the six.
-#[derive(Drop)]
 #[cycle(expr)]
 pub struct Try {
     /// The place of the first byte of its word.
@@ -350,6 +424,21 @@ pub struct Try {
     pub caught: Vec<Variable>,
     /// What is evaluated with an exception.
     pub handler: Expr,
+}
+
+// Dropped by a call, so that no crate above proves again how.
+impl Drop for Try {
+    #[cycle(expr_drop)]
+    fn drop(self) {
+        let Try {
+            at: _,
+            value: _,
+            variables: _,
+            body: _,
+            caught: _,
+            handler: _,
+        } = self;
+    }
 }
 
 impl Model for Try {
@@ -379,13 +468,20 @@ impl Model for Try {
 
 /// An expression whose exceptions become its value: the place of its word `catch`, and the expression.
 /// Contracts see it as the pair of both.
-#[derive(Drop)]
 #[cycle(expr)]
 pub struct Catch {
     /// The place of the first byte of its word.
     pub at: usize,
     /// The expression.
     pub value: Expr,
+}
+
+// Dropped by a call, so that no crate above proves again how.
+impl Drop for Catch {
+    #[cycle(expr_drop)]
+    fn drop(self) {
+        let Catch { at: _, value: _ } = self;
+    }
 }
 
 impl Model for Catch {
@@ -413,7 +509,6 @@ impl Model for Catch {
 
 /// A receive: the place of its word `receive`, its clauses, its timeout, and what is evaluated where no message
 /// came in time (Core Erlang 1.0.3, "Receive"). Contracts see it as the tuple of the four.
-#[derive(Drop)]
 #[cycle(expr)]
 pub struct Receive {
     /// The place of the first byte of its word.
@@ -424,6 +519,19 @@ pub struct Receive {
     pub timeout: Expr,
     /// What is evaluated where no message came in time.
     pub action: Expr,
+}
+
+// Dropped by a call, so that no crate above proves again how.
+impl Drop for Receive {
+    #[cycle(expr_drop)]
+    fn drop(self) {
+        let Receive {
+            at: _,
+            clauses: _,
+            timeout: _,
+            action: _,
+        } = self;
+    }
 }
 
 impl Model for Receive {

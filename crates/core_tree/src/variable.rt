@@ -2,12 +2,18 @@
 use std::marker::Model;
 
 /// A variable where it stands (Core Erlang 1.0.3, "Variable names").
-#[derive(Drop)]
 pub struct Variable {
     /// The place of its first byte in the text.
     pub at: usize,
     /// Its name, which is ASCII.
     pub name: Vec<u8>,
+}
+
+// Dropped by a call, so that no crate above proves again how.
+impl Drop for Variable {
+    fn drop(self) {
+        let Variable { at: _, name: _ } = self;
+    }
 }
 
 impl Model for Variable {

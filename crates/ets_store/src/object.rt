@@ -11,8 +11,14 @@ use std::sync::Arc;
 use term_core::{Term, Terms};
 
 /// An object: a tuple, shared with the terms that it came in. Contracts see it as the list of its parts.
-#[derive(Drop)]
 pub struct Object(Arc<Terms>);
+
+// A value that others hold as parts of theirs is dropped by a call, which is proved here alone.
+impl Drop for Object {
+    fn drop(self) {
+        let Object(_) = self;
+    }
+}
 
 impl Model for Object {
     ghost use Rattle.std.specs.Prelude.{List};

@@ -16,11 +16,21 @@ use world_model::table::Kind;
 
 /// The objects of a table under their keys, with the kind of the table and the position of its keys. Copies
 /// share all rows until one of them is written.
-#[derive(Drop)]
 pub struct Rows {
     pub(crate) kind: Kind,
     pub(crate) position: usize,
     pub(crate) map: Arc<RowMap>,
+}
+
+// A value that others hold as parts of theirs is dropped by a call, which is proved here alone.
+impl Drop for Rows {
+    fn drop(self) {
+        let Rows {
+            kind: _,
+            position: _,
+            map: _,
+        } = self;
+    }
 }
 
 impl Model for Rows {

@@ -17,9 +17,15 @@ use term_core::{Atom, Pid, RefId};
 /// All tables, each under the reference of its creation, the names under which tables are found, and the tables
 /// of each process. Copies share all of it until one of them is written: then the shelves are copied, and of
 /// the tables only the one that is written.
-#[derive(Drop)]
 pub struct Registry {
     pub(crate) shelves: Arc<Shelves>,
+}
+
+// A value that others hold as parts of theirs is dropped by a call, which is proved here alone.
+impl Drop for Registry {
+    fn drop(self) {
+        let Registry { shelves: _ } = self;
+    }
 }
 
 impl Registry {

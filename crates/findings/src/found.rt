@@ -15,10 +15,19 @@ use term_core::Step;
 
 /// What schedules show, each identity once, with the least schedule that shows it. Contracts see it as the lists of
 /// what is found.
-#[derive(Drop)]
 pub struct Findings {
     pub(crate) errors: FindingList,
     pub(crate) refusals: FindingList,
+}
+
+// A value that others hold as parts of theirs is dropped by a call, which is proved here alone.
+impl Drop for Findings {
+    fn drop(self) {
+        let Findings {
+            errors: _,
+            refusals: _,
+        } = self;
+    }
 }
 
 impl Model for Findings {
@@ -113,8 +122,10 @@ impl Findings {
     {
         let errors = &mut self.errors;
         let refusals = &mut self.refusals;
-        let more_errors = other.errors;
-        let more_refusals = other.refusals;
+        let Findings {
+            errors: more_errors,
+            refusals: more_refusals,
+        } = other;
         errors.items.reserve(more_errors.items.len())?;
         refusals.items.reserve(more_refusals.items.len())?;
         put_all(&mut errors.items, more_errors.items);

@@ -18,12 +18,23 @@ use std::sync::ledger::{Blank, Book, Share};
 
 /// The state of a pool: its frontier, how many seats there are, the book whose total is the length of its list, and the
 /// share that is left when each seat has its part. Contracts see its frontier.
-#[derive(Drop)]
 pub struct PoolState<'m, N: PoolName> {
     pub(crate) frontier: Frontier<'m>,
     pub(crate) seats: u64,
     pub(crate) book: Book<N>,
     pub(crate) left: Share<N>,
+}
+
+// Dropped by a call, so that no crate above proves again how.
+impl<N: PoolName> Drop for PoolState<'_, N> {
+    fn drop(self) {
+        let PoolState {
+            frontier: _,
+            seats: _,
+            book: _,
+            left: _,
+        } = self;
+    }
 }
 
 impl<'m, N: PoolName> Model for PoolState<'m, N> {

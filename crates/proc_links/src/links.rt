@@ -36,9 +36,15 @@ pub enum Linking {
 }
 
 /// To whom each process is linked. Copies share all of it until one of them is changed.
-#[derive(Drop)]
 pub struct Links {
     partners: Arc<Groups<Pid>>,
+}
+
+// A value that others hold as parts of theirs is dropped by a call, which is proved here alone.
+impl Drop for Links {
+    fn drop(self) {
+        let Links { partners: _ } = self;
+    }
 }
 
 /// Makes each of two processes a partner of the other.

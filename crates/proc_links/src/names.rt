@@ -32,9 +32,15 @@ struct Bearers {
 
 /// The names of processes: a process has one name at most. Copies share all of it until one of them is
 /// changed.
-#[derive(Drop)]
 pub struct Names {
     bearers: Arc<Bearers>,
+}
+
+// A value that others hold as parts of theirs is dropped by a call, which is proved here alone.
+impl Drop for Names {
+    fn drop(self) {
+        let Names { bearers: _ } = self;
+    }
 }
 
 impl Clone for Bearers {

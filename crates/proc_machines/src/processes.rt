@@ -32,12 +32,23 @@ use term_core::{Atom, Pid, Terms};
 /// The processes of a module: the machine of each that lives, how many turns each took, who lives, and who traps
 /// exits. Copies share all of it until one of them is changed: then what is changed is copied, and of the machines
 /// only the one that runs on.
-#[derive(Drop)]
 pub struct Processes<'m> {
     program: &'m Module,
     courses: Courses<'m>,
     living: Pids,
     trapping: Pids,
+}
+
+// A value that others hold as parts of theirs is dropped by a call, which is proved here alone.
+impl Drop for Processes<'_> {
+    fn drop(self) {
+        let Processes {
+            program: _,
+            courses: _,
+            living: _,
+            trapping: _,
+        } = self;
+    }
 }
 
 /// The first process of a module, at the first request of `main/0`.

@@ -20,9 +20,15 @@ use term_core::{Pid, RefId, Term};
 /// The messages that arrived at each process, the oldest first (Erlang reference manual, "Processes",
 /// "Delivery of Signals"). Contracts read those of a process with `messages_in`. Copies share them until one
 /// of them is changed; then it clones the pointers to mailboxes, and the one mailbox.
-#[derive(Drop)]
 pub struct Mailboxes {
     mailboxes: Arc<MailboxMap>,
+}
+
+// A value that others hold as parts of theirs is dropped by a call, which is proved here alone.
+impl Drop for Mailboxes {
+    fn drop(self) {
+        let Mailboxes { mailboxes: _ } = self;
+    }
 }
 
 impl Model for Mailboxes {

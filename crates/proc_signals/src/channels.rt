@@ -18,9 +18,15 @@ use term_core::Pid;
 /// The signals on their way between any two processes, the oldest first (Erlang reference manual,
 /// "Processes", "Delivery of Signals"). Contracts read those of each pair with `between`. Copies share
 /// them until one of them is changed; then it clones the pointers to channels, and the one channel.
-#[derive(Drop)]
 pub struct Channels {
     senders: Arc<Senders>,
+}
+
+// A value that others hold as parts of theirs is dropped by a call, which is proved here alone.
+impl Drop for Channels {
+    fn drop(self) {
+        let Channels { senders: _ } = self;
+    }
 }
 
 impl Model for Channels {

@@ -30,9 +30,15 @@ pub trait Selector {
 
 /// The messages of a process that have arrived, the oldest first. Contracts see them as a list. Copies
 /// share the messages until one of them is changed.
-#[derive(Drop)]
 pub struct Mailbox {
     messages: Arc<Messages>,
+}
+
+// A value that others hold as parts of theirs is dropped by a call, which is proved here alone.
+impl Drop for Mailbox {
+    fn drop(self) {
+        let Mailbox { messages: _ } = self;
+    }
 }
 
 impl Model for Mailbox {

@@ -19,12 +19,23 @@ use world_core::{World, WorldFault};
 /// A job: a node of the tree of schedules, and all nodes below it. It holds its exploration, its name, the world after
 /// the greatest number of its steps that 16 divides, which it shares, and the number of its ticket, 0 while it has
 /// none.
-#[derive(Drop)]
 pub struct Job<'m> {
     exploration: Exploration<'m>,
     name: JobName,
     snapshot: Arc<World<'m>>,
     number: u64,
+}
+
+// A value that others hold as parts of theirs is dropped by a call, which is proved here alone.
+impl Drop for Job<'_> {
+    fn drop(self) {
+        let Job {
+            exploration: _,
+            name: _,
+            snapshot: _,
+            number: _,
+        } = self;
+    }
 }
 
 impl<'m> Model for Job<'m> {
@@ -90,7 +101,13 @@ impl<'m> Job<'m> {
     pub fn into_name(self) -> JobName
         ensures { result ≡ self.entry.name }
     {
-        self.name
+        let Job {
+            exploration: _,
+            name,
+            snapshot: _,
+            number: _,
+        } = self;
+        name
     }
 
     /// The number of its ticket, 0 if it has none.

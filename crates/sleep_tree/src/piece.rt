@@ -12,13 +12,25 @@ use std::marker::Model;
 
 /// What was found in a job, how many nodes were visited, and the jobs of the others, in the order in which the search
 /// visits them. It holds the ticket of the job, and what is explored.
-#[derive(Drop)]
 pub struct Piece<'m> {
     pub(crate) ticket: Ticket,
     pub(crate) exploration: Exploration<'m>,
     pub(crate) findings: Findings,
     pub(crate) nodes: u64,
     pub(crate) rest: Vec<Job<'m>>,
+}
+
+// Dropped by a call, so that no crate above proves again how.
+impl Drop for Piece<'_> {
+    fn drop(self) {
+        let Piece {
+            ticket: _,
+            exploration: _,
+            findings: _,
+            nodes: _,
+            rest: _,
+        } = self;
+    }
 }
 
 impl<'m> Model for Piece<'m> {
@@ -74,7 +86,14 @@ impl<'m> Piece<'m> {
         ensures rest { result.1.items ≡ self.entry.rest }
         ensures piece { IsPiece self.entry.exploration self.entry.ticket.name self.entry.findings self.entry.nodes self.entry.rest }
     {
-        (self.findings, self.rest)
+        let Piece {
+            ticket: _,
+            exploration: _,
+            findings,
+            nodes: _,
+            rest,
+        } = self;
+        (findings, rest)
     }
 
     /// The same piece, or `AllocError` if there is no memory for it.

@@ -68,15 +68,4 @@ impl Terms {
     {
         self.items.as_slice()
     }
-
-    /// The terms, taken out. It takes no memory.
-    pub fn into_vec(self) -> Vec<Term>
-        ensures { map meaning_of result.items ≡ self }
-    {
-        let Terms {
-            items,
-            nodes: _nodes,
-        } = self;
-        items
-    }
 }

@@ -1,5 +1,5 @@
 // Terms. Tuples and list cells are shared by all that hold them, and know their sizes.
-ghost use Rattle.std.specs.Prelude.{◌≡◌};
+ghost use Rattle.std.specs.Prelude.{◌≡◌, map};
 ghost use Rattle.term_core.specs.Term.{meaning_of};
 
 use crate::atom::Atom;
@@ -54,11 +54,31 @@ impl Model for Pair {
 }
 
 /// The parts of a tuple, and the arguments of a call, with their size. Contracts see them as a list.
-#[derive(Drop)]
 #[cycle(term)]
 pub struct Terms {
     pub(crate) items: Vec<Term>,
     pub(crate) nodes: u64,
+}
+
+// Dropped by a call of its own, which crates above call and do not prove again.
+impl Drop for Terms {
+    #[cycle(drop)]
+    fn drop(self) {
+        let Terms { items: _, nodes: _ } = self;
+    }
+}
+
+impl Terms {
+    /// The terms, taken out. It takes no memory.
+    pub fn into_vec(self) -> Vec<Term>
+        ensures { map meaning_of result.items ≡ self }
+    {
+        let Terms {
+            items,
+            nodes: _nodes,
+        } = self;
+        items
+    }
 }
 
 impl Model for Terms {

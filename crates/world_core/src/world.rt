@@ -29,12 +29,23 @@ use world_steps::{Event, act};
 /// A world: what the processes of a module, their signals and their tables are after what happened so far, and what
 /// happened. Contracts see the module, the events, the latest first, and whether memory was wanting once; all else is
 /// told by the events. Copies share all of it until one of them takes a step.
-#[derive(Drop)]
 pub struct World<'m> {
     program: &'m Module,
     records: Records<'m>,
     events: Events,
     is_spent: bool,
+}
+
+// A value that others hold as parts of theirs is dropped by a call, which is proved here alone.
+impl Drop for World<'_> {
+    fn drop(self) {
+        let World {
+            program: _,
+            records: _,
+            events: _,
+            is_spent: _,
+        } = self;
+    }
 }
 
 impl<'m> Model for World<'m> {

@@ -13,7 +13,6 @@ use std::alloc::{AllocError, Global};
 
 /// The parts of a world: its processes, what each has in its mailbox, the signals on their way, links, watches and
 /// names, and the tables. Copies share all of it until one of them is changed.
-#[derive(Drop)]
 pub struct Records<'m> {
     pub(crate) processes: Processes<'m>,
     pub(crate) mailboxes: Mailboxes,
@@ -22,6 +21,21 @@ pub struct Records<'m> {
     pub(crate) watchers: Watchers,
     pub(crate) names: Names,
     pub(crate) tables: Tables,
+}
+
+// A value that others hold as parts of theirs is dropped by a call, which is proved here alone.
+impl Drop for Records<'_> {
+    fn drop(self) {
+        let Records {
+            processes: _,
+            mailboxes: _,
+            channels: _,
+            links: _,
+            watchers: _,
+            names: _,
+            tables: _,
+        } = self;
+    }
 }
 
 impl<'m> Records<'m> {
