@@ -1,23 +1,26 @@
 // Which messages a receive takes (Core Erlang 1.0.3, "Receive").
-ghost use Rattle.std.specs.Prelude.{◌≡◌, ◌++◌, ◌∷◌, [], IfOk};
-ghost use Rattle.core_tree.specs.Syntax.{ModuleTree, clauses_of};
+ghost use Rattle.std.specs.Prelude.{◌≡◌, ◌++◌, ◌∷◌, [], true, IfOk};
+ghost use Rattle.core_tree.specs.Syntax.{ModuleTree, clauses_of, patterns_of};
 ghost use Rattle.core_tree.specs.Tree.{tree_of};
 ghost use Rattle.term_core.specs.Term.{meaning_of};
 ghost use Rattle.eval_rules.specs.Applications.{setting_of};
-ghost use Rattle.eval_rules.specs.Evaluation.{at_rest, evaluate, holds, is_true, selects};
+ghost use Rattle.eval_rules.specs.Evaluation.{at_rest, evaluate, holds, is_taken, is_true, selects};
+ghost use Rattle.core_stack.specs.Fitting.{each_fits};
 ghost use Rattle.core_stack.specs.Holes.{scope};
+ghost use Rattle.core_stack.specs.Matching.{match_each};
 ghost use Rattle.core_eval.specs.inside.Steps.{gave_true};
 
 use crate::build::single;
 use crate::control::{Control, Halt, Pause};
 use crate::leave::is_true;
 use crate::run::advance;
-use core_stack::{Bindings, Frame, Stack, matches_each};
-use core_tree::{Clause, Expr};
+use core_stack::{Bindings, Frame, Stack, fits, matches_each};
+use core_tree::{Clause, Expr, Patterns};
 use std::alloc::{AllocError, Global};
 use term_core::{Pid, Term, Terms};
 
-/// Whether one of the clauses matches the message and has a guard that holds, in the scope of the stack.
+/// Whether one of the clauses matches the message and has a guard that holds, in the scope of the stack. A message that no
+/// pattern matches takes no memory.
 pub(crate) fn selects<'m>(
     alloc: Global,
     own: &Pid,
@@ -28,18 +31,47 @@ pub(crate) fn selects<'m>(
     ensures { IfOk result (λ found. (m : ModuleTree) →
         found ≡ selects (setting_of m own.now) (clauses_of clauses.now) (scope stack.now) (meaning_of message.now)) }
 {
-    let values = single(alloc, message.copy()?)?;
     let mut left = clauses;
     while let Some((clause, others)) = left.split_first() {
-        let mut bindings = Bindings::new(alloc);
-        if matches_each(&clause.patterns, &values, &mut bindings)? {
-            if holds(alloc, own, stack, bindings, &clause.guard)? {
-                return Ok(true);
-            }
+        if fits_alone(&clause.patterns, message) && admits(alloc, own, stack, clause, message)? {
+            return Ok(true);
         }
         left = others;
     }
     Ok(false)
+}
+
+/// Whether there is one pattern, and the message matches it.
+fn fits_alone(patterns: &Patterns, message: &Term) -> bool
+    ensures { result ≡ each_fits (patterns_of patterns.now) (meaning_of message.now ∷ []) }
+{
+    match patterns.0.as_slice() {
+        [pattern] => fits(pattern, message),
+        _ => false,
+    }
+}
+
+/// Whether the guard of a clause that the message matches holds. Where it is `'true'` nothing is bound.
+fn admits<'m>(
+    alloc: Global,
+    own: &Pid,
+    stack: &Stack<'m>,
+    clause: &'m Clause,
+    message: &Term,
+) -> Result<bool, AllocError>
+    requires { each_fits (patterns_of clause.now.patterns) (meaning_of message.now ∷ []) ≡ true }
+    ensures { IfOk result (λ held. (m : ModuleTree) →
+        held ≡ is_taken (match_each (patterns_of clause.now.patterns) (meaning_of message.now ∷ []) []) (scope stack.now) (λ inner. evaluate (setting_of m own.now) clause.now.guard inner at_rest)) }
+{
+    if is_true(&clause.guard) {
+        return Ok(true);
+    }
+    let values = single(alloc, message.copy()?)?;
+    let mut bindings = Bindings::new(alloc);
+    if !matches_each(&clause.patterns, &values, &mut bindings)? {
+        return Ok(false);
+    }
+    holds(alloc, own, stack, bindings, &clause.guard)
 }
 
 /// Whether a guard gives `'true'`, with these variables on top of those in the scope of the stack. It is evaluated
@@ -54,9 +86,6 @@ fn holds<'m>(
     ensures { IfOk result (λ held. (m : ModuleTree) →
         held ≡ holds (evaluate (setting_of m own.now) (tree_of guard.now) (bindings.entry ++ scope stack.now) at_rest)) }
 {
-    if is_true(guard) {
-        return Ok(true);
-    }
     let mut apart = Stack::new(alloc);
     apart.push(Frame::Kept(stack.variables(alloc)?))?;
     apart.push(Frame::Kept(bindings))?;

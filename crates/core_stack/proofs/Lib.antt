@@ -1,2 +1,3 @@
 pub mod Binding
 pub mod Matches
+pub mod Fitted

@@ -12,7 +12,8 @@ use Rattle.term_core.specs.Meaning.{Meaning, Tuple, meanings_of, parts_of-meanin
 use Rattle.core_stack.specs.inside.Matched.{IsMatch}
 use Rattle.core_stack.specs.Matching.{Environment, and_then, match, match_each}
 
-group_same : (p : Pattern) (ps : List Pattern) (m : Meaning) (ms : List Meaning) (before : Environment) → p ≡ patterns.Tuple (patterns_of ps) → m ≡ Tuple (meanings_of ms) → match p m before ≡ match_each (patterns_of ps) ms before
+-- a tuple matches its parts one by one
+pub group_same : (p : Pattern) (ps : List Pattern) (m : Meaning) (ms : List Meaning) (before : Environment) → p ≡ patterns.Tuple (patterns_of ps) → m ≡ Tuple (meanings_of ms) → match p m before ≡ match_each (patterns_of ps) ms before
 group_same p ps m ms before e f =
     ap (λ (q : Pattern). match q m before) e ∙ ap (λ (n : Meaning). match (patterns.Tuple (patterns_of ps)) n before) f ∙ ap (λ (ns : List Meaning). match_each (patterns_of ps) ns before) (parts_of-meanings_of ms)
 

@@ -3,3 +3,4 @@ pub mod Frames
 pub mod HoleCodes
 pub mod Layers
 pub mod Matched
+pub mod Fitted

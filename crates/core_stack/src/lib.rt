@@ -2,12 +2,14 @@
 #![tactic(auto)]
 
 mod bindings;
+mod fitting;
 mod frame;
 mod layers;
 mod matching;
 mod stack;
 
 pub use bindings::Bindings;
+pub use fitting::fits;
 pub use frame::{Frame, Purpose};
 pub use matching::matches_each;
 pub use stack::Stack;

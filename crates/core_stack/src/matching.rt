@@ -4,7 +4,7 @@ ghost use Rattle.core_tree.specs.Syntax.{patterns_of};
 ghost use Rattle.core_tree.specs.Tree.{pattern_of};
 ghost use Rattle.term_core.specs.Meaning.{Meaning};
 ghost use Rattle.term_core.specs.Term.{meaning_of};
-ghost use Rattle.core_stack.specs.Matching.{Environment, is_number, is_text, match, match_each, match_items};
+ghost use Rattle.core_stack.specs.Matching.{Environment, is_nil, is_number, is_text, match, match_each, match_items};
 ghost use Rattle.core_stack.specs.inside.Matched.{IsMatch, behind_items};
 
 use crate::bindings::Bindings;
@@ -13,7 +13,7 @@ use std::alloc::AllocError;
 use term_core::{Pair, Term, Terms};
 
 /// Whether the value is this integer.
-fn is_integer(value: &Term, wanted: i64) -> bool
+pub(crate) fn is_integer(value: &Term, wanted: i64) -> bool
     ensures { result ≡ is_number wanted (meaning_of value.now) }
 {
     match value {
@@ -22,8 +22,15 @@ fn is_integer(value: &Term, wanted: i64) -> bool
     }
 }
 
+/// Whether the value is nil.
+pub(crate) fn is_nil(value: &Term) -> bool
+    ensures { result ≡ is_nil (meaning_of value.now) }
+{
+    matches!(value, Term::Nil)
+}
+
 /// Whether the value is the list of the numbers of these characters.
-fn is_text(value: &Term, characters: &[char]) -> bool
+pub(crate) fn is_text(value: &Term, characters: &[char]) -> bool
     ensures { result ≡ is_text characters.now (meaning_of value.now) }
 {
     let mut left = value;
@@ -37,7 +44,7 @@ fn is_text(value: &Term, characters: &[char]) -> bool
         }
         left = cell.tail();
     }
-    matches!(left, Term::Nil)
+    is_nil(left)
 }
 
 /// Whether the value matches the pattern. Its variables, from left to right, come on top of the bindings;
