@@ -4,3 +4,4 @@ pub mod Running
 pub mod Lookups
 pub mod Selecting
 pub mod Choosing
+pub mod Fitting

@@ -1,5 +1,5 @@
 // Which messages a receive takes (Core Erlang 1.0.3, "Receive").
-ghost use Rattle.std.specs.Prelude.{◌≡◌, ◌++◌, ◌∷◌, [], true, IfOk};
+ghost use Rattle.std.specs.Prelude.{◌≡◌, ◌++◌, ◌∷◌, [], IfOk};
 ghost use Rattle.core_tree.specs.Syntax.{ModuleTree, clauses_of, patterns_of};
 ghost use Rattle.core_tree.specs.Tree.{tree_of};
 ghost use Rattle.term_core.specs.Term.{meaning_of};
@@ -33,7 +33,7 @@ pub(crate) fn selects<'m>(
 {
     let mut left = clauses;
     while let Some((clause, others)) = left.split_first() {
-        if fits_alone(&clause.patterns, message) && admits(alloc, own, stack, clause, message)? {
+        if takes(alloc, own, stack, clause, message)? {
             return Ok(true);
         }
         left = others;
@@ -51,18 +51,20 @@ fn fits_alone(patterns: &Patterns, message: &Term) -> bool
     }
 }
 
-/// Whether the guard of a clause that the message matches holds. Where it is `'true'` nothing is bound.
-fn admits<'m>(
+/// Whether the message matches a clause whose guard holds. Where that is `'true'` nothing is bound.
+fn takes<'m>(
     alloc: Global,
     own: &Pid,
     stack: &Stack<'m>,
     clause: &'m Clause,
     message: &Term,
 ) -> Result<bool, AllocError>
-    requires { each_fits (patterns_of clause.now.patterns) (meaning_of message.now ∷ []) ≡ true }
     ensures { IfOk result (λ held. (m : ModuleTree) →
         held ≡ is_taken (match_each (patterns_of clause.now.patterns) (meaning_of message.now ∷ []) []) (scope stack.now) (λ inner. evaluate (setting_of m own.now) clause.now.guard inner at_rest)) }
 {
+    if !fits_alone(&clause.patterns, message) {
+        return Ok(false);
+    }
     if is_true(&clause.guard) {
         return Ok(true);
     }

@@ -1,4 +1,4 @@
-use Rattle.std.proofs.Common.{◌≡◌, [], ◌∷◌, length}
+use Rattle.std.proofs.Common.{◌≡◌, length}
 use Rattle.core_tree.specs.Syntax.{ModuleTree, clauses_of}
 use Rattle.term_core.specs.Term.{meaning_of}
 use Rattle.eval_rules.specs.Applications.{setting_of}
@@ -8,7 +8,7 @@ use Rattle.core_eval.proofs.selection.selects.Given as goal
 
 -- no clause before those that are left takes the message
 abbrev pub invariant-loop-clause : goal.invariant-loop-clause
-invariant-loop-clause l = (l.values ≡ meaning_of l.message ∷ []) × ((m : ModuleTree) → selects (setting_of m l.own) (clauses_of l.left) (scope l.stack) (meaning_of l.message) ≡ selects (setting_of m l.own) (clauses_of l.clauses) (scope l.stack) (meaning_of l.message))
+invariant-loop-clause l = (m : ModuleTree) → selects (setting_of m l.own) (clauses_of l.left) (scope l.stack) (meaning_of l.message) ≡ selects (setting_of m l.own) (clauses_of l.clauses) (scope l.stack) (meaning_of l.message)
 
 abbrev pub decreases-loop-clause : goal.decreases-loop-clause
 decreases-loop-clause l = length l.left
