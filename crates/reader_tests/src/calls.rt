@@ -47,20 +47,25 @@ const TEXTS: [&str; 38] = [
     "call 'ets':'info'(1,2)",
 ];
 
+// Whether an expression is a call of this kind.
+fn is_call_of(expression: &Expr, kind: CallKind) -> bool {
+    let Expr::Call(call) = expression else {
+        return false;
+    };
+    match &call.callee {
+        Callee::World(called) => {
+            called.function_name() == kind.function_name() && called.arity() == kind.arity()
+        }
+        _ => false,
+    }
+}
+
 // How many of the functions of a module have a call of this kind for a body.
-fn calls_of(module: Module, kind: CallKind) -> usize {
+fn calls_of(module: &Module, kind: CallKind) -> usize {
     let mut found: usize = 0;
-    for (_function, definition) in module.definitions {
-        if let Expr::Call(
-            Call {
-                callee: Callee::World(called),
-                ..
-            },
-        ) = definition.body
-        {
-            if called.function_name() == kind.function_name() && called.arity() == kind.arity() {
-                found = found.saturating_add(1);
-            }
+    for definition in module.definitions.values() {
+        if is_call_of(&definition.body, kind) {
+            found = found.saturating_add(1);
         }
     }
     found
@@ -76,7 +81,7 @@ fn module_with(alloc: Global, body: &str) -> Result<Module, ReadFault> {
 fn reads_every_call_of_the_world(rt: HostRuntime) -> Result<(), Fail> {
     for (kind, call) in CALLS.iter().zip(TEXTS.iter()) {
         let module = module_with(rt.alloc(), call)?;
-        assert_eq!(rt; calls_of(module, *kind), 1);
+        assert_eq!(rt; calls_of(&module, *kind), 1);
     }
     Ok(())
 }
@@ -87,7 +92,7 @@ fn reads_a_call_of_the_world_in_a_module_of_that_name(rt: HostRuntime) -> Result
     let text =
         b"module 'erlang' ['link'/1] attributes [] 'main'/0 = fun () -> call 'erlang':'link'(1) 'link'/1 = fun (X) -> X end";
     let module = read_module(rt.alloc(), text)?;
-    assert_eq!(rt; calls_of(module, CallKind::Link), 1);
+    assert_eq!(rt; calls_of(&module, CallKind::Link), 1);
     Ok(())
 }
 

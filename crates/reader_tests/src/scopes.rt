@@ -3,18 +3,21 @@ use core_reader::read_module;
 use core_scopes::{Defined, Draft, Front, closed_module};
 use core_tokens::ReadFault;
 use core_tree::Module;
+use indexmap::IndexMap;
 use std::alloc::{AllocError, Global};
+use std::mem::replace;
 use std::test::Fail;
 
 // A module that was read, as the grammar reads it; its last `end` is said to stand at 30.
 fn draft_of(alloc: Global, module: Module) -> Result<Draft, AllocError> {
+    let mut module = module;
     let front = Front {
-        name: module.name,
-        exports: module.exports,
-        attributes: module.attributes,
+        name: module.name.copy()?,
+        exports: replace(&mut module.exports, Vec::new(alloc)),
+        attributes: replace(&mut module.attributes, Vec::new(alloc)),
     };
     let mut definitions = Vec::new(alloc);
-    for (function, definition) in module.definitions {
+    for (function, definition) in replace(&mut module.definitions, IndexMap::new(alloc)) {
         definitions.push(Defined {
             function,
             definition,
