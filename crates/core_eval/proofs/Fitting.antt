@@ -5,7 +5,7 @@ use Rattle.core_tree.specs.Syntax.{ClauseTree, Patterns, Pattern, Tree, clauses_
 use Rattle.core_tree.specs.Expression as trees
 use Rattle.term_core.specs.Meaning.{Meaning}
 use Rattle.eval_rules.specs.Evaluation.{Outcome, Setting, at_rest, evaluate, holds, is_taken, selects}
-use Rattle.core_stack.specs.Fitting.{fits, each_fits}
+use Rattle.core_stack.specs.inside.Fitting.{fits, each_fits}
 use Rattle.core_stack.specs.Matching.{Environment, match_each}
 use Rattle.core_stack.proofs.Fitted.{each_matches_where_fits}
 

@@ -29,7 +29,7 @@ pub struct Machine<'m> {
     is_spent: bool,
 }
 
-// A value that others hold as parts of theirs is dropped by a call, which is proved here alone.
+// Dropped by a call, so that no crate above proves again how.
 impl Drop for Machine<'_> {
     fn drop(self) {
         let Machine {

@@ -5,7 +5,7 @@ ghost use Rattle.core_tree.specs.Tree.{tree_of};
 ghost use Rattle.term_core.specs.Term.{meaning_of};
 ghost use Rattle.eval_rules.specs.Applications.{setting_of};
 ghost use Rattle.eval_rules.specs.Evaluation.{at_rest, evaluate, holds, is_taken, is_true, selects};
-ghost use Rattle.core_stack.specs.Fitting.{each_fits};
+ghost use Rattle.core_stack.specs.inside.Fitting.{each_fits};
 ghost use Rattle.core_stack.specs.Holes.{scope};
 ghost use Rattle.core_stack.specs.Matching.{match_each};
 ghost use Rattle.core_eval.specs.inside.Steps.{gave_true};

@@ -4,7 +4,7 @@ use Rattle.std.specs.Prelude.{Option, Some, None, is_some}
 use Rattle.core_tree.specs.Syntax.{Pattern, Patterns, patterns_of}
 use Rattle.core_tree.specs.Pattern as patterns
 use Rattle.term_core.specs.Meaning.{Meaning, Int, Atom, Ref, Pid, Tuple, Nil, Cons, meanings_of, parts_of, parts_of-meanings_of}
-use Rattle.core_stack.specs.Fitting.{fits, each_fits, items_fit}
+use Rattle.core_stack.specs.inside.Fitting.{fits, each_fits, items_fit}
 use Rattle.core_stack.specs.Matching.{Environment, and_then, is_nil, literal, match, match_each, match_items}
 
 -- a literal binds nothing

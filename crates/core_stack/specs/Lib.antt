@@ -1,5 +1,4 @@
 pub mod Matching
-pub mod Fitting
 pub mod Purposes
 pub mod Holes
 pub mod inside

@@ -4,3 +4,4 @@ pub mod HoleCodes
 pub mod Layers
 pub mod Matched
 pub mod Fitted
+pub mod Fitting

@@ -4,7 +4,7 @@ ghost use Rattle.core_tree.specs.Syntax.{patterns_of};
 ghost use Rattle.core_tree.specs.Tree.{pattern_of};
 ghost use Rattle.term_core.specs.Term.{meaning_of};
 ghost use Rattle.term_core.specs.Meaning.{Meaning};
-ghost use Rattle.core_stack.specs.Fitting.{fits, each_fits, items_fit};
+ghost use Rattle.core_stack.specs.inside.Fitting.{fits, each_fits, items_fit};
 ghost use Rattle.core_stack.specs.inside.Fitted.{behind_items};
 
 use crate::matching::{is_integer, is_nil, is_text};

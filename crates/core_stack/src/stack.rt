@@ -22,7 +22,7 @@ pub struct Stack<'m> {
     below: Layers<'m>,
 }
 
-// A value that others hold as parts of theirs is dropped by a call, which is proved here alone.
+// Dropped by a call, so that no crate above proves again how.
 impl Drop for Stack<'_> {
     fn drop(self) {
         let Stack { top: _, below: _ } = self;

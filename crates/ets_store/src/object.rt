@@ -13,7 +13,7 @@ use term_core::{Term, Terms};
 /// An object: a tuple, shared with the terms that it came in. Contracts see it as the list of its parts.
 pub struct Object(Arc<Terms>);
 
-// A value that others hold as parts of theirs is dropped by a call, which is proved here alone.
+// Dropped by a call, so that no crate above proves again how.
 impl Drop for Object {
     fn drop(self) {
         let Object(_) = self;

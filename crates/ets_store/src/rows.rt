@@ -22,7 +22,7 @@ pub struct Rows {
     pub(crate) map: Arc<RowMap>,
 }
 
-// A value that others hold as parts of theirs is dropped by a call, which is proved here alone.
+// Dropped by a call, so that no crate above proves again how.
 impl Drop for Rows {
     fn drop(self) {
         let Rows {

@@ -21,7 +21,7 @@ pub struct Registry {
     pub(crate) shelves: Arc<Shelves>,
 }
 
-// A value that others hold as parts of theirs is dropped by a call, which is proved here alone.
+// Dropped by a call, so that no crate above proves again how.
 impl Drop for Registry {
     fn drop(self) {
         let Registry { shelves: _ } = self;

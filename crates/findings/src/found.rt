@@ -20,7 +20,7 @@ pub struct Findings {
     pub(crate) refusals: FindingList,
 }
 
-// A value that others hold as parts of theirs is dropped by a call, which is proved here alone.
+// Dropped by a call, so that no crate above proves again how.
 impl Drop for Findings {
     fn drop(self) {
         let Findings {

@@ -40,7 +40,7 @@ pub struct Links {
     partners: Arc<Groups<Pid>>,
 }
 
-// A value that others hold as parts of theirs is dropped by a call, which is proved here alone.
+// Dropped by a call, so that no crate above proves again how.
 impl Drop for Links {
     fn drop(self) {
         let Links { partners: _ } = self;

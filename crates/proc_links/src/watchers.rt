@@ -36,7 +36,7 @@ pub struct Watchers {
     watches: Arc<Watches>,
 }
 
-// A value that others hold as parts of theirs is dropped by a call, which is proved here alone.
+// Dropped by a call, so that no crate above proves again how.
 impl Drop for Watchers {
     fn drop(self) {
         let Watchers { watches: _ } = self;

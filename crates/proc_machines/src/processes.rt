@@ -39,7 +39,7 @@ pub struct Processes<'m> {
     trapping: Pids,
 }
 
-// A value that others hold as parts of theirs is dropped by a call, which is proved here alone.
+// Dropped by a call, so that no crate above proves again how.
 impl Drop for Processes<'_> {
     fn drop(self) {
         let Processes {

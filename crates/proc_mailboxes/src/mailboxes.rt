@@ -24,7 +24,7 @@ pub struct Mailboxes {
     mailboxes: Arc<MailboxMap>,
 }
 
-// A value that others hold as parts of theirs is dropped by a call, which is proved here alone.
+// Dropped by a call, so that no crate above proves again how.
 impl Drop for Mailboxes {
     fn drop(self) {
         let Mailboxes { mailboxes: _ } = self;

@@ -22,7 +22,7 @@ pub struct Channels {
     senders: Arc<Senders>,
 }
 
-// A value that others hold as parts of theirs is dropped by a call, which is proved here alone.
+// Dropped by a call, so that no crate above proves again how.
 impl Drop for Channels {
     fn drop(self) {
         let Channels { senders: _ } = self;

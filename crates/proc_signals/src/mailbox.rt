@@ -34,7 +34,7 @@ pub struct Mailbox {
     messages: Arc<Messages>,
 }
 
-// A value that others hold as parts of theirs is dropped by a call, which is proved here alone.
+// Dropped by a call, so that no crate above proves again how.
 impl Drop for Mailbox {
     fn drop(self) {
         let Mailbox { messages: _ } = self;

@@ -26,7 +26,7 @@ pub struct Job<'m> {
     number: u64,
 }
 
-// A value that others hold as parts of theirs is dropped by a call, which is proved here alone.
+// Dropped by a call, so that no crate above proves again how.
 impl Drop for Job<'_> {
     fn drop(self) {
         let Job {

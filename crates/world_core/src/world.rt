@@ -36,7 +36,7 @@ pub struct World<'m> {
     is_spent: bool,
 }
 
-// A value that others hold as parts of theirs is dropped by a call, which is proved here alone.
+// Dropped by a call, so that no crate above proves again how.
 impl Drop for World<'_> {
     fn drop(self) {
         let World {

@@ -23,7 +23,7 @@ pub struct Records<'m> {
     pub(crate) tables: Tables,
 }
 
-// A value that others hold as parts of theirs is dropped by a call, which is proved here alone.
+// Dropped by a call, so that no crate above proves again how.
 impl Drop for Records<'_> {
     fn drop(self) {
         let Records {

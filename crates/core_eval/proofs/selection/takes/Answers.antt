@@ -4,7 +4,7 @@ use Rattle.core_tree.specs.Syntax.{ClauseTree, patterns_of}
 use Rattle.core_tree.specs.Tree.{tree_of}
 use Rattle.eval_rules.specs.Applications.{setting_of}
 use Rattle.eval_rules.specs.Evaluation.{at_rest, evaluate}
-use Rattle.core_stack.specs.Fitting.{each_fits}
+use Rattle.core_stack.specs.inside.Fitting.{each_fits}
 use Rattle.core_stack.specs.Holes.{scope}
 use Rattle.core_eval.proofs.Fitting.{true_is_taken, unfit_is_not}
 use Rattle.core_eval.proofs.selection.takes.Goals as goal

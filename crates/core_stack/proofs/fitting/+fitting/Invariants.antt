@@ -3,7 +3,7 @@ use Rattle.core_tree.specs.Syntax.{patterns_of}
 use Rattle.core_tree.specs.Tree.{pattern_of}
 use Rattle.term_core.specs.Meaning.{Meaning}
 use Rattle.term_core.specs.Term.{meaning_of}
-use Rattle.core_stack.specs.Fitting.{each_fits, items_fit}
+use Rattle.core_stack.specs.inside.Fitting.{each_fits, items_fit}
 use Rattle.core_stack.proofs.fitting.+fitting.Given as goal
 
 -- all match where those that are left do
