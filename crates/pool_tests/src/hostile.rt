@@ -3,7 +3,7 @@ ghost use Rattle.std.specs.Prelude.{◌≡◌, ◌≤◌};
 
 use core_reader::{Module, read_module};
 use findings::{Cause, Flags, Options, Outcome};
-use frontier_pool::{GiveFault, PoolName, PoolState, Seat, Taken};
+use frontier_pool::{GiveFault, PoolName, PoolState, Seat, StrangePool, Taken};
 use sleep_tree::{Job, Piece, Ticket, Unwatched, expand};
 use std::alloc::Global;
 use std::marker::Brand;
@@ -31,36 +31,6 @@ fn options(depth: u64) -> Options
     }
 }
 
-// A pool and its one seat.
-fn opened<'m, N: PoolName>(
-    alloc: Global,
-    blank: Blank,
-    program: &'m Module,
-    depth: u64,
-) -> Result<(PoolState<'m, N>, Seat<N>), Fail>
-    requires name { blank.name ≡ N.name }
-    requires parts { blank.parts ≡ N.parts }
-    requires seats { (N.seats ≡ N.parts) × (N.seats ≡ 1) }
-{
-    let (state, mut seats) = PoolState::<'m, N>::open(alloc, blank, program, &options(depth))?;
-    match seats.pop() {
-        Some(seat) => Ok((state, seat)),
-        None => Err(Fail::from("there is no seat")),
-    }
-}
-
-// A job is handed out.
-fn taken<'m, N: PoolName>(
-    alloc: Global,
-    state: &mut PoolState<'m, N>,
-    seat: &mut Seat<N>,
-) -> Result<(Ticket, Job<'m>), Fail> {
-    match state.take(alloc, seat)? {
-        Taken::Work(ticket, job) => Ok((ticket, job)),
-        _ => Err(Fail::from("no job is handed out")),
-    }
-}
-
 // One node of a job is visited.
 fn expanded<'m>(alloc: Global, job: Job<'m>) -> Result<Piece<'m>, Fail> {
     match expand(alloc, job, 1, &Unwatched) {
@@ -69,70 +39,132 @@ fn expanded<'m>(alloc: Global, job: Job<'m>) -> Result<Piece<'m>, Fail> {
     }
 }
 
-// A piece is accepted.
-fn given<'m, N: PoolName>(
-    state: &mut PoolState<'m, N>,
-    seat: &mut Seat<N>,
-    ticket: &Ticket,
-    piece: Piece<'m>,
-) -> Result<(), Fail> {
-    match state.give(seat, ticket, piece) {
-        Ok(()) => Ok(()),
-        Err(_) => Err(Fail::from("a piece is refused")),
+// A pool and its one seat.
+struct Bench<'m, N: PoolName> {
+    state: PoolState<'m, N>,
+    seat: Seat<N>,
+}
+
+impl<N: PoolName> Drop for Bench<'_, N> {
+    fn drop(self) {
+        let Bench { state: _, seat: _ } = self;
     }
 }
 
-// A job is handed out, one of its nodes is visited, and its piece is accepted.
-fn worked<'m, N: PoolName>(
-    alloc: Global,
-    state: &mut PoolState<'m, N>,
-    seat: &mut Seat<N>,
-) -> Result<Ticket, Fail> {
-    let (ticket, job) = taken(alloc, state, seat)?;
-    let piece = expanded(alloc, job)?;
-    given(state, seat, &ticket, piece)?;
-    Ok(ticket)
-}
-
-// The pool works to its end.
-fn worked_out<'m, N: PoolName>(
-    alloc: Global,
-    state: &mut PoolState<'m, N>,
-    seat: &mut Seat<N>,
-) -> Result<(), Fail> {
-    for _ in 0..100 {
-        match state.take(alloc, seat)? {
-            Taken::Work(ticket, job) => given(state, seat, &ticket, expanded(alloc, job)?)?,
-            Taken::Finished => return Ok(()),
-            _ => return Err(Fail::from("the pool is idle or stopped")),
+impl<'m, N: PoolName> Bench<'m, N> {
+    // A new pool.
+    fn open(
+        alloc: Global,
+        blank: Blank,
+        program: &'m Module,
+        depth: u64,
+    ) -> Result<Bench<'m, N>, Fail>
+        requires name { blank.name ≡ N.name }
+        requires parts { blank.parts ≡ N.parts }
+        requires seats { (N.seats ≡ N.parts) × (N.seats ≡ 1) }
+    {
+        let (state, mut seats) = PoolState::<'m, N>::open(alloc, blank, program, &options(depth))?;
+        match seats.pop() {
+            Some(seat) => Ok(Bench { state, seat }),
+            None => Err(Fail::from("there is no seat")),
         }
     }
-    Err(Fail::from("the pool has no end"))
-}
 
-// The one seat.
-fn alone<N: PoolName>(alloc: Global, seat: Seat<N>) -> Result<Vec<Seat<N>>, Fail> {
-    let mut seats = Vec::new(alloc);
-    match seats.push(seat) {
-        Ok(()) => Ok(seats),
-        Err(_) => Err(Fail::from("there is no memory")),
+    // A job is handed out.
+    fn take(&mut self, alloc: Global) -> Result<(Ticket, Job<'m>), Fail> {
+        match self.state.take(alloc, &mut self.seat)? {
+            Taken::Work(ticket, job) => Ok((ticket, job)),
+            _ => Err(Fail::from("no job is handed out")),
+        }
+    }
+
+    // One node of the next job is visited, and nothing is given back yet.
+    fn visit(&mut self, alloc: Global) -> Result<(Ticket, Piece<'m>), Fail> {
+        let (ticket, job) = self.take(alloc)?;
+        Ok((ticket, expanded(alloc, job)?))
+    }
+
+    // What is answered to a piece.
+    fn give(&mut self, ticket: &Ticket, piece: Piece<'m>) -> Result<(), GiveFault<'m>> {
+        self.state.give(&mut self.seat, ticket, piece)
+    }
+
+    // A piece is accepted.
+    fn accept(&mut self, ticket: &Ticket, piece: Piece<'m>) -> Result<(), Fail> {
+        match self.give(ticket, piece) {
+            Ok(()) => Ok(()),
+            Err(_) => Err(Fail::from("a piece is refused")),
+        }
+    }
+
+    // Whether there is a job; then one node of it is visited, and its piece is accepted.
+    fn work(&mut self, alloc: Global) -> Result<bool, Fail> {
+        match self.state.take(alloc, &mut self.seat)? {
+            Taken::Work(ticket, job) => {
+                let piece = expanded(alloc, job)?;
+                self.accept(&ticket, piece)?;
+                Ok(true)
+            }
+            Taken::Finished => Ok(false),
+            _ => Err(Fail::from("the pool is idle or stopped")),
+        }
+    }
+
+    // The pool works to its end.
+    fn work_out(&mut self, alloc: Global) -> Result<(), Fail> {
+        for _ in 0..100 {
+            if !self.work(alloc)? {
+                return Ok(());
+            }
+        }
+        Err(Fail::from("the pool has no end"))
+    }
+
+    // Whether a take answers that the pool was stopped.
+    fn is_stopped(&mut self, alloc: Global) -> Result<bool, Fail> {
+        Ok(matches!(self.state.take(alloc, &mut self.seat)?, Taken::Stopped))
+    }
+
+    // The pool ends as the exploration to a depth.
+    fn finish(
+        self,
+        alloc: Global,
+        program: &Module,
+        depth: u64,
+    ) -> Result<Result<Outcome, StrangePool>, Fail>
+        requires { N.seats ≡ N.parts }
+    {
+        let Bench { state, seat } = self;
+        let mut seats = Vec::new(alloc);
+        if let Err(_) = seats.push(seat) {
+            return Err(Fail::from("there is no memory"));
+        }
+        Ok(state.finish(seats, program, &options(depth)))
+    }
+
+    // The pool works to its end: how many nodes it came to.
+    fn nodes(self, alloc: Global, program: &Module) -> Result<u64, Fail>
+        requires { N.seats ≡ N.parts }
+    {
+        let mut bench = self;
+        bench.work_out(alloc)?;
+        match bench.finish(alloc, program, 5)? {
+            Ok(Outcome::Complete(_, nodes)) => Ok(nodes),
+            _ => Err(Fail::from("the pool is not complete")),
+        }
     }
 }
 
-// How many nodes a pool came to.
-fn counted<N: PoolName>(
-    alloc: Global,
-    state: PoolState<'_, N>,
-    seat: Seat<N>,
-    program: &Module,
-    depth: u64,
-) -> Result<u64, Fail>
-    requires { N.seats ≡ N.parts }
-{
-    match state.finish(alone(alloc, seat)?, program, &options(depth)) {
-        Ok(Outcome::Complete(_, nodes)) => Ok(nodes),
-        Ok(Outcome::Incomplete(_, _)) => Err(Fail::from("the pool was stopped")),
-        Err(_) => Err(Fail::from("the pool is strange")),
+// Whether a ticket was strange.
+fn is_strange_ticket(answer: Result<(), GiveFault<'_>>) -> bool {
+    matches!(answer, Err(GiveFault::StrangeTicket(_)))
+}
+
+// The piece that comes back since it was strange.
+fn strange_piece<'m>(answer: Result<(), GiveFault<'m>>) -> Result<Piece<'m>, Fail> {
+    match answer {
+        Err(GiveFault::StrangePiece(piece)) => Ok(piece),
+        _ => Err(Fail::from("a strange piece is accepted")),
     }
 }
 
@@ -142,37 +174,30 @@ fn gives_twice<N: PoolName>(alloc: Global, blank: Blank, program: &Module) -> Re
     requires parts { blank.parts ≡ N.parts }
     requires seats { (N.seats ≡ N.parts) × (N.seats ≡ 1) }
 {
-    let (mut state, mut seat) = opened::<N>(alloc, blank, program, 5)?;
-    let (ticket, job) = taken(alloc, &mut state, &mut seat)?;
-    let piece = expanded(alloc, job)?;
-    given(&mut state, &mut seat, &ticket, piece.copy(alloc)?)?;
-    match state.give(&mut seat, &ticket, piece) {
-        Err(GiveFault::StrangeTicket(_)) => {}
-        _ => return Err(Fail::from("a ticket is given twice")),
+    let mut bench = Bench::<N>::open(alloc, blank, program, 5)?;
+    let (ticket, piece) = bench.visit(alloc)?;
+    bench.accept(&ticket, piece.copy(alloc)?)?;
+    if !is_strange_ticket(bench.give(&ticket, piece)) {
+        return Err(Fail::from("a ticket is given twice"));
     }
-    worked_out(alloc, &mut state, &mut seat)?;
-    counted(alloc, state, seat, program, 5)
+    bench.nodes(alloc, program)
 }
 
-// The third ticket is given with the piece of the fourth.
+// The third ticket is given with the piece of the fourth, while both are out.
 fn gives_another<N: PoolName>(alloc: Global, blank: Blank, program: &Module) -> Result<u64, Fail>
     requires name { blank.name ≡ N.name }
     requires parts { blank.parts ≡ N.parts }
     requires seats { (N.seats ≡ N.parts) × (N.seats ≡ 1) }
 {
-    let (mut state, mut seat) = opened::<N>(alloc, blank, program, 5)?;
-    worked(alloc, &mut state, &mut seat)?;
-    worked(alloc, &mut state, &mut seat)?;
-    let (third, job) = taken(alloc, &mut state, &mut seat)?;
-    let (fourth, other) = taken(alloc, &mut state, &mut seat)?;
-    let piece = expanded(alloc, other)?;
-    match state.give(&mut seat, &third, piece) {
-        Err(GiveFault::StrangePiece(back)) => given(&mut state, &mut seat, &fourth, back)?,
-        _ => return Err(Fail::from("the piece of another ticket is accepted")),
-    }
-    given(&mut state, &mut seat, &third, expanded(alloc, job)?)?;
-    worked_out(alloc, &mut state, &mut seat)?;
-    counted(alloc, state, seat, program, 5)
+    let mut bench = Bench::<N>::open(alloc, blank, program, 5)?;
+    bench.work(alloc)?;
+    bench.work(alloc)?;
+    let (third, piece) = bench.visit(alloc)?;
+    let (fourth, other) = bench.visit(alloc)?;
+    let back = strange_piece(bench.give(&third, other))?;
+    bench.accept(&fourth, back)?;
+    bench.accept(&third, piece)?;
+    bench.nodes(alloc, program)
 }
 
 // The first ticket is given with the piece that was made for the first ticket of another exploration.
@@ -187,17 +212,12 @@ fn gives_elsewhere<N: PoolName, M: PoolName>(
     requires seats { (N.seats ≡ N.parts) × (N.seats ≡ 1) }
     requires other_seats { (M.seats ≡ M.parts) × (M.seats ≡ 1) }
 {
-    let (mut state, mut seat) = opened::<N>(alloc, blank, program, 5)?;
-    let (mut shallow, mut stool) = opened::<M>(alloc, other, program, 4)?;
-    let (ticket, job) = taken(alloc, &mut state, &mut seat)?;
-    let (_, strange) = taken(alloc, &mut shallow, &mut stool)?;
-    match state.give(&mut seat, &ticket, expanded(alloc, strange)?) {
-        Err(GiveFault::StrangePiece(_)) => {}
-        _ => return Err(Fail::from("the piece of another exploration is accepted")),
-    }
-    given(&mut state, &mut seat, &ticket, expanded(alloc, job)?)?;
-    worked_out(alloc, &mut state, &mut seat)?;
-    counted(alloc, state, seat, program, 5)
+    let mut bench = Bench::<N>::open(alloc, blank, program, 5)?;
+    let (_, strange) = Bench::<M>::open(alloc, other, program, 4)?.visit(alloc)?;
+    let (ticket, piece) = bench.visit(alloc)?;
+    let _back = strange_piece(bench.give(&ticket, strange))?;
+    bench.accept(&ticket, piece)?;
+    bench.nodes(alloc, program)
 }
 
 // The pool is finished as another exploration.
@@ -210,9 +230,9 @@ fn finishes_elsewhere<N: PoolName>(
     requires parts { blank.parts ≡ N.parts }
     requires seats { (N.seats ≡ N.parts) × (N.seats ≡ 1) }
 {
-    let (mut state, mut seat) = opened::<N>(alloc, blank, program, 5)?;
-    worked_out(alloc, &mut state, &mut seat)?;
-    Ok(state.finish(alone(alloc, seat)?, program, &options(4)).is_err())
+    let mut bench = Bench::<N>::open(alloc, blank, program, 5)?;
+    bench.work_out(alloc)?;
+    Ok(bench.finish(alloc, program, 4)?.is_err())
 }
 
 // The pool is finished while a ticket is out.
@@ -221,9 +241,9 @@ fn finishes_early<N: PoolName>(alloc: Global, blank: Blank, program: &Module) ->
     requires parts { blank.parts ≡ N.parts }
     requires seats { (N.seats ≡ N.parts) × (N.seats ≡ 1) }
 {
-    let (mut state, mut seat) = opened::<N>(alloc, blank, program, 5)?;
-    taken(alloc, &mut state, &mut seat)?;
-    Ok(state.finish(alone(alloc, seat)?, program, &options(5)).is_err())
+    let mut bench = Bench::<N>::open(alloc, blank, program, 5)?;
+    bench.take(alloc)?;
+    Ok(bench.finish(alloc, program, 5)?.is_err())
 }
 
 // The pool is stopped with two tickets out, and their pieces come in afterwards.
@@ -232,23 +252,22 @@ fn stops<N: PoolName>(alloc: Global, blank: Blank, program: &Module) -> Result<b
     requires parts { blank.parts ≡ N.parts }
     requires seats { (N.seats ≡ N.parts) × (N.seats ≡ 1) }
 {
-    let (mut state, mut seat) = opened::<N>(alloc, blank, program, 5)?;
-    worked(alloc, &mut state, &mut seat)?;
-    worked(alloc, &mut state, &mut seat)?;
-    let (third, job) = taken(alloc, &mut state, &mut seat)?;
-    let (fourth, other) = taken(alloc, &mut state, &mut seat)?;
-    state.stop();
-    given(&mut state, &mut seat, &third, expanded(alloc, job)?)?;
-    match state.take(alloc, &mut seat)? {
-        Taken::Stopped => {}
-        _ => return Err(Fail::from("a pool goes on after a stop")),
+    let mut bench = Bench::<N>::open(alloc, blank, program, 5)?;
+    bench.work(alloc)?;
+    bench.work(alloc)?;
+    let (third, piece) = bench.visit(alloc)?;
+    let (fourth, other) = bench.visit(alloc)?;
+    bench.state.stop();
+    bench.accept(&third, piece)?;
+    if !bench.is_stopped(alloc)? {
+        return Err(Fail::from("a pool goes on after a stop"));
     }
-    given(&mut state, &mut seat, &fourth, expanded(alloc, other)?)?;
-    state.stop();
-    match state.finish(alone(alloc, seat)?, program, &options(5)) {
-        Ok(Outcome::Incomplete(Cause::Memory, _)) => Ok(true),
-        _ => Ok(false),
-    }
+    bench.accept(&fourth, other)?;
+    bench.state.stop();
+    Ok(matches!(
+        bench.finish(alloc, program, 5)?,
+        Ok(Outcome::Incomplete(Cause::Memory, _))
+    ))
 }
 
 #[test]
@@ -270,8 +289,12 @@ fn a_piece_is_of_its_ticket(rt: HostRuntime) -> Result<(), Fail> {
 #[test]
 fn a_piece_is_of_its_exploration(rt: HostRuntime) -> Result<(), Fail> {
     let program = read_module(rt.alloc(), TABLES.as_bytes())?;
-    let nodes =
-        gives_elsewhere::<Brand, Brand>(rt.alloc(), Blank::new(1), Blank::new(1), &program)?;
+    let nodes = gives_elsewhere::<Brand, Brand>(
+        rt.alloc(),
+        Blank::new(1),
+        Blank::new(1),
+        &program,
+    )?;
     assert_eq!(rt; nodes, 10);
     Ok(())
 }
