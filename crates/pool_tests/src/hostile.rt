@@ -142,6 +142,16 @@ impl<'m, N: PoolName> Bench<'m, N> {
         Ok(state.finish(seats, program, &options(depth)))
     }
 
+    // Whether the pool ended for want of memory.
+    fn is_out_of_memory(self, alloc: Global, program: &Module) -> Result<bool, Fail>
+        requires { N.seats ≡ N.parts }
+    {
+        Ok(matches!(
+            self.finish(alloc, program, 5)?,
+            Ok(Outcome::Incomplete(Cause::Memory, _))
+        ))
+    }
+
     // The pool works to its end: how many nodes it came to.
     fn nodes(self, alloc: Global, program: &Module) -> Result<u64, Fail>
         requires { N.seats ≡ N.parts }
@@ -264,10 +274,25 @@ fn stops<N: PoolName>(alloc: Global, blank: Blank, program: &Module) -> Result<b
     }
     bench.accept(&fourth, other)?;
     bench.state.stop();
-    Ok(matches!(
-        bench.finish(alloc, program, 5)?,
-        Ok(Outcome::Incomplete(Cause::Memory, _))
-    ))
+    bench.is_out_of_memory(alloc, program)
+}
+
+// The first ticket is given. Where that has no memory the pool is stopped, and the ticket still out: given once more, it
+// is accepted, and the pool ends for want of memory.
+fn gives<N: PoolName>(alloc: Global, blank: Blank, program: &Module) -> Result<bool, Fail>
+    requires name { blank.name ≡ N.name }
+    requires parts { blank.parts ≡ N.parts }
+    requires seats { (N.seats ≡ N.parts) × (N.seats ≡ 1) }
+{
+    let mut bench = Bench::<N>::open(alloc, blank, program, 5)?;
+    let (ticket, piece) = bench.visit(alloc)?;
+    let spare = piece.copy(alloc)?;
+    if let Err(_) = bench.give(&ticket, piece) {
+        let is_stopped = bench.is_stopped(alloc)?;
+        let is_out = bench.give(&ticket, spare).is_ok();
+        return Ok(is_stopped && is_out && bench.is_out_of_memory(alloc, program)?);
+    }
+    Ok(bench.nodes(alloc, program)? == 10)
 }
 
 #[test]
@@ -311,5 +336,12 @@ fn a_pool_is_finished_as_itself(rt: HostRuntime) -> Result<(), Fail> {
 fn a_stopped_pool_takes_pieces_in(rt: HostRuntime) -> Result<(), Fail> {
     let program = read_module(rt.alloc(), TABLES.as_bytes())?;
     assert!(rt; stops::<Brand>(rt.alloc(), Blank::new(1), &program)?);
+    Ok(())
+}
+
+#[test]
+fn a_give_without_memory_leaves_its_ticket_out(rt: HostRuntime) -> Result<(), Fail> {
+    let program = read_module(rt.alloc(), TABLES.as_bytes())?;
+    assert!(rt; gives::<Brand>(rt.alloc(), Blank::new(1), &program)?);
     Ok(())
 }
