@@ -1,6 +1,5 @@
 -- What a stack of frames leaves to be visited.
 use Rattle.std.proofs.Common.{◌≡◌, inl, inr, ◌<◌, ◌^◌, ℕ, zero, suc, ◌+◌, ◌-◌, true, List, [], ◌∷◌, ◌++◌, length, filter, not, Option, Some, None, is_some, refl, sym, ap, ◌∙◌, subst, arith, append_assoc, append-nil}
-use Rattle.std.specs.List.{AllByRecursion}
 use Rattle.term_core.specs.declared.step.Step.{Step}
 use Rattle.world_core.specs.Seen.{Seen, program_in}
 use Rattle.world_model.specs.Asking.{program_of}
@@ -14,10 +13,10 @@ use Rattle.coverage.specs.Jobs.{Node, asleep_below, awake_steps, nodes_after, no
 use Rattle.coverage.proofs.Lists.{kept_passes}
 use Rattle.sleep_sets.specs.Search.{is_among}
 use Rattle.sleep_tree.specs.Explorations.{ExplorationSeen}
-use Rattle.sleep_tree.specs.inside.Frames.{NodeSeen, FrameSeen, own_node, nodes_of_node, nodes_of_frame, nodes_of_frames, AreEnabled, IsFrame, IsNodeOf, IsFrameOf, AreFramesOf}
+use Rattle.sleep_tree.specs.inside.Frames.{NodeSeen, FrameSeen, own_node, nodes_of_node, nodes_of_frame, nodes_of_frames, AreEnabled, IsFrame, IsNodeOf, IsFrameOf, AreFramesOf, history_below}
 use Rattle.sleep_tree.specs.inside.Snapshots.{IsNode}
 use Rattle.sleep_tree.proofs.Lists.{all_append}
-use Rattle.sleep_tree.proofs.Runs.{IsNext, next_of, longer, one_longer, not_none}
+use Rattle.sleep_tree.proofs.Runs.{next_of, longer, one_longer, not_none}
 
 -- a frame on top
 pub frames_push : (fs : List FrameSeen) (f : FrameSeen) → nodes_of_frames (fs ++ f ∷ []) ≡ nodes_of_frame f ++ nodes_of_frames fs
@@ -100,6 +99,22 @@ pub record IsChild (f : FrameSeen) (s : Step) (rest : List Step) (v : NodeSeen) 
   pub history : extended f.history (next_event (program_of f.program) f.history s) ≡ Some v.history
   pub slept : (f.left ≡ 0 → ⊥) → v.slept ≡ asleep_below (program_of f.program) f.history f.slept s
   pub left : v.left ≡ f.left
+
+-- what has happened after an enabled step
+pub history_is : (h : History) (o : Option Event) → (o ≡ None → ⊥) → extended h o ≡ Some (history_below h o)
+history_is h None some = absurd (some refl)
+history_is h (Some e) some = refl
+
+-- the child of a frame, from a copy of the world of the frame and of the step
+pub is_child : (w v : Seen) (slept asleep line : List Step) (s t : Step) (rest : List Step) (left : ℕ) → line ≡ s ∷ rest → v ≡ w → t ≡ s → (next_event (program_in w) w.history s ≡ None → ⊥) → ((left ≡ 0 → ⊥) → asleep ≡ asleep_below (program_in w) w.history slept s)
+    → IsChild (record { program = w.program; history = w.history; slept = slept; line = line; left = left }) s rest (record { program = v.program; history = history_below v.history (next_event (program_in v) v.history t); slept = asleep; left = left })
+is_child w v slept asleep line s t rest left is same own enabled sleeps = record {
+  line = is;
+  program = ap (λ (x : Seen). x.program) same;
+  history = history_is w.history (next_event (program_in w) w.history s) enabled ∙ (λ i. Some (history_below (sym same i).history (next_event (program_in (sym same i)) (sym same i).history (sym own i))));
+  slept = sleeps;
+  left = refl;
+}
 
 -- at the depth it does not matter what sleeps
 any_sleep : (a : Program) (n : ℕ) (h : History) (schedule one other : List Step) → ((n ≡ 0 → ⊥) → one ≡ other) → nodes_from a n h schedule one ≡ nodes_from a n h schedule other

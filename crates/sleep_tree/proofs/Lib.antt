@@ -4,3 +4,4 @@ pub mod Snapshots
 pub mod Frames
 pub mod Passing
 pub mod Pieces
+pub mod Children

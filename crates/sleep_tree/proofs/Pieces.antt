@@ -1,6 +1,5 @@
 -- What one more visit does to what was done.
-use Rattle.std.proofs.Common.{◌≡◌, ◌<◌, ◌≤◌, ℕ, zero, suc, ◌+◌, Bool, List, [], ◌∷◌, ◌++◌, length, map, Some, refl, sym, ap, ◌∙◌, subst, arith, append_assoc, append-nil, length-append}
-use Rattle.std.specs.List.{AllByRecursion}
+use Rattle.std.proofs.Common.{◌≡◌, ◌<◌, ◌≤◌, ℕ, zero, suc, ◌+◌, Bool, List, [], ◌∷◌, ◌++◌, length, Some, refl, sym, ap, ◌∙◌, subst, arith, append_assoc, append-nil, length-append}
 use Rattle.term_core.specs.declared.step.Step.{Step}
 use Rattle.findings.specs.Laws.{AddsSchedule}
 use Rattle.world_core.specs.Seen.{Seen}
@@ -9,15 +8,14 @@ use Rattle.world_model.specs.Names.{IsAmong}
 use Rattle.world_model.specs.Run.{run, schedule_of}
 use Rattle.world_model.specs.Shown.{Identity, Flags, is_error, is_refusal, shown}
 use Rattle.coverage.specs.Findings.{Finding, Findings, IsLeast, found, findings_among}
-use Rattle.coverage.specs.Jobs as tree
-use Rattle.coverage.specs.Jobs.{Job, Node, nodes_along, node_at, nodes_from, schedules_of}
+use Rattle.coverage.specs.Jobs.{Job, Node, nodes_from, schedules_of}
 use Rattle.coverage.proofs.FindingLaws.{least}
 use Rattle.coverage.proofs.JobLaws.{map_join}
 use Rattle.coverage.proofs.Lists.{among_left}
 use Rattle.sleep_tree.specs.Explorations.{ExplorationSeen, JobSeen, program_in, nodes_of, nodes_of_all, findings_of}
 use Rattle.sleep_tree.specs.Meanings.{AreShown, AreOfJob}
 use Rattle.sleep_tree.specs.Pieces.{IsDone, AreOf, IsPiece}
-use Rattle.sleep_tree.specs.inside.Frames.{NodeSeen, FrameSeen, own_node, nodes_of_node, nodes_of_frame, nodes_of_frames, IsNodeOf, IsFrameOf, AreFramesOf, IsExploring}
+use Rattle.sleep_tree.specs.inside.Frames.{NodeSeen, FrameSeen, own_node, nodes_of_node, nodes_of_frame, nodes_of_frames, IsFrameOf, AreFramesOf, IsExploring}
 use Rattle.sleep_tree.proofs.Frames.{frames_push}
 use Rattle.sleep_tree.proofs.Passing.{found_passes}
 use Rattle.sleep_tree.proofs.Lists.{all_append, all_front, all_back}

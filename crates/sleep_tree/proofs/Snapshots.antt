@@ -1,5 +1,5 @@
 -- Worlds that schedules reach, and the snapshots for them.
-use Rattle.std.proofs.Common.{◌≡◌, ◌⊎◌, inl, inr, ◌<◌, ◌≤◌, ◌^◌, ℕ, zero, suc, ◌+◌, ◌-◌, ◌*◌, ◌/◌, ◌%◌, false, List, [], ◌∷◌, ◌++◌, length, take, drop, Option, Some, None, refl, sym, ap, ◌∙◌, subst, arith}
+use Rattle.std.proofs.Common.{◌≡◌, ◌⊎◌, inl, inr, ◌<◌, ◌≤◌, ◌^◌, ℕ, zero, suc, ◌+◌, ◌-◌, ◌%◌, false, List, [], ◌∷◌, ◌++◌, length, take, drop, Some, refl, sym, ap, ◌∙◌, subst, arith}
 use Rattle.std.proofs.lemmas.List.{take-append-le}
 use Rattle.core_tree.specs.Syntax.{ModuleTree}
 use Rattle.term_core.specs.declared.step.Step.{Step}
@@ -14,7 +14,7 @@ use Rattle.sleep_tree.specs.Explorations as seen
 use Rattle.sleep_tree.specs.inside.Snapshots.{IsAt, snapped, IsSnapshot, IsJob, IsNode}
 use Rattle.sleep_tree.specs.inside.Frames.{NodeSeen, IsNodeOf, nodes_of_node}
 use Rattle.sleep_tree.proofs.Lists.{take_whole, take_rest}
-use Rattle.sleep_tree.proofs.Runs.{IsNext, next_of, longer, one_longer, goes_on, run_parts, stopped, not_none}
+use Rattle.sleep_tree.proofs.Runs.{next_of, longer, one_longer, goes_on, run_parts, stopped, not_none}
 
 snapped_whole : (n : ℕ) → n % 16 ≡ 0 → snapped n ≡ n
 snapped_whole n h = omega arith

@@ -6,7 +6,7 @@ ghost use Rattle.sleep_tree.specs.Pieces.{AreOf, IsPiece};
 ghost use Rattle.sleep_tree.specs.inside.Frames.{AreFramesOf, nodes_of_frames};
 
 use crate::exploration::Exploration;
-use crate::frame::{Frame, descend};
+use crate::frame::{Frame, descend, next_child};
 use crate::gate::Gate;
 use crate::job::Job;
 use crate::names::{JobName, Ticket};
@@ -37,8 +37,8 @@ fn rest_of<'m>(
     let mut frames = frames;
     let mut rest = Vec::new(alloc);
     while let Some(frame) = frames.pop() {
-        let node = descend(alloc, frame, &mut frames)?;
-        let job = Job::of_node(alloc, node, exploration)?;
+        let child = next_child(alloc, frame, &mut frames)?;
+        let job = Job::of_child(alloc, child, exploration)?;
         rest.push(job)?;
     }
     Ok(rest)

@@ -5,6 +5,7 @@ ghost use Rattle.sleep_tree.specs.inside.Frames.{nodes_of_frame, nodes_of_frames
 ghost use Rattle.world_model.specs.Asking.{program_of};
 ghost use Rattle.world_model.specs.Run.{enabled_steps};
 
+use crate::child::Child;
 use crate::node::Node;
 use crate::sleeping::{awake_backwards, sleep_below};
 use std::alloc::Global;
@@ -81,13 +82,13 @@ pub(crate) fn open<'m>(
 
 /// The next child of a frame, whose other children go back on the stack. The last child takes the world over. `Memory`
 /// where there is none.
-pub(crate) fn descend<'m>(
+pub(crate) fn next_child<'m>(
     alloc: Global,
     frame: Frame<'m>,
     frames: &mut Vec<Frame<'m>>,
-) -> Result<Node<'m>, WorldFault>
-    ensures nodes { IfOk result (λ node. nodes_of_frame frame.entry ++ nodes_of_frames frames.old.items ≡ nodes_of_node node ++ nodes_of_frames frames.new.items) }
-    ensures are_of { IfOk result (λ node. (e : ExplorationSeen) → IsFrameOf e frame.entry → AreFramesOf e frames.old.items → IsNodeOf e node × AreFramesOf e frames.new.items) }
+) -> Result<Child<'m>, WorldFault>
+    ensures nodes { IfOk result (λ child. nodes_of_frame frame.entry ++ nodes_of_frames frames.old.items ≡ nodes_of_node child ++ nodes_of_frames frames.new.items) }
+    ensures are_of { IfOk result (λ child. (e : ExplorationSeen) → IsFrameOf e frame.entry → AreFramesOf e frames.old.items → IsNodeOf e child × AreFramesOf e frames.new.items) }
 {
     let Frame {
         world,
@@ -101,12 +102,23 @@ pub(crate) fn descend<'m>(
     let asleep = sleep_below(alloc, &world, slept.as_slice(), &next, left)?;
     let mut after = after;
     let Some(following) = after.pop() else {
-        let node = Node::below(alloc, world, taken, asleep, &next, left, snapshot)?;
-        return Ok(node);
+        return Ok(Child {
+            above: world,
+            taken,
+            slept: asleep,
+            step: next,
+            left,
+            snapshot,
+        });
     };
-    let copy = world.copy()?;
-    let own = Arc::try_clone(&snapshot)?;
-    let node = Node::below(alloc, copy, taken, asleep, &next, left, own)?;
+    let child = Child {
+        above: world.copy()?,
+        taken,
+        slept: asleep,
+        step: next.copy()?,
+        left,
+        snapshot: Arc::try_clone(&snapshot)?,
+    };
     let mut slept = slept;
     slept.push(next)?;
     frames.push(Frame {
@@ -118,5 +130,19 @@ pub(crate) fn descend<'m>(
         left,
         snapshot,
     })?;
+    Ok(child)
+}
+
+/// The node of the next child of a frame, whose other children go back on the stack. `Memory` where there is none.
+pub(crate) fn descend<'m>(
+    alloc: Global,
+    frame: Frame<'m>,
+    frames: &mut Vec<Frame<'m>>,
+) -> Result<Node<'m>, WorldFault>
+    ensures nodes { IfOk result (λ node. nodes_of_frame frame.entry ++ nodes_of_frames frames.old.items ≡ nodes_of_node node ++ nodes_of_frames frames.new.items) }
+    ensures are_of { IfOk result (λ node. (e : ExplorationSeen) → IsFrameOf e frame.entry → AreFramesOf e frames.old.items → IsNodeOf e node × AreFramesOf e frames.new.items) }
+{
+    let child = next_child(alloc, frame, frames)?;
+    let node = child.enter(alloc)?;
     Ok(node)
 }

@@ -6,9 +6,10 @@ ghost use Rattle.sleep_tree.specs.Explorations.{exploration_in, nodes_of};
 ghost use Rattle.sleep_tree.specs.inside.Frames.{IsNodeOf, nodes_of_node};
 ghost use Rattle.sleep_tree.specs.inside.Snapshots.{IsAt};
 
+use crate::child::Child;
 use crate::exploration::Exploration;
 use crate::names::{JobName, copy_steps};
-use crate::node::Node;
+use crate::node::{Node, snapshot_below};
 use core_tree::Module;
 use findings::Options;
 use std::alloc::{AllocError, Global};
@@ -169,24 +170,27 @@ impl<'m> Job<'m> {
         })
     }
 
-    /// The job of a node, whose world is let go. `Memory` where there is none.
-    pub(crate) fn of_node(
+    /// The job of a child that is not visited. `Memory` where there is none.
+    pub(crate) fn of_child(
         alloc: Global,
-        node: Node<'m>,
+        child: Child<'m>,
         exploration: Exploration<'m>,
     ) -> Result<Job<'m>, WorldFault>
-        requires { IsNodeOf (exploration_in exploration) node }
-        ensures nodes { IfOk result (λ job. nodes_of (exploration_in exploration.entry) job.name ≡ nodes_of_node node.entry) }
+        requires { IsNodeOf (exploration_in exploration) child }
+        ensures nodes { IfOk result (λ job. nodes_of (exploration_in exploration.entry) job.name ≡ nodes_of_node child.entry) }
         ensures exploration { IfOk result (λ job. job.exploration ≡ exploration_in exploration.entry) }
     {
-        let Node {
-            world,
-            taken: _,
+        let Child {
+            above,
+            taken,
             slept,
+            step,
             left: _,
             snapshot,
-        } = node;
-        let prefix = world.schedule(alloc)?;
+        } = child;
+        let mut prefix = above.schedule(alloc)?;
+        let snapshot = snapshot_below(alloc, above, taken, &step, snapshot)?;
+        prefix.push(step)?;
         Ok(Job {
             exploration,
             name: JobName { prefix, slept },

@@ -1,6 +1,7 @@
 // The tree of schedules with sleep sets: its jobs, and how a job is expanded.
 #![tactic(auto)]
 
+mod child;
 pub mod expansion;
 pub mod exploration;
 mod frame;

@@ -1,8 +1,8 @@
 // A node that is to be visited.
-ghost use Rattle.std.specs.Prelude.{◌≡◌, ◌+◌, ◌%◌, None, Some, IfOk};
+ghost use Rattle.std.specs.Prelude.{◌≡◌, ◌+◌, ◌^◌, ◌<◌, ◌%◌, false, None, Some, IfOk};
 ghost use Rattle.world_core.specs.Seen.{program_in};
 ghost use Rattle.world_model.specs.Run.{extended, next_event};
-ghost use Rattle.sleep_tree.specs.inside.Snapshots.{IsNode};
+ghost use Rattle.sleep_tree.specs.inside.Snapshots.{IsAfter, IsNode};
 
 use std::alloc::Global;
 use std::marker::Model;
@@ -50,6 +50,33 @@ fn renewed<'m>(
         return Ok(Arc::new(alloc, world.copy()?)?);
     }
     Ok(snapshot)
+}
+
+/// The snapshot for the world that an enabled step leads to, from the one for this world, which is taken over. The step
+/// is taken only where its world is the snapshot. `Memory` where there is none.
+pub(crate) fn snapshot_below<'m>(
+    alloc: Global,
+    world: World<'m>,
+    taken: u64,
+    step: &Step,
+    snapshot: Arc<World<'m>>,
+) -> Result<Arc<World<'m>>, WorldFault>
+    requires lives { world.spent ≡ false }
+    requires fits { taken + 1 < 2 ^ 64 }
+    requires enabled { next_event (program_in world) world.history step.now ≡ None → ⊥ }
+    ensures whole { IfOk result (λ below. (taken + 1) % 16 ≡ 0 → IsAfter world.entry step.now below.value) }
+    ensures part { IfOk result (λ below. ((taken + 1) % 16 ≡ 0 → ⊥) → below.value ≡ snapshot.entry.value) }
+{
+    if (taken + 1) % 16 != 0 {
+        return Ok(snapshot);
+    }
+    let mut world = world;
+    match world.step(alloc, step) {
+        Ok(()) => {}
+        Err(WorldFault::Memory) => return Err(WorldFault::Memory),
+        Err(WorldFault::NotEnabled) => unreachable!(),
+    }
+    Ok(Arc::new(alloc, world)?)
 }
 
 impl<'m> Node<'m> {

@@ -1,10 +1,10 @@
 -- The stack of an expansion: nodes that were visited, and whose children were not all.
 use Rattle.std.specs.List.{AllByRecursion}
-use Rattle.std.specs.Prelude.{◌≡◌, ◌+◌, ℕ, List, [], ◌∷◌, ◌++◌, None, length}
+use Rattle.std.specs.Prelude.{◌≡◌, ◌+◌, ℕ, List, [], ◌∷◌, ◌++◌, Option, Some, None, length}
 use Rattle.core_tree.specs.Syntax.{ModuleTree}
 use Rattle.term_core.specs.declared.step.Step.{Step}
 use Rattle.world_model.specs.Asking.{program_of}
-use Rattle.world_model.specs.Events.{History}
+use Rattle.world_model.specs.Events.{Event, History}
 use Rattle.world_model.specs.Names.{IsAmong}
 use Rattle.world_model.specs.Requests.{Program}
 use Rattle.world_model.specs.Run.{next_event, schedule_of}
@@ -55,6 +55,16 @@ AreEnabled a h line = (s : Step) → IsAmong s line → next_event a h s ≡ Non
 pub record IsFrame (w : Seen) (taken left : ℕ) (line : List Step) (snapshot : Seen) : Type 0 where
   pub node : IsNode w taken (left + 1) snapshot
   pub enabled : AreEnabled (program_in w) w.history line
+
+-- what has happened after a step that is enabled
+abbrev pub history_below : History → Option Event → History
+history_below h None = h
+history_below h (Some e) = e ∷ h
+
+-- a node, and a step that is enabled there and that so many may follow
+pub record IsChildOf (w : Seen) (taken left : ℕ) (step : Step) (snapshot : Seen) : Type 0 where
+  pub node : IsNode w taken (left + 1) snapshot
+  pub enabled : next_event (program_in w) w.history step ≡ None → ⊥
 
 -- the node is one of the exploration
 pub record IsNodeOf (e : ExplorationSeen) (v : NodeSeen) : Type 0 where

@@ -5,7 +5,7 @@ use Rattle.term_core.specs.declared.step.Step.{Step}
 use Rattle.world_core.specs.Seen.{Seen, program_in}
 use Rattle.world_model.specs.Asking.{program_of}
 use Rattle.world_model.specs.Events.{History}
-use Rattle.world_model.specs.Run.{run, schedule_of}
+use Rattle.world_model.specs.Run.{extended, next_event, run, schedule_of}
 use Rattle.coverage.specs.Jobs.{Job}
 use Rattle.sleep_tree.specs.Explorations as seen
 
@@ -21,6 +21,12 @@ snapped n = 16 * (n / 16)
 
 abbrev pub IsSnapshot : ModuleTree → List Step → Seen → Type 0
 IsSnapshot m s w = IsAt m (take (snapped (length s)) s) w
+
+-- the live world that a step leads to
+pub record IsAfter (w : Seen) (step : Step) (v : Seen) : Type 0 where
+  pub program : v.program ≡ w.program
+  pub lives : v.spent ≡ false
+  pub history : extended w.history (next_event (program_in w) w.history step) ≡ Some v.history
 
 -- the name is one of a node, and the world the snapshot for it
 pub record IsJob (e : seen.ExplorationSeen) (name : Job) (snapshot : Seen) : Type 0 where

@@ -1,4 +1,4 @@
-use Rattle.std.proofs.Common.{◌≡◌, ◌∙◌, ap, sym, subst, arith}
+use Rattle.std.proofs.Common.{◌≡◌, ap, sym, subst, arith}
 use Rattle.findings.specs.Identities.{flags_in}
 use Rattle.sleep_tree.specs.Explorations.{ExplorationSeen}
 use Rattle.sleep_tree.specs.inside.Frames.{AreFramesOf}

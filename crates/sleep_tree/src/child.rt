@@ -1,0 +1,54 @@
+// A child of a node that was visited: it is visited next, or left to a job.
+ghost use Rattle.std.specs.Prelude.{◌≡◌, IfOk};
+
+use crate::node::Node;
+use std::alloc::Global;
+use std::marker::Model;
+use std::sync::Arc;
+use term_core::Step;
+use world_core::{World, WorldFault};
+
+/// A child: the world of the node above it, how many steps led there, the steps that sleep for the child, the step to
+/// it, how many steps may follow it, and the snapshot for the world above.
+#[derive(Drop)]
+pub(crate) struct Child<'m> {
+    pub(crate) above: World<'m>,
+    pub(crate) taken: u64,
+    pub(crate) slept: Vec<Step>,
+    pub(crate) step: Step,
+    pub(crate) left: u64,
+    pub(crate) snapshot: Arc<World<'m>>,
+}
+
+impl<'m> Model for Child<'m> {
+    ghost use Rattle.world_core.specs.Seen.{program_in};
+    ghost use Rattle.world_model.specs.Run.{next_event};
+    ghost use Rattle.sleep_tree.specs.inside.Codes.{coded_node};
+    ghost use Rattle.sleep_tree.specs.inside.Frames.{NodeSeen, IsChildOf, history_below};
+
+    ghost Value = { NodeSeen };
+
+    ghost coded = { coded_node };
+
+    ghost view = { λ c. record { program = c.above.program; history = history_below c.above.history (next_event (program_in c.above) c.above.history c.step); slept = c.slept.items; left = c.left } };
+
+    ghost invariant = { λ c. IsChildOf c.above c.taken c.left c.step c.snapshot.value };
+}
+
+impl<'m> Child<'m> {
+    /// Its node: the step is taken. `Memory` where there is none.
+    pub(crate) fn enter(self, alloc: Global) -> Result<Node<'m>, WorldFault>
+        ensures { IfOk result (λ node. node ≡ self.entry) }
+    {
+        let Child {
+            above,
+            taken,
+            slept,
+            step,
+            left,
+            snapshot,
+        } = self;
+        let node = Node::below(alloc, above, taken, slept, &step, left, snapshot)?;
+        Ok(node)
+    }
+}
