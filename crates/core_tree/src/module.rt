@@ -151,7 +151,7 @@ pub struct Module {
     pub definitions: IndexMap<FunctionName, Definition>,
 }
 
-// A value that others hold as parts of theirs is dropped by a call, which is proved here alone.
+// Dropped by a call, so that no crate above proves again how.
 impl Drop for Module {
     fn drop(self) {
         let Module {

@@ -45,6 +45,7 @@ struct Bench<'m, N: PoolName> {
     seat: Seat<N>,
 }
 
+// Dropped by a call, so that no test proves again how.
 impl<N: PoolName> Drop for Bench<'_, N> {
     fn drop(self) {
         let Bench { state: _, seat: _ } = self;

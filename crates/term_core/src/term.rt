@@ -60,7 +60,7 @@ pub struct Terms {
     pub(crate) nodes: u64,
 }
 
-// Dropped by a call of its own, which crates above call and do not prove again.
+// Dropped by a call, so that no crate above proves again how.
 impl Drop for Terms {
     #[cycle(drop)]
     fn drop(self) {
