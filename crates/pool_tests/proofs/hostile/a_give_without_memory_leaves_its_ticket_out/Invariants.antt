@@ -1,7 +1,7 @@
 use Rattle.pool_tests.proofs.hostile.a_give_without_memory_leaves_its_ticket_out.Given as goal
 
 abbrev pub ghosts-gives-N-PoolName : goal.ghosts-gives-N-PoolName
-ghosts-gives-N-PoolName a = record { seats = 1 }
+ghosts-gives-N-PoolName g a = record { seats = 1 }
 
 abbrev pub ghosts-gives-N-Ledger : goal.ghosts-gives-N-Ledger
-ghosts-gives-N-Ledger a = record { name = a.blank.name; parts = a.blank.parts }
+ghosts-gives-N-Ledger g a = record { name = a.blank.name; parts = a.blank.parts }

@@ -1,13 +1,13 @@
 use Rattle.pool_tests.proofs.hostile.a_piece_is_of_its_exploration.Given as goal
 
 abbrev pub ghosts-gives_elsewhere-N-PoolName : goal.ghosts-gives_elsewhere-N-PoolName
-ghosts-gives_elsewhere-N-PoolName a = record { seats = 1 }
+ghosts-gives_elsewhere-N-PoolName g a = record { seats = 1 }
 
 abbrev pub ghosts-gives_elsewhere-N-Ledger : goal.ghosts-gives_elsewhere-N-Ledger
-ghosts-gives_elsewhere-N-Ledger a = record { name = a.blank.name; parts = a.blank.parts }
+ghosts-gives_elsewhere-N-Ledger g a = record { name = a.blank.name; parts = a.blank.parts }
 
 abbrev pub ghosts-gives_elsewhere-M-PoolName : goal.ghosts-gives_elsewhere-M-PoolName
-ghosts-gives_elsewhere-M-PoolName a = record { seats = 1 }
+ghosts-gives_elsewhere-M-PoolName g a = record { seats = 1 }
 
 abbrev pub ghosts-gives_elsewhere-M-Ledger : goal.ghosts-gives_elsewhere-M-Ledger
-ghosts-gives_elsewhere-M-Ledger a = record { name = a.other.name; parts = a.other.parts }
+ghosts-gives_elsewhere-M-Ledger g a = record { name = a.other.name; parts = a.other.parts }

@@ -1,7 +1,7 @@
 use Rattle.pool_tests.proofs.hostile.a_piece_is_of_its_ticket.Given as goal
 
 abbrev pub ghosts-gives_another-N-PoolName : goal.ghosts-gives_another-N-PoolName
-ghosts-gives_another-N-PoolName a = record { seats = 1 }
+ghosts-gives_another-N-PoolName g a = record { seats = 1 }
 
 abbrev pub ghosts-gives_another-N-Ledger : goal.ghosts-gives_another-N-Ledger
-ghosts-gives_another-N-Ledger a = record { name = a.blank.name; parts = a.blank.parts }
+ghosts-gives_another-N-Ledger g a = record { name = a.blank.name; parts = a.blank.parts }

@@ -1,7 +1,7 @@
 use Rattle.pool_tests.proofs.hostile.a_ticket_is_given_once.Given as goal
 
 abbrev pub ghosts-gives_twice-N-PoolName : goal.ghosts-gives_twice-N-PoolName
-ghosts-gives_twice-N-PoolName a = record { seats = 1 }
+ghosts-gives_twice-N-PoolName g a = record { seats = 1 }
 
 abbrev pub ghosts-gives_twice-N-Ledger : goal.ghosts-gives_twice-N-Ledger
-ghosts-gives_twice-N-Ledger a = record { name = a.blank.name; parts = a.blank.parts }
+ghosts-gives_twice-N-Ledger g a = record { name = a.blank.name; parts = a.blank.parts }
