@@ -278,21 +278,28 @@ fn stops<N: PoolName>(alloc: Global, blank: Blank, program: &Module) -> Result<b
     bench.is_out_of_memory(alloc, program)
 }
 
-// The first ticket is given. Where that has no memory the pool is stopped, and the ticket still out: given once more, it
-// is accepted, and the pool ends for want of memory.
+// The fourth ticket is given as the ninth entry of the list, for which that has to grow. Where there is no memory for it
+// the pool is stopped, and the ticket still out: given once more, it is accepted, and the pool ends for want of memory.
 fn gives<N: PoolName>(alloc: Global, blank: Blank, program: &Module) -> Result<bool, Fail>
     requires name { blank.name ≡ N.name }
     requires parts { blank.parts ≡ N.parts }
     requires seats { (N.seats ≡ N.parts) × (N.seats ≡ 1) }
 {
     let mut bench = Bench::<N>::open(alloc, blank, program, 5)?;
-    let (ticket, piece) = bench.visit(alloc)?;
-    let spare = piece.copy(alloc)?;
-    if let Err(_) = bench.give(&ticket, piece) {
+    bench.work(alloc)?;
+    bench.work(alloc)?;
+    let (third, piece) = bench.visit(alloc)?;
+    let (fourth, other) = bench.visit(alloc)?;
+    bench.accept(&third, piece)?;
+    let (fifth, last) = bench.visit(alloc)?;
+    let spare = other.copy(alloc)?;
+    if let Err(_) = bench.give(&fourth, other) {
         let is_stopped = bench.is_stopped(alloc)?;
-        let is_out = bench.give(&ticket, spare).is_ok();
+        let is_out = bench.give(&fourth, spare).is_ok();
+        bench.accept(&fifth, last)?;
         return Ok(is_stopped && is_out && bench.is_out_of_memory(alloc, program)?);
     }
+    bench.accept(&fifth, last)?;
     Ok(bench.nodes(alloc, program)? == 10)
 }
 
