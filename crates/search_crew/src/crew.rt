@@ -29,6 +29,10 @@ fn put<T: Drop>(items: &mut Vec<T>, item: T)
     }
 }
 
+/// How many bytes the stack of a worker has. A quarter of it is enough for each walk through the deepest term that a
+/// module may build.
+const STACK: usize = 16 * 1024 * 1024;
+
 /// Starts a worker at each seat, and joins them all: the seats come back. `Memory` where there was no room for the
 /// workers, `NoThread` where one could not be started, `StrangePool` where the pool refused a piece.
 fn work_together<'m, N: PoolName + Send + Sync, R: Threads + Wait + Sync, G: Gate + Sync>(
@@ -55,7 +59,11 @@ fn work_together<'m, N: PoolName + Send + Sync, R: Threads + Wait + Sync, G: Gat
             let mut fault = Ok(());
             let mut seats = seats;
             while let Some(seat) = seats.pop() {
-                match scope.spawn(move || work(rt, alloc, pool, seat, budget, gate)) {
+                let builder = thread::Builder::new().stack_size(STACK);
+                match builder.spawn_scoped(
+                    scope,
+                    move || work(rt, alloc, pool, seat, budget, gate),
+                ) {
                     Ok(handle) => put(&mut handles, handle),
                     Err(_) => {
                         pool.stop(rt);

@@ -21,8 +21,8 @@ enum Progress {
     IsStrange,
 }
 
-/// Expands a job, while no lock is held, and gives its piece back. Where memory is wanting, or the pool refuses the
-/// piece, it stops the pool.
+/// Expands a job, while no lock is held, and gives its piece back. Where memory is wanting for the first, or the pool
+/// refuses the piece, it stops the pool; a give without memory has stopped it.
 fn expand_one<'m, N: PoolName, R: Wait, G: Gate>(
     rt: &R,
     alloc: Global,
@@ -44,10 +44,7 @@ fn expand_one<'m, N: PoolName, R: Wait, G: Gate>(
             gate.given(ticket.number);
             Progress::GoesOn
         }
-        Err(GiveFault::Memory) => {
-            pool.stop(rt);
-            Progress::Ends
-        }
+        Err(GiveFault::Memory) => Progress::Ends,
         Err(GiveFault::StrangeTicket(_) | GiveFault::StrangePiece(_)) => {
             pool.stop(rt);
             Progress::IsStrange

@@ -2,7 +2,7 @@
 ghost use Rattle.std.specs.Prelude.{◌≡◌, ◌≤◌};
 
 use crate::budgets::text_of;
-use crate::modules::{INSERTS, MAKERS, MESSAGES, MIXED, STRANGER};
+use crate::modules::{DEEP, INSERTS, MAKERS, MESSAGES, MIXED, STRANGER};
 use core_reader::{Module, read_module};
 use findings::{Flags, Options, Outcome};
 use search_crew::{Gate, SearchFault, Unwatched, search};
@@ -122,12 +122,13 @@ fn workers_change_nothing_of<T: Threads + Wait + Sync>(
 }
 
 // Modules, and how many steps their schedules have.
-const EXPLORED: [(&str, u64); 5] = [
+const EXPLORED: [(&str, u64); 6] = [
     (STRANGER, 5),
     (MAKERS, 5),
     (INSERTS, 11),
     (MESSAGES, 11),
     (MIXED, 14),
+    (DEEP, 9),
 ];
 
 #[test]

@@ -4,5 +4,5 @@ use Rattle.search_crew.proofs.Crossing.{pool_sync, seat_send}
 use Rattle.search_crew.proofs.crew.fn.work_together.scope.Goals as goal
 
 -- the pool may be shared, and the seat handed over
-pub spawn-requires-send-F : goal.spawn-requires-send-F
-spawn-requires-send-F g c κs lives = search (pool_sync, seat_send, crosses, sendable) depth 60
+pub spawn_scoped-requires-send-F : goal.spawn_scoped-requires-send-F
+spawn_scoped-requires-send-F g c κs lives = search (pool_sync, seat_send, crosses, sendable) depth 60
