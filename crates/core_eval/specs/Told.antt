@@ -1,6 +1,6 @@
 -- What a request tells by itself, and which messages it takes.
 use Rattle.std.specs.Prelude.{Bool, false, List}
-use Rattle.core_tree.specs.declared.call.CallKind.{CallKind}
+use Rattle.core_calls.specs.declared.call.CallKind.{CallKind}
 use Rattle.term_core.specs.Meaning.{Meaning}
 use Rattle.eval_rules.specs.Asked.{Asked}
 use Rattle.eval_rules.specs.Asked as asked

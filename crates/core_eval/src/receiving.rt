@@ -1,6 +1,6 @@
 // Receiving (Core Erlang 1.0.3, "Receive"): from its timeout to the request, and from the answer on.
 ghost use Rattle.std.specs.Prelude.{◌≡◌, List, IfOk};
-ghost use Rattle.core_tree.specs.declared.call.CallKind.{CallKind};
+ghost use Rattle.core_calls.specs.declared.call.CallKind.{CallKind};
 ghost use Rattle.core_tree.specs.Syntax.{clauses_of};
 ghost use Rattle.term_core.specs.Meaning.{Meaning};
 ghost use Rattle.term_core.specs.Term.{meaning_of};

@@ -5,14 +5,14 @@ use Rattle.std.specs.Cmp.Lexicographic.{same_text as texts_are_one}
 use Rattle.std.proofs.lemmas.Bool.{eqb-true}
 use Rattle.std.proofs.lemmas.Bool.Decides.{nat_tests}
 use borrow.Author.Tests.{ltb-true}
-use Rattle.core_tree.specs.declared.call.CallKind.{CallKind}
-use Rattle.core_tree.specs.declared.call.CallKind.TheVariants as kinds
-use Rattle.core_tree.specs.declared.pure.PureCall.{PureCall}
-use Rattle.core_tree.specs.declared.pure.PureCall.TheVariants as pures
-use Rattle.core_tree.specs.Calls.{Signature, signature, calls, has_signature, first_with, call_with}
-use Rattle.core_tree.specs.CallCodes.{number_of_call, call_of_number-number_of_call}
-use Rattle.core_tree.specs.PureCalls.{pure_signature, pure_calls, pure_call_with}
-use Rattle.core_tree.specs.CallCodes.{number_of_pure, pure_of_number-number_of_pure}
+use Rattle.core_calls.specs.declared.call.CallKind.{CallKind}
+use Rattle.core_calls.specs.declared.call.CallKind.TheVariants as kinds
+use Rattle.core_calls.specs.declared.pure.PureCall.{PureCall}
+use Rattle.core_calls.specs.declared.pure.PureCall.TheVariants as pures
+use Rattle.core_calls.specs.Calls.{Signature, signature, calls, has_signature, first_with, call_with}
+use Rattle.core_calls.specs.CallCodes.{number_of_call, call_of_number-number_of_call}
+use Rattle.core_calls.specs.PureCalls.{pure_signature, pure_calls, pure_call_with}
+use Rattle.core_calls.specs.CallCodes.{number_of_pure, pure_of_number-number_of_pure}
 use Rattle.core_tree.specs.Syntax.{Callee}
 use Rattle.core_tree.specs.Callee as callees
 use Rattle.core_grammar.specs.Grammar.{IsUnlisted, Calls, calls_world, calls_itself, calls_export, Operates, fails_match, raises_again}

@@ -17,7 +17,7 @@ use Rattle.core_tree.specs.Expression as trees
 use Rattle.core_grammar.specs.declared.unserved.Unserved.{Unserved}
 use Rattle.core_grammar.specs.declared.unserved.Unserved.TheVariants as unserved
 use Rattle.core_grammar.specs.Grammar.{word, mark, atom, AtomIn, Calls, calls_world, calls_itself, calls_export, Operates, fails_match, raises_again}
-use Rattle.core_tree.specs.Calls.{Signature}
+use Rattle.core_calls.specs.Calls.{Signature}
 use Rattle.core_grammar.specs.Arguments.{arguments}
 use Rattle.core_grammar.specs.Depth.{Front, passes_word}
 use Rattle.core_grammar.specs.Unread.{HasMark, BeginsFunctionBy, BeginsAppliedBy, BeginsApplied, HigherOrderAt, IsNoOperation, operates_nothing}

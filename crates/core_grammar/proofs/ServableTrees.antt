@@ -6,7 +6,7 @@ use Rattle.core_tokens.specs.declared.token.Mark.TheVariants as m
 use Rattle.core_grammar.specs.declared.subject.Subject.{Subject}
 use Rattle.core_grammar.specs.declared.subject.Subject.TheVariants as subjects
 use Rattle.core_tokens.specs.declared.token.Keyword.TheVariants as k
-use Rattle.core_tree.specs.Calls.{Signature}
+use Rattle.core_calls.specs.Calls.{Signature}
 use Rattle.core_tree.specs.Servable.{count_of, MayBeCalled, IsServable, AreServable, AreServableClauses, HaveServableBodies, IsServableModule}
 use Rattle.core_tree.specs.Syntax.{Callee, Pattern, Tree, trees_of, ClauseTree, clauses_of, DefinitionTree, ModuleTree}
 use Rattle.core_grammar.specs.Grammar.{mark, word, Commas, spells_one, spells_next, Enclosed, spells_none, spells_some, Row, ends_here, goes_on, InNote, in_note, stands_bare, stands_noted, Noted, ConstantIn, Variable, PatternsIn, Calls, calls_world, calls_itself, calls_export, Operates, fails_match, raises_again, BareClause, is_clause, Form, a_number, a_character, a_text, a_name, a_variable, a_tuple, a_list, a_join, some_values, a_noted, a_let, a_case, a_do, an_apply, a_call, a_primop, a_try, a_catch, a_receive, Expression, AnnotatedClause, Clause, BareFun, is_fun, Fun, BareDefinition, a_definition, Definition, BareModule, a_module, level_limit, Spells}

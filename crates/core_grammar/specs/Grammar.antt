@@ -1,16 +1,16 @@
 -- Which tokens spell which tree (Core Erlang 1.0.3, "Grammar"): by cases on the forms, apart from any order of reading.
 -- Item ps x rest says: the front of the tokens ps spells x, and rest is what stands after it.
 use Rattle.std.specs.Prelude.{◌≡◌, ◌≢◌, ℕ, zero, suc, ◌<◌, ℤ, pos, List, [], ◌∷◌, length, codes}
-use Rattle.core_tree.specs.declared.call.CallKind.{CallKind}
-use Rattle.core_tree.specs.declared.pure.PureCall.{PureCall}
+use Rattle.core_calls.specs.declared.call.CallKind.{CallKind}
+use Rattle.core_calls.specs.declared.pure.PureCall.{PureCall}
 use Rattle.core_tokens.specs.declared.token.Keyword.{Keyword}
 use Rattle.core_tokens.specs.declared.token.Keyword.TheVariants as k
 use Rattle.core_tokens.specs.declared.token.Mark.{Mark}
 use Rattle.core_tokens.specs.declared.token.Mark.TheVariants as m
 use Rattle.core_grammar.specs.declared.subject.Subject.{Subject}
 use Rattle.core_grammar.specs.declared.subject.Subject.TheVariants as subjects
-use Rattle.core_tree.specs.Calls.{Signature, signature}
-use Rattle.core_tree.specs.PureCalls.{pure_signature}
+use Rattle.core_calls.specs.Calls.{Signature, signature}
+use Rattle.core_calls.specs.PureCalls.{pure_signature}
 use Rattle.core_tokens.specs.Piece.{Piece, Shape}
 use Rattle.core_tokens.specs.Piece as lexemes
 use Rattle.core_tree.specs.Syntax.{Mention, NamedAt, Callee, Pattern, patterns_of, Tree, trees_of, ClauseTree, clauses_of, Constant, constants_of, AttributeTree, DefinitionTree, ModuleTree}

@@ -1,3 +1,1 @@
 pub mod SameItems
-pub mod PureNumbers
-mod CallsFound

@@ -2,10 +2,10 @@
 use Rattle.std.specs.Prelude.{ℕ, List, Bool, true, false, ◌==◌, ◌&&◌}
 use Rattle.std.specs.Ordering.{int_eq}
 use Rattle.std.specs.Cmp.Lexicographic.{pointwise}
-use Rattle.core_tree.specs.declared.call.CallKind.{CallKind}
-use Rattle.core_tree.specs.declared.pure.PureCall.{PureCall}
-use Rattle.core_tree.specs.CallCodes.{number_of_call}
-use Rattle.core_tree.specs.CallCodes.{number_of_pure}
+use Rattle.core_calls.specs.declared.call.CallKind.{CallKind}
+use Rattle.core_calls.specs.declared.pure.PureCall.{PureCall}
+use Rattle.core_calls.specs.CallCodes.{number_of_call}
+use Rattle.core_calls.specs.CallCodes.{number_of_pure}
 use Rattle.core_tree.specs.Functions.{same_function}
 use Rattle.term_core.specs.Kinds.{same_text}
 use Rattle.core_tree.specs.Syntax.{Mention, NamedAt, Callee, Pattern, Patterns, patterns_of, Tree, Trees, Clauses, ClauseTree, Constant, Constants, AttributeTree, DefinitionTree, ModuleTree}

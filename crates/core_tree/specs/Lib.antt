@@ -1,6 +1,3 @@
-pub mod Calls
-pub mod PureCalls
-pub mod CallCodes
 pub mod Named
 pub mod Callee
 pub mod Pattern

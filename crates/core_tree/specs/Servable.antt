@@ -1,6 +1,6 @@
 -- Modules whose calls of the world have as many arguments as they take.
 use Rattle.std.specs.Prelude.{◌≡◌, ℕ, suc, List, [], ◌∷◌}
-use Rattle.core_tree.specs.Calls.{signature}
+use Rattle.core_calls.specs.Calls.{signature}
 use Rattle.core_tree.specs.Syntax.{Callee, Tree, Trees, Clauses, DefinitionTree, ModuleTree}
 use Rattle.core_tree.specs.Callee as callees
 use Rattle.core_tree.specs.Expression as trees

@@ -10,15 +10,14 @@ ghost use Rattle.core_tree.specs.Sameness.{bare_module};
 ghost use Rattle.core_tree.specs.Alike.{same_mention, same_kind, same_pure, same_callee, same_pattern, same_patterns, same_tree, same_trees, same_clause, same_clauses, same_constant, same_constants, same_named, same_attribute, same_definition, same_module};
 ghost use Rattle.core_tree.specs.inside.AlikeLaws.{mentions_equal, exports_equal, attributes_equal, trees_equal, modules_equal};
 
-use crate::call::CallKind;
 use crate::constant::{Const, Consts, OntoConst};
 use crate::module::{Attribute, Definition, FunctionName, Module, NamedFunction};
 use crate::pattern::{Alias, OntoPattern, Pattern, Patterns};
-use crate::pure::PureCall;
 use crate::tree::{
     Call, Callee, Case, Catch, Clause, Clauses, Do, Expr, Exprs, Let, Onto, Receive, Try,
 };
 use crate::variable::Variable;
+use core_calls::{CallKind, PureCall};
 use indexmap::IndexMap;
 
 impl PartialEq for Variable {

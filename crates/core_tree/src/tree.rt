@@ -1,11 +1,10 @@
 // The expressions of a module (Core Erlang 1.0.3, "Expressions"). Contracts see them as the data of
 // specs/Syntax.antt. The depth of an expression that was read is at most 1,000 levels; its lists have any
 // length.
-use crate::call::CallKind;
 use crate::module::{FunctionName, NamedFunction};
 use crate::pattern::Patterns;
-use crate::pure::PureCall;
 use crate::variable::Variable;
+use core_calls::{CallKind, PureCall};
 use std::marker::Model;
 use term_core::Atom;
 

@@ -9,8 +9,8 @@ use Rattle.std.specs.declared.cmp.Ordering.TheVariants.{Equal}
 use Rattle.term_core.specs.Meaning.{Meaning}
 use Rattle.term_core.specs.Order.{order_of_lists, order_of_items}
 use Rattle.term_core.specs.inside.OrderLaws.{items_total, first_Equal, second_Equal, same_number, same_list, same_items}
-use Rattle.core_tree.specs.CallCodes.{number_of_call, call_of_number, call_of_number-number_of_call}
-use Rattle.core_tree.specs.declared.call.CallKind.{CallKind}
+use Rattle.core_calls.specs.CallCodes.{number_of_call, call_of_number, call_of_number-number_of_call}
+use Rattle.core_calls.specs.declared.call.CallKind.{CallKind}
 use Rattle.world_model.specs.Names.{Pid}
 use Rattle.world_model.specs.Shown.{Identity, End, Deadlock, Runaway, RefusedCall}
 use Rattle.world_model.specs.declared.rule.Rule.{Rule}

@@ -4,7 +4,7 @@ use Rattle.term_core.specs.declared.step.Step.TheVariants.{Turn, Deliver}
 use Rattle.core_tree.specs.Callee as callees
 use Rattle.core_tree.specs.Expression as trees
 use Rattle.core_tree.specs.Syntax.{ModuleTree, trees_of}
-use Rattle.core_tree.specs.declared.call.CallKind.TheVariants as kinds
+use Rattle.core_calls.specs.declared.call.CallKind.TheVariants as kinds
 use Rattle.world_model.specs.Asking.{program_of}
 use Rattle.world_model.specs.Happenings.{P, P_1, P_2, t, error_of}
 use Rattle.world_model.specs.Modules.{module_of, main, child, spawn_child, in_turn, signed, wait}

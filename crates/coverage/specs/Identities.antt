@@ -5,8 +5,8 @@ use Rattle.std.specs.Prelude.{ℕ, List, [], ◌∷◌, option_to_list}
 use Rattle.std.specs.declared.cmp.Ordering.{Ordering}
 use Rattle.term_core.specs.Meaning.{Meaning}
 use Rattle.term_core.specs.Order.{order_of_lists, order_of_items}
-use Rattle.core_tree.specs.CallCodes.{number_of_call}
-use Rattle.core_tree.specs.Calls.{signature}
+use Rattle.core_calls.specs.CallCodes.{number_of_call}
+use Rattle.core_calls.specs.Calls.{signature}
 use Rattle.world_model.specs.Names.{Pid}
 use Rattle.world_model.specs.Shown.{Identity, End, Deadlock, Runaway, RefusedCall}
 use Rattle.world_model.specs.declared.rule.Rule.{Rule}

@@ -2,7 +2,7 @@
 use Rattle.std.specs.Prelude.{◌≡◌, ◌≤◌, ◌↔◌, ℕ, List, [], ◌∷◌, codes, length, Option, Some, None}
 use Rattle.term_core.specs.declared.step.Step.{Step}
 use Rattle.core_tree.specs.Syntax.{ModuleTree}
-use Rattle.core_tree.specs.declared.call.CallKind.TheVariants as kinds
+use Rattle.core_calls.specs.declared.call.CallKind.TheVariants as kinds
 use Rattle.world_model.specs.Asking.{program_of}
 use Rattle.world_model.specs.Events.{History}
 use Rattle.world_model.specs.Happenings.{P, P_2, t, a_1, error_of}

@@ -1,7 +1,7 @@
 -- Calls without arguments, and with more than three.
 use Rattle.std.proofs.Common.{◌≡◌, ◌<◌, List, [], ◌∷◌, length, false, refl, arith}
-use Rattle.core_tree.specs.declared.call.CallKind.{CallKind}
-use Rattle.core_tree.specs.declared.call.CallKind.TheVariants as kinds
+use Rattle.core_calls.specs.declared.call.CallKind.{CallKind}
+use Rattle.core_calls.specs.declared.call.CallKind.TheVariants as kinds
 use Rattle.term_core.specs.Meaning.{Meaning}
 use Rattle.world_model.specs.Calls.{call_of, call_of_none}
 use Rattle.ets_calls.specs.Requests.{is_of_tables}

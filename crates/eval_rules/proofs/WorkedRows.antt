@@ -1,8 +1,8 @@
 -- Rows that `ask` computes.
 use Rattle.std.proofs.Common.{◌≡◌, ℕ, List, [], ◌∷◌, length, refl}
 use Rattle.std.specs.Prelude.{codes, pos}
-use Rattle.core_tree.specs.declared.call.CallKind.TheVariants.{New, Insert, Lookup}
-use Rattle.core_tree.specs.declared.call.CallKind.{CallKind}
+use Rattle.core_calls.specs.declared.call.CallKind.TheVariants.{New, Insert, Lookup}
+use Rattle.core_calls.specs.declared.call.CallKind.{CallKind}
 use Rattle.core_tree.specs.Syntax.{Mention, Tree, trees_of, ModuleTree, NamedAt}
 use Rattle.core_tree.specs.Callee as callees
 use Rattle.core_tree.specs.Expression as trees

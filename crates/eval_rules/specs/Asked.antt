@@ -1,6 +1,6 @@
 -- Requests and answers as data: what a process asks of the world that it runs in, and what it is answered.
 use Rattle.std.specs.Prelude.{Bool, List}
-use Rattle.core_tree.specs.declared.call.CallKind.{CallKind}
+use Rattle.core_calls.specs.declared.call.CallKind.{CallKind}
 use Rattle.term_core.specs.Meaning.{Meaning}
 
 -- a call with its arguments, a receive that waits for ever or not and takes some messages, an end with its reason, or too many applications in a row

@@ -1,6 +1,6 @@
 -- What an evaluation comes to: values, an exception, or a request that is not answered yet (Core Erlang 1.0.3, "Expressions").
 use Rattle.std.specs.Prelude.{ℕ, List, [], ◌∷◌, if◌then◌else◌, nat_le, codes}
-use Rattle.core_tree.specs.declared.call.CallKind.{CallKind}
+use Rattle.core_calls.specs.declared.call.CallKind.{CallKind}
 use Rattle.core_tree.specs.Syntax.{Function}
 use Rattle.term_core.specs.Meaning.{Meaning, node_count}
 use Rattle.term_core.specs.Meaning as terms

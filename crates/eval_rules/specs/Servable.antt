@@ -1,6 +1,6 @@
 -- Requests that are read: what a process of a module that was read can ask.
 use Rattle.std.specs.Prelude.{◌≡◌, length}
-use Rattle.core_tree.specs.Calls.{signature}
+use Rattle.core_calls.specs.Calls.{signature}
 use Rattle.eval_rules.specs.Asked.{Asked, Call, Receive, End, Runaway}
 
 -- a call has as many arguments as it takes

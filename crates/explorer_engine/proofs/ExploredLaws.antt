@@ -14,7 +14,7 @@ use Rattle.coverage.specs.Shown.{IsShown}
 use Rattle.findings.specs.declared.options.Options.{Options}
 use Rattle.findings.specs.declared.outcome.Outcome.{Outcome}
 use Rattle.findings.specs.declared.outcome.Outcome.TheVariants as outcomes
-use Rattle.sleep_tree.specs.Explorations.{ExplorationSeen, explored_by, program_in}
+use Rattle.sleep_jobs.specs.Explorations.{ExplorationSeen, explored_by, program_in}
 use Rattle.search_crew.specs.Outcomes.{IsOutcome, IsExact}
 use Rattle.search_crew.specs.declared.fault.SearchFault.{SearchFault}
 use Rattle.report_text.specs.ReportText.{text_of_report}

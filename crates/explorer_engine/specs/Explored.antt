@@ -13,7 +13,7 @@ use Rattle.findings.specs.declared.options.Options.{Options}
 use Rattle.findings.specs.declared.outcome.Outcome.{Outcome}
 use Rattle.findings.specs.declared.outcome.Outcome.TheVariants as outcomes
 use Rattle.search_crew.specs.Outcomes.{IsOutcome, IsExact}
-use Rattle.sleep_tree.specs.Explorations.{explored_by}
+use Rattle.sleep_jobs.specs.Explorations.{explored_by}
 use Rattle.report_text.specs.ReportText.{text_of_report}
 use Rattle.explorer_engine.specs.Engine.{WritesNothing}
 use Rattle.explorer_engine.specs.declared.verdict.RunFault.{RunFault}

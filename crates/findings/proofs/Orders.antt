@@ -7,9 +7,9 @@ use Rattle.std.specs.declared.cmp.Ordering.TheVariants.{Less, Equal, Greater}
 use Rattle.term_core.specs.Meaning.{Meaning}
 use Rattle.term_core.specs.Order.{order_of_lists, order_of_terms, order_of_items}
 use Rattle.term_core.specs.inside.OrderLaws.{then_Equal}
-use Rattle.core_tree.specs.CallCodes.{number_of_call}
-use Rattle.core_tree.specs.Calls.{signature}
-use Rattle.core_tree.specs.declared.call.CallKind.{CallKind}
+use Rattle.core_calls.specs.CallCodes.{number_of_call}
+use Rattle.core_calls.specs.Calls.{signature}
+use Rattle.core_calls.specs.declared.call.CallKind.{CallKind}
 use Rattle.world_model.specs.Names.{Pid}
 use Rattle.world_model.specs.Shown.{Identity, End, Deadlock, Runaway, RefusedCall}
 use Rattle.world_model.specs.declared.rule.Rule.{Rule}

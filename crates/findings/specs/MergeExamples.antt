@@ -2,7 +2,7 @@
 use Rattle.std.specs.Prelude.{◌≡◌, List, [], ◌∷◌, None, Some, true, false}
 use Rattle.term_core.specs.declared.step.Step.{Step}
 use Rattle.term_core.specs.declared.step.Step.TheVariants.{Turn}
-use Rattle.core_tree.specs.declared.call.CallKind.TheVariants as kinds
+use Rattle.core_calls.specs.declared.call.CallKind.TheVariants as kinds
 use Rattle.world_model.specs.Happenings.{P, P_1}
 use Rattle.world_model.specs.Shown.{Identity, Flags, Runaway, Deadlock, RefusedCall}
 use Rattle.world_model.specs.declared.rule.Rule.TheVariants.{NoTable, ProtectedWrite}

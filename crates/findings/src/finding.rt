@@ -16,8 +16,8 @@ pub struct Finding {
     pub schedule: Vec<Step>,
 }
 
-/// A copy of a schedule, or `AllocError` if there is no memory for it.
-fn copy_schedule(alloc: Global, schedule: &[Step]) -> Result<Vec<Step>, AllocError>
+/// A copy of a schedule, or of other steps, or `AllocError` if there is no memory for it.
+pub fn copy_schedule(alloc: Global, schedule: &[Step]) -> Result<Vec<Step>, AllocError>
     ensures { IfOk result (λ copied. copied.items ≡ schedule.now) }
 {
     let mut copied = Vec::with_capacity(alloc, schedule.len())?;

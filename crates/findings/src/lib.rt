@@ -11,7 +11,7 @@ pub mod options;
 pub mod order;
 pub mod outcome;
 
-pub use finding::Finding;
+pub use finding::{Finding, copy_schedule};
 pub use flags::Flags;
 pub use found::Findings;
 pub use identity::Identity;

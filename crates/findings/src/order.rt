@@ -4,8 +4,8 @@ ghost use Rattle.std.specs.Ordering.{eq_by_cmp, as_partial_cmp, on, nat_cmp, ord
 ghost use Rattle.std.specs.Cmp.{partial_order_from_total, partial_equiv_from_equiv, eq_by_cmp_equiv, on_per, on_equiv, on_po, on_total};
 ghost use Rattle.term_core.specs.Order.{order_of_lists, order_of_terms, order_of_items};
 ghost use Rattle.term_core.specs.Term.{meaning_of};
-ghost use Rattle.core_tree.specs.CallCodes.{number_of_call};
-ghost use Rattle.core_tree.specs.Calls.{signature};
+ghost use Rattle.core_calls.specs.CallCodes.{number_of_call};
+ghost use Rattle.core_calls.specs.Calls.{signature};
 ghost use Rattle.world_model.specs.Shown as shown;
 ghost use Rattle.coverage.specs.Identities.{number_of_rule, order_of_processes, order_of_identities};
 ghost use Rattle.coverage.proofs.IdentityOrder.{identities_total};

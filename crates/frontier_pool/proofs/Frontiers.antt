@@ -9,9 +9,9 @@ use Rattle.coverage.specs.Jobs.{Job, root}
 use Rattle.findings.specs.Merging.{merged_findings, nothing}
 use Rattle.findings.specs.declared.outcome.Cause.{Cause}
 use Rattle.findings.specs.declared.outcome.Cause.TheVariants.{NodeLimit, Memory}
-use Rattle.sleep_tree.specs.Explorations.{ExplorationSeen, JobSeen, TicketSeen, names_of}
-use Rattle.sleep_tree.specs.Pieces.{IsPiece, PieceSeen}
-use Rattle.sleep_tree.proofs.Lists.{all_append, all_back, all_front}
+use Rattle.sleep_jobs.specs.Explorations.{ExplorationSeen, JobSeen, TicketSeen, names_of}
+use Rattle.sleep_jobs.specs.Pieces.{IsPiece, PieceSeen}
+use Rattle.sleep_jobs.proofs.Lists.{all_append, all_back, all_front}
 use Rattle.frontier_pool.specs.Calls.{Accepts, HandsOut, stop_after}
 use Rattle.frontier_pool.specs.Explorations.{AreJobsOf, AreOne, IsOf}
 use Rattle.frontier_pool.specs.Machine.{Standing, Entry, Enters, Stops, Takes, cause_after, after_give, Gives, IsLegal, opening}

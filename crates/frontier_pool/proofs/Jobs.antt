@@ -6,8 +6,8 @@ use Rattle.std.proofs.lemmas.List.Sorted.{IsPermutation-refl, IsPermutation-tran
 use Rattle.coverage.specs.Findings.{Findings, findings_among}
 use Rattle.coverage.specs.Jobs as tree
 use Rattle.coverage.specs.Jobs.{Job, Node, schedules_of}
-use Rattle.sleep_tree.specs.Explorations.{ExplorationSeen, JobSeen, program_in, names_of, nodes_of}
-use Rattle.sleep_tree.specs.Pieces.{AreOf, IsPiece}
+use Rattle.sleep_jobs.specs.Explorations.{ExplorationSeen, JobSeen, program_in, names_of, nodes_of}
+use Rattle.sleep_jobs.specs.Pieces.{AreOf, IsPiece}
 use Rattle.world_model.specs.Asking.{program_of}
 use Rattle.frontier_pool.specs.Explorations.{AreOne, AreJobsOf, nodes_of_jobs, OneHasTheSameNodes, OneShowsTheSame}
 use Rattle.frontier_pool.specs.Machine.{MakesUp}

@@ -1,6 +1,6 @@
 -- Legal lists grow at their end.
 use Rattle.std.proofs.Common.{ℕ, List, [], ◌∷◌, ◌++◌, refl, subst}
-use Rattle.sleep_tree.specs.Explorations.{ExplorationSeen}
+use Rattle.sleep_jobs.specs.Explorations.{ExplorationSeen}
 use Rattle.frontier_pool.specs.Machine.{Standing, Entry, StepsBy, Leads}
 
 pub leads_more : (e : ExplorationSeen) (limit : ℕ) (s : Standing) (xs : List Entry) (t : Standing) (x : Entry) (u : Standing) → Leads e limit s xs t → StepsBy e limit t x u → Leads e limit s (xs ++ x ∷ []) u

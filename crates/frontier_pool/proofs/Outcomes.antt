@@ -6,7 +6,7 @@ use Rattle.coverage.specs.Findings.{Findings}
 use Rattle.coverage.specs.Jobs.{Node, root}
 use Rattle.findings.specs.declared.outcome.Cause.{Cause}
 use Rattle.findings.specs.declared.outcome.Outcome.TheVariants.{Complete, Incomplete}
-use Rattle.sleep_tree.specs.Explorations.{ExplorationSeen, JobSeen, TicketSeen, names_of, nodes_of}
+use Rattle.sleep_jobs.specs.Explorations.{ExplorationSeen, JobSeen, TicketSeen, names_of, nodes_of}
 use Rattle.frontier_pool.specs.Calls.{ComesTo}
 use Rattle.frontier_pool.specs.Explorations.{nodes_of_jobs}
 use Rattle.frontier_pool.specs.Seen.{cause_of, listed, seen_of, standing_of}

@@ -14,9 +14,9 @@ use Rattle.findings.proofs.Schedules.{any_order, lists_merged}
 use Rattle.findings.specs.Merging.{merged_findings}
 use Rattle.findings.specs.declared.outcome.Cause.{Cause}
 use Rattle.findings.specs.declared.outcome.Cause.TheVariants.{NodeLimit}
-use Rattle.sleep_tree.proofs.Passing.{found_passes}
-use Rattle.sleep_tree.specs.Explorations.{ExplorationSeen, TicketSeen, program_in, nodes_of, findings_of}
-use Rattle.sleep_tree.specs.Meanings.{AreShown, AreOfJob}
+use Rattle.sleep_jobs.proofs.Passing.{found_passes}
+use Rattle.sleep_jobs.specs.Explorations.{ExplorationSeen, TicketSeen, program_in, nodes_of, findings_of}
+use Rattle.sleep_jobs.specs.Meanings.{AreShown, AreOfJob}
 use Rattle.world_model.specs.Names.{IsAmong}
 use Rattle.world_model.specs.Shown.{Identity, is_error, is_refusal}
 use Rattle.frontier_pool.specs.Explorations.{nodes_of_jobs}

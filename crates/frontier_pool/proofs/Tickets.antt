@@ -10,7 +10,7 @@ use Rattle.std.specs.List.Sorted.{IsNonDecreasingBy, IsPartitionPoint}
 use Rattle.std.specs.Ordering.{ordering_index}
 use Rattle.std.specs.declared.cmp.Ordering.{Ordering}
 use Rattle.std.specs.declared.cmp.Ordering.TheVariants.{Less, Equal, Greater}
-use Rattle.sleep_tree.specs.Explorations.{TicketSeen}
+use Rattle.sleep_jobs.specs.Explorations.{TicketSeen}
 use Rattle.frontier_pool.specs.inside.Frontiers.{AreAtMost, AreRising}
 
 abbrev pub number_of : TicketSeen → ℕ

@@ -6,9 +6,9 @@ use Rattle.findings.specs.declared.outcome.Cause.TheVariants.{NodeLimit}
 use Rattle.findings.specs.declared.outcome.Cause.TheVariants as cause
 use Rattle.findings.specs.declared.outcome.Outcome.{Outcome}
 use Rattle.findings.specs.declared.outcome.Outcome.TheVariants.{Complete, Incomplete}
-use Rattle.sleep_tree.specs.Explorations.{ExplorationSeen, JobSeen, TicketSeen, names_of, nodes_of, findings_of}
-use Rattle.sleep_tree.specs.Meanings.{AreOfJob}
-use Rattle.sleep_tree.specs.Pieces.{PieceSeen}
+use Rattle.sleep_jobs.specs.Explorations.{ExplorationSeen, JobSeen, TicketSeen, names_of, nodes_of, findings_of}
+use Rattle.sleep_jobs.specs.Meanings.{AreOfJob}
+use Rattle.sleep_jobs.specs.Pieces.{PieceSeen}
 use Rattle.frontier_pool.specs.Explorations.{AreOne, IsJobOf}
 use Rattle.frontier_pool.specs.Machine.{Standing, Takes, after_give, opening, stopped}
 use Rattle.frontier_pool.specs.Seen.{Seen, cause_of}

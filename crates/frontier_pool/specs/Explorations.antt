@@ -4,7 +4,7 @@ use Rattle.std.specs.Prelude.{◌≡◌, List}
 use Rattle.core_tree.specs.Sameness.{bare_module}
 use Rattle.coverage.specs.Jobs as tree
 use Rattle.coverage.specs.Jobs.{Job, Node}
-use Rattle.sleep_tree.specs.Explorations.{ExplorationSeen, JobSeen, TicketSeen, program_in, nodes_of, findings_of}
+use Rattle.sleep_jobs.specs.Explorations.{ExplorationSeen, JobSeen, TicketSeen, program_in, nodes_of, findings_of}
 
 -- two explorations are one: the same modules but for the places of their parts in the text, to one depth, under the same flags
 pub record AreOne (e f : ExplorationSeen) : Type 0 where

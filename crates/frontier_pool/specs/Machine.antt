@@ -5,8 +5,8 @@ use Rattle.coverage.specs.Jobs.{Job, Node, root}
 use Rattle.findings.specs.Merging.{merged_findings, nothing}
 use Rattle.findings.specs.declared.outcome.Cause.{Cause}
 use Rattle.findings.specs.declared.outcome.Cause.TheVariants.{NodeLimit, Memory}
-use Rattle.sleep_tree.specs.Explorations.{ExplorationSeen, TicketSeen, nodes_of}
-use Rattle.sleep_tree.specs.Pieces.{IsDone}
+use Rattle.sleep_jobs.specs.Explorations.{ExplorationSeen, TicketSeen, nodes_of}
+use Rattle.sleep_jobs.specs.Pieces.{IsDone}
 use Rattle.frontier_pool.specs.Explorations.{nodes_of_jobs}
 use Rattle.frontier_pool.specs.declared.entry.PoolEvent.{PoolEvent}
 use Rattle.frontier_pool.specs.declared.entry.PoolEvent.TheVariants.{Took, Gave}

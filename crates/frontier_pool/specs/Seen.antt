@@ -3,7 +3,7 @@ use Rattle.std.specs.Prelude.{ℕ, List, ◌∷◌, ◌++◌, Option, Some, None
 use Rattle.coverage.specs.Findings.{Findings}
 use Rattle.findings.specs.declared.outcome.Cause.{Cause}
 use Rattle.findings.specs.declared.outcome.Cause.TheVariants.{NodeLimit, Memory}
-use Rattle.sleep_tree.specs.Explorations.{ExplorationSeen, JobSeen, TicketSeen, names_of}
+use Rattle.sleep_jobs.specs.Explorations.{ExplorationSeen, JobSeen, TicketSeen, names_of}
 use Rattle.frontier_pool.specs.Machine.{Standing, Entry, Enters, Stops}
 use Rattle.frontier_pool.specs.declared.entry.PoolEvent.{PoolEvent}
 use Rattle.frontier_pool.specs.declared.entry.Stop.{Stop}

@@ -4,9 +4,9 @@ use Rattle.std.specs.Prelude.{◌≡◌, ◌≤◌, ◌<◌, ◌+◌, ℕ, List,
 use Rattle.coverage.specs.Jobs.{Job, Node, root}
 use Rattle.findings.specs.Merging.{merged_findings}
 use Rattle.findings.specs.declared.outcome.Cause.TheVariants.{NodeLimit}
-use Rattle.sleep_tree.specs.Explorations.{ExplorationSeen, TicketSeen, nodes_of, findings_of}
-use Rattle.sleep_tree.specs.Meanings.{AreOfJob}
-use Rattle.sleep_tree.specs.Pieces.{IsDone}
+use Rattle.sleep_jobs.specs.Explorations.{ExplorationSeen, TicketSeen, nodes_of, findings_of}
+use Rattle.sleep_jobs.specs.Meanings.{AreOfJob}
+use Rattle.sleep_jobs.specs.Pieces.{IsDone}
 use Rattle.frontier_pool.specs.Explorations.{nodes_of_jobs}
 use Rattle.frontier_pool.specs.Machine.{Standing, Entry, IsLegal}
 

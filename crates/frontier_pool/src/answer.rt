@@ -1,5 +1,5 @@
 // What the calls of a pool answer.
-use sleep_tree::{Job, Piece, Ticket};
+use sleep_jobs::{Job, Piece, Ticket};
 
 /// What a `take` answers.
 #[derive(Drop)]

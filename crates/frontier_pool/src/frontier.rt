@@ -1,7 +1,7 @@
 // The jobs that are open and out, and what is done: a pool without its seats.
 ghost use Rattle.std.specs.Prelude.{◌≡◌, ℕ, ◌+◌, ◌^◌, ◌<◌, ◌≤◌, true, false, length, [], None, IfOk, IfErr, OnOk, OnErr};
 ghost use Rattle.frontier_pool.specs.Calls.{Accepts, ComesTo, IsDone, IsIdle, IsOwn, RefusesTo, TakesTo, opened, stop_after, stopped_seen};
-ghost use Rattle.sleep_tree.specs.Explorations.{explored_by};
+ghost use Rattle.sleep_jobs.specs.Explorations.{explored_by};
 ghost use Rattle.frontier_pool.specs.Machine.{IsLegal};
 ghost use Rattle.frontier_pool.specs.Seen.{listed};
 ghost use Rattle.frontier_pool.specs.Sums.{AddsUp, SumsUp};
@@ -13,7 +13,7 @@ use crate::room::{put, take_in};
 use crate::sameness::{are_one, is_for};
 use core_tree::Module;
 use findings::{Cause, Findings, Options, Outcome};
-use sleep_tree::{Exploration, Job, Piece, Ticket};
+use sleep_jobs::{Exploration, Job, Piece, Ticket};
 use std::alloc::{AllocError, Global};
 use std::marker::Model;
 
@@ -36,7 +36,7 @@ impl<'m> Model for Frontier<'m> {
     ghost use Rattle.frontier_pool.specs.Seen.{Seen, seen_of};
     ghost use Rattle.frontier_pool.specs.inside.Codes.{coded_seen};
     ghost use Rattle.frontier_pool.specs.inside.Frontiers.{IsFrontier};
-    ghost use Rattle.sleep_tree.specs.Explorations.{exploration_in};
+    ghost use Rattle.sleep_jobs.specs.Explorations.{exploration_in};
 
     ghost Value = { Seen };
 

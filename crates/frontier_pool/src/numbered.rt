@@ -5,7 +5,7 @@ ghost use Rattle.std.specs.Ordering.{nat_cmp};
 ghost use Rattle.frontier_pool.specs.inside.Frontiers.{AreRising};
 
 use crate::sameness::is_ticket;
-use sleep_tree::Ticket;
+use sleep_jobs::Ticket;
 use std::cmp::Ordering;
 
 /// Whether a ticket has a lesser number, this one, or a greater one.

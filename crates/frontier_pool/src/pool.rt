@@ -5,7 +5,7 @@ ghost use Rattle.frontier_pool.specs.Calls.{entries_in};
 use crate::answer::{GiveFault, Taken};
 use crate::seat::{PoolName, Seat};
 use crate::state::PoolState;
-use sleep_tree::{Piece, Ticket};
+use sleep_jobs::{Piece, Ticket};
 use std::alloc::{AllocError, Global};
 use std::sync::{Condvar, Mutex, Wait};
 

@@ -4,7 +4,7 @@ ghost use Rattle.findings.specs.Merging.{merged_findings};
 
 use crate::entry::PoolEvent;
 use findings::Findings;
-use sleep_tree::Job;
+use sleep_jobs::Job;
 use std::alloc::AllocError;
 
 /// One item more, where there is room for it.

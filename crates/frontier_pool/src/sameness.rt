@@ -2,13 +2,13 @@
 ghost use Rattle.std.specs.Prelude.{◌≡◌, true, false};
 ghost use Rattle.core_tree.specs.Sameness.{bare_module};
 ghost use Rattle.findings.specs.Identities.{flags_in};
-ghost use Rattle.sleep_tree.specs.Explorations.{exploration_in};
+ghost use Rattle.sleep_jobs.specs.Explorations.{exploration_in};
 ghost use Rattle.frontier_pool.specs.Calls.{IsFor};
 ghost use Rattle.frontier_pool.specs.Explorations.{AreOne};
 
 use core_tree::Module;
 use findings::Flags;
-use sleep_tree::{Exploration, JobName, Piece, Ticket};
+use sleep_jobs::{Exploration, JobName, Piece, Ticket};
 use term_core::Step;
 use term_core::order::steps::compare_schedules;
 

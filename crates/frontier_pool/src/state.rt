@@ -1,7 +1,7 @@
 // What lies under the lock of a pool.
 ghost use Rattle.std.specs.Prelude.{◌≡◌, ℕ, ◌+◌, ◌≤◌, true, false, [], None, IfOk, IfErr, OnOk, OnErr, length, sum, vec_len};
 ghost use Rattle.frontier_pool.specs.Calls.{Accepts, ComesTo, IsDone, IsIdle, IsOwn, RefusesTo, TakesTo, entries_in, opened, stopped_seen};
-ghost use Rattle.sleep_tree.specs.Explorations.{explored_by};
+ghost use Rattle.sleep_jobs.specs.Explorations.{explored_by};
 ghost use Rattle.frontier_pool.specs.Machine.{IsLegal};
 ghost use Rattle.frontier_pool.specs.Seen.{listed};
 ghost use Rattle.frontier_pool.specs.Sums.{AddsUp, SumsUp};
@@ -11,7 +11,7 @@ use crate::frontier::Frontier;
 use crate::seat::{PoolName, Seat};
 use core_tree::Module;
 use findings::{Options, Outcome};
-use sleep_tree::{Piece, Ticket};
+use sleep_jobs::{Piece, Ticket};
 use std::alloc::{AllocError, Global};
 use std::marker::Model;
 use std::sync::ledger::{Blank, Book, Share};

@@ -1,6 +1,6 @@
 -- The number of a call's arguments.
 use Rattle.std.proofs.Common.{◌≡◌, ℕ, ◌≤◌, List, [], ◌∷◌, map, length, refl, ap, ◌∙◌, arith}
-use Rattle.core_tree.specs.declared.pure.PureCall.{PureCall}
+use Rattle.core_calls.specs.declared.pure.PureCall.{PureCall}
 use Rattle.term_core.specs.Meaning.{Meaning}
 use Rattle.term_core.specs.Term.{meaning_of}
 use Rattle.term_core.specs.declared.term.Term.{Term}

@@ -1,7 +1,7 @@
 -- What the calls give that a process answers by itself, by the number of their arguments (Erlang reference manual, modules erlang and lists).
 use Rattle.std.specs.Prelude.{ℕ, Bool, List, [], ◌∷◌, false}
-use Rattle.core_tree.specs.declared.pure.PureCall.{PureCall}
-use Rattle.core_tree.specs.declared.pure.PureCall.TheVariants as calls
+use Rattle.core_calls.specs.declared.pure.PureCall.{PureCall}
+use Rattle.core_calls.specs.declared.pure.PureCall.TheVariants as calls
 use Rattle.term_core.specs.Meaning.{Meaning, Pid}
 use Rattle.pure_calls.specs.Answers.{Answer, Value, truth}
 use Rattle.pure_calls.specs.Arithmetic.{absolute, bit_and, bit_or, bit_xor, difference, bit_not, plus_of, negative, product, quotient, remainder, sum}

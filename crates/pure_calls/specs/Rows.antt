@@ -1,7 +1,7 @@
 -- Worked rows: what some calls answer to some arguments, of the process whose pid is `P`.
 use Rattle.std.specs.Prelude.{◌≡◌, pos, negsuc, List, [], ◌∷◌, codes}
-use Rattle.core_tree.specs.declared.pure.PureCall.{PureCall}
-use Rattle.core_tree.specs.declared.pure.PureCall.TheVariants as calls
+use Rattle.core_calls.specs.declared.pure.PureCall.{PureCall}
+use Rattle.core_calls.specs.declared.pure.PureCall.TheVariants as calls
 use Rattle.term_core.specs.Meaning.{Meaning, Int, Atom, Tuple, Cons, meanings_of}
 use Rattle.pure_calls.specs.Answers.{Answer, Value, error, wrong_argument}
 use Rattle.pure_calls.specs.Calls.{answer_of}

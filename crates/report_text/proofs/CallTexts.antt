@@ -6,8 +6,8 @@ use Rattle.term_core.specs.Term.{meaning_of}
 use Rattle.term_core.specs.TermText.{text_of_term}
 use Rattle.term_core.specs.declared.term.Term.{Term}
 use Rattle.std.specs.Fmt.{decimal}
-use Rattle.core_tree.specs.declared.call.CallKind.{CallKind}
-use Rattle.core_tree.specs.Calls.{signature}
+use Rattle.core_calls.specs.declared.call.CallKind.{CallKind}
+use Rattle.core_calls.specs.Calls.{signature}
 use Rattle.world_model.specs.declared.rule.Rule.{Rule}
 use Rattle.coverage.specs.Identities.{number_of_rule}
 use Rattle.report_text.specs.CallText.{behind_comma, text_of_arguments, text_of_call, text_of_rule, name_of_rule}

@@ -4,7 +4,7 @@ use Rattle.std.specs.Fmt.{decimal}
 use Rattle.term_core.specs.Meaning.{Meaning}
 use Rattle.term_core.specs.Text.{text_of_step}
 use Rattle.term_core.specs.TermText.{text_of_term, text_of_reference}
-use Rattle.core_tree.specs.declared.call.CallKind.{CallKind}
+use Rattle.core_calls.specs.declared.call.CallKind.{CallKind}
 use Rattle.world_model.specs.Names.{Ref}
 use Rattle.world_model.specs.Events.{Signal, Message, Exit, LinkExit, Down, Fate, Arrives, IsIgnored, IsDropped, Kills, Refusal, Badarg, NoProcess, ByRule, Deed, Served, Refused, EndedItself, Received, TimedOut, Ended, RanAway, Delivered, Event, History}
 use Rattle.report_text.specs.CallText.{text_of_call, text_of_broken_rule}

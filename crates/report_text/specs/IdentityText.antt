@@ -4,7 +4,7 @@ use Rattle.std.specs.Fmt.{decimal}
 use Rattle.std.specs.List.{flat_map}
 use Rattle.term_core.specs.Meaning.{Meaning}
 use Rattle.term_core.specs.Text.{text_of_pid}
-use Rattle.core_tree.specs.declared.call.CallKind.{CallKind}
+use Rattle.core_calls.specs.declared.call.CallKind.{CallKind}
 use Rattle.world_model.specs.Names.{Pid}
 use Rattle.world_model.specs.Shown.{Identity, End, Deadlock, Runaway, RefusedCall}
 use Rattle.world_model.specs.declared.rule.Rule.{Rule}

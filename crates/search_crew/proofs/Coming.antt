@@ -16,8 +16,8 @@ use Rattle.frontier_pool.specs.Calls.{ComesTo, IsOwn}
 use Rattle.frontier_pool.specs.Explorations.{AreOne, OneHasTheSameNodes, OneShowsTheSame}
 use Rattle.frontier_pool.specs.Seen.{Seen}
 use Rattle.frontier_pool.proofs.Jobs.{same_program}
-use Rattle.sleep_tree.specs.Explorations.{ExplorationSeen, findings_of, nodes_of, program_in}
-use Rattle.sleep_tree.specs.Meanings.{AreOfJob}
+use Rattle.sleep_jobs.specs.Explorations.{ExplorationSeen, findings_of, nodes_of, program_in}
+use Rattle.sleep_jobs.specs.Meanings.{AreOfJob}
 use Rattle.search_crew.specs.Outcomes.{AllAreShown, IsExact, IsListedOf, IsOutcome, all_findings, all_nodes}
 
 -- ---- what was found

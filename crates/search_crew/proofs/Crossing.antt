@@ -15,7 +15,7 @@ use Rattle.core_stack.specs.contracts.layers.Layers as Layers
 use Rattle.core_stack.specs.contracts.stack.Stack as Stack
 use Rattle.core_stack.specs.contracts.stack.Stack.TheInside as StackInside
 use Rattle.core_tree.below.indexmap.proofs.map.IndexMap.TheSendSync as map
-use Rattle.core_tree.proofs.call.CallKind.TheSendSync as call
+use Rattle.core_calls.proofs.call.CallKind.TheSendSync as call
 use Rattle.core_tree.proofs.constant.Consts.TheLaws.TheKnot as constants
 use Rattle.core_tree.proofs.module.FunctionName.TheSendSync as function
 use Rattle.core_tree.proofs.module.NamedFunction.TheSendSync as named
@@ -89,13 +89,13 @@ use Rattle.proc_signals.specs.contracts.receivers.Receivers.TheInside as Receive
 use Rattle.proc_signals.specs.contracts.senders.Senders as Senders
 use Rattle.proc_signals.specs.contracts.senders.Senders.TheInside as SendersInside
 use Rattle.proc_signals.specs.contracts.signal.Signal as Signal
-use Rattle.sleep_tree.specs.contracts.exploration.Exploration as Exploration
-use Rattle.sleep_tree.specs.contracts.job.Job as Job
-use Rattle.sleep_tree.specs.contracts.job.Job.TheInside as JobInside
-use Rattle.sleep_tree.specs.contracts.names.JobName as JobName
-use Rattle.sleep_tree.specs.contracts.names.JobName.TheInside as JobNameInside
-use Rattle.sleep_tree.specs.contracts.names.Ticket as Ticket
-use Rattle.sleep_tree.specs.contracts.names.Ticket.TheInside as TicketInside
+use Rattle.sleep_jobs.specs.contracts.exploration.Exploration as Exploration
+use Rattle.sleep_jobs.specs.contracts.job.Job as Job
+use Rattle.sleep_jobs.specs.contracts.job.Job.TheInside as JobInside
+use Rattle.sleep_jobs.specs.contracts.names.JobName as JobName
+use Rattle.sleep_jobs.specs.contracts.names.JobName.TheInside as JobNameInside
+use Rattle.sleep_jobs.specs.contracts.names.Ticket as Ticket
+use Rattle.sleep_jobs.specs.contracts.names.Ticket.TheInside as TicketInside
 use Rattle.std.proofs.Crossing.{crosses, frees, send, sync}
 use Rattle.std.proofs.MapsCrossing as maps
 use Rattle.std.proofs.MapsCrossingOver as sets

@@ -8,7 +8,7 @@ use Rattle.coverage.specs.Shown.{IsShown, RunShows}
 use Rattle.findings.specs.declared.outcome.Cause.TheVariants.{NodeLimit, Memory}
 use Rattle.findings.specs.declared.outcome.Outcome.{Outcome}
 use Rattle.findings.specs.declared.outcome.Outcome.TheVariants.{Complete, Incomplete}
-use Rattle.sleep_tree.specs.Explorations.{ExplorationSeen, program_in}
+use Rattle.sleep_jobs.specs.Explorations.{ExplorationSeen, program_in}
 
 -- what all nodes of the tree show, and how many they are
 abbrev pub all_findings : ExplorationSeen → Findings

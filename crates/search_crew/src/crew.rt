@@ -2,7 +2,7 @@
 ghost use Rattle.std.specs.Prelude.{◌≡◌, ◌+◌, ◌<◌, ◌≤◌, IfOk, vec_len, vec_capacity};
 ghost use Rattle.std.specs.Thread.{IsSend, IsSync};
 ghost use Rattle.search_crew.specs.Outcomes.{IsExact, IsOutcome};
-ghost use Rattle.sleep_tree.specs.Explorations.{explored_by};
+ghost use Rattle.sleep_jobs.specs.Explorations.{explored_by};
 
 use crate::fault::SearchFault;
 use crate::worker::{Back, work};

@@ -3,9 +3,10 @@ use Rattle.std.proofs.Common.{◌≡◌, ◌∙◌, ◌+◌, ◌%◌, ℕ, false
 use Rattle.term_core.specs.declared.step.Step.{Step}
 use Rattle.world_core.specs.Seen.{Seen, program_in}
 use Rattle.world_model.specs.Run.{extended, next_event, schedule_of}
-use Rattle.sleep_tree.specs.Explorations.{ExplorationSeen, nodes_of}
+use Rattle.sleep_jobs.specs.Explorations.{ExplorationSeen, nodes_of}
 use Rattle.sleep_tree.specs.inside.Frames.{IsChildOf, IsNodeOf, history_below, nodes_of_node}
-use Rattle.sleep_tree.specs.inside.Snapshots.{IsAfter, IsJob, IsNode}
+use Rattle.sleep_jobs.specs.Snapshots.{IsJob}
+use Rattle.sleep_tree.specs.inside.Snapshots.{IsAfter, IsNode}
 use Rattle.sleep_tree.proofs.Frames.{history_is}
 use Rattle.sleep_tree.proofs.Runs.{longer, next_of, some_is}
 use Rattle.sleep_tree.proofs.Snapshots.{job_has_nodes, job_of_node, node_below}

@@ -12,11 +12,12 @@ use Rattle.coverage.specs.Explored.{same_step}
 use Rattle.coverage.specs.Jobs.{Node, asleep_below, awake_steps, nodes_after, nodes_along, node_at, nodes_from}
 use Rattle.coverage.proofs.Lists.{kept_passes}
 use Rattle.sleep_sets.specs.Search.{is_among}
-use Rattle.sleep_tree.specs.Explorations.{ExplorationSeen}
+use Rattle.sleep_jobs.specs.Explorations.{ExplorationSeen}
 use Rattle.sleep_tree.specs.inside.Frames.{NodeSeen, FrameSeen, own_node, nodes_of_node, nodes_of_frame, nodes_of_frames, AreEnabled, IsFrame, IsNodeOf, IsFrameOf, AreFramesOf, history_below}
 use Rattle.sleep_tree.specs.inside.Snapshots.{IsNode}
-use Rattle.sleep_tree.proofs.Lists.{all_append}
-use Rattle.sleep_tree.proofs.Runs.{next_of, longer, one_longer, not_none}
+use Rattle.sleep_jobs.proofs.Lists.{all_append}
+use Rattle.sleep_jobs.proofs.Runs.{not_none}
+use Rattle.sleep_tree.proofs.Runs.{next_of, longer, one_longer}
 
 -- a frame on top
 pub frames_push : (fs : List FrameSeen) (f : FrameSeen) → nodes_of_frames (fs ++ f ∷ []) ≡ nodes_of_frame f ++ nodes_of_frames fs

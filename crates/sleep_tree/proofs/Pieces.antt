@@ -12,13 +12,13 @@ use Rattle.coverage.specs.Jobs.{Job, Node, nodes_from, schedules_of}
 use Rattle.coverage.proofs.FindingLaws.{least}
 use Rattle.coverage.proofs.JobLaws.{map_join}
 use Rattle.coverage.proofs.Lists.{among_left}
-use Rattle.sleep_tree.specs.Explorations.{ExplorationSeen, JobSeen, program_in, nodes_of, nodes_of_all, findings_of}
-use Rattle.sleep_tree.specs.Meanings.{AreShown, AreOfJob}
-use Rattle.sleep_tree.specs.Pieces.{IsDone, AreOf, IsPiece}
+use Rattle.sleep_jobs.specs.Explorations.{ExplorationSeen, JobSeen, program_in, nodes_of, nodes_of_all, findings_of}
+use Rattle.sleep_jobs.specs.Meanings.{AreShown, AreOfJob}
+use Rattle.sleep_jobs.specs.Pieces.{IsDone, AreOf, IsPiece}
 use Rattle.sleep_tree.specs.inside.Frames.{NodeSeen, FrameSeen, own_node, nodes_of_node, nodes_of_frame, nodes_of_frames, IsFrameOf, AreFramesOf, IsExploring}
 use Rattle.sleep_tree.proofs.Frames.{frames_push}
-use Rattle.sleep_tree.proofs.Passing.{found_passes}
-use Rattle.sleep_tree.proofs.Lists.{all_append, all_front, all_back}
+use Rattle.sleep_jobs.proofs.Passing.{found_passes}
+use Rattle.sleep_jobs.proofs.Lists.{all_append, all_front, all_back}
 
 pub all_join : (e : ExplorationSeen) (js ks : List JobSeen) → nodes_of_all e (js ++ ks) ≡ nodes_of_all e js ++ nodes_of_all e ks
 all_join e [] ks = refl

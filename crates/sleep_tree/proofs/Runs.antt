@@ -1,10 +1,10 @@
 -- Schedules that go on.
-use Rattle.std.proofs.Common.{◌≡◌, ◌+◌, ℕ, List, [], ◌∷◌, ◌++◌, length, take, drop, map, Option, Some, None, refl, sym, ap, ◌∙◌, length-append}
-use Rattle.std.proofs.lemmas.List.{reverse-append, take-append-drop}
+use Rattle.std.proofs.Common.{◌≡◌, ◌+◌, [], ◌∷◌, ◌++◌, length, map, Option, Some, None, refl, sym, ap, ◌∙◌, length-append}
+use Rattle.std.proofs.lemmas.List.{reverse-append}
 use Rattle.term_core.specs.declared.step.Step.{Step}
 use Rattle.world_model.specs.Events.{Event, History}
 use Rattle.world_model.specs.Requests.{Program}
-use Rattle.world_model.specs.Run.{next_event, extended, run, run_from, schedule_of}
+use Rattle.world_model.specs.Run.{next_event, extended, run, schedule_of}
 use Rattle.world_model.specs.Steps.{next_deed}
 use Rattle.world_model.specs.World.{contents}
 use Rattle.world_model.proofs.Histories.{step_is}
@@ -12,10 +12,6 @@ use Rattle.coverage.proofs.JobLaws.{one_more}
 
 pub some_is : {X : Type 0} (x y : X) → Some x ≡ Some y → x ≡ y
 some_is x y e = cc
-
-pub not_none : {X : Type 0} (o : Option X) (x : X) → o ≡ Some x → o ≡ None → ⊥
-not_none None x is none = absurd cc
-not_none (Some y) x is none = absurd cc
 
 -- one history follows another by a step
 pub record IsNext (a : Program) (h : History) (s : Step) (g : History) : Type 0 where
@@ -42,17 +38,3 @@ one_longer a h s g n = ap length (longer a h s g n) ∙ length-append (schedule_
 -- and is that of its events
 pub goes_on : (a : Program) (h : History) (s : Step) (g : History) → run a (schedule_of h) ≡ Some h → extended h (next_event a h s) ≡ Some g → run a (schedule_of g) ≡ Some g
 goes_on a h s g reached now = ap (run a) (longer a h s g (next_of a h s g now)) ∙ one_more a (schedule_of h) h s reached ∙ now
-
--- ---- a schedule in two parts
-
-pub run_on : (a : Program) (o : Option History) (first second : List Step) → run_from a o (first ++ second) ≡ run_from a (run_from a o first) second
-run_on a None first second = refl
-run_on a (Some h) [] second = refl
-run_on a (Some h) (s ∷ first) second = run_on a (extended h (next_event a h s)) first second
-
-pub run_parts : (a : Program) (o : Option History) (s : List Step) (k : ℕ) → run_from a o s ≡ run_from a (run_from a o (take k s)) (drop k s)
-run_parts a o s k = ap (run_from a o) (sym (take-append-drop k s)) ∙ run_on a o (take k s) (drop k s)
-
--- a schedule of which a part does not run does not run
-pub stopped : (a : Program) (o : Option History) (s : List Step) (k : ℕ) → run_from a o (take k s) ≡ None → run_from a o s ≡ None
-stopped a o s k none = run_parts a o s k ∙ ap (λ p. run_from a p (drop k s)) none

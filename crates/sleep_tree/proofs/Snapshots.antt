@@ -1,20 +1,20 @@
 -- Worlds that schedules reach, and the snapshots for them.
-use Rattle.std.proofs.Common.{◌≡◌, ◌⊎◌, inl, inr, ◌<◌, ◌≤◌, ◌^◌, ℕ, zero, suc, ◌+◌, ◌-◌, ◌%◌, false, List, [], ◌∷◌, ◌++◌, length, take, drop, Some, refl, sym, ap, ◌∙◌, subst, arith}
+use Rattle.std.proofs.Common.{◌≡◌, ◌⊎◌, inl, inr, ◌<◌, ◌≤◌, ◌^◌, ℕ, zero, suc, ◌+◌, ◌-◌, ◌%◌, false, List, [], ◌∷◌, ◌++◌, length, take, Some, refl, sym, ap, ◌∙◌, subst, arith}
 use Rattle.std.proofs.lemmas.List.{take-append-le}
 use Rattle.core_tree.specs.Syntax.{ModuleTree}
 use Rattle.term_core.specs.declared.step.Step.{Step}
-use Rattle.world_core.specs.Advanced.{RunsTo, StopsAt}
 use Rattle.world_core.specs.Seen.{Seen, program_in}
 use Rattle.world_model.specs.Asking.{program_of}
 use Rattle.world_model.specs.Events.{History}
-use Rattle.world_model.specs.Run.{next_event, extended, run, run_from, schedule_of}
+use Rattle.world_model.specs.Run.{next_event, extended, run, schedule_of}
 use Rattle.world_model.proofs.Runs.{runs_real}
 use Rattle.coverage.specs.Jobs.{Job, nodes_from, nodes_behind}
-use Rattle.sleep_tree.specs.Explorations as seen
-use Rattle.sleep_tree.specs.inside.Snapshots.{IsAt, snapped, IsSnapshot, IsJob, IsNode}
+use Rattle.sleep_jobs.specs.Explorations as seen
+use Rattle.sleep_jobs.specs.Snapshots.{IsAt, snapped, IsSnapshot, IsJob}
+use Rattle.sleep_tree.specs.inside.Snapshots.{IsNode}
 use Rattle.sleep_tree.specs.inside.Frames.{NodeSeen, IsNodeOf, nodes_of_node}
-use Rattle.sleep_tree.proofs.Lists.{take_whole, take_rest}
-use Rattle.sleep_tree.proofs.Runs.{next_of, longer, one_longer, goes_on, run_parts, stopped, not_none}
+use Rattle.sleep_jobs.proofs.Lists.{take_whole}
+use Rattle.sleep_tree.proofs.Runs.{next_of, longer, one_longer, goes_on}
 
 snapped_whole : (n : ℕ) → n % 16 ≡ 0 → snapped n ≡ n
 snapped_whole n h = omega arith
@@ -73,51 +73,20 @@ node_below w v snapshot new s taken left n same lives now whole part =
       ];
     }
 
--- ---- jobs
-
--- the steps of a job that its snapshot does not have
-abbrev pub from_snapshot : List Step → List Step
-from_snapshot s = take (length s - snapped (length s)) (drop (snapped (length s)) s)
-
--- a job's schedule goes on from its snapshot
-pub job_goes_on : (e : seen.ExplorationSeen) (name : Job) (snapshot : Seen) → IsJob e name snapshot → run (seen.program_in e) name.prefix ≡ run_from (program_in snapshot) (Some snapshot.history) (from_snapshot name.prefix)
-job_goes_on e name snapshot job =
-    let k = snapped (length name.prefix) in
-    run_parts (seen.program_in e) (Some []) name.prefix k
-    ∙ ap (λ o. run_from (seen.program_in e) o (drop k name.prefix)) job.is_snapshot.runs
-    ∙ (λ i. run_from (program_of (sym job.is_snapshot.program i)) (Some snapshot.history) (sym (take_rest name.prefix k) i))
-
--- so does a copy of the snapshot
-copy_goes_on : (e : seen.ExplorationSeen) (name : Job) (snapshot old : Seen) (steps : List Step) → IsJob e name snapshot → old ≡ snapshot → steps ≡ from_snapshot name.prefix → run (seen.program_in e) name.prefix ≡ run_from (program_in old) (Some old.history) steps
-copy_goes_on e name snapshot old steps job same is =
-    job_goes_on e name snapshot job ∙ (λ i. run_from (program_in (sym same i)) (Some ((sym same i).history)) (sym is i))
-
-pub world_at : (e : seen.ExplorationSeen) (name : Job) (snapshot old new : Seen) (steps : List Step) → IsJob e name snapshot → old ≡ snapshot → steps ≡ from_snapshot name.prefix → RunsTo (program_in old) old.history steps new.history × (new.spent ≡ false) → new.program ≡ old.program → IsAt e.program name.prefix new
-world_at e name snapshot old new steps job same is ran kept = record {
-  program = kept ∙ ap (λ (w : Seen). w.program) same ∙ job.is_snapshot.program;
-  lives = ran.1;
-  runs = copy_goes_on e name snapshot old steps job same is ∙ ran.0;
-}
-
--- its steps are enabled
-pub not_refused : (e : seen.ExplorationSeen) (name : Job) (snapshot old : Seen) (steps : List Step) (place : ℕ) (h : History) → IsJob e name snapshot → old ≡ snapshot → steps ≡ from_snapshot name.prefix → StopsAt (program_in old) old.history steps place h → ⊥
-not_refused e name snapshot old steps place h job same is stops =
-    not_none _ _ (sym (copy_goes_on e name snapshot old steps job same is) ∙ job.reached) (stopped (program_in old) (Some old.history) steps (stops.before + 1) stops.ends)
-
 -- ---- the node of a job
 
 own_schedule : (e : seen.ExplorationSeen) (name : Job) (w : Seen) → IsAt e.program name.prefix w → schedule_of w.history ≡ name.prefix
 own_schedule e name w at = (runs_real (seen.program_in e) name.prefix w.history at.runs).1
 
-pub node_of_job : (e : seen.ExplorationSeen) (name : Job) (snapshot w own : Seen) (taken left : ℕ) → IsJob e name snapshot → IsAt e.program name.prefix w → e.depth < 2 ^ 64 → taken ≡ length name.prefix → left ≡ e.depth - taken → own ≡ snapshot → IsNode w taken left own
-node_of_job e name snapshot w own taken left job at room count rest same =
+pub node_of_job : (e : seen.ExplorationSeen) (name : Job) (snapshot w : Seen) (taken left : ℕ) → IsJob e name snapshot → IsAt e.program name.prefix w → e.depth < 2 ^ 64 → taken ≡ length name.prefix → left ≡ e.depth - taken → IsNode w taken left snapshot
+node_of_job e name snapshot w taken left job at room count rest =
     let prefix = own_schedule e name w at in
     record {
       lives = at.lives;
       reached = moved e.program w.program (schedule_of w.history) w.history at.program (ap (run (seen.program_in e)) prefix ∙ at.runs);
       counted = count ∙ ap length (sym prefix);
       fits = omega (arith, room, job.short, count, rest);
-      is_snapshot = subst (λ (x : Seen). IsSnapshot w.program (schedule_of w.history) x) (sym same) (subst (λ s. IsSnapshot w.program s snapshot) (sym prefix) (subst (λ m. IsSnapshot m name.prefix snapshot) (sym at.program) job.is_snapshot));
+      is_snapshot = subst (λ s. IsSnapshot w.program s snapshot) (sym prefix) (subst (λ m. IsSnapshot m name.prefix snapshot) (sym at.program) job.is_snapshot);
     }
 
 pub node_is_of : (e : seen.ExplorationSeen) (name : Job) (snapshot w : Seen) (slept : List Step) (taken left : ℕ) → IsJob e name snapshot → IsAt e.program name.prefix w → taken ≡ length name.prefix → left ≡ e.depth - taken → IsNodeOf e (record { program = w.program; history = w.history; slept = slept; left = left })

@@ -1,4 +1,1 @@
 pub mod inside
-pub mod Explorations
-pub mod Pieces
-pub mod Meanings

@@ -1,7 +1,10 @@
 // A child of a node that was visited: it is visited next, or left to a job.
 ghost use Rattle.std.specs.Prelude.{◌≡◌, IfOk};
+ghost use Rattle.sleep_jobs.specs.Explorations.{exploration_in, nodes_of};
+ghost use Rattle.sleep_tree.specs.inside.Frames.{IsNodeOf, nodes_of_node};
 
-use crate::node::Node;
+use crate::node::{Node, snapshot_below};
+use sleep_jobs::{Exploration, Job, JobName};
 use std::alloc::Global;
 use std::marker::Model;
 use std::sync::Arc;
@@ -50,5 +53,28 @@ impl<'m> Child<'m> {
         } = self;
         let node = Node::below(alloc, above, taken, slept, &step, left, snapshot)?;
         Ok(node)
+    }
+    /// The job of it, which is not visited. `Memory` where there is none.
+    pub(crate) fn leave(
+        self,
+        alloc: Global,
+        exploration: Exploration<'m>,
+    ) -> Result<Job<'m>, WorldFault>
+        requires { IsNodeOf (exploration_in exploration) self }
+        ensures nodes { IfOk result (λ job. nodes_of (exploration_in exploration.entry) job.name ≡ nodes_of_node self.entry) }
+        ensures exploration { IfOk result (λ job. job.exploration ≡ exploration_in exploration.entry) }
+    {
+        let Child {
+            above,
+            taken,
+            slept,
+            step,
+            left: _,
+            snapshot,
+        } = self;
+        let mut prefix = above.schedule(alloc)?;
+        let snapshot = snapshot_below(alloc, above, taken, &step, snapshot)?;
+        prefix.push(step)?;
+        Ok(Job::of_node(exploration, JobName { prefix, slept }, snapshot))
     }
 }

@@ -1,18 +1,16 @@
 // The expansion of a job.
 ghost use Rattle.std.specs.Prelude.{◌≡◌, ◌≤◌, IfOk, IfErr};
-ghost use Rattle.sleep_tree.specs.Explorations.{exploration_in, nodes_of_all};
-ghost use Rattle.sleep_tree.specs.Meanings.{AreOfJob};
-ghost use Rattle.sleep_tree.specs.Pieces.{AreOf, IsPiece};
+ghost use Rattle.sleep_jobs.specs.Explorations.{exploration_in, nodes_of_all};
+ghost use Rattle.sleep_jobs.specs.Meanings.{AreOfJob};
+ghost use Rattle.sleep_jobs.specs.Pieces.{AreOf, IsPiece};
 ghost use Rattle.sleep_tree.specs.inside.Frames.{AreFramesOf, nodes_of_frames};
 
-use crate::exploration::Exploration;
 use crate::frame::{Frame, descend, next_child};
 use crate::gate::Gate;
-use crate::job::Job;
-use crate::names::{JobName, Ticket};
-use crate::piece::Piece;
+use crate::node::Node;
 use crate::visit::visit;
 use findings::Findings;
+use sleep_jobs::{Exploration, Job, JobName, Piece, Ticket};
 use std::alloc::Global;
 use world_core::WorldFault;
 
@@ -38,7 +36,7 @@ fn rest_of<'m>(
     let mut rest = Vec::new(alloc);
     while let Some(frame) = frames.pop() {
         let child = next_child(alloc, frame, &mut frames)?;
-        let job = Job::of_child(alloc, child, exploration)?;
+        let job = child.leave(alloc, exploration)?;
         rest.push(job)?;
     }
     Ok(rest)
@@ -58,7 +56,7 @@ fn expanded<'m, G: Gate>(
     let exploration = job.exploration();
     let mut findings = Findings::new(alloc);
     let mut frames = Vec::new(alloc);
-    let first = job.start(alloc)?;
+    let first = Node::of_job(alloc, job)?;
     gate.turn(job.number());
     visit(alloc, exploration.flags, first, &mut findings, &mut frames)?;
     let mut nodes = 1;
@@ -102,16 +100,15 @@ pub fn expand<'m, G: Gate>(
     let Ok(done) = expanded(alloc, &job, budget, gate) else {
         return Err(job.into_name());
     };
+    let Done {
+        findings,
+        nodes,
+        rest,
+    } = done;
     let exploration = job.exploration();
-    let number = job.number();
-    Ok(Piece {
-        ticket: Ticket {
-            number,
-            name: job.into_name(),
-        },
-        exploration,
-        findings: done.findings,
-        nodes: done.nodes,
-        rest: done.rest,
-    })
+    let ticket = Ticket {
+        number: job.number(),
+        name: job.into_name(),
+    };
+    Ok(Piece::of(ticket, exploration, findings, nodes, rest))
 }

@@ -1,6 +1,6 @@
 // A node that was visited, and whose children were not all.
 ghost use Rattle.std.specs.Prelude.{◌≡◌, ◌∷◌, ◌++◌, IfOk, OnOk};
-ghost use Rattle.sleep_tree.specs.Explorations.{ExplorationSeen};
+ghost use Rattle.sleep_jobs.specs.Explorations.{ExplorationSeen};
 ghost use Rattle.sleep_tree.specs.inside.Frames.{nodes_of_frame, nodes_of_frames, nodes_of_node, own_node, AreFramesOf, IsFrameOf, IsNodeOf};
 ghost use Rattle.world_model.specs.Asking.{program_of};
 ghost use Rattle.world_model.specs.Run.{enabled_steps};

@@ -2,8 +2,12 @@
 ghost use Rattle.std.specs.Prelude.{◌≡◌, ◌+◌, ◌^◌, ◌<◌, ◌%◌, false, None, Some, IfOk};
 ghost use Rattle.world_core.specs.Seen.{program_in};
 ghost use Rattle.world_model.specs.Run.{extended, next_event};
+ghost use Rattle.sleep_jobs.specs.Explorations.{nodes_of};
+ghost use Rattle.sleep_tree.specs.inside.Frames.{IsNodeOf, nodes_of_node};
 ghost use Rattle.sleep_tree.specs.inside.Snapshots.{IsAfter, IsNode};
 
+use findings::copy_schedule;
+use sleep_jobs::Job;
 use std::alloc::Global;
 use std::marker::Model;
 use std::sync::Arc;
@@ -52,6 +56,20 @@ fn renewed<'m>(
     Ok(snapshot)
 }
 
+/// The world that an enabled step leads to, from one that is taken over. `Memory` where there is none.
+fn stepped<'m>(alloc: Global, world: World<'m>, step: &Step) -> Result<World<'m>, WorldFault>
+    requires lives { world.spent ≡ false }
+    requires enabled { next_event (program_in world) world.history step.now ≡ None → ⊥ }
+    ensures { IfOk result (λ after. IsAfter world.entry step.now after) }
+{
+    let mut world = world;
+    match world.step(alloc, step) {
+        Ok(()) => Ok(world),
+        Err(WorldFault::Memory) => Err(WorldFault::Memory),
+        Err(WorldFault::NotEnabled) => unreachable!(),
+    }
+}
+
 /// The snapshot for the world that an enabled step leads to, from the one for this world, which is taken over. The step
 /// is taken only where its world is the snapshot. `Memory` where there is none.
 pub(crate) fn snapshot_below<'m>(
@@ -70,16 +88,31 @@ pub(crate) fn snapshot_below<'m>(
     if (taken + 1) % 16 != 0 {
         return Ok(snapshot);
     }
-    let mut world = world;
-    match world.step(alloc, step) {
-        Ok(()) => {}
-        Err(WorldFault::Memory) => return Err(WorldFault::Memory),
-        Err(WorldFault::NotEnabled) => unreachable!(),
-    }
-    Ok(Arc::new(alloc, world)?)
+    Ok(Arc::new(alloc, stepped(alloc, world, step)?)?)
 }
 
 impl<'m> Node<'m> {
+    /// The node of a job, with a world that lives. `Memory` where there is none.
+    pub(crate) fn of_job(alloc: Global, job: &Job<'m>) -> Result<Node<'m>, WorldFault>
+        ensures nodes { IfOk result (λ node. nodes_of_node node ≡ nodes_of job.now.exploration job.now.name) }
+        ensures is_of { IfOk result (λ node. IsNodeOf job.now.exploration node) }
+    {
+        let exploration = job.exploration();
+        let world = job.world(alloc)?;
+        let name = job.name();
+        let slept = copy_schedule(alloc, name.slept.as_slice())?;
+        let prefix = name.prefix.as_slice();
+        let taken = prefix.len() as u64;
+        let snapshot = job.snapshot()?;
+        Ok(Node {
+            world,
+            taken,
+            slept,
+            left: exploration.depth - taken,
+            snapshot,
+        })
+    }
+
     /// The node that an enabled step leads to, from a world that is taken over. `Memory` where there is none.
     pub(crate) fn below(
         alloc: Global,
@@ -97,12 +130,7 @@ impl<'m> Node<'m> {
         ensures slept { IfOk result (λ node. node.slept ≡ slept.items) }
         ensures left { IfOk result (λ node. node.left ≡ left) }
     {
-        let mut world = world;
-        match world.step(alloc, step) {
-            Ok(()) => {}
-            Err(WorldFault::Memory) => return Err(WorldFault::Memory),
-            Err(WorldFault::NotEnabled) => unreachable!(),
-        }
+        let world = stepped(alloc, world, step)?;
         let taken = taken + 1;
         let snapshot = renewed(alloc, &world, taken, snapshot)?;
         Ok(Node {

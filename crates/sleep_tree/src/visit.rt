@@ -6,7 +6,7 @@ ghost use Rattle.findings.specs.Laws.{AddsSchedule};
 ghost use Rattle.world_core.specs.Seen.{program_in};
 ghost use Rattle.world_model.specs.Run.{enabled_steps, schedule_of};
 ghost use Rattle.world_model.specs.Shown.{shown as shown_of};
-ghost use Rattle.sleep_tree.specs.Explorations.{ExplorationSeen, findings_of};
+ghost use Rattle.sleep_jobs.specs.Explorations.{ExplorationSeen, findings_of};
 ghost use Rattle.sleep_tree.specs.inside.Frames.{nodes_of_frames, nodes_of_node, own_node, AreFramesOf, IsNodeOf};
 
 use crate::frame::{Frame, open};

@@ -4,7 +4,7 @@ use Rattle.std.specs.Prelude.{◌+◌, not, unwrap_or}
 use Rattle.term_core.specs.declared.step.Step.TheVariants.{Turn}
 use Rattle.term_core.specs.Meaning.{Meaning}
 use Rattle.core_tree.specs.Syntax.{ModuleTree}
-use Rattle.core_tree.specs.declared.call.CallKind.{CallKind}
+use Rattle.core_calls.specs.declared.call.CallKind.{CallKind}
 use Rattle.proc_signals.specs.Mailbox.{first_place}
 use Rattle.world_model.specs.Asking.{program_of}
 use Rattle.world_model.specs.Calls.{call_of}

@@ -4,4 +4,3 @@ pub mod Showing
 pub mod Worlds
 pub mod Runs
 pub mod Turns
-pub mod Asleep

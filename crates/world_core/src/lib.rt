@@ -6,7 +6,6 @@ mod events;
 pub mod fault;
 pub mod laws;
 mod shows;
-mod sleeping;
 pub mod world;
 
 pub use fault::WorldFault;

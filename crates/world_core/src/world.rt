@@ -1,6 +1,5 @@
 // The world of one schedule.
 ghost use Rattle.std.specs.Prelude.{◌≡◌, ◌↔◌, [], true, false, Some, None, IfOk, OnOk, OnErr, IfErr, IsErr, IsSome, MatchResult, Contains, option_map, map};
-ghost use Rattle.coverage.specs.Jobs.{asleep_below};
 ghost use Rattle.findings.specs.Identities.{identity_in};
 ghost use Rattle.term_core.specs.declared.step.Step.{Step};
 ghost use Rattle.world_core.specs.Advanced.{Advances};
@@ -17,7 +16,6 @@ use crate::enabled::enabled_steps;
 use crate::events::Events;
 use crate::fault::WorldFault;
 use crate::shows::shown_by_world;
-use crate::sleeping::asleep_in;
 use core_tree::Module;
 use findings::Identity;
 use std::alloc::Global;
@@ -226,30 +224,6 @@ impl<'m> World<'m> {
         }
         let found = shown_by_world(&self.records, alloc, self.events.latest(), enabled)?;
         Ok(found)
-    }
-
-    /// Of the steps that sleep, those that stay asleep below a step: those that are independent of it, in their order
-    /// (the paper on sleep sets).
-    ///
-    /// # Errors
-    ///
-    /// `Memory` where memory ran out, now or in an earlier step.
-    pub fn asleep_below(
-        &self,
-        alloc: Global,
-        slept: &[Step],
-        step: &Step,
-    ) -> Result<Vec<Step>, WorldFault>
-        ensures asleep { IfOk result (λ asleep. asleep.items ≡ asleep_below (program_in self.now) self.now.history slept.now step.now) }
-        ensures memory { IfErr result (λ fault. fault ≡ Memory) }
-        ensures spent { self.now.spent ≡ true → IsErr result }
-    {
-        if self.is_spent {
-            // What sleeps in a spent world is not known.
-            return Err(WorldFault::Memory);
-        }
-        let asleep = asleep_in(&self.records, alloc, slept, step)?;
-        Ok(asleep)
     }
 
     /// The steps that were taken, the first one first.

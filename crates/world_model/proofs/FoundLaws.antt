@@ -5,7 +5,7 @@ use Rattle.std.specs.Prelude.{◌+◌, option_map, unwrap_or}
 use Rattle.term_core.specs.Meaning.{Meaning}
 use Rattle.term_core.specs.declared.step.Step.{Step}
 use Rattle.term_core.specs.declared.step.Step.TheVariants.{Turn}
-use Rattle.core_tree.specs.declared.call.CallKind.{CallKind}
+use Rattle.core_calls.specs.declared.call.CallKind.{CallKind}
 use Rattle.world_model.specs.Calls.{Call, TableArgument, ByName, ByReference, TableCall, DeleteTable, GiveAway, SetOptions, New, OnTable, call_of}
 use Rattle.world_model.specs.Events.{Event, event, Deed, History, Served}
 use Rattle.world_model.specs.Found.{Found, as_found}

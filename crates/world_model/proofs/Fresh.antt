@@ -4,7 +4,7 @@ use Rattle.std.specs.Prelude.{◌&&◌, ◌<◌, ◌+◌, ◌⊎◌, List, Optio
 use Rattle.term_core.specs.Meaning.{Meaning}
 use Rattle.term_core.specs.declared.step.Step.{Step}
 use Rattle.term_core.specs.declared.step.Step.TheVariants.{Turn, Deliver}
-use Rattle.core_tree.specs.declared.call.CallKind.{CallKind}
+use Rattle.core_calls.specs.declared.call.CallKind.{CallKind}
 use Rattle.eval_rules.specs.Ask.{is_first}
 use Rattle.world_model.specs.Calls.{Call, New, OnTable, Spawn, Monitor, call_of}
 use Rattle.world_model.specs.Cells.{Table, Contents, Alive, Machine, Watch}

@@ -4,7 +4,7 @@ use Rattle.std.specs.Prelude.{unwrap_or}
 use Rattle.term_core.specs.Meaning.{Meaning}
 use Rattle.term_core.specs.declared.step.Step.{Step}
 use Rattle.term_core.specs.declared.step.Step.TheVariants.{Turn}
-use Rattle.core_tree.specs.declared.call.CallKind.{CallKind}
+use Rattle.core_calls.specs.declared.call.CallKind.{CallKind}
 use Rattle.world_model.specs.Calls.{call_of}
 use Rattle.world_model.specs.Cells.{Alive, Contents, Machine, Mailbox}
 use Rattle.world_model.specs.Events.{Event, Deed, Served, Ended, Received, TimedOut, RanAway, Refusal, History}

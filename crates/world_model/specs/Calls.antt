@@ -1,8 +1,8 @@
 -- The calls as they are understood: which call, and what each argument is. An argument that is not of its kind is None.
 use Rattle.std.specs.Prelude.{None, ℕ, ℤ, Bool, true, false, List, [], ◌∷◌, Option, Some, option_map, option_and_then, if◌then◌else◌, codes}
 use Rattle.term_core.specs.Meaning.{Meaning}
-use Rattle.core_tree.specs.declared.call.CallKind.{CallKind}
-use Rattle.core_tree.specs.declared.call.CallKind.TheVariants as kinds
+use Rattle.core_calls.specs.declared.call.CallKind.{CallKind}
+use Rattle.core_calls.specs.declared.call.CallKind.TheVariants as kinds
 use Rattle.world_model.specs.Names.{Name, Pid, Ref}
 use Rattle.world_model.specs.Requests.{Origin, Spawned}
 use Rattle.world_model.specs.Rows.{Key, Object}

@@ -2,8 +2,8 @@
 use Rattle.std.specs.Prelude.{◌∷◌, [], None, codes}
 use Rattle.term_core.specs.declared.step.Step.TheVariants.{Turn}
 use Rattle.core_tree.specs.Syntax.{ModuleTree}
-use Rattle.core_tree.specs.declared.call.CallKind.TheVariants as kinds
-use Rattle.core_tree.specs.declared.pure.PureCall.TheVariants as pures
+use Rattle.core_calls.specs.declared.call.CallKind.TheVariants as kinds
+use Rattle.core_calls.specs.declared.pure.PureCall.TheVariants as pures
 use Rattle.world_model.specs.Calls.{ByName, ByReference}
 use Rattle.world_model.specs.Happenings.{P, P_1, P_2, t, serves_it, refuses_it, EndsWith}
 use Rattle.world_model.specs.Modules.{the, the_atom, the_tuple, the_table, ask_for, compute, in_turn, with_result, module_of, main, child, spawn_child, new_table, put_one, look_up}

@@ -4,9 +4,9 @@ use Rattle.core_tree.specs.Callee as callees
 use Rattle.core_tree.specs.Expression as trees
 use Rattle.core_tree.specs.Pattern as patterns
 use Rattle.core_tree.specs.Syntax.{Mention, NamedAt, Pattern, ClauseTree, DefinitionTree, Tree, ModuleTree, trees_of, clauses_of}
-use Rattle.core_tree.specs.declared.call.CallKind.{CallKind}
-use Rattle.core_tree.specs.declared.call.CallKind.TheVariants as kinds
-use Rattle.core_tree.specs.declared.pure.PureCall.{PureCall}
+use Rattle.core_calls.specs.declared.call.CallKind.{CallKind}
+use Rattle.core_calls.specs.declared.call.CallKind.TheVariants as kinds
+use Rattle.core_calls.specs.declared.pure.PureCall.{PureCall}
 use Rattle.world_model.specs.Names.{Name}
 
 abbrev pub the_atom : Name → Tree

@@ -4,8 +4,8 @@ use Rattle.term_core.specs.Meaning.{Meaning}
 use Rattle.term_core.specs.declared.step.Step.{Step}
 use Rattle.term_core.specs.declared.step.Step.TheVariants.{Turn, Deliver}
 use Rattle.core_tree.specs.Syntax.{ModuleTree, Tree}
-use Rattle.core_tree.specs.declared.call.CallKind.TheVariants as kinds
-use Rattle.core_tree.specs.declared.pure.PureCall.TheVariants as pures
+use Rattle.core_calls.specs.declared.call.CallKind.TheVariants as kinds
+use Rattle.core_calls.specs.declared.pure.PureCall.TheVariants as pures
 use Rattle.world_model.specs.Cells.{Alive}
 use Rattle.world_model.specs.Events.{event, Refused, Badarg, Delivered, Exit, IsIgnored, Arrives}
 use Rattle.world_model.specs.Happenings.{P, P_1, P_2, R_1, t, a_1, serves_it, normal}

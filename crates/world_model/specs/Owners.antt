@@ -3,7 +3,7 @@ use Rattle.std.specs.List.{list_any}
 use Rattle.std.specs.Prelude.{if◌then◌else◌, ◌∷◌, ◌≡◌, List, Option, [], option_map, None, Some, Bool}
 use Rattle.term_core.specs.Meaning.{Meaning}
 use Rattle.term_core.specs.declared.step.Step.TheVariants.{Turn}
-use Rattle.core_tree.specs.declared.call.CallKind.{CallKind}
+use Rattle.core_calls.specs.declared.call.CallKind.{CallKind}
 use Rattle.world_model.specs.Calls.{TableCall, DeleteTable, GiveAway, SetOptions, TableArgument, call_of, OnTable, New}
 use Rattle.world_model.specs.Cells.{Owned}
 use Rattle.world_model.specs.Changes.{changed, Dies}

@@ -3,8 +3,8 @@ use Rattle.std.specs.Prelude.{◌∷◌, codes, [], false}
 use Rattle.term_core.specs.Meaning.{Meaning}
 use Rattle.term_core.specs.declared.step.Step.TheVariants.{Turn, Deliver}
 use Rattle.core_tree.specs.Syntax.{ModuleTree, Tree}
-use Rattle.core_tree.specs.declared.call.CallKind.TheVariants as kinds
-use Rattle.core_tree.specs.declared.pure.PureCall.TheVariants as pures
+use Rattle.core_calls.specs.declared.call.CallKind.TheVariants as kinds
+use Rattle.core_calls.specs.declared.pure.PureCall.TheVariants as pures
 use Rattle.world_model.specs.Events.{Exit, event, Delivered, Arrives, Kills, LinkExit, Down, Received, Refused, NoProcess}
 use Rattle.world_model.specs.Happenings.{P, Happens, P_2, serves_it, spawned, P_1, EndsWith, ends_it, error_of, R_1, normal, HasNoRun}
 use Rattle.world_model.specs.Modules.{the, ask_for, the_atom, child, the_list, module_of, main, with_result, compute, in_turn, spawn_child, wait}

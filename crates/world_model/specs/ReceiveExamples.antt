@@ -4,8 +4,8 @@ use Rattle.term_core.specs.Meaning.{Meaning}
 use Rattle.term_core.specs.declared.step.Step.{Step}
 use Rattle.term_core.specs.declared.step.Step.TheVariants.{Turn, Deliver}
 use Rattle.core_tree.specs.Syntax.{DefinitionTree, ModuleTree, Tree}
-use Rattle.core_tree.specs.declared.call.CallKind.TheVariants as kinds
-use Rattle.core_tree.specs.declared.pure.PureCall.TheVariants as pures
+use Rattle.core_calls.specs.declared.call.CallKind.TheVariants as kinds
+use Rattle.core_calls.specs.declared.pure.PureCall.TheVariants as pures
 use Rattle.world_model.specs.Events.{event, Received, TimedOut, Delivered, Message, Arrives}
 use Rattle.world_model.specs.Happenings.{P, P_1, P_2, EndsWith, Happens, HasNoRun, ends_it, error_of, serves_it, spawned}
 use Rattle.world_model.specs.Modules.{the, the_atom, the_number, the_list, ask_for, compute, in_turn, with_result, function, main, module_of, on, any, only, receive, for_ever, wait}

@@ -1,7 +1,7 @@
 -- What a process asks of the world, and what a program is to the world.
 use Rattle.std.specs.Prelude.{Bool, List}
 use Rattle.term_core.specs.Meaning.{Meaning}
-use Rattle.core_tree.specs.declared.call.CallKind.{CallKind}
+use Rattle.core_calls.specs.declared.call.CallKind.{CallKind}
 use Rattle.eval_rules.specs.Asked.{Answered}
 use Rattle.world_model.specs.Names.{Name, Pid}
 

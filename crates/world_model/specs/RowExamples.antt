@@ -3,8 +3,8 @@ use Rattle.std.specs.Prelude.{◌∷◌, ℤ, pos, List, [], Some, codes}
 use Rattle.term_core.specs.Meaning.{Meaning}
 use Rattle.term_core.specs.declared.step.Step.TheVariants.{Turn}
 use Rattle.core_tree.specs.Syntax.{ModuleTree, Tree}
-use Rattle.core_tree.specs.declared.call.CallKind.{CallKind}
-use Rattle.core_tree.specs.declared.call.CallKind.TheVariants as kinds
+use Rattle.core_calls.specs.declared.call.CallKind.{CallKind}
+use Rattle.core_calls.specs.declared.call.CallKind.TheVariants as kinds
 use Rattle.world_model.specs.Happenings.{P, R_1, serves_it, refuses_it, EndsWith}
 use Rattle.world_model.specs.Modules.{the, the_atom, the_number, the_tuple, the_list, the_table, ask_for, in_turn, with_result, module_of, main}
 use Rattle.world_model.specs.Names.{Name}

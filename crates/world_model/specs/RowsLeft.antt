@@ -3,7 +3,7 @@ use Rattle.std.specs.Option.{option_or}
 use Rattle.std.specs.Prelude.{if◌then◌else◌, ◌∷◌, ◌≡◌, ℕ, Option, List, None, [], Some, Bool, true, false, map}
 use Rattle.term_core.specs.Meaning.{Meaning}
 use Rattle.term_core.specs.declared.step.Step.TheVariants.{Turn}
-use Rattle.core_tree.specs.declared.call.CallKind.{CallKind}
+use Rattle.core_calls.specs.declared.call.CallKind.{CallKind}
 use Rattle.world_model.specs.Calls.{TableCall, Insert, InsertNew, DeleteTable, DeleteKey, DeleteObject, DeleteAll, Take, UpdateCounter, UpdateElement, TableArgument, call_of, OnTable}
 use Rattle.world_model.specs.Cells.{Row, Rows, Contents, Cell}
 use Rattle.world_model.specs.Changes.{cell_of}

@@ -4,7 +4,7 @@ use Rattle.std.specs.Prelude.{List, ◌&&◌, ◌∷◌, if◌then◌else◌, �
 use Rattle.term_core.specs.Meaning.{Meaning}
 use Rattle.term_core.specs.declared.step.Step.{Step}
 use Rattle.term_core.specs.declared.step.Step.TheVariants.{Turn, Deliver}
-use Rattle.core_tree.specs.declared.call.CallKind.{CallKind}
+use Rattle.core_calls.specs.declared.call.CallKind.{CallKind}
 use Rattle.world_model.specs.Events.{Refused, Refusal, Badarg, NoProcess, ByRule, Fate, Arrives, IsIgnored, IsDropped, Kills, Deed, Ended, EndedItself, RanAway, Delivered, History}
 use Rattle.world_model.specs.Names.{Pid, IsAmong}
 use Rattle.world_model.specs.Requests.{Program}

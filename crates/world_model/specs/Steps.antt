@@ -3,7 +3,7 @@ use Rattle.std.specs.Prelude.{◌&&◌, ◌∷◌, ◌++◌, if◌then◌else◌
 use Rattle.term_core.specs.Meaning.{Meaning}
 use Rattle.term_core.specs.declared.step.Step.{Step}
 use Rattle.term_core.specs.declared.step.Step.TheVariants.{Turn, Deliver}
-use Rattle.core_tree.specs.declared.call.CallKind.{CallKind}
+use Rattle.core_calls.specs.declared.call.CallKind.{CallKind}
 use Rattle.eval_rules.specs.Asked as answered
 use Rattle.world_model.specs.Calls.{Call, SendExit, IsAlive, call_of}
 use Rattle.world_model.specs.Cells.{Cell, Alive, Contents, Trap, Mailbox, Course, Machine, Front}

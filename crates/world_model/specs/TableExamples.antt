@@ -4,8 +4,8 @@ use Rattle.term_core.specs.Meaning.{Meaning}
 use Rattle.term_core.specs.declared.step.Step.TheVariants.{Turn, Deliver}
 use Rattle.core_tree.specs.Expression as trees
 use Rattle.core_tree.specs.Syntax.{ModuleTree, Tree}
-use Rattle.core_tree.specs.declared.call.CallKind.TheVariants as kinds
-use Rattle.core_tree.specs.declared.pure.PureCall.TheVariants as pures
+use Rattle.core_calls.specs.declared.call.CallKind.TheVariants as kinds
+use Rattle.core_calls.specs.declared.pure.PureCall.TheVariants as pures
 use Rattle.world_model.specs.Events.{event, Delivered, Message, Arrives, Received, TimedOut}
 use Rattle.world_model.specs.Happenings.{t, P, Happens, made_it, serves_it, a_1, ends_it, normal, HasNoRun, EndsWith, P_2, refuses_it, error_of, spawned, P_1, P_3}
 use Rattle.world_model.specs.Modules.{the, module_of, main, in_turn, new_table, put_one, look_up, spawn_child, child, with_result, ask_for, the_table, the_atom, the_tuple, the_list, the_number, function, mention, compute, on, any, receive, wait}

@@ -4,7 +4,7 @@ use Rattle.std.specs.Prelude.{◌≡◌, ◌∷◌, List, T, true, None, Some, f
 use Rattle.term_core.specs.Meaning.{Meaning}
 use Rattle.term_core.specs.Order.{order_of_terms}
 use Rattle.term_core.specs.declared.step.Step.TheVariants.{Turn}
-use Rattle.core_tree.specs.declared.call.CallKind.{CallKind}
+use Rattle.core_calls.specs.declared.call.CallKind.{CallKind}
 use Rattle.world_model.specs.Calls.{TableArgument, TableCall, call_of, OnTable}
 use Rattle.world_model.specs.Cells.{Machine, Cell, meet}
 use Rattle.world_model.specs.Events.{History, Served, event, Refused, ByRule, Refusal}

@@ -5,7 +5,7 @@ use Rattle.term_core.specs.declared.step.Step.TheVariants.{Turn}
 use Rattle.term_core.specs.Meaning.{Meaning}
 use Rattle.eval_rules.specs.Asked.{Answered}
 use Rattle.core_tree.specs.Syntax.{ModuleTree}
-use Rattle.core_tree.specs.declared.call.CallKind.{CallKind}
+use Rattle.core_calls.specs.declared.call.CallKind.{CallKind}
 use Rattle.world_model.specs.Calls.{Call, call_of, Spawn, SpawnWay, Alone, Linked, Watched, OnTable, TableCall, First}
 use Rattle.world_model.specs.Cells as cells
 use Rattle.world_model.specs.Cells.{Cell, Contents, meet}

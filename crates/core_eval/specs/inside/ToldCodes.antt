@@ -3,8 +3,8 @@ use Rattle.std.specs.Prelude.{◌≡◌, ◌⊎◌, Bool, List, refl}
 use Rattle.std.specs.Coded.{Coded, code_by, coded×, coded⊎, coded_list, coded_bool}
 use Rattle.std.proofs.Common.{inl, inr}
 use base.Stored.{coded_unit}
-use Rattle.core_tree.specs.declared.call.CallKind.{CallKind}
-use Rattle.core_tree.specs.CallCodes.{coded_call}
+use Rattle.core_calls.specs.declared.call.CallKind.{CallKind}
+use Rattle.core_calls.specs.CallCodes.{coded_call}
 use Rattle.term_core.specs.Meaning.{Meaning}
 use Rattle.term_core.specs.inside.MeaningCodes.{coded_meaning}
 use Rattle.core_eval.specs.Told.{Told, Call, Receive, End, Runaway}

@@ -2,14 +2,14 @@
 use Rattle.std.specs.Prelude.{ℕ, zero, suc, List, [], ◌∷◌, ◌++◌, length, Option, Some, None, Ok, Err, Bool, true, false, ◌&&◌, ◌||◌, ◌==◌, nat_lt, if◌then◌else◌, codes}
 use Rattle.core_tokens.specs.declared.fault.ReadFault.{ReadFault}
 use Rattle.core_tokens.specs.declared.fault.ReadFault.TheVariants.{Expected, HigherOrder, UnsupportedCall, TooDeep, UnsupportedForm}
-use Rattle.core_tree.specs.declared.call.CallKind.{CallKind}
-use Rattle.core_tree.specs.declared.pure.PureCall.{PureCall}
+use Rattle.core_calls.specs.declared.call.CallKind.{CallKind}
+use Rattle.core_calls.specs.declared.pure.PureCall.{PureCall}
 use Rattle.core_tokens.specs.declared.token.Keyword.TheVariants as k
 use Rattle.core_tokens.specs.declared.token.Mark.TheVariants as m
 use Rattle.core_grammar.specs.declared.subject.Subject.{Subject}
 use Rattle.core_grammar.specs.declared.subject.Subject.TheVariants as subjects
-use Rattle.core_tree.specs.Calls.{call_with}
-use Rattle.core_tree.specs.PureCalls.{pure_call_with}
+use Rattle.core_calls.specs.Calls.{call_with}
+use Rattle.core_calls.specs.PureCalls.{pure_call_with}
 use Rattle.core_tokens.specs.Piece.{Piece, Shape}
 use Rattle.core_tokens.specs.Piece as lexemes
 use Rattle.core_tree.specs.Syntax.{Mention, NamedAt, Callee, Pattern, Tree, trees_of, ClauseTree, clauses_of}

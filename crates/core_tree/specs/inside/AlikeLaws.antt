@@ -5,10 +5,10 @@ use Rattle.std.proofs.lemmas.Bool.{and_from, and_parts}
 use Rattle.std.specs.Ordering.{int_eq}
 use Rattle.std.specs.Cmp.{IsEquivalence, signed_Decides, unsigned_Decides}
 use Rattle.std.specs.Cmp.Lexicographic.{pointwise}
-use Rattle.core_tree.specs.declared.call.CallKind.{CallKind}
-use Rattle.core_tree.specs.declared.pure.PureCall.{PureCall}
-use Rattle.core_tree.specs.CallCodes.{number_of_call, call_of_number, call_of_number-number_of_call}
-use Rattle.core_tree.specs.CallCodes.{number_of_pure, pure_of_number, pure_of_number-number_of_pure}
+use Rattle.core_calls.specs.declared.call.CallKind.{CallKind}
+use Rattle.core_calls.specs.declared.pure.PureCall.{PureCall}
+use Rattle.core_calls.specs.CallCodes.{number_of_call, call_of_number, call_of_number-number_of_call}
+use Rattle.core_calls.specs.CallCodes.{number_of_pure, pure_of_number, pure_of_number-number_of_pure}
 use Rattle.core_tree.specs.Functions.{same_function}
 use Rattle.core_tree.specs.Syntax.{Function, Callee, Pattern, Patterns, Tree, Trees, Clauses, Constant, Constants, AttributeTree, ModuleTree}
 use Rattle.core_tree.specs.Callee as callees

@@ -3,8 +3,8 @@ use Rattle.std.specs.Prelude.{◌≡◌, ℕ, zero, suc, ℤ, pos, negsuc, List,
 use Rattle.std.specs.Coded.{Coded, code_by, coded×, coded_list, coded_ℕ}
 use base.Stored.{Gv, gnil, gnum, gcons}
 use denote.Struct.Codes.{itself}
-use Rattle.core_tree.specs.CallCodes.{number_of_call, call_of_number, call_of_number-number_of_call}
-use Rattle.core_tree.specs.CallCodes.{number_of_pure, pure_of_number, pure_of_number-number_of_pure}
+use Rattle.core_calls.specs.CallCodes.{number_of_call, call_of_number, call_of_number-number_of_call}
+use Rattle.core_calls.specs.CallCodes.{number_of_pure, pure_of_number, pure_of_number-number_of_pure}
 use Rattle.core_tree.specs.Syntax.{Mention, Function, NamedAt, Callee, Pattern, Patterns, Tree, Trees, Clauses, ClauseTree, Constant, Constants, AttributeTree, DefinitionTree, ModuleTree}
 use Rattle.core_tree.specs.Callee as callees
 use Rattle.core_tree.specs.Pattern as patterns

@@ -6,8 +6,8 @@ use Rattle.term_core.specs.Meaning.{Meaning}
 use Rattle.term_core.specs.inside.MeaningCodes.{coded_meaning}
 use Rattle.term_core.specs.contracts.step.Step as steps
 use Rattle.term_core.specs.declared.step.Step.{Step}
-use Rattle.core_tree.specs.contracts.call.CallKind as kinds
-use Rattle.core_tree.specs.declared.call.CallKind.{CallKind}
+use Rattle.core_calls.specs.contracts.call.CallKind as kinds
+use Rattle.core_calls.specs.declared.call.CallKind.{CallKind}
 use Rattle.world_model.specs.contracts.rule.Rule as rules
 use Rattle.world_model.specs.declared.rule.Rule.{Rule}
 use Rattle.world_model.specs.Shown.{Identity, End, Deadlock, Runaway, RefusedCall}

@@ -7,8 +7,8 @@ use Rattle.coverage.specs.Jobs.{Job}
 use Rattle.findings.specs.contracts.outcome.Cause as causes
 use Rattle.findings.specs.declared.outcome.Cause.{Cause}
 use Rattle.findings.specs.inside.FindingCodes.{coded_findings}
-use Rattle.sleep_tree.specs.Explorations.{ExplorationSeen, TicketSeen}
-use Rattle.sleep_tree.specs.inside.Codes.{coded_exploration, coded_name, coded_ticket}
+use Rattle.sleep_jobs.specs.Explorations.{ExplorationSeen, TicketSeen}
+use Rattle.sleep_jobs.specs.inside.Codes.{coded_exploration, coded_name, coded_ticket}
 use Rattle.frontier_pool.specs.Machine.{Standing}
 use Rattle.frontier_pool.specs.Seen.{Seen}
 use Rattle.frontier_pool.specs.declared.entry.PoolEvent.{PoolEvent}

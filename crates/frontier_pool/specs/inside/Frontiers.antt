@@ -1,7 +1,7 @@
 -- What holds of the fields of a pool.
 use Rattle.std.specs.Prelude.{ℕ, ◌*◌, ◌^◌, ◌<◌, ◌≤◌, List, Option, Some, None, length, slice_index_or}
 use Rattle.coverage.specs.Findings.{Findings}
-use Rattle.sleep_tree.specs.Explorations.{ExplorationSeen, JobSeen, TicketSeen}
+use Rattle.sleep_jobs.specs.Explorations.{ExplorationSeen, JobSeen, TicketSeen}
 use Rattle.frontier_pool.specs.Explorations.{AreJobsOf}
 use Rattle.frontier_pool.specs.Machine.{IsLegal}
 use Rattle.frontier_pool.specs.Seen.{listed, standing_of}

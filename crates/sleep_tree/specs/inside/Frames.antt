@@ -10,8 +10,8 @@ use Rattle.world_model.specs.Requests.{Program}
 use Rattle.world_model.specs.Run.{next_event, schedule_of}
 use Rattle.coverage.specs.Findings.{Findings}
 use Rattle.coverage.specs.Jobs.{Job, Node, node_at, nodes_from, nodes_along}
-use Rattle.sleep_tree.specs.Explorations.{ExplorationSeen, nodes_of}
-use Rattle.sleep_tree.specs.Pieces.{IsDone}
+use Rattle.sleep_jobs.specs.Explorations.{ExplorationSeen, nodes_of}
+use Rattle.sleep_jobs.specs.Pieces.{IsDone}
 use Rattle.sleep_tree.specs.inside.Snapshots.{IsNode}
 use Rattle.world_core.specs.Seen.{Seen, program_in}
 

@@ -1,5 +1,5 @@
 use Rattle.std.proofs.Common.{◌==◌, ◌∙◌}
-use Rattle.core_tree.proofs.PureNumbers.{tag_is_number}
+use Rattle.core_calls.proofs.PureNumbers.{tag_is_number}
 use Rattle.core_tree.proofs.sameness.same_pure.Goals as goal
 
 pub returns : goal.returns

@@ -3,7 +3,7 @@ use Rattle.std.proofs.lemmas.Fn.{always_returns_same}
 use Rattle.std.proofs.lemmas.List.{get_or_default}
 use Rattle.std.specs.List.Sorted.{IsPartitionPoint}
 use Rattle.std.specs.declared.cmp.Ordering.TheVariants.{Less, Greater}
-use Rattle.sleep_tree.specs.Explorations.{TicketSeen}
+use Rattle.sleep_jobs.specs.Explorations.{TicketSeen}
 use Rattle.frontier_pool.proofs.Tickets.{err_part, found_number, not_out, number_of, ok_part, other_ticket, searchable}
 use Rattle.frontier_pool.proofs.numbered.place_of.Goals as goal
 

@@ -1,5 +1,5 @@
 use Rattle.std.proofs.Common.{◌∙◌, ◌∷◌, ◌++◌, [], ap, sym, reverse, append_assoc, arith}
-use Rattle.sleep_tree.proofs.Lists.{reverse_last}
+use Rattle.sleep_jobs.proofs.Lists.{reverse_last}
 use Rattle.frontier_pool.proofs.room.push_all.Goals as goal
 
 pub loop-job-preserved : goal.loop-job-preserved

@@ -1,5 +1,5 @@
 use Rattle.search_crew.specs.Outcomes.{IsOutcome}
-use Rattle.sleep_tree.specs.Explorations.{explored_by}
+use Rattle.sleep_jobs.specs.Explorations.{explored_by}
 use Rattle.search_crew.proofs.Coming.{comes_to, is_exact}
 use Rattle.search_crew.proofs.crew.searched.Goals as goal
 

@@ -1,6 +1,6 @@
 use Rattle.std.proofs.Common.{◌≡◌, ap, sym, subst, arith}
 use Rattle.findings.specs.Identities.{flags_in}
-use Rattle.sleep_tree.specs.Explorations.{ExplorationSeen}
+use Rattle.sleep_jobs.specs.Explorations.{ExplorationSeen}
 use Rattle.sleep_tree.specs.inside.Frames.{AreFramesOf}
 use Rattle.sleep_tree.proofs.Pieces.{popped, exploring_first, exploring_more}
 use Rattle.sleep_tree.proofs.expansion.expanded.Goals as goal

@@ -1,10 +1,10 @@
-use Rattle.sleep_tree.specs.Explorations.{exploration_in}
+use Rattle.sleep_jobs.specs.Explorations.{exploration_in}
 use Rattle.sleep_tree.specs.inside.Frames.{nodes_of_frames}
 use Rattle.sleep_tree.proofs.Pieces.{popped, rest_more, rest_smaller, rest_are_of}
 use Rattle.sleep_tree.proofs.expansion.rest_of.Goals as goal
 
-pub of_child-requires : goal.of_child-requires
-of_child-requires c =
+pub leave-requires : goal.leave-requires
+leave-requires c =
     let e = exploration_in c.args.exploration in
     let b = popped e c.loop-frame.frames.items c.pop.new.self.items c.in-Some.frame c.loop-frame.invariant.frames_are_of c.in-Some.ensures.items in
     (c.in_ok-child.ensures.are_of e b.0 b.1).0

@@ -1,6 +1,6 @@
 use Rattle.std.proofs.Common.{◌≡◌, ◌++◌, length}
-use Rattle.sleep_tree.specs.Explorations.{exploration_in, nodes_of_all}
-use Rattle.sleep_tree.specs.Pieces.{AreOf}
+use Rattle.sleep_jobs.specs.Explorations.{exploration_in, nodes_of_all}
+use Rattle.sleep_jobs.specs.Pieces.{AreOf}
 use Rattle.sleep_tree.specs.inside.Frames.{AreFramesOf, nodes_of_frames}
 use Rattle.sleep_tree.proofs.expansion.rest_of.Given as goal
 

@@ -1,10 +1,10 @@
-use Rattle.std.proofs.Common.{◌≡◌, ◌∙◌, ◌∷◌, ◌++◌, [], List, ap, sym, subst, reverse}
+use Rattle.std.proofs.Common.{◌≡◌, ◌∙◌, ◌∷◌, ◌++◌, [], List, ap, refl, sym, subst, reverse, arith}
 use Rattle.term_core.specs.declared.step.Step.{Step}
 use Rattle.world_core.specs.Seen.{program_in}
 use Rattle.coverage.specs.Jobs.{asleep_below}
-use Rattle.sleep_tree.specs.inside.Frames.{FrameSeen, IsFrameOf}
-use Rattle.sleep_tree.proofs.Lists.{reverse_last}
-use Rattle.sleep_tree.proofs.Frames.{is_child, first_enabled, frame_after, more_children, child_is_of, more_are_of, frame_goes_on}
+use Rattle.sleep_tree.specs.inside.Frames.{FrameSeen, IsFrameOf, nodes_of_frames}
+use Rattle.sleep_jobs.proofs.Lists.{reverse_last, reverse_none}
+use Rattle.sleep_tree.proofs.Frames.{is_child, first_enabled, frame_after, last_child, more_children, child_is_of, more_are_of, frame_goes_on}
 use Rattle.sleep_tree.proofs.frame.next_child.Goals as goal
 
 pub invariant_of-push : goal.invariant_of-push
@@ -40,3 +40,25 @@ returns-clause-are_of c = λ e belongs all.
     c.in_ok-push-2.ensures.items ∙ ap (λ (z : List Step). c.args.frames.now.items ++ record { program = w.program; history = w.history; slept = z; line = rest; left = c.frame.inside.left } ∷ []) c.in_ok-push.ensures.items in
     let own : IsFrameOf e seen = subst (IsFrameOf e) (sym c.frame.view_is) belongs in
     (child_is_of e seen next rest _ child own, more_are_of e seen next rest c.args.frames.now.items c.push-2.new.self.items pushed own all)
+
+pub returns-in_default-clause-nodes : goal.returns-in_default-clause-nodes
+returns-in_default-clause-nodes c =
+    let w = c.frame.inside.world in
+    let next = c.frame.inside.next in
+    let line : reverse c.frame.inside.after.items ≡ [] = reverse_none c.frame.inside.after.items (omega (arith, c.in_default.ensures.cases.0)) in
+    let seen : FrameSeen = record { program = w.program; history = w.history; slept = c.frame.inside.slept.items; line = next ∷ reverse c.frame.inside.after.items; left = c.frame.inside.left } in
+    let child = is_child w w c.frame.inside.slept.items c.in_ok-asleep.asleep.items (next ∷ reverse c.frame.inside.after.items) next next [] c.frame.inside.left (ap (λ (xs : List Step). next ∷ xs) line) refl refl
+    (first_enabled w c.frame.inside.taken c.frame.inside.left next (reverse c.frame.inside.after.items) c.frame.inside.snapshot.value c.frame.invariant)
+    (λ some. c.in_ok-asleep.ensures some ∙ ap (λ (z : List Step). asleep_below (program_in w) w.history z next) c.as_slice.ensures.value) in
+    rw (← c.frame.view_is) (last_child seen next _ (nodes_of_frames c.args.frames.now.items) child)
+
+pub returns-in_default-clause-are_of : goal.returns-in_default-clause-are_of
+returns-in_default-clause-are_of c = λ e belongs all.
+    let w = c.frame.inside.world in
+    let next = c.frame.inside.next in
+    let line : reverse c.frame.inside.after.items ≡ [] = reverse_none c.frame.inside.after.items (omega (arith, c.in_default.ensures.cases.0)) in
+    let seen : FrameSeen = record { program = w.program; history = w.history; slept = c.frame.inside.slept.items; line = next ∷ reverse c.frame.inside.after.items; left = c.frame.inside.left } in
+    let child = is_child w w c.frame.inside.slept.items c.in_ok-asleep.asleep.items (next ∷ reverse c.frame.inside.after.items) next next [] c.frame.inside.left (ap (λ (xs : List Step). next ∷ xs) line) refl refl
+    (first_enabled w c.frame.inside.taken c.frame.inside.left next (reverse c.frame.inside.after.items) c.frame.inside.snapshot.value c.frame.invariant)
+    (λ some. c.in_ok-asleep.ensures some ∙ ap (λ (z : List Step). asleep_below (program_in w) w.history z next) c.as_slice.ensures.value) in
+    (child_is_of e seen next [] _ child (subst (IsFrameOf e) (sym c.frame.view_is) belongs), all)

@@ -4,7 +4,7 @@ use Rattle.world_model.specs.Asking.{program_of}
 use Rattle.world_model.specs.Run.{enabled_steps}
 use Rattle.coverage.specs.Jobs.{awake_steps}
 use Rattle.sleep_tree.specs.inside.Frames.{NodeSeen, IsNodeOf, nodes_of_frames}
-use Rattle.sleep_tree.proofs.Lists.{reverse_last, reverse_none}
+use Rattle.sleep_jobs.proofs.Lists.{reverse_last, reverse_none}
 use Rattle.sleep_tree.proofs.Frames.{awake_are, opened_frame, opened_is_of, opened_node, sleeping_node}
 use Rattle.sleep_tree.proofs.frame.open.Goals as goal
 

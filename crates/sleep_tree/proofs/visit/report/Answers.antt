@@ -6,7 +6,7 @@ use Rattle.world_model.specs.Shown as shown
 use Rattle.findings.specs.Identities.{identity_in, flags_in}
 use Rattle.findings.specs.Laws.{AddsSchedule}
 use Rattle.findings.proofs.Schedules.{adds_schedule}
-use Rattle.sleep_tree.proofs.Lists.{none_left}
+use Rattle.sleep_jobs.proofs.Lists.{none_left}
 use Rattle.sleep_tree.proofs.visit.report.Goals as goal
 
 pub returns-then-shown-eq0 : goal.returns-then-shown-eq0

@@ -1,4 +1,4 @@
-use Rattle.sleep_tree.specs.Explorations.{exploration_in}
+use Rattle.sleep_jobs.specs.Explorations.{exploration_in}
 use Rattle.frontier_pool.proofs.Outcomes.{adds_up}
 use Rattle.frontier_pool.proofs.Sums.{sums_up}
 use Rattle.frontier_pool.specs.Seen.{standing_of}

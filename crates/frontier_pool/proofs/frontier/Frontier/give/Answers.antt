@@ -1,6 +1,6 @@
 use Rattle.std.proofs.Common.{◌≡◌, ℕ, ◌+◌, ◌^◌, ◌<◌, ◌≤◌, length, length-append, List, [], ◌∷◌, ◌++◌, false, get_or, is_err, reverse, refl, subst, sym, ◌∙◌, ap, arith}
 use Rattle.findings.specs.Merging.{merged_findings}
-use Rattle.sleep_tree.specs.Explorations.{JobSeen, TicketSeen, exploration_in}
+use Rattle.sleep_jobs.specs.Explorations.{JobSeen, TicketSeen, exploration_in}
 use Rattle.frontier_pool.proofs.Frontiers.{give_done, give_kept, on_ok}
 use Rattle.frontier_pool.specs.declared.entry.PoolEvent.{PoolEvent}
 use Rattle.frontier_pool.specs.declared.entry.PoolEvent.TheVariants.{Gave}

@@ -1,5 +1,5 @@
 use Rattle.std.proofs.Common.{◌≡◌, ◌∙◌, ◌∷◌, ◌++◌, [], List, ap, sym}
-use Rattle.sleep_tree.specs.Explorations.{JobSeen, exploration_in}
+use Rattle.sleep_jobs.specs.Explorations.{JobSeen, exploration_in}
 use Rattle.frontier_pool.proofs.Frontiers.{frontier_opens, opens_standing, opens_with}
 use Rattle.frontier_pool.proofs.frontier.Frontier.open.Goals as goal
 

@@ -1,6 +1,6 @@
 use Rattle.std.proofs.Common.{◌≡◌, [], arith}
 use Rattle.std.proofs.lemmas.Grind.{common_steps}
-use Rattle.sleep_tree.specs.Explorations.{exploration_in}
+use Rattle.sleep_jobs.specs.Explorations.{exploration_in}
 use Rattle.frontier_pool.proofs.Outcomes.{comes_complete, comes_incomplete, within_limit}
 use Rattle.frontier_pool.proofs.frontier.Frontier.outcome.Goals as goal
 

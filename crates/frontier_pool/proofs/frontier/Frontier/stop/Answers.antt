@@ -1,5 +1,5 @@
 use Rattle.std.proofs.Common.{◌≡◌, length, arith}
-use Rattle.sleep_tree.specs.Explorations.{exploration_in}
+use Rattle.sleep_jobs.specs.Explorations.{exploration_in}
 use Rattle.frontier_pool.proofs.Frontiers.{stop_kept}
 use Rattle.frontier_pool.proofs.frontier.Frontier.stop.Goals as goal
 

@@ -1,5 +1,5 @@
 use Rattle.std.proofs.Common.{◌≡◌, ◌+◌, ◌-◌, ◌∷◌, ◌++◌, [], List, length, ◌∙◌, ap, arith}
-use Rattle.sleep_tree.specs.Explorations.{JobSeen, TicketSeen, exploration_in}
+use Rattle.sleep_jobs.specs.Explorations.{JobSeen, TicketSeen, exploration_in}
 use Rattle.frontier_pool.proofs.Frontiers.{last_is, take_done, take_kept, ticket_for}
 use Rattle.frontier_pool.specs.declared.entry.PoolEvent.{PoolEvent}
 use Rattle.frontier_pool.specs.declared.entry.PoolEvent.TheVariants.{Took}

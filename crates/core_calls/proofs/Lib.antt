@@ -1,0 +1,2 @@
+pub mod PureNumbers
+mod CallsFound

@@ -1,0 +1,312 @@
+// The calls that a process answers by itself.
+ghost use Rattle.std.specs.Prelude.{◌≡◌};
+ghost use Rattle.core_calls.specs.Calls.{has_signature};
+ghost use Rattle.core_calls.specs.PureCalls.{pure_signature, pure_call_with};
+
+/// A call that takes part in no exchange with the world: its value, or what it raises, is reported by its
+/// arguments alone (Erlang reference manual, modules `erlang` and `lists`), but for `erlang:self/0`, which
+/// gives the pid of the process.
+#[derive(Clone, Copy, Debug, PartialEq, Eq, PartialOrd, Ord, Hash)]
+pub enum PureCall {
+    /// `erlang:+/2`: the sum of two integers.
+    Add,
+    /// `erlang:-/2`: the difference of two integers.
+    Subtract,
+    /// `erlang:*/2`: the product of two integers.
+    Multiply,
+    /// `erlang:+/1`: the integer itself.
+    Keep,
+    /// `erlang:-/1`: the negative of an integer.
+    Negate,
+    /// `erlang:div/2`: the quotient of two integers, towards zero.
+    Divide,
+    /// `erlang:rem/2`: the remainder of that division.
+    Remainder,
+    /// `erlang:abs/1`: the absolute value of an integer.
+    Absolute,
+    /// `erlang:band/2`: the bits that two integers share.
+    BitAnd,
+    /// `erlang:bor/2`: the bits that one of two integers has.
+    BitOr,
+    /// `erlang:bxor/2`: the bits that exactly one of two integers has.
+    BitXor,
+    /// `erlang:bnot/1`: the bits that an integer has not.
+    BitNot,
+    /// `erlang:==/2`: whether two terms are equal.
+    Equal,
+    /// `erlang:/=/2`: whether two terms differ.
+    NotEqual,
+    /// `erlang:=:=/2`: whether two terms are the same.
+    Same,
+    /// `erlang:=/=/2`: whether two terms are not the same.
+    NotSame,
+    /// `erlang:</2`: whether a term stands before another.
+    Less,
+    /// `erlang:=</2`: whether a term stands before another or is equal to it.
+    AtMost,
+    /// `erlang:>/2`: whether a term stands after another.
+    Greater,
+    /// `erlang:>=/2`: whether a term stands after another or is equal to it.
+    AtLeast,
+    /// `erlang:and/2`: whether both of two booleans are true.
+    And,
+    /// `erlang:or/2`: whether one of two booleans is true.
+    Or,
+    /// `erlang:xor/2`: whether exactly one of two booleans is true.
+    Xor,
+    /// `erlang:not/1`: whether a boolean is false.
+    Not,
+    /// `erlang:is_integer/1`: whether a term is an integer.
+    IsInteger,
+    /// `erlang:is_number/1`: whether a term is a number.
+    IsNumber,
+    /// `erlang:is_atom/1`: whether a term is an atom.
+    IsAtom,
+    /// `erlang:is_boolean/1`: whether a term is a boolean.
+    IsBoolean,
+    /// `erlang:is_tuple/1`: whether a term is a tuple.
+    IsTuple,
+    /// `erlang:is_list/1`: whether a term is nil or a list cell.
+    IsList,
+    /// `erlang:is_pid/1`: whether a term is a pid.
+    IsPid,
+    /// `erlang:is_reference/1`: whether a term is a reference.
+    IsReference,
+    /// `erlang:is_float/1`: whether a term is a float, which none is.
+    IsFloat,
+    /// `erlang:is_binary/1`: whether a term is a binary, which none is.
+    IsBinary,
+    /// `erlang:is_record/3`: whether a term is a tuple of a size that begins with an atom.
+    IsRecord,
+    /// `erlang:element/2`: one part of a tuple.
+    Element,
+    /// `erlang:setelement/3`: a tuple with one part replaced.
+    SetElement,
+    /// `erlang:tuple_size/1`: the number of a tuple's parts.
+    TupleSize,
+    /// `erlang:hd/1`: the head of a list cell.
+    Head,
+    /// `erlang:tl/1`: the tail of a list cell.
+    Tail,
+    /// `erlang:length/1`: the number of a list's items.
+    Length,
+    /// `erlang:++/2`: a list with a term after it.
+    Append,
+    /// `erlang:--/2`: a list without the items of another.
+    Without,
+    /// `erlang:tuple_to_list/1`: the parts of a tuple as a list.
+    TupleToList,
+    /// `erlang:list_to_tuple/1`: the items of a list as a tuple.
+    ListToTuple,
+    /// `erlang:self/0`: the pid of the process.
+    OwnPid,
+    /// `erlang:error/1`: raises an error.
+    Error,
+    /// `erlang:error/2`: raises an error; its second argument is not looked at.
+    ErrorWith,
+    /// `erlang:exit/1`: raises an exit.
+    Exit,
+    /// `erlang:throw/1`: throws a term.
+    Throw,
+    /// `erlang:get_module_info/1`: information on a module, which is left out.
+    ModuleInfo,
+    /// `erlang:get_module_info/2`: one item of information on a module, which is left out.
+    ModuleInfoItem,
+    /// `lists:reverse/1`: a list from its end.
+    Reverse,
+    /// `lists:member/2`: whether a list has an item.
+    Member,
+    /// `lists:append/2`: a list with a term after it.
+    AppendLists,
+}
+
+/// Each of the calls once.
+pub const PURE_CALLS: [PureCall; 55] = [
+    PureCall::Add,
+    PureCall::Subtract,
+    PureCall::Multiply,
+    PureCall::Keep,
+    PureCall::Negate,
+    PureCall::Divide,
+    PureCall::Remainder,
+    PureCall::Absolute,
+    PureCall::BitAnd,
+    PureCall::BitOr,
+    PureCall::BitXor,
+    PureCall::BitNot,
+    PureCall::Equal,
+    PureCall::NotEqual,
+    PureCall::Same,
+    PureCall::NotSame,
+    PureCall::Less,
+    PureCall::AtMost,
+    PureCall::Greater,
+    PureCall::AtLeast,
+    PureCall::And,
+    PureCall::Or,
+    PureCall::Xor,
+    PureCall::Not,
+    PureCall::IsInteger,
+    PureCall::IsNumber,
+    PureCall::IsAtom,
+    PureCall::IsBoolean,
+    PureCall::IsTuple,
+    PureCall::IsList,
+    PureCall::IsPid,
+    PureCall::IsReference,
+    PureCall::IsFloat,
+    PureCall::IsBinary,
+    PureCall::IsRecord,
+    PureCall::Element,
+    PureCall::SetElement,
+    PureCall::TupleSize,
+    PureCall::Head,
+    PureCall::Tail,
+    PureCall::Length,
+    PureCall::Append,
+    PureCall::Without,
+    PureCall::TupleToList,
+    PureCall::ListToTuple,
+    PureCall::OwnPid,
+    PureCall::Error,
+    PureCall::ErrorWith,
+    PureCall::Exit,
+    PureCall::Throw,
+    PureCall::ModuleInfo,
+    PureCall::ModuleInfoItem,
+    PureCall::Reverse,
+    PureCall::Member,
+    PureCall::AppendLists,
+];
+
+impl PureCall {
+    /// The name of the call's module: `erlang` or `lists`.
+    pub fn module_name(self) -> &'static str
+        ensures { result.now ≡ (pure_signature self).module_name }
+    {
+        match self {
+            PureCall::Reverse | PureCall::Member | PureCall::AppendLists => "lists",
+            _ => "erlang",
+        }
+    }
+
+    /// The name of the call's function, as `element`.
+    pub fn function_name(self) -> &'static str
+        ensures { result.now ≡ (pure_signature self).function_name }
+    {
+        match self {
+            PureCall::Add => "+",
+            PureCall::Subtract => "-",
+            PureCall::Multiply => "*",
+            PureCall::Keep => "+",
+            PureCall::Negate => "-",
+            PureCall::Divide => "div",
+            PureCall::Remainder => "rem",
+            PureCall::Absolute => "abs",
+            PureCall::BitAnd => "band",
+            PureCall::BitOr => "bor",
+            PureCall::BitXor => "bxor",
+            PureCall::BitNot => "bnot",
+            PureCall::Equal => "==",
+            PureCall::NotEqual => "/=",
+            PureCall::Same => "=:=",
+            PureCall::NotSame => "=/=",
+            PureCall::Less => "<",
+            PureCall::AtMost => "=<",
+            PureCall::Greater => ">",
+            PureCall::AtLeast => ">=",
+            PureCall::And => "and",
+            PureCall::Or => "or",
+            PureCall::Xor => "xor",
+            PureCall::Not => "not",
+            PureCall::IsInteger => "is_integer",
+            PureCall::IsNumber => "is_number",
+            PureCall::IsAtom => "is_atom",
+            PureCall::IsBoolean => "is_boolean",
+            PureCall::IsTuple => "is_tuple",
+            PureCall::IsList => "is_list",
+            PureCall::IsPid => "is_pid",
+            PureCall::IsReference => "is_reference",
+            PureCall::IsFloat => "is_float",
+            PureCall::IsBinary => "is_binary",
+            PureCall::IsRecord => "is_record",
+            PureCall::Element => "element",
+            PureCall::SetElement => "setelement",
+            PureCall::TupleSize => "tuple_size",
+            PureCall::Head => "hd",
+            PureCall::Tail => "tl",
+            PureCall::Length => "length",
+            PureCall::Append => "++",
+            PureCall::Without => "--",
+            PureCall::TupleToList => "tuple_to_list",
+            PureCall::ListToTuple => "list_to_tuple",
+            PureCall::OwnPid => "self",
+            PureCall::Error => "error",
+            PureCall::ErrorWith => "error",
+            PureCall::Exit => "exit",
+            PureCall::Throw => "throw",
+            PureCall::ModuleInfo => "get_module_info",
+            PureCall::ModuleInfoItem => "get_module_info",
+            PureCall::Reverse => "reverse",
+            PureCall::Member => "member",
+            PureCall::AppendLists => "append",
+        }
+    }
+
+    /// The number of the call's arguments, 0 to 3.
+    pub fn arity(self) -> usize
+        ensures { result ≡ (pure_signature self).arity }
+    {
+        match self {
+            PureCall::OwnPid => 0,
+            PureCall::Keep
+            | PureCall::Negate
+            | PureCall::Absolute
+            | PureCall::BitNot
+            | PureCall::Not
+            | PureCall::IsInteger
+            | PureCall::IsNumber
+            | PureCall::IsAtom
+            | PureCall::IsBoolean
+            | PureCall::IsTuple
+            | PureCall::IsList
+            | PureCall::IsPid
+            | PureCall::IsReference
+            | PureCall::IsFloat
+            | PureCall::IsBinary
+            | PureCall::TupleSize
+            | PureCall::Head
+            | PureCall::Tail
+            | PureCall::Length
+            | PureCall::TupleToList
+            | PureCall::ListToTuple
+            | PureCall::Error
+            | PureCall::Exit
+            | PureCall::Throw
+            | PureCall::ModuleInfo
+            | PureCall::Reverse => 1,
+            PureCall::IsRecord | PureCall::SetElement => 3,
+            _ => 2,
+        }
+    }
+
+    /// Whether the call has these names and so many arguments.
+    fn has_signature(self, module_name: &str, function_name: &str, arity: usize) -> bool
+        ensures { result ≡ has_signature module_name.now function_name.now arity (pure_signature self) }
+    {
+        self.module_name() == module_name
+            && self.function_name() == function_name
+            && self.arity() == arity
+    }
+
+    /// The call with these names and so many arguments, if there is one.
+    #[tactic(auto, unfolding(crate::specs::PureCalls::pure_call_with))]
+    pub fn named(module_name: &str, function_name: &str, arity: usize) -> Option<PureCall>
+        ensures { result ≡ pure_call_with module_name.now function_name.now arity }
+    {
+        PURE_CALLS
+            .iter()
+            .find(|kind| kind.has_signature(module_name, function_name, arity))
+            .copied()
+    }
+}

@@ -1,0 +1,5 @@
+pub mod inside
+pub mod Explorations
+pub mod Pieces
+pub mod Meanings
+pub mod Snapshots
