@@ -1,11 +1,10 @@
 // Which messages a receive takes (Core Erlang 1.0.3, "Receive").
-ghost use Rattle.std.specs.Prelude.{◌≡◌, ◌++◌, ◌∷◌, [], IfOk};
+ghost use Rattle.std.specs.Prelude.{◌≡◌, ◌++◌, ◌∷◌, [], IfOk, is_some};
 ghost use Rattle.core_tree.specs.Syntax.{ModuleTree, clauses_of, patterns_of};
 ghost use Rattle.core_tree.specs.Tree.{tree_of};
 ghost use Rattle.term_core.specs.Term.{meaning_of};
 ghost use Rattle.eval_rules.specs.Applications.{setting_of};
 ghost use Rattle.eval_rules.specs.Evaluation.{at_rest, evaluate, holds, is_taken, is_true, selects};
-ghost use Rattle.core_stack.specs.inside.Fitting.{each_fits};
 ghost use Rattle.core_stack.specs.Holes.{scope};
 ghost use Rattle.core_stack.specs.Matching.{match_each};
 ghost use Rattle.core_eval.specs.inside.Steps.{gave_true};
@@ -43,7 +42,7 @@ pub(crate) fn selects<'m>(
 
 /// Whether there is one pattern, and the message matches it.
 fn fits_alone(patterns: &Patterns, message: &Term) -> bool
-    ensures { result ≡ each_fits (patterns_of patterns.now) (meaning_of message.now ∷ []) }
+    ensures { result ≡ is_some (match_each (patterns_of patterns.now) (meaning_of message.now ∷ []) []) }
 {
     match patterns.0.as_slice() {
         [pattern] => fits(pattern, message),

@@ -35,7 +35,7 @@ mutual
   matches_where_fits (patterns.Onto ps p) m before = items_match_where_fit ps _ (λ tail. fits p tail) m before (λ tail so_far. matches_where_fits p tail so_far)
   matches_where_fits (patterns.Alias v p) m before = matches_where_fits p m _
 
-  pub each_matches_where_fits : (ps : Patterns) (ms : List Meaning) (before : Environment) → is_some (match_each ps ms before) ≡ each_fits ps ms
+  each_matches_where_fits : (ps : Patterns) (ms : List Meaning) (before : Environment) → is_some (match_each ps ms before) ≡ each_fits ps ms
   each_matches_where_fits patterns.NoMore [] before = refl
   each_matches_where_fits patterns.NoMore (m ∷ ms) before = refl
   each_matches_where_fits (patterns.Also p ps) [] before = refl

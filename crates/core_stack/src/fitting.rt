@@ -1,9 +1,10 @@
 // Whether a value matches a pattern, where nothing is bound (Core Erlang 1.0.3, "Pattern matching"). It takes no memory.
-ghost use Rattle.std.specs.Prelude.{◌≡◌, Bool, map, option_map};
+ghost use Rattle.std.specs.Prelude.{◌≡◌, Bool, is_some, map, option_map};
 ghost use Rattle.core_tree.specs.Syntax.{patterns_of};
 ghost use Rattle.core_tree.specs.Tree.{pattern_of};
 ghost use Rattle.term_core.specs.Term.{meaning_of};
 ghost use Rattle.term_core.specs.Meaning.{Meaning};
+ghost use Rattle.core_stack.specs.Matching.{Environment, match};
 ghost use Rattle.core_stack.specs.inside.Fitting.{fits, each_fits, items_fit};
 ghost use Rattle.core_stack.specs.inside.Fitted.{behind_items};
 
@@ -11,9 +12,16 @@ use crate::matching::{is_integer, is_nil, is_text};
 use core_tree::{Alias, OntoPattern, Pattern, Patterns};
 use term_core::{Pair, Term};
 
-/// Whether the value matches the pattern. It binds nothing and takes no memory.
-#[cycle(fitting)]
+/// Whether the value matches the pattern, whatever is bound before. It binds nothing and takes no memory.
 pub fn fits(pattern: &Pattern, value: &Term) -> bool
+    ensures { (before : Environment) → is_some (match (pattern_of pattern.now) (meaning_of value.now) before) ≡ result }
+{
+    value_fits(pattern, value)
+}
+
+/// Whether the value matches the pattern.
+#[cycle(fitting)]
+fn value_fits(pattern: &Pattern, value: &Term) -> bool
     ensures { result ≡ fits (pattern_of pattern.now) (meaning_of value.now) }
 {
     match pattern {
@@ -33,13 +41,13 @@ pub fn fits(pattern: &Pattern, value: &Term) -> bool
         Pattern::Onto(onto) => {
             let onto: &OntoPattern = onto;
             match items_fit(&onto.items, value) {
-                Some(tail) => fits(&onto.tail, tail),
+                Some(tail) => value_fits(&onto.tail, tail),
                 None => false,
             }
         }
         Pattern::Alias(alias) => {
             let alias: &Alias = alias;
-            fits(&alias.whole, value)
+            value_fits(&alias.whole, value)
         }
     }
 }
@@ -54,7 +62,7 @@ fn parts_fit(patterns: &Patterns, values: &[Term]) -> bool
         let Some((value, rest)) = left.split_first() else {
             return false;
         };
-        if !fits(pattern, value) {
+        if !value_fits(pattern, value) {
             return false;
         }
         left = rest;
@@ -73,7 +81,7 @@ fn items_fit<'v>(patterns: &Patterns, value: &'v Term) -> Option<&'v Term>
             return None;
         };
         let cell: &Pair = cell;
-        if !fits(pattern, cell.head()) {
+        if !value_fits(pattern, cell.head()) {
             return None;
         }
         left = cell.tail();

@@ -15,8 +15,9 @@ use std::alloc::{AllocError, Global};
 use term_core::{Pid, Step};
 use world_records::Records;
 
-// Whether a message is there that the receive of a process selects.
-fn has_message(records: &Records<'_>, alloc: Global, pid: &Pid) -> Result<bool, AllocError>
+/// Whether a message is there that the receive of a process selects, where the process lives and waits at one.
+/// `AllocError` where the search of a mailbox has no memory.
+pub fn has_message(records: &Records<'_>, alloc: Global, pid: &Pid) -> Result<bool, AllocError>
     ensures { IfOk result (λ has. (m : ModuleTree) (v : Contents) → Agrees m records.now v → lives_in (processes_of records.now) pid.now ≡ true → has ≡ is_some (selected_of (selects_in (processes_of records.now) pid.now) (v (cells.Mailbox pid.now)))) }
 {
     let Some(receiver) = records.processes().receiver(pid) else {

@@ -4,5 +4,5 @@
 pub mod enabled;
 pub mod waiting;
 
-pub use enabled::is_enabled;
+pub use enabled::{has_message, is_enabled};
 pub use waiting::must_wait;

@@ -1,23 +1,20 @@
-// What the records of a world say of single cells. None of this takes memory but where it says so.
+// What the records of a world say of single cells. None of this takes memory.
 ghost use Rattle.std.specs.List.{list_any};
-ghost use Rattle.std.specs.Prelude.{◌≡◌, ◌∷◌, [], IfOk, Some, true, option_copied, option_map, is_some};
+ghost use Rattle.std.specs.Prelude.{◌≡◌, true, option_copied, option_map, is_some};
 ghost use Rattle.core_tree.specs.Syntax.{ModuleTree};
 ghost use Rattle.proc_groups.specs.References.{ref_of};
-ghost use Rattle.proc_machines.specs.Processes.{lives_in, selects_in};
+ghost use Rattle.proc_machines.specs.Processes.{lives_in};
 ghost use Rattle.proc_signals.specs.Signal.{signal_of};
-ghost use Rattle.step_indep.specs.inside.Written.{SeesEnd};
 ghost use Rattle.world_model.specs.Cells as cells;
 ghost use Rattle.world_model.specs.Cells.{Contents};
 ghost use Rattle.world_model.specs.Changes.{Dies, changed};
 ghost use Rattle.world_model.specs.Names as names;
 ghost use Rattle.world_model.specs.Names.{same_pid};
 ghost use Rattle.world_model.specs.Signals.{first_of, waiting_in};
-ghost use Rattle.world_model.specs.Steps.{selected_of};
-ghost use Rattle.world_records.specs.Records.{Agrees, links_of, processes_of};
+ghost use Rattle.world_records.specs.Records.{Agrees, processes_of};
 
 use proc_links::Exits;
 use proc_signals::Signal;
-use std::alloc::{AllocError, Global};
 use term_core::{Atom, Pid, RefId};
 use world_records::Records;
 
@@ -81,19 +78,4 @@ pub(crate) fn front<'r>(records: &'r Records<'_>, from: &Pid, to: &Pid) -> Optio
     ensures { (m : ModuleTree) (v : Contents) → Agrees m records.now v → option_map (λ signal. signal_of signal.now) result ≡ first_of (waiting_in v from.now to.now) }
 {
     records.channels().front(from, to)
-}
-
-/// Whether a message is there that the receive of a process selects. `AllocError` where the search has no memory.
-pub(crate) fn has_message(
-    records: &Records<'_>,
-    alloc: Global,
-    pid: &Pid,
-) -> Result<bool, AllocError>
-    ensures { IfOk result (λ has. (m : ModuleTree) (v : Contents) → Agrees m records.now v → lives_in (processes_of records.now) pid.now ≡ true → has ≡ is_some (selected_of (selects_in (processes_of records.now) pid.now) (v (cells.Mailbox pid.now)))) }
-{
-    let Some(receiver) = records.processes().receiver(pid) else {
-        return Ok(false);
-    };
-    let place = records.mailboxes().first(alloc, pid, &receiver)?;
-    Ok(place.is_some())
 }

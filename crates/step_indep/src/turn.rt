@@ -22,11 +22,11 @@ use crate::ends::end;
 use crate::footprints::Footprint;
 use crate::on_processes::call_process;
 use crate::on_tables::call_table;
-use crate::readings::has_message;
 use core_eval::Request;
 use core_tree::CallKind;
 use proc_calls::ProcessRequest;
 use std::alloc::{AllocError, Global};
+use step_enabled::has_message;
 use term_core::{Pid, Terms};
 use world_records::Records;
 
