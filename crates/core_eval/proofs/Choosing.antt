@@ -13,21 +13,20 @@ use Rattle.core_eval.specs.Filled.{through}
 use Rattle.core_eval.specs.inside.Steps.{going, load, work, GoesOn, Judges}
 
 -- the clauses that are left choose as all of them do, in the same place and for the same values
-pub record IsLeft (old new : List Hole) (all left : List ClauseTree) (values kept : List Meaning) : Type 0 where
+pub record IsLeft (old new : List Hole) (all left : List ClauseTree) (values : List Meaning) : Type 0 where
   pub stays : new ≡ old
-  pub same : kept ≡ values
   pub picks : (setting : Setting) (s : State) → choose setting (clauses_of left) values (scope old) s ≡ choose setting (clauses_of all) values (scope old) s
   pub fewer : size_of_clause_list left ≤ size_of_clause_list all
 
-pub none_taken : (r : Result Control AllocError) (old new : List Hole) (all left : List ClauseTree) (values kept : List Meaning) → IsLeft old new all left values kept → length left ≡ 0
-    → IfOk r (λ next. (setting : Setting) (holes : List Hole) (s : State) → going setting holes next s ≡ through setting holes (no_clause kept s)) → IfOk r (λ next. load next ≡ 0)
+pub none_taken : (r : Result Control AllocError) (old new : List Hole) (all left : List ClauseTree) (values : List Meaning) → IsLeft old new all left values → length left ≡ 0
+    → IfOk r (λ next. (setting : Setting) (holes : List Hole) (s : State) → going setting holes next s ≡ through setting holes (no_clause values s)) → IfOk r (λ next. load next ≡ 0)
     → IfOk r (λ next. GoesOn old new next (λ setting s. choose setting (clauses_of all) values (scope old) s) (2 + 4 * size_of_clause_list all))
-none_taken (Ok next) old new all [] values kept h e same less = record {
-  same = λ setting s. same setting new s ∙ ap (λ vs. through setting new (no_clause vs s)) h.same ∙ ap (λ hs. through setting hs (no_clause values s)) h.stays ∙ ap (through setting old) (h.picks setting s);
+none_taken (Ok next) old new all [] values h e same less = record {
+  same = λ setting s. same setting new s ∙ ap (λ hs. through setting hs (no_clause values s)) h.stays ∙ ap (through setting old) (h.picks setting s);
   less = omega (arith, less, ap work h.stays);
 }
-none_taken (Ok next) old new all (c ∷ cs) values kept h e same less = absurd (omega (arith, e))
-none_taken (Err e) old new all left values kept h f same less = tt
+none_taken (Ok next) old new all (c ∷ cs) values h e same less = absurd (omega (arith, e))
+none_taken (Err e) old new all left values h f same less = tt
 
 -- with what it binds a clause that matches is taken
 picked : (o : Option Environment) (bindings env : Environment) (go : Environment → State → Outcome) (others : State → Outcome) (s : State) → o ≡ Some bindings → taken o env go others s ≡ go (bindings ++ env) s
@@ -36,29 +35,27 @@ picked o bindings env go others s e = ap (λ (p : Option Environment). taken p e
 passed_over : (o : Option Environment) (env : Environment) (go : Environment → State → Outcome) (others : State → Outcome) (s : State) → o ≡ None → taken o env go others s ≡ others s
 passed_over o env go others s e = ap (λ (p : Option Environment). taken p env go others s) e
 
-pub clause_taken : (r : Result Control AllocError) (old new top : List Hole) (all left others : List ClauseTree) (c : ClauseTree) (values kept : List Meaning) (bindings : Environment)
-    → IsLeft old new all left values kept → left ≡ c ∷ others → match_each (patterns_of c.patterns) kept [] ≡ Some bindings
-    → IfOk r (λ next. Judges new top next bindings c others kept)
+pub clause_taken : (r : Result Control AllocError) (old new top : List Hole) (all left others : List ClauseTree) (c : ClauseTree) (values : List Meaning) (bindings : Environment)
+    → IsLeft old new all left values → left ≡ c ∷ others → match_each (patterns_of c.patterns) values [] ≡ Some bindings
+    → IfOk r (λ next. Judges new top next bindings c others values)
     → IfOk r (λ next. GoesOn old top next (λ setting s. choose setting (clauses_of all) values (scope old) s) (2 + 4 * size_of_clause_list all))
-clause_taken (Ok next) old new top all left others c values kept bindings h el em j = record {
+clause_taken (Ok next) old new top all left others c values bindings h el em j = record {
   same = λ setting s.
       let chosen : choose setting (clauses_of left) values (scope old) s ≡ guarded (evaluate setting c.guard (bindings ++ scope old) s) (λ s'. evaluate setting c.body (bindings ++ scope old) s') (λ s'. choose setting (clauses_of others) values (scope old) s') =
       ap (λ (cs : List ClauseTree). choose setting (clauses_of cs) values (scope old) s) el
-      ∙ picked (match_each (patterns_of c.patterns) values []) bindings (scope old) _ _ s (ap (λ vs. match_each (patterns_of c.patterns) vs []) (sym h.same) ∙ em) in
+      ∙ picked (match_each (patterns_of c.patterns) values []) bindings (scope old) _ _ s em in
       j.same setting s
-      ∙ ap (λ hs. through setting hs (guarded (evaluate setting c.guard (bindings ++ scope hs) s) (λ s'. evaluate setting c.body (bindings ++ scope hs) s') (λ s'. choose setting (clauses_of others) kept (scope hs) s'))) h.stays
-      ∙ ap (λ vs. through setting old (guarded (evaluate setting c.guard (bindings ++ scope old) s) (λ s'. evaluate setting c.body (bindings ++ scope old) s') (λ s'. choose setting (clauses_of others) vs (scope old) s'))) h.same
+      ∙ ap (λ hs. through setting hs (guarded (evaluate setting c.guard (bindings ++ scope hs) s) (λ s'. evaluate setting c.body (bindings ++ scope hs) s') (λ s'. choose setting (clauses_of others) values (scope hs) s'))) h.stays
       ∙ ap (through setting old) (sym chosen ∙ h.picks setting s);
   less =
       let size : size_of_clause_list left ≡ 1 + (size_of c.guard + (size_of c.body + size_of_clause_list others)) = ap size_of_clause_list el in
       omega (arith, j.less, ap work h.stays, size, h.fewer);
 }
-clause_taken (Err e) old new top all left others c values kept bindings h el em j = tt
+clause_taken (Err e) old new top all left others c values bindings h el em j = tt
 
-pub next_left : (old new : List Hole) (all left others : List ClauseTree) (c : ClauseTree) (values kept : List Meaning) → IsLeft old new all left values kept → left ≡ c ∷ others → match_each (patterns_of c.patterns) kept [] ≡ None → IsLeft old new all others values kept
-next_left old new all left others c values kept h el em = record {
+pub next_left : (old new : List Hole) (all left others : List ClauseTree) (c : ClauseTree) (values : List Meaning) → IsLeft old new all left values → left ≡ c ∷ others → match_each (patterns_of c.patterns) values [] ≡ None → IsLeft old new all others values
+next_left old new all left others c values h el em = record {
   stays = h.stays;
-  same = h.same;
-  picks = λ setting s. sym (ap (λ (cs : List ClauseTree). choose setting (clauses_of cs) values (scope old) s) el ∙ passed_over (match_each (patterns_of c.patterns) values []) (scope old) _ (λ s'. choose setting (clauses_of others) values (scope old) s') s (ap (λ vs. match_each (patterns_of c.patterns) vs []) (sym h.same) ∙ em)) ∙ h.picks setting s;
+  picks = λ setting s. sym (ap (λ (cs : List ClauseTree). choose setting (clauses_of cs) values (scope old) s) el ∙ passed_over (match_each (patterns_of c.patterns) values []) (scope old) _ (λ s'. choose setting (clauses_of others) values (scope old) s') s em) ∙ h.picks setting s;
   fewer = omega (arith, h.fewer, ap size_of_clause_list el);
 }

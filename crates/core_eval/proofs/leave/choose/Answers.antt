@@ -12,9 +12,9 @@ returns-then-branch c =
     ∙ ap (λ before. match_each (patterns_of c.clause.inside.patterns) c.args.values before) (sym c.new-bindings.ensures)
     ∙ c.in_ok-matches_each.ensures
     ∙ ap (λ b. if b then Some c.matches_each.new.bindings else None) c.if-branch.true in
-    clause_taken c.judge.result _ c.loop-clause.stack c.judge.new.stack _ c.loop-clause.left.now c.in-Some.others.now c.in-Some.clause.now _ c.args.values c.matches_each.new.bindings
+    clause_taken c.judge.result _ c.loop-clause.stack c.judge.new.stack _ c.loop-clause.left.now c.in-Some.others.now c.in-Some.clause.now c.args.values c.matches_each.new.bindings
     c.loop-clause.invariant c.in-Some.ensures.cases.0 found c.judge.ensures
 
 pub returns : goal.returns
 returns c =
-    none_taken c.no_clause.result _ c.loop-clause.stack _ c.loop-clause.left.now _ c.args.values c.loop-clause.invariant c.in_default.ensures.cases c.no_clause.ensures.same c.no_clause.ensures.less
+    none_taken c.no_clause.result _ c.loop-clause.stack _ c.loop-clause.left.now c.args.values c.loop-clause.invariant c.in_default.ensures.cases c.no_clause.ensures.same c.no_clause.ensures.less
