@@ -1,9 +1,10 @@
 // Jobs: a node, and all nodes below it.
-ghost use Rattle.std.specs.Prelude.{◌≡◌, [], IfOk};
+ghost use Rattle.std.specs.Prelude.{◌≡◌, [], IfErr, IfOk};
 ghost use Rattle.coverage.specs.Jobs.{root};
 ghost use Rattle.findings.specs.Identities.{flags_in};
 ghost use Rattle.sleep_jobs.specs.Explorations.{exploration_in};
 ghost use Rattle.sleep_jobs.specs.Snapshots.{IsAt, IsJob};
+ghost use Rattle.world_core.specs.declared.fault.WorldFault.TheVariants.{Memory};
 
 use crate::exploration::Exploration;
 use crate::names::JobName;
@@ -161,7 +162,8 @@ impl<'m> Job<'m> {
     ///
     /// `Memory` if there is no memory.
     pub fn world(&self, alloc: Global) -> Result<World<'m>, WorldFault>
-        ensures { IfOk result (λ world. IsAt self.now.exploration.program self.now.name.prefix world) }
+        ensures at { IfOk result (λ world. IsAt self.now.exploration.program self.now.name.prefix world) }
+        ensures memory { IfErr result (λ fault. fault ≡ Memory) }
     {
         let mut world = self.snapshot.copy()?;
         let steps = self.name.prefix.as_slice();

@@ -12,7 +12,7 @@ invariant_of-result c =
     let room : c.exploration-exploration.result.depth < 2 ^ 64 = omega arith in
     let count : length c.as_slice-prefix.result.now ≡ length name.prefix = ap length c.as_slice-prefix.ensures.value ∙ ap (λ (x : Job). length x.prefix) (c.name.view_is ∙ c.name-name.ensures) in
     node_of_job e name c.in_ok-snapshot.snapshot.value c.in_ok-world.world (length c.as_slice-prefix.result.now) (c.exploration-exploration.result.depth - length c.as_slice-prefix.result.now)
-    c.in_ok-snapshot.ensures c.in_ok-world.ensures (subst (λ (d : ℕ). d < 2 ^ 64) depth room) count (ap (λ (d : ℕ). d - length c.as_slice-prefix.result.now) depth)
+    c.in_ok-snapshot.ensures c.in_ok-world.ensures.at (subst (λ (d : ℕ). d < 2 ^ 64) depth room) count (ap (λ (d : ℕ). d - length c.as_slice-prefix.result.now) depth)
 
 pub returns-clause-nodes : goal.returns-clause-nodes
 returns-clause-nodes c =
@@ -21,7 +21,7 @@ returns-clause-nodes c =
     let depth : c.exploration-exploration.result.depth ≡ e.depth = ap (λ (x : ExplorationSeen). x.depth) c.exploration-exploration.ensures in
     let count : length c.as_slice-prefix.result.now ≡ length name.prefix = ap length c.as_slice-prefix.ensures.value ∙ ap (λ (x : Job). length x.prefix) (c.name.view_is ∙ c.name-name.ensures) in
     node_has_nodes e name c.in_ok-world.world c.in_ok-slept.slept.items (length c.as_slice-prefix.result.now) (c.exploration-exploration.result.depth - length c.as_slice-prefix.result.now)
-    c.in_ok-world.ensures count (ap (λ (d : ℕ). d - length c.as_slice-prefix.result.now) depth) (c.in_ok-slept.ensures ∙ c.as_slice.ensures.value ∙ ap (λ (x : Job). x.slept) (c.name.view_is ∙ c.name-name.ensures))
+    c.in_ok-world.ensures.at count (ap (λ (d : ℕ). d - length c.as_slice-prefix.result.now) depth) (c.in_ok-slept.ensures ∙ c.as_slice.ensures.value ∙ ap (λ (x : Job). x.slept) (c.name.view_is ∙ c.name-name.ensures))
 
 pub returns-clause-is_of : goal.returns-clause-is_of
 returns-clause-is_of c =
@@ -30,4 +30,4 @@ returns-clause-is_of c =
     let depth : c.exploration-exploration.result.depth ≡ e.depth = ap (λ (x : ExplorationSeen). x.depth) c.exploration-exploration.ensures in
     let count : length c.as_slice-prefix.result.now ≡ length name.prefix = ap length c.as_slice-prefix.ensures.value ∙ ap (λ (x : Job). length x.prefix) (c.name.view_is ∙ c.name-name.ensures) in
     node_is_of e name c.in_ok-snapshot.snapshot.value c.in_ok-world.world c.in_ok-slept.slept.items (length c.as_slice-prefix.result.now) (c.exploration-exploration.result.depth - length c.as_slice-prefix.result.now)
-    c.in_ok-snapshot.ensures c.in_ok-world.ensures count (ap (λ (d : ℕ). d - length c.as_slice-prefix.result.now) depth)
+    c.in_ok-snapshot.ensures c.in_ok-world.ensures.at count (ap (λ (d : ℕ). d - length c.as_slice-prefix.result.now) depth)
