@@ -25,7 +25,7 @@ use Rattle.explorer_engine.specs.Engine.{WritesNothing}
 use Rattle.explorer_engine.specs.declared.verdict.RunFault.{RunFault}
 use Rattle.explorer_engine.specs.declared.verdict.RunFault.TheVariants as run
 use Rattle.explorer_engine.specs.declared.verdict.Verdict.{Verdict}
-use Rattle.explorer_engine.specs.declared.verdict.Verdict.TheVariants.{Clean, Errors, Incomplete}
+use Rattle.explorer_engine.specs.declared.verdict.Verdict.TheVariants.{Done, Clean, Errors, Incomplete}
 
 -- the input is a module, and the search of its schedules came to this
 pub record IsExplored (input : List ℕ) (options : Options) (outcome : Outcome) : Type 0 where
@@ -43,15 +43,21 @@ abbrev pub verdict_of : Outcome → Verdict
 verdict_of (outcomes.Complete findings nodes) = complete_verdict findings.errors
 verdict_of (outcomes.Incomplete cause findings) = Incomplete
 
--- what stands behind a report: where it is asked for and all nodes are without an error, the cover of the tree
-abbrev pub cover_behind : Printed → Program → ℕ → Verdict → List ℕ
-cover_behind printed.ReportAndCover a n Clean = text_of_cover (lines_of (cover_of a n root))
-cover_behind printed.ReportAndCover a n _ = []
-cover_behind printed.Report a n verdict = []
+-- a cover stands behind a report where it is asked for, and all nodes are without an error
+abbrev pub has_cover : Printed → Verdict → Bool
+has_cover printed.Report verdict = false
+has_cover printed.ReportAndCover Done = false
+has_cover printed.ReportAndCover Clean = true
+has_cover printed.ReportAndCover Errors = false
+has_cover printed.ReportAndCover Incomplete = false
+
+abbrev pub cover_if : Bool → Program → ℕ → List ℕ
+cover_if true a n = text_of_cover (lines_of (cover_of a n root))
+cover_if false a n = []
 
 -- what an exploration prints
 abbrev pub text_of_exploration : Printed → Program → ℕ → Outcome → List ℕ
-text_of_exploration what a n outcome = text_of_report n outcome ++ cover_behind what a n (verdict_of outcome)
+text_of_exploration what a n outcome = text_of_report n outcome ++ cover_if (has_cover what (verdict_of outcome)) a n
 
 -- the whole report was written, and what stands behind it
 pub record IsReportOf (input : List ℕ) (options : Options) (what : Printed) (old new : Option (List ℕ)) (failed : Bool) (verdict : Verdict) : Type 0 where

@@ -1,7 +1,7 @@
 // What an exploration prints: its report and, where that is asked for and no error was found, the cover of the tree.
 ghost use Rattle.std.specs.Prelude.{◌≡◌, true, false};
 ghost use Rattle.cover_check.specs.Writing.{IsWritten};
-ghost use Rattle.explorer_engine.specs.Explored.{complete_verdict, text_of_exploration, verdict_of};
+ghost use Rattle.explorer_engine.specs.Explored.{complete_verdict, has_cover, text_of_exploration, verdict_of};
 ghost use Rattle.world_model.specs.Asking.{program_of};
 
 use crate::verdict::Verdict;
@@ -29,11 +29,19 @@ fn print<G: Gate, W: Sink>(
     ensures { IsWritten (text_of_exploration printed (program_of program.now) depth outcome.now) (W.contents sink.old) (W.contents sink.new) (W.has_failed sink.new) result }
 {
     write_report(sink, depth, outcome)?;
-    match (printed, verdict_of(outcome)) {
-        (Printed::ReportAndCover, Verdict::Clean) => {
-            write_cover(alloc, program, depth, sink, &Watched { gate })
-        }
-        _ => Ok(()),
+    if !has_cover(printed, verdict_of(outcome)) {
+        return Ok(());
+    }
+    write_cover(alloc, program, depth, sink, &Watched { gate })
+}
+
+// Whether a cover stands behind the report: where it is asked for, and no node shows an error.
+fn has_cover(printed: Printed, verdict: Verdict) -> bool
+    ensures { result ≡ has_cover printed verdict }
+{
+    match printed {
+        Printed::Report => false,
+        Printed::ReportAndCover => matches!(verdict, Verdict::Clean),
     }
 }
 

@@ -47,4 +47,11 @@ comes_incomplete e limit todo out f n taken events s stop p is_s =
       λ is.
           let above : limit < n = a.limited (why ∙ ap (λ (c : Cause). Some c) is) in
           omega (arith, length_permutation (nodes_of e root) (a.visited ++ nodes_left e to) a.made_up, length-append a.visited (nodes_left e to), a.is_done.counted),
+      record {
+        visited = a.visited;
+        left = nodes_left e to;
+        made_up = a.made_up;
+        found = a.is_done.found;
+        beyond = λ is. subst (λ (k : ℕ). limit < k) a.is_done.counted (a.limited (why ∙ ap (λ (c : Cause). Some c) is));
+      },
     )

@@ -12,6 +12,7 @@ use Rattle.sleep_jobs.specs.Pieces.{PieceSeen}
 use Rattle.frontier_pool.specs.Explorations.{AreOne, IsJobOf}
 use Rattle.frontier_pool.specs.Machine.{Standing, Takes, after_give, opening, stopped}
 use Rattle.frontier_pool.specs.Seen.{Seen, cause_of}
+use Rattle.frontier_pool.specs.Sums.{VisitsSome}
 use Rattle.frontier_pool.specs.declared.answer.GiveFault.{GiveFault}
 use Rattle.frontier_pool.specs.declared.answer.GiveFault.TheVariants.{StrangeTicket, StrangePiece}
 use Rattle.frontier_pool.specs.declared.answer.GiveFault.TheVariants as refused
@@ -106,7 +107,7 @@ IsDone s = s.stop ≡ None → (s.standing.todo ≡ []) × (s.standing.out ≡ [
 abbrev pub IsOwn : Seen → ExplorationSeen → ℕ → Type 0
 IsOwn s e limit = AreOne s.exploration e × (s.limit ≡ limit)
 
--- what it comes to: all that the tree shows, and how many nodes it has; or why it stopped, and what was found by then, each shown by a node with its schedule
+-- what it comes to: all that the tree shows, and how many nodes it has; or why it stopped, and what was found by then, which is what the visited nodes show
 abbrev pub ComesTo : Seen → Outcome → Type 0
 ComesTo s (Complete findings nodes) = (s.stop ≡ None) × (findings ≡ findings_of s.exploration (nodes_of s.exploration root)) × (nodes ≡ length (nodes_of s.exploration root)) × (nodes ≤ s.limit)
-ComesTo s (Incomplete why findings) = (cause_of s.stop ≡ Some why) × (findings ≡ s.standing.findings) × AreOfJob s.exploration root findings × (why ≡ NodeLimit → s.limit < length (nodes_of s.exploration root))
+ComesTo s (Incomplete why findings) = (cause_of s.stop ≡ Some why) × (findings ≡ s.standing.findings) × AreOfJob s.exploration root findings × (why ≡ NodeLimit → s.limit < length (nodes_of s.exploration root)) × VisitsSome s.exploration s.limit why findings

@@ -1,8 +1,10 @@
 -- What is done, open and out adds up to the tree.
 use Rattle.std.specs.List.Sorted.{IsPermutation}
 use Rattle.std.specs.Prelude.{◌≡◌, ◌≤◌, ◌<◌, ◌+◌, ℕ, List, ◌++◌, Some, None, length, map}
+use Rattle.coverage.specs.Findings.{Findings}
 use Rattle.coverage.specs.Jobs.{Job, Node, root}
 use Rattle.findings.specs.Merging.{merged_findings}
+use Rattle.findings.specs.declared.outcome.Cause.{Cause}
 use Rattle.findings.specs.declared.outcome.Cause.TheVariants.{NodeLimit}
 use Rattle.sleep_jobs.specs.Explorations.{ExplorationSeen, TicketSeen, nodes_of, findings_of}
 use Rattle.sleep_jobs.specs.Meanings.{AreOfJob}
@@ -35,6 +37,14 @@ pub record SumsUp (e : ExplorationSeen) (s : Standing) : Type 0 where
   pub found : findings_of e (nodes_of e root) ≡ merged_findings s.findings (findings_of e (nodes_left e s))
   pub counted : length (nodes_of e root) ≡ s.nodes + length (nodes_left e s)
   pub shown : AreOfJob e root s.findings
+
+-- where it was stopped: some nodes of the tree were visited, each once, and what was found is what these show, each identity once, in order, with the least of their schedules; at the limit more were visited than it
+pub record VisitsSome (e : ExplorationSeen) (limit : ℕ) (why : Cause) (findings : Findings) : Type 0 where
+  pub visited : List Node
+  pub left : List Node
+  pub made_up : IsPermutation (nodes_of e root) (visited ++ left)
+  pub found : findings ≡ findings_of e visited
+  pub beyond : why ≡ NodeLimit → limit < length visited
 
 -- ---- laws
 

@@ -1,5 +1,6 @@
 -- What a finished pool comes to is what the search comes to.
-use Rattle.std.proofs.Common.{◌≡◌, ◌≤◌, ◌<◌, ℕ, List, Some, None, Option, length, refl, sym, ap, ◌∙◌, subst, true}
+use Rattle.std.proofs.Common.{◌≡◌, ◌≤◌, ◌<◌, ℕ, List, ◌++◌, Some, None, Option, length, refl, sym, ap, ◌∙◌, subst, true}
+use Rattle.std.specs.List.Sorted.{IsPermutation}
 use Rattle.world_model.specs.Names.{IsAmong}
 use Rattle.world_model.specs.Requests.{Program}
 use Rattle.world_model.specs.Shown.{Flags, Identity, is_error, is_refusal}
@@ -9,12 +10,14 @@ use Rattle.coverage.specs.Shown.{RunShows}
 use Rattle.coverage.proofs.FindingLaws.{errors_exact, refusals_exact}
 use Rattle.coverage.proofs.JobLaws.{root_nodes}
 use Rattle.coverage.proofs.ShownLaws.{nodes_run}
+use Rattle.findings.specs.declared.outcome.Cause.{Cause}
 use Rattle.findings.specs.declared.outcome.Cause.TheVariants.{NodeLimit, Memory}
 use Rattle.findings.specs.declared.outcome.Outcome.{Outcome}
 use Rattle.findings.specs.declared.outcome.Outcome.TheVariants.{Complete, Incomplete}
 use Rattle.frontier_pool.specs.Calls.{ComesTo, IsOwn}
 use Rattle.frontier_pool.specs.Explorations.{AreOne, OneHasTheSameNodes, OneShowsTheSame}
 use Rattle.frontier_pool.specs.Seen.{Seen}
+use Rattle.frontier_pool.specs.Sums.{VisitsSome}
 use Rattle.frontier_pool.proofs.Jobs.{same_program}
 use Rattle.sleep_jobs.specs.Explorations.{ExplorationSeen, findings_of, nodes_of, program_in}
 use Rattle.sleep_jobs.specs.Meanings.{AreOfJob}
@@ -57,6 +60,17 @@ shown_as e f found one told = (
   ),
 )
 
+-- ---- what was visited
+
+visits_as : (e f : ExplorationSeen) (limit : ℕ) (why : Cause) (found : Findings) → OneHasTheSameNodes → OneShowsTheSame → AreOne e f → VisitsSome e limit why found → VisitsSome f limit why found
+visits_as e f limit why found nodes_same shows_same one some = record {
+  visited = some.visited;
+  left = some.left;
+  made_up = subst (λ (nodes : List Node). IsPermutation nodes (some.visited ++ some.left)) (nodes_same e f root one) some.made_up;
+  found = some.found ∙ shows_same e f some.visited one;
+  beyond = some.beyond;
+}
+
 -- ---- what it comes to
 
 pub comes_to : (s : Seen) (e : ExplorationSeen) (limit : ℕ) (outcome : Outcome) → OneHasTheSameNodes → OneShowsTheSame → IsOwn s e limit → ComesTo s outcome → IsOutcome e limit outcome
@@ -68,9 +82,12 @@ comes_to s e limit (Complete findings nodes) nodes_same shows_same own comes = (
 comes_to s e limit (Incomplete NodeLimit findings) nodes_same shows_same own comes = (
   subst (λ (n : ℕ). n < all_nodes e) own.1 (subst (λ (n : ℕ). s.limit < n) (ap length (nodes_same s.exploration e root own.0)) (comes.3 refl)),
   shown_as s.exploration e findings own.0 (all_shown s.exploration findings comes.2),
+  subst (λ (n : ℕ). VisitsSome e n NodeLimit findings) own.1 (visits_as s.exploration e s.limit NodeLimit findings nodes_same shows_same own.0 comes.4),
 )
-comes_to s e limit (Incomplete Memory findings) nodes_same shows_same own comes =
-    shown_as s.exploration e findings own.0 (all_shown s.exploration findings comes.2)
+comes_to s e limit (Incomplete Memory findings) nodes_same shows_same own comes = (
+  shown_as s.exploration e findings own.0 (all_shown s.exploration findings comes.2),
+  subst (λ (n : ℕ). VisitsSome e n Memory findings) own.1 (visits_as s.exploration e s.limit Memory findings nodes_same shows_same own.0 comes.4),
+)
 
 -- what all nodes show is all that schedules show
 listed_all : (e : ExplorationSeen) (found : Findings) → found ≡ all_findings e → (i : Identity) → IsListedOf e found i

@@ -8,6 +8,7 @@ use Rattle.coverage.specs.Shown.{IsShown, RunShows}
 use Rattle.findings.specs.declared.outcome.Cause.TheVariants.{NodeLimit, Memory}
 use Rattle.findings.specs.declared.outcome.Outcome.{Outcome}
 use Rattle.findings.specs.declared.outcome.Outcome.TheVariants.{Complete, Incomplete}
+use Rattle.frontier_pool.specs.Sums.{VisitsSome}
 use Rattle.sleep_jobs.specs.Explorations.{ExplorationSeen, program_in}
 
 -- what all nodes of the tree show, and how many they are
@@ -24,11 +25,11 @@ AreShown is_of_kind e found = (f : Finding) → IsAmong f found → (is_of_kind 
 abbrev pub AllAreShown : ExplorationSeen → Findings → Type 0
 AllAreShown e findings = AreShown (is_error e.flags) e findings.errors × AreShown is_refusal e findings.refusals
 
--- a search within a limit of nodes: complete, it found what the nodes show, and counted them, which the limit allows; it stopped at the limit only where the nodes are more
+-- a search within a limit of nodes: complete, it found what the nodes show, and counted them, which the limit allows; it stopped at the limit only where the nodes are more, and what it lists then, or where memory was wanting, is what the visited nodes show
 abbrev pub IsOutcome : ExplorationSeen → ℕ → Outcome → Type 0
 IsOutcome e limit (Complete findings nodes) = (findings ≡ all_findings e) × (nodes ≡ all_nodes e) × (nodes ≤ limit)
-IsOutcome e limit (Incomplete NodeLimit findings) = (limit < all_nodes e) × AllAreShown e findings
-IsOutcome e limit (Incomplete Memory findings) = AllAreShown e findings
+IsOutcome e limit (Incomplete NodeLimit findings) = (limit < all_nodes e) × AllAreShown e findings × VisitsSome e limit NodeLimit findings
+IsOutcome e limit (Incomplete Memory findings) = AllAreShown e findings × VisitsSome e limit Memory findings
 
 -- an error is listed exactly where some schedule shows it of at most so many steps, and a refusal
 pub record IsListedOf (e : ExplorationSeen) (findings : Findings) (i : Identity) : Type 0 where
