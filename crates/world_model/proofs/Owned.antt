@@ -117,11 +117,11 @@ owned_same v w all owned_ lives before_ t x now =
 no_table : {A : Type 0} {x : A} → None ≡ Some x → ⊥
 no_table e = absurd cc
 
-freed_owned : (b : Bool) (name : Name) (w : Contents) (q : Pid) → after (if b then Frees name ∷ [] else []) w (Owned q) ≡ w (Owned q)
+pub freed_owned : (b : Bool) (name : Name) (w : Contents) (q : Pid) → after (if b then Frees name ∷ [] else []) w (Owned q) ≡ w (Owned q)
 freed_owned true name w q = refl
 freed_owned false name w q = refl
 
-freed_at : (b : Bool) (name : Name) (w : Contents) (t : Ref) → after (if b then Frees name ∷ [] else []) w (Table t) ≡ w (Table t)
+pub freed_at : (b : Bool) (name : Name) (w : Contents) (t : Ref) → after (if b then Frees name ∷ [] else []) w (Table t) ≡ w (Table t)
 freed_at true name w t = refl
 freed_at false name w t = refl
 
@@ -213,11 +213,11 @@ rule_found true o is = is
 rule_found false o is = absurd cc
 
 -- a new table
-means_table : (b : Bool) (name : Name) (u t : Ref) (w : Contents) → after (means_if b name u) w (Table t) ≡ w (Table t)
+pub means_table : (b : Bool) (name : Name) (u t : Ref) (w : Contents) → after (means_if b name u) w (Table t) ≡ w (Table t)
 means_table true name u t w = refl
 means_table false name u t w = refl
 
-means_owned : (b : Bool) (name : Name) (u : Ref) (w : Contents) (q : Pid) → after (means_if b name u) w (Owned q) ≡ w (Owned q)
+pub means_owned : (b : Bool) (name : Name) (u : Ref) (w : Contents) (q : Pid) → after (means_if b name u) w (Owned q) ≡ w (Owned q)
 means_owned true name u w q = refl
 means_owned false name u w q = refl
 
@@ -248,12 +248,12 @@ lives_on : (b : Bool) (x : Bool) → x ≡ true → (if b then true else x) ≡ 
 lives_on true x is = refl
 lives_on false x is = is
 
-bound_table : (way : SpawnWay) (p child : Pid) (u t : Ref) (w : Contents) → after (bound way p child u) w (Table t) ≡ w (Table t)
+pub bound_table : (way : SpawnWay) (p child : Pid) (u t : Ref) (w : Contents) → after (bound way p child u) w (Table t) ≡ w (Table t)
 bound_table Alone p child u t w = refl
 bound_table Linked p child u t w = refl
 bound_table Watched p child u t w = refl
 
-bound_owned : (way : SpawnWay) (p child : Pid) (u : Ref) (w : Contents) (q : Pid) → after (bound way p child u) w (Owned q) ≡ w (Owned q)
+pub bound_owned : (way : SpawnWay) (p child : Pid) (u : Ref) (w : Contents) (q : Pid) → after (bound way p child u) w (Owned q) ≡ w (Owned q)
 bound_owned Alone p child u w q = refl
 bound_owned Linked p child u w q = refl
 bound_owned Watched p child u w q = refl
@@ -279,7 +279,7 @@ living_by : (v : Contents) (heir h : Pid × Meaning) (b : Bool) → v (Alive hei
 living_by v heir h true is now = ap (λ y. v (Alive y.0)) (sym (ap (λ o. unwrap_or o heir) now)) ∙ is
 living_by v heir h false is now = absurd (no_table now)
 
-living_is : (v : Contents) (o : Heir) (h : Pid × Meaning) → living_heir v o ≡ Some h → v (Alive h.0) ≡ true
+pub living_is : (v : Contents) (o : Heir) (h : Pid × Meaning) → living_heir v o ≡ Some h → v (Alive h.0) ≡ true
 living_is v None h is = absurd cc
 living_is v (Some heir) h is = living_by v heir h (v (Alive heir.0)) refl is
 
@@ -334,17 +334,18 @@ name_tells : (p : Pid) (o : Option Name) → AllAmong tell_sorts (name_left p o)
 name_tells p None = (refl, tt)
 name_tells p (Some n) = (refl, (refl, tt))
 
-left_owned : (v w : Contents) (p : Pid) (reason : Meaning) (q : Pid) → same_pid p q ≡ false → after (left_by v p reason) w (Owned q) ≡ after (tables_pass v p (v (Owned p))) w (Owned q)
-left_owned v w p reason q other =
+pub tables_left : (v w : Contents) (p : Pid) (reason : Meaning) (q : Pid) → after (left_by v p reason) w (Owned q) ≡ (if same_pid p q then [] else after (tables_pass v p (v (Owned p))) w (Owned q))
+tables_left v w p reason q =
     let partners = partners_told v p reason (v (Links p)) in
     let watchers = watchers_told v p reason (v (Watchers p)) in
     let name = name_left p (v (NameOf p)) in
     let telling = partners ++ (watchers ++ name) in
     let among : AllAmong tell_sorts telling = among_both tell_sorts partners (watchers ++ name) (partners_tell v p reason (v (Links p))) (among_both tell_sorts watchers name (watchers_tell v p reason (v (Watchers p))) (name_tells p (v (NameOf p)))) in
-    let mid = after (tables_pass v p (v (Owned p))) w in
     after_both (tables_pass v p (v (Owned p))) (Empties p ∷ telling) w (Owned q)
-    ∙ stays telling (changed (Empties p) mid) (Owned q) (untouched_by tell_sorts telling (Owned q) among refl)
-    ∙ ap (λ b. if b then [] else mid (Owned q)) other
+    ∙ stays telling (changed (Empties p) (after (tables_pass v p (v (Owned p))) w)) (Owned q) (untouched_by tell_sorts telling (Owned q) among refl)
+
+left_owned : (v w : Contents) (p : Pid) (reason : Meaning) (q : Pid) → same_pid p q ≡ false → after (left_by v p reason) w (Owned q) ≡ after (tables_pass v p (v (Owned p))) w (Owned q)
+left_owned v w p reason q other = tables_left v w p reason q ∙ ap (λ b. if b then [] else after (tables_pass v p (v (Owned p))) w (Owned q)) other
 
 -- what an end leaves of a table that the process had, and of one that it had not
 inherited_by : (heir : Heir) (o : Option tables.Table) (x : tables.Table) → table_passed heir o ≡ Some x → (h : Pid × Meaning) × (heir ≡ Some h) × (x.owner ≡ h.0)

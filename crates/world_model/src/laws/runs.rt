@@ -1,5 +1,5 @@
 // What holds of every history that really happens.
-ghost use Rattle.world_model.specs.RunLaws.{NamesAreNew, NamesMeanTheirs, FindsOne, OwnersLive};
+ghost use Rattle.world_model.specs.RunLaws.{NamesAreNew, NamesMeanTheirs, FindsOne, OwnersLive, HoldersHaveNames, OwnersHaveTables, TargetsHaveWatches, LinksAreMutual};
 
 /// Names do not repeat: what a process creates next, and later, has the name of nothing that there was.
 pub fn names_do_not_repeat()
@@ -15,4 +15,13 @@ pub fn arguments_find_one_table()
 /// Each table that is found has one owner, and that lives.
 pub fn tables_have_owners()
     ensures { OwnersLive }
+{}
+
+/// A process has exactly the name that it holds, exactly the tables that it owns, and exactly the watches that
+/// are of it; and of two that are linked each is linked to the other.
+pub fn bonds_have_two_sides()
+    ensures names { HoldersHaveNames }
+    ensures tables { OwnersHaveTables }
+    ensures watches { TargetsHaveWatches }
+    ensures links { LinksAreMutual }
 {}
