@@ -49,3 +49,4 @@ pub mod Orders
 pub mod OrderExamples
 pub mod LeftExamples
 pub mod RowExamples
+pub mod BondExamples
