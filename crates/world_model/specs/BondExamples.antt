@@ -7,15 +7,15 @@ use Rattle.core_tree.specs.Syntax.{ModuleTree, Tree}
 use Rattle.core_calls.specs.declared.call.CallKind.TheVariants as kinds
 use Rattle.core_calls.specs.declared.pure.PureCall.TheVariants as pures
 use Rattle.world_model.specs.Events.{event, Delivered, EndedItself, LinkExit, Down, Arrives, IsDropped}
-use Rattle.world_model.specs.Happenings.{P, P_1, R_1, EndsWith, HasNoRun, normal, serves_it}
-use Rattle.world_model.specs.Modules.{the, the_atom, the_tuple, the_list, the_table, ask_for, compute, in_turn, with_result, module_of, main, child, spawn_child, new_table, wait}
+use Rattle.world_model.specs.Happenings.{P, P_1, P_2, R_1, t, EndsWith, HasNoRun, normal, serves_it}
+use Rattle.world_model.specs.Modules.{the, the_atom, the_tuple, the_list, the_table, ask_for, compute, in_turn, with_result, module_of, main, child, spawn_child, new_table, look_up, wait}
 use Rattle.world_model.specs.Names.{Ref}
-use Rattle.world_model.specs.OrderExamples.{asks, unlinks}
+use Rattle.world_model.specs.OrderExamples.{asks, me_as_n, unlinks}
 use Rattle.world_model.specs.Orders.{Tells}
 use Rattle.world_model.specs.ProcessExamples.{trap}
 use Rattle.world_model.specs.ProcessLines.{noproc}
 use Rattle.world_model.specs.Signals.{down_message, exit_message}
-use Rattle.world_model.specs.Terms.{atom, process}
+use Rattle.world_model.specs.Terms.{atom, list_of, process}
 use Rattle.world_model.specs.World.{mailbox, owner}
 
 abbrev pub second_ref : Ref
@@ -31,6 +31,10 @@ me = compute pures.OwnPid []
 
 abbrev pub UnlinkedIsDropped : Type 0
 UnlinkedIsDropped = EndsWith unlinks (Turn P ∷ Turn P_1 ∷ Turn P ∷ Deliver P_1 P ∷ []) (event (Deliver P_1 P) (Delivered (LinkExit normal) IsDropped))
+
+-- and where it is gone before its process ends, there is none
+abbrev pub UnlinkedIsNotTold : Type 0
+UnlinkedIsNotTold = HasNoRun unlinks (Turn P ∷ Turn P ∷ Turn P_1 ∷ Deliver P_1 P ∷ [])
 
 -- ---- a link and a watch that come too late are told so: the link where exits are trapped
 
@@ -85,6 +89,22 @@ TrapsItsExit = Tells (λ h. mailbox h P) exits_itself (Turn P ∷ Turn P ∷ [])
 
 abbrev pub ReferenceIsMade : Type 0
 ReferenceIsMade = EndsWith (module_of (main (ask_for kinds.MakeRef []) ∷ [])) (Turn P ∷ []) (serves_it P kinds.MakeRef [] R_1)
+
+-- ---- who had a name or a table before takes it from nobody at its end
+
+abbrev pub passes_its_name : ModuleTree
+passes_its_name =
+    asks (in_turn (ask_for kinds.Register (the_atom (codes "n") ∷ the (codes "C") ∷ []))
+    (in_turn (ask_for kinds.Unregister (the_atom (codes "n") ∷ [])) (in_turn me_as_n (ask_for kinds.Whereis (the_atom (codes "n") ∷ [])))))
+
+abbrev pub FormerHolderFreesNoName : Type 0
+FormerHolderFreesNoName = EndsWith passes_its_name (Turn P ∷ Turn P ∷ Turn P ∷ Turn P ∷ Turn P_1 ∷ Turn P ∷ []) (serves_it P kinds.Whereis (atom (codes "n") ∷ []) (process P))
+
+abbrev pub hands_on : ModuleTree
+hands_on = module_of (main (in_turn (new_table []) (with_result (codes "C") spawn_child (ask_for kinds.GiveAway (the_table ∷ the (codes "C") ∷ the_atom (codes "d") ∷ [])))) ∷ child (in_turn wait look_up) ∷ [])
+
+abbrev pub FormerOwnerDestroysNoTable : Type 0
+FormerOwnerDestroysNoTable = EndsWith hands_on (Turn P ∷ Turn P ∷ Turn P ∷ Turn P ∷ Deliver P P_2 ∷ Turn P_2 ∷ Turn P_2 ∷ []) (serves_it P_2 kinds.Lookup (t ∷ atom (codes "a") ∷ []) (list_of []))
 
 -- ---- an heir that is set later counts
 

@@ -1,5 +1,5 @@
 // Small modules, and what happens by their schedules.
-ghost use Rattle.world_model.specs.BondExamples.{UnlinkedIsDropped, LateLinkIsTold, LateWatchIsTold, UnwatchedIsNotTold, UnwatchedIsDropped, FlushTakesTheMessage, MessageStays, SendsToItself, EndsByItsExit, TrapsItsExit, ReferenceIsMade, LaterHeirInherits};
+ghost use Rattle.world_model.specs.BondExamples.{UnlinkedIsDropped, UnlinkedIsNotTold, FormerHolderFreesNoName, FormerOwnerDestroysNoTable, LateLinkIsTold, LateWatchIsTold, UnwatchedIsNotTold, UnwatchedIsDropped, FlushTakesTheMessage, MessageStays, SendsToItself, EndsByItsExit, TrapsItsExit, ReferenceIsMade, LaterHeirInherits};
 ghost use Rattle.world_model.specs.ShownExamples.{RefusalIsShown, RefusalIsListed, RefusalIsNoError, RefusalIsErrorIfStrict, EndIsError, NormalEndShowsNothing};
 ghost use Rattle.world_model.specs.ReceiveExamples.{SecondIsHeard, WaitsForIts, TakesItsFirst, TakesTheOther, TakesTheOlder, ComesToTimeout, ComesToMessage};
 ghost use Rattle.world_model.specs.TableExamples.{WritesItsTable, HasNoNinth, StrangerIsRefused, StrangerFindsNone, StrangerEnds, OldOwnerIsRefused, HeirIsTold, HeirWrites, HeirTimesOut, NoHeirNoTable, PresentOwnerCounts, PrivateIsUnread, StrangerBeforeObject, OwnerOfShort, OwnersCall, InfoOfNone, ItemIsUnknown, GiftToItself};
@@ -123,10 +123,18 @@ pub fn identities_are_shown()
 #[tactic(auto, unfolding(crate::specs::World::contents))]
 pub fn bonds_end()
     ensures unlinked { UnlinkedIsDropped }
+    ensures untold { UnlinkedIsNotTold }
     ensures unwatched { UnwatchedIsNotTold }
     ensures dropped { UnwatchedIsDropped }
     ensures flushed { FlushTakesTheMessage }
     ensures stays { MessageStays }
+{}
+
+/// Who had a name or a table before takes it from nobody at its end.
+#[tactic(auto, unfolding(crate::specs::World::contents))]
+pub fn former_owners_take_nothing()
+    ensures name { FormerHolderFreesNoName }
+    ensures table { FormerOwnerDestroysNoTable }
 {}
 
 /// A link to a process that is gone is told so, where exits are trapped, and so is a watch.
