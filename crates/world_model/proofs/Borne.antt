@@ -7,12 +7,12 @@ use Rattle.term_core.specs.declared.step.Step.TheVariants.{Turn, Deliver}
 use Rattle.world_model.specs.Bonds.{vacated}
 use Rattle.world_model.specs.Calls.{Call, Register, Unregister, OnTable, TableCall, First, call_of}
 use Rattle.world_model.specs.Cells.{Contents, Holder, NameOf, Alive}
-use Rattle.world_model.specs.Changes.{Holds, Bears, Vacates, Bares, Dies, Halts, Fetches, after, changed}
+use Rattle.world_model.specs.Changes.{Holds, Bears, Dies, Halts, Fetches, after, changed}
 use Rattle.world_model.specs.Ends.{ends, name_left}
-use Rattle.world_model.specs.Events.{History, Badarg, Deed, Served, Refused, EndedItself, Ended, Received, TimedOut, RanAway, Delivered, Signal, Fate, Arrives, IsIgnored, IsDropped, Kills}
+use Rattle.world_model.specs.Events.{History, Badarg, Deed, Served, Refused, EndedItself, Ended, Received, TimedOut, RanAway, Delivered, Fate, Arrives, IsIgnored, IsDropped, Kills}
 use Rattle.world_model.specs.Lines.{line}
 use Rattle.world_model.specs.Names.{Name, Pid, same_name, same_pid}
-use Rattle.world_model.specs.ProcessLines.{is_undefined, register_refusal, unregister_line}
+use Rattle.world_model.specs.ProcessLines.{is_undefined, unregister_line}
 use Rattle.world_model.specs.Requests.{Program}
 use Rattle.world_model.specs.Run.{IsRun}
 use Rattle.world_model.specs.RunLaws.{HoldersHaveNames}

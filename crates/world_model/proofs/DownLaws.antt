@@ -8,15 +8,15 @@ use Rattle.term_core.specs.declared.step.Step.TheVariants.{Turn, Deliver}
 use Rattle.core_calls.specs.declared.call.CallKind.{CallKind}
 use Rattle.world_model.specs.Bonds.{watched_by_call, watched_in}
 use Rattle.world_model.specs.Calls.{Call, Spawn, Alone, Linked, Watched, Send, ToProcess, ToName, ToNobody, SendExit, Link, Monitor, Demonitor, OnTable, TableCall, TableArgument, First, GiveAway, call_of}
-use Rattle.world_model.specs.Cells.{Contents, Alive, Links, Owned, Table, Watch, Watchers, Front, Tail}
+use Rattle.world_model.specs.Cells.{Contents, Alive, Links, Owned, Table, Watchers, Front, Tail}
 use Rattle.world_model.specs.Changes.{after}
-use Rattle.world_model.specs.Events.{Event, History, event, Deed, Served, Refused, EndedItself, Ended, Received, TimedOut, RanAway, Delivered, Signal, Message, Exit, LinkExit, Down, Fate, Arrives, IsIgnored, IsDropped, Kills}
+use Rattle.world_model.specs.Events.{Event, History, event, Deed, Served, EndedItself, Ended, RanAway, Delivered, Signal, Message, Exit, LinkExit, Down, Fate, Kills}
 use Rattle.world_model.specs.Found.{Found}
 use Rattle.world_model.specs.Names.{Pid, Ref, same_pid, same_ref}
-use Rattle.world_model.specs.Posted.{on_way, if_lives, put_for, put_for_holder, put_by_link, put_by_watch, put_by_gift, put_by_call, put_for_heir, put_for_table, put_for_heirs, put_for_partners, put_for_watchers, put_by_end, put_in, outlives}
+use Rattle.world_model.specs.Posted.{on_way, if_lives, put_for_holder, put_by_link, put_by_watch, put_by_gift, put_by_call, put_for_heir, put_for_table, put_for_heirs, put_for_partners, put_for_watchers, put_by_end, put_in, outlives}
 use Rattle.world_model.specs.ProcessLines.{LinkWay, Stands, Pairs, PairsGone, Fails, link_way, next_ref, noproc}
 use Rattle.world_model.specs.Requests.{Program}
-use Rattle.world_model.specs.Run.{IsRun, next_event}
+use Rattle.world_model.specs.Run.{IsRun}
 use Rattle.world_model.specs.RunLaws.{TargetsHaveWatches}
 use Rattle.world_model.specs.Signals.{first_of, goes_with, waiting_in}
 use Rattle.world_model.specs.Steps.{changes_by, deed_delivered, next_deed, runaway}

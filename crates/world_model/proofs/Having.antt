@@ -1,14 +1,14 @@
 -- A process has exactly the tables that it owns.
-use Rattle.std.proofs.Common.{◌≡◌, Bool, true, false, ◌&&◌, ◌||◌, List, [], ◌∷◌, map, Option, Some, None, refl, sym, ap, ◌∙◌, inl, inr, if◌then◌else◌, true≢false, subst, arith}
+use Rattle.std.proofs.Common.{◌≡◌, Bool, true, false, ◌&&◌, ◌||◌, List, [], ◌∷◌, map, Option, Some, None, refl, sym, ap, ◌∙◌, if◌then◌else◌, true≢false, arith}
 use Rattle.std.specs.List.{list_any}
-use Rattle.std.specs.Prelude.{not, option_map, ◌+◌}
+use Rattle.std.specs.Prelude.{option_map, ◌+◌}
 use Rattle.term_core.specs.Meaning.{Meaning}
 use Rattle.term_core.specs.declared.step.Step.{Step}
 use Rattle.term_core.specs.declared.step.Step.TheVariants.{Turn, Deliver}
 use Rattle.eval_rules.specs.Asked as answered
-use Rattle.world_model.specs.Calls.{Call, TableCall, DeleteTable, GiveAway, SetOptions, Spawn, New, OnTable, TableArgument, call_of}
+use Rattle.world_model.specs.Calls.{Call, TableCall, DeleteTable, GiveAway, SetOptions, New, OnTable, TableArgument, call_of}
 use Rattle.world_model.specs.Cells.{Contents, Cell, Alive, Table, TableName, Owned}
-use Rattle.world_model.specs.Changes.{Makes, Gains, Goes, Wipes, Loses, Inherits, Touches, Dies, Halts, Turns, Fetches, after, changed}
+use Rattle.world_model.specs.Changes.{Makes, Gains, Goes, Wipes, Loses, Inherits, Dies, Halts, Turns, Fetches, after, changed}
 use Rattle.world_model.specs.Ends.{ends, heir_pid, living_heir, passed, table_passes, tables_pass}
 use Rattle.world_model.specs.Events.{History, Deed, Served, Refused, EndedItself, Ended, Received, TimedOut, RanAway, Delivered, Signal, Message, Exit, LinkExit, Down, Fate, Arrives, IsIgnored, IsDropped, Kills}
 use Rattle.world_model.specs.Found.{Found, find}
@@ -30,12 +30,12 @@ use Rattle.world_model.specs.Tables.{Heir, TableOption, is_named, owned_by, tabl
 use Rattle.world_model.specs.Told.{is_it}
 use Rattle.world_model.specs.World.{contents, turns}
 use Rattle.world_model.specs.declared.rule.Rule.{Rule}
-use Rattle.world_model.proofs.Commuting.{either_is, either_way, stays, follows}
+use Rattle.world_model.proofs.Commuting.{either_way, stays, follows}
 use Rattle.world_model.proofs.EndSorts.{after_both}
 use Rattle.world_model.proofs.Fresh.{names_new}
 use Rattle.world_model.proofs.Listed.{AreListed, all_listed, always_listed, pid_turned, any_ref, among_refs}
 use Rattle.world_model.proofs.Matching.{Match, match_same, match_moves, gained_has, lost_has, it_is, is_itself}
-use Rattle.world_model.proofs.Meeting.{pids_same, refs_same, ref_itself}
+use Rattle.world_model.proofs.Meeting.{pids_same, refs_same}
 use Rattle.world_model.proofs.Mutual.{both_turned}
 use Rattle.world_model.proofs.Named.{found_there}
 use Rattle.world_model.proofs.Outcomes.{touches}

@@ -1,5 +1,5 @@
 -- Each call of a table in a run of a module that is read is judged by its one rule.
-use Rattle.std.proofs.Common.{◌≡◌, ◌∙◌, Bool, true, false, ℕ, suc, List, [], ◌∷◌, length, Option, Some, None, refl, sym, ap, if◌then◌else◌, true≢false, subst, arith}
+use Rattle.std.proofs.Common.{◌≡◌, ◌∙◌, Bool, true, false, List, [], ◌∷◌, length, Option, Some, None, refl, sym, ap, if◌then◌else◌, true≢false, arith}
 use Rattle.std.specs.Prelude.{option_map, option_and_then, unwrap_or, codes}
 use Rattle.term_core.specs.Meaning.{Meaning}
 use Rattle.term_core.specs.declared.step.Step.TheVariants.{Turn}
@@ -13,17 +13,16 @@ use Rattle.eval_rules.specs.Asked as asked_
 use Rattle.eval_rules.specs.Asked.{Asked, Answered}
 use Rattle.eval_rules.specs.Servable.{IsReadRequest}
 use Rattle.world_model.specs.Asking.{entry_of, program_of, request_of}
-use Rattle.world_model.specs.Calls.{Call, New, OnTable, Spawn, call_of}
+use Rattle.world_model.specs.Calls.{Call, New, OnTable, call_of}
 use Rattle.world_model.specs.Cells.{Contents, Alive, Machine, Mailbox, Table, TableName}
-use Rattle.world_model.specs.Events.{Event, History, Deed, Served, Refused, EndedItself, Received, TimedOut, Ended, RanAway, Refusal, ByRule}
+use Rattle.world_model.specs.Events.{History, Deed, Served, Refused, Received, TimedOut, Ended, RanAway, Refusal, ByRule}
 use Rattle.world_model.specs.Found.{Found}
-use Rattle.world_model.specs.Headline.{call_in, IsTableCall, first_rule, owner_then, judged_by, TableCallsAreJudged}
-use Rattle.world_model.specs.Judging.{refusal_by, tells_owner, told_owner}
+use Rattle.world_model.specs.Headline.{call_in, first_rule, owner_then, judged_by, TableCallsAreJudged}
+use Rattle.world_model.specs.Judging.{refusal_by, tells_owner}
 use Rattle.world_model.specs.Lines.{line}
-use Rattle.world_model.specs.Names.{Pid, Ref, same_name}
+use Rattle.world_model.specs.Names.{Pid, same_name}
 use Rattle.world_model.specs.NewTables.{by_rule, new_rule}
-use Rattle.world_model.specs.Requests.{Calls, Receives, Ends, RunsAway, Program, Request}
-use Rattle.world_model.specs.Run.{IsRun, next_event}
+use Rattle.world_model.specs.Requests.{Calls, Receives, Ends, RunsAway, Request}
 use Rattle.world_model.specs.Steps.{asked, deed_asked, ended_or, ends_itself, judged, must_wait, next_deed, received, selected_of}
 use Rattle.world_model.specs.World.{contents, found, owner, rule_of, answer_of}
 use Rattle.world_model.specs.declared.rule.Rule.{Rule}

@@ -1,12 +1,11 @@
 -- The lists of links, watches and tables are in order, each item once, after every change.
-use Rattle.std.proofs.Common.{◌≡◌, inl, inr, true≢false, Bool, true, false, ◌&&◌, ◌||◌, List, [], ◌∷◌, refl, sym, ap, subst, if◌then◌else◌, ◌∙◌}
+use Rattle.std.proofs.Common.{◌≡◌, inl, inr, true≢false, Bool, true, false, ◌&&◌, ◌||◌, List, [], ◌∷◌, sym, ap, subst, if◌then◌else◌, ◌∙◌}
 use Rattle.std.specs.Cmp.{IsTotalOrder, on_total}
 use Rattle.std.specs.Cmp.Lexicographic.{nat_list_cmp_total}
 use Rattle.std.specs.List.{list_any}
 use Rattle.std.specs.Prelude.{ℕ, not}
 use Rattle.std.specs.declared.cmp.Ordering.TheVariants.{Equal}
 use Rattle.term_core.specs.Order.{order_of_lists}
-use Rattle.term_core.specs.StepOrder.{order_of_reference_ids}
 use Rattle.term_core.specs.inside.OrderLaws.{same_list}
 use Rattle.term_core.specs.inside.StepOrderLaws.{reference_ids_total, same_reference_id}
 use Rattle.world_model.specs.Cells.{Contents, Links, Watchers, Owned, meet}

@@ -1,43 +1,26 @@
 -- The watches of a process are those that are of it.
-use Rattle.std.proofs.Common.{◌≡◌, Bool, true, false, ◌&&◌, ◌||◌, ℕ, zero, suc, ◌+◌, ◌<◌, ◌≤◌, List, [], ◌∷◌, ◌++◌, drop, Option, Some, None, refl, sym, ap, ◌∙◌, ◌⊎◌, inl, inr, if◌then◌else◌, true≢false, subst, arith}
-use Rattle.std.specs.List.{list_any}
-use Rattle.std.specs.Prelude.{not, option_map, unwrap_or}
+use Rattle.std.proofs.Common.{◌≡◌, Bool, true, false, [], ◌∷◌, Option, Some, None, refl, sym, ap, ◌∙◌, if◌then◌else◌}
 use Rattle.term_core.specs.Meaning.{Meaning}
 use Rattle.term_core.specs.declared.step.Step.{Step}
 use Rattle.term_core.specs.declared.step.Step.TheVariants.{Turn, Deliver}
 use Rattle.eval_rules.specs.Asked as answered
-use Rattle.world_model.specs.Bonds.{watched_by_call, watched_in}
-use Rattle.world_model.specs.Calls.{Call, Spawn, SpawnWay, Alone, Linked, Watched, Send, ToProcess, ToName, ToNobody, SendExit, Link, Monitor, Demonitor, OnTable, TableCall, First, GiveAway, call_of}
-use Rattle.world_model.specs.Cells.{Contents, Alive, Links, Owned, Table, Watch, Watchers, Front, Tail, Holder, Machine}
-use Rattle.world_model.specs.Changes.{Begins, Lives, Unwatches, Sheds, Touches, Turns, Fetches, after, changed, without_first}
+use Rattle.world_model.specs.Calls.{Call, Spawn, SpawnWay, Alone, Linked, Watched, Monitor, Demonitor, OnTable, TableCall, First, call_of}
+use Rattle.world_model.specs.Cells.{Contents, Alive, Watch, Watchers}
+use Rattle.world_model.specs.Changes.{Begins, Lives, Unwatches, Sheds, Touches, Turns, Fetches, after, changed}
 use Rattle.world_model.specs.Ends.{ends}
-use Rattle.world_model.specs.Events.{Event, History, Deed, Served, Refused, EndedItself, Ended, Received, TimedOut, RanAway, Delivered, Signal, Message, Exit, LinkExit, Down, Fate, Arrives, IsIgnored, IsDropped, Kills}
-use Rattle.world_model.specs.Found.{Found}
+use Rattle.world_model.specs.Events.{Deed, Served, Refused, EndedItself, Ended, Received, TimedOut, RanAway, Delivered, Signal, Message, Exit, LinkExit, Down, Fate, Arrives, IsIgnored, IsDropped, Kills}
 use Rattle.world_model.specs.Lines.{line}
 use Rattle.world_model.specs.Names.{Pid, Ref, same_pid, same_ref}
-use Rattle.world_model.specs.Posted.{on_way, if_lives, put_for, put_for_holder, put_by_link, put_by_watch, put_by_gift, put_by_call, put_for_heir, put_for_table, put_for_heirs, put_for_partners, put_for_watchers, put_by_end, put_in, outlives}
-use Rattle.world_model.specs.ProcessLines.{LinkWay, Stands, Pairs, PairsGone, Fails, bound, flushed, gone_told, link_way, next_child, next_ref, watch_begins, watch_ends}
-use Rattle.world_model.specs.Requests.{Program}
-use Rattle.world_model.specs.Run.{IsRun, next_event}
-use Rattle.world_model.specs.RunLaws.{TargetsHaveWatches}
-use Rattle.world_model.specs.Signals.{first_of, goes_with, waiting_in}
-use Rattle.world_model.specs.Steps.{changes_of_fate, changes_by, deed_delivered, next_deed, runaway}
-use Rattle.world_model.specs.Tables as tables
-use Rattle.world_model.specs.Tables.{Heir}
+use Rattle.world_model.specs.ProcessLines.{bound, flushed, gone_told, next_child, next_ref, watch_begins, watch_ends}
+use Rattle.world_model.specs.Signals.{goes_with}
+use Rattle.world_model.specs.Steps.{changes_of_fate, changes_by, runaway}
 use Rattle.world_model.specs.Told.{is_it}
-use Rattle.world_model.specs.World.{alive, contents, found, holder, linked, traps, turns, watched}
-use Rattle.world_model.proofs.BondLaws.{watched_told}
-use Rattle.world_model.proofs.Commuting.{either_way, stays, follows}
+use Rattle.world_model.proofs.Commuting.{either_way}
 use Rattle.world_model.proofs.EndSorts.{after_both, end_leaves}
-use Rattle.world_model.proofs.Fresh.{IsBy, all_free, counts, names_new, rises, watcher}
-use Rattle.world_model.proofs.Histories.{deed_is}
-use Rattle.world_model.proofs.Listed.{AreListed, all_listed, always_listed, any_ref, among_refs}
-use Rattle.world_model.proofs.Matching.{Match, match_same, match_moves, gained_has, lost_has, it_is, is_itself}
-use Rattle.world_model.proofs.Meeting.{both, pids_same, refs_same, ref_itself}
-use Rattle.world_model.proofs.Posting.{puts_told}
+use Rattle.world_model.proofs.Listed.{AreListed, all_listed}
+use Rattle.world_model.proofs.Matching.{Match, match_same, match_moves, gained_has, lost_has}
 use Rattle.world_model.proofs.SortLaws.{call_leaves, no_watch}
 use Rattle.world_model.proofs.Sorts.{is_among, table_sorts}
-use Rattle.world_model.proofs.Unmade.{watches_by, watches_in}
 
 abbrev pub Known : Contents → Type 0
 Known v = Match (λ q. v (Watchers q)) (λ ref. v (Watch ref))
