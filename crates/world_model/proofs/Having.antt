@@ -1,28 +1,28 @@
 -- A process has exactly the tables that it owns.
 use Rattle.std.proofs.Common.{◌≡◌, Bool, true, false, ◌&&◌, ◌||◌, List, [], ◌∷◌, map, Option, Some, None, refl, sym, ap, ◌∙◌, if◌then◌else◌, true≢false, arith}
 use Rattle.std.specs.List.{list_any}
-use Rattle.std.specs.Prelude.{option_map, ◌+◌}
+use Rattle.std.specs.Prelude.{◌++◌, ℕ, option_map, unwrap_or, ◌+◌}
 use Rattle.term_core.specs.Meaning.{Meaning}
 use Rattle.term_core.specs.declared.step.Step.{Step}
 use Rattle.term_core.specs.declared.step.Step.TheVariants.{Turn, Deliver}
 use Rattle.eval_rules.specs.Asked as answered
 use Rattle.world_model.specs.Calls.{Call, TableCall, DeleteTable, GiveAway, SetOptions, New, OnTable, TableArgument, call_of}
-use Rattle.world_model.specs.Cells.{Contents, Cell, Alive, Table, TableName, Owned}
-use Rattle.world_model.specs.Changes.{Makes, Gains, Goes, Wipes, Loses, Inherits, Dies, Halts, Turns, Fetches, after, changed}
-use Rattle.world_model.specs.Ends.{ends, heir_pid, living_heir, passed, table_passes, tables_pass}
+use Rattle.world_model.specs.Cells.{Contents, Cell, Alive, Links, NameOf, Table, TableName, Owned, Watchers}
+use Rattle.world_model.specs.Changes.{Makes, Gains, Goes, Wipes, Loses, Inherits, Dies, Empties, Frees, Halts, Turns, Fetches, after, changed}
+use Rattle.world_model.specs.Ends.{ends, heir_pid, left_by, living_heir, name_left, partners_told, passed, table_passes, tables_pass, watchers_told}
 use Rattle.world_model.specs.Events.{History, Deed, Served, Refused, EndedItself, Ended, Received, TimedOut, RanAway, Delivered, Signal, Message, Exit, LinkExit, Down, Fate, Arrives, IsIgnored, IsDropped, Kills}
 use Rattle.world_model.specs.Found.{Found, find}
 use Rattle.world_model.specs.Judging.{found_line}
 use Rattle.world_model.specs.Lines.{line}
 use Rattle.world_model.specs.Names.{Name, Pid, Ref, same_pid, same_ref}
-use Rattle.world_model.specs.NewTables.{new_line, new_rule}
+use Rattle.world_model.specs.NewTables.{means_if, new_line, new_rule}
 use Rattle.world_model.specs.Owners.{heir_named, table_passed}
 use Rattle.world_model.specs.Owning.{heirs_set}
 use Rattle.world_model.specs.ProcessLines.{next_ref}
 use Rattle.world_model.specs.Requests.{Program}
 use Rattle.world_model.specs.Run.{IsRun}
 use Rattle.world_model.specs.RunLaws.{OwnersHaveTables}
-use Rattle.world_model.specs.Signals.{goes_with}
+use Rattle.world_model.specs.Signals.{goes_with, put_if}
 use Rattle.world_model.specs.Steps.{changes_of_fate, changes_by, runaway}
 use Rattle.world_model.specs.TableLines.{table_line}
 use Rattle.world_model.specs.Tables as tables
@@ -39,15 +39,14 @@ use Rattle.world_model.proofs.Meeting.{pids_same, refs_same}
 use Rattle.world_model.proofs.Mutual.{both_turned}
 use Rattle.world_model.proofs.Named.{found_there}
 use Rattle.world_model.proofs.Outcomes.{touches}
-use Rattle.world_model.proofs.Owned.{means_table, means_owned, freed_owned, freed_at, living_is, tables_left}
 use Rattle.world_model.proofs.OwnerLaws.{end_passes, heir_at, turned_ref}
-use Rattle.world_model.proofs.SortLaws.{call_leaves, table_among, untouched_by}
+use Rattle.world_model.proofs.SortLaws.{AllAmong, among_both, call_leaves, put_among, table_among, untouched_by}
 use Rattle.world_model.proofs.Sorts.{is_among, table_sorts}
 
-abbrev owner_of : Option tables.Table → Option Pid
+abbrev pub owner_of : Option tables.Table → Option Pid
 owner_of o = option_map (λ (x : tables.Table). x.owner) o
 
-abbrev Had : Contents → Type 0
+abbrev pub Had : Contents → Type 0
 Had v = Match (λ q. v (Owned q)) (λ t. owner_of (v (Table t)))
 
 -- where both are as they were
@@ -59,6 +58,22 @@ had_same v w lists owners before_ = match_same (λ q. v (Owned q)) (λ q. w (Own
 owner_if : (b : Bool) (n o : Option tables.Table) → owner_of (if b then n else o) ≡ (if b then owner_of n else owner_of o)
 owner_if true n o = refl
 owner_if false n o = refl
+
+freed_owned : (b : Bool) (name : Name) (w : Contents) (q : Pid) → after (if b then Frees name ∷ [] else []) w (Owned q) ≡ w (Owned q)
+freed_owned true name w q = refl
+freed_owned false name w q = refl
+
+pub freed_at : (b : Bool) (name : Name) (w : Contents) (t : Ref) → after (if b then Frees name ∷ [] else []) w (Table t) ≡ w (Table t)
+freed_at true name w t = refl
+freed_at false name w t = refl
+
+pub means_table : (b : Bool) (name : Name) (u t : Ref) (w : Contents) → after (means_if b name u) w (Table t) ≡ w (Table t)
+means_table true name u t w = refl
+means_table false name u t w = refl
+
+means_owned : (b : Bool) (name : Name) (u : Ref) (w : Contents) (q : Pid) → after (means_if b name u) w (Owned q) ≡ w (Owned q)
+means_owned true name u w q = refl
+means_owned false name u w q = refl
 
 -- a table is made, which was not there
 made_had : (p : Pid) (u : Ref) (name : Name) (options : Option (List TableOption)) (rule : Option Rule) (w : Contents) → w (Table u) ≡ None → Had w → Had (after (new_line p u name options rule).changes w)
@@ -162,6 +177,32 @@ all_gain v p (u ∷ us) t w q =
     ∙ more_by v t u (list_any (same_ref t) us) (list_any (same_ref t) (w (Owned q))) q (same_ref u t) refl
     ∙ ap (λ b. (b || list_any (same_ref t) us) && gets || list_any (same_ref t) (w (Owned q))) (sym (turned_ref t u (same_ref u t) refl))
 
+-- what is told at an end is told to no table
+abbrev tell_sorts : List ℕ
+tell_sorts = 5 ∷ 9 ∷ 10 ∷ []
+
+partners_tell : (v : Contents) (p : Pid) (reason : Meaning) (qs : List Pid) → AllAmong tell_sorts (partners_told v p reason qs)
+partners_tell v p reason [] = tt
+partners_tell v p reason (q ∷ qs) = among_both tell_sorts (put_if (v (Alive q)) p q (LinkExit reason)) (partners_told v p reason qs) (put_among tell_sorts (v (Alive q)) p q (LinkExit reason) refl) (partners_tell v p reason qs)
+
+watchers_tell : (v : Contents) (p : Pid) (reason : Meaning) (refs : List Ref) → AllAmong tell_sorts (watchers_told v p reason refs)
+watchers_tell v p reason [] = tt
+watchers_tell v p reason (ref ∷ refs) = among_both tell_sorts (put_if (v (Alive ref.pid)) p ref.pid (Down ref reason)) (watchers_told v p reason refs) (put_among tell_sorts (v (Alive ref.pid)) p ref.pid (Down ref reason) refl) (watchers_tell v p reason refs)
+
+name_tells : (p : Pid) (o : Option Name) → AllAmong tell_sorts (name_left p o)
+name_tells p None = (refl, tt)
+name_tells p (Some n) = (refl, (refl, tt))
+
+tables_left : (v w : Contents) (p : Pid) (reason : Meaning) (q : Pid) → after (left_by v p reason) w (Owned q) ≡ (if same_pid p q then [] else after (tables_pass v p (v (Owned p))) w (Owned q))
+tables_left v w p reason q =
+    let partners = partners_told v p reason (v (Links p)) in
+    let watchers = watchers_told v p reason (v (Watchers p)) in
+    let name = name_left p (v (NameOf p)) in
+    let telling = partners ++ (watchers ++ name) in
+    let among : AllAmong tell_sorts telling = among_both tell_sorts partners (watchers ++ name) (partners_tell v p reason (v (Links p))) (among_both tell_sorts watchers name (watchers_tell v p reason (v (Watchers p))) (name_tells p (v (NameOf p)))) in
+    after_both (tables_pass v p (v (Owned p))) (Empties p ∷ telling) w (Owned q)
+    ∙ stays telling (changed (Empties p) (after (tables_pass v p (v (Owned p))) w)) (Owned q) (untouched_by tell_sorts telling (Owned q) among refl)
+
 or_false : (b : Bool) → (b || false) ≡ b
 or_false true = refl
 or_false false = refl
@@ -182,8 +223,20 @@ if_left : (e : Bool) (t : Ref) (ts : List Ref) → list_any (same_ref t) (if e t
 if_left true t ts = refl
 if_left false t ts = refl
 
--- who inherits lives when the process is dead
-heir_other : (v : Contents) (p : Pid) (h : Pid × Meaning) (b : Bool) → same_pid p h.0 ≡ b → (if b then false else v (Alive h.0)) ≡ true → b ≡ false
+pub no_table : {A : Type 0} {x : A} → None ≡ Some x → ⊥
+no_table e = absurd cc
+
+-- who inherits lives
+living_by : (v : Contents) (heir h : Pid × Meaning) (b : Bool) → v (Alive heir.0) ≡ b → (if b then Some heir else None) ≡ Some h → v (Alive h.0) ≡ true
+living_by v heir h true is now = ap (λ y. v (Alive y.0)) (sym (ap (λ o. unwrap_or o heir) now)) ∙ is
+living_by v heir h false is now = absurd (no_table now)
+
+pub living_is : (v : Contents) (o : Heir) (h : Pid × Meaning) → living_heir v o ≡ Some h → v (Alive h.0) ≡ true
+living_is v None h is = absurd cc
+living_is v (Some heir) h is = living_by v heir h (v (Alive heir.0)) refl is
+
+-- and is another than the process that is dead
+pub heir_other : (v : Contents) (p : Pid) (h : Pid × Meaning) (b : Bool) → same_pid p h.0 ≡ b → (if b then false else v (Alive h.0)) ≡ true → b ≡ false
 heir_other v p h true is lives = absurd (true≢false (sym lives))
 heir_other v p h false is lives = refl
 
@@ -211,6 +264,9 @@ goes_off s r (Down ref reason) (Table t) is = refl
 goes_off s r (Down ref reason) (Owned q) is = refl
 goes_off s r (Down ref reason) c is = absurd (true≢false (sym is))
 
+pub goes_had : (s r : Pid) (x : Signal) (v : Contents) → Had v → Had (after (goes_with s r x) v)
+goes_had s r x v before_ = had_same v (after (goes_with s r x) v) (λ q. stays (goes_with s r x) v (Owned q) (goes_off s r x (Owned q) refl)) (λ t. ap owner_of (stays (goes_with s r x) v (Table t) (goes_off s r x (Table t) refl))) before_
+
 fate_had : (v w : Contents) (r : Pid) (f : Fate) → ((q : Pid) → w (Owned q) ≡ v (Owned q)) → ((t : Ref) → w (Table t) ≡ v (Table t)) → Had v → Had (after (changes_of_fate v r f) w)
 fate_had v w r (Arrives m) lists all before_ = had_same v (after (changes_of_fate v r (Arrives m)) w) lists (λ t. ap owner_of (all t)) before_
 fate_had v w r IsIgnored lists all before_ = had_same v w lists (λ t. ap owner_of (all t)) before_
@@ -229,13 +285,12 @@ event_had v (Turn p) (Delivered x f) free sorted before_ = before_
 event_had v (Deliver s r) (Delivered x f) free sorted before_ =
     let ks = goes_with s r x in
     let w = changed (Fetches s r) v in
-    let mid = had_same v (after ks v) (λ q. stays ks v (Owned q) (goes_off s r x (Owned q) refl)) (λ t. ap owner_of (stays ks v (Table t) (goes_off s r x (Table t) refl))) before_ in
     had_same (after (changes_of_fate (after ks v) r f) (after ks w)) (after (changes_by v (Deliver s r) (Delivered x f)) v)
     (λ q. after_both ks (changes_of_fate (after ks v) r f) w (Owned q)) (λ t. ap owner_of (after_both ks (changes_of_fate (after ks v) r f) w (Table t)))
-    (fate_had (after ks v) (after ks w) r f (λ q. follows ks w v (Owned q) refl) (λ t. follows ks w v (Table t) refl) mid)
+    (fate_had (after ks v) (after ks w) r f (λ q. follows ks w v (Owned q) refl) (λ t. follows ks w v (Table t) refl) (goes_had s r x v before_))
 event_had v (Deliver s r) deed free sorted before_ = before_
 
-run_had : (a : Program) (h : History) → IsRun a h → Had (contents h)
+pub run_had : (a : Program) (h : History) → IsRun a h → Had (contents h)
 unfolding contents Match
 run_had a [] is = λ q t. refl
 run_had a (e ∷ h) is = event_had (contents h) e.step e.deed (λ p. (names_new a h p (turns h p + 1) is.1 (omega arith)).table) (always_listed h) (run_had a h is.1)
