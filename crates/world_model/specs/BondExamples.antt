@@ -3,12 +3,14 @@ use Rattle.std.specs.Prelude.{◌∷◌, List, [], Some, codes}
 use Rattle.term_core.specs.Meaning.{Meaning}
 use Rattle.term_core.specs.declared.step.Step.{Step}
 use Rattle.term_core.specs.declared.step.Step.TheVariants.{Turn, Deliver}
-use Rattle.core_tree.specs.Syntax.{ModuleTree, Tree}
+use Rattle.core_tree.specs.Callee as callees
+use Rattle.core_tree.specs.Expression as trees
+use Rattle.core_tree.specs.Syntax.{ModuleTree, Tree, trees_of}
 use Rattle.core_calls.specs.declared.call.CallKind.TheVariants as kinds
 use Rattle.core_calls.specs.declared.pure.PureCall.TheVariants as pures
-use Rattle.world_model.specs.Events.{event, Delivered, EndedItself, LinkExit, Down, Arrives, IsDropped}
+use Rattle.world_model.specs.Events.{event, Delivered, EndedItself, LinkExit, Down, Arrives, IsDropped, Kills}
 use Rattle.world_model.specs.Happenings.{P, P_1, P_2, R_1, t, EndsWith, HasNoRun, normal, serves_it}
-use Rattle.world_model.specs.Modules.{the, the_atom, the_tuple, the_list, the_table, ask_for, compute, in_turn, with_result, module_of, main, child, spawn_child, new_table, look_up, wait}
+use Rattle.world_model.specs.Modules.{the, the_atom, the_tuple, the_list, the_table, ask_for, compute, in_turn, with_result, module_of, main, child, spawn_child, spawn_linked, signed, new_table, look_up, wait}
 use Rattle.world_model.specs.Names.{Ref}
 use Rattle.world_model.specs.OrderExamples.{asks, me_as_n, unlinks}
 use Rattle.world_model.specs.Orders.{Tells}
@@ -35,6 +37,14 @@ UnlinkedIsDropped = EndsWith unlinks (Turn P ∷ Turn P_1 ∷ Turn P ∷ Deliver
 -- and where it is gone before its process ends, there is none
 abbrev pub UnlinkedIsNotTold : Type 0
 UnlinkedIsNotTold = HasNoRun unlinks (Turn P ∷ Turn P ∷ Turn P_1 ∷ Deliver P_1 P ∷ [])
+
+-- ---- that a process ran away is told its partners
+
+abbrev pub partner_runs_away : ModuleTree
+partner_runs_away = module_of (main (in_turn spawn_linked wait) ∷ child (trees.Call 0 (callees.Defined (signed (codes "c") [])) (trees_of [])) ∷ [])
+
+abbrev pub RunawayIsTold : Type 0
+RunawayIsTold = EndsWith partner_runs_away (Turn P ∷ Turn P_1 ∷ Deliver P_1 P ∷ []) (event (Deliver P_1 P) (Delivered (LinkExit (atom (codes "runaway"))) (Kills (atom (codes "runaway")))))
 
 -- ---- a link and a watch that come too late are told so: the link where exits are trapped
 

@@ -52,5 +52,6 @@ abbrev pub judged_by : History → Pid → CallKind → List Meaning → Option 
 judged_by h p kind arguments None = Served kind arguments (answer_of h p (call_of kind arguments))
 judged_by h p kind arguments (Some rule) = Refused kind arguments (ByRule rule (if tells_owner rule then owner_then h (call_of kind arguments) else None))
 
+-- so it is in every run of a module that is read: there each call has as many arguments as it takes (`IsServableModule`)
 abbrev pub TableCallsAreJudged : Type 0
 TableCallsAreJudged = (m : ModuleTree) (h : History) (e : Event) (p : Pid) (kind : CallKind) (arguments : List Meaning) → IsServableModule m → IsRun (program_of m) (e ∷ h) → IsTableCall e p kind arguments → e.deed ≡ judged_by h p kind arguments (first_rule h p (call_of kind arguments))

@@ -1,5 +1,5 @@
 // Small modules, and what happens by their schedules.
-ghost use Rattle.world_model.specs.BondExamples.{UnlinkedIsDropped, UnlinkedIsNotTold, FormerHolderFreesNoName, FormerOwnerDestroysNoTable, LateLinkIsTold, LateWatchIsTold, UnwatchedIsNotTold, UnwatchedIsDropped, FlushTakesTheMessage, MessageStays, SendsToItself, EndsByItsExit, TrapsItsExit, ReferenceIsMade, LaterHeirInherits};
+ghost use Rattle.world_model.specs.BondExamples.{RunawayIsTold, UnlinkedIsDropped, UnlinkedIsNotTold, FormerHolderFreesNoName, FormerOwnerDestroysNoTable, LateLinkIsTold, LateWatchIsTold, UnwatchedIsNotTold, UnwatchedIsDropped, FlushTakesTheMessage, MessageStays, SendsToItself, EndsByItsExit, TrapsItsExit, ReferenceIsMade, LaterHeirInherits};
 ghost use Rattle.world_model.specs.ShownExamples.{RefusalIsShown, RefusalIsListed, RefusalIsNoError, RefusalIsErrorIfStrict, EndIsError, NormalEndShowsNothing};
 ghost use Rattle.world_model.specs.ReceiveExamples.{SecondIsHeard, WaitsForIts, TakesItsFirst, TakesTheOther, TakesTheOlder, ComesToTimeout, ComesToMessage};
 ghost use Rattle.world_model.specs.TableExamples.{WritesItsTable, HasNoNinth, StrangerIsRefused, StrangerFindsNone, StrangerEnds, OldOwnerIsRefused, HeirIsTold, HeirWrites, HeirTimesOut, NoHeirNoTable, PresentOwnerCounts, PrivateIsUnread, StrangerBeforeObject, OwnerOfShort, OwnersCall, InfoOfNone, ItemIsUnknown, GiftToItself};
@@ -128,6 +128,12 @@ pub fn bonds_end()
     ensures dropped { UnwatchedIsDropped }
     ensures flushed { FlushTakesTheMessage }
     ensures stays { MessageStays }
+{}
+
+/// That a process ran away is told its partners.
+#[tactic(auto, unfolding(crate::specs::World::contents))]
+pub fn runaways_are_told()
+    ensures { RunawayIsTold }
 {}
 
 /// Who had a name or a table before takes it from nobody at its end.
