@@ -4,7 +4,7 @@ use Rattle.std.specs.Prelude.{is_some, not}
 use Rattle.term_core.specs.Meaning.{Meaning}
 use Rattle.term_core.specs.declared.step.Step.{Step}
 use Rattle.term_core.specs.declared.step.Step.TheVariants.{Turn, Deliver}
-use Rattle.world_model.specs.Bonds.{vacated}
+use Rattle.world_model.specs.Bonds.{held_at_end, held_in, name_of_ended, vacated, HolderIsToldInRuns}
 use Rattle.world_model.specs.Calls.{Call, Register, Unregister, OnTable, TableCall, First, call_of}
 use Rattle.world_model.specs.Cells.{Contents, Holder, NameOf, Alive}
 use Rattle.world_model.specs.Changes.{Holds, Bears, Dies, Halts, Fetches, after, changed}
@@ -18,9 +18,9 @@ use Rattle.world_model.specs.Run.{IsRun}
 use Rattle.world_model.specs.RunLaws.{HoldersHaveNames}
 use Rattle.world_model.specs.Signals.{goes_with}
 use Rattle.world_model.specs.Steps.{changes_of_fate, changes_by, runaway}
-use Rattle.world_model.specs.Told.{is_it}
+use Rattle.world_model.specs.Told.{ended_in, is_it}
 use Rattle.world_model.specs.World.{contents}
-use Rattle.world_model.proofs.BondLaws.{end_but_name, end_held, goes_held, goes_named_of}
+use Rattle.world_model.proofs.BondLaws.{holder_told, end_but_name, end_held, goes_held, goes_named_of}
 use Rattle.world_model.proofs.Commuting.{either_is, stays, follows}
 use Rattle.world_model.proofs.EndSorts.{after_both}
 use Rattle.world_model.proofs.Matching.{it_is, is_itself, no_other}
@@ -163,3 +163,28 @@ unfolding Match
 holders_have_names a h p n is =
     let both = run_match a h is p n in
     ((λ has. it_is (contents h (Holder n)) p (sym both ∙ is_itself (contents h (NameOf p)) n has)), (λ holds. it_is (contents h (NameOf p)) n (both ∙ is_itself (contents h (Holder n)) p holds)))
+
+-- ---- a name goes with its holder
+
+goes_with_holder : (o : Option Name) (n : Name) (there : Option Pid) (p : Pid) → is_it o n ≡ is_it there p → vacated o n there ≡ (if is_it there p then None else there)
+goes_with_holder None n there p same = ap (λ b. if b then None else there) same
+goes_with_holder (Some m) n there p same = ap (λ b. if b then None else there) same
+
+event_holder : (h : History) (step : Step) (deed : Deed) (n : Name) → ((p : Pid) → is_it (contents h (NameOf p)) n ≡ is_it (contents h (Holder n)) p) → vacated (name_of_ended h (ended_in step deed)) n (held_in step deed n (contents h (Holder n))) ≡ held_at_end (ended_in step deed) (held_in step deed n (contents h (Holder n)))
+event_holder h (Turn p) (Served kind arguments answer) n same = refl
+event_holder h (Turn p) (Refused kind arguments refusal) n same = refl
+event_holder h (Turn p) (EndedItself kind arguments reason) n same = goes_with_holder (contents h (NameOf p)) n (contents h (Holder n)) p (same p)
+event_holder h (Turn p) (Received m) n same = refl
+event_holder h (Turn p) TimedOut n same = refl
+event_holder h (Turn p) (Ended reason) n same = goes_with_holder (contents h (NameOf p)) n (contents h (Holder n)) p (same p)
+event_holder h (Turn p) RanAway n same = goes_with_holder (contents h (NameOf p)) n (contents h (Holder n)) p (same p)
+event_holder h (Turn p) (Delivered x f) n same = refl
+event_holder h (Deliver s r) (Delivered x (Arrives m)) n same = refl
+event_holder h (Deliver s r) (Delivered x IsIgnored) n same = refl
+event_holder h (Deliver s r) (Delivered x IsDropped) n same = refl
+event_holder h (Deliver s r) (Delivered x (Kills reason)) n same = goes_with_holder (contents h (NameOf r)) n (contents h (Holder n)) r (same r)
+event_holder h (Deliver s r) deed n same = refl
+
+pub holder_told_in_runs : HolderIsToldInRuns
+unfolding Match
+holder_told_in_runs a h e n is = holder_told h e n ∙ event_holder h e.step e.deed n (λ p. run_match a h is.1 p n)

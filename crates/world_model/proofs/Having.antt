@@ -55,7 +55,7 @@ had_same v w lists owners before_ = match_same (λ q. v (Owned q)) (λ q. w (Own
 
 -- ---- calls
 
-owner_if : (b : Bool) (n o : Option tables.Table) → owner_of (if b then n else o) ≡ (if b then owner_of n else owner_of o)
+pub owner_if : (b : Bool) (n o : Option tables.Table) → owner_of (if b then n else o) ≡ (if b then owner_of n else owner_of o)
 owner_if true n o = refl
 owner_if false n o = refl
 

@@ -35,6 +35,7 @@ pub mod Posted
 pub mod RowsLeft
 pub mod Owners
 pub mod TablesTold
+pub mod OwnerTold
 pub mod Headline
 pub mod RunLaws
 pub mod FoundTold

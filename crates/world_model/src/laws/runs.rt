@@ -1,4 +1,6 @@
 // What holds of every history that really happens.
+ghost use Rattle.world_model.specs.Bonds.{HolderIsToldInRuns};
+ghost use Rattle.world_model.specs.OwnerTold.{OwnerIsTold};
 ghost use Rattle.world_model.specs.RunLaws.{NamesAreNew, NamesMeanTheirs, FindsOne, OwnersLive, HoldersHaveNames, OwnersHaveTables, TargetsHaveWatches, LinksAreMutual};
 
 /// Names do not repeat: what a process creates next, and later, has the name of nothing that there was.
@@ -24,4 +26,11 @@ pub fn bonds_have_two_sides()
     ensures tables { OwnersHaveTables }
     ensures watches { TargetsHaveWatches }
     ensures links { LinksAreMutual }
+{}
+
+/// The owner of a table is its maker, until it is given away, deleted, or its owner of that moment ends: then it
+/// is the heir, where that lives and is another. A name has no holder any more when its holder ends.
+pub fn owners_are_told()
+    ensures owner { OwnerIsTold }
+    ensures holder { HolderIsToldInRuns }
 {}
