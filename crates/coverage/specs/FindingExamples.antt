@@ -15,8 +15,8 @@ use Rattle.world_model.specs.TableExamples.{stranger}
 use Rattle.world_model.specs.Terms.{atom, number, tuple}
 use Rattle.world_model.specs.declared.rule.Rule.TheVariants.{PrivateRead, ProtectedWrite, NoTable}
 use Rattle.coverage.specs.Findings.{Finding, findings_of}
-use Rattle.coverage.specs.Shown.{p, c, ended, refused_by}
-use Rattle.coverage.specs.Trees.{idle, two_tables, private_read, two_keys, HasNodes}
+use Rattle.coverage.specs.Shown.{c_2, ended, refused_by}
+use Rattle.coverage.specs.Trees.{p, idle, two_tables, private_read, two_keys, HasNodes}
 
 -- just these findings, under the flags, to this depth
 abbrev pub HasFindings : Flags → ModuleTree → ℕ → List Finding → List Finding → Type 0
@@ -27,13 +27,13 @@ abbrev pub IdleIsClean : Type 0
 IdleIsClean = HasFindings plain idle 1 [] []
 
 abbrev pub write_to_none : Finding
-write_to_none = record { identity = refused_by NoTable None; schedule = p ∷ p ∷ p ∷ c ∷ [] }
+write_to_none = record { identity = refused_by NoTable None; schedule = p ∷ p ∷ p ∷ c_2 ∷ [] }
 
 abbrev pub write_to_owned : Finding
-write_to_owned = record { identity = refused_by ProtectedWrite (Some P); schedule = p ∷ p ∷ c ∷ [] }
+write_to_owned = record { identity = refused_by ProtectedWrite (Some P); schedule = p ∷ p ∷ c_2 ∷ [] }
 
 abbrev pub stranger_ends : Finding
-stranger_ends = record { identity = ended; schedule = p ∷ p ∷ c ∷ c ∷ [] }
+stranger_ends = record { identity = ended; schedule = p ∷ p ∷ c_2 ∷ c_2 ∷ [] }
 
 -- another process writes a protected table: it is refused by two rules, and ends with that, shown by the least schedule of three
 abbrev pub StrangerIsFound : Type 0
@@ -46,7 +46,7 @@ StrangerIsStrange = HasFindings strict stranger 5 (stranger_ends ∷ write_to_ow
 -- ---- a private table is read by another process, which goes on
 
 abbrev pub read_of_private : Finding
-read_of_private = record { identity = RefusedCall P_2 1 kinds.Lookup (t ∷ atom (codes "a") ∷ []) PrivateRead (Some P); schedule = p ∷ p ∷ c ∷ [] }
+read_of_private = record { identity = RefusedCall P_2 1 kinds.Lookup (t ∷ atom (codes "a") ∷ []) PrivateRead (Some P); schedule = p ∷ p ∷ c_2 ∷ [] }
 
 abbrev pub ReadIsFound : Type 0
 ReadIsFound = HasFindings plain private_read 3 [] (read_of_private ∷ [])
@@ -57,10 +57,10 @@ ReadIsStrange = HasFindings strict private_read 3 (read_of_private ∷ []) (read
 -- ---- two processes put objects into one table: the second may come after the end of the first, which takes the table with it
 
 abbrev pub put_too_late : Finding
-put_too_late = record { identity = RefusedCall P_2 1 kinds.Insert (t ∷ tuple (atom (codes "b") ∷ number 1 ∷ []) ∷ []) NoTable None; schedule = p ∷ p ∷ p ∷ p ∷ c ∷ [] }
+put_too_late = record { identity = RefusedCall P_2 1 kinds.Insert (t ∷ tuple (atom (codes "b") ∷ number 1 ∷ []) ∷ []) NoTable None; schedule = p ∷ p ∷ p ∷ p ∷ c_2 ∷ [] }
 
 abbrev pub ends_too_late : Finding
-ends_too_late = record { identity = ended; schedule = p ∷ p ∷ p ∷ p ∷ c ∷ c ∷ [] }
+ends_too_late = record { identity = ended; schedule = p ∷ p ∷ p ∷ p ∷ c_2 ∷ c_2 ∷ [] }
 
 abbrev pub LatePutIsFound : Type 0
 LatePutIsFound = HasFindings plain two_keys 6 (ends_too_late ∷ []) (put_too_late ∷ [])
@@ -115,7 +115,7 @@ BothEndsAreFound = HasFindings plain hurries 5 (got ∷ late ∷ []) []
 -- ---- of two children that send to their parent the second may be heard first, and that takes six steps
 
 abbrev pub second_is_heard : Finding
-second_is_heard = record { identity = End P (error_of (codes "bad")); schedule = p ∷ p ∷ c ∷ Deliver P_2 P ∷ p ∷ p ∷ [] }
+second_is_heard = record { identity = End P (error_of (codes "bad")); schedule = p ∷ p ∷ c_2 ∷ Deliver P_2 P ∷ p ∷ p ∷ [] }
 
 abbrev pub SecondIsFound : Type 0
 SecondIsFound = HasFindings plain hears 6 (second_is_heard ∷ []) []

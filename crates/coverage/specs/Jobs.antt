@@ -6,10 +6,8 @@ use Rattle.world_model.specs.Events.{Event, History}
 use Rattle.world_model.specs.Independence.{are_independent}
 use Rattle.world_model.specs.Requests.{Program}
 use Rattle.world_model.specs.Run.{next_event, run}
-use Rattle.world_model.specs.Shown.{Flags}
 use Rattle.sleep_sets.specs.Search.{awake}
 use Rattle.coverage.specs.Explored.{explored, choice}
-use Rattle.coverage.specs.Findings.{Findings, findings_among}
 use Rattle.coverage.specs.Trees.{nodes}
 
 -- a node: its schedule, and the steps that are taken there
@@ -78,12 +76,9 @@ root = record { prefix = []; slept = [] }
 abbrev pub schedules_of : List Node → List (List Step)
 schedules_of = map (λ v. v.schedule)
 
--- how many nodes it has, and what they show
+-- how many nodes it has
 abbrev pub node_count : Program → ℕ → Job → ℕ
 node_count a n job = length (nodes_of a n job)
-
-abbrev pub job_findings : Flags → Program → ℕ → Job → Findings
-job_findings flags a n job = findings_among flags a (schedules_of (nodes_of a n job))
 
 -- the nodes of the root are all nodes of the tree
 abbrev pub RootHasAllNodes : Type 0

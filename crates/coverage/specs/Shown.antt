@@ -14,7 +14,7 @@ use Rattle.world_model.specs.declared.rule.Rule.{Rule}
 use Rattle.world_model.specs.declared.rule.Rule.TheVariants.{ProtectedWrite, NoTable}
 use Rattle.term_core.specs.declared.step.Step.TheVariants.{Turn}
 use Rattle.world_model.specs.Names.{Pid, IsAmong}
-use Rattle.coverage.specs.Trees.{nodes}
+use Rattle.coverage.specs.Trees.{nodes, p}
 
 -- a schedule runs, and its history shows the identity
 abbrev pub RunShows : Program → List Step → Identity → Type 0
@@ -52,11 +52,8 @@ told_of a (s ∷ schedules) = told_if_any s (shown_after a (run a s)) (told_of a
 abbrev pub TreeShows : ModuleTree → ℕ → List (List Step × List Identity) → Type 0
 TreeShows m n told = told_of (program_of m) (nodes (program_of m) n) ≡ told
 
-abbrev pub p : Step
-p = Turn P
-
-abbrev pub c : Step
-c = Turn P_2
+abbrev pub c_2 : Step
+c_2 = Turn P_2
 
 abbrev pub refused_by : Rule → Option Pid → Identity
 refused_by rule owner = RefusedCall P_2 1 kinds.Insert (t ∷ a_1 ∷ []) rule owner
@@ -67,9 +64,9 @@ ended = End P_2 (error_of (codes "badarg"))
 -- the call of the stranger is refused while the owner lives, and after its end, each by its rule; then it ends with badarg
 abbrev pub StrangerShows : Type 0
 StrangerShows = TreeShows stranger 5 (
-    (p ∷ p ∷ p ∷ c ∷ [], refused_by NoTable None ∷ [])
-    ∷ (p ∷ p ∷ p ∷ c ∷ c ∷ [], ended ∷ [])
-    ∷ (p ∷ p ∷ c ∷ [], refused_by ProtectedWrite (Some P) ∷ [])
-    ∷ (p ∷ p ∷ c ∷ p ∷ c ∷ [], ended ∷ [])
-    ∷ (p ∷ p ∷ c ∷ c ∷ [], ended ∷ [])
+    (p ∷ p ∷ p ∷ c_2 ∷ [], refused_by NoTable None ∷ [])
+    ∷ (p ∷ p ∷ p ∷ c_2 ∷ c_2 ∷ [], ended ∷ [])
+    ∷ (p ∷ p ∷ c_2 ∷ [], refused_by ProtectedWrite (Some P) ∷ [])
+    ∷ (p ∷ p ∷ c_2 ∷ p ∷ c_2 ∷ [], ended ∷ [])
+    ∷ (p ∷ p ∷ c_2 ∷ c_2 ∷ [], ended ∷ [])
     ∷ [])

@@ -15,6 +15,7 @@ use Rattle.world_model.specs.Happenings.{P, P_1}
 use Rattle.world_model.specs.Independence.{are_independent}
 use Rattle.world_model.specs.Modules.{module_of, main, child, spawn_child, new_table, look_up, put_one, mention, the, in_turn, ask_for, the_atom, the_number, the_list, the_tuple, the_table}
 use Rattle.world_model.specs.Names.{Name, IsAmong}
+use Rattle.world_model.specs.OrderExamples.{unlinks}
 use Rattle.world_model.specs.Requests.{Program}
 use Rattle.world_model.specs.Run.{next_event, run}
 use Rattle.world_model.specs.TableExamples.{stranger}
@@ -134,3 +135,10 @@ TwoKeysHaveEight = HasNodes two_keys 4 8
 
 abbrev pub TwoKeysHaveThirteen : Type 0
 TwoKeysHaveThirteen = HasNodes two_keys 6 13
+
+-- a process ends when its link is gone: its signal is dropped, and does not depend on whether its receiver traps exits
+abbrev pub UnlinkedHaveSeventeen : Type 0
+UnlinkedHaveSeventeen = HasNodes unlinks 5 17
+
+abbrev pub UnlinkedHaveNineteen : Type 0
+UnlinkedHaveNineteen = HasNodes unlinks 6 19

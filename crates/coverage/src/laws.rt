@@ -7,7 +7,7 @@ ghost use Rattle.coverage.specs.Explored.{explored, choice, signs};
 ghost use Rattle.coverage.specs.FindingExamples.{IdleIsClean, StrangerIsFound, StrangerIsStrange, ReadIsFound, ReadIsStrange, LatePutIsFound, FourStepsAreClean, SleepIsNoDeadlock, TwoWaitHaveOne, TwoWaitHaveTwo, DeadlockIsFound, NoStepIsClean, AllowedIsClean, BothEndsAreFound, SecondIsFound, FiveStepsAreClean, EndlessHasTwo, EndlessIsFound};
 ghost use Rattle.coverage.specs.Findings.{FindingsAreSorted, ErrorsAreExact, RefusalsAreExact, ErrorsAreOfNodes, RefusalsAreOfNodes};
 ghost use Rattle.coverage.specs.Shown.{NodesShowTheSame, StrangerShows};
-ghost use Rattle.coverage.specs.Trees.{NodesRun, NodesAreInOrder, NodesCover, IdleHasOne, IdleHasTwo, TwoTablesHaveTen, StrangerHasTen, PrivateReadHasFive, TwoKeysHaveEight, TwoKeysHaveThirteen};
+ghost use Rattle.coverage.specs.Trees.{NodesRun, NodesAreInOrder, NodesCover, IdleHasOne, IdleHasTwo, TwoTablesHaveTen, StrangerHasTen, PrivateReadHasFive, TwoKeysHaveEight, TwoKeysHaveThirteen, UnlinkedHaveSeventeen, UnlinkedHaveNineteen};
 
 /// The search by sleep sets has a node for each schedule of at most so many steps, up to swaps of
 /// independent steps, and its nodes show the identities that these schedules show.
@@ -54,6 +54,13 @@ pub fn trees_have_their_nodes()
     ensures refused { PrivateReadHasFive }
     ensures keys { TwoKeysHaveEight }
     ensures deeper { TwoKeysHaveThirteen }
+{}
+
+/// What a link that is gone tells does not depend on whether it would be heard.
+#[tactic(auto, unfolding(world_model::specs::World::contents))]
+pub fn dropped_signals_read_no_flag()
+    ensures five { UnlinkedHaveSeventeen }
+    ensures six { UnlinkedHaveNineteen }
 {}
 
 /// A stranger writes a protected table: the tree shows both of its refusals, and its end.

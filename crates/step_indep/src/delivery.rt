@@ -1,10 +1,11 @@
 // The delivery of a signal: what it reads and writes (Erlang reference manual, "Processes": "Receiving Exit Signals").
+ghost use Rattle.std.specs.List.{list_any};
 ghost use Rattle.std.specs.Prelude.{◌≡◌, ◌∷◌, [], false, IfOk, OnOk, Some, map, option_copied};
 ghost use Rattle.core_tree.specs.Syntax.{ModuleTree};
 ghost use Rattle.proc_groups.specs.References.{ref_of};
 ghost use Rattle.proc_links.specs.Links.{AreLinks};
 ghost use Rattle.proc_signals.specs.Signal.{signal_of};
-ghost use Rattle.step_indep.specs.Footprints.{Adds};
+ghost use Rattle.step_indep.specs.Footprints.{Adds, AreMore};
 ghost use Rattle.step_indep.specs.inside.Written.{outcome_of};
 ghost use Rattle.step_indep.specs.Independence.{written_by};
 ghost use Rattle.term_core.specs.Meaning.{Meaning};
@@ -15,14 +16,14 @@ ghost use Rattle.world_model.specs.Cells.{Contents};
 ghost use Rattle.world_model.specs.Changes.{after, cell_of};
 ghost use Rattle.world_model.specs.Ends.{ends, reads_of_end};
 ghost use Rattle.world_model.specs.Events.{Delivered, Kills};
-ghost use Rattle.world_model.specs.Names.{Pid, Ref};
+ghost use Rattle.world_model.specs.Names.{Pid, Ref, same_pid};
 ghost use Rattle.world_model.specs.Signals as signals;
-ghost use Rattle.world_model.specs.Signals.{down_fate, exit_fate, fate_of, first_of, goes_with, link_fate, reads_of_fate, waiting_in};
+ghost use Rattle.world_model.specs.Signals.{down_fate, exit_fate, fate_of, first_of, goes_with, link_fate, reads_of_fate, trap_if, waiting_in};
 ghost use Rattle.world_model.specs.Steps.{changes_of_delivery, changes_of_fate, deed_delivered, reads_if_killed, reads_of_signal};
 ghost use Rattle.world_records.specs.Records.{Agrees};
 
 use crate::cell::{
-    ChannelPart, ProcessPart, ReferencePart, put_of_channel, put_of_process, put_of_reference,
+    Cell, ChannelPart, ProcessPart, ReferencePart, put_of_channel, put_of_process, put_of_reference,
 };
 use crate::ends::end;
 use crate::footprints::Footprint;
@@ -101,13 +102,34 @@ fn outcome_at(records: &Records<'_>, from: &Pid, to: &Pid, signal: &Signal) -> O
     }
 }
 
-// The exit signal of a link: the link is read, and goes.
-fn unpair(from: &Pid, to: &Pid, footprint: &mut Footprint) -> Result<(), AllocError>
-    ensures { OnOk result (Adds (cells.Trap to.now ∷ cells.Links to.now ∷ cells.Links from.now ∷ []) (cells.Links from.now ∷ cells.Links to.now ∷ []) footprint.old footprint.new) }
+// Whether the receiver of the exit signal of a link traps exits is read where the link stands.
+fn read_flag(
+    records: &Records<'_>,
+    from: &Pid,
+    to: &Pid,
+    reads: &mut Vec<Cell>,
+) -> Result<(), AllocError>
+    ensures { OnOk result ((m : ModuleTree) (v : Contents) → Agrees m records.now v → AreMore (trap_if (list_any (same_pid from.now) (v (cells.Links to.now))) to.now) reads.old.items reads.new.items) }
 {
-    put_of_process(&mut footprint.reads, ProcessPart::Trap, to)?;
+    if has_partner(records, to, from) {
+        put_of_process(reads, ProcessPart::Trap, to)?;
+    }
+    Ok(())
+}
+
+// The exit signal of a link: the link is read, and goes.
+fn unpair(
+    records: &Records<'_>,
+    from: &Pid,
+    to: &Pid,
+    footprint: &mut Footprint,
+) -> Result<(), AllocError>
+    ensures { OnOk result ((m : ModuleTree) (v : Contents) → Agrees m records.now v →
+        Adds (cells.Links to.now ∷ cells.Links from.now ∷ trap_if (list_any (same_pid from.now) (v (cells.Links to.now))) to.now) (cells.Links from.now ∷ cells.Links to.now ∷ []) footprint.old footprint.new) }
+{
     put_of_process(&mut footprint.reads, ProcessPart::Links, to)?;
     put_of_process(&mut footprint.reads, ProcessPart::Links, from)?;
+    read_flag(records, from, to, &mut footprint.reads)?;
     put_of_process(&mut footprint.writes, ProcessPart::Links, from)?;
     put_of_process(&mut footprint.writes, ProcessPart::Links, to)?;
     Ok(())
@@ -126,17 +148,19 @@ fn unwatch(reference: &RefId, from: &Pid, footprint: &mut Footprint) -> Result<(
 
 // What a signal is judged by, and what goes with it.
 fn go_with(
+    records: &Records<'_>,
     from: &Pid,
     to: &Pid,
     signal: &Signal,
     footprint: &mut Footprint,
 ) -> Result<(), AllocError>
-    ensures { OnOk result (Adds (reads_of_fate from.now to.now (signal_of signal.now)) (map cell_of (goes_with from.now to.now (signal_of signal.now))) footprint.old footprint.new) }
+    ensures { OnOk result ((m : ModuleTree) (v : Contents) → Agrees m records.now v →
+        Adds (reads_of_fate v from.now to.now (signal_of signal.now)) (map cell_of (goes_with from.now to.now (signal_of signal.now))) footprint.old footprint.new) }
 {
     match signal {
         Signal::Message(_) => Ok(()),
         Signal::Exit(_) => put_of_process(&mut footprint.reads, ProcessPart::Trap, to),
-        Signal::LinkExit(_) => unpair(from, to, footprint),
+        Signal::LinkExit(_) => unpair(records, from, to, footprint),
         Signal::Down(reference, _) => unwatch(reference, from, footprint),
     }
 }
@@ -199,7 +223,7 @@ fn deliver_signal(
         Adds (reads_of_signal v from.now to.now (Some (signal_of signal.now))) (map cell_of (changes_of_delivery v from.now to.now (Delivered (signal_of signal.now) (fate_of v from.now to.now (signal_of signal.now))))) footprint.old footprint.new) }
 {
     put_of_channel(&mut footprint.writes, ChannelPart::Front, from, to)?;
-    go_with(from, to, signal, footprint)?;
+    go_with(records, from, to, signal, footprint)?;
     take_effect(records, from, to, signal, footprint)?;
     Ok(())
 }

@@ -6,7 +6,7 @@ use Rattle.term_core.specs.declared.step.Step.{Step}
 use Rattle.term_core.specs.declared.step.Step.TheVariants.{Deliver, Turn}
 use Rattle.world_model.specs.Bonds.{paired_by_way, linked_by_call, way_now, linked_in, LinkedIsTold, watched_by_call, watched_in, WatchedIsTold, vacated, held_by_call, name_of_ended, held_in, HolderIsTold}
 use Rattle.world_model.specs.Calls.{Link, Call, Spawn, Alone, Linked, Watched, Unlink, OnTable, call_of, Monitor, Demonitor, Register, Unregister}
-use Rattle.world_model.specs.Cells.{Links, Table, Contents, Watch, Watchers, Alive, Holder, NameOf, Owned}
+use Rattle.world_model.specs.Cells.{Cell, Links, Table, Contents, Watch, Watchers, Alive, Holder, NameOf, Owned}
 use Rattle.world_model.specs.Changes.{after, changed, Turns, Fetches, Unwatches, Sheds, Touches, Change, Dies, Halts, Empties}
 use Rattle.world_model.specs.Ends.{ends, passed, table_passes, living_heir, tables_pass, partners_told, watchers_told, name_left}
 use Rattle.world_model.specs.Events.{History, Fate, Signal, Delivered, Message, Exit, LinkExit, Down, Arrives, IsIgnored, IsDropped, Kills, Deed, Served, Refused, EndedItself, Ended, Received, TimedOut, RanAway}
@@ -19,11 +19,12 @@ use Rattle.world_model.specs.Tables as tables
 use Rattle.world_model.specs.Tables.{Heir}
 use Rattle.world_model.specs.Told.{ended_in}
 use Rattle.world_model.specs.World.{contents}
-use Rattle.world_model.proofs.Commuting.{either_way, stays}
+use Rattle.world_model.proofs.Commuting.{either_way, stays, follows}
 use Rattle.world_model.proofs.EndSorts.{end_leaves, after_both}
 use Rattle.world_model.proofs.Meeting.{refs_same, pids_same}
 use Rattle.world_model.proofs.Outcomes.{touches}
 use Rattle.world_model.proofs.SortLaws.{call_leaves, no_link, no_watch, AllAmong, among_if, among_both, put_among, untouched_by, no_holder}
+use Rattle.world_model.proofs.Sorts.{is_among}
 
 -- ---- links
 
@@ -178,15 +179,9 @@ watchers_off : (v : Contents) (p : Pid) (reason : Meaning) (refs : List Ref) →
 watchers_off v p reason [] = tt
 watchers_off v p reason (ref ∷ refs) = among_both pass_sorts (put_if (v (Alive ref.pid)) p ref.pid (Down ref reason)) (watchers_told v p reason refs) (put_among pass_sorts (v (Alive ref.pid)) p ref.pid (Down ref reason) refl) (watchers_off v p reason refs)
 
-off_name : (ks : List Change) (w : Contents) (n : Name) → AllAmong pass_sorts ks → after ks w (Holder n) ≡ w (Holder n)
-off_name ks w n among = stays ks w (Holder n) (untouched_by pass_sorts ks (Holder n) among refl)
-
-name_told : (p : Pid) (o : Option Name) (w : Contents) (n : Name) → after (name_left p o) w (Holder n) ≡ vacated o n (w (Holder n))
-name_told p None w n = refl
-name_told p (Some m) w n = refl
-
-end_held : (v w : Contents) (p : Pid) (reason : Meaning) (n : Name) → after (ends v p reason) w (Holder n) ≡ vacated (v (NameOf p)) n (w (Holder n))
-end_held v w p reason n =
+-- of a cell of another sort an end leaves what its name leaves of it
+pub end_but_name : (v w : Contents) (p : Pid) (reason : Meaning) (c : Cell) → is_among pass_sorts c ≡ false → after (ends v p reason) w c ≡ after (name_left p (v (NameOf p))) (changed (Dies p) (changed (Halts p reason) w)) c
+end_but_name v w p reason c other =
     let dead = changed (Dies p) v in
     let mid = changed (Dies p) (changed (Halts p reason) w) in
     let passing = tables_pass dead p (dead (Owned p)) in
@@ -194,11 +189,19 @@ end_held v w p reason n =
     let watchers = watchers_told dead p reason (dead (Watchers p)) in
     let name = name_left p (dead (NameOf p)) in
     let one = changed (Empties p) (after passing mid) in
-    after_both passing (Empties p ∷ (partners ++ (watchers ++ name))) mid (Holder n)
-    ∙ after_both partners (watchers ++ name) one (Holder n)
-    ∙ after_both watchers name (after partners one) (Holder n)
-    ∙ name_told p (dead (NameOf p)) (after watchers (after partners one)) n
-    ∙ ap (vacated (v (NameOf p)) n) (off_name watchers (after partners one) n (watchers_off dead p reason (dead (Watchers p))) ∙ off_name partners one n (partners_off dead p reason (dead (Links p))) ∙ off_name passing mid n (tables_off dead p (dead (Owned p))))
+    let off : (ks : List Change) (u : Contents) → AllAmong pass_sorts ks → after ks u c ≡ u c = λ ks u among. stays ks u c (untouched_by pass_sorts ks c among other) in
+    after_both passing (Empties p ∷ (partners ++ (watchers ++ name))) mid c
+    ∙ after_both partners (watchers ++ name) one c
+    ∙ after_both watchers name (after partners one) c
+    ∙ follows name (after watchers (after partners one)) mid c
+    (off watchers (after partners one) (watchers_off dead p reason (dead (Watchers p))) ∙ off partners one (partners_off dead p reason (dead (Links p))) ∙ off (Empties p ∷ []) (after passing mid) (refl, tt) ∙ off passing mid (tables_off dead p (dead (Owned p))))
+
+name_told : (p : Pid) (o : Option Name) (w : Contents) (n : Name) → after (name_left p o) w (Holder n) ≡ vacated o n (w (Holder n))
+name_told p None w n = refl
+name_told p (Some m) w n = refl
+
+pub end_held : (v w : Contents) (p : Pid) (reason : Meaning) (n : Name) → after (ends v p reason) w (Holder n) ≡ vacated (v (NameOf p)) n (w (Holder n))
+end_held v w p reason n = end_but_name v w p reason (Holder n) refl ∙ name_told p (v (NameOf p)) (changed (Dies p) (changed (Halts p reason) w)) n
 
 unheld_by : (w : Contents) (m n : Name) (o : Option Pid) → w (Holder m) ≡ o → after (unregister_line m o).changes w (Holder n) ≡ (if same_name m n then None else w (Holder n))
 unheld_by w m n None is = ends_if true (same_name m n) (w (Holder n)) (λ same. ap (λ k. w (Holder k)) (sym (pids_same m n same)) ∙ is)
@@ -214,13 +217,13 @@ call_held v w p (Unregister (Some m)) n same = unheld_by w m n (v (Holder m)) (s
 call_held v w p (OnTable argument call) n same = call_leaves v w p (OnTable argument call) (Holder n) (no_holder call n)
 call_held v w p call n same = call_leaves v w p call (Holder n) refl
 
-goes_held : (s r : Pid) (n : Name) (signal : Signal) → touches (goes_with s r signal) (Holder n) ≡ false
+pub goes_held : (s r : Pid) (n : Name) (signal : Signal) → touches (goes_with s r signal) (Holder n) ≡ false
 goes_held s r n (Message m) = refl
 goes_held s r n (Exit reason) = refl
 goes_held s r n (LinkExit reason) = refl
 goes_held s r n (Down u reason) = refl
 
-goes_named_of : (s r q : Pid) (signal : Signal) → touches (goes_with s r signal) (NameOf q) ≡ false
+pub goes_named_of : (s r q : Pid) (signal : Signal) → touches (goes_with s r signal) (NameOf q) ≡ false
 goes_named_of s r q (Message m) = refl
 goes_named_of s r q (Exit reason) = refl
 goes_named_of s r q (LinkExit reason) = refl

@@ -102,16 +102,16 @@ not_own_child h p call =
     ]
 
 -- a served call counts
-counts : (h : History) (p : Pid) (kind : CallKind) (arguments : List Meaning) (answer : Meaning) → turns (event (Turn p) (Served kind arguments answer) ∷ h) p ≡ turns h p + 1
+pub counts : (h : History) (p : Pid) (kind : CallKind) (arguments : List Meaning) (answer : Meaning) → turns (event (Turn p) (Served kind arguments answer) ∷ h) p ≡ turns h p + 1
 counts h p kind arguments answer =
     turns_told h (event (Turn p) (Served kind arguments answer)) p
     ∙ where_false (is_it (begun_by_call h p (call_of kind arguments)) p) 0 (if same_pid p p && true then turns h p + 1 else turns h p) (not_own_child h p (call_of kind arguments))
     ∙ ap (λ b. if b && true then turns h p + 1 else turns h p) (pid_itself p)
 
 -- who begins, makes or watches: the process whose turn it is
-record IsBy (h : History) (step : Step) (deed : Deed) (p : Pid) : Type 0 where
-  turn : step ≡ Turn p
-  now : turns (event step deed ∷ h) p ≡ turns h p + 1
+pub record IsBy (h : History) (step : Step) (deed : Deed) (p : Pid) : Type 0 where
+  pub turn : step ≡ Turn p
+  pub now : turns (event step deed ∷ h) p ≡ turns h p + 1
 
 beginner : (h : History) (step : Step) (deed : Deed) (q : Pid) → is_it (begun_in h step deed) q ≡ true → (p : Pid) × IsBy h step deed p × (next_child (contents h) p ≡ q)
 beginner h (Turn p) (Served kind arguments answer) q is = (p, record { turn = refl; now = counts h p kind arguments answer }, begun_next h p (call_of kind arguments) q is)
@@ -123,7 +123,7 @@ maker h (Turn p) (Served kind arguments answer) t is = (p, record { turn = refl;
 maker h (Turn p) deed t is = absurd cc
 maker h (Deliver s r) deed t is = absurd cc
 
-watcher : (h : History) (step : Step) (deed : Deed) (t : Ref) → watches_in (contents h) step deed t ≡ true → (p : Pid) × IsBy h step deed p × (same_ref (next_ref (contents h) p) t ≡ true)
+pub watcher : (h : History) (step : Step) (deed : Deed) (t : Ref) → watches_in (contents h) step deed t ≡ true → (p : Pid) × IsBy h step deed p × (same_ref (next_ref (contents h) p) t ≡ true)
 watcher h (Turn p) (Served kind arguments answer) t is = (p, record { turn = refl; now = counts h p kind arguments answer }, watches_next (contents h) p (call_of kind arguments) t is)
 watcher h (Turn p) deed t is = absurd cc
 watcher h (Deliver s r) deed t is = absurd cc
@@ -134,7 +134,7 @@ turner q (Deliver s r) b is = absurd (true≢false (sym is))
 
 -- ---- one event
 
-AreFree : History → Type 0
+pub AreFree : History → Type 0
 AreFree h = (q : Pid) (n : ℕ) → turns h q < n → IsFree (contents h) q n
 
 -- of the process that took the turn, the next number is used
@@ -145,7 +145,7 @@ not_used h step deed p q n by same number_ less =
     omega (arith, moved, number_, less)
 
 -- the numbers of a process only rise
-rises : (h : History) (step : Step) (deed : Deed) (q : Pid) (n : ℕ) → AreFree h → turns (event step deed ∷ h) q < n → turns h q < n
+pub rises : (h : History) (step : Step) (deed : Deed) (q : Pid) (n : ℕ) → AreFree h → turns (event step deed ∷ h) q < n → turns h q < n
 unfolding AreFree
 rises h step deed q n free less =
     let told = turns_told h (event step deed) q in
@@ -232,7 +232,7 @@ not_first : (q : Pid) (n : ℕ) → is_first (q ++ (n ∷ [])) ≡ false
 not_first [] n = refl
 not_first (x ∷ q) n = refl
 
-all_free : (a : Program) (h : History) → IsRun a h → AreFree h
+pub all_free : (a : Program) (h : History) → IsRun a h → AreFree h
 unfolding AreFree contents
 all_free a [] is q n less = record { child = not_first q n; course = refl; table = refl; watch = refl }
 all_free a (e ∷ h) is q n less =

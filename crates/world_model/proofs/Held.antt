@@ -1,5 +1,6 @@
 -- Who reads the front of a channel finds a signal there, or reads the tail as well; and so all independent steps commute.
 use Rattle.std.proofs.Common.{inr, refl, subst, sym, inl}
+use Rattle.std.specs.List.{list_any}
 use Rattle.std.specs.Prelude.{◌∷◌, ◌≡◌, ◌++◌, if◌then◌else◌, List, [], map, Option, None, Some, Bool, true, false, option_map}
 use Rattle.term_core.specs.Meaning.{Meaning}
 use Rattle.term_core.specs.declared.step.Step.{Step}
@@ -17,7 +18,7 @@ use Rattle.world_model.specs.NewTables.{new_line, new_rule}
 use Rattle.world_model.specs.ProcessLines.{read_of_target, holder_read, unregister_line, ref_of}
 use Rattle.world_model.specs.Requests.{Request, Calls, Receives, Ends, RunsAway, Program}
 use Rattle.world_model.specs.Rows.{Key}
-use Rattle.world_model.specs.Signals.{reads_of_fate, goes_with, fate_of, first_of, waiting_in}
+use Rattle.world_model.specs.Signals.{reads_of_fate, trap_if, goes_with, fate_of, first_of, waiting_in}
 use Rattle.world_model.specs.Steps.{reads, reads_if_ended, reads_of_call, ends_itself, reads_of_request, reads_if_killed, reads_of_signal, deed_delivered, asked}
 use Rattle.world_model.specs.TableLines.{rows_read}
 use Rattle.world_model.specs.Tables as tables
@@ -178,15 +179,19 @@ held_fate v w all r IsIgnored = tt
 held_fate v w all r IsDropped = tt
 held_fate v w all r (Kills reason) = held_end v w all r
 
-held_with : (v : Contents) (all : List Cell) (s r : Pid) (x : Signal) → AreHeld v all (reads_of_fate s r x)
+held_trap : (v : Contents) (all : List Cell) (r : Pid) (stands : Bool) → AreHeld v all (trap_if stands r)
+held_trap v all r true = (tt, tt)
+held_trap v all r false = tt
+
+held_with : (v : Contents) (all : List Cell) (s r : Pid) (x : Signal) → AreHeld v all (reads_of_fate v s r x)
 held_with v all s r (Message m) = tt
 held_with v all s r (Exit reason) = (tt, tt)
-held_with v all s r (LinkExit reason) = (tt, (tt, (tt, tt)))
+held_with v all s r (LinkExit reason) = (tt, (tt, held_trap v all r (list_any (same_pid s) (v (Links r)))))
 held_with v all s r (Down ref reason) = (tt, (tt, tt))
 
 held_signal : (v : Contents) (all : List Cell) (s r : Pid) (o : Option Signal) → AreHeld v all (reads_of_signal v s r o)
 held_signal v all s r None = tt
-held_signal v all s r (Some x) = held_both v all (reads_of_fate s r x) (reads_if_killed (after (goes_with s r x) v) r (fate_of v s r x)) (held_with v all s r x) (held_fate v (after (goes_with s r x) v) all r (fate_of v s r x))
+held_signal v all s r (Some x) = held_both v all (reads_of_fate v s r x) (reads_if_killed (after (goes_with s r x) v) r (fate_of v s r x)) (held_with v all s r x) (held_fate v (after (goes_with s r x) v) all r (fate_of v s r x))
 
 -- what is delivered is there
 is_there : (v : Contents) (s r : Pid) (b : Bool) (f : Option Signal) (o : Outcome) → option_map (with_changes v (Deliver s r)) (if b then deed_delivered v s r f else None) ≡ Some o → (x : Signal) × (f ≡ Some x)

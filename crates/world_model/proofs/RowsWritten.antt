@@ -1,5 +1,5 @@
 -- A served call of a table writes the rows of its line, and what it leaves there.
-use Rattle.std.proofs.Common.{◌≡◌, Bool, true, false, ◌&&◌, List, [], ◌∷◌, ◌++◌, map, ap, Option, Some, None, refl, ◌∙◌, if◌then◌else◌}
+use Rattle.std.proofs.Common.{true≢false, ◌≡◌, Bool, true, false, ◌&&◌, List, [], ◌∷◌, ◌++◌, map, ap, Option, Some, None, refl, ◌∙◌, if◌then◌else◌}
 use Rattle.std.specs.List.{cons_option}
 use Rattle.std.specs.Option.{option_or}
 use Rattle.eval_rules.specs.Asked as answered
@@ -20,7 +20,8 @@ use Rattle.world_model.specs.Touch.{cells_of}
 use Rattle.world_model.specs.World.{contents}
 use Rattle.world_model.specs.declared.rule.Rule.{Rule}
 use Rattle.world_model.specs.declared.rule.Rule.TheVariants.{BagRefused, BadPosition}
-use Rattle.world_model.specs.declared.table.Kind.TheVariants.{Set}
+use Rattle.world_model.specs.declared.table.Kind.TheVariants.{Set, OrderedSet, Bag, DuplicateBag}
+use Rattle.world_model.specs.declared.table.Kind.{Kind}
 use Rattle.world_model.proofs.Commuting.{either_way}
 use Rattle.world_model.proofs.EndSorts.{after_both}
 use Rattle.world_model.proofs.Meeting.{ref_itself}
@@ -159,15 +160,21 @@ leaves_rows h p kind arguments argument call answer f key is_call is =
     ∙ ap (λ o. after (found_line (contents h) p call o).changes w (Row f.ref key)) is
     ∙ call_leaves_rows (contents h) w p f call key
 
--- ---- in a set the last object with a key stays
+-- ---- in a set and an ordered_set the last object with a key stays
 
-last_of_two : (x : Option Object) (b : Bool) (o : Object) (there : List Object) → replaced x (under_key b (stored Set o there) there) ≡ replaced (option_or x (if b then Some o else None)) there
-last_of_two None true o there = refl
-last_of_two None false o there = refl
-last_of_two (Some x) b o there = refl
+only_it : (kind : Kind) (o : Object) (there : List Object) → is_bag kind ≡ false → stored kind o there ≡ o ∷ []
+only_it Set o there is = refl
+only_it OrderedSet o there is = refl
+only_it Bag o there is = absurd (true≢false is)
+only_it DuplicateBag o there is = absurd (true≢false is)
+
+last_of_two : (kind : Kind) (x : Option Object) (b : Bool) (o : Object) (there : List Object) → is_bag kind ≡ false → replaced x (under_key b (stored kind o there) there) ≡ replaced (option_or x (if b then Some o else None)) there
+last_of_two kind None true o there is = only_it kind o there is
+last_of_two kind None false o there is = refl
+last_of_two kind (Some x) b o there is = refl
 
 pub keeps_the_last : KeepsTheLast
-keeps_the_last position key [] there = refl
-keeps_the_last position key (o ∷ os) there =
-    keeps_the_last position key os (under_key (is_key key (part_at position o)) (stored Set o there) there)
-    ∙ last_of_two (last_with position key os) (is_key key (part_at position o)) o there
+keeps_the_last kind position key [] there is = refl
+keeps_the_last kind position key (o ∷ os) there is =
+    keeps_the_last kind position key os (under_key (is_key key (part_at position o)) (stored kind o there) there) is
+    ∙ last_of_two kind (last_with position key os) (is_key key (part_at position o)) o there is

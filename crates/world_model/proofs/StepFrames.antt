@@ -8,7 +8,7 @@ use Rattle.term_core.specs.declared.step.Step.TheVariants.{Turn, Deliver}
 use Rattle.core_calls.specs.declared.call.CallKind.{CallKind}
 use Rattle.eval_rules.specs.Asked as answered
 use Rattle.world_model.specs.Calls.{Call, SendExit, IsAlive, call_of}
-use Rattle.world_model.specs.Cells.{Contents, Trap, Alive, Machine, Mailbox, Front}
+use Rattle.world_model.specs.Cells.{Contents, Trap, Alive, Machine, Mailbox, Front, Links}
 use Rattle.world_model.specs.Changes.{Turns, Change, after, Fetches}
 use Rattle.world_model.specs.Ends.{reads_of_end}
 use Rattle.world_model.specs.Events.{Exit, Refusal, Served, EndedItself, Ended, Deed, RanAway, Signal, Message, LinkExit, Down, Fate, Arrives, IsIgnored, IsDropped, Kills, Delivered}
@@ -17,7 +17,7 @@ use Rattle.world_model.specs.Lines.{line}
 use Rattle.world_model.specs.Names.{Pid, same_pid}
 use Rattle.world_model.specs.ProcessLines.{read_of_target}
 use Rattle.world_model.specs.Requests.{Request, Calls, Receives, Ends, RunsAway, Program}
-use Rattle.world_model.specs.Signals.{reads_of_fate, fate_of, exit_fate, link_fate, down_fate, goes_with, first_of, waiting_in}
+use Rattle.world_model.specs.Signals.{reads_of_fate, trap_if, fate_of, exit_fate, link_fate, down_fate, goes_with, first_of, waiting_in}
 use Rattle.world_model.specs.Steps.{own_end, ends_itself, reads, must_wait, judged, reads_if_ended, ended_or, deed_asked, asked, reads_of_request, reads_of_call, received, selected_of, runaway, reads_if_killed, changes_of_fate, deed_delivered, reads_of_signal}
 use Rattle.world_model.proofs.CallFrames.{call_framed}
 use Rattle.world_model.proofs.EndFrames.{ends_framed, same_of, SameOn, same_after_both}
@@ -106,11 +106,22 @@ turn_framed a v w p agree =
 
 -- ---- deliveries
 
-fate_framed : (v w : Contents) (s r : Pid) (x : Signal) → AgreeOn v w (reads_of_fate s r x) → fate_of v s r x ≡ fate_of w s r x
+-- the flag is read where the link stands, and else it is the same to it
+link_framed : (v w : Contents) (s r : Pid) (reason : Meaning) (stands : Bool) → AgreeOn v w (trap_if stands r) → link_fate stands (v (Trap r)) s reason ≡ link_fate stands (w (Trap r)) s reason
+link_framed v w s r reason true agree = ap (λ traps. link_fate true traps s reason) agree.0.0
+link_framed v w s r reason false agree = refl
+
+fate_framed : (v w : Contents) (s r : Pid) (x : Signal) → AgreeOn v w (reads_of_fate v s r x) → fate_of v s r x ≡ fate_of w s r x
 fate_framed v w s r (Message m) agree = refl
 fate_framed v w s r (Exit reason) agree = λ i. exit_fate (agree.0.0 i) false s reason
-fate_framed v w s r (LinkExit reason) agree = λ i. link_fate (list_any (same_pid s) (agree.1.0.0 i)) (agree.0.0 i) s reason
+fate_framed v w s r (LinkExit reason) agree = link_framed v w s r reason (list_any (same_pid s) (v (Links r))) agree.1.1 ∙ ap (λ qs. link_fate (list_any (same_pid s) qs) (w (Trap r)) s reason) agree.0.0
 fate_framed v w s r (Down ref reason) agree = λ i. down_fate (agree.0.0 i) ref s reason
+
+fate_reads_framed : (v w : Contents) (s r : Pid) (x : Signal) → AgreeOn v w (reads_of_fate v s r x) → reads_of_fate v s r x ≡ reads_of_fate w s r x
+fate_reads_framed v w s r (Message m) agree = refl
+fate_reads_framed v w s r (Exit reason) agree = refl
+fate_reads_framed v w s r (LinkExit reason) agree = ap (λ qs. Links r ∷ Links s ∷ trap_if (list_any (same_pid s) qs) r) agree.0.0
+fate_reads_framed v w s r (Down ref reason) agree = refl
 
 effect_framed : (ks : List Change) (v w : Contents) (r : Pid) (f : Fate) → SameOn v w (reads_if_killed (after ks v) r f) → (changes_of_fate (after ks v) r f ≡ changes_of_fate (after ks w) r f) × (reads_if_killed (after ks v) r f ≡ reads_if_killed (after ks w) r f)
 effect_framed ks v w r (Arrives m) same = (refl, refl)
@@ -125,10 +136,10 @@ signal_framed : (v w : Contents) (s r : Pid) (o : Option Signal) → AgreeOn v w
 signal_framed v w s r None agree = (refl, refl)
 signal_framed v w s r (Some x) agree =
     let ks = goes_with s r x in
-    let parts = agree_parts v w (reads_of_fate s r x) (reads_if_killed (after ks v) r (fate_of v s r x)) agree in
+    let parts = agree_parts v w (reads_of_fate v s r x) (reads_if_killed (after ks v) r (fate_of v s r x)) agree in
     let fates = fate_framed v w s r x parts.0 in
     let effect = effect_framed ks v w r (fate_of v s r x) (same_of v w (reads_if_killed (after ks v) r (fate_of v s r x)) parts.1) in
-    ((λ i. Some ((Delivered x (fates i), Fetches s r ∷ (ks ++ (effect.0 ∙ ap (changes_of_fate (after ks w) r) fates) i)))), ap (λ cs. reads_of_fate s r x ++ cs) (effect.1 ∙ ap (reads_if_killed (after ks w) r) fates))
+    ((λ i. Some ((Delivered x (fates i), Fetches s r ∷ (ks ++ (effect.0 ∙ ap (changes_of_fate (after ks w) r) fates) i)))), (λ i. fate_reads_framed v w s r x parts.0 i ++ (effect.1 ∙ ap (reads_if_killed (after ks w) r) fates) i))
 
 delivery_framed : (a : Program) (v w : Contents) (s r : Pid) → AgreeOn v w (reads a v (Deliver s r)) → (outcome a v (Deliver s r) ≡ outcome a w (Deliver s r)) × (reads a v (Deliver s r) ≡ reads a w (Deliver s r))
 delivery_framed a v w s r agree =

@@ -9,7 +9,9 @@ use Rattle.world_model.specs.Changes.{set_in_order, without_first}
 use Rattle.world_model.specs.Events.{History, Deed, Served, Delivered, LinkExit, Event, Down}
 use Rattle.world_model.specs.Names.{Pid, same_pid, Ref, same_ref, Name, same_name}
 use Rattle.world_model.specs.ProcessLines.{LinkWay, Stands, Pairs, PairsGone, Fails, link_way, next_child, next_ref}
-use Rattle.world_model.specs.Told.{ended_by}
+use Rattle.world_model.specs.Requests.{Program}
+use Rattle.world_model.specs.Run.{IsRun}
+use Rattle.world_model.specs.Told.{ended_by, is_it}
 use Rattle.world_model.specs.World.{linked, alive, traps, contents, watched, holder}
 
 -- ---- links: a pair begins by `link/1` or `spawn_link/3`, and ends by `unlink/1` or when a signal of the link is delivered
@@ -92,3 +94,11 @@ held_in (Deliver s r) deed name there = there
 
 abbrev pub HolderIsTold : Type 0
 HolderIsTold = (h : History) (e : Event) (name : Name) → holder (e ∷ h) name ≡ vacated (name_of_ended h (ended_by e)) name (held_in e.step e.deed name (holder h name))
+
+-- so in every run: the end of its holder leaves it none
+abbrev pub held_at_end : Option Pid → Option Pid → Option Pid
+held_at_end None there = there
+held_at_end (Some p) there = if is_it there p then None else there
+
+abbrev pub HolderIsToldInRuns : Type 0
+HolderIsToldInRuns = (a : Program) (h : History) (e : Event) (name : Name) → IsRun a (e ∷ h) → holder (e ∷ h) name ≡ held_at_end (ended_by e) (held_in e.step e.deed name (holder h name))

@@ -1,12 +1,12 @@
--- Footprints, when two steps are independent, and when two schedules are equivalent.
+-- Footprints, and when two steps are independent.
 use Rattle.std.specs.List.{list_any}
-use Rattle.std.specs.Prelude.{List, ◌&&◌, ◌∷◌, ◌≡◌, ◌++◌, Option, None, [], Some, map, Bool, not, true}
+use Rattle.std.specs.Prelude.{List, ◌&&◌, ◌≡◌, Option, None, [], Some, map, Bool, not, true}
 use Rattle.term_core.specs.declared.step.Step.{Step}
 use Rattle.world_model.specs.Cells.{Cell, meet}
 use Rattle.world_model.specs.Changes.{cell_of}
 use Rattle.world_model.specs.Events.{Event, History}
 use Rattle.world_model.specs.Requests.{Program}
-use Rattle.world_model.specs.Run.{changes, next_event, is_enabled, run}
+use Rattle.world_model.specs.Run.{changes, next_event, is_enabled}
 use Rattle.world_model.specs.Steps.{reads}
 use Rattle.world_model.specs.World.{contents}
 
@@ -43,14 +43,3 @@ are_independent a h s t = is_enabled a h s && (is_enabled a h t && are_apart (fo
 
 abbrev pub IsIndependent : Program → History → Step → Step → Type 0
 IsIndependent a h s t = are_independent a h s t ≡ true
-
--- ---- equivalence
-
--- two neighbours that are independent where they stand change places
-pub data IsSwap (a : Program) : List Step → List Step → Type 0 where
-  swap : (before : List Step) (s t : Step) (rest : List Step) (h : History) → run a before ≡ Some h → IsIndependent a h s t → IsSwap a (before ++ (s ∷ t ∷ rest)) (before ++ (t ∷ s ∷ rest))
-
--- a chain of swaps leads from one schedule to the other
-pub data AreEquivalent (a : Program) : List Step → List Step → Type 0 where
-  same : (steps : List Step) → AreEquivalent a steps steps
-  swapped : (first next last : List Step) → IsSwap a first next → AreEquivalent a next last → AreEquivalent a first last

@@ -35,6 +35,8 @@ pub mod Posted
 pub mod RowsLeft
 pub mod Owners
 pub mod TablesTold
+pub mod OwnerTold
+pub mod Headline
 pub mod RunLaws
 pub mod FoundTold
 pub mod Asking
@@ -48,3 +50,4 @@ pub mod Orders
 pub mod OrderExamples
 pub mod LeftExamples
 pub mod RowExamples
+pub mod BondExamples

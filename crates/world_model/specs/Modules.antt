@@ -82,6 +82,9 @@ child body = function (codes "c") [] body
 abbrev pub spawn_child : Tree
 spawn_child = ask_for kinds.Spawn (the_atom (codes "m") ∷ the_atom (codes "c") ∷ the_list [] ∷ [])
 
+abbrev pub spawn_linked : Tree
+spawn_linked = ask_for kinds.SpawnLink (the_atom (codes "m") ∷ the_atom (codes "c") ∷ the_list [] ∷ [])
+
 -- the table 't', found by its name
 abbrev pub the_table : Tree
 the_table = the_atom (codes "t")

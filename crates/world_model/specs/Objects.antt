@@ -4,11 +4,11 @@ use Rattle.std.specs.Option.{option_or}
 use Rattle.std.specs.Prelude.{List, Option, ◌++◌, ◌||◌, ◌+ℤ◌, ℤ, if◌then◌else◌, ◌+◌, ◌==◌, ◌∷◌, ℕ, pos, None, Some, [], option_map, Bool, not, true, false, option_and_then}
 use Rattle.term_core.specs.Integers.{has_64_bits}
 use Rattle.term_core.specs.Meaning.{Int, Meaning}
-use Rattle.world_model.specs.Calls.{InsertNew, has_items, Increment, Behind, AtPlace, NotGiven}
+use Rattle.world_model.specs.Calls.{has_items, Increment, Behind, AtPlace, NotGiven}
 use Rattle.world_model.specs.Cells.{Contents, Row}
 use Rattle.world_model.specs.Changes.{Change, Writes}
-use Rattle.world_model.specs.Found.{Found, allowed_at}
-use Rattle.world_model.specs.Names.{Pid, Ref}
+use Rattle.world_model.specs.Found.{Found, allowed}
+use Rattle.world_model.specs.Names.{Pid, Ref, same_pid}
 use Rattle.world_model.specs.Rows.{Object, is_short, Key, Stores, part_at, Removes, parts_at, Alters}
 use Rattle.world_model.specs.Signals.{first_of}
 use Rattle.world_model.specs.Tables as tables
@@ -16,6 +16,7 @@ use Rattle.world_model.specs.Tables.{is_bag}
 use Rattle.world_model.specs.Terms.{ok, list_of, integer_in}
 use Rattle.world_model.specs.declared.rule.Rule.{Rule}
 use Rattle.world_model.specs.declared.rule.Rule.TheVariants.{NotObject, ShortObject, BadPosition, NoKey, CounterRange, NotInteger, BagRefused}
+use Rattle.world_model.specs.declared.table.Class.TheVariants.{Write}
 use Rattle.world_model.specs.declared.table.Kind.{Kind}
 
 -- ---- objects
@@ -55,7 +56,7 @@ unless_refused None ks = ks
 unless_refused (Some rule) ks = []
 
 abbrev pub keys_asked : Pid → Found → Option (List Object) → List Key
-keys_asked p f objects = unless_refused (option_or (allowed_at p f (InsertNew objects)) (objects_rule f.table.position objects)) (parts_at f.table.position (given objects))
+keys_asked p f objects = unless_refused (option_or (allowed Write f.table.protection (same_pid f.table.owner p)) (objects_rule f.table.position objects)) (parts_at f.table.position (given objects))
 
 -- whether one of these keys has objects
 abbrev pub one_present : Contents → Ref → List Key → Bool

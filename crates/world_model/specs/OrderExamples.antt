@@ -9,7 +9,7 @@ use Rattle.core_calls.specs.declared.pure.PureCall.TheVariants as pures
 use Rattle.world_model.specs.Cells.{Alive}
 use Rattle.world_model.specs.Events.{event, Refused, Badarg, Delivered, Exit, IsIgnored, Arrives}
 use Rattle.world_model.specs.Happenings.{P, P_1, P_2, R_1, t, a_1, serves_it, normal}
-use Rattle.world_model.specs.Modules.{the, the_atom, the_number, the_tuple, the_list, the_table, ask_for, compute, in_turn, with_result, function, module_of, main, child, spawn_child, new_table, put_one, look_up}
+use Rattle.world_model.specs.Modules.{the, the_atom, the_number, the_tuple, the_list, the_table, ask_for, compute, in_turn, with_result, function, module_of, main, child, spawn_child, spawn_linked, new_table, put_one, look_up}
 use Rattle.world_model.specs.Names.{Name}
 use Rattle.world_model.specs.Orders.{OrderMatters, Depend, AreFree, ReadsIt, Tells}
 use Rattle.world_model.specs.ProcessExamples.{trap}
@@ -110,6 +110,20 @@ exits = module_of (main (with_result (codes "C") spawn_child (ask_for kinds.Exit
 
 abbrev pub ExitComesAfterFlag : Type 0
 ExitComesAfterFlag = OrderMatters exits both_begun (Turn P_1) (Deliver P P_1) (event (Deliver P P_1) (Delivered (Exit normal) IsIgnored)) (event (Deliver P P_1) (Delivered (Exit normal) (Arrives (exit_message P normal))))
+
+-- ---- the signal of a link asks whether its receiver traps exits, but not where the link stands no more: then it is dropped
+
+abbrev pub links : Tree → ModuleTree
+links body = module_of (main (with_result (codes "C") spawn_linked body) ∷ child (the_atom (codes "x")) ∷ [])
+
+abbrev pub LinkReadsFlag : Type 0
+LinkReadsFlag = Depend (links trap) (Turn P ∷ Turn P_1 ∷ []) (Turn P) (Deliver P_1 P)
+
+abbrev pub unlinks : ModuleTree
+unlinks = links (in_turn (ask_for kinds.Unlink (the (codes "C") ∷ [])) trap)
+
+abbrev pub DroppedReadsNoFlag : Type 0
+DroppedReadsNoFlag = AreFree unlinks (Turn P ∷ Turn P_1 ∷ Turn P ∷ []) (Turn P) (Deliver P_1 P)
 
 -- ---- two deliveries into one mailbox: the messages lie in it as they came
 

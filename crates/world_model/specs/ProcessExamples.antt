@@ -7,7 +7,7 @@ use Rattle.core_calls.specs.declared.call.CallKind.TheVariants as kinds
 use Rattle.core_calls.specs.declared.pure.PureCall.TheVariants as pures
 use Rattle.world_model.specs.Events.{Exit, event, Delivered, Arrives, Kills, LinkExit, Down, Received, Refused, NoProcess}
 use Rattle.world_model.specs.Happenings.{P, Happens, P_2, serves_it, spawned, P_1, EndsWith, ends_it, error_of, R_1, normal, HasNoRun}
-use Rattle.world_model.specs.Modules.{the, ask_for, the_atom, child, the_list, module_of, main, with_result, compute, in_turn, spawn_child, wait}
+use Rattle.world_model.specs.Modules.{the, ask_for, the_atom, child, the_list, module_of, main, with_result, compute, in_turn, spawn_child, spawn_linked, wait}
 use Rattle.world_model.specs.Names.{Ref}
 use Rattle.world_model.specs.Signals.{exit_message, down_message}
 use Rattle.world_model.specs.Terms.{process, atom, tuple, ok, truth}
@@ -34,7 +34,7 @@ abbrev pub KillEnds : Type 0
 KillEnds = EndsWith kills (Turn P ∷ Turn P_1 ∷ Turn P ∷ Deliver P P_1 ∷ []) (event (Deliver P P_1) (Delivered (Exit kill) (Kills (atom (codes "killed")))))
 
 abbrev pub linked_kill : ModuleTree
-linked_kill = module_of (main (in_turn trap (in_turn (ask_for kinds.SpawnLink (the_atom (codes "m") ∷ the_atom (codes "c") ∷ the_list [] ∷ [])) wait)) ∷ child (compute pures.Exit (the_atom (codes "kill") ∷ [])) ∷ [])
+linked_kill = module_of (main (in_turn trap (in_turn spawn_linked wait)) ∷ child (compute pures.Exit (the_atom (codes "kill") ∷ [])) ∷ [])
 
 abbrev pub KillIsTold : Type 0
 KillIsTold = Happens linked_kill (Turn P ∷ Turn P ∷ Turn P_2 ∷ Deliver P_2 P ∷ Turn P ∷ []) (

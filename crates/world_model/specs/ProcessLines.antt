@@ -18,13 +18,13 @@ pub record CallLine : Type 0 where
   pub changes : List Change
   pub reads : List Cell
 
--- a line that is always served: the cells that it reads, its answer, its changes
-abbrev pub serves : List Cell → Meaning → List Change → CallLine
-serves reads answer changes = record { refusal = None; answer = answer; changes = changes; reads = reads }
-
--- a line that may be refused: why it is, and then as above
+-- a line that may be refused: why it is if it is, the cells that it reads, its answer, its changes
 abbrev pub serves_unless : Option Refusal → List Cell → Meaning → List Change → CallLine
 serves_unless refusal reads answer changes = record { refusal = refusal; answer = answer; changes = changes; reads = reads }
+
+-- a line that is always served
+abbrev pub serves : List Cell → Meaning → List Change → CallLine
+serves reads answer changes = serves_unless None reads answer changes
 
 -- a line that is always refused, with the cells that it reads
 abbrev pub badarg : List Cell → CallLine

@@ -1,5 +1,5 @@
 -- What calls of tables answer of their rows, in small modules.
-use Rattle.std.specs.Prelude.{◌∷◌, ℤ, pos, List, [], Some, codes}
+use Rattle.std.specs.Prelude.{◌∷◌, ℤ, pos, List, [], Some, false, codes}
 use Rattle.term_core.specs.Meaning.{Meaning}
 use Rattle.term_core.specs.declared.step.Step.TheVariants.{Turn}
 use Rattle.core_tree.specs.Syntax.{ModuleTree, Tree}
@@ -8,7 +8,7 @@ use Rattle.core_calls.specs.declared.call.CallKind.TheVariants as kinds
 use Rattle.world_model.specs.Happenings.{P, R_1, serves_it, refuses_it, EndsWith}
 use Rattle.world_model.specs.Modules.{the, the_atom, the_number, the_tuple, the_list, the_table, ask_for, in_turn, with_result, module_of, main}
 use Rattle.world_model.specs.Names.{Name}
-use Rattle.world_model.specs.Terms.{atom, number, list_of, tuple}
+use Rattle.world_model.specs.Terms.{atom, number, list_of, ok, truth, tuple}
 use Rattle.world_model.specs.declared.rule.Rule.{Rule}
 use Rattle.world_model.specs.declared.rule.Rule.TheVariants.{BadPosition, ShortObject, CounterRange, BagRefused}
 
@@ -23,6 +23,10 @@ with_objects options objects call = module_of (main (with_result (codes "T") (as
 -- the call is served with this answer
 abbrev pub Answers : List Tree → List Tree → CallKind → List Tree → List Meaning → Meaning → Type 0
 Answers options objects kind arguments given answer = EndsWith (with_objects options objects (on_it kind arguments)) (Turn P ∷ Turn P ∷ Turn P ∷ []) (serves_it P kind (R_1 ∷ given) answer)
+
+-- behind another call it is
+abbrev pub ThenAnswers : List Tree → List Tree → Tree → CallKind → List Tree → List Meaning → Meaning → Type 0
+ThenAnswers options objects first kind arguments given answer = EndsWith (with_objects options objects (in_turn first (on_it kind arguments))) (Turn P ∷ Turn P ∷ Turn P ∷ Turn P ∷ []) (serves_it P kind (R_1 ∷ given) answer)
 
 -- the call is refused by this rule
 abbrev pub Refuses : List Tree → List Tree → CallKind → List Tree → List Meaning → Rule → Type 0
@@ -56,6 +60,14 @@ DuplicateBagHoldsAll = Answers (the_atom (codes "duplicate_bag") ∷ []) three k
 abbrev pub SetKeepsTheLast : Type 0
 SetKeepsTheLast = Answers [] three kinds.LookupElement (the_number (pos 1) ∷ the_number (pos 2) ∷ []) (number 1 ∷ number 2 ∷ []) (atom (codes "w"))
 
+-- and so does an ordered_set
+abbrev pub OrderedSetKeepsTheLast : Type 0
+OrderedSetKeepsTheLast = Answers (the_atom (codes "ordered_set") ∷ []) three kinds.Lookup (the_number (pos 1) ∷ []) (number 1 ∷ []) (list_of (tuple (number 1 ∷ atom (codes "w") ∷ []) ∷ []))
+
+-- of two kinds that are asked for the last counts
+abbrev pub LastKindCounts : Type 0
+LastKindCounts = Answers (the_atom (codes "bag") ∷ the_atom (codes "set") ∷ []) three kinds.LookupElement (the_number (pos 1) ∷ the_number (pos 2) ∷ []) (number 1 ∷ number 2 ∷ []) (atom (codes "w"))
+
 abbrev pub two : List Tree
 two = pair_of (pos 2) (codes "x") ∷ pair_of (pos 1) (codes "x") ∷ []
 
@@ -65,7 +77,45 @@ abbrev pub put_new : Tree
 put_new = the_list (pair_of (pos 3) (codes "y") ∷ pair_of (pos 2) (codes "y") ∷ [])
 
 abbrev pub AllOrNothing : Type 0
-AllOrNothing = EndsWith (with_objects [] two (in_turn (on_it kinds.InsertNew (put_new ∷ [])) (on_it kinds.Lookup (the_number (pos 3) ∷ [])))) (Turn P ∷ Turn P ∷ Turn P ∷ Turn P ∷ []) (serves_it P kinds.Lookup (R_1 ∷ number 3 ∷ []) (list_of []))
+AllOrNothing = ThenAnswers [] two (on_it kinds.InsertNew (put_new ∷ [])) kinds.Lookup (the_number (pos 3) ∷ []) (number 3 ∷ []) (list_of [])
+
+-- ---- what is there, what goes, and what is left
+
+abbrev pub MemberIsThere : Type 0
+MemberIsThere = Answers [] two kinds.Member (the_number (pos 2) ∷ []) (number 2 ∷ []) ok
+
+abbrev pub OtherIsNotThere : Type 0
+OtherIsNotThere = Answers [] two kinds.Member (the_number (pos 3) ∷ []) (number 3 ∷ []) (truth false)
+
+abbrev pub TakenIsTold : Type 0
+TakenIsTold = Answers [] two kinds.Take (the_number (pos 2) ∷ []) (number 2 ∷ []) (list_of (tuple (number 2 ∷ atom (codes "x") ∷ []) ∷ []))
+
+abbrev pub TakenIsGone : Type 0
+TakenIsGone = ThenAnswers [] two (on_it kinds.Take (the_number (pos 2) ∷ [])) kinds.Lookup (the_number (pos 2) ∷ []) (number 2 ∷ []) (list_of [])
+
+abbrev pub delete_two : Tree
+delete_two = on_it kinds.DeleteKey (the_number (pos 2) ∷ [])
+
+abbrev pub DeletedIsGone : Type 0
+DeletedIsGone = ThenAnswers [] two delete_two kinds.Lookup (the_number (pos 2) ∷ []) (number 2 ∷ []) (list_of [])
+
+abbrev pub OthersStay : Type 0
+OthersStay = ThenAnswers [] two delete_two kinds.Lookup (the_number (pos 1) ∷ []) (number 1 ∷ []) (list_of (tuple (number 1 ∷ atom (codes "x") ∷ []) ∷ []))
+
+-- of a duplicate_bag each object that is the same goes, and no other
+abbrev pub SameObjectsAreGone : Type 0
+SameObjectsAreGone = ThenAnswers (the_atom (codes "duplicate_bag") ∷ []) three (on_it kinds.DeleteObject (pair_of (pos 1) (codes "x") ∷ [])) kinds.Lookup (the_number (pos 1) ∷ []) (number 1 ∷ []) (list_of (tuple (number 1 ∷ atom (codes "w") ∷ []) ∷ []))
+
+-- ---- an element is changed, where its key is there
+
+abbrev pub to_y : Tree
+to_y = the_tuple (the_number (pos 2) ∷ the_atom (codes "y") ∷ [])
+
+abbrev pub ElementIsChanged : Type 0
+ElementIsChanged = ThenAnswers [] two (on_it kinds.UpdateElement (the_number (pos 1) ∷ to_y ∷ [])) kinds.Lookup (the_number (pos 1) ∷ []) (number 1 ∷ []) (list_of (tuple (number 1 ∷ atom (codes "y") ∷ []) ∷ []))
+
+abbrev pub NoElementIsChanged : Type 0
+NoElementIsChanged = Answers [] two kinds.UpdateElement (the_number (pos 3) ∷ to_y ∷ []) (number 3 ∷ tuple (number 2 ∷ atom (codes "y") ∷ []) ∷ []) (truth false)
 
 -- ---- keys at another place, and sums
 

@@ -13,10 +13,10 @@ use Rattle.world_model.specs.Names.{Pid}
 use Rattle.world_model.specs.Objects.{given, one_present, keys_asked, place_of, sum_of}
 use Rattle.world_model.specs.Rows.{Object, Key, parts_at, same_key, stored, part_at, rewritten, Removes, altered}
 use Rattle.world_model.specs.TableLines.{table_line}
+use Rattle.world_model.specs.Tables.{is_bag}
 use Rattle.world_model.specs.Touch.{Touch, NoRow, RowsOfKeys, EachRow, cells_of}
 use Rattle.world_model.specs.World.{rows, found, contents}
 use Rattle.world_model.specs.declared.table.Kind.{Kind}
-use Rattle.world_model.specs.declared.table.Kind.TheVariants.{Set}
 
 -- ---- which rows it writes
 
@@ -91,7 +91,7 @@ rows_left v p f call k there = there
 abbrev pub LeavesRows : Type 0
 LeavesRows = (h : History) (p : Pid) (kind : CallKind) (arguments : List Meaning) (argument : TableArgument) (call : TableCall) (answer : Meaning) (f : Found) (key : Key) → call_of kind arguments ≡ OnTable argument call → found h argument ≡ Some f → rows (event (Turn p) (Served kind arguments answer) ∷ h) f.ref key ≡ rows_left (contents h) p f call key (rows h f.ref key)
 
--- ---- in a set the last object with a key replaces what was there
+-- ---- in a set and an ordered_set the last object with a key replaces what was there
 
 abbrev pub last_with : ℕ → Key → List Object → Option Object
 last_with position key [] = None
@@ -102,4 +102,4 @@ replaced None there = there
 replaced (Some object) there = object ∷ []
 
 abbrev pub KeepsTheLast : Type 0
-KeepsTheLast = (position : ℕ) (key : Key) (os : List Object) (there : List Object) → stored_all Set position key os there ≡ replaced (last_with position key os) there
+KeepsTheLast = (kind : Kind) (position : ℕ) (key : Key) (os : List Object) (there : List Object) → is_bag kind ≡ false → stored_all kind position key os there ≡ replaced (last_with position key os) there

@@ -63,12 +63,15 @@ fate_of v s r (Exit reason) = exit_fate (v (Trap r)) false s reason
 fate_of v s r (LinkExit reason) = link_fate (list_any (same_pid s) (v (Links r))) (v (Trap r)) s reason
 fate_of v s r (Down ref reason) = down_fate (v (Watch ref)) ref s reason
 
--- what it reads for that
-abbrev pub reads_of_fate : Pid → Pid → Signal → List Cell
-reads_of_fate s r (Message message) = []
-reads_of_fate s r (Exit reason) = Trap r ∷ []
-reads_of_fate s r (LinkExit reason) = Trap r ∷ Links r ∷ Links s ∷ []
-reads_of_fate s r (Down ref reason) = Watch ref ∷ Watchers s ∷ []
+-- what it reads for that: of a link that stands no more nothing comes, whether its receiver traps exits or not
+abbrev pub trap_if : Bool → Pid → List Cell
+trap_if stands r = if stands then Trap r ∷ [] else []
+
+abbrev pub reads_of_fate : Contents → Pid → Pid → Signal → List Cell
+reads_of_fate v s r (Message message) = []
+reads_of_fate v s r (Exit reason) = Trap r ∷ []
+reads_of_fate v s r (LinkExit reason) = Links r ∷ Links s ∷ trap_if (list_any (same_pid s) (v (Links r))) r
+reads_of_fate v s r (Down ref reason) = Watch ref ∷ Watchers s ∷ []
 
 -- what goes with a signal, whatever becomes of it: the link, or the watch
 abbrev pub pair_goes : Pid → Pid → List Change

@@ -134,7 +134,7 @@ reads_if_killed v r (Kills reason) = reads_of_end v r
 
 abbrev pub reads_of_signal : Contents → Pid → Pid → Option Signal → List Cell
 reads_of_signal v s r None = []
-reads_of_signal v s r (Some signal) = reads_of_fate s r signal ++ reads_if_killed (after (goes_with s r signal) v) r (fate_of v s r signal)
+reads_of_signal v s r (Some signal) = reads_of_fate v s r signal ++ reads_if_killed (after (goes_with s r signal) v) r (fate_of v s r signal)
 
 -- ---- steps
 

@@ -81,13 +81,19 @@ mailbox h p = contents h (Mailbox p)
 abbrev pub linked : History → Pid → List Pid
 linked h p = contents h (Links p)
 
--- whom a watch is of
+-- whom a watch is of, and the watches of a process
 abbrev pub watched : History → Ref → Option Pid
 watched h ref = contents h (Watch ref)
 
--- who holds a name
+abbrev pub watches_of : History → Pid → List Ref
+watches_of h p = contents h (Watchers p)
+
+-- who holds a name, and the name of a process
 abbrev pub holder : History → Name → Option Pid
 holder h name = contents h (Holder name)
+
+abbrev pub name_of : History → Pid → Option Name
+name_of h p = contents h (NameOf p)
 
 -- ---- what it tells of tables
 
@@ -101,6 +107,10 @@ table h t = contents h (Table t)
 
 abbrev pub owner : History → Ref → Option Pid
 owner h t = option_map (λ table. table.owner) (table h t)
+
+-- the tables of a process
+abbrev pub tables_of : History → Pid → List Ref
+tables_of h p = contents h (Owned p)
 
 -- the kind, the protection and the position of the keys
 abbrev pub settings : History → Ref → Option (Kind × Protection × ℕ)

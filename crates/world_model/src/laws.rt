@@ -2,6 +2,7 @@
 pub mod commuting;
 pub mod contents;
 pub mod examples;
+pub mod headline;
 pub mod orders;
 pub mod processes;
 pub mod runs;

@@ -1,6 +1,6 @@
 // What calls of small modules answer of their rows, and what ends, deletes and names leave.
 ghost use Rattle.world_model.specs.LeftExamples.{NamedHasNoReference, DeletedIsNotFound, DeletedHasNoOwner, DeletedHasNoRows, OwnHeirIsNone, DeadHeirIsNone, NameGoesWithItsHolder};
-ghost use Rattle.world_model.specs.RowExamples.{BagHoldsEachOnce, BagGivesEachElement, BagHasNoCounter, DuplicateBagHoldsAll, SetKeepsTheLast, AllOrNothing, ShortHasNoPlace, ShortHasNoKey, SumHasItsRange, CounterCounts};
+ghost use Rattle.world_model.specs.RowExamples.{BagHoldsEachOnce, BagGivesEachElement, BagHasNoCounter, DuplicateBagHoldsAll, SetKeepsTheLast, OrderedSetKeepsTheLast, LastKindCounts, MemberIsThere, OtherIsNotThere, TakenIsTold, TakenIsGone, DeletedIsGone, OthersStay, SameObjectsAreGone, ElementIsChanged, NoElementIsChanged, AllOrNothing, ShortHasNoPlace, ShortHasNoKey, SumHasItsRange, CounterCounts};
 
 /// A table that is found by its name is not found by its reference.
 #[tactic(auto, unfolding(crate::specs::World::contents))]
@@ -34,7 +34,8 @@ pub fn names_go_with_their_holders()
     ensures { NameGoesWithItsHolder }
 {}
 
-/// A bag holds an object once, a duplicate_bag as often as it came, a set the last under each key.
+/// A bag holds an object once, a duplicate_bag as often as it came, a set and an ordered_set the last under
+/// each key; of two kinds that are asked for the last counts.
 #[tactic(auto, unfolding(crate::specs::World::contents))]
 pub fn kinds_hold_their_objects()
     ensures bag { BagHoldsEachOnce }
@@ -42,6 +43,8 @@ pub fn kinds_hold_their_objects()
     ensures counter { BagHasNoCounter }
     ensures duplicates { DuplicateBagHoldsAll }
     ensures set { SetKeepsTheLast }
+    ensures ordered { OrderedSetKeepsTheLast }
+    ensures kind { LastKindCounts }
 {}
 
 /// Where one key is there, an insert_new of a list puts nothing in.
@@ -57,4 +60,23 @@ pub fn places_and_sums_have_their_range()
     ensures key { ShortHasNoKey }
     ensures range { SumHasItsRange }
     ensures sum { CounterCounts }
+{}
+
+/// What is taken or deleted is gone, and nothing else.
+#[tactic(auto, unfolding(crate::specs::World::contents))]
+pub fn objects_go()
+    ensures member { MemberIsThere }
+    ensures other { OtherIsNotThere }
+    ensures told { TakenIsTold }
+    ensures taken { TakenIsGone }
+    ensures deleted { DeletedIsGone }
+    ensures others { OthersStay }
+    ensures same { SameObjectsAreGone }
+{}
+
+/// An element is changed where its key is there.
+#[tactic(auto, unfolding(crate::specs::World::contents))]
+pub fn elements_change()
+    ensures there { ElementIsChanged }
+    ensures none { NoElementIsChanged }
 {}

@@ -1,4 +1,5 @@
 // Small modules, and what happens by their schedules.
+ghost use Rattle.world_model.specs.BondExamples.{RunawayIsTold, UnlinkedIsDropped, UnlinkedIsNotTold, FormerHolderFreesNoName, FormerOwnerDestroysNoTable, LateLinkIsTold, LateWatchIsTold, UnwatchedIsNotTold, UnwatchedIsDropped, FlushTakesTheMessage, MessageStays, SendsToItself, EndsByItsExit, TrapsItsExit, ReferenceIsMade, LaterHeirInherits};
 ghost use Rattle.world_model.specs.ShownExamples.{RefusalIsShown, RefusalIsListed, RefusalIsNoError, RefusalIsErrorIfStrict, EndIsError, NormalEndShowsNothing};
 ghost use Rattle.world_model.specs.ReceiveExamples.{SecondIsHeard, WaitsForIts, TakesItsFirst, TakesTheOther, TakesTheOlder, ComesToTimeout, ComesToMessage};
 ghost use Rattle.world_model.specs.TableExamples.{WritesItsTable, HasNoNinth, StrangerIsRefused, StrangerFindsNone, StrangerEnds, OldOwnerIsRefused, HeirIsTold, HeirWrites, HeirTimesOut, NoHeirNoTable, PresentOwnerCounts, PrivateIsUnread, StrangerBeforeObject, OwnerOfShort, OwnersCall, InfoOfNone, ItemIsUnknown, GiftToItself};
@@ -115,4 +116,51 @@ pub fn identities_are_shown()
     ensures strict { RefusalIsErrorIfStrict }
     ensures end { EndIsError }
     ensures normal { NormalEndShowsNothing }
+{}
+
+/// The signal of a link or a watch that is gone is dropped, and of a watch that ended before there is none;
+/// with `flush` its message goes too.
+#[tactic(auto, unfolding(crate::specs::World::contents))]
+pub fn bonds_end()
+    ensures unlinked { UnlinkedIsDropped }
+    ensures untold { UnlinkedIsNotTold }
+    ensures unwatched { UnwatchedIsNotTold }
+    ensures dropped { UnwatchedIsDropped }
+    ensures flushed { FlushTakesTheMessage }
+    ensures stays { MessageStays }
+{}
+
+/// That a process ran away is told its partners.
+#[tactic(auto, unfolding(crate::specs::World::contents))]
+pub fn runaways_are_told()
+    ensures { RunawayIsTold }
+{}
+
+/// Who had a name or a table before takes it from nobody at its end.
+#[tactic(auto, unfolding(crate::specs::World::contents))]
+pub fn former_owners_take_nothing()
+    ensures name { FormerHolderFreesNoName }
+    ensures table { FormerOwnerDestroysNoTable }
+{}
+
+/// A link to a process that is gone is told so, where exits are trapped, and so is a watch.
+#[tactic(auto, unfolding(crate::specs::World::contents))]
+pub fn late_bonds_are_told()
+    ensures link { LateLinkIsTold }
+    ensures watch { LateWatchIsTold }
+{}
+
+/// A process sends to itself, ends itself, traps its own exit and makes a reference.
+#[tactic(auto, unfolding(crate::specs::World::contents))]
+pub fn calls_to_oneself_take_effect()
+    ensures sends { SendsToItself }
+    ensures exits { EndsByItsExit }
+    ensures traps { TrapsItsExit }
+    ensures reference { ReferenceIsMade }
+{}
+
+/// An heir that is set later inherits.
+#[tactic(auto, unfolding(crate::specs::World::contents))]
+pub fn later_heirs_inherit()
+    ensures { LaterHeirInherits }
 {}

@@ -1,5 +1,5 @@
 // Pairs of steps of small modules: those that depend on each other, and those that do not.
-ghost use Rattle.world_model.specs.OrderExamples.{FirstDependsOnInsert, SizeDependsOnInsert, LookupComesAfterList, InsertNewComesAfterInsert, LookupComesAfterClear, TwoKeysAreFree, OtherKeyIsFree, InfoComesAfterDelete, EndReadsItsHeir, EndReadsItsDeadHeir, GiftReadsItsTarget, AliveComesAfterEnd, SendDependsOnEnd, ExitComesAfterFlag, DeliveriesDepend, FirstLiesFirst, SecondLiesFirst, SendsAreFree, RegisterComesAfterUnregister};
+ghost use Rattle.world_model.specs.OrderExamples.{FirstDependsOnInsert, SizeDependsOnInsert, LookupComesAfterList, InsertNewComesAfterInsert, LookupComesAfterClear, TwoKeysAreFree, OtherKeyIsFree, InfoComesAfterDelete, EndReadsItsHeir, EndReadsItsDeadHeir, GiftReadsItsTarget, AliveComesAfterEnd, SendDependsOnEnd, ExitComesAfterFlag, LinkReadsFlag, DroppedReadsNoFlag, DeliveriesDepend, FirstLiesFirst, SecondLiesFirst, SendsAreFree, RegisterComesAfterUnregister};
 
 /// A walk over the keys of a table, and the number of its objects, depend on every insert.
 #[tactic(auto, unfolding(crate::specs::World::contents))]
@@ -53,6 +53,13 @@ pub fn ends_come_between()
 #[tactic(auto, unfolding(crate::specs::World::contents))]
 pub fn exits_read_the_flag()
     ensures { ExitComesAfterFlag }
+{}
+
+/// So does what becomes of the signal of a link, but not where the link stands no more.
+#[tactic(auto, unfolding(crate::specs::World::contents))]
+pub fn standing_links_read_the_flag()
+    ensures stands { LinkReadsFlag }
+    ensures gone { DroppedReadsNoFlag }
 {}
 
 /// Two deliveries into one mailbox depend on each other; the sends of two processes do not.

@@ -33,7 +33,8 @@ pub fn calls_write_their_rows()
     ensures { WritesRows }
 {}
 
-/// What a served call of a table leaves under each key; of a set, the last object that was put in.
+/// What a served call of a table leaves under each key; of a set and an ordered_set, the last object that was
+/// put in.
 pub fn calls_leave_rows()
     ensures rows { LeavesRows }
     ensures sets { KeepsTheLast }

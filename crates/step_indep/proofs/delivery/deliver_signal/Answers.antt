@@ -13,7 +13,7 @@ returns c = λ m v told.
     let r = c.args.to.now in
     let x = signal_of c.args.signal.now in
     let effect = c.in_ok-take_effect.ensures m v told in
-    let goes = c.in_ok-go_with.ensures in
+    let goes = c.in_ok-go_with.ensures m v told in
     record {
       more_reads = more_then _ _ _ _ _ goes.more_reads effect.more_reads;
       more_writes = more_as _ _ _ _ (ap (λ cs. cells.Front s r ∷ cs) (sym (map_both cell_of (goes_with s r x) (changes_of_fate (after (goes_with s r x) v) r (fate_of v s r x)))))
