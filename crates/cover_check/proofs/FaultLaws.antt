@@ -5,6 +5,8 @@ use Rattle.term_core.proofs.ScheduleTexts.{schedule_injective}
 use Rattle.term_core.specs.Schedule.{AreLawful}
 use Rattle.term_core.specs.Text.{text_of_schedule}
 use Rattle.term_core.specs.declared.step.Step.{Step}
+use Rattle.core_tree.specs.Syntax.{ModuleTree}
+use Rattle.world_model.specs.Asking.{program_of}
 use Rattle.world_model.specs.Requests.{Program}
 use Rattle.world_model.specs.Shown.{Flags, Identity, is_error}
 use Rattle.coverage.specs.Covers.{Lines, left_over, IsGoodCover, CoversShowNoError}
@@ -13,6 +15,7 @@ use Rattle.cover_check.specs.CoverLaws.{ShowsNoError}
 use Rattle.cover_check.specs.CoverText.{lines_in, AreLawfulLines, SpellsLines}
 use Rattle.cover_check.specs.Faults.{places_below, places_after, root_place, IsCoverText, StandsAt, IsSoAt, IsNoLine, IsJudged, IsFaultOf}
 use Rattle.cover_check.specs.Judging.{Place, judgement_of}
+use Rattle.cover_check.specs.inside.Lines.{IsLineFault}
 use Rattle.cover_check.specs.declared.fault.CoverFault.{CoverFault}
 use Rattle.cover_check.specs.declared.fault.CoverFault.TheVariants as faults
 use Rattle.cover_check.specs.declared.judging.Judgement.{Judgement}
@@ -149,3 +152,50 @@ module _ (flags : Flags) (a : Program) (n : ℕ) (bytes : List ℕ) where
   pub accepted : {T : Type 0} (r : Result T CoverFault) → IfErr r (IsFaultOf flags a n bytes) → IsCoverText flags a n bytes → IfErr r (λ fault. fault ≡ faults.Memory)
   accepted (Ok done) f c = tt
   accepted (Err fault) f c = only_memory fault f c
+
+-- ---- how a check ends
+
+-- the nodes and the lines that are to come, said in another way
+stands_as : (flags : Flags) (a : Program) (n : ℕ) (bytes : List ℕ) (number : ℕ) (places others : List Place) (lines rest : List (List ℕ)) → places ≡ others → lines ≡ rest → StandsAt flags a n bytes number places lines → StandsAt flags a n bytes number others rest
+stands_as flags a n bytes number places others lines rest e f s =
+    subst (λ (ls : List (List ℕ)). StandsAt flags a n bytes number others ls) f (subst (λ (vs : List Place). StandsAt flags a n bytes number vs lines) e s)
+
+module _ (flags : Flags) (m : ModuleTree) (n : ℕ) (bytes : List ℕ) (number : ℕ) (places : List Place) (lines : List (List ℕ)) (stands : StandsAt flags (program_of m) n bytes number places lines) where
+  pub is_long : (line : List ℕ) (rest : List (List ℕ)) → places ≡ [] → lines ≡ line ∷ rest → IsFaultOf flags (program_of m) n bytes (faults.Long number)
+  is_long line rest none is = record { line = line; rest = rest; stands = stands_as flags (program_of m) n bytes number places [] lines (line ∷ rest) none is stands }
+
+  pub is_short : (v : Place) (others : List Place) → places ≡ v ∷ others → lines ≡ [] → IsFaultOf flags (program_of m) n bytes (faults.Short number)
+  is_short v others is none = record { place = v; others = others; stands = stands_as flags (program_of m) n bytes number places (v ∷ others) lines [] is none stands }
+
+  pub is_good : places ≡ [] → lines ≡ [] → IsCoverText flags (program_of m) n bytes
+  is_good none empty = stands_last flags (program_of m) n bytes number (stands_as flags (program_of m) n bytes number places [] lines [] none empty stands)
+
+  -- at a line of a node
+  module _ (k : ModuleTree) (v : Place) (others : List Place) (line : List ℕ) (rest : List (List ℕ)) (same : k ≡ m) (is_next : places ≡ v ∷ others) (is_first : lines ≡ line ∷ rest) where
+    here : StandsAt flags (program_of m) n bytes number (v ∷ others) (line ∷ rest)
+    here = stands_as flags (program_of m) n bytes number places (v ∷ others) lines (line ∷ rest) is_next is_first stands
+
+    so_at : (IsSo : Place → List ℕ → Type 0) (at : ℕ) → at ≡ number → IsSo v line → IsSoAt flags (program_of m) n bytes at IsSo
+    so_at IsSo at e so = record { place = v; others = others; line = line; rest = rest; stands = subst (λ (x : ℕ). StandsAt flags (program_of m) n bytes x (v ∷ others) (line ∷ rest)) (sym e) here; is_so = so }
+
+    by_fault : (fault : CoverFault) → IsLineFault flags (program_of m) v line number fault → IsFaultOf flags (program_of m) n bytes fault
+    by_fault (faults.Missing at) f = so_at (IsJudged flags (program_of m) Missing) at f.0 f.1
+    by_fault (faults.Strange at) f = so_at (IsJudged flags (program_of m) Strange) at f.0 f.1
+    by_fault (faults.Short at) f = absurd f
+    by_fault (faults.Long at) f = absurd f
+    by_fault (faults.ErrorFound at) f = so_at (IsJudged flags (program_of m) ErrorFound) at f.0 f.1
+    by_fault (faults.BadLine at) f = so_at IsNoLine at f.0 f.1
+    by_fault faults.Memory f = tt
+
+    pub line_fault : (fault : CoverFault) → IsLineFault flags (program_of k) v line number fault → IsFaultOf flags (program_of m) n bytes fault
+    line_fault fault f = by_fault fault (subst (λ (x : ModuleTree). IsLineFault flags (program_of x) v line number fault) same f)
+
+    pub goes_on_below : (steps : List Step) (next : List Place) → AreLawful steps → line ≡ text_of_schedule steps → judgement_of flags (program_of k) v steps ≡ Good → next ≡ places_below (program_of k) v steps ++ others → StandsAt flags (program_of m) n bytes (number + 1) next rest
+    goes_on_below steps next lawful text good now =
+        subst (λ (vs : List Place). StandsAt flags (program_of m) n bytes (number + 1) vs rest)
+        (sym (now ∙ ap (λ (x : ModuleTree). places_below (program_of x) v steps ++ others) same))
+        (stands_next flags (program_of m) n bytes number v others line rest steps here lawful text (subst (λ (x : ModuleTree). judgement_of flags (program_of x) v steps ≡ Good) same good))
+
+-- what a fault refuses is no good cover
+pub refused_by : {T : Type 0} (flags : Flags) (a : Program) (n : ℕ) (bytes : List ℕ) (r : Result T CoverFault) (fault : CoverFault) → r ≡ Err fault → IsFaultOf flags a n bytes fault → IsCoverText flags a n bytes → IfErr r (λ f. f ≡ faults.Memory)
+refused_by flags a n bytes r fault e f c = accepted flags a n bytes r (subst (λ (x : Result _ CoverFault). IfErr x (IsFaultOf flags a n bytes)) (sym e) f) c

@@ -69,3 +69,22 @@ under_none a (suc n) h slept = refl
 pub under_some : (a : Program) (n : ℕ) (h : History) (slept line : List Step) → (n ≡ 0 → ⊥) → places_under a n h slept line ≡ places_along a (n - 1) h slept line
 under_some a zero h slept line some = absurd (some refl)
 under_some a (suc n) h slept line some = let less : suc n - 1 ≡ n = omega arith in ap (λ m. places_along a m h slept line) (sym less)
+
+-- ---- the frame on top, and those below it
+
+pub popped_are_of : (m : ModuleTree) (all fs : List FrameSeen) (f : FrameSeen) → all ≡ fs ++ f ∷ [] → AreFramesOf m all → (f.program ≡ m) × AreFramesOf m fs
+popped_are_of m all fs f is belong =
+    let both : AreFramesOf m (fs ++ f ∷ []) = subst (AreFramesOf m) is belong in
+    ((all_back (λ (g : FrameSeen). g.program ≡ m) fs (f ∷ []) both).0, all_front (λ (g : FrameSeen). g.program ≡ m) fs (f ∷ []) both)
+
+pub pushed_are_of : (m : ModuleTree) (fs : List FrameSeen) (f : FrameSeen) → f.program ≡ m → AreFramesOf m fs → AreFramesOf m (fs ++ f ∷ [])
+pushed_are_of m [] f is all = (is, tt)
+pushed_are_of m (g ∷ fs) f is all = (all.0, pushed_are_of m fs f is all.1)
+
+-- ---- a frame that is put on the stack
+
+pub pushed_places : (m : ModuleTree) (h : History) (slept line whole : List Step) (left : ℕ) (fs gs : List FrameSeen) → (left ≡ 0 → ⊥) → whole ≡ line → gs ≡ fs ++ record { program = m; history = h; slept = slept; line = line; left = left - 1 } ∷ [] → places_of_frames gs ≡ places_under (program_of m) left h slept whole ++ places_of_frames fs
+pushed_places m h slept line whole left fs gs some is now =
+    ap places_of_frames now
+    ∙ frames_push fs (record { program = m; history = h; slept = slept; line = line; left = left - 1 })
+    ∙ ap (λ vs. vs ++ places_of_frames fs) (sym (under_some (program_of m) left h slept line some) ∙ ap (places_under (program_of m) left h slept) (sym is))

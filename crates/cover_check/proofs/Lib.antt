@@ -5,3 +5,4 @@ pub mod FaultLaws
 pub mod JudgeLaws
 pub mod FrameLaws
 pub mod OwnLaws
+pub mod OwedLaws

@@ -94,8 +94,8 @@ pub fn check_cover<O: Observer>(
         rest = behind;
         number += 1;
     }
-    if walk.take(alloc)?.is_some() {
-        return Err(CoverFault::Short(number));
-    }
-    Ok(())
+    let Some(_node) = walk.take(alloc)? else {
+        return Ok(());
+    };
+    Err(CoverFault::Short(number))
 }

@@ -47,8 +47,10 @@ impl<T: Drop> From<AllocFailed<T>> for CoverFault {
 impl From<WorldFault> for CoverFault {
     ghost from_gives = { λ _ fault. fault ≡ MemoryFault };
 
-    fn from(_fault: WorldFault) -> CoverFault {
-        CoverFault::Memory
+    fn from(fault: WorldFault) -> CoverFault {
+        match fault {
+            WorldFault::NotEnabled | WorldFault::Memory => CoverFault::Memory,
+        }
     }
 }
 
@@ -65,8 +67,10 @@ pub enum WriteCoverFault {
 impl From<WorldFault> for WriteCoverFault {
     ghost from_gives = { λ _ fault. fault ≡ written.Memory };
 
-    fn from(_fault: WorldFault) -> WriteCoverFault {
-        WriteCoverFault::Memory
+    fn from(fault: WorldFault) -> WriteCoverFault {
+        match fault {
+            WorldFault::NotEnabled | WorldFault::Memory => WriteCoverFault::Memory,
+        }
     }
 }
 

@@ -44,7 +44,7 @@ pub(crate) fn push_frame<'m>(
     frames: &mut Vec<Frame<'m>>,
 ) -> Result<(), WorldFault>
     requires { AreEnabled (program_of node.program) node.history line.items }
-    ensures places { OnOk result (places_of_frames frames.new.items ≡ places_below (program_of node.entry.program) (place_of node.entry) line.entry.items ++ places_of_frames frames.old.items) }
+    ensures places { OnOk result (places_of_frames frames.new.items ≡ places_below (program_of node.entry.program) (place_of node.entry) line.items ++ places_of_frames frames.old.items) }
     ensures are_of { (m : ModuleTree) → node.entry.program ≡ m → AreFramesOf m frames.old.items → AreFramesOf m frames.new.items }
 {
     let Node { world, slept, left } = node;

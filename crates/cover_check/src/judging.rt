@@ -57,12 +57,22 @@ fn are_enabled_once(enabled: &[Step], line: &[Step]) -> bool
     true
 }
 
+// Whether a step sleeps or is taken.
+fn is_in_either(slept: &[Step], line: &[Step], step: &Step) -> bool
+    ensures { result ≡ is_one_of (slept.now ++ line.now) step.now }
+{
+    if is_one_of(slept, step) {
+        return true;
+    }
+    is_one_of(line, step)
+}
+
 // Whether each enabled step sleeps or is taken.
 fn are_all_there(enabled: &[Step], slept: &[Step], line: &[Step]) -> bool
     ensures { result ≡ list_all (is_one_of (slept.now ++ line.now)) enabled.now }
 {
     for step in enabled {
-        if !is_one_of(slept, step) && !is_one_of(line, step) {
+        if !is_in_either(slept, line, step) {
             return false;
         }
     }

@@ -70,7 +70,7 @@ impl<'m> Walk<'m> {
     pub(crate) fn go_below(&mut self, node: Node<'m>, line: Vec<Step>) -> Result<(), WorldFault>
         requires is_of { node.program ≡ self.old.program }
         requires enabled { AreEnabled (program_of node.program) node.history line.items }
-        ensures next { OnOk result (self.new.ahead ≡ places_below (program_of node.entry.program) (place_of node.entry) line.entry.items ++ self.old.ahead) }
+        ensures next { OnOk result (self.new.ahead ≡ places_below (program_of node.entry.program) (place_of node.entry) line.items ++ self.old.ahead) }
         ensures program { self.new.program ≡ self.old.program }
     {
         push_frame(node, line, &mut self.frames)
