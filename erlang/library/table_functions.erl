@@ -1,0 +1,167 @@
+%% Functions of the module ets that the explorer does not have, made of those that it has.
+%% A walk is one step, as ets:tab2list/1 is there.
+-module(table_functions).
+-compile([export_all, nowarn_export_all]).
+
+'ets:foldl'(F, A, T) when is_function(F, 2) -> lists:foldl(F, A, ets:tab2list(T)).
+'ets:foldr'(F, A, T) when is_function(F, 2) -> lists:foldr(F, A, ets:tab2list(T)).
+
+'ets:match_object'(T, Pattern) -> [R || R <- ets:tab2list(T), 'ets matches'(Pattern, R, []) =/= false].
+
+'ets:match'(T, Pattern) -> 'ets bound'(Pattern, ets:tab2list(T)).
+'ets bound'(Pattern, [R | Rest]) ->
+    case 'ets matches'(Pattern, R, []) of
+        false -> 'ets bound'(Pattern, Rest);
+        Bound -> ['ets values'(Bound) | 'ets bound'(Pattern, Rest)]
+    end;
+'ets bound'(_, []) -> [].
+
+%% Who may not write is refused first, as there.
+'ets:match_delete'(T, Pattern) ->
+    true = ets:insert(T, []),
+    'ets delete each'(T, 'ets:match_object'(T, Pattern)),
+    true.
+
+'ets delete each'(T, [R | Rest]) -> ets:delete_object(T, R), 'ets delete each'(T, Rest);
+'ets delete each'(_, []) -> ok.
+
+'ets:select'(T, Clauses) -> 'ets selected'('ets clauses'(Clauses), ets:tab2list(T)).
+'ets selected'(Clauses, [R | Rest]) ->
+    case 'ets select'(Clauses, R) of
+        {value, V} -> [V | 'ets selected'(Clauses, Rest)];
+        none -> 'ets selected'(Clauses, Rest)
+    end;
+'ets selected'(_, []) -> [].
+
+'ets:select_count'(T, Clauses) -> length('ets true'('ets clauses'(Clauses), ets:tab2list(T))).
+
+'ets:select_delete'(T, Clauses) ->
+    true = ets:insert(T, []),
+    Found = 'ets true'('ets clauses'(Clauses), ets:tab2list(T)),
+    'ets delete each'(T, Found),
+    length(Found).
+
+'ets true'(Clauses, L) -> [R || R <- L, 'ets select'(Clauses, R) =:= {value, true}].
+
+%% The default is put in by a step of its own: taken with --approximate alone.
+'ets:update_counter'(T, K, Op, Default) ->
+    ets:insert_new(T, setelement(1, Default, K)),
+    ets:update_counter(T, K, Op).
+
+%% ---- match specifications: {Pattern, Guards, Body}; what is none is refused, as there
+
+'ets clauses'(L) ->
+    case is_list(L) andalso L =/= [] andalso 'ets are clauses'(L) of
+        true -> L;
+        _ -> error(badarg)
+    end.
+
+'ets are clauses'([{P, Guards, [_ | _]} | T]) when is_list(Guards), is_tuple(P); is_list(Guards), is_atom(P) -> 'ets are clauses'(T);
+'ets are clauses'([]) -> true;
+'ets are clauses'(_) -> false.
+
+%% The value of the last expression of the first clause that fits.
+'ets select'([{Pattern, Guards, Body} | T], R) ->
+    case 'ets matches'(Pattern, R, []) of
+        false -> 'ets select'(T, R);
+        Bound ->
+            case 'ets hold'(Guards, Bound, R) of
+                true -> {value, 'ets value'(lists:last(Body), Bound, R)};
+                false -> 'ets select'(T, R)
+            end
+    end;
+'ets select'([], _) -> none.
+
+%% A guard that fails is no error: the clause does not fit.
+'ets hold'([G | T], Bound, R) ->
+    case catch 'ets value'(G, Bound, R) of
+        true -> 'ets hold'(T, Bound, R);
+        _ -> false
+    end;
+'ets hold'([], _, _) -> true.
+
+%% What the variables of a pattern are bound to, or false.
+'ets matches'('_', _, Bound) -> Bound;
+'ets matches'(P, V, Bound) when is_atom(P) ->
+    case 'ets variable'(P) of
+        true ->
+            case lists:keyfind(P, 1, Bound) of
+                false -> [{P, V} | Bound];
+                {_, V} -> Bound;
+                _ -> false
+            end;
+        false when P =:= V -> Bound;
+        false -> false
+    end;
+'ets matches'([P | Ps], [V | Vs], Bound) ->
+    case 'ets matches'(P, V, Bound) of
+        false -> false;
+        Bound1 -> 'ets matches'(Ps, Vs, Bound1)
+    end;
+'ets matches'(P, P, Bound) -> Bound;
+'ets matches'(P, V, Bound) when is_tuple(P), is_tuple(V) -> 'ets matches'(tuple_to_list(P), tuple_to_list(V), Bound);
+'ets matches'(_, _, _) -> false.
+
+'ets variable'(A) ->
+    lists:member(A, ['$0', '$1', '$2', '$3', '$4', '$5', '$6', '$7', '$8', '$9', '$10', '$11', '$12', '$13', '$14', '$15', '$16']).
+
+%% The bound values in the order of their variables' numbers.
+'ets values'(Bound) ->
+    [V || A <- ['$0', '$1', '$2', '$3', '$4', '$5', '$6', '$7', '$8', '$9', '$10', '$11', '$12', '$13', '$14', '$15', '$16'],
+          {B, V} <- Bound, A =:= B].
+
+'ets value'('$_', _, R) -> R;
+'ets value'('$$', Bound, _) -> 'ets values'(Bound);
+'ets value'(A, Bound, _) when is_atom(A) ->
+    case lists:keyfind(A, 1, Bound) of
+        {_, V} -> V;
+        false ->
+            case 'ets variable'(A) of
+                true -> error(badarg);
+                false -> A
+            end
+    end;
+'ets value'({const, X}, _, _) -> X;
+'ets value'({T}, Bound, R) when is_tuple(T) -> list_to_tuple(['ets value'(X, Bound, R) || X <- tuple_to_list(T)]);
+'ets value'({'andalso', X, Y}, Bound, R) -> case 'ets value'(X, Bound, R) of true -> 'ets value'(Y, Bound, R); false -> false end;
+'ets value'({'orelse', X, Y}, Bound, R) -> case 'ets value'(X, Bound, R) of true -> true; false -> 'ets value'(Y, Bound, R) end;
+'ets value'({Op, X}, Bound, R) -> 'ets of one'(Op, 'ets value'(X, Bound, R));
+'ets value'({Op, X, Y}, Bound, R) -> 'ets of two'(Op, 'ets value'(X, Bound, R), 'ets value'(Y, Bound, R));
+'ets value'([H | T], Bound, R) -> ['ets value'(H, Bound, R) | 'ets value'(T, Bound, R)];
+'ets value'(X, _, _) when is_integer(X); X =:= []; is_pid(X); is_reference(X) -> X;
+'ets value'(_, _, _) -> error(badarg).
+
+'ets of one'('not', A) -> not A;
+'ets of one'('-', A) -> -A;
+'ets of one'('abs', A) -> abs(A);
+'ets of one'(hd, A) -> hd(A);
+'ets of one'(tl, A) -> tl(A);
+'ets of one'(length, A) -> length(A);
+'ets of one'(tuple_size, A) -> tuple_size(A);
+'ets of one'(is_integer, A) -> is_integer(A);
+'ets of one'(is_number, A) -> is_number(A);
+'ets of one'(is_atom, A) -> is_atom(A);
+'ets of one'(is_list, A) -> is_list(A);
+'ets of one'(is_tuple, A) -> is_tuple(A);
+'ets of one'(is_pid, A) -> is_pid(A);
+'ets of one'(is_reference, A) -> is_reference(A);
+'ets of one'(_, _) -> error(badarg).
+
+'ets of two'('>', A, B) -> A > B;
+'ets of two'('<', A, B) -> A < B;
+'ets of two'('>=', A, B) -> A >= B;
+'ets of two'('=<', A, B) -> A =< B;
+'ets of two'('==', A, B) -> A == B;
+'ets of two'('=:=', A, B) -> A =:= B;
+'ets of two'('/=', A, B) -> A /= B;
+'ets of two'('=/=', A, B) -> A =/= B;
+'ets of two'('and', A, B) -> A and B;
+'ets of two'('or', A, B) -> A or B;
+'ets of two'('xor', A, B) -> A xor B;
+'ets of two'('+', A, B) -> A + B;
+'ets of two'('-', A, B) -> A - B;
+'ets of two'('*', A, B) -> A * B;
+'ets of two'('div', A, B) -> A div B;
+'ets of two'('rem', A, B) -> A rem B;
+'ets of two'(element, A, B) -> element(A, B);
+'ets of two'(_, _, _) -> error(badarg).
