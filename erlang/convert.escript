@@ -15,20 +15,21 @@ main(Arguments) ->
 %% Whether everything was built, by this release, after the last change.
 is_fresh(Here, Out) ->
     Built = filelib:last_modified(filename:join(Out, release())),
-    lists:all(fun(File) -> filelib:last_modified(File) < Built end, sources(Here) ++ headers(Here)).
+    lists:all(fun(File) -> filelib:last_modified(File) < Built end, [filename:join(Here, "src/core.hrl") | modules(Here) ++ libraries(Here)]).
 
 release() -> "built-by-" ++ erlang:system_info(otp_release).
 
-sources(Here) -> filelib:wildcard(filename:join(Here, "{src,library}/*.erl")).
-headers(Here) -> filelib:wildcard(filename:join(Here, "src/*.hrl")).
+%% What begins with report_ belongs to another script.
+modules(Here) -> [File || File <- filelib:wildcard(filename:join(Here, "src/*.erl")), not lists:prefix("report_", filename:basename(File))].
+libraries(Here) -> filelib:wildcard(filename:join(Here, "library/*.erl")).
 
 %% Built in a folder of its own first, since two may build at the same time.
 build(Here, Out) ->
     Work = Out ++ "." ++ os:getpid(),
     ok = filelib:ensure_dir(filename:join(Work, "file")),
     ok = filelib:ensure_dir(filename:join(Out, "file")),
-    [{ok, _} = compile:file(File, [report_errors, {outdir, Work}]) || File <- filelib:wildcard(filename:join(Here, "src/*.erl"))],
-    Library = lists:append([library(File) || File <- filelib:wildcard(filename:join(Here, "library/*.erl"))]),
+    [{ok, _} = compile:file(File, [report_errors, {outdir, Work}]) || File <- modules(Here)],
+    Library = lists:append([library(File) || File <- libraries(Here)]),
     ok = file:write_file(filename:join(Work, "library.terms"), term_to_binary(maps:from_list(Library))),
     ok = file:write_file(filename:join(Work, "z" ++ release()), ""),
     [ok = file:rename(File, filename:join(Out, filename:basename(File))) || File <- filelib:wildcard(filename:join(Work, "*.*"))],

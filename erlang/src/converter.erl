@@ -1,7 +1,7 @@
 %% From a file of Erlang source to the text of a Core Erlang module that the explorer reads.
 -module(converter).
 
--export([main/2, convert/3]).
+-export([main/2, run/2]).
 
 -include("core.hrl").
 
@@ -10,12 +10,20 @@
 usage() ->
     "usage: convert.escript FILE.erl [--entry f/0] [--after-timeout MS] [--approximate] [--notes] [-I DIR] [-D NAME[=VALUE]]\n".
 
-%% Library is the folder's library, {Name, Arity} => function. The answer is the status.
-main(Arguments, Library) ->
+%% Prints, and gives the status. Library is the folder's library, {Name, Arity} => function.
+main(Words, Library) ->
     ok = io:setopts(standard_io, [{encoding, utf8}]),
-    case options(Arguments, #options{}) of
+    ok = io:setopts(standard_error, [{encoding, utf8}]),
+    {Status, Output, Errors} = run(Words, Library),
+    io:put_chars(standard_error, Errors),
+    io:put_chars(Output),
+    Status.
+
+%% {Status, Output, Errors}
+run(Words, Library) ->
+    case options(Words, #options{}) of
         {ok, #options{file = File} = Options} when File =/= undefined -> told(convert(File, Options, Library), Options);
-        _ -> io:put_chars(standard_error, usage()), 64
+        _ -> {64, "", usage()}
     end.
 
 options(["--entry", Entry | T], O) ->
@@ -52,12 +60,12 @@ defined(Text) ->
             end
     end.
 
-told({error, Lines}, _) -> io:put_chars(standard_error, Lines), 2;
-told({ok, Text, Ledger}, #options{notes = Notes}) ->
-    Notes andalso io:put_chars(standard_error, ledger:notes(Ledger)),
+told({error, Lines}, _) -> {2, "", Lines};
+told({ok, Text, Ledger}, #options{notes = WithNotes}) ->
+    Notes = case WithNotes of true -> ledger:notes(Ledger); false -> "" end,
     case ledger:refusals(Ledger) of
-        [] -> io:put_chars(Text()), 0;
-        Lines -> io:put_chars(standard_error, Lines), 2
+        [] -> {0, Text(), Notes};
+        Refusals -> {2, "", [Notes, Refusals]}
     end.
 
 %% {ok, Text, Ledger}, where Text() is the text if nothing was refused.
@@ -78,15 +86,13 @@ converted(File, Module, Exports0, Source, #options{entry = Entry, approximate = 
     AllExports = lists:usort(Exports ++ NewExports),
     Reached = reached(FirstOrder, [{main, 0} | AllExports]),
     Ledger = readable:check(Reached, Module, AllExports, L4),
-    {ok, fun() -> core_text:module(Module, AllExports, Reached) end, Ledger}.
+    {ok, fun() -> core_text:module(File, Module, AllExports, Reached) end, Ledger}.
 
 %% A definition with its receives, timeouts and maps in forms that are read.
 prepared(#definition{code = Code, origin = Origin, home = Home} = D, #options{after_timeout = Limit}, L) ->
-    {Lengthened, L1} = timeouts:lengthen(limited(Home, Origin), Limit, L, receives:restore(Code)),
+    {Lengthened, L1} = timeouts:lengthen(Origin, Home, Limit, L, receives:restore(Code)),
     {New, L2} = map_forms:replace(Home, L1, Lengthened),
     {D#definition{code = New}, L2}.
-
-limited(_, Origin) -> Origin.
 
 %% The definitions that are come to from these names, in their order.
 reached(Definitions, Roots) ->

@@ -1,25 +1,28 @@
 %% The text of a module of Core Erlang. What can end or hold up a process (calls, applications,
-%% receives, failures) has its line of the source as a note.
+%% receives, failures) has its line of the source as a note, with the file where it is another one.
 -module(core_text).
 
--export([module/3]).
+-export([module/4]).
 
 -include("core.hrl").
 
-module(Name, Exports, Definitions) ->
+module(File, Name, Exports, Definitions) ->
     ["module ", atom(Name), " [", joined([function_name(E) || E <- Exports]), "]\n    attributes []\n",
-     [definition(D) || D <- Definitions], "end\n"].
+     [definition(File, D) || D <- Definitions], "end\n"].
 
-definition(#definition{name = Name, origin = Origin, code = #c_fun{vars = Vars, body = Body}}) ->
+definition(File, #definition{name = Name, origin = Origin, code = #c_fun{vars = Vars, body = Body}}) ->
     [function_name(Name), " =\n  fun (", joined([variable(V) || V <- Vars]), ") ->",
-     line_end(4), expression(Body, {4, Origin}), "\n"].
+     line_end(4), expression(Body, {4, source(Origin, File)}), "\n"].
+
+source(source, File) -> {source, File};
+source(library, _) -> library.
 
 function_name({F, A}) -> [atom(F), "/", integer_to_list(A)].
 line_end(Indent) -> ["\n", lists:duplicate(Indent, $ )].
 joined(Texts) -> lists:join(",", Texts).
 
 %% An expression, where {Indent, Origin}: how far lines are moved to the right, and whether
-%% lines of the source are noted (source), or not (library, and inside guards).
+%% lines of the source are noted ({source, File}), or not (library, and inside guards).
 expression(#c_literal{val = V}, _) -> literal(V);
 expression(#c_var{} = V, _) -> variable(V);
 expression(#c_tuple{es = Es}, Where) -> ["{", expressions(Es, Where), "}"];
@@ -52,12 +55,13 @@ expressions(Es, Where) -> joined([expression(E, Where) || E <- Es]).
 
 deeper(More, {Indent, Origin}) -> {Indent + More, Origin}.
 
-noted(Node, {_, source}, Text) ->
-    case core_tree:place(Node, {"", 0}) of
+noted(_, {_, library}, Text) -> Text;
+noted(Node, {_, {source, File}}, Text) ->
+    case core_tree:place(Node, {File, 0}) of
         {_, 0} -> Text;
-        {_, Line} -> ["( ", Text, " -| [", integer_to_list(Line), "] )"]
-    end;
-noted(_, {_, library}, Text) -> Text.
+        {File, Line} -> ["( ", Text, " -| [", integer_to_list(Line), "] )"];
+        {Other, Line} -> ["( ", Text, " -| [", integer_to_list(Line), ",{'file',", literal(Other), "}] )"]
+    end.
 
 clauses(Clauses, {I, _} = Where) -> [[line_end(I + 2), clause(C, deeper(2, Where))] || C <- Clauses].
 

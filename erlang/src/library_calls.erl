@@ -79,7 +79,9 @@ call(M, F, Args, N, Place, #scope{library = Library} = S) ->
 
 library_call({M, F, A} = Call, Name, #c_call{anno = Notes, args = Args} = N, Place, S) ->
     case refused(Call, Args, S) of
-        {refuse, Text} -> {done, N, S#scope{ledger = ledger:refuse(Place, S#scope.home, Text, S#scope.ledger)}};
+        {refuse, Text} ->
+            %% one refusal is enough; what stands in the arguments is still looked at
+            {inside, #c_tuple{es = Args}, S#scope{ledger = ledger:refuse(Place, S#scope.home, Text, S#scope.ledger)}};
         none ->
             S1 = lists:foldl(fun(Text, T) -> note(Text, [], T) end, S, notes_of(M, F, A, S#scope.origin)),
             {inside, core_tree:apply_to(Notes, Name, Args), want(Name, S1)}

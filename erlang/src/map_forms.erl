@@ -14,7 +14,8 @@ rule(Home, #c_receive{clauses = Clauses} = Receive, Place, L) ->
     case lists:any(fun has_map/1, Clauses) of
         true ->
             Text = "a map pattern in a receive is not read: match a variable, and use maps:find/2",
-            {done, Receive, ledger:refuse(Place, Home, Text, L)};
+            Open = [C#c_clause{pats = element(1, without_maps(0, C#c_clause.pats))} || C <- Clauses],
+            {inside, Receive#c_receive{clauses = Open}, ledger:refuse(Place, Home, Text, L)};
         false -> {inside, Receive, L}
     end;
 rule(_, #c_case{clauses = Clauses} = Case, _, L) ->

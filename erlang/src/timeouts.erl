@@ -1,13 +1,15 @@
 %% `--after-timeout MS`: a receive that waits for so long or longer waits for ever.
 -module(timeouts).
 
--export([lengthen/4]).
+-export([lengthen/5]).
 
 -include("core.hrl").
 
 %% The tree with its timeouts from Limit on as infinity; Limit is none where nothing is asked.
-lengthen(_, none, Ledger, Tree) -> {Tree, Ledger};
-lengthen(Origin, Limit, Ledger, Tree) ->
+%% The timers of the library are no receives of the source, and stay.
+lengthen(_, _, none, Ledger, Tree) -> {Tree, Ledger};
+lengthen(library, "timer " ++ _, _, Ledger, Tree) -> {Tree, Ledger};
+lengthen(Origin, _, Limit, Ledger, Tree) ->
     core_tree:walk(fun(N, P, L) -> rule(Origin, Limit, N, P, L) end, {"", 0}, Ledger, Tree).
 
 %% A receive without clauses is a sleep, and stays.

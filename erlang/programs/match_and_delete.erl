@@ -1,0 +1,13 @@
+%% Sessions that are over are matched and deleted while one of them is opened again.
+%% want: main ends {badmatch,[]} in some schedule
+-module(match_and_delete).
+-export([main/0]).
+
+main() ->
+    T = ets:new(sessions, [public]),
+    ets:insert(T, [{s1, over}, {s2, open}]),
+    Me = self(),
+    spawn(fun() -> ets:insert(T, {s1, open}), Me ! opened end),
+    [ets:delete(T, S) || [S] <- ets:match(T, {'$1', over})],
+    receive opened -> ok end,
+    [{s1, open}] = ets:lookup(T, s1).
