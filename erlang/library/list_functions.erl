@@ -4,9 +4,9 @@
 -module(list_functions).
 -compile([export_all, nowarn_export_all]).
 
-%% ---- with functions
+%% ---- with functions. What is no list is another error in some of them.
 
-'lists:map'(F, L) when is_function(F, 1) -> 'lists map'(F, L).
+'lists:map'(F, L) when is_function(F, 1) -> case L of [_ | _] -> 'lists map'(F, L); [] -> [] end.
 'lists map'(F, [H | T]) -> [F(H) | 'lists map'(F, T)];
 'lists map'(_, []) -> [].
 
@@ -14,7 +14,7 @@
 'lists foreach'(F, [H | T]) -> F(H), 'lists foreach'(F, T);
 'lists foreach'(_, []) -> ok.
 
-'lists:foldl'(F, A, L) when is_function(F, 2) -> 'lists foldl'(F, A, L).
+'lists:foldl'(F, A, L) when is_function(F, 2) -> case L of [_ | _] -> 'lists foldl'(F, A, L); [] -> A end.
 'lists foldl'(F, A, [H | T]) -> 'lists foldl'(F, F(H, A), T);
 'lists foldl'(_, A, []) -> A.
 
@@ -67,11 +67,11 @@
     end;
 'lists splitwith'(_, [], Taken) -> {lists:reverse(Taken), []}.
 
-'lists:all'(F, L) when is_function(F, 1) -> 'lists all'(F, L).
+'lists:all'(F, L) when is_function(F, 1) -> case L of [_ | _] -> 'lists all'(F, L); [] -> true end.
 'lists all'(F, [H | T]) -> case F(H) of true -> 'lists all'(F, T); false -> false end;
 'lists all'(_, []) -> true.
 
-'lists:any'(F, L) when is_function(F, 1) -> 'lists any'(F, L).
+'lists:any'(F, L) when is_function(F, 1) -> case L of [_ | _] -> 'lists any'(F, L); [] -> false end.
 'lists any'(F, [H | T]) -> case F(H) of true -> true; false -> 'lists any'(F, T) end;
 'lists any'(_, []) -> false.
 
@@ -87,13 +87,11 @@
 'lists dropwhile'(F, [H | T] = L) -> case F(H) of true -> 'lists dropwhile'(F, T); false -> L end;
 'lists dropwhile'(_, []) -> [].
 
-'lists:zipwith'(F, A, B) when is_function(F, 2) -> 'lists zipwith'(F, A, B).
-'lists zipwith'(F, [A | T], [B | U]) -> [F(A, B) | 'lists zipwith'(F, T, U)];
-'lists zipwith'(_, [], []) -> [].
+'lists:zipwith'(F, [A | T], [B | U]) -> [F(A, B) | 'lists:zipwith'(F, T, U)];
+'lists:zipwith'(F, [], []) when is_function(F, 2) -> [].
 
-'lists:keymap'(F, N, L) when is_function(F, 1), is_integer(N), N > 0 -> 'lists keymap'(F, N, L).
-'lists keymap'(F, N, [H | T]) -> [setelement(N, H, F(element(N, H))) | 'lists keymap'(F, N, T)];
-'lists keymap'(_, _, []) -> [].
+'lists:keymap'(F, N, [H | T]) -> [setelement(N, H, F(element(N, H))) | 'lists:keymap'(F, N, T)];
+'lists:keymap'(F, N, []) when is_integer(N), N > 0, is_function(F, 1) -> [].
 
 %% ---- numbers and places
 
@@ -123,12 +121,12 @@
 'lists min'([], A) -> A.
 
 'lists:nth'(1, [H | _]) -> H;
-'lists:nth'(N, [_ | T]) when is_integer(N), N > 1 -> 'lists:nth'(N - 1, T).
+'lists:nth'(N, [_ | T]) when N > 1 -> 'lists:nth'(N - 1, T).
 
 'lists:nthtail'(0, []) -> [];
 'lists:nthtail'(0, [_ | _] = L) -> L;
 'lists:nthtail'(1, [_ | T]) -> T;
-'lists:nthtail'(N, [_ | T]) when is_integer(N), N > 1 -> 'lists:nthtail'(N - 1, T).
+'lists:nthtail'(N, [_ | T]) when N > 1 -> 'lists:nthtail'(N - 1, T).
 
 'lists:last'([X]) -> X;
 'lists:last'([_ | T]) -> 'lists:last'(T).
@@ -142,14 +140,14 @@
 'lists sublist'([H | T], N) -> [H | 'lists sublist'(T, N - 1)].
 
 'lists:sublist'(L, 1, N) when is_list(L), is_integer(N), N >= 0 -> 'lists sublist'(L, N);
-'lists:sublist'([], From, N) when is_integer(From), is_integer(N), From >= 1, N >= 0 -> [];
-'lists:sublist'([_ | T], From, N) when is_integer(From), is_integer(N), From > 1, N >= 0 -> 'lists:sublist'(T, From - 1, N).
+'lists:sublist'([], From, _) when is_integer(From), From > 1 -> [];
+'lists:sublist'([_ | T], From, N) when is_integer(From), From > 1 -> 'lists:sublist'(T, From - 1, N).
 
 'lists:split'(N, L) when is_integer(N), N >= 0, is_list(L) -> 'lists split'(N, L, []);
 'lists:split'(_, _) -> error(badarg).
 'lists split'(0, L, Taken) -> {lists:reverse(Taken), L};
 'lists split'(N, [H | T], Taken) -> 'lists split'(N - 1, T, [H | Taken]);
-'lists split'(_, _, _) -> error(badarg).
+'lists split'(_, [], _) -> error(badarg).
 
 'lists:duplicate'(N, X) when is_integer(N), N >= 0 -> 'lists duplicate'(N, X).
 'lists duplicate'(0, _) -> [];
@@ -243,13 +241,20 @@
 %% ---- sorting: the two halves, and then both into one, where the first of equal ones stays the first
 
 'lists:sort'(L) -> 'lists sort'(fun(A, B) -> A =< B end, L).
-'lists:sort'(F, L) when is_function(F, 2) -> 'lists sort'(F, L).
-'lists:keysort'(N, L) when is_integer(N), N > 0 -> 'lists sort'(fun(A, B) -> element(N, A) =< element(N, B) end, 'lists have'(N, L)).
+'lists:sort'(F, [_, _ | _] = L) -> 'lists sort'(F, L);
+'lists:sort'(F, []) when is_function(F, 2) -> [];
+'lists:sort'(F, [_] = L) when is_function(F, 2) -> L.
+'lists:keysort'(N, L) when is_integer(N), N > 0 ->
+    case L of
+        [_, _ | _] -> 'lists sort'(fun(A, B) -> element(N, A) =< element(N, B) end, L);
+        [_] -> L;
+        [] -> []
+    end.
 
 'lists sort'(_, []) -> [];
 'lists sort'(_, [_] = L) -> L;
-'lists sort'(F, L) ->
-    {A, B} = 'lists split'(length(L) div 2, L, []),
+'lists sort'(F, L) when length(L) > 1 ->
+    {A, B} = 'lists split'((length(L) + 1) div 2, L, []),
     'lists merge'(F, 'lists sort'(F, A), 'lists sort'(F, B)).
 
 'lists merge'(_, [], B) -> B;
@@ -260,11 +265,18 @@
         false -> [Y | 'lists merge'(F, [X | A], B)]
     end.
 
-%% A list of one item is looked at as well.
-'lists have'(N, [X]) -> _ = element(N, X), [X];
-'lists have'(_, L) -> L.
+'lists:merge'(A, []) -> A;
+'lists:merge'(A, [Y | B]) -> 'lists take left'(A, Y, B, []).
 
-'lists:merge'(A, B) -> 'lists merge'(fun(X, Y) -> X =< Y end, A, B).
+%% The first of the right list is at hand, or the first of the left one.
+'lists take left'([X | A], Y, B, Taken) when X =< Y -> 'lists take left'(A, Y, B, [X | Taken]);
+'lists take left'([X | A], Y, B, Taken) -> 'lists take right'(X, A, B, [Y | Taken]);
+'lists take left'([], Y, B, Taken) -> lists:reverse(Taken, [Y | 'lists proper'(B)]).
+'lists take right'(X, A, [Y | B], Taken) when X =< Y -> 'lists take left'(A, Y, B, [X | Taken]);
+'lists take right'(X, A, [Y | B], Taken) -> 'lists take right'(X, A, B, [Y | Taken]);
+'lists take right'(X, A, [], Taken) -> lists:reverse(Taken, [X | 'lists proper'(A)]).
+
+'lists proper'(L) -> _ = length(L), L.
 
 'lists:usort'(L) -> 'lists once'('lists:sort'(L)).
 'lists once'([A, B | T]) when A == B -> 'lists once'([A | T]);

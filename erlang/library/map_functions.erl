@@ -129,13 +129,21 @@
 'maps:update_with'(_, F, _, M) when is_function(F, 1) -> error({badmap, M});
 'maps:update_with'(_, _, _, _) -> error(badarg).
 
-'maps:with'(Keys, {'$map', L}) when is_list(Keys) -> {'$map', [P || {K, _} = P <- L, lists:member(K, Keys)]};
+'maps:with'(Keys, {'$map', L}) when is_list(Keys) -> {'$map', 'map with'(Keys, L, [])};
 'maps:with'(Keys, M) when is_list(Keys) -> error({badmap, M});
 'maps:with'(_, _) -> error(badarg).
+'map with'([K | T], L, Found) ->
+    case lists:keyfind(K, 1, L) of
+        {_, V} -> 'map with'(T, L, 'map put'(K, V, Found));
+        false -> 'map with'(T, L, Found)
+    end;
+'map with'([], _, Found) -> Found.
 
-'maps:without'(Keys, {'$map', L}) when is_list(Keys) -> {'$map', [P || {K, _} = P <- L, not lists:member(K, Keys)]};
+'maps:without'(Keys, {'$map', L}) when is_list(Keys) -> {'$map', 'map without'(Keys, L)};
 'maps:without'(Keys, M) when is_list(Keys) -> error({badmap, M});
 'maps:without'(_, _) -> error(badarg).
+'map without'([K | T], L) -> 'map without'(T, lists:keydelete(K, 1, L));
+'map without'([], L) -> L.
 
 %% ---- of erlang
 

@@ -86,7 +86,7 @@
 'queue of front'([_] = F) -> {F, []};
 'queue of front'([X, Y]) -> {[Y], [X]};
 'queue of front'(L) ->
-    {F, R} = lists:split(length(L) div 2 + 1, L),
+    {F, R} = lists:split(length(L) div 2, L),
     {lists:reverse(R), F}.
 
 %% ---- proplists

@@ -3,8 +3,10 @@
 -module(table_functions).
 -compile([export_all, nowarn_export_all]).
 
-'ets:foldl'(F, A, T) when is_function(F, 2) -> lists:foldl(F, A, ets:tab2list(T)).
-'ets:foldr'(F, A, T) when is_function(F, 2) -> lists:foldr(F, A, ets:tab2list(T)).
+'ets:foldl'(F, A, T) -> 'ets fold'(F, A, ets:tab2list(T)).
+'ets:foldr'(F, A, T) -> 'ets fold'(F, A, lists:reverse(ets:tab2list(T))).
+'ets fold'(F, A, [R | Rest]) when is_function(F, 2) -> 'ets fold'(F, F(R, A), Rest);
+'ets fold'(_, A, []) -> A.
 
 'ets:match_object'(T, Pattern) -> [R || R <- ets:tab2list(T), 'ets matches'(Pattern, R, []) =/= false].
 
@@ -56,9 +58,39 @@
         _ -> error(badarg)
     end.
 
-'ets are clauses'([{P, Guards, [_ | _]} | T]) when is_list(Guards), is_tuple(P); is_list(Guards), is_atom(P) -> 'ets are clauses'(T);
+'ets are clauses'([{P, Guards, [_ | _] = Body} | T]) when is_tuple(P); is_atom(P) ->
+    Variables = 'ets variables'(P, []),
+    'ets fit'(Guards, Variables) andalso 'ets fit'(Body, Variables) andalso 'ets are clauses'(T);
 'ets are clauses'([]) -> true;
 'ets are clauses'(_) -> false.
+
+'ets variables'(P, Sum) when is_atom(P) -> case 'ets variable'(P) of true -> [P | Sum]; false -> Sum end;
+'ets variables'([H | T], Sum) -> 'ets variables'(T, 'ets variables'(H, Sum));
+'ets variables'(P, Sum) when is_tuple(P) -> 'ets variables'(tuple_to_list(P), Sum);
+'ets variables'(_, Sum) -> Sum.
+
+%% Whether a list of expressions is one of those that are known here, with variables of the pattern.
+'ets fit'([E | T], Variables) -> 'ets fits'(E, Variables) andalso 'ets fit'(T, Variables);
+'ets fit'([], _) -> true;
+'ets fit'(_, _) -> false.
+
+'ets fits'(A, Variables) when is_atom(A) -> not 'ets variable'(A) orelse lists:member(A, Variables);
+'ets fits'({const, _}, _) -> true;
+'ets fits'({T}, Variables) when is_tuple(T) -> 'ets fit'(tuple_to_list(T), Variables);
+'ets fits'({self}, _) -> true;
+'ets fits'({Op, X}, Variables) when is_atom(Op) ->
+    lists:member(Op, ['not', '-', abs, 'bnot', hd, tl, length, tuple_size, size, round, trunc, map_size, is_integer, is_number, is_atom,
+                      is_list, is_tuple, is_pid, is_reference, is_float, is_binary, is_function, is_map])
+        andalso 'ets fits'(X, Variables);
+'ets fits'({Op, X, Y}, Variables) when is_atom(Op) ->
+    lists:member(Op, ['>', '<', '>=', '=<', '==', '=:=', '/=', '=/=', 'and', 'or', 'xor', 'andalso', 'orelse', '+', '-', '*', 'div', 'rem',
+                      'band', 'bor', 'bxor', element, map_get, is_map_key])
+        andalso 'ets fits'(X, Variables) andalso 'ets fits'(Y, Variables);
+'ets fits'({Op, X, Y, Z}, Variables) when Op =:= 'and'; Op =:= 'or'; Op =:= 'andalso'; Op =:= 'orelse' ->
+    'ets fit'([X, Y, Z], Variables);
+'ets fits'(T, _) when is_tuple(T) -> false;
+'ets fits'([H | T], Variables) -> 'ets fits'(H, Variables) andalso 'ets fits'(T, Variables);
+'ets fits'(_, _) -> true.
 
 %% The value of the last expression of the first clause that fits.
 'ets select'([{Pattern, Guards, Body} | T], R) ->
@@ -66,11 +98,14 @@
         false -> 'ets select'(T, R);
         Bound ->
             case 'ets hold'(Guards, Bound, R) of
-                true -> {value, 'ets value'(lists:last(Body), Bound, R)};
+                true -> {value, 'ets result'(lists:last(Body), Bound, R)};
                 false -> 'ets select'(T, R)
             end
     end;
 'ets select'([], _) -> none.
+
+%% An expression that fails gives a word.
+'ets result'(E, Bound, R) -> try 'ets value'(E, Bound, R) catch error:_ -> 'EXIT' end.
 
 %% A guard that fails is no error: the clause does not fit.
 'ets hold'([G | T], Bound, R) ->
@@ -123,13 +158,14 @@
     end;
 'ets value'({const, X}, _, _) -> X;
 'ets value'({T}, Bound, R) when is_tuple(T) -> list_to_tuple(['ets value'(X, Bound, R) || X <- tuple_to_list(T)]);
+'ets value'({self}, _, _) -> self();
+'ets value'({Op, X, Y, Z}, Bound, R) -> 'ets value'({Op, X, {Op, Y, Z}}, Bound, R);
 'ets value'({'andalso', X, Y}, Bound, R) -> case 'ets value'(X, Bound, R) of true -> 'ets value'(Y, Bound, R); false -> false end;
 'ets value'({'orelse', X, Y}, Bound, R) -> case 'ets value'(X, Bound, R) of true -> true; false -> 'ets value'(Y, Bound, R) end;
 'ets value'({Op, X}, Bound, R) -> 'ets of one'(Op, 'ets value'(X, Bound, R));
 'ets value'({Op, X, Y}, Bound, R) -> 'ets of two'(Op, 'ets value'(X, Bound, R), 'ets value'(Y, Bound, R));
 'ets value'([H | T], Bound, R) -> ['ets value'(H, Bound, R) | 'ets value'(T, Bound, R)];
-'ets value'(X, _, _) when is_integer(X); X =:= []; is_pid(X); is_reference(X) -> X;
-'ets value'(_, _, _) -> error(badarg).
+'ets value'(X, _, _) -> X.
 
 'ets of one'('not', A) -> not A;
 'ets of one'('-', A) -> -A;
@@ -145,7 +181,15 @@
 'ets of one'(is_tuple, A) -> is_tuple(A);
 'ets of one'(is_pid, A) -> is_pid(A);
 'ets of one'(is_reference, A) -> is_reference(A);
-'ets of one'(_, _) -> error(badarg).
+'ets of one'(is_float, _) -> false;
+'ets of one'(is_binary, _) -> false;
+'ets of one'(is_function, A) -> is_function(A);
+'ets of one'(is_map, A) -> is_map(A);
+'ets of one'('bnot', A) -> bnot A;
+'ets of one'(size, A) -> tuple_size(A);
+'ets of one'(round, A) -> A + 0;
+'ets of one'(trunc, A) -> A + 0;
+'ets of one'(map_size, A) -> maps:size(A).
 
 'ets of two'('>', A, B) -> A > B;
 'ets of two'('<', A, B) -> A < B;
@@ -163,5 +207,9 @@
 'ets of two'('*', A, B) -> A * B;
 'ets of two'('div', A, B) -> A div B;
 'ets of two'('rem', A, B) -> A rem B;
+'ets of two'('band', A, B) -> A band B;
+'ets of two'('bor', A, B) -> A bor B;
+'ets of two'('bxor', A, B) -> A bxor B;
 'ets of two'(element, A, B) -> element(A, B);
-'ets of two'(_, _, _) -> error(badarg).
+'ets of two'(map_get, A, B) -> maps:get(A, B);
+'ets of two'(is_map_key, A, B) -> maps:is_key(A, B).

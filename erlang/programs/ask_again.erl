@@ -1,5 +1,7 @@
 %% A named fun asks again where no answer came; then there may be two answers.
 %% want: main ends {left,[pong]} in some schedule
+%% depth: 20
+%% error: P ends {'left',['pong']}
 -module(ask_again).
 -export([main/0]).
 

@@ -1,5 +1,9 @@
 %% A gen_server that counts: a cast of one process and the call of another come in any order.
 %% want: main ends {badmatch,0} where the call comes before the cast, and is fine else
+%% depth: 24
+%% error: P ends {{'badmatch',0},[]}
+%% error: P.1 ends {{'badmatch',0},[]}
+%% error: deadlock of P.1
 -module(counter_server).
 -behaviour(gen_server).
 -export([main/0, init/1, handle_call/3, handle_cast/2]).

@@ -1,5 +1,7 @@
 %% Linked workers; one crashes, and takes those with it that do not trap exits.
 %% want: the one worker ends {bad,2}; main traps exits and is fine
+%% depth: 12
+%% error: P.3 ends {'bad',2}
 -module(link_group).
 -export([main/0]).
 

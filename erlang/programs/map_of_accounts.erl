@@ -1,5 +1,10 @@
 %% A server keeps accounts in a map; a client reads and then writes what it read.
 %% want: main ends {badmatch,6} or {badmatch,7} where the two clients overlap, and is fine else
+%% depth: 44
+%% error: P ends {{'badmatch',6},[]}
+%% error: P ends {{'badmatch',7},[]}
+%% error: P.1 ends 'killed'
+%% error: deadlock of P.1
 -module(map_of_accounts).
 -export([main/0]).
 

@@ -1,5 +1,7 @@
 %% Sessions that are over are matched and deleted while one of them is opened again.
 %% want: main ends {badmatch,[]} in some schedule
+%% depth: 12
+%% error: P ends {{'badmatch',[]},[]}
 -module(match_and_delete).
 -export([main/0]).
 

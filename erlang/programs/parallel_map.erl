@@ -1,5 +1,6 @@
 %% A parallel map that knows whose answer is whose.
 %% want: clean
+%% depth: 20
 -module(parallel_map).
 -export([main/0]).
 

@@ -1,5 +1,7 @@
 %% A parallel map that takes the answers as they come.
 %% want: main ends {badmatch,[4,1]} in some schedule
+%% depth: 12
+%% error: P ends {{'badmatch',[4,1]},[]}
 -module(parallel_map_mixed).
 -export([main/0]).
 

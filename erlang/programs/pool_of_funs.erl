@@ -1,5 +1,6 @@
 %% Two workers, each a fun, take jobs from a list that a third fun hands out.
 %% want: clean
+%% depth: 40
 -module(pool_of_funs).
 -export([main/0]).
 

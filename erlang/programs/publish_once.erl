@@ -1,5 +1,7 @@
 %% A publisher keeps its subscribers in a map; who subscribes late misses the news.
 %% want: a subscriber waits for ever in some schedule
+%% depth: 16
+%% error: deadlock of P.2
 -module(publish_once).
 -export([main/0]).
 

@@ -1,5 +1,6 @@
 %% A broker keeps jobs in a queue; who asks while there is none waits in another.
 %% want: clean: each taker gets one job
+%% depth: 32
 -module(queue_broker).
 -export([main/0]).
 

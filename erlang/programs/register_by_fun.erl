@@ -1,5 +1,10 @@
 %% A server is started where none is registered: two starters see that none is.
 %% want: a server ends badarg in some schedule
+%% depth: 20
+%% error: P.1.2 ends {'badarg',[]}
+%% error: P.2.2 ends {'badarg',[]}
+%% error: deadlock of P.1.2
+%% error: deadlock of P.2.2
 -module(register_by_fun).
 -export([main/0]).
 

@@ -1,5 +1,9 @@
 %% Two workers select what is open and then take the first of it: both may take the same.
 %% want: a worker ends {badmatch,[]} in some schedule, and main then waits for ever
+%% depth: 20
+%% error: P.3 ends {{'badmatch',[]},[]}
+%% error: P.4 ends {{'badmatch',[]},[]}
+%% error: deadlock of P
 -module(select_then_take).
 -export([main/0]).
 

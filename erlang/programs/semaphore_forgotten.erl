@@ -1,5 +1,9 @@
 %% A semaphore of one place; the fun that runs inside may fail, and then the place is not given back.
 %% want: deadlock of main where the failing one was first
+%% depth: 20
+%% error: P.2 ends 'oops'
+%% error: deadlock of P P.1
+%% error: deadlock of P.1
 -module(semaphore_forgotten).
 -export([main/0]).
 

@@ -1,5 +1,9 @@
 %% Two philosophers, two forks; each takes the one at its left first.
 %% want: deadlock in some schedule
+%% depth: 56
+%% error: P.1 ends 'killed'
+%% error: P.2 ends 'killed'
+%% error: deadlock of P P.1 P.2 P.3 P.4
 -module(two_forks).
 -export([start/0]).
 -record(fork, {owner = none}).

@@ -129,14 +129,14 @@ begins(#c_fun{} = Fun, W) ->
 
 entry(#work{module = M}, Name, Arguments) -> [core_tree:literal(M), core_tree:literal(Name), Arguments].
 
-%% A function that is a value: the process applies it. What is no function is refused at the call.
+%% A function that is a value: the process applies it. What is no function of no arguments is refused at the call.
 spawned(#c_call{anno = Notes, args = [Function]} = N, Place, W) ->
     {Value, W1} = core_tree:walk(fun rule/3, Place, W, Function),
     V = core_tree:variable('begun@'),
     {Apply, 1} = apply_name(0),
     Spawn = N#c_call{args = entry(W, Apply, #c_cons{hd = V, tl = core_tree:literal([])})},
     BadArgument = core_tree:raise_error(Notes, core_tree:literal(badarg)),
-    Case = #c_case{anno = Notes, arg = odd_tuples:is_closure(W#work.size, V),
+    Case = #c_case{anno = Notes, arg = odd_tuples:has_arity(W#work.size, V, core_tree:literal(0)),
                    clauses = [core_tree:clause([core_tree:literal(true)], Spawn),
                               core_tree:clause([core_tree:literal(false)], BadArgument)]},
     {done, #c_let{anno = Notes, vars = [V], arg = Value, body = Case}, export(apply_name(0), applied(0, W1))}.

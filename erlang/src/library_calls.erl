@@ -111,7 +111,7 @@ notes_of(timer, F, A, _) -> [lists:concat(["timer:", F, "/", A, " makes a proces
 notes_of(gen_server, call, 2, _) -> ["gen_server:call/2 waits for ever here, not five seconds"];
 notes_of(gen_server, call, 3, _) -> ["a reply after the timeout of gen_server:call/3 comes into the mailbox here"];
 notes_of(gen_server, _, _, _) -> ["gen_server is a small one here: calls, casts, infos and stops"];
-notes_of(maps, _, _, _) -> ["maps are tuples here: they sort among tuples, with their keys in the order of terms"];
+notes_of(maps, _, _, _) -> [map_forms:text_of_note()];
 notes_of(_, _, _, _) -> [].
 
 note(Format, Arguments, #scope{ledger = L} = S) -> S#scope{ledger = ledger:note(Format, Arguments, L)}.

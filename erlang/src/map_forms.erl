@@ -2,11 +2,24 @@
 %% with map patterns become look-ups, one after the other.
 -module(map_forms).
 
--export([replace/3]).
+-export([replace/3, text_of_note/0]).
 
 -include("core.hrl").
 
+text_of_note() -> "maps are tuples here: they sort among tuples, with their keys in the order of terms".
+
 replace(Home, Ledger, Tree) ->
+    Noted = case core_tree:fold(fun(N, Sum) -> Sum orelse is_map_here(N) end, false, Tree) of
+        true -> ledger:note(text_of_note(), [], Ledger);
+        false -> Ledger
+    end,
+    replaced(Home, Noted, Tree).
+
+is_map_here(#c_map{}) -> true;
+is_map_here(#c_literal{val = V}) -> is_map(V);
+is_map_here(_) -> false.
+
+replaced(Home, Ledger, Tree) ->
     core_tree:walk(fun(N, P, L) -> rule(Home, N, P, L) end, {"", 0}, Ledger, Tree).
 
 rule(_, #c_map{is_pat = false} = Map, _, L) -> {again, changed(Map), L};

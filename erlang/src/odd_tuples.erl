@@ -4,7 +4,7 @@
 %%   {'map', [{Key, Value}, ..], '-', ..}          in the order of keys
 -module(odd_tuples).
 
--export([free_size/1, function/4, function_pattern/1, is_closure/2, replace/2]).
+-export([free_size/1, function/4, function_pattern/1, has_arity/3, replace/2]).
 
 -include("core.hrl").
 
@@ -35,8 +35,6 @@ function_pattern(Size) ->
 
 padded(Size, Parts) -> #c_tuple{es = Parts ++ [core_tree:literal('-') || _ <- lists:seq(length(Parts) + 1, Size)]}.
 
-is_closure(Size, Value) -> is_tagged(Size, 'fun', Value).
-
 is_tagged(Size, Tag, Value) ->
     core_tree:call_erlang([], is_record, [Value, core_tree:literal(Tag), core_tree:literal(Size)]).
 
@@ -51,7 +49,7 @@ rule(library, Size, #c_tuple{es = [#c_literal{val = '$map'}, Pairs]}, S) ->
 rule(_, Size, #c_call{module = #c_literal{val = erlang}, name = #c_literal{val = Name}, args = Args} = N, S) ->
     case {Name, Args} of
         {is_map, [V]} -> {inside, is_tagged(Size, map, V), S};
-        {is_function, [V]} -> {inside, is_closure(Size, V), S};
+        {is_function, [V]} -> {inside, is_tagged(Size, 'fun', V), S};
         {is_function, [V, Arity]} -> {inside, has_arity(Size, V, Arity), S};
         {is_tuple, [V]} -> is_plain_tuple(Size, N, V, S);
         _ -> {inside, N, S}
@@ -66,6 +64,7 @@ literal(Size, [H | T]) -> [literal(Size, H) | literal(Size, T)];
 literal(Size, V) when is_tuple(V) -> list_to_tuple([literal(Size, X) || X <- tuple_to_list(V)]);
 literal(_, V) -> V.
 
+%% Whether a value is a function of that arity.
 has_arity(Size, Value, Arity) ->
     {Pattern, Its} = function_pattern(Size),
     #c_case{arg = Value,
