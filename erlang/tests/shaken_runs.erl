@@ -39,7 +39,8 @@ rule(#c_letrec{defs = [{#c_var{name = {Name, 0}}, _}]} = N, Place, S) ->
 rule(N, _, S) -> {inside, N, S}.
 
 is_shaken(erlang, F, 1) when F =:= spawn; F =:= spawn_link; F =:= spawn_monitor -> true;
-is_shaken(gen_server, _, _) -> true;
+is_shaken(erlang, cancel_timer, 1) -> true;
+is_shaken(M, _, _) when M =:= gen_server; M =:= timer; M =:= ets -> true;
 is_shaken(M, F, A) -> known_calls:is_request(M, F, A).
 
 paused(Node) -> #c_seq{arg = core_tree:call([], ?MODULE, pause, []), body = Node}.
