@@ -72,11 +72,16 @@ told({ok, Text, Ledger}, #options{notes = WithNotes}) ->
 convert(File, Options, Library) ->
     case source_module:load(File, Options#options.compiler) of
         {error, Lines} -> {error, Lines};
-        {ok, Module, Exports, Definitions} -> converted(File, Module, Exports, Definitions, Options, Library)
+        {ok, Module, OnLoad, Exports, Definitions} ->
+            Ledger = case OnLoad of
+                true -> ledger:refuse_file(File, "-on_load is not read", ledger:new());
+                false -> ledger:new()
+            end,
+            converted(File, Module, Exports, Definitions, Options, Library, Ledger)
     end.
 
-converted(File, Module, Exports0, Source, #options{entry = Entry, approximate = Approximate} = Options, Library) ->
-    {Begun, Exports, L1} = entry_point:settle(Entry, File, Module, Exports0, Source, ledger:new()),
+converted(File, Module, Exports0, Source, #options{entry = Entry, approximate = Approximate} = Options, Library, L0) ->
+    {Begun, Exports, L1} = entry_point:settle(Entry, File, Module, Exports0, Source, L0),
     Prepare = fun(D, L) -> prepared(D, Options, L) end,
     {Prepared, L2} = lists:mapfoldl(Prepare, L1, Begun),
     {Resolved, L3} = library_calls:resolve(Prepared, Prepare, {Module, Exports, Library, Approximate}, L2),
@@ -85,7 +90,7 @@ converted(File, Module, Exports0, Source, #options{entry = Entry, approximate = 
     {FirstOrder, NewExports, L4} = function_values:replace(Plain, Module, Size, L3),
     AllExports = lists:usort(Exports ++ NewExports),
     Reached = reached(FirstOrder, [{main, 0} | AllExports]),
-    Ledger = readable:check(Reached, Module, AllExports, L4),
+    Ledger = readable:check(File, Reached, Module, AllExports, L4),
     {ok, fun() -> core_text:module(File, Module, AllExports, Reached) end, Ledger}.
 
 %% A definition with its receives, timeouts and maps in forms that are read.

@@ -100,7 +100,9 @@ children(Change, S0, #c_tuple{es = Es0} = N) ->
     {N#c_tuple{es = Es}, S1};
 children(Change, S0, #c_values{es = Es0} = N) ->
     {Es, S1} = lists:mapfoldl(Change, S0, Es0),
-    {N#c_values{es = Es}, S1}.
+    {N#c_values{es = Es}, S1};
+%% of another kind, which no pass knows (readable refuses it)
+children(_, S, N) -> {N, S}.
 
 %% Collect(Node, Sum) of each node, from the top.
 fold(Collect, Sum, Node) ->

@@ -28,7 +28,8 @@ rounds(Definitions, Work, Done) ->
     rounds(lists:reverse(New), Work1#work{created = []}, Done ++ Now).
 
 noted([], L) -> L;
-noted(_, L) -> ledger:note("functions are tuples here: they sort among tuples, and two of one place and the same values are equal", [], L).
+noted(_, L) -> ledger:note("functions are tuples here: they sort among tuples, element/2 and tuple_size/1 take them, "
+                             "and two of one place and the same values are equal", [], L).
 
 definition(#definition{code = #c_fun{body = Body} = Fun, home = Home, origin = Origin} = D, Work) ->
     Place = core_tree:place(Fun, {"", 0}),

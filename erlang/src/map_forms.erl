@@ -6,7 +6,7 @@
 
 -include("core.hrl").
 
-text_of_note() -> "maps are tuples here: they sort among tuples, with their keys in the order of terms".
+text_of_note() -> "maps are tuples here: they sort among tuples, element/2 and tuple_size/1 take them, and their keys are in the order of terms".
 
 replace(Home, Ledger, Tree) ->
     Noted = case core_tree:fold(fun(N, Sum) -> Sum orelse is_map_here(N) end, false, Tree) of

@@ -43,6 +43,7 @@ replace(Size, #definition{origin = Origin, code = Code} = D) ->
     {New, _} = core_tree:walk(fun(N, _, S) -> rule(Origin, Size, N, S) end, {"", 0}, none, Code),
     D#definition{code = New}.
 
+rule(library, Size, #c_literal{val = {'$map', Pairs}} = N, S) -> {done, N#c_literal{val = map_literal(Size, Pairs)}, S};
 rule(_, Size, #c_literal{val = V} = N, S) -> {done, N#c_literal{val = literal(Size, V)}, S};
 rule(library, Size, #c_tuple{es = [#c_literal{val = '$map'}, Pairs]}, S) ->
     {inside, padded(Size, [core_tree:literal(map), Pairs]), S};
@@ -56,13 +57,12 @@ rule(_, Size, #c_call{module = #c_literal{val = erlang}, name = #c_literal{val =
     end;
 rule(_, _, Node, S) -> {inside, Node, S}.
 
-literal(Size, V) when is_map(V) ->
-    Pairs = lists:sort([{literal(Size, K), literal(Size, X)} || {K, X} <- maps:to_list(V)]),
-    list_to_tuple([map, Pairs | lists:duplicate(Size - 2, '-')]);
-literal(Size, {'$map', Pairs}) when is_list(Pairs) -> list_to_tuple([map, Pairs | lists:duplicate(Size - 2, '-')]);
+literal(Size, V) when is_map(V) -> map_literal(Size, lists:sort([{literal(Size, K), literal(Size, X)} || {K, X} <- maps:to_list(V)]));
 literal(Size, [H | T]) -> [literal(Size, H) | literal(Size, T)];
 literal(Size, V) when is_tuple(V) -> list_to_tuple([literal(Size, X) || X <- tuple_to_list(V)]);
 literal(_, V) -> V.
+
+map_literal(Size, Pairs) -> list_to_tuple([map, Pairs | lists:duplicate(Size - 2, '-')]).
 
 %% Whether a value is a function of that arity.
 has_arity(Size, Value, Arity) ->

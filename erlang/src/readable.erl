@@ -1,19 +1,19 @@
 %% What of the converted functions the explorer would not read: each place is refused.
 -module(readable).
 
--export([check/4]).
+-export([check/5]).
 
 -include("core.hrl").
 
--record(scope, {module, exports, home, guarded = false, ledger}).
+-record(scope, {module, exports, origin, home, guarded = false, ledger}).
 
-check(Definitions, Module, Exports, Ledger) ->
+check(File, Definitions, Module, Exports, Ledger) ->
     Scope = #scope{module = Module, exports = Exports, ledger = Ledger},
     Scope1 = lists:foldl(fun definition/2, Scope, Definitions),
-    twice([D#definition.name || D <- Definitions], Scope1#scope.ledger).
+    twice(File, [D#definition.name || D <- Definitions], Scope1#scope.ledger).
 
-definition(#definition{name = {_, Arity}, home = Home, code = #c_fun{body = Body} = Fun}, Scope) ->
-    S = Scope#scope{home = Home},
+definition(#definition{name = {_, Arity}, origin = Origin, home = Home, code = #c_fun{body = Body} = Fun}, Scope) ->
+    S = Scope#scope{origin = Origin, home = Home},
     Place = core_tree:place(Fun, {"", 0}),
     {_, S1} = core_tree:walk(fun rule/3, Place, S, Body),
     case Arity > 255 of
@@ -21,10 +21,10 @@ definition(#definition{name = {_, Arity}, home = Home, code = #c_fun{body = Body
         false -> S1
     end.
 
-twice(Names, L) ->
+twice(File, Names, L) ->
     case Names -- lists:usort(Names) of
         [] -> L;
-        [{F, A} | _] -> ledger:refuse_file("", io_lib:format("two functions have the name ~ts/~w", [F, A]), L)
+        [{F, A} | _] -> ledger:refuse_file(File, io_lib:format("two functions have the name ~ts/~w", [F, A]), L)
     end.
 
 refuse(Place, Format, Arguments, #scope{home = Home, ledger = L} = S) ->
@@ -39,13 +39,18 @@ rule(#c_literal{val = V} = N, Place, S) -> {done, N, literal(V, Place, S)};
 rule(#c_map{} = N, Place, S) -> {done, N, refuse(Place, "a map in this place is not read", [], S)};
 rule(#c_binary{} = N, Place, S) -> {done, N, refuse(Place, "binaries are not read", [], S)};
 rule(#c_primop{name = #c_literal{val = Name}, args = Args} = N, Place, S) -> primop(Name, length(Args), N, Place, S);
+rule(#c_catch{} = N, _, S) -> {inside, N, note("the stack trace in what catch gives of an error is [] here", S)};
 rule(#c_call{} = N, Place, S) -> {inside, N, call(N, Place, S)};
 rule(#c_apply{op = #c_var{name = {F, A}}} = N, Place, #scope{guarded = true} = S) ->
     {inside, N, refuse(Place, "~ts in a guard is not read", [shown(F, A)], S)};
 rule(#c_apply{args = Args} = N, Place, S) ->
     {_, S1} = lists:mapfoldl(fun(A, T) -> core_tree:walk(fun rule/3, Place, T, A) end, S, Args),
     {done, N, S1};
-rule(Node, _, S) -> {inside, Node, S}.
+rule(Node, Place, S) ->
+    case lists:member(element(1, Node), [c_alias, c_case, c_cons, c_let, c_receive, c_seq, c_try, c_tuple, c_values, c_var]) of
+        true -> {inside, Node, S};
+        false -> {done, Node, refuse(Place, "a form of this release is not read: ~w", [element(1, Node)], S)}
+    end.
 
 primop(match_fail, 1, N, _, S) -> {inside, N, S};
 primop(raise, 2, N, _, S) -> {inside, N, S};
@@ -63,7 +68,11 @@ call(_, Place, S) -> refuse(Place, "a call whose module or function is computed 
 
 objected(none, _, S) -> S;
 objected({refuse, Text}, Place, S) -> refuse(Place, "~ts", [Text], S);
-objected({note, Text}, _, #scope{ledger = L} = S) -> S#scope{ledger = ledger:note("~ts", [Text], L)}.
+objected({note, Text}, _, S) -> note(Text, S).
+
+%% What the library does is noted where it is called.
+note(Text, #scope{origin = source, ledger = L} = S) -> S#scope{ledger = ledger:note("~ts", [Text], L)};
+note(_, #scope{origin = library} = S) -> S.
 
 reason(erlang, F, A) ->
     case lists:member({F, A}, [{put, 2}, {get, 1}, {get, 0}, {erase, 1}, {erase, 0}, {get_keys, 0}]) of
@@ -72,7 +81,7 @@ reason(erlang, F, A) ->
     end;
 reason(_, _, _) -> "".
 
-shown_call(M, F, A) -> shown(lists:concat([M, ":", F]), A).
+shown_call(M, F, A) -> io_lib:format("~ts:~tw/~w", [M, F, A]).
 
 shown(Name, Arity) when is_atom(Name) -> shown(atom_to_list(Name), Arity);
 shown(Name, Arity) -> io_lib:format("~ts/~w", [Name, Arity]).

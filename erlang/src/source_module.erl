@@ -5,11 +5,11 @@
 
 -include("core.hrl").
 
-%% {ok, Name, Exports, Definitions}, or {error, Lines} as the compiler prints them.
+%% {ok, Name, whether a function runs when it is loaded, Exports, Definitions}, or {error, Lines} as the compiler prints them.
 load(File, Options) ->
     case compile:file(File, [to_core, binary, return_errors, nowarn_export_all | Options]) of
-        {ok, _, #c_module{name = #c_literal{val = Name}, exports = Exports} = Module} ->
-            {ok, Name, [E || #c_var{name = {F, _} = E} <- Exports, F =/= module_info], definitions(Module)};
+        {ok, _, #c_module{name = #c_literal{val = Name}, exports = Exports, attrs = Attributes} = Module} ->
+            {ok, Name, lists:member(on_load, [A || {#c_literal{val = A}, _} <- Attributes]), [E || #c_var{name = {F, _} = E} <- Exports, F =/= module_info], definitions(Module)};
         {error, Errors, _} -> {error, [error_lines(F, Es) || {F, Es} <- Errors]};
         error -> {error, [io_lib:format("~ts: it cannot be compiled~n", [File])]}
     end.

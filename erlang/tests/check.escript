@@ -2,7 +2,7 @@
 %%! +A0
 %% check.escript PROGRAM FOLDER [PART ..]
 %% Runs the tests of the converter with that program, and a folder to write in. Parts are snippets,
-%% refusals, library and programs; without one all of them.
+%% refusals, command, library and programs; without one all of them.
 -mode(compile).
 
 main([Program, Folder | Parts]) ->
@@ -20,7 +20,7 @@ main([Program, Folder | Parts]) ->
     io:format("~w passed, ~w failed~n", [length(Results) - length(Failed), length(Failed)]),
     halt(case Failed of [] -> 0; _ -> 1 end).
 
-parts([]) -> ["snippets", "refusals", "library", "programs"];
+parts([]) -> ["snippets", "refusals", "command", "library", "programs"];
 parts(Parts) -> Parts.
 
 load(File) ->
@@ -29,5 +29,6 @@ load(File) ->
 
 part("snippets", Program, Here, Folder, Library) -> snippet_tests:all(Program, Here, Folder, Library);
 part("refusals", _, Here, Folder, Library) -> refusal_tests:all(Here, Folder, Library);
+part("command", _, Here, Folder, _) -> command_tests:all(filename:dirname(Here), Folder);
 part("library", _, Here, _, _) -> library_tests:all(filename:dirname(Here));
 part("programs", Program, Here, Folder, Library) -> program_tests:all(Program, filename:dirname(Here), Folder, Library).

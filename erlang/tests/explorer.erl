@@ -1,7 +1,7 @@
 %% The program that explores, run on a module of Core Erlang.
 -module(explorer).
 
--export([explore/4, errors/1]).
+-export([explore/4, errors/1, is_taken_by_erlang/1]).
 
 %% The report, or the line of a refusal.
 explore(Program, Folder, Text, Depth) ->
@@ -14,3 +14,9 @@ explore(Program, Folder, Text, Depth) ->
 %% The errors of a report, as they stand behind their numbers.
 errors(Report) ->
     [Text || "error " ++ Rest <- string:split(Report, "\n", all), [_, Text] <- [string:split(Rest, ": ")]].
+
+%% Whether the compiler of this machine takes the text too.
+is_taken_by_erlang(Text) ->
+    {ok, Tokens, _} = core_scan:string(lists:flatten(Text)),
+    {ok, Core} = core_parse:parse(Tokens),
+    element(1, compile:forms(Core, [from_core, binary])) =:= ok.

@@ -79,12 +79,12 @@ is_deadlock({Count, First}, Deadlocks) -> lists:any(fun(Names) -> length(Names) 
 
 %% ---- the same each time
 
-%% The script, in a machine of its own, prints these bytes too.
+%% The script, in a machine of its own, prints these bytes too, and they are Core Erlang for the compiler.
 same_text(Folder, File, Text) ->
     Command = lists:flatten(io_lib:format("escript '~ts' '~ts'", [filename:join(Folder, "convert.escript"), File])),
-    case list_to_binary(os:cmd(Command)) =:= unicode:characters_to_binary(Text) of
-        true -> passed;
-        false -> {failed, another_text}
+    case {list_to_binary(os:cmd(Command)) =:= unicode:characters_to_binary(Text), explorer:is_taken_by_erlang(Text)} of
+        {true, true} -> passed;
+        Both -> {failed, {same_text_and_core_erlang, Both}}
     end.
 
 %% What is kept was converted by one release; others may number variables in another way.

@@ -20,14 +20,18 @@ same(Words, Lines, {Program, Folder, Library}) ->
         {0, Text, _} ->
             Report = explorer:explore(Program, Folder, Text, 60),
             case [real_terms:without_names(E) || "P ends " ++ _ = E <- explorer:errors(Report)] of
-                [Found] -> compared(real_terms:without_names(Real), Found);
+                [Found] -> compared(real_terms:without_names(Real), Found, Text);
                 _ -> {failed, {real, Real, report, Report}}
             end;
         {_, _, Refused} -> {failed, {refused, lists:flatten(Refused)}}
     end.
 
-compared(Same, Same) -> passed;
-compared(Real, Found) -> {failed, {real, Real, found, Found}}.
+compared(Same, Same, Text) ->
+    case explorer:is_taken_by_erlang(Text) of
+        true -> passed;
+        false -> {failed, no_core_erlang}
+    end;
+compared(Real, Found, _) -> {failed, {real, Real, found, Found}}.
 
 real(File) ->
     {ok, Module, Code} = compile:file(File, [binary]),
