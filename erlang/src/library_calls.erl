@@ -108,6 +108,7 @@ notes_of(erlang, F, A, _) when F =:= send_after; F =:= start_timer; F =:= cancel
     ["a timer is a process here, not a reference, and may come at once",
      lists:concat(["erlang:", F, "/", A, " is made of several steps here"])];
 notes_of(timer, F, A, _) -> [lists:concat(["timer:", F, "/", A, " makes a process here, and may come at once"])];
+notes_of(lists, sort, 2, _) -> ["lists:sort/2 calls its function on other pairs here"];
 notes_of(gen_server, call, 2, _) -> ["gen_server:call/2 waits for ever here, not five seconds"];
 notes_of(gen_server, call, 3, _) -> ["a reply after the timeout of gen_server:call/3 comes into the mailbox here"];
 notes_of(gen_server, _, _, _) -> ["gen_server is a small one here: calls, casts, infos and stops"];

@@ -2,7 +2,7 @@
 %%! +A0
 %% check.escript PROGRAM FOLDER [PART ..]
 %% Runs the tests of the converter with that program, and a folder to write in. Parts are snippets,
-%% refusals, command, library and programs; without one all of them.
+%% random, refusals, command, library and programs; without one all of them.
 -mode(compile).
 
 main([Program, Folder | Parts]) ->
@@ -20,7 +20,7 @@ main([Program, Folder | Parts]) ->
     io:format("~w passed, ~w failed~n", [length(Results) - length(Failed), length(Failed)]),
     halt(case Failed of [] -> 0; _ -> 1 end).
 
-parts([]) -> ["snippets", "refusals", "command", "library", "programs"];
+parts([]) -> ["snippets", "random", "refusals", "command", "library", "programs"];
 parts(Parts) -> Parts.
 
 load(File) ->
@@ -28,6 +28,7 @@ load(File) ->
     {module, Module} = code:load_binary(Module, File, Code).
 
 part("snippets", Program, Here, Folder, Library) -> snippet_tests:all(Program, Here, Folder, Library);
+part("random", Program, _, Folder, Library) -> random_tests:all(Program, Folder, Library);
 part("refusals", _, Here, Folder, Library) -> refusal_tests:all(Here, Folder, Library);
 part("command", _, Here, Folder, _) -> command_tests:all(filename:dirname(Here), Folder);
 part("library", _, Here, _, _) -> library_tests:all(filename:dirname(Here));

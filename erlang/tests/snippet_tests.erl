@@ -2,7 +2,7 @@
 %% real machine and in the explorer.
 -module(snippet_tests).
 
--export([all/4]).
+-export([all/4, one/3]).
 
 all(Program, Here, Folder, Library) ->
     Files = filelib:wildcard(filename:join(Here, "snippets/*.txt")),
