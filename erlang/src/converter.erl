@@ -15,8 +15,8 @@ main(Words, Library) ->
     ok = io:setopts(standard_io, [{encoding, utf8}]),
     ok = io:setopts(standard_error, [{encoding, utf8}]),
     {Status, Output, Errors} = run(Words, Library),
-    io:put_chars(standard_error, Errors),
-    io:put_chars(Output),
+    ok = io:put_chars(standard_error, Errors),
+    ok = io:put_chars(Output),
     Status.
 
 %% {Status, Output, Errors}
@@ -61,12 +61,17 @@ defined(Text) ->
     end.
 
 told({error, Lines}, _) -> {2, "", Lines};
-told({ok, Text, Ledger}, #options{notes = WithNotes}) ->
+told({ok, Text, Ledger}, #options{file = File, notes = WithNotes}) ->
     Notes = case WithNotes of true -> ledger:notes(Ledger); false -> "" end,
     case ledger:refusals(Ledger) of
-        [] -> {0, Text(), Notes};
+        [] -> small(File, unicode:characters_to_binary(Text()), Notes);
         Refusals -> {2, "", [Notes, Refusals]}
     end.
+
+%% The explorer reads no larger text.
+small(File, Text, Notes) when byte_size(Text) > 1048576 ->
+    {2, "", [Notes, io_lib:format("~ts: a text of ~w bytes is not read, only 1048576~n", [File, byte_size(Text)])]};
+small(_, Text, Notes) -> {0, Text, Notes}.
 
 %% {ok, Text, Ledger}, where Text() is the text if nothing was refused.
 convert(File, Options, Library) ->

@@ -18,7 +18,8 @@ source(source, File) -> {source, File};
 source(library, _) -> library.
 
 function_name({F, A}) -> [atom(F), "/", integer_to_list(A)].
-line_end(Indent) -> ["\n", lists:duplicate(Indent, $ )].
+%% Not so far to the right that a long function is mostly blanks.
+line_end(Indent) -> ["\n", lists:duplicate(min(Indent, 80), $ )].
 joined(Texts) -> lists:join(",", Texts).
 
 %% An expression, where {Indent, Origin}: how far lines are moved to the right, and whether

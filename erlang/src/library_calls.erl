@@ -37,7 +37,7 @@ definition(#definition{origin = Origin, home = Home, code = Code} = D, Scope) ->
     {New, Scope1} = core_tree:walk(fun rule/3, {"", 0}, Scope#scope{origin = Origin, home = Home}, Code),
     {D#definition{code = New}, Scope1}.
 
-rule(#c_literal{val = V} = N, _, S) when is_function(V) -> {again, reference(N), S};
+rule(#c_literal{val = V} = N, _, S) when is_function(V) -> {again, wrapper(N), S};
 rule(#c_literal{val = V} = N, _, S) ->
     case has_function(V) of
         true -> {again, spelled_out(N), S};
@@ -58,8 +58,6 @@ rule(#c_call{module = #c_literal{val = M}, name = #c_literal{val = F}, args = Ar
 rule(#c_call{module = #c_var{}, name = #c_literal{}} = N, _, #scope{origin = library} = S) -> {inside, callback(N, S), S};
 rule(Node, _, S) -> {inside, Node, S}.
 
-call(erlang, make_fun, [#c_literal{val = M}, #c_literal{val = F}, #c_literal{val = A}], N, _, S) ->
-    {again, wrapper(N#c_call.anno, M, F, A), S};
 call(erlang, raise, [Class, Reason, Trace], N, _, S) ->
     {inside, evaluated([Trace], raised(N#c_call.anno, Class, Reason)), note("a stack trace is [] here", [], S)};
 call(erlang, function_exported, [_, #c_literal{val = F}, #c_literal{val = A}], _, _, #scope{origin = library} = S) ->
@@ -130,12 +128,9 @@ callback(#c_call{anno = Notes, module = Module, name = #c_literal{val = F}, args
                                core_tree:clause([core_tree:variable('module@')], Undefined)]}
     end.
 
-%% fun M:F/A, as a literal or as the compiler makes it where it cannot be one
-reference(#c_literal{anno = Notes, val = Fun}) ->
+%% fun M:F/A, which is a literal
+wrapper(#c_literal{anno = Notes, val = Fun}) ->
     [{_, M}, {_, F}, {_, A}] = [erlang:fun_info(Fun, What) || What <- [module, name, arity]],
-    wrapper(Notes, M, F, A).
-
-wrapper(Notes, M, F, A) ->
     Vars = [core_tree:variable(list_to_atom("argument@" ++ integer_to_list(I))) || I <- lists:seq(1, A)],
     #c_fun{anno = Notes, vars = Vars, body = core_tree:call(Notes, M, F, Vars)}.
 

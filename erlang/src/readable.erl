@@ -16,10 +16,34 @@ definition(#definition{name = {_, Arity}, origin = Origin, home = Home, code = #
     S = Scope#scope{origin = Origin, home = Home},
     Place = core_tree:place(Fun, {"", 0}),
     {_, S1} = core_tree:walk(fun rule/3, Place, S, Body),
-    case Arity > 255 of
+    S2 = case Arity > 255 of
         true -> refuse(Place, "a function of ~w arguments, with those that it takes along, is not read", [Arity], S1);
         false -> S1
+    end,
+    case levels(Body) of
+        Levels when Levels > 1000 -> refuse(Place, "a function of ~w levels is not read, only 1000: make several of it", [Levels], S2);
+        _ -> S2
     end.
+
+%% How deep construct stands within construct, by the text: a line is noted in parentheses, which are a level;
+%% a clause is none, and a list is one however long it is.
+levels(#c_clause{} = N) -> deepest(N);
+levels(#c_call{} = N) -> 2 + deepest(N);
+levels(#c_apply{} = N) -> 2 + deepest(N);
+levels(#c_primop{} = N) -> 2 + deepest(N);
+levels(#c_receive{} = N) -> 2 + deepest(N);
+levels(#c_cons{hd = Head, tl = #c_cons{} = Tail}) -> max(1 + levels(Head), levels(Tail));
+levels(#c_literal{val = V}) -> literal_levels(V);
+levels(N) -> 1 + deepest(N).
+
+deepest(N) ->
+    {_, Most} = core_tree:children(fun(Child, Most) -> {Child, max(Most, levels(Child))} end, 0, N),
+    Most.
+
+literal_levels([H | T]) when is_list(T) -> max(1 + literal_levels(H), literal_levels(T));
+literal_levels([H | T]) -> 1 + max(literal_levels(H), literal_levels(T));
+literal_levels(V) when is_tuple(V) -> 1 + lists:max([0 | [literal_levels(X) || X <- tuple_to_list(V)]]);
+literal_levels(_) -> 1.
 
 twice(File, Names, L) ->
     case Names -- lists:usort(Names) of

@@ -18,6 +18,8 @@ files() ->
      {"with.erl", "-module(with).\n-export([main/0]).\n-include(\"part.hrl\").\nmain() -> [part(), ?WORD].\n"},
      {"part.hrl", "\n\npart() ->\n  self() ! part.\n"},
      {"part_refused.erl", "-module(part_refused).\n-export([main/0]).\n-include(\"refused.hrl\").\nmain() -> part().\n"},
+     {"long.erl", ["-module(long).\n-export([main/0]).\nmain() ->\n", [["self() ! ", N, ", receive ", N, " -> ok end,\n"] || I <- lists:seq(1, 340), N <- [integer_to_list(I)]], "ok.\n"]},
+     {"large.erl", ["-module(large).\n-export([main/0]).\nmain() -> \"", lists:duplicate(300000, $x), "\".\n"]},
      {"refused.hrl", "\n\npart() ->\n  get(part).\n"}].
 
 %% {Status, what standard output has to have in it (or none), standard error}
@@ -36,6 +38,8 @@ cases() ->
      {"no Erlang", "wrong.erl", {2, none, "wrong.erl:3:13: syntax error before: '.'\nwrong.erl:2:2: function main/0 undefined\n"}},
      {"no such variable", "unbound.erl", {2, none, "unbound.erl:3:11: variable 'X' is unbound\n"}},
      {"no such file", "absent.erl", {2, none, "absent.erl: no such file or directory\n"}},
+     {"a function that is too long", "long.erl", {2, none, "long.erl:3: a function of 1023 levels is not read, only 1000: make several of it (in main/0)\n"}},
+     {"a text that is too long", "large.erl", {2, none, "large.erl: a text of 1200077 bytes is not read, only 1048576\n"}},
      {"no words", "", {64, none, Usage}},
      {"an unknown word", "good.erl --other", {64, none, Usage}},
      {"two files", "good.erl bad.erl", {64, none, Usage}},

@@ -82,7 +82,7 @@ is_deadlock({Count, First}, Deadlocks) -> lists:any(fun(Names) -> length(Names) 
 %% The script, in a machine of its own, prints these bytes too, and they are Core Erlang for the compiler.
 same_text(Folder, File, Text) ->
     Command = lists:flatten(io_lib:format("escript '~ts' '~ts'", [filename:join(Folder, "convert.escript"), File])),
-    case {list_to_binary(os:cmd(Command)) =:= unicode:characters_to_binary(Text), explorer:is_taken_by_erlang(Text)} of
+    case {list_to_binary(os:cmd(Command)) =:= Text, explorer:is_taken_by_erlang(Text)} of
         {true, true} -> passed;
         Both -> {failed, {same_text_and_core_erlang, Both}}
     end.
@@ -92,7 +92,7 @@ kept(Folder, Name, Text, Report) ->
     Kept = fun(Ending) -> file:read_file(filename:join([Folder, "kept", Name ++ Ending])) end,
     {ok, Release} = file:read_file(filename:join([Folder, "kept", "release"])),
     Same = string:trim(binary_to_list(Release)) =/= erlang:system_info(otp_release)
-        orelse Kept(".core") =:= {ok, unicode:characters_to_binary(Text)},
+        orelse Kept(".core") =:= {ok, Text},
     case {Same, Kept(".report") =:= {ok, unicode:characters_to_binary(Report)}} of
         {true, true} -> passed;
         {_, _} -> {failed, {text_is_kept, Same, report, Report}}

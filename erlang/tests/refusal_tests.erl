@@ -15,7 +15,7 @@ one({Title, Words, Lines}, Folder, Library) ->
     Result = case converter:run([File | Words], Library) of
         {Status, Output, Errors} ->
             Wanted = {case Refusals of [] -> 0; _ -> 2 end, Refusals =/= [], lists:append(Notes ++ Refusals)},
-            Printed = {Status, lists:flatten(Output) =:= "", unicode:characters_to_list(Errors)},
+            Printed = {Status, unicode:characters_to_list(Output) =:= "", unicode:characters_to_list(Errors)},
             case Wanted of
                 Printed -> passed;
                 _ -> {failed, {wanted, Wanted, printed, Printed}}
