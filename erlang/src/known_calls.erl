@@ -58,8 +58,25 @@ objection(_, {ets, info, 2}, [_, #c_literal{val = Item}]) ->
         true -> none;
         false -> {refuse, io_lib:format("ets:info(.., ~w) is not known here", [Item])}
     end;
+objection(_, {ets, F, 3} = Call, [_, _, Operation]) when F =:= update_counter; F =:= update_element ->
+    operation(Call, shape(Operation));
 objection(_, {ets, info, 2}, _) -> {refuse, "ets:info/2 of a computed item is not known here"};
 objection(_, _, _) -> none.
+
+%% What is known of an operation on an object before it is computed.
+shape(#c_literal{val = V}) when is_integer(V) -> integer;
+shape(#c_literal{val = {_, _}}) -> pair;
+shape(#c_tuple{es = [_, _]}) -> pair;
+shape(#c_literal{}) -> other;
+shape(#c_tuple{}) -> other;
+shape(#c_cons{}) -> other;
+shape(_) -> computed.
+
+operation({ets, update_counter, 3}, integer) -> none;
+operation(_, pair) -> none;
+operation({_, update_counter, 3}, computed) -> {note, "ets:update_counter/3 of what is neither an integer nor a pair is badarg here"};
+operation({_, update_element, 3}, computed) -> {note, "ets:update_element/3 of what is no pair is badarg here"};
+operation({_, F, _}, _) -> {refuse, io_lib:format("ets:~ts/3 is known here with one operation alone, and no threshold", [F])}.
 
 to_a_node() -> {refuse, "a message to a name on a node is not known here"}.
 

@@ -88,6 +88,11 @@ library_call({M, F, A} = Call, Name, #c_call{anno = Notes, args = Args} = N, Pla
 %% Why a call of the library is not taken as it stands.
 refused({ets, update_counter, 4}, _, #scope{approximate = false}) ->
     {refuse, "ets:update_counter/4 is two steps here: --approximate takes it"};
+refused({ets, update_counter, 4}, [Table, Key, Operation, _], #scope{module = Own}) ->
+    case known_calls:objection(Own, {ets, update_counter, 3}, [Table, Key, Operation]) of
+        {refuse, Text} -> {refuse, Text};
+        _ -> none
+    end;
 refused({gen_server, F, A}, Args, #scope{module = Own}) when F =:= start; F =:= start_link ->
     case lists:nth(A - 2, Args) of
         #c_literal{val = Own} -> none;
