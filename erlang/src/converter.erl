@@ -88,7 +88,7 @@ convert(File, Options, Library) ->
 converted(File, Module, Exports0, Source, #options{entry = Entry, approximate = Approximate} = Options, Library, L0) ->
     {Begun, Exports, L1} = entry_point:settle(Entry, File, Module, Exports0, Source, L0),
     Prepare = fun(D, L) -> prepared(D, Options, L) end,
-    {Prepared, L2} = lists:mapfoldl(Prepare, L1, Begun),
+    {Prepared, L2} = lists:mapfoldl(Prepare, L1, reached(Begun, [{main, 0} | Exports])),
     {Resolved, L3} = library_calls:resolve(Prepared, Prepare, {Module, Exports, Library, Approximate}, L2),
     Size = odd_tuples:free_size([D#definition.code || D <- Resolved]),
     Plain = [odd_tuples:replace(Size, D) || D <- Resolved],

@@ -49,6 +49,8 @@ rename(Module, #definition{name = Name, code = Code} = D) ->
 rule(_, #c_var{name = {main, 0} = Name} = N, S) -> {done, N#c_var{name = new_name(Name)}, S};
 rule(M, #c_call{module = #c_literal{val = M}, name = #c_literal{val = main} = F, args = []} = N, S) ->
     {inside, N#c_call{name = F#c_literal{val = 'main of the module'}}, S};
-rule(M, #c_call{module = #c_literal{val = erlang}, args = [#c_literal{val = M} = Own, #c_literal{val = main} = F, #c_literal{val = []} = None]} = N, S) ->
+%% a process that begins with it
+rule(M, #c_call{module = #c_literal{val = erlang},
+                args = [#c_literal{val = M} = Own, #c_literal{val = main} = F, #c_literal{val = []} = None]} = N, S) ->
     {inside, N#c_call{args = [Own, F#c_literal{val = 'main of the module'}, None]}, S};
 rule(_, Node, S) -> {inside, Node, S}.

@@ -18,8 +18,7 @@
 replace(Definitions, Module, Size, Ledger) ->
     {Done, Work} = rounds(Definitions, #work{module = Module, size = Size, ledger = Ledger}, []),
     Values = lists:usort(Work#work.values),
-    Arities = lists:usort(Work#work.arities ++ [A || {_, A, _} <- Values]),
-    Applies = [apply_fun:definition(Size, A, Values) || A <- Arities, lists:member(A, Work#work.arities)],
+    Applies = [apply_fun:definition(Size, Arity, Values) || Arity <- lists:usort(Work#work.arities)],
     {Done ++ Applies, lists:usort(Work#work.exports), noted(Values, Work#work.ledger)}.
 
 rounds([], Work, Done) -> {Done, Work};

@@ -75,7 +75,7 @@ call(M, F, Args, N, Place, #scope{library = Library} = S) ->
         false -> {inside, N, S}
     end.
 
-library_call({M, F, A} = Call, Name, #c_call{anno = Notes, args = Args} = N, Place, S) ->
+library_call({M, F, A} = Call, Name, #c_call{anno = Notes, args = Args}, Place, S) ->
     case refused(Call, Args, S) of
         {refuse, Text} ->
             %% one refusal is enough; what stands in the arguments is still looked at

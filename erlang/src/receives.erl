@@ -65,8 +65,7 @@ taken(Loop, Message, Body) ->
     taken_by(Loop, Message, core_tree:clause([core_tree:variable(Message)], Body)).
 
 %% A clause takes the message first, or goes on to the next message, which is no clause.
-taken_by(_, Message, #c_clause{pats = [_], body = #c_seq{arg = Remove, body = Body}} = C)
-  when element(1, Remove) =:= c_primop, (Remove#c_primop.name)#c_literal.val =:= remove_message ->
+taken_by(_, Message, #c_clause{pats = [_], body = #c_seq{arg = #c_primop{name = #c_literal{val = remove_message}}, body = Body}} = C) ->
     [named(Message, C#c_clause{body = Body})];
 taken_by(_, Message, #c_clause{pats = [_], body = #c_primop{name = #c_literal{val = remove_message}}} = C) ->
     %% nobody wants the value of this clause

@@ -9,7 +9,8 @@
 load(File, Options) ->
     case compile:file(File, [to_core, binary, return_errors, nowarn_export_all | Options]) of
         {ok, _, #c_module{name = #c_literal{val = Name}, exports = Exports, attrs = Attributes} = Module} ->
-            {ok, Name, lists:member(on_load, [A || {#c_literal{val = A}, _} <- Attributes]), [E || #c_var{name = {F, _} = E} <- Exports, F =/= module_info], definitions(Module)};
+            RunsWhenLoaded = lists:member(on_load, [A || {#c_literal{val = A}, _} <- Attributes]),
+            {ok, Name, RunsWhenLoaded, [E || #c_var{name = {F, _} = E} <- Exports, F =/= module_info], definitions(Module)};
         {error, Errors, _} -> {error, [error_lines(F, Es) || {F, Es} <- Errors]};
         error -> {error, [io_lib:format("~ts: it cannot be compiled~n", [File])]}
     end.

@@ -13,6 +13,7 @@ all(Folder, Work) ->
 files() ->
     [{"good.erl", "-module(good).\n-export([main/0, other/0]).\nmain() -> self() ! x, receive x -> ok end.\nother() -> self() ! y.\n"},
      {"bad.erl", "-module(bad).\n-export([main/0]).\nmain() -> <<1, (f(2))>>.\nf(X) ->\n  put(a, X).\n"},
+     {"unused.erl", "-module(unused).\n-export([main/0]).\nmain() -> ok.\nf() -> receive #{a := X} -> <<X>> end.\n"},
      {"wrong.erl", "-module(wrong).\n-export([main/0]).\nmain() -> x(.\n"},
      {"unbound.erl", "-module(unbound).\n-export([main/0]).\nmain() -> X.\n"},
      {"with.erl", "-module(with).\n-export([main/0]).\n-include(\"part.hrl\").\nmain() -> [part(), ?WORD].\n"},
@@ -28,6 +29,7 @@ cases() ->
     [{"a module", "good.erl", {0, "module 'good' ['main'/0,'other'/0]", ""}},
      {"an entry", "good.erl --entry other/0", {0, "'main'/0 =\n  fun () ->\n    apply 'other'/0()", ""}},
      {"the source's main is another then", "--entry other/0 good.erl", {0, "'main of the module'/0 =", ""}},
+     {"what nothing comes to", "unused.erl --notes", {0, "module 'unused' ['main'/0]\n    attributes []\n'main'/0 =\n  fun () ->\n    'ok'\nend", ""}},
      {"lines of the source", "good.erl", {0, "-| [3] )", ""}},
      {"an include file's lines", "with.erl -D WORD=7", {0, "-| [4,{'file',[112,97,114,116,46,104,114,108]}] )", ""}},
      {"a macro", "with.erl -D WORD", {0, ",'true']", ""}},
