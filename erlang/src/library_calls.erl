@@ -110,7 +110,7 @@ notes_of(ets, F, A, _) -> [lists:concat(["ets:", F, "/", A, " is one step here"]
 notes_of(erlang, F, A, _) when F =:= send_after; F =:= start_timer; F =:= cancel_timer ->
     ["a timer is a process here, not a reference, and may come at once",
      lists:concat(["erlang:", F, "/", A, " is made of several steps here"])];
-notes_of(timer, F, A, _) -> [lists:concat(["timer:", F, "/", A, " makes a process here, and may come at once"])];
+notes_of(timer, F, A, _) when F =/= seconds, F =/= minutes, F =/= hours -> [lists:concat(["timer:", F, "/", A, " makes a process here, and may come at once"])];
 notes_of(lists, sort, 2, _) -> ["lists:sort/2 calls its function on other pairs here"];
 notes_of(gen_server, call, 2, _) -> ["gen_server:call/2 waits for ever here, not five seconds"];
 notes_of(gen_server, call, 3, _) -> ["a reply after the timeout of gen_server:call/3 comes into the mailbox here"];

@@ -5,7 +5,7 @@
 
 -include("../src/core.hrl").
 
-%% How long nothing may happen until all that live are taken to wait for ever.
+%% How long nothing may happen until all that live, where they all wait, are taken to wait for ever.
 -define(QUIET, 80).
 
 %% The module with its pauses, loaded.
@@ -74,7 +74,20 @@ gather(First, Born, Ends) ->
         {trace, P, exit, Reason} -> gather(First, Born, [{P, Reason} | Ends]);
         {trace, _, _, _} -> gather(First, Born, Ends);
         {trace, _, _, _, _} -> gather(First, Born, Ends)
-    after wait(Born, Ends) -> {lists:reverse(Ends), live(Born, Ends)}
+    after wait(Born, Ends) ->
+        Live = live(Born, Ends),
+        case lists:all(fun waits/1, Live) of
+            true -> {lists:reverse(Ends), Live};
+            false -> gather(First, Born, Ends)
+        end
+    end.
+
+%% Whether a process waits for a message, and not in a pause or for its turn.
+waits(Pid) ->
+    case process_info(Pid, [status, current_function]) of
+        [{status, waiting}, {current_function, {timer, sleep, 1}}] -> false;
+        [{status, waiting}, _] -> true;
+        _ -> false
     end.
 
 live(Born, Ends) -> lists:usort(Born) -- [P || {P, _} <- Ends].
