@@ -1,4 +1,4 @@
-%% Sessions that are over are matched and deleted while one of them is opened again.
+%% Logins that are over are matched and deleted while one of them is opened again.
 %% want: main ends {badmatch,[]} in some schedule
 %% depth: 12
 %% error: P ends {{'badmatch',[]},[]}
@@ -6,7 +6,7 @@
 -export([main/0]).
 
 main() ->
-    T = ets:new(sessions, [public]),
+    T = ets:new(logins, [public]),
     ets:insert(T, [{s1, over}, {s2, open}]),
     Me = self(),
     spawn(fun() -> ets:insert(T, {s1, open}), Me ! opened end),
