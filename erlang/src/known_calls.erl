@@ -1,0 +1,89 @@
+%% The calls that the explorer answers, and what of their arguments has to be so
+%% that it answers them as the manuals say.
+-module(known_calls).
+
+-export([is_known/3, is_request/3, objection/3]).
+
+-include("core.hrl").
+
+%% What a process answers by itself, or the world for it.
+is_known(M, F, A) -> is_pure(M, F, A) orelse is_request(M, F, A).
+
+is_pure(erlang, self, 0) -> true;
+is_pure(erlang, F, 1) ->
+    lists:member(F, ['+', '-', abs, 'bnot', 'not', is_integer, is_number, is_atom, is_boolean, is_tuple,
+                     is_list, is_pid, is_reference, is_float, is_binary, tuple_size, hd, tl, length,
+                     tuple_to_list, list_to_tuple, error, exit, throw, get_module_info]);
+is_pure(erlang, F, 2) ->
+    lists:member(F, ['+', '-', '*', 'div', 'rem', 'band', 'bor', 'bxor', '==', '/=', '=:=', '=/=', '<', '=<',
+                     '>', '>=', 'and', 'or', 'xor', element, '++', '--', error, get_module_info]);
+is_pure(erlang, F, 3) -> lists:member(F, [is_record, setelement]);
+is_pure(lists, F, A) -> lists:member({F, A}, [{reverse, 1}, {member, 2}, {append, 2}]);
+is_pure(_, _, _) -> false.
+
+is_request(erlang, F, A) ->
+    lists:member({F, A}, [{spawn, 3}, {spawn_link, 3}, {spawn_monitor, 3}, {'!', 2}, {send, 2}, {exit, 2}, {link, 1},
+                          {unlink, 1}, {monitor, 2}, {demonitor, 1}, {demonitor, 2}, {process_flag, 2}, {register, 2},
+                          {unregister, 1}, {whereis, 1}, {is_process_alive, 1}, {make_ref, 0}]);
+is_request(ets, F, A) ->
+    lists:member({F, A}, [{new, 2}, {lookup, 2}, {member, 2}, {lookup_element, 3}, {first, 1}, {last, 1},
+                          {next, 2}, {prev, 2}, {tab2list, 1}, {insert, 2}, {insert_new, 2}, {delete, 1},
+                          {delete, 2}, {delete_object, 2}, {delete_all_objects, 1}, {take, 2},
+                          {update_counter, 3}, {update_element, 3}, {give_away, 3}, {setopts, 2}, {info, 2}]);
+is_request(_, _, _) -> false.
+
+%% What is wrong with the arguments of a request: {refuse, Text}, {note, Text} or none.
+objection(Own, {erlang, Spawn, 3}, [Module, Function, _]) when Spawn =:= spawn; Spawn =:= spawn_link; Spawn =:= spawn_monitor ->
+    begins(Own, Module, Function);
+objection(_, {erlang, process_flag, 2}, [#c_literal{val = trap_exit}, _]) -> none;
+objection(_, {erlang, process_flag, 2}, [#c_literal{val = Flag}, _]) ->
+    {refuse, io_lib:format("process_flag(~w, ..) is not known here", [Flag])};
+objection(_, {erlang, process_flag, 2}, _) -> {refuse, "process_flag/2 of a computed flag is not known here"};
+objection(_, {erlang, monitor, 2}, [#c_literal{val = process}, #c_literal{}]) ->
+    {refuse, "monitor/2 of a name is not known here: use whereis/1"};
+objection(_, {erlang, monitor, 2}, [#c_literal{val = process}, #c_tuple{}]) ->
+    {refuse, "monitor/2 of a name is not known here: use whereis/1"};
+objection(_, {erlang, monitor, 2}, [#c_literal{val = process}, _]) -> {note, "monitor/2 of what turns out to be a name is badarg here"};
+objection(_, {erlang, monitor, 2}, [#c_literal{val = Kind}, _]) ->
+    {refuse, io_lib:format("monitor(~w, ..) is not known here", [Kind])};
+objection(_, {erlang, monitor, 2}, _) -> {refuse, "monitor/2 of a computed kind is not known here"};
+objection(_, {erlang, demonitor, 2}, [_, #c_literal{val = Options}]) when Options =:= []; Options =:= [flush] -> none;
+objection(_, {erlang, demonitor, 2}, [_, #c_literal{val = Options}]) ->
+    {refuse, io_lib:format("demonitor/2 with ~w is not known here", [Options])};
+objection(_, {erlang, demonitor, 2}, _) -> {refuse, "demonitor/2 with computed options is not known here"};
+objection(_, {erlang, Send, 2}, [#c_tuple{}, _]) when Send =:= '!'; Send =:= send -> to_a_node();
+objection(_, {erlang, Send, 2}, [#c_literal{val = To}, _]) when is_tuple(To), Send =:= '!' orelse Send =:= send -> to_a_node();
+objection(_, {ets, info, 2}, [_, #c_literal{val = Item}]) ->
+    case lists:member(Item, [name, owner, heir, size, type, protection, keypos, named_table]) of
+        true -> none;
+        false -> {refuse, io_lib:format("ets:info(.., ~w) is not known here", [Item])}
+    end;
+objection(_, {ets, F, 3} = Call, [_, _, Operation]) when F =:= update_counter; F =:= update_element ->
+    operation(Call, shape(Operation));
+objection(_, {ets, info, 2}, _) -> {refuse, "ets:info/2 of a computed item is not known here"};
+objection(_, _, _) -> none.
+
+%% What is known of an operation on an object before it is computed.
+shape(#c_literal{val = V}) when is_integer(V) -> integer;
+shape(#c_literal{val = {_, _}}) -> pair;
+shape(#c_tuple{es = [_, _]}) -> pair;
+shape(#c_literal{}) -> other;
+shape(#c_tuple{}) -> other;
+shape(#c_cons{}) -> other;
+shape(_) -> computed.
+
+operation({ets, update_counter, 3}, integer) -> none;
+operation(_, pair) -> none;
+operation({_, update_counter, 3}, computed) -> {note, "ets:update_counter/3 of what is neither an integer nor a pair is badarg here"};
+operation({_, update_element, 3}, computed) -> {note, "ets:update_element/3 of what is no pair is badarg here"};
+operation({_, F, _}, _) -> {refuse, io_lib:format("ets:~ts/3 is known here with one operation alone, and no threshold", [F])}.
+
+to_a_node() -> {refuse, "a message to a name on a node is not known here"}.
+
+begins(Own, #c_literal{val = Own}, _) -> none;
+begins(_, #c_literal{val = M}, #c_literal{val = F}) ->
+    {refuse, io_lib:format("a process that begins in ~ts:~ts is not read", [atom_to_list(M), atom_to_list(F)])};
+begins(_, #c_literal{val = M}, _) ->
+    {refuse, io_lib:format("a process that begins in the module ~ts is not read", [atom_to_list(M)])};
+begins(Own, _, _) ->
+    {note, io_lib:format("where the module of a spawn is computed, only functions of ~ts begin", [atom_to_list(Own)])}.

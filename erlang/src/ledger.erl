@@ -1,0 +1,30 @@
+%% What a conversion has to say besides its text: refusals and notes. It also
+%% hands out numbers for new names.
+-module(ledger).
+
+-export([new/0, refuse/4, refuse_file/3, note/3, number/1, refusals/1, notes/1]).
+
+-record(ledger, {refusals = [], notes = [], count = 0}).
+
+new() -> #ledger{}.
+
+%% FILE:LINE: text (in f/1)
+refuse({File, Line}, Home, Text, #ledger{refusals = Rs} = L) ->
+    L#ledger{refusals = [{File, Line, io_lib:format("~ts (in ~ts)", [Text, Home])} | Rs]}.
+
+%% FILE: text, of the whole file
+refuse_file(File, Text, #ledger{refusals = Rs} = L) -> L#ledger{refusals = [{File, 0, Text} | Rs]}.
+
+note(Format, Arguments, #ledger{notes = Ns} = L) ->
+    L#ledger{notes = [lists:flatten(io_lib:format(Format, Arguments)) | Ns]}.
+
+number(#ledger{count = N} = L) -> {N + 1, L#ledger{count = N + 1}}.
+
+%% Lines in the order of files, lines and texts, each once.
+refusals(#ledger{refusals = Rs}) ->
+    [line(R) || R <- lists:usort([{F, N, lists:flatten(T)} || {F, N, T} <- Rs])].
+
+line({File, 0, Text}) -> io_lib:format("~ts: ~ts~n", [File, Text]);
+line({File, Line, Text}) -> io_lib:format("~ts:~w: ~ts~n", [File, Line, Text]).
+
+notes(#ledger{notes = Ns}) -> [io_lib:format("note: ~ts~n", [N]) || N <- lists:usort(Ns)].

@@ -1,0 +1,35 @@
+#!/usr/bin/env escript
+%%! +A0
+%% check.escript PROGRAM FOLDER [PART ..]
+%% Runs the tests of the converter with that program, and a folder to write in. Parts are snippets,
+%% random, refusals, command, library and programs; without one all of them.
+-mode(compile).
+
+main([Program, Folder | Parts]) ->
+    ok = io:setopts(standard_io, [{encoding, utf8}]),
+    logger:set_primary_config(level, none),
+    Here = filename:dirname(filename:absname(escript:script_name())),
+    Out = filename:join(filename:dirname(Here), "out"),
+    true = code:add_patha(Out),
+    [load(File) || File <- filelib:wildcard(filename:join(Here, "*.erl"))],
+    {ok, Bytes} = file:read_file(filename:join(Out, "library.terms")),
+    Library = binary_to_term(Bytes),
+    Results = lists:append([part(P, Program, Here, Folder, Library) || P <- parts(Parts)]),
+    Failed = [R || {_, Outcome} = R <- Results, Outcome =/= passed],
+    [io:format("failed: ~ts~n  ~tp~n", [Name, Why]) || {Name, {failed, Why}} <- Failed],
+    io:format("~w passed, ~w failed~n", [length(Results) - length(Failed), length(Failed)]),
+    halt(case Failed of [] -> 0; _ -> 1 end).
+
+parts([]) -> ["snippets", "random", "refusals", "command", "library", "programs"];
+parts(Parts) -> Parts.
+
+load(File) ->
+    {ok, Module, Code} = compile:file(File, [binary, report_errors]),
+    {module, Module} = code:load_binary(Module, File, Code).
+
+part("snippets", Program, Here, Folder, Library) -> snippet_tests:all(Program, Here, Folder, Library);
+part("random", Program, _, Folder, Library) -> random_tests:all(Program, Folder, Library);
+part("refusals", _, Here, Folder, Library) -> refusal_tests:all(Here, Folder, Library);
+part("command", _, Here, Folder, _) -> command_tests:all(filename:dirname(Here), Folder);
+part("library", _, Here, _, _) -> library_tests:all(filename:dirname(Here));
+part("programs", Program, Here, Folder, Library) -> program_tests:all(Program, filename:dirname(Here), Folder, Library).

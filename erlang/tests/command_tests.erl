@@ -1,0 +1,66 @@
+%% The script as it is called: its words, streams and statuses.
+-module(command_tests).
+
+-export([all/2]).
+
+all(Folder, Work) ->
+    Script = filename:join(Folder, "convert.escript"),
+    Place = filename:join(Work, "a folder"),
+    ok = filelib:ensure_dir(filename:join(Place, "file")),
+    [ok = file:write_file(filename:join(Place, Name), Text) || {Name, Text} <- files()],
+    [{"command: " ++ Title, outcome(Wanted, run(Script, Place, Words))} || {Title, Words, Wanted} <- cases()].
+
+files() ->
+    [{"good.erl", "-module(good).\n-export([main/0, other/0]).\nmain() -> self() ! x, receive x -> ok end.\nother() -> self() ! y.\n"},
+     {"bad.erl", "-module(bad).\n-export([main/0]).\nmain() -> <<1, (f(2))>>.\nf(X) ->\n  put(a, X).\n"},
+     {"unused.erl", "-module(unused).\n-export([main/0]).\nmain() -> ok.\nf() -> receive #{a := X} -> <<X>> end.\n"},
+     {"wrong.erl", "-module(wrong).\n-export([main/0]).\nmain() -> x(.\n"},
+     {"unbound.erl", "-module(unbound).\n-export([main/0]).\nmain() -> X.\n"},
+     {"with.erl", "-module(with).\n-export([main/0]).\n-include(\"part.hrl\").\nmain() -> [part(), ?WORD].\n"},
+     {"part.hrl", "\n\npart() ->\n  self() ! part.\n"},
+     {"part_refused.erl", "-module(part_refused).\n-export([main/0]).\n-include(\"refused.hrl\").\nmain() -> part().\n"},
+     {"long.erl", ["-module(long).\n-export([main/0]).\nmain() ->\n", [["self() ! ", N, ", receive ", N, " -> ok end,\n"] || I <- lists:seq(1, 340), N <- [integer_to_list(I)]], "ok.\n"]},
+     {"large.erl", ["-module(large).\n-export([main/0]).\nmain() -> \"", lists:duplicate(300000, $x), "\".\n"]},
+     {"refused.hrl", "\n\npart() ->\n  get(part).\n"}].
+
+%% {Status, what standard output has to have in it (or none), standard error}
+cases() ->
+    Usage = "usage: convert.escript FILE.erl [--entry f/0] [--after-timeout MS] [--approximate] [--notes] [-I DIR] [-D NAME[=VALUE]]\n",
+    [{"a module", "good.erl", {0, "module 'good' ['main'/0,'other'/0]", ""}},
+     {"an entry", "good.erl --entry other/0", {0, "'main'/0 =\n  fun () ->\n    apply 'other'/0()", ""}},
+     {"the source's main is another then", "--entry other/0 good.erl", {0, "'main of the module'/0 =", ""}},
+     {"what nothing comes to", "unused.erl --notes", {0, "module 'unused' ['main'/0]\n    attributes []\n'main'/0 =\n  fun () ->\n    'ok'\nend", ""}},
+     {"lines of the source", "good.erl", {0, "-| [3] )", ""}},
+     {"an include file's lines", "with.erl -D WORD=7", {0, "-| [4,{'file',[112,97,114,116,46,104,114,108]}] )", ""}},
+     {"a macro", "with.erl -D WORD", {0, ",'true']", ""}},
+     {"a macro with a value", "with.erl -D WORD=7 -I .", {0, ",7]", ""}},
+     {"notes", "bad.erl --notes", {2, none, "bad.erl:3: binaries are not read (in main/0)\nbad.erl:5: erlang:put/2 is not known here; the process dictionary is not modelled (in f/1)\n"}},
+     {"refusals", "bad.erl", {2, none, "bad.erl:3: binaries are not read (in main/0)\nbad.erl:5: erlang:put/2 is not known here; the process dictionary is not modelled (in f/1)\n"}},
+     {"refusals in an include file", "part_refused.erl", {2, none, "refused.hrl:4: erlang:get/1 is not known here; the process dictionary is not modelled (in part/0)\n"}},
+     {"no Erlang", "wrong.erl", {2, none, "wrong.erl:3:13: syntax error before: '.'\nwrong.erl:2:2: function main/0 undefined\n"}},
+     {"no such variable", "unbound.erl", {2, none, "unbound.erl:3:11: variable 'X' is unbound\n"}},
+     {"no such file", "absent.erl", {2, none, "absent.erl: no such file or directory\n"}},
+     {"a function that is too long", "long.erl", {2, none, "long.erl:3: a function of 1023 levels is not read, only 1000: make several of it (in main/0)\n"}},
+     {"a text that is too long", "large.erl", {2, none, "large.erl: a text of 1200077 bytes is not read, only 1048576\n"}},
+     {"no words", "", {64, none, Usage}},
+     {"an unknown word", "good.erl --other", {64, none, Usage}},
+     {"two files", "good.erl bad.erl", {64, none, Usage}},
+     {"an entry with arguments", "good.erl --entry main/1", {64, none, Usage}},
+     {"a timeout that is no number", "good.erl --after-timeout soon", {64, none, Usage}}].
+
+run(Script, Place, Words) ->
+    Command = lists:flatten(io_lib:format("cd '~ts' && escript '~ts' ~ts > out 2> err; echo $?", [Place, Script, Words])),
+    Status = list_to_integer(string:trim(os:cmd(Command))),
+    {Status, text(filename:join(Place, "out")), text(filename:join(Place, "err"))}.
+
+text(File) ->
+    {ok, Bytes} = file:read_file(File),
+    unicode:characters_to_list(Bytes).
+
+outcome({Status, none, Errors}, {Status, "", Errors}) -> passed;
+outcome({Status, Part, Errors}, {Status, Output, Errors}) when is_list(Part) ->
+    case string:find(Output, Part) of
+        nomatch -> {failed, {not_there, Part, Output}};
+        _ -> passed
+    end;
+outcome(Wanted, Found) -> {failed, {wanted, Wanted, found, Found}}.
