@@ -1,0 +1,97 @@
+%% What a transcript tells beyond its lines: what each process is, which send a delivery comes from, and which messages
+%% nobody took.
+-module(report_story).
+-export([processes/1, roles/2, places/2, mailboxes/1, schedule/1]).
+-include("report.hrl").
+
+%% The names of the processes, in the order in which they appear.
+processes(Events) ->
+    lists:foldl(fun(Name, Names) -> case lists:member(Name, Names) of true -> Names; false -> Names ++ [Name] end end,
+                ["P"], lists:flatmap(fun appearing/1, Events)).
+
+appearing(#event{who = {From, To}}) -> [From, To];
+appearing(#event{who = Name} = Event) -> [Name | [Child || {Child, _} <- spawned(Event)]].
+
+%% What an event spawned: the child, and what it begins with.
+spawned(#event{deed = {call, erlang, Spawn, [_, {atom, Name}, {list, Arguments, nil}], {ok, Answer}}})
+  when Spawn =:= spawn; Spawn =:= spawn_link; Spawn =:= spawn_monitor ->
+    Child = case Answer of {pid, Pid} -> Pid; {tuple, [{pid, Pid}, _]} -> Pid end,
+    [{Child, report_text:role(Name, Arguments)}];
+spawned(_) -> [].
+
+%% What each process runs; that of the first one is given.
+roles(Events, First) -> maps:from_list([{"P", First} | lists:flatmap(fun spawned/1, Events)]).
+
+schedule(Events) -> lists:join(" ", [step(Who) || #event{who = Who} <- Events]).
+
+step({From, To}) -> [From, ">", To];
+step(Name) -> Name.
+
+%% ---- deliveries
+
+%% The places of all events, where those of turns are known: a message that is brought has that of its send.
+places(Events, Lines) ->
+    {Places, _} = lists:foldl(fun(Event, {Places, Sent}) -> place(Event, Places, Sent) end, {Lines, []}, Events),
+    Places.
+
+place(#event{number = Number, who = {From, _}, deed = {brings, Message}}, Places, Sent) ->
+    case take(fun({Sender, Term, _}) -> Sender =:= From andalso Term =:= Message end, Sent) of
+        {{_, _, Place}, Left} -> {Places#{Number => {sent, Place}}, Left};
+        none -> {Places, Sent}
+    end;
+place(#event{number = Number, who = Name, deed = {call, erlang, Send, [To, Message], {ok, _}}}, Places, Sent)
+  when (Send =:= '!' orelse Send =:= send), To =/= {pid, Name} ->
+    {Places, Sent ++ [{Name, Message, maps:get(Number, Places, none)}]};
+place(_, Places, Sent) -> {Places, Sent}.
+
+%% The first item that is wanted, and the others.
+take(IsWanted, Items) ->
+    case lists:splitwith(fun(Item) -> not IsWanted(Item) end, Items) of
+        {_, []} -> none;
+        {Before, [Item | Behind]} -> {Item, Before ++ Behind}
+    end.
+
+%% ---- mailboxes
+
+%% The messages that came to each process and that it did not take, the oldest first.
+mailboxes(Events) ->
+    {Boxes, _} = lists:foldl(fun(Event, {Boxes, Holders}) -> mail(Event, Boxes, Holders) end, {#{}, #{}}, Events),
+    Boxes.
+
+mail(#event{who = {_, To}, deed = {brings, Message}}, Boxes, Holders) -> {put_in(To, Message, Boxes), Holders};
+mail(#event{who = {_, To}, deed = Deed}, Boxes, Holders) ->
+    case element(tuple_size(Deed), Deed) of
+        {message, Message} -> {put_in(To, Message, Boxes), Holders};
+        _ -> {Boxes, Holders}
+    end;
+mail(#event{who = Name, deed = {receives, Message}}, Boxes, Holders) ->
+    {_, Left} = take(fun(Term) -> Term =:= Message end, maps:get(Name, Boxes, [])),
+    {Boxes#{Name => Left}, Holders};
+mail(#event{who = Name, deed = {call, erlang, Function, Arguments, {ok, _}}}, Boxes, Holders) ->
+    called(Function, Arguments, Name, Boxes, Holders);
+mail(_, Boxes, Holders) -> {Boxes, Holders}.
+
+%% What a process sends to itself is there at once; a watch that ends with flush takes its message along.
+called(register, [{atom, Alias}, Pid], _, Boxes, Holders) -> {Boxes, Holders#{Alias => Pid}};
+called(Send, [To, Message], Name, Boxes, Holders) when Send =:= '!'; Send =:= send ->
+    case holder(To, Holders) of
+        {pid, Name} -> {put_in(Name, Message, Boxes), Holders};
+        _ -> {Boxes, Holders}
+    end;
+called(exit, [{pid, Name} = Pid, Reason], Name, Boxes, Holders) ->
+    {put_in(Name, {tuple, [{atom, 'EXIT'}, Pid, Reason]}, Boxes), Holders};
+called(demonitor, [Watch, {list, Options, nil}], Name, Boxes, Holders) ->
+    Left = case lists:member({atom, flush}, Options) of
+        true -> [Term || Term <- maps:get(Name, Boxes, []), not is_down(Watch, Term)];
+        false -> maps:get(Name, Boxes, [])
+    end,
+    {Boxes#{Name => Left}, Holders};
+called(_, _, _, Boxes, Holders) -> {Boxes, Holders}.
+
+holder({atom, Alias}, Holders) -> maps:get(Alias, Holders, none);
+holder(Pid, _) -> Pid.
+
+is_down(Watch, {tuple, [{atom, 'DOWN'}, Watch, _, _, _]}) -> true;
+is_down(_, _) -> false.
+
+put_in(Name, Message, Boxes) -> Boxes#{Name => maps:get(Name, Boxes, []) ++ [Message]}.
