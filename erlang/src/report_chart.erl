@@ -3,14 +3,15 @@
 -export([text/1]).
 -include("report_rows.hrl").
 
--define(WIDTH, 26).
+-define(PAGE, 112).
 
 text({Columns, Rows}) ->
-    [trimmed(["       ", [string:pad(Name, ?WIDTH) || Name <- Columns]]), [row(Row, Columns) || Row <- Rows]].
+    Width = max(26, min(44, ?PAGE div length(Columns))),
+    Places = maps:from_list([{Name, Width * I} || {I, Name} <- lists:zip(lists:seq(0, length(Columns) - 1), Columns)]),
+    Bars = lists:append([[$| | lists:duplicate(Width - 1, $\s)] || _ <- Columns]),
+    [trimmed(["       ", [string:pad(Name, Width) || Name <- Columns]]), [row(Row, Places, Bars) || Row <- Rows]].
 
-row(Row, Columns) ->
-    Bars = lists:append([[$| | lists:duplicate(?WIDTH - 1, $\s)] || _ <- Columns]),
-    trimmed([sign(Row), number(Row#row.number), "  ", drawn(Row, Columns, Bars)]).
+row(Row, Places, Bars) -> trimmed([sign(Row), number(Row#row.number), "  ", drawn(Row, Places, Bars)]).
 
 %% What the finding is about has a sign before it.
 sign(#row{last = true}) -> "> ";
@@ -19,16 +20,14 @@ sign(_) -> "  ".
 number(none) -> "   ";
 number(Number) -> io_lib:format("~3w", [Number]).
 
-drawn(#row{kind = turn} = Row, Columns, Bars) ->
-    over(Bars, at(Row#row.column, Columns), [bullet(Row#row.mark), $\s | Row#row.text]);
-drawn(#row{column = From, other = To, kind = Kind} = Row, Columns, Bars) ->
-    [Left, Right] = lists:sort([at(From, Columns), at(To, Columns)]),
+drawn(#row{kind = turn, column = Name} = Row, Places, Bars) ->
+    over(Bars, maps:get(Name, Places), [bullet(Row#row.mark), $\s | Row#row.text]);
+drawn(#row{column = Name, other = Other, kind = Kind} = Row, Places, Bars) ->
+    {From, To} = {maps:get(Name, Places), maps:get(Other, Places)},
+    {Left, Right} = {min(From, To), max(From, To)},
     Line = over(Bars, Left + 1, lists:duplicate(max(0, Right - Left - 1), stroke(Kind))),
-    Headed = over(Line, at(To, Columns), [head(at(From, Columns), at(To, Columns))]),
-    Tailed = over(Headed, at(From, Columns), "o"),
+    Tailed = over(over(Line, To, [head(From, To)]), From, "o"),
     over(Tailed, Left + 2, [$\s | cut(Row#row.text, Right - Left - 5)] ++ " ").
-
-at(Name, Columns) -> ?WIDTH * length(lists:takewhile(fun(Column) -> Column =/= Name end, Columns)).
 
 stroke(arrow) -> $-;
 stroke(spawn) -> $..

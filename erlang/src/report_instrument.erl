@@ -1,25 +1,38 @@
 %% Makes of a Core module one that the machine can play with the answers of a transcript.
 %%
 %% Each call of processes and tables asks report_machine in its place, and each receive asks it for its message. The
-%% lines are those of the annotations, [Line, {file, File}], on calls, receives and applications. The module that is
-%% made has a name of its own, so that it takes the place of no module of the machine.
+%% lines are those of the annotations on calls, receives and applications: [Line], or [Line, {file, File}] where it is
+%% another file than the source. The module that is made has a name of its own, so that it takes the place of no module
+%% of the machine.
 -module(report_instrument).
--export([module/1, name/0, first/0]).
+-export([module/2, name/0, first/0]).
 
 %% The name of the module that is made, and that of its function which is what the first process runs.
 name() -> '$played'.
 first() -> '$first'.
 
 %% The name of the module that a text spells, what its first process runs, and its code; or why there is none.
-module(Text) ->
+module(Text, Source) ->
     try
         {ok, Tokens, _} = core_scan:string(Text),
         {ok, Core} = core_parse:parse(Tokens),
         Name = cerl:concrete(cerl:module_name(Core)),
-        {ok, _, Code} = compile:forms(made(Core, Name), [from_core, binary]),
+        {ok, _, Code} = compile:forms(made(noted(Core, Source), Name), [from_core, binary]),
         {ok, Name, first_of(Core), Code}
     catch
         error:Reason -> {error, Reason}
+    end.
+
+%% The module with the file beside each line, as the machine's own stack has it.
+noted(Core, Source) -> cerl_trees:map(fun(Tree) -> cerl:set_ann(Tree, notes(cerl:get_ann(Tree), Source)) end, Core).
+
+notes(Notes, Source) ->
+    Lines = [Line || Line <- Notes, is_integer(Line)] ++
+        [Line || {Line, Column} <- Notes, is_integer(Line), is_integer(Column)],
+    Files = [filename:basename(File) || {file, File} <- Notes],
+    case Lines of
+        [] -> [];
+        [Line | _] -> [Line, {file, hd(Files ++ [Source])}]
     end.
 
 made(Core, Name) ->
@@ -123,14 +136,9 @@ raised(Tree, Trace, Reason) ->
         _ -> Tree
     end.
 
-%% Where a tree stands in the source: {File, Line}, {none, Line} where the file is not told, or none.
+%% Where a tree stands in the source: {File, Line}, or none.
 place(Tree) ->
-    Notes = cerl:get_ann(Tree),
-    Lines = [Line || Line <- Notes, is_integer(Line)] ++
-        [Line || {Line, Column} <- Notes, is_integer(Line), is_integer(Column)],
-    Files = [filename:basename(File) || {file, File} <- Notes],
-    cerl:abstract(case {Files, Lines} of
-        {_, []} -> none;
-        {[], [Line | _]} -> {none, Line};
-        {[File | _], [Line | _]} -> {File, Line}
+    cerl:abstract(case cerl:get_ann(Tree) of
+        [Line, {file, File}] -> {File, Line};
+        [] -> none
     end).

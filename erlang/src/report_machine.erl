@@ -3,7 +3,7 @@
 %% So each request gets the line of the source that makes it, and each process that did not end the line where it
 %% stands. The machine is a second witness besides: where it asks otherwise than the transcript says, that is told.
 -module(report_machine).
--export([load/1, play/3]).
+-export([load/1, play/2]).
 -export([ask/4, wait/2, not_taken/0, back/0, caught/2, raised/2]).
 -include("report.hrl").
 
@@ -22,10 +22,10 @@ load(Code) ->
     erlang:system_flag(backtrace_depth, 200),
     ok.
 
-%% Plays the events of a transcript of a module; lines are those of File, where nothing else is told.
-play(Module, File, Events) ->
+%% Plays the events of a transcript of a module.
+play(Module, Events) ->
     Named = names(Events),
-    Result = lists:foldl(fun(Start, Played) -> play_process(Start, File, Events, Named, Played) end,
+    Result = lists:foldl(fun(Start, Played) -> play_process(Start, Events, Named, Played) end,
                          #played{}, [{"P", first} | starts(Module, Events)]),
     [exit(Pid, kill) || Pid <- maps:values(Named), is_pid(Pid)],
     #{lines => Result#played.lines, stands => Result#played.stands, differs => lists:reverse(Result#played.differs)}.
@@ -68,12 +68,12 @@ child({tuple, [{pid, Name}, _]}) -> Name.
 stage() ->
     receive {play, Boss, Start, Script} -> perform(Boss, Start, Script) end.
 
-play_process({Name, Start}, File, Events, Named, Played) ->
+play_process({Name, Start}, Events, Named, Played) ->
     Pid = maps:get({pid, Name}, Named),
     Own = [Event || #event{who = Who} = Event <- Events, Who =:= Name],
     Ended = lists:any(fun(Event) -> ended_by(Name, Event) end, Events),
     Watch = monitor(process, Pid),
-    Pid ! {play, self(), real_start(Start, Named), {Own, File, Named}},
+    Pid ! {play, self(), real_start(Start, Named), {Own, Named}},
     listen(Name, Pid, Watch, Ended, Played).
 
 %% Whether a delivery ended the process.
@@ -104,11 +104,10 @@ listen(Name, Pid, Watch, Ended, Played) ->
     after ?PATIENCE -> Played
     end.
 
-perform(Boss, Start, {Own, File, Named}) ->
+perform(Boss, Start, {Own, Named}) ->
     process_flag(max_heap_size, #{size => ?GREATEST_HEAP, kill => true, error_logger => false}),
     put('$boss', Boss),
     put('$events', Own),
-    put('$file', File),
     put('$named', Named),
     put('$place', none),
     ended(try begin_with(Start) of _ -> {{atom, normal}, none}
@@ -218,33 +217,25 @@ of_real(Term) ->
 
 %% ---- places
 
-%% The place that a reader looks for: that of the source which called the library where it is a library that asks.
-place(none) -> none;
-place({none, Line}) -> {get('$file'), Line};
-place({File, Line}) ->
-    case is_source(File) of
-        true -> {File, Line};
-        false ->
-            {current_stacktrace, Stack} = process_info(self(), current_stacktrace),
-            source_of(Stack)
-    end.
+%% The place that a reader looks for: where a library function asks, that of the source which called it.
+place(none) ->
+    {current_stacktrace, Stack} = process_info(self(), current_stacktrace),
+    source_of(Stack);
+place(Place) -> Place.
 
 %% The innermost call on a stack that stands in the source, or the library where there is none.
 source_of(Stack) ->
-    Places = [{filename:basename(File), Line} || {_, _, _, Note} <- Stack, {file, File} <- Note, {line, Line} <- Note],
-    case [Place || {File, _} = Place <- Places, is_source(File)] of
+    Name = report_instrument:name(),
+    Own = [Frame || {Module, _, _, _} = Frame <- Stack, Module =:= Name],
+    case [{File, Line} || {_, _, _, Note} <- Own, {file, File} <- Note, {line, Line} <- Note] of
         [Place | _] -> Place;
-        [] -> library(Stack)
+        [] -> library([atom_to_list(Function) || {_, Function, _, _} <- Own])
     end.
 
-is_source(File) -> File =:= get('$file') orelse filename:extension(File) =:= ".hrl".
-
-%% The module whose copy in the converted module is at work, as gen_server of 'gen_server:call'.
-library(Stack) ->
-    Name = report_instrument:name(),
-    Names = [string:split(atom_to_list(Function), ":") || {Module, Function, _, _} <- Stack, Module =:= Name],
-    case [Module || [Module, _] <- Names] of
-        [Module | _] -> {library, Module};
+%% The library whose copy in the converted module is at work, as gen_server of 'gen_server:call'.
+library(Names) ->
+    case [Name || Name <- Names, re:run(Name, "^[a-z_]+:") =/= nomatch orelse lists:prefix("gen_server ", Name)] of
+        [Name | _] -> {library, hd(string:lexemes(Name, ": "))};
         [] -> none
     end.
 

@@ -1,7 +1,8 @@
 %% From the files of an exploration to what people read.
 %%
 %% The folder of the exploration has the report of the program (`report`), the transcripts of its findings
-%% (`transcripts/1`, `transcripts/2` ..), and the module with the lines of its source (`lines.core`).
+%% (`transcripts/1`, `transcripts/2` ..), and the module (`module.core`),
+%% which has the lines of its source as annotations.
 -module(report_main).
 -export([main/1]).
 -include("report.hrl").
@@ -12,7 +13,7 @@
 
 main([Kind, Folder, Source, Coverage, Chart, Drawings]) ->
     ok = io:setopts(standard_io, [{encoding, unicode}]),
-    {Module, First} = prepare(filename:join(Folder, "lines.core")),
+    {Module, First} = prepare(filename:join(Folder, "module.core"), filename:basename(Source)),
     Work = #work{folder = Folder, source = filename:basename(Source), module = Module, first = First,
                  chart = Chart =:= "yes", drawings = Drawings},
     case Kind of
@@ -21,8 +22,8 @@ main([Kind, Folder, Source, Coverage, Chart, Drawings]) ->
     end.
 
 %% The module to be played, or none where the machine does not take it; and what its first process runs.
-prepare(File) ->
-    case report_instrument:module(read(File)) of
+prepare(File, Source) ->
+    case report_instrument:module(read(File), Source) of
         {ok, Module, First, Code} -> report_machine:load(Code), {Module, First};
         {error, Reason} ->
             complain("the lines of the source are not known: ~0tp", [Reason]),
@@ -70,7 +71,7 @@ told(Work, Text) ->
     Events = report_reader:transcript(Text),
     Played = case Work#work.module of
         none -> #{lines => #{}, stands => #{}, differs => []};
-        Module -> report_machine:play(Module, Work#work.source, Events)
+        Module -> report_machine:play(Module, Events)
     end,
     Played#{events => Events, places => report_story:places(Events, maps:get(lines, Played)),
             roles => report_story:roles(Events, Work#work.first), mailboxes => report_story:mailboxes(Events)}.

@@ -19,7 +19,10 @@ row(#event{number = Number, who = Name, deed = {call, erlang, Spawn, _, {ok, Ans
 row(#event{number = Number, who = Name, deed = Deed}, Place) ->
     #row{number = Number, column = Name, kind = turn, text = text(Deed), mark = mark(Deed), place = Place}.
 
+%% An arrow has the message that arrives, as far as one does.
 text({brings, Term}) -> flat(report_term:text(Term));
+text({exit, _, {message, Term}}) -> flat(report_term:text(Term));
+text({down, _, {message, Term}}) -> flat(report_term:text(Term));
 text(Deed) -> flat(report_text:deed(Deed)).
 
 flat(Text) -> lists:flatten(Text).

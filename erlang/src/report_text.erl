@@ -55,6 +55,7 @@ identity({refusal, Name, Request, Deed}) -> [Name, " request ", integer_to_list(
 role('apply fun', [Fun]) -> report_term:text(Fun);
 role(Name, Arguments) ->
     case atom_to_list(Name) of
+        "fun in gen_server " ++ _ -> "gen_server";
         "fun in " ++ _ = Fun -> Fun;
         _ -> [function(Name), "/", integer_to_list(length(Arguments))]
     end.
@@ -63,6 +64,7 @@ role(Name, Arguments) ->
 place(none) -> "";
 place({library, Module}) -> ["(", Module, ")"];
 place({sent, none}) -> "";
+place({sent, {library, Module}}) -> ["sent by ", Module];
 place({sent, Place}) -> ["sent at ", place(Place)];
 place({File, Line}) -> [File, ":", integer_to_list(Line)].
 
@@ -101,9 +103,12 @@ depth(First) -> hd(string:lexemes(First, "depth ,")).
 
 %% A transcript: what the processes are, each event with its place, and who waits for ever where it is a deadlock.
 transcript(Finding, #{events := Events, places := Places} = Told) ->
-    Width = lists:max([0 | [length(who(Who)) || #event{who = Who} <- Events]]),
+    Width = lists:max([length(who(Who)) || Who <- waiters(Finding) ++ [Who || #event{who = Who} <- Events]]),
     Lines = [event(Event, Width, maps:get(Event#event.number, Places, none)) || Event <- Events],
     [cast(Told), in_columns(Lines ++ waiting(Finding, Width, Told))].
+
+waiters({deadlock, Names}) -> Names;
+waiters(_) -> ["P"].
 
 cast(#{events := Events, roles := Roles}) ->
     Names = [Name || Name <- report_story:processes(Events), maps:is_key(Name, Roles)],
