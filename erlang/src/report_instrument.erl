@@ -57,7 +57,7 @@ played(Tree, Name) ->
     case cerl:type(Tree) of
         call -> call(inside(Tree, Below), Name);
         'receive' -> waiting(inside(Tree, Below));
-        apply -> kept(inside(Tree, Below));
+        apply -> applied(inside(Tree, Below));
         'catch' -> caught(cerl:catch_body(inside(Tree, Below)));
         primop -> raised(inside(Tree, Below));
         _ -> inside(Tree, Below)
@@ -75,8 +75,8 @@ call(Tree, Name) ->
     Arguments = cerl:call_args(Tree),
     case is_request(Module, Function, length(Arguments)) of
         true ->
-            ask(cerl:get_ann(Tree), ask,
-                [place(Tree), cerl:abstract(Module), cerl:abstract(Function), cerl:make_list(Arguments)]);
+            What = [place(Tree), cerl:abstract(Module), cerl:abstract(Function), cerl:make_list(Arguments)],
+            kept(ask(cerl:get_ann(Tree), ask, What));
         false when Module =:= Name -> cerl:update_c_call(Tree, cerl:abstract(name()), cerl:call_name(Tree), Arguments);
         false -> Tree
     end.
@@ -106,15 +106,17 @@ waiting(Tree) ->
     Receive = cerl:update_c_receive(Tree, cerl:receive_clauses(Tree), cerl:abstract(0), Late),
     cerl:c_seq(ask(Notes, wait, [place(Tree), cerl:receive_timeout(Tree)]), Receive).
 
-%% An application of a source that is known leaves its caller on the stack, so that the line is found from which a
+applied(Tree) ->
+    case cerl:get_ann(Tree) of
+        [] -> Tree;
+        _ -> kept(Tree)
+    end.
+
+%% A request, or an application in the source, leaves its caller on the stack, so that the line is found from which a
 %% library function was called.
 kept(Tree) ->
-    case place(Tree) =:= cerl:abstract(none) of
-        true -> Tree;
-        false ->
-            Value = cerl:c_var('Kept@'),
-            cerl:c_let([Value], Tree, cerl:c_seq(ask([], back, []), Value))
-    end.
+    Value = cerl:c_var('Kept@'),
+    cerl:c_let([Value], Tree, cerl:c_seq(ask([], back, []), Value)).
 
 %% What a catch gives has no stack in it.
 caught(Body) ->

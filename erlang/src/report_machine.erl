@@ -232,14 +232,17 @@ source_of(Stack) ->
         [] -> library([atom_to_list(Function) || {_, Function, _, _} <- Own])
     end.
 
-%% The library whose copy in the converted module is at work, as gen_server of 'gen_server:call'.
+%% The library whose copy in the converted module is at work, as gen_server of 'gen_server:call' and of
+%% 'fun in gen_server start'.
 library(Names) ->
-    case [Name || Name <- Names, re:run(Name, "^[a-z_]+:") =/= nomatch orelse lists:prefix("gen_server ", Name)] of
-        [Name | _] -> {library, hd(string:lexemes(Name, ": "))};
+    Found = [Module || Name <- Names,
+                       {match, [_, Module]} <- [re:run(Name, "^([a-z]+ (?:in|of) )?([a-z_]+)[: ][a-z]",
+                                                       [{capture, all_but_first, list}])]],
+    case [Module || Module <- Found, Module =/= "apply"] of
+        [Module | _] -> {library, Module};
         [] -> none
     end.
 
 %% Where an exception comes from: from the request that was refused, or from where the stack begins.
-end_place([{?MODULE, ask, _, _} | _]) -> get('$place');
-end_place([{?MODULE, wait, _, _} | _]) -> get('$place');
+end_place([{?MODULE, _, _, _} | _]) -> get('$place');
 end_place(Stack) -> source_of(Stack).

@@ -29,20 +29,46 @@ step(Name) -> Name.
 
 %% ---- deliveries
 
-%% The places of all events, where those of turns are known: a message that is brought has that of its send.
+%% The places of all events, where those of turns are known: a delivery has that of the send, of the exit/2 or of the end
+%% that it comes from.
 places(Events, Lines) ->
-    {Places, _} = lists:foldl(fun(Event, {Places, Sent}) -> place(Event, Places, Sent) end, {Lines, []}, Events),
+    {Places, _} = lists:foldl(fun place/2, {Lines, []}, Events),
     Places.
 
-place(#event{number = Number, who = {From, _}, deed = {brings, Message}}, Places, Sent) ->
-    case take(fun({Sender, Term, _}) -> Sender =:= From andalso Term =:= Message end, Sent) of
-        {{_, _, Place}, Left} -> {Places#{Number => {sent, Place}}, Left};
-        none -> {Places, Sent}
+place(#event{number = Number, who = {From, To}, deed = Deed}, {Places, Sent}) ->
+    {Place, Left} = cause(From, To, Deed, Sent),
+    {Places#{Number => sent_at(Place)}, Left ++ [{{To, ends, Reason}, Place} || Reason <- ends(Deed)]};
+place(#event{number = Number, who = Name, deed = Deed}, {Places, Sent}) ->
+    {Places, Sent ++ [{Cause, maps:get(Number, Places, none)} || Cause <- sends(Name, Deed)]}.
+
+sent_at(none) -> none;
+sent_at(Place) -> {sent, Place}.
+
+%% Where a delivery comes from, and what was sent besides. An end may tell several others, a send one.
+cause(From, _, {brings, Message}, Sent) -> cause({From, Message}, Sent);
+cause(From, To, {exit, Reason, _}, Sent) ->
+    case cause({From, exit, To, Reason}, Sent) of
+        {none, Sent} -> {proplists:get_value({From, ends, Reason}, Sent, none), Sent};
+        Found -> Found
     end;
-place(#event{number = Number, who = Name, deed = {call, erlang, Send, [To, Message], {ok, _}}}, Places, Sent)
-  when (Send =:= '!' orelse Send =:= send), To =/= {pid, Name} ->
-    {Places, Sent ++ [{Name, Message, maps:get(Number, Places, none)}]};
-place(_, Places, Sent) -> {Places, Sent}.
+cause(_, _, _, Sent) -> {none, Sent}.
+
+cause(Wanted, Sent) ->
+    case take(fun({Cause, _}) -> Cause =:= Wanted end, Sent) of
+        {{_, Place}, Left} -> {Place, Left};
+        none -> {none, Sent}
+    end.
+
+%% What a turn sends to others.
+sends(Name, {call, erlang, Send, [To, Message], {ok, _}}) when Send =:= '!'; Send =:= send ->
+    [{Name, Message} || To =/= {pid, Name}];
+sends(Name, {call, erlang, exit, [{pid, To}, Reason], {ok, _}}) -> [{Name, exit, To, Reason}];
+sends(Name, {ends, Reason}) -> [{Name, ends, Reason}];
+sends(_, _) -> [].
+
+%% The reason with which a delivery ends its receiver.
+ends({exit, _, {ends, Reason}}) -> [Reason];
+ends(_) -> [].
 
 %% The first item that is wanted, and the others.
 take(IsWanted, Items) ->
