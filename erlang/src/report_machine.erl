@@ -202,6 +202,8 @@ tell(What) -> get('$boss') ! {told, self(), What}.
 %% Nothing that the module could catch ends its part here.
 stop() -> receive {never, _, _, _} -> ok end.
 
+%% The limits of the explorer are not those of the machine, and where it ends for one there is nothing to compare.
+differ(#event{deed = {ends, {tuple, [{atom, system_limit}, _]}}}, _) -> tell(ended), stop();
 differ(#event{number = Number, deed = Deed}, Does) ->
     tell({differs, lists:flatten(["at event ", integer_to_list(Number), " the transcript says \"",
                                   report_text:deed(Deed), "\", and the machine ", Does])}),

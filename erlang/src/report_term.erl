@@ -56,16 +56,20 @@ text({int, N}) -> integer_to_list(N);
 text({atom, A}) -> lists:flatten(io_lib:format("~tw", [A]));
 text({pid, Name}) -> Name;
 text({ref, Name}) -> Name;
-text({tuple, [{atom, 'fun'}, {atom, Name}, {int, Arity}, {list, _, nil} | _]}) -> text_of_fun(Name, Arity);
-text({tuple, [{atom, map}, {list, Pairs, nil}]} = Tuple) ->
-    case lists:all(fun is_pair/1, Pairs) of
-        true -> "#{" ++ lists:join(",", [[text(K), " => ", text(V)] || {tuple, [K, V]} <- Pairs]) ++ "}";
+text({tuple, [{atom, 'fun'}, {atom, Name}, {int, Arity}, {list, _, nil} | Filling]} = Tuple) ->
+    case is_filling(Filling) of
+        true -> text_of_fun(Name, Arity);
+        false -> text_of_tuple(Tuple)
+    end;
+text({tuple, [{atom, map}, {list, Pairs, nil}, Filler | Filling]} = Tuple) ->
+    case is_filling([Filler | Filling]) andalso lists:all(fun is_pair/1, Pairs) of
+        true -> ["#{", lists:join(",", [[text(K), " => ", text(V)] || {tuple, [K, V]} <- Pairs]), "}"];
         false -> text_of_tuple(Tuple)
     end;
 text({tuple, _} = Tuple) -> text_of_tuple(Tuple);
 text({list, Terms, nil} = List) ->
     case is_string(Terms) of
-        true -> [$", [C || {int, C} <- Terms], $"];
+        true -> io_lib:write_string([C || {int, C} <- Terms]);
         false -> text_of_list(List)
     end;
 text({list, _, _} = List) -> text_of_list(List).
@@ -74,6 +78,9 @@ text_of_tuple({tuple, Terms}) -> ["{", lists:join(",", [text(Term) || Term <- Te
 
 text_of_list({list, Terms, nil}) -> ["[", lists:join(",", [text(Term) || Term <- Terms]), "]"];
 text_of_list({list, Terms, Tail}) -> ["[", lists:join(",", [text(Term) || Term <- Terms]), "|", text(Tail), "]"].
+
+%% The converter makes these tuples longer than any other of the module.
+is_filling(Terms) -> lists:all(fun(Term) -> Term =:= {atom, '-'} end, Terms).
 
 is_pair({tuple, [_, _]}) -> true;
 is_pair(_) -> false.
@@ -90,7 +97,7 @@ is_string(Terms) ->
     Letters = length([C || {int, C} <- Terms, is_letter(C)]),
     length(Terms) >= 3 andalso lists:all(fun is_printable/1, Terms) andalso 2 * Letters >= length(Terms).
 
-is_printable({int, C}) -> C >= 32 andalso C < 127 andalso C =/= $" andalso C =/= $\\;
+is_printable({int, C}) -> C >= 32 andalso C < 127 orelse C =:= $\n orelse C =:= $\t;
 is_printable(_) -> false.
 
 is_letter(C) -> (C >= $a andalso C =< $z) orelse (C >= $A andalso C =< $Z).

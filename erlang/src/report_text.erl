@@ -32,8 +32,10 @@ deed(timeout) -> "times out";
 deed({ends, Reason}) -> ["ends ", report_term:text(Reason)];
 deed(runaway) -> "runs away";
 deed({brings, Term}) -> ["brings ", report_term:text(Term)];
-deed({exit, Reason, Fate}) -> ["exit signal ", report_term:text(Reason), fate(Fate)];
-deed({down, Reference, Fate}) -> ["down signal ", report_term:text(Reference), fate(Fate)].
+deed({exit, _, {message, Term}}) -> deed({brings, Term});
+deed({down, _, {message, Term}}) -> deed({brings, Term});
+deed({exit, Reason, Fate}) -> ["exit signal ", report_term:text(Reason), " -> ", fate(Fate)];
+deed({down, Reference, Fate}) -> ["signal of the watch ", report_term:text(Reference), " -> ", fate(Fate)].
 
 %% The answer of a send is its message, and tells nothing.
 answer('!', {ok, _}) -> "";
@@ -41,9 +43,8 @@ answer(_, {ok, Term}) -> [" -> ", report_term:text(Term)];
 answer(_, {refused, Text}) -> [" -> ", Text];
 answer(_, {ends, Reason}) -> [" -> ends ", report_term:text(Reason)].
 
-fate({ends, Reason}) -> [" -> ends ", report_term:text(Reason)];
-fate({message, Term}) -> [" -> ", report_term:text(Term)];
-fate(Fate) -> [" -> ", atom_to_list(Fate)].
+fate({ends, Reason}) -> ["ends ", report_term:text(Reason)];
+fate(Fate) -> atom_to_list(Fate).
 
 %% What a finding is.
 identity({ends, Name, Reason}) -> [Name, " ends ", report_term:text(Reason)];
