@@ -60,7 +60,7 @@ finding(Work, Place, {Kind, Number, Identity, Schedule}) ->
     Title = [atom_to_list(Kind), " ", integer_to_list(Number), ": ", report_text:identity(Read)],
     case Kind of
         error ->
-            print(["\n", Title, "\n  ", Schedule, "\n", report_text:transcript(Read, Told)]),
+            print(["\n", Title, "\n", report_text:schedule(Schedule), report_text:transcript(Read, Told)]),
             draw(Work, ["error_", integer_to_list(Number)], Title, Read, Told);
         refusal -> print(report_text:refusal(Title, Schedule, Told))
     end,

@@ -1,6 +1,6 @@
 %% The report for people.
 -module(report_text).
--export([call/3, deed/1, identity/1, place/1, role/2, head/3, tail/3, transcript/2, waits/2, stands/2, who/1, refusal/3]).
+-export([call/3, deed/1, identity/1, place/1, role/2, head/3, tail/3, schedule/1, transcript/2, waits/2, stands/2, who/1, refusal/3]).
 -include("report.hrl").
 
 -define(GREATEST_COLUMN, 76).
@@ -102,6 +102,9 @@ result(_, true, _, First) -> ["incomplete (", First, ")"].
 
 depth(First) -> hd(string:lexemes(First, "depth ,")).
 
+%% A schedule as the words with which it is shown again.
+schedule(Schedule) -> ["  --replay \"", Schedule, "\"\n"].
+
 %% A transcript: what the processes are, each event with its place, and who waits for ever where it is a deadlock.
 transcript(Finding, #{events := Events, places := Places} = Told) ->
     Width = lists:max([length(who(Who)) || Who <- waiters(Finding) ++ [Who || #event{who = Who} <- Events]]),
@@ -145,4 +148,4 @@ line(Text, Where, Column) -> [Text, lists:duplicate(max(2, Column - length(Text)
 %% A refused call with the place from which it comes.
 refusal(Title, Schedule, #{events := Events, places := Places}) ->
     Place = maps:get((lists:last(Events))#event.number, Places, none),
-    ["\n", in_columns([{Title, Place}]), "  ", Schedule, "\n"].
+    ["\n", in_columns([{Title, Place}]), schedule(Schedule)].
