@@ -20,7 +20,7 @@ beam(Source, Out) -> filename:join(Out, filename:basename(Source, ".erl") ++ ".b
 
 is_older(Beam, Newest) ->
     Time = filelib:last_modified(Beam),
-    Time =:= 0 orelse Time < Newest.
+    Time =:= 0 orelse Time =< Newest.
 
 %% A module is written under another name first, so that two who compile at the same time do not meet.
 compile(Source, Out) ->

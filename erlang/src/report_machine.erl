@@ -109,9 +109,8 @@ perform(Boss, Start, {Own, Named}) ->
     put('$boss', Boss),
     put('$events', Own),
     put('$named', Named),
-    put('$place', none),
     ended(try begin_with(Start) of _ -> {{atom, normal}, none}
-          catch Class:Reason:Stack -> {reason(Class, of_real(Reason)), end_place(Stack)}
+          catch Class:Reason:Stack -> {reason(Class, of_real(Reason)), source_of(Stack)}
           end).
 
 begin_with(first) -> apply(report_instrument:name(), report_instrument:first(), []);
@@ -137,7 +136,6 @@ ended({Reason, Place}) ->
 %% A call of processes or tables.
 ask(Place, Module, Function, Arguments) ->
     Here = place(Place),
-    put('$place', Here),
     Asked = [of_real(Argument) || Argument <- Arguments],
     case next() of
         #event{number = Number, deed = {call, Module, Function, Asked, Answer}} ->
@@ -157,7 +155,6 @@ answer({ends, _}) -> tell(ended), stop().
 wait(Place, Timeout) ->
     is_timeout(Timeout) orelse erlang:error(timeout_value),
     Here = place(Place),
-    put('$place', Here),
     put('$taken', none),
     case next() of
         #event{number = Number, deed = {receives, Term}} = Event ->
@@ -244,7 +241,3 @@ library(Names) ->
         [Module | _] -> {library, Module};
         [] -> none
     end.
-
-%% Where an exception comes from: from the request that was refused, or from where the stack begins.
-end_place([{?MODULE, _, _, _} | _]) -> get('$place');
-end_place(Stack) -> source_of(Stack).
