@@ -26,7 +26,7 @@ prepare(File, Source) ->
     case report_instrument:module(read(File), Source) of
         {ok, Module, First, Code} -> report_machine:load(Code), {Module, First};
         {error, Reason} ->
-            complain("the lines of the source are not known: ~0tp", [Reason]),
+            complain("there are no lines, since the Erlang machine does not take the module: ~0tp", [Reason]),
             {none, "main/0"}
     end.
 
@@ -49,18 +49,21 @@ replayed(Work) ->
 explored(Work, Coverage) ->
     {First, Findings, _} = report_reader:report(read(filename:join(Work#work.folder, "report"))),
     print(report_text:head(Work#work.source, Coverage, First)),
-    Told = [finding(Work, Place, Finding) || {Place, Finding} <- lists:enumerate(Findings)],
+    Errors = [{Number, report_reader:identity(Identity)} || {error, Number, Identity, _} <- Findings],
+    Told = [finding(Work, Place, Finding, Errors) || {Place, Finding} <- lists:enumerate(Findings)],
     print(report_text:tail(Coverage, First, Findings)),
     disagreements(Told).
 
 %% One finding: an error with all that leads to it, a refusal with its last event.
-finding(Work, Place, {Kind, Number, Identity, Schedule}) ->
+finding(Work, Place, {Kind, Number, Identity, Schedule}, Errors) ->
     Told = told(Work, read(filename:join([Work#work.folder, "transcripts", integer_to_list(Place)]))),
     Read = report_reader:identity(Identity),
     Title = [atom_to_list(Kind), " ", integer_to_list(Number), ": ", report_text:identity(Read)],
     case Kind of
         error ->
-            print(["\n", Title, "\n", report_text:schedule(Schedule), report_text:transcript(Read, Told)]),
+            Earlier = report_story:earlier(Read, Errors, maps:get(events, Told)),
+            print(["\n", Title, "\n", report_text:schedule(Schedule), report_text:earlier(Earlier),
+                   report_text:transcript(Read, Told)]),
             draw(Work, ["error_", integer_to_list(Number)], Title, Read, Told);
         refusal -> print(report_text:refusal(Title, Schedule, Told))
     end,

@@ -1,7 +1,7 @@
 %% What a transcript tells beyond its lines: what each process is, which send a delivery comes from, and which messages
 %% nobody took.
 -module(report_story).
--export([processes/1, roles/2, places/2, mailboxes/1, schedule/1]).
+-export([processes/1, roles/2, places/2, mailboxes/1, schedule/1, earlier/3]).
 -include("report.hrl").
 
 %% The names of the processes, in the order in which they appear.
@@ -27,10 +27,27 @@ schedule(Events) -> lists:join(" ", [step(Who) || #event{who = Who} <- Events]).
 step({From, To}) -> [From, ">", To];
 step(Name) -> Name.
 
+%% The first of the other errors that a transcript shows on its way, with the number of the event: {Error, Event}, or
+%% none. Errors are {Number, Identity}.
+earlier(Identity, Errors, Events) ->
+    Shown = [{Error, Event#event.number} ||
+        Event <- Events, {Error, Other} <- Errors, Other =/= Identity, lists:member(Other, shown(Event))],
+    case Shown of
+        [First | _] -> First;
+        [] -> none
+    end.
+
+%% What an event shows that is an error.
+shown(#event{who = {_, To}, deed = Deed}) -> [{ends, To, Reason} || Reason <- ends(Deed)];
+shown(#event{who = Name, deed = {ends, Reason}}) -> [{ends, Name, Reason}];
+shown(#event{who = Name, deed = {call, _, _, _, {ends, Reason}}}) -> [{ends, Name, Reason}];
+shown(#event{who = Name, deed = runaway}) -> [{runaway, Name}];
+shown(_) -> [].
+
 %% ---- deliveries
 
-%% The places of all events, where those of turns are known: a delivery has that of the send, of the exit/2 or of the end
-%% that it comes from.
+%% The places of all events, where those of turns are known: a delivery has that of the send, of the exit/2 or of the
+%% end that it comes from.
 places(Events, Lines) ->
     {Places, _} = lists:foldl(fun place/2, {Lines, []}, Events),
     Places.

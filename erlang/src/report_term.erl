@@ -13,8 +13,8 @@ read("{" ++ Rest) -> {Terms, Behind} = read_parts(Rest, $}, []), {{tuple, Terms}
 read("[" ++ Rest) -> read_list(Rest, []);
 read("#P" ++ Rest) -> {Path, Behind} = read_path(Rest), {{ref, "#P" ++ Path}, Behind};
 read("P" ++ Rest) -> {Path, Behind} = read_path(Rest), {{pid, "P" ++ Path}, Behind};
-read("-" ++ Rest) -> {Digits, Behind} = lists:splitwith(fun is_digit/1, Rest), {{int, -list_to_integer(Digits)}, Behind};
-read(Text) -> {Digits, Behind} = lists:splitwith(fun is_digit/1, Text), {{int, list_to_integer(Digits)}, Behind}.
+read("-" ++ Rest) -> {N, Behind} = read_number(Rest), {{int, -N}, Behind};
+read(Text) -> {N, Behind} = read_number(Text), {{int, N}, Behind}.
 
 %% The arguments of a call, from behind the opening bracket.
 read_arguments(Text) -> read_parts(Text, $), []).
@@ -29,6 +29,10 @@ read_list("|" ++ Rest, Terms) -> {Tail, "]" ++ Behind} = read(Rest), {{list, lis
 read_list(Text, Terms) -> {Term, Rest} = read(Text), read_list(Rest, [Term | Terms]).
 
 read_path(Text) -> lists:splitwith(fun(C) -> C =:= $. orelse is_digit(C) end, Text).
+
+read_number(Text) ->
+    {Digits, Behind} = lists:splitwith(fun is_digit/1, Text),
+    {list_to_integer(Digits), Behind}.
 
 is_digit(C) -> C >= $0 andalso C =< $9.
 
@@ -97,7 +101,7 @@ is_string(Terms) ->
     Letters = length([C || {int, C} <- Terms, is_letter(C)]),
     length(Terms) >= 3 andalso lists:all(fun is_printable/1, Terms) andalso 2 * Letters >= length(Terms).
 
-is_printable({int, C}) -> C >= 32 andalso C < 127 orelse C =:= $\n orelse C =:= $\t;
+is_printable({int, C}) -> C >= 32 andalso C < 127 orelse C >= 192 andalso C < 256 orelse C =:= $\n orelse C =:= $\t;
 is_printable(_) -> false.
 
 is_letter(C) -> (C >= $a andalso C =< $z) orelse (C >= $A andalso C =< $Z).

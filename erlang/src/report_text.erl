@@ -1,6 +1,7 @@
 %% The report for people.
 -module(report_text).
--export([call/3, deed/1, identity/1, place/1, role/2, head/3, tail/3, schedule/1, transcript/2, waits/2, stands/2, who/1, refusal/3]).
+-export([call/3, deed/1, identity/1, place/1, role/2, waits/2, stands/2]).
+-export([head/3, tail/3, schedule/1, earlier/1, transcript/2, refusal/3]).
 -include("report.hrl").
 
 -define(GREATEST_COLUMN, 76).
@@ -104,6 +105,10 @@ depth(First) -> hd(string:lexemes(First, "depth ,")).
 
 %% A schedule as the words with which it is shown again.
 schedule(Schedule) -> ["  --replay \"", Schedule, "\"\n"].
+
+%% An error that another one comes after may follow from it.
+earlier(none) -> "";
+earlier({Error, Event}) -> io_lib:format("  comes after error ~w (event ~w)~n", [Error, Event]).
 
 %% A transcript: what the processes are, each event with its place, and who waits for ever where it is a deadlock.
 transcript(Finding, #{events := Events, places := Places} = Told) ->
