@@ -24,12 +24,13 @@ is_older(Beam, Newest) ->
 
 %% A module is written under another name first, so that two who compile at the same time do not meet.
 compile(Source, Out) ->
-    case compile:file(Source, [binary, return_errors, report_errors]) of
-        {ok, Module, Code} ->
+    case compile:file(Source, [binary, return_errors]) of
+        {ok, _, Code} ->
             Beam = beam(Source, Out),
             Draft = Beam ++ "." ++ os:getpid(),
             ok = file:write_file(Draft, Code),
-            ok = file:rename(Draft, Beam),
-            Module;
-        _ -> halt(70)
+            ok = file:rename(Draft, Beam);
+        {error, Errors, _} ->
+            io:format(standard_error, "~ts: ~tp~n", [Source, Errors]),
+            halt(70)
     end.

@@ -17,10 +17,17 @@ module(Text, Source) ->
         {ok, Tokens, _} = core_scan:string(Text),
         {ok, Core} = core_parse:parse(Tokens),
         Name = cerl:concrete(cerl:module_name(Core)),
-        {ok, _, Code} = compile:forms(made(noted(Core, Source), Name), [from_core, binary]),
+        {ok, _, Code} = compile:forms(made(noted(Core, erlang_file(Source, Name)), Name), [from_core, binary]),
         {ok, Name, first_of(Core), Code}
     catch
         error:Reason -> {error, Reason}
+    end.
+
+%% The lines in a .core file are those of the source that it was made of.
+erlang_file(Source, Name) ->
+    case filename:extension(Source) of
+        ".core" -> atom_to_list(Name) ++ ".erl";
+        _ -> Source
     end.
 
 %% The module with the file beside each line, as the machine's own stack has it.

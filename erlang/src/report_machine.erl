@@ -9,11 +9,13 @@
 
 -record(played, {
     lines = #{},        % the place of each event, by its number
-    stands = #{},       % where each process stands that did not end: {What, Place}, by its name
+    stands = #{},       % the place where each process stands that did not end, by its name
     differs = []        % what the machine does otherwise
 }).
 
--define(PATIENCE, 2000).
+%% How many milliseconds a process may be silent: one that the transcript lets run away never tells anything more.
+-define(PATIENCE, 30000).
+-define(PATIENCE_WITH_RUNAWAYS, 500).
 -define(GREATEST_HEAP, 20000000).
 
 load(Code) ->
@@ -72,9 +74,13 @@ play_process({Name, Start}, Events, Named, Played) ->
     Pid = maps:get({pid, Name}, Named),
     Own = [Event || #event{who = Who} = Event <- Events, Who =:= Name],
     Ended = lists:any(fun(Event) -> ended_by(Name, Event) end, Events),
+    Patience = case lists:keymember(runaway, #event.deed, Own) of
+        true -> ?PATIENCE_WITH_RUNAWAYS;
+        false -> ?PATIENCE
+    end,
     Watch = monitor(process, Pid),
     Pid ! {play, self(), real_start(Start, Named), {Own, Named}},
-    listen(Name, Pid, Watch, Ended, Played).
+    listen(Name, {Pid, Watch, Patience}, Ended, Played).
 
 %% Whether a delivery ended the process.
 ended_by(Name, #event{who = {_, Name}, deed = Deed}) when is_tuple(Deed) ->
@@ -88,20 +94,20 @@ real_start(first, _) -> first;
 real_start({Module, Function, Arguments}, Named) -> {Module, Function, report_term:real(Arguments, Named)}.
 
 %% Takes in what the process tells, until it stands, has ended or is lost.
-listen(Name, Pid, Watch, Ended, Played) ->
+listen(Name, {Pid, Watch, Patience} = Player, Ended, Played) ->
     receive
         {told, Pid, {line, Number, Place}} ->
             Lines = Played#played.lines,
-            listen(Name, Pid, Watch, Ended, Played#played{lines = Lines#{Number => Place}});
-        {told, Pid, {stands, _, _}} when Ended -> Played;
-        {told, Pid, {stands, What, Place}} ->
+            listen(Name, Player, Ended, Played#played{lines = Lines#{Number => Place}});
+        {told, Pid, {stands, _}} when Ended -> Played;
+        {told, Pid, {stands, Place}} ->
             Stands = Played#played.stands,
-            Played#played{stands = Stands#{Name => {What, Place}}};
+            Played#played{stands = Stands#{Name => Place}};
         {told, Pid, {differs, Text}} ->
             Played#played{differs = [Name ++ ": " ++ Text | Played#played.differs]};
         {told, Pid, ended} -> Played;
         {'DOWN', Watch, process, Pid, _} -> Played
-    after ?PATIENCE -> Played
+    after Patience -> Played
     end.
 
 perform(Boss, Start, {Own, Named}) ->
@@ -126,7 +132,7 @@ ended({Reason, Place}) ->
     case next() of
         #event{number = Number, deed = {ends, Reason}} -> tell({line, Number, Place}), tell(ended);
         #event{deed = runaway} -> tell(ended);
-        none -> tell({stands, "at its end", Place});
+        none -> tell({stands, Place});
         Event -> differ(Event, ["ends ", report_term:text(Reason)])
     end,
     stop().
@@ -141,7 +147,7 @@ ask(Place, Module, Function, Arguments) ->
         #event{number = Number, deed = {call, Module, Function, Asked, Answer}} ->
             tell({line, Number, Here}),
             answer(Answer);
-        none -> tell({stands, ["before ", report_text:call(Module, Function, Asked)], Here}), stop();
+        none -> tell({stands, Here}), stop();
         #event{deed = runaway} -> tell(ended), stop();
         Event -> differ(Event, ["asks ", report_text:call(Module, Function, Asked)])
     end.
@@ -162,7 +168,7 @@ wait(Place, Timeout) ->
             put('$taken', Event),
             self() ! report_term:real(Term, get('$named'));
         #event{number = Number, deed = timeout} when Timeout =/= infinity -> tell({line, Number, Here});
-        none -> tell({stands, "waits", Here}), stop();
+        none -> tell({stands, Here}), stop();
         #event{deed = runaway} -> tell(ended), stop();
         Event -> differ(Event, "waits for a message")
     end.

@@ -137,9 +137,7 @@ waiting(_, _, _) -> [].
 waits(Name, #{mailboxes := Boxes}) ->
     ["waits for ever, mailbox ", report_term:text({list, maps:get(Name, Boxes, []), nil})].
 
-stands(Name, #{stands := Stands}) ->
-    {_, Place} = maps:get(Name, Stands, {"waits", none}),
-    Place.
+stands(Name, #{stands := Stands}) -> maps:get(Name, Stands, none).
 
 %% Lines whose places stand in one column, a little further right than most lines reach.
 in_columns(Lines) ->
