@@ -73,11 +73,16 @@ place({File, Line}) -> [File, ":", integer_to_list(Line)].
 %% ---- the report
 
 %% The first line: what was explored.
-head(Source, Coverage, First) -> [Source, ": ", explored(Coverage), visited(First), "\n"].
+head(Source, Coverage, First) ->
+    [Source, ": ", explored(is_incomplete(First)), to_depth(Coverage, First), visited(First), "\n"].
 
-explored(["all", _]) -> "all schedules";
-explored(["limit", _]) -> "not all schedules";
-explored([_, Depth]) -> ["all schedules of at most ", Depth, " steps"].
+explored(true) -> "not all schedules";
+explored(false) -> "all schedules".
+
+to_depth(["all", _], _) -> "";
+to_depth(_, First) -> [" of at most ", depth(First), " steps"].
+
+is_incomplete(First) -> string:find(First, "incomplete") =/= nomatch.
 
 visited(First) ->
     case string:split(First, ", nodes ") of
@@ -89,18 +94,19 @@ visited(First) ->
 tail(Coverage, First, Findings) ->
     Errors = length([error || {error, _, _, _} <- Findings]),
     Refusals = length(Findings) - Errors,
-    Incomplete = string:find(First, "incomplete") =/= nomatch,
     ["\nerrors ", integer_to_list(Errors), ", refusals ", integer_to_list(Refusals), "\n",
-     "result: ", result(Errors, Incomplete, Coverage, First), "\n"].
+     "result: ", result(Errors, is_incomplete(First), Coverage, First), "\n"].
 
 result(0, false, ["all", _], _) -> "clean, all schedules";
-result(0, false, ["limit", Depth], First) ->
-    ["clean to depth ", depth(First), "; depth ", Depth, " has more nodes than may be visited (--nodes N)"];
+result(Errors, false, ["limit", Depth], First) ->
+    [if Errors =:= 0 -> "clean"; true -> "errors" end, " to depth ", depth(First), "; depth ", Depth,
+     " has more nodes than may be visited (--nodes N)"];
 result(0, false, [_, Depth], _) -> ["clean to depth ", Depth, "; longer schedules were not explored"];
 result(_, false, ["all", _], _) -> "errors, all schedules";
 result(_, false, [_, Depth], _) -> ["errors to depth ", Depth, "; longer schedules were not explored"];
-result(_, true, _, First) -> ["incomplete (", First, ")"].
+result(_, true, [_, Depth], First) -> [lists:last(string:split(First, ", ")), " at depth ", Depth].
 
+%% The depth that the program tells.
 depth(First) -> hd(string:lexemes(First, "depth ,")).
 
 %% A schedule as the words with which it is shown again.
