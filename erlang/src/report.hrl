@@ -1,0 +1,7 @@
+%% What happened in one step, as a line of a transcript tells it.
+%%   who    the name of the process whose turn it was, or {From, To} of a delivery
+%%   deed   {call, Module, Function, Arguments, Answer}, where an answer is {ok, Term}, {refused, Text} or {ends, Term};
+%%          {receives, Term}; timeout; {ends, Term}; runaway;
+%%          {brings, Term}; {exit, Reason, Fate}; {down, Reference, Fate}, where a fate is {ends, Term},
+%%          ignored, dropped, or {message, Term}
+-record(event, {number, who, deed}).

@@ -1,0 +1,153 @@
+%% Makes of a Core module one that the machine can play with the answers of a transcript.
+%%
+%% Each call of processes and tables asks report_machine in its place, and each receive asks it for its message. The
+%% lines are those of the annotations on calls, receives and applications: [Line], or [Line, {file, File}] where it is
+%% another file than the source. The module that is made has a name of its own, so that it takes the place of no module
+%% of the machine.
+-module(report_instrument).
+-export([module/2, name/0, first/0]).
+
+%% The name of the module that is made, and that of its function which is what the first process runs.
+name() -> '$played'.
+first() -> '$first'.
+
+%% The name of the module that a text spells, what its first process runs, and its code; or why there is none.
+module(Text, Source) ->
+    try
+        {ok, Tokens, _} = core_scan:string(Text),
+        {ok, Core} = core_parse:parse(Tokens),
+        Name = cerl:concrete(cerl:module_name(Core)),
+        {ok, _, Code} = compile:forms(made(noted(Core, erlang_file(Source, Name)), Name), [from_core, binary]),
+        {ok, Name, first_of(Core), Code}
+    catch
+        error:Reason -> {error, Reason}
+    end.
+
+%% The lines in a .core file are those of the source that it was made of.
+erlang_file(Source, Name) ->
+    case filename:extension(Source) of
+        ".core" -> atom_to_list(Name) ++ ".erl";
+        _ -> Source
+    end.
+
+%% The module with the file beside each line, as the machine's own stack has it.
+noted(Core, Source) -> cerl_trees:map(fun(Tree) -> cerl:set_ann(Tree, notes(cerl:get_ann(Tree), Source)) end, Core).
+
+notes(Notes, Source) ->
+    Lines = [Line || Line <- Notes, is_integer(Line)] ++
+        [Line || {Line, Column} <- Notes, is_integer(Line), is_integer(Column)],
+    Files = [filename:basename(File) || {file, File} <- Notes],
+    case Lines of
+        [] -> [];
+        [Line | _] -> [Line, {file, hd(Files ++ [Source])}]
+    end.
+
+made(Core, Name) ->
+    First = cerl:c_fname(first(), 0),
+    Main = cerl:c_fun([], cerl:c_apply(cerl:c_fname(main, 0), [])),
+    Functions = [{Var, played(Fun, Name)} || {Var, Fun} <- cerl:module_defs(Core)],
+    cerl:c_module(cerl:abstract(name()), [First | cerl:module_exports(Core)], [], [{First, Main} | Functions]).
+
+%% What the first process runs: main/0, or the function that main/0 does no more than apply.
+first_of(Core) ->
+    [Main] = [Fun || {Var, Fun} <- cerl:module_defs(Core), cerl:var_name(Var) =:= {main, 0}],
+    Body = cerl:fun_body(Main),
+    {Name, Arity} = case cerl:type(Body) =:= apply andalso cerl:apply_args(Body) =:= [] of
+        true -> cerl:var_name(cerl:apply_op(Body));
+        false -> {main, 0}
+    end,
+    lists:flatten(io_lib:format("~tw/~w", [Name, Arity])).
+
+%% A tree with its requests asked of the transcript.
+played(Tree, Name) ->
+    Below = fun(Part) -> played(Part, Name) end,
+    case cerl:type(Tree) of
+        call -> call(inside(Tree, Below), Name);
+        'receive' -> waiting(inside(Tree, Below));
+        apply -> applied(inside(Tree, Below));
+        'catch' -> caught(cerl:catch_body(inside(Tree, Below)));
+        primop -> raised(inside(Tree, Below));
+        _ -> inside(Tree, Below)
+    end.
+
+inside(Tree, Below) ->
+    case cerl:subtrees(Tree) of
+        [] -> Tree;
+        Groups -> cerl:update_tree(Tree, [[Below(Part) || Part <- Group] || Group <- Groups])
+    end.
+
+call(Tree, Name) ->
+    Module = atom_of(cerl:call_module(Tree)),
+    Function = atom_of(cerl:call_name(Tree)),
+    Arguments = cerl:call_args(Tree),
+    case is_request(Module, Function, length(Arguments)) of
+        true ->
+            What = [place(Tree), cerl:abstract(Module), cerl:abstract(Function), cerl:make_list(Arguments)],
+            kept(ask(cerl:get_ann(Tree), ask, What));
+        false when Module =:= Name -> cerl:update_c_call(Tree, cerl:abstract(name()), cerl:call_name(Tree), Arguments);
+        false -> Tree
+    end.
+
+atom_of(Tree) ->
+    case cerl:is_c_atom(Tree) of
+        true -> cerl:atom_val(Tree);
+        false -> none
+    end.
+
+%% The calls of processes and tables: those that a process does not answer by itself.
+is_request(ets, _, _) -> true;
+is_request(erlang, Function, Arity) ->
+    lists:member({Function, Arity}, [
+        {spawn, 3}, {spawn_link, 3}, {spawn_monitor, 3}, {'!', 2}, {send, 2}, {exit, 2}, {link, 1}, {unlink, 1},
+        {monitor, 2}, {demonitor, 1}, {demonitor, 2}, {process_flag, 2}, {register, 2}, {unregister, 1}, {whereis, 1},
+        {is_process_alive, 1}, {make_ref, 0}]);
+is_request(_, _, _) -> false.
+
+ask(Notes, Function, Arguments) ->
+    cerl:ann_c_call(Notes, cerl:abstract(report_machine), cerl:abstract(Function), Arguments).
+
+%% The message is there before the receive begins, or else it does not come: so it need not wait.
+waiting(Tree) ->
+    Notes = cerl:get_ann(Tree),
+    Late = cerl:c_seq(ask([], not_taken, []), cerl:receive_action(Tree)),
+    Receive = cerl:update_c_receive(Tree, cerl:receive_clauses(Tree), cerl:abstract(0), Late),
+    cerl:c_seq(ask(Notes, wait, [place(Tree), cerl:receive_timeout(Tree)]), Receive).
+
+applied(Tree) ->
+    case cerl:get_ann(Tree) of
+        [] -> Tree;
+        _ -> kept(Tree)
+    end.
+
+%% A request, or an application in the source, leaves its caller on the stack, so that the line is found from which a
+%% library function was called.
+kept(Tree) ->
+    Value = cerl:c_var('Kept@'),
+    cerl:c_let([Value], Tree, cerl:c_seq(ask([], back, []), Value)).
+
+%% What a catch gives has no stack in it.
+caught(Body) ->
+    [Value, Class, Reason, Trace] = [cerl:c_var(V) || V <- ['Value@', 'Class@', 'Reason@', 'Trace@']],
+    cerl:c_try(Body, [Value], Value, [Class, Reason, Trace], ask([], caught, [Class, Reason])).
+
+%% The exception whose trace is no more than its class.
+raised(Tree) ->
+    case {atom_of(cerl:primop_name(Tree)), cerl:primop_args(Tree)} of
+        {raise, [Trace, Reason]} -> raised(Tree, Trace, Reason);
+        _ -> Tree
+    end.
+
+raised(Tree, Trace, Reason) ->
+    case cerl:is_c_tuple(Trace) andalso cerl:tuple_es(Trace) of
+        [Mark, Class] ->
+            true = cerl:is_c_atom(Mark) andalso cerl:atom_val(Mark) =:= '$trace',
+            ask(cerl:get_ann(Tree), raised, [Class, Reason]);
+        _ -> Tree
+    end.
+
+%% Where a tree stands in the source: {File, Line}, or none.
+place(Tree) ->
+    cerl:abstract(case cerl:get_ann(Tree) of
+        [Line, {file, File}] -> {File, Line};
+        [] -> none
+    end).

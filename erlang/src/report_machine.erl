@@ -1,0 +1,249 @@
+%% Plays a transcript on the machine: each process alone, with the answers and messages that the transcript gives it.
+%%
+%% So each request gets the line of the source that makes it, and each process that did not end the line where it
+%% stands. The machine is a second witness besides: where it asks otherwise than the transcript says, that is told.
+-module(report_machine).
+-export([load/1, play/2]).
+-export([ask/4, wait/2, not_taken/0, back/0, caught/2, raised/2]).
+-include("report.hrl").
+
+-record(played, {
+    lines = #{},        % the place of each event, by its number
+    stands = #{},       % the place where each process stands that did not end, by its name
+    differs = []        % what the machine does otherwise
+}).
+
+%% How many milliseconds a process may be silent: one that the transcript lets run away never tells anything more.
+-define(PATIENCE, 30000).
+-define(PATIENCE_WITH_RUNAWAYS, 500).
+-define(GREATEST_HEAP, 20000000).
+
+load(Code) ->
+    Name = report_instrument:name(),
+    {module, Name} = code:load_binary(Name, atom_to_list(Name), Code),
+    erlang:system_flag(backtrace_depth, 200),
+    ok.
+
+%% Plays the events of a transcript of a module.
+play(Module, Events) ->
+    Named = names(Events),
+    Result = lists:foldl(fun(Start, Played) -> play_process(Start, Events, Named, Played) end,
+                         #played{}, [{"P", first} | starts(Module, Events)]),
+    [exit(Pid, kill) || Pid <- maps:values(Named), is_pid(Pid)],
+    #{lines => Result#played.lines, stands => Result#played.stands, differs => lists:reverse(Result#played.differs)}.
+
+%% ---- names
+
+%% A process or a reference of the machine for each name, in the same order.
+names(Events) ->
+    Told = [{pid, "P"} | lists:flatmap(fun names_of_event/1, Events)],
+    Sorted = fun(Kind) -> [Name || {_, Name} <- lists:usort([{path(N), {K, N}} || {K, N} <- Told, K =:= Kind])] end,
+    Pids = Sorted(pid),
+    References = Sorted(ref),
+    maps:from_list(lists:zip(Pids, lists:sort([spawn(fun stage/0) || _ <- Pids])) ++
+                   lists:zip(References, lists:sort([make_ref() || _ <- References]))).
+
+path(Name) -> [list_to_integer(Part) || Part <- tl(string:split(Name, ".", all))].
+
+names_of_event(#event{who = {From, To}, deed = Deed}) -> [{pid, From}, {pid, To} | names_of_deed(Deed)];
+names_of_event(#event{who = Name, deed = Deed}) -> [{pid, Name} | names_of_deed(Deed)].
+
+names_of_deed({call, _, _, Arguments, {ok, Term}}) -> lists:flatmap(fun report_term:names/1, [Term | Arguments]);
+names_of_deed({call, _, _, Arguments, _}) -> lists:flatmap(fun report_term:names/1, Arguments);
+names_of_deed({exit, Reason, _}) -> report_term:names(Reason);
+names_of_deed({down, Reference, {message, Term}}) -> report_term:names(Reference) ++ report_term:names(Term);
+names_of_deed({_, Term}) -> report_term:names(Term);
+names_of_deed(_) -> [].
+
+%% What each process that was spawned began with; in another module there is nothing.
+starts(Own, Events) ->
+    [{Child, {if Module =:= Own -> report_instrument:name(); true -> none end, Function, Arguments}} ||
+        #event{deed = {call, erlang, Spawn, [{atom, Module}, {atom, Function}, Arguments], {ok, Answer}}} <- Events,
+        lists:member(Spawn, [spawn, spawn_link, spawn_monitor]), Child <- [child(Answer)]].
+
+child({pid, Name}) -> Name;
+child({tuple, [{pid, Name}, _]}) -> Name.
+
+%% ---- one process
+
+%% A process of the machine waits on the stage until it is told what to play.
+stage() ->
+    receive {play, Boss, Start, Script} -> perform(Boss, Start, Script) end.
+
+play_process({Name, Start}, Events, Named, Played) ->
+    Pid = maps:get({pid, Name}, Named),
+    Own = [Event || #event{who = Who} = Event <- Events, Who =:= Name],
+    Ended = lists:any(fun(Event) -> ended_by(Name, Event) end, Events),
+    Patience = case lists:keymember(runaway, #event.deed, Own) of
+        true -> ?PATIENCE_WITH_RUNAWAYS;
+        false -> ?PATIENCE
+    end,
+    Watch = monitor(process, Pid),
+    Pid ! {play, self(), real_start(Start, Named), {Own, Named}},
+    listen(Name, {Pid, Watch, Patience}, Ended, Played).
+
+%% Whether a delivery ended the process.
+ended_by(Name, #event{who = {_, Name}, deed = Deed}) when is_tuple(Deed) ->
+    case element(tuple_size(Deed), Deed) of
+        {ends, _} -> true;
+        _ -> false
+    end;
+ended_by(_, _) -> false.
+
+real_start(first, _) -> first;
+real_start({Module, Function, Arguments}, Named) -> {Module, Function, report_term:real(Arguments, Named)}.
+
+%% Takes in what the process tells, until it stands, has ended or is lost.
+listen(Name, {Pid, Watch, Patience} = Player, Ended, Played) ->
+    receive
+        {told, Pid, {line, Number, Place}} ->
+            Lines = Played#played.lines,
+            listen(Name, Player, Ended, Played#played{lines = Lines#{Number => Place}});
+        {told, Pid, {stands, _}} when Ended -> Played;
+        {told, Pid, {stands, Place}} ->
+            Stands = Played#played.stands,
+            Played#played{stands = Stands#{Name => Place}};
+        {told, Pid, {differs, Text}} ->
+            Played#played{differs = [Name ++ ": " ++ Text | Played#played.differs]};
+        {told, Pid, ended} -> Played;
+        {'DOWN', Watch, process, Pid, _} -> Played
+    after Patience -> Played
+    end.
+
+perform(Boss, Start, {Own, Named}) ->
+    process_flag(max_heap_size, #{size => ?GREATEST_HEAP, kill => true, error_logger => false}),
+    put('$boss', Boss),
+    put('$events', Own),
+    put('$named', Named),
+    ended(try begin_with(Start) of _ -> {{atom, normal}, none}
+          catch Class:Reason:Stack -> {reason(Class, of_real(Reason)), source_of(Stack)}
+          end).
+
+begin_with(first) -> apply(report_instrument:name(), report_instrument:first(), []);
+begin_with({none, _, _}) -> erlang:error(undef);
+begin_with({Module, Function, Arguments}) -> apply(Module, Function, Arguments).
+
+reason(exit, Reason) -> Reason;
+reason(error, Reason) -> {tuple, [Reason, {list, [], nil}]};
+reason(throw, Value) -> {tuple, [{tuple, [{atom, nocatch}, Value]}, {list, [], nil}]}.
+
+%% The end of a process, compared with what the transcript says next.
+ended({Reason, Place}) ->
+    case next() of
+        #event{number = Number, deed = {ends, Reason}} -> tell({line, Number, Place}), tell(ended);
+        #event{deed = runaway} -> tell(ended);
+        none -> tell({stands, Place});
+        Event -> differ(Event, ["ends ", report_term:text(Reason)])
+    end,
+    stop().
+
+%% ---- what the module asks
+
+%% A call of processes or tables.
+ask(Place, Module, Function, Arguments) ->
+    Here = place(Place),
+    Asked = [of_real(Argument) || Argument <- Arguments],
+    case next() of
+        #event{number = Number, deed = {call, Module, Function, Asked, Answer}} ->
+            tell({line, Number, Here}),
+            answer(Answer);
+        none -> tell({stands, Here}), stop();
+        #event{deed = runaway} -> tell(ended), stop();
+        Event -> differ(Event, ["asks ", report_text:call(Module, Function, Asked)])
+    end.
+
+answer({ok, Term}) -> report_term:real(Term, get('$named'));
+answer({refused, "noproc"}) -> erlang:error(noproc);
+answer({refused, _}) -> erlang:error(badarg);
+answer({ends, _}) -> tell(ended), stop().
+
+%% A receive, before it looks for its message.
+wait(Place, Timeout) ->
+    is_timeout(Timeout) orelse erlang:error(timeout_value),
+    Here = place(Place),
+    put('$taken', none),
+    case next() of
+        #event{number = Number, deed = {receives, Term}} = Event ->
+            tell({line, Number, Here}),
+            put('$taken', Event),
+            self() ! report_term:real(Term, get('$named'));
+        #event{number = Number, deed = timeout} when Timeout =/= infinity -> tell({line, Number, Here});
+        none -> tell({stands, Here}), stop();
+        #event{deed = runaway} -> tell(ended), stop();
+        Event -> differ(Event, "waits for a message")
+    end.
+
+is_timeout(infinity) -> true;
+is_timeout(Timeout) -> is_integer(Timeout) andalso Timeout >= 0 andalso Timeout =< 16#ffffffff.
+
+%% A receive took no message: right where the transcript gave it none.
+not_taken() ->
+    case get('$taken') of
+        none -> ok;
+        Event -> differ(Event, "does not take this message")
+    end.
+
+back() -> ok.
+
+caught(throw, Value) -> Value;
+caught(exit, Reason) -> {'EXIT', Reason};
+caught(error, Reason) -> {'EXIT', {Reason, []}}.
+
+raised(Class, Reason) -> erlang:raise(Class, Reason, []).
+
+%% ---- the script of a process
+
+%% The next event of this process, which is taken off.
+next() ->
+    case get('$events') of
+        [Event | Events] -> put('$events', Events), Event;
+        [] -> none
+    end.
+
+tell(What) -> get('$boss') ! {told, self(), What}.
+
+%% Nothing that the module could catch ends its part here.
+stop() -> receive {never, _, _, _} -> ok end.
+
+%% The limits of the explorer are not those of the machine, and where it ends for one there is nothing to compare.
+differ(#event{deed = {ends, {tuple, [{atom, system_limit}, _]}}}, _) -> tell(ended), stop();
+differ(#event{number = Number, deed = Deed}, Does) ->
+    tell({differs, lists:flatten(["at event ", integer_to_list(Number), " the transcript says \"",
+                                  report_text:deed(Deed), "\", and the machine ", Does])}),
+    stop().
+
+of_real(Term) ->
+    Names = case get('$names') of
+        undefined -> maps:from_list([{Real, Name} || {Name, Real} <- maps:to_list(get('$named'))]);
+        Known -> Known
+    end,
+    put('$names', Names),
+    report_term:of_real(Term, Names).
+
+%% ---- places
+
+%% The place that a reader looks for: where a library function asks, that of the source which called it.
+place(none) ->
+    {current_stacktrace, Stack} = process_info(self(), current_stacktrace),
+    source_of(Stack);
+place(Place) -> Place.
+
+%% The innermost call on a stack that stands in the source, or the library where there is none.
+source_of(Stack) ->
+    Name = report_instrument:name(),
+    Own = [Frame || {Module, _, _, _} = Frame <- Stack, Module =:= Name],
+    case [{File, Line} || {_, _, _, Note} <- Own, {file, File} <- Note, {line, Line} <- Note] of
+        [Place | _] -> Place;
+        [] -> library([atom_to_list(Function) || {_, Function, _, _} <- Own])
+    end.
+
+%% The library whose copy in the converted module is at work, as gen_server of 'gen_server:call' and of
+%% 'fun in gen_server start'.
+library(Names) ->
+    Found = [Module || Name <- Names,
+                       {match, [_, Module]} <- [re:run(Name, "^([a-z]+ (?:in|of) )?([a-z_]+)[: ][a-z]",
+                                                       [{capture, all_but_first, list}])]],
+    case [Module || Module <- Found, Module =/= "apply"] of
+        [Module | _] -> {library, Module};
+        [] -> none
+    end.

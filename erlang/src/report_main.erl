@@ -1,0 +1,104 @@
+%% From the files of an exploration to what people read.
+%%
+%% The folder of the exploration has the report of the program (`report`), the transcripts of its findings
+%% (`transcripts/1`, `transcripts/2` ..), and the module (`module.core`),
+%% which has the lines of its source as annotations.
+-module(report_main).
+-export([main/1]).
+-include("report.hrl").
+
+%% What a report is made with: the name of the source, the module that the machine plays, what the first process runs,
+%% and what is drawn.
+-record(work, {folder, source, module, first, chart, drawings}).
+
+main([Kind, Folder, Source, Coverage, Chart, Drawings]) ->
+    ok = io:setopts(standard_io, [{encoding, unicode}]),
+    {Module, First} = prepare(filename:join(Folder, "module.core"), filename:basename(Source)),
+    Work = #work{folder = Folder, source = filename:basename(Source), module = Module, first = First,
+                 chart = Chart =:= "yes", drawings = Drawings},
+    case Kind of
+        "explore" -> explored(Work, string:lexemes(Coverage, " "));
+        "replay" -> replayed(Work)
+    end.
+
+%% The module to be played, or none where the machine does not take it; and what its first process runs.
+prepare(File, Source) ->
+    case report_instrument:module(read(File), Source) of
+        {ok, Module, First, Code} -> report_machine:load(Code), {Module, First};
+        {error, Reason} ->
+            complain("there are no lines, since the Erlang machine does not take the module: ~0tp", [Reason]),
+            {none, "main/0"}
+    end.
+
+read(File) ->
+    {ok, Bytes} = file:read_file(File),
+    unicode:characters_to_list(Bytes).
+
+complain(Format, Arguments) -> io:format(standard_error, "explore: " ++ Format ++ "~n", Arguments).
+
+%% ---- one schedule
+
+replayed(Work) ->
+    Told = told(Work, read(filename:join(Work#work.folder, "report"))),
+    print(report_text:transcript(replay, Told)),
+    draw(Work, "replay", report_story:schedule(maps:get(events, Told)), replay, Told),
+    disagreements([Told]).
+
+%% ---- an exploration
+
+explored(Work, Coverage) ->
+    {First, Findings, _} = report_reader:report(read(filename:join(Work#work.folder, "report"))),
+    print(report_text:head(Work#work.source, Coverage, First)),
+    Errors = [{Number, report_reader:identity(Identity)} || {error, Number, Identity, _} <- Findings],
+    Told = [finding(Work, Place, Finding, Errors) || {Place, Finding} <- lists:enumerate(Findings)],
+    print(report_text:tail(Coverage, First, Findings)),
+    disagreements(Told).
+
+%% One finding: an error with all that leads to it, a refusal with its last event.
+finding(Work, Place, {Kind, Number, Identity, Schedule}, Errors) ->
+    Told = told(Work, read(filename:join([Work#work.folder, "transcripts", integer_to_list(Place)]))),
+    Read = report_reader:identity(Identity),
+    Title = [atom_to_list(Kind), " ", integer_to_list(Number), ": ", report_text:identity(Read)],
+    case Kind of
+        error ->
+            Earlier = report_story:earlier(Read, Errors, maps:get(events, Told)),
+            print(["\n", Title, "\n", report_text:schedule(Schedule), report_text:earlier(Earlier),
+                   report_text:transcript(Read, Told)]),
+            draw(Work, ["error_", integer_to_list(Number)], Title, Read, Told);
+        refusal -> print(report_text:refusal(Title, Schedule, Told))
+    end,
+    Told.
+
+%% All that is told of a transcript: its events, their places, what the processes are, and what is left in mailboxes.
+told(Work, Text) ->
+    Events = report_reader:transcript(Text),
+    Played = case Work#work.module of
+        none -> #{lines => #{}, stands => #{}, differs => []};
+        Module -> report_machine:play(Module, Events)
+    end,
+    Played#{events => Events, places => report_story:places(Events, maps:get(lines, Played)),
+            roles => report_story:roles(Events, Work#work.first), mailboxes => report_story:mailboxes(Events)}.
+
+draw(Work, Name, Title, Finding, Told) ->
+    Rows = report_rows:rows(Finding, Told),
+    [print(["\n", report_chart:text(Rows)]) || Work#work.chart],
+    [write_drawing(Work#work.drawings, Name, report_drawing:text([Work#work.source, ", ", Title], Rows, Told)) ||
+        Work#work.drawings =/= ""].
+
+write_drawing(Folder, Name, Text) ->
+    File = filename:join(Folder, lists:flatten([Name, ".svg"])),
+    case filelib:ensure_dir(File) =:= ok andalso file:write_file(File, unicode:characters_to_binary(Text)) of
+        ok -> print(["  drawn: ", File, "\n"]);
+        _ -> complain("~ts cannot be written", [File])
+    end.
+
+%% The machine is a witness beside the program that explored: where they differ one of them is wrong.
+disagreements(Told) ->
+    case lists:usort(lists:flatmap(fun(One) -> maps:get(differs, One) end, Told)) of
+        [] -> ok;
+        Texts ->
+            print(["\nTHE ERLANG MACHINE DISAGREES with what was explored; please report this with the module:\n",
+                   [["  ", Text, "\n"] || Text <- Texts]])
+    end.
+
+print(Text) -> io:put_chars(standard_io, Text).

@@ -1,0 +1,140 @@
+%% What a transcript tells beyond its lines: what each process is, which send a delivery comes from, and which messages
+%% nobody took.
+-module(report_story).
+-export([processes/1, roles/2, places/2, mailboxes/1, schedule/1, earlier/3]).
+-include("report.hrl").
+
+%% The names of the processes, in the order in which they appear.
+processes(Events) ->
+    lists:foldl(fun(Name, Names) -> case lists:member(Name, Names) of true -> Names; false -> Names ++ [Name] end end,
+                ["P"], lists:flatmap(fun appearing/1, Events)).
+
+appearing(#event{who = {From, To}}) -> [From, To];
+appearing(#event{who = Name} = Event) -> [Name | [Child || {Child, _} <- spawned(Event)]].
+
+%% What an event spawned: the child, and what it begins with.
+spawned(#event{deed = {call, erlang, Spawn, [_, {atom, Name}, {list, Arguments, nil}], {ok, Answer}}})
+  when Spawn =:= spawn; Spawn =:= spawn_link; Spawn =:= spawn_monitor ->
+    Child = case Answer of {pid, Pid} -> Pid; {tuple, [{pid, Pid}, _]} -> Pid end,
+    [{Child, report_text:role(Name, Arguments)}];
+spawned(_) -> [].
+
+%% What each process runs; that of the first one is given.
+roles(Events, First) -> maps:from_list([{"P", First} | lists:flatmap(fun spawned/1, Events)]).
+
+schedule(Events) -> lists:join(" ", [step(Who) || #event{who = Who} <- Events]).
+
+step({From, To}) -> [From, ">", To];
+step(Name) -> Name.
+
+%% The first of the other errors that a transcript shows on its way, with the number of the event: {Error, Event}, or
+%% none. Errors are {Number, Identity}.
+earlier(Identity, Errors, Events) ->
+    Shown = [{Error, Event#event.number} ||
+        Event <- Events, {Error, Other} <- Errors, Other =/= Identity, lists:member(Other, shown(Event))],
+    case Shown of
+        [First | _] -> First;
+        [] -> none
+    end.
+
+%% What an event shows that is an error.
+shown(#event{who = {_, To}, deed = Deed}) -> [{ends, To, Reason} || Reason <- ends(Deed)];
+shown(#event{who = Name, deed = {ends, Reason}}) -> [{ends, Name, Reason}];
+shown(#event{who = Name, deed = {call, _, _, _, {ends, Reason}}}) -> [{ends, Name, Reason}];
+shown(#event{who = Name, deed = runaway}) -> [{runaway, Name}];
+shown(_) -> [].
+
+%% ---- deliveries
+
+%% The places of all events, where those of turns are known: a delivery has that of the send, of the exit/2 or of the
+%% end that it comes from.
+places(Events, Lines) ->
+    {Places, _} = lists:foldl(fun place/2, {Lines, []}, Events),
+    Places.
+
+place(#event{number = Number, who = {From, To}, deed = Deed}, {Places, Sent}) ->
+    {Place, Left} = cause(From, To, Deed, Sent),
+    {Places#{Number => sent_at(Place)}, Left ++ [{{To, ends, Reason}, Place} || Reason <- ends(Deed)]};
+place(#event{number = Number, who = Name, deed = Deed}, {Places, Sent}) ->
+    {Places, Sent ++ [{Cause, maps:get(Number, Places, none)} || Cause <- sends(Name, Deed)]}.
+
+sent_at(none) -> none;
+sent_at(Place) -> {sent, Place}.
+
+%% Where a delivery comes from, and what was sent besides. An end may tell several others, a send one.
+cause(From, _, {brings, Message}, Sent) -> cause({From, Message}, Sent);
+cause(From, To, {exit, Reason, _}, Sent) ->
+    case cause({From, exit, To, Reason}, Sent) of
+        {none, Sent} -> {proplists:get_value({From, ends, Reason}, Sent, none), Sent};
+        Found -> Found
+    end;
+cause(_, _, _, Sent) -> {none, Sent}.
+
+cause(Wanted, Sent) ->
+    case take(fun({Cause, _}) -> Cause =:= Wanted end, Sent) of
+        {{_, Place}, Left} -> {Place, Left};
+        none -> {none, Sent}
+    end.
+
+%% What a turn sends to others.
+sends(Name, {call, erlang, Send, [To, Message], {ok, _}}) when Send =:= '!'; Send =:= send ->
+    [{Name, Message} || To =/= {pid, Name}];
+sends(Name, {call, erlang, exit, [{pid, To}, Reason], {ok, _}}) -> [{Name, exit, To, Reason}];
+sends(Name, {ends, Reason}) -> [{Name, ends, Reason}];
+sends(_, _) -> [].
+
+%% The reason with which a delivery ends its receiver.
+ends({exit, _, {ends, Reason}}) -> [Reason];
+ends(_) -> [].
+
+%% The first item that is wanted, and the others.
+take(IsWanted, Items) ->
+    case lists:splitwith(fun(Item) -> not IsWanted(Item) end, Items) of
+        {_, []} -> none;
+        {Before, [Item | Behind]} -> {Item, Before ++ Behind}
+    end.
+
+%% ---- mailboxes
+
+%% The messages that came to each process and that it did not take, the oldest first.
+mailboxes(Events) ->
+    {Boxes, _} = lists:foldl(fun(Event, {Boxes, Holders}) -> mail(Event, Boxes, Holders) end, {#{}, #{}}, Events),
+    Boxes.
+
+mail(#event{who = {_, To}, deed = {brings, Message}}, Boxes, Holders) -> {put_in(To, Message, Boxes), Holders};
+mail(#event{who = {_, To}, deed = Deed}, Boxes, Holders) ->
+    case element(tuple_size(Deed), Deed) of
+        {message, Message} -> {put_in(To, Message, Boxes), Holders};
+        _ -> {Boxes, Holders}
+    end;
+mail(#event{who = Name, deed = {receives, Message}}, Boxes, Holders) ->
+    {_, Left} = take(fun(Term) -> Term =:= Message end, maps:get(Name, Boxes, [])),
+    {Boxes#{Name => Left}, Holders};
+mail(#event{who = Name, deed = {call, erlang, Function, Arguments, {ok, _}}}, Boxes, Holders) ->
+    called(Function, Arguments, Name, Boxes, Holders);
+mail(_, Boxes, Holders) -> {Boxes, Holders}.
+
+%% What a process sends to itself is there at once; a watch that ends with flush takes its message along.
+called(register, [{atom, Alias}, Pid], _, Boxes, Holders) -> {Boxes, Holders#{Alias => Pid}};
+called(Send, [To, Message], Name, Boxes, Holders) when Send =:= '!'; Send =:= send ->
+    case holder(To, Holders) of
+        {pid, Name} -> {put_in(Name, Message, Boxes), Holders};
+        _ -> {Boxes, Holders}
+    end;
+called(exit, [{pid, Name} = Pid, Reason], Name, Boxes, Holders) ->
+    {put_in(Name, {tuple, [{atom, 'EXIT'}, Pid, Reason]}, Boxes), Holders};
+called(demonitor, [Watch, {list, Options, nil}], Name, Boxes, Holders) ->
+    Left = case lists:member({atom, flush}, Options) of
+        true -> [Term || Term <- maps:get(Name, Boxes, []), not is_down(Watch, Term)];
+        false -> maps:get(Name, Boxes, [])
+    end,
+    {Boxes#{Name => Left}, Holders};
+called(_, _, _, Boxes, Holders) -> {Boxes, Holders}.
+
+holder({atom, Alias}, Holders) -> maps:get(Alias, Holders, none);
+holder(Pid, _) -> Pid.
+
+is_down(Watch, {tuple, [{atom, 'DOWN'}, Watch, _, _, _]}) -> true;
+is_down(_, _) -> false.
+
+put_in(Name, Message, Boxes) -> Boxes#{Name => maps:get(Name, Boxes, []) ++ [Message]}.

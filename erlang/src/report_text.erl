@@ -1,0 +1,160 @@
+%% The report for people.
+-module(report_text).
+-export([call/3, deed/1, identity/1, place/1, role/2, waits/2, stands/2]).
+-export([head/3, tail/3, schedule/1, earlier/1, transcript/2, refusal/3]).
+-include("report.hrl").
+
+-define(GREATEST_COLUMN, 76).
+
+%% A call as it stands in a source.
+call(erlang, '!', [To, Message]) -> [report_term:text(To), " ! ", report_term:text(Message)];
+call(erlang, Function, [{atom, _}, {atom, Name}, {list, Arguments, nil}])
+  when Function =:= spawn; Function =:= spawn_link; Function =:= spawn_monitor ->
+    [atom_to_list(Function), "(", started(Name, Arguments), ")"];
+call(erlang, Function, Arguments) -> [function(Function), "(", arguments(Arguments), ")"];
+call(Module, Function, Arguments) -> [function(Module), ":", function(Function), "(", arguments(Arguments), ")"].
+
+function(Name) -> report_term:text({atom, Name}).
+
+arguments(Terms) -> lists:join(",", [report_term:text(Term) || Term <- Terms]).
+
+%% What a process begins with: a function and its arguments, a fun, or a fun as a value that is applied.
+started('apply fun', [Fun]) -> report_term:text(Fun);
+started(Name, Arguments) ->
+    case atom_to_list(Name) of
+        "fun in " ++ _ = Fun -> Fun;
+        _ -> [function(Name), "(", arguments(Arguments), ")"]
+    end.
+
+%% What happened in a step.
+deed({call, Module, Function, Arguments, Answer}) -> [call(Module, Function, Arguments), answer(Function, Answer)];
+deed({receives, Term}) -> ["receives ", report_term:text(Term)];
+deed(timeout) -> "times out";
+deed({ends, Reason}) -> ["ends ", report_term:text(Reason)];
+deed(runaway) -> "runs away";
+deed({brings, Term}) -> ["brings ", report_term:text(Term)];
+deed({exit, _, {message, Term}}) -> deed({brings, Term});
+deed({down, _, {message, Term}}) -> deed({brings, Term});
+deed({exit, Reason, Fate}) -> ["exit signal ", report_term:text(Reason), " -> ", fate(Fate)];
+deed({down, Reference, Fate}) -> ["signal of the watch ", report_term:text(Reference), " -> ", fate(Fate)].
+
+%% The answer of a send is its message, and tells nothing.
+answer('!', {ok, _}) -> "";
+answer(_, {ok, Term}) -> [" -> ", report_term:text(Term)];
+answer(_, {refused, Text}) -> [" -> ", Text];
+answer(_, {ends, Reason}) -> [" -> ends ", report_term:text(Reason)].
+
+fate({ends, Reason}) -> ["ends ", report_term:text(Reason)];
+fate(Fate) -> atom_to_list(Fate).
+
+%% What a finding is.
+identity({ends, Name, Reason}) -> [Name, " ends ", report_term:text(Reason)];
+identity({deadlock, Names}) -> ["deadlock of ", lists:join(" ", Names)];
+identity({runaway, Name}) -> [Name, " runs away"];
+identity({refusal, Name, Request, Deed}) -> [Name, " request ", integer_to_list(Request), " ", deed(Deed)].
+
+%% What a process runs.
+role('apply fun', [Fun]) -> report_term:text(Fun);
+role(Name, Arguments) ->
+    case atom_to_list(Name) of
+        "fun in gen_server " ++ _ -> "gen_server";
+        "fun in " ++ _ = Fun -> Fun;
+        _ -> [function(Name), "/", integer_to_list(length(Arguments))]
+    end.
+
+%% Where something stands in the source.
+place(none) -> "";
+place({library, Module}) -> ["(", Module, ")"];
+place({sent, none}) -> "";
+place({sent, {library, Module}}) -> ["sent by ", Module];
+place({sent, Place}) -> ["sent at ", place(Place)];
+place({File, Line}) -> [File, ":", integer_to_list(Line)].
+
+%% ---- the report
+
+%% The first line: what was explored.
+head(Source, Coverage, First) ->
+    [Source, ": ", explored(is_incomplete(First)), to_depth(Coverage, First), visited(First), "\n"].
+
+explored(true) -> "not all schedules";
+explored(false) -> "all schedules".
+
+to_depth(["all", _], _) -> "";
+to_depth(_, First) -> [" of at most ", depth(First), " steps"].
+
+is_incomplete(First) -> string:find(First, "incomplete") =/= nomatch.
+
+visited(First) ->
+    case string:split(First, ", nodes ") of
+        [_, Rest] -> [", ", hd(string:split(Rest, ",")), " nodes"];
+        _ -> ""
+    end.
+
+%% The last lines: how many errors and refusals there are, and the result.
+tail(Coverage, First, Findings) ->
+    Errors = length([error || {error, _, _, _} <- Findings]),
+    Refusals = length(Findings) - Errors,
+    ["\nerrors ", integer_to_list(Errors), ", refusals ", integer_to_list(Refusals), "\n",
+     "result: ", result(Errors, is_incomplete(First), Coverage, First), "\n"].
+
+result(0, false, ["all", _], _) -> "clean, all schedules";
+result(Errors, false, ["limit", Depth], First) ->
+    [if Errors =:= 0 -> "clean"; true -> "errors" end, " to depth ", depth(First), "; depth ", Depth,
+     " has more nodes than may be visited (--nodes N)"];
+result(0, false, [_, Depth], _) -> ["clean to depth ", Depth, "; longer schedules were not explored"];
+result(_, false, ["all", _], _) -> "errors, all schedules";
+result(_, false, [_, Depth], _) -> ["errors to depth ", Depth, "; longer schedules were not explored"];
+result(_, true, [_, Depth], First) -> [lists:last(string:split(First, ", ")), " at depth ", Depth].
+
+%% The depth that the program tells.
+depth(First) -> hd(string:lexemes(First, "depth ,")).
+
+%% A schedule as the words with which it is shown again.
+schedule(Schedule) -> ["  --replay \"", Schedule, "\"\n"].
+
+%% An error that another one comes after may follow from it.
+earlier(none) -> "";
+earlier({Error, Event}) -> io_lib:format("  comes after error ~w (event ~w)~n", [Error, Event]).
+
+%% A transcript: what the processes are, each event with its place, and who waits for ever where it is a deadlock.
+transcript(Finding, #{events := Events, places := Places} = Told) ->
+    Width = lists:max([length(who(Who)) || Who <- waiters(Finding) ++ [Who || #event{who = Who} <- Events]]),
+    Lines = [event(Event, Width, maps:get(Event#event.number, Places, none)) || Event <- Events],
+    [cast(Told), in_columns(Lines ++ waiting(Finding, Width, Told))].
+
+waiters({deadlock, Names}) -> Names;
+waiters(_) -> ["P"].
+
+cast(#{events := Events, roles := Roles}) ->
+    Names = [Name || Name <- report_story:processes(Events), maps:is_key(Name, Roles)],
+    ["  where ", lists:join(", ", [[Name, " is ", maps:get(Name, Roles)] || Name <- Names]), "\n"].
+
+event(#event{number = Number, who = Who, deed = Deed}, Width, Place) ->
+    {[io_lib:format("  ~3w  ", [Number]), string:pad(who(Who), Width), "  ", deed(Deed)], Place}.
+
+who({From, To}) -> From ++ ">" ++ To;
+who(Name) -> Name.
+
+%% Who waits where for ever, and with which messages that it does not take.
+waiting({deadlock, Names}, Width, Told) ->
+    [{["       ", string:pad(Name, Width), "  ", waits(Name, Told)], stands(Name, Told)} || Name <- Names];
+waiting(_, _, _) -> [].
+
+waits(Name, #{mailboxes := Boxes}) ->
+    ["waits for ever, mailbox ", report_term:text({list, maps:get(Name, Boxes, []), nil})].
+
+stands(Name, #{stands := Stands}) -> maps:get(Name, Stands, none).
+
+%% Lines whose places stand in one column, a little further right than most lines reach.
+in_columns(Lines) ->
+    Flat = [{lists:flatten(Text), lists:flatten(place(Place))} || {Text, Place} <- Lines],
+    Column = lists:min([?GREATEST_COLUMN, 2 + lists:max([0 | [length(Text) || {Text, _} <- Flat]])]),
+    [line(Text, Where, Column) || {Text, Where} <- Flat].
+
+line(Text, "", _) -> [Text, "\n"];
+line(Text, Where, Column) -> [Text, lists:duplicate(max(2, Column - length(Text)), $\s), Where, "\n"].
+
+%% A refused call with the place from which it comes.
+refusal(Title, Schedule, #{events := Events, places := Places}) ->
+    Place = maps:get((lists:last(Events))#event.number, Places, none),
+    ["\n", in_columns([{Title, Place}]), schedule(Schedule)].

@@ -1,0 +1,14 @@
+%% ./explore examples/counter_repaired.erl
+-module(counter_repaired).
+-export([main/0]).
+
+main() ->
+    ets:new(hits, [named_table, public]),
+    ets:insert(hits, {page, 0}),
+    {_, Ref} = spawn_monitor(fun visit/0),
+    visit(),
+    receive {'DOWN', Ref, process, _, _} -> ok end,
+    [{page, 2}] = ets:lookup(hits, page).
+
+visit() ->
+    ets:update_counter(hits, page, 1).
