@@ -168,9 +168,12 @@ line([Line | _]) when is_integer(Line) -> Line;
 line([_ | Notes]) -> line(Notes);
 line([]) -> none.
 
-%% The least line of a tree, 0 where it has none.
+%% The least line of a tree, 0 where it has none. Variables stand elsewhere too: their lines do not count.
 first_place(Tree) ->
-    Lines = fold(fun(Node, Sum) -> case line(element(2, Node)) of none -> Sum; L -> [L | Sum] end end, [], Tree),
+    Lines = fold(
+        fun(#c_var{}, Sum) -> Sum;
+           (Node, Sum) -> case line(element(2, Node)) of none -> Sum; L -> [L | Sum] end
+        end, [], Tree),
     case Lines of [] -> 0; _ -> lists:min(Lines) end.
 
 literal(Value) -> #c_literal{val = Value}.
