@@ -1,5 +1,5 @@
 -- A fault of a check is one of the bytes: they are no text of a good cover.
-use Rattle.std.proofs.Common.{◌≡◌, ℕ, ◌+◌, Bool, true, false, true≢false, List, [], ◌∷◌, ◌++◌, length, map, Option, Some, None, refl, sym, ap, ap₂, ◌∙◌, subst, arith, append_assoc, append-nil, length-append}
+use Rattle.std.proofs.Common.{◌≡◌, ℕ, ◌+◌, Bool, true, false, true≢false, List, [], ◌∷◌, ◌++◌, map, Option, Some, None, refl, sym, ap, ◌∙◌, subst, arith, append-nil, length-append}
 use Rattle.std.specs.Prelude.{option_and_then, Result, Ok, Err, IfErr}
 use Rattle.term_core.proofs.ScheduleTexts.{schedule_injective}
 use Rattle.term_core.specs.Schedule.{AreLawful}
@@ -8,19 +8,18 @@ use Rattle.term_core.specs.declared.step.Step.{Step}
 use Rattle.core_tree.specs.Syntax.{ModuleTree}
 use Rattle.world_model.specs.Asking.{program_of}
 use Rattle.world_model.specs.Requests.{Program}
-use Rattle.world_model.specs.Shown.{Flags, Identity, is_error}
+use Rattle.world_model.specs.Shown.{Flags, is_error}
 use Rattle.coverage.specs.Covers.{Lines, left_over, IsGoodCover, CoversShowNoError}
-use Rattle.coverage.specs.Shown.{IsShown}
 use Rattle.cover_check.specs.CoverLaws.{ShowsNoError}
-use Rattle.cover_check.specs.CoverText.{lines_in, AreLawfulLines, SpellsLines}
-use Rattle.cover_check.specs.Faults.{places_below, places_after, root_place, IsCoverText, StandsAt, IsSoAt, IsNoLine, IsJudged, IsFaultOf}
+use Rattle.cover_check.specs.CoverText.{lines_in, AreLawfulLines}
+use Rattle.cover_check.specs.Faults.{places_below, root_place, IsCoverText, StandsAt, IsSoAt, IsNoLine, IsJudged, IsFaultOf}
 use Rattle.cover_check.specs.Judging.{Place, judgement_of}
 use Rattle.cover_check.specs.inside.Lines.{IsLineFault}
 use Rattle.cover_check.specs.declared.fault.CoverFault.{CoverFault}
 use Rattle.cover_check.specs.declared.fault.CoverFault.TheVariants as faults
 use Rattle.cover_check.specs.declared.judging.Judgement.{Judgement}
 use Rattle.cover_check.specs.declared.judging.Judgement.TheVariants.{Good, Missing, Strange, ErrorFound}
-use Rattle.cover_check.proofs.PlaceLaws.{left_by_places, good_line, bad_line, no_line, one_more, all_good, good_leaves}
+use Rattle.cover_check.proofs.PlaceLaws.{left_by_places, bad_line, no_line, one_more, all_good, good_leaves}
 
 -- ---- lines that are spelt
 

@@ -1,22 +1,19 @@
 -- The stack of a walk: what a line puts on it, and what a child takes off.
-use Rattle.std.proofs.Common.{◌≡◌, ◌-◌, ℕ, zero, suc, Bool, true, false, List, [], ◌∷◌, ◌++◌, length, reverse, Option, Some, None, inl, inr, refl, sym, ap, ◌∙◌, subst, arith, append_assoc, append-nil, is_some}
+use Rattle.std.proofs.Common.{◌≡◌, ◌-◌, ℕ, zero, suc, true, List, [], ◌∷◌, ◌++◌, reverse, Option, Some, None, refl, sym, ap, ◌∙◌, subst, arith, append_assoc, append-nil, is_some}
 use Rattle.std.proofs.lemmas.List.{reverse-append, reverse-reverse}
 use Rattle.std.specs.List.{AllByRecursion}
 use Rattle.term_core.specs.declared.step.Step.{Step}
 use Rattle.core_tree.specs.Syntax.{ModuleTree}
-use Rattle.world_core.specs.Seen.{Seen, program_in}
 use Rattle.world_model.specs.Asking.{program_of}
 use Rattle.world_model.specs.Events.{Event, History}
-use Rattle.world_model.specs.Names.{IsAmong}
 use Rattle.world_model.specs.Requests.{Program}
-use Rattle.world_model.specs.Run.{next_event, extended, is_enabled, IsRun}
+use Rattle.world_model.specs.Run.{next_event, extended, IsRun}
 use Rattle.world_model.specs.Steps.{next_deed}
 use Rattle.world_model.specs.World.{contents}
 use Rattle.world_model.proofs.Histories.{step_is}
-use Rattle.coverage.specs.Jobs.{asleep_below}
 use Rattle.cover_check.specs.Faults.{sleeping, place_after, places_along, places_under}
 use Rattle.cover_check.specs.Judging.{Place}
-use Rattle.cover_check.specs.inside.Frames.{AreEnabled, AreFramesOf, FrameSeen, IsFrame, IsReached, NodeSeen, place_of, places_of_frame, places_of_frames}
+use Rattle.cover_check.specs.inside.Frames.{AreFramesOf, FrameSeen, places_of_frame, places_of_frames}
 
 some_is : {X : Type 0} (x y : X) → Some x ≡ Some y → x ≡ y
 some_is x y e = cc

@@ -11,7 +11,7 @@ use Rattle.world_model.specs.Requests.{Program}
 use Rattle.world_model.specs.Run.{next_event, is_enabled, enabled_steps}
 use Rattle.world_model.specs.Shown.{Flags}
 use Rattle.world_model.proofs.Opened.{enabled_listed, listed_enabled}
-use Rattle.coverage.specs.Covers.{is_one_of, are_once, is_empty, is_clean}
+use Rattle.coverage.specs.Covers.{is_one_of, are_once, is_clean}
 use Rattle.coverage.specs.Explored.{same_step}
 use Rattle.coverage.specs.Jobs.{taken_steps}
 use Rattle.coverage.proofs.CoverLaws.{one_of}
@@ -19,7 +19,6 @@ use Rattle.coverage.proofs.Lists.{found_by, from_theory, both_second, all_true, 
 use Rattle.cover_check.specs.Judging.{Place, are_enabled_once, are_all_there, judgement, judgement_of}
 use Rattle.cover_check.specs.inside.Frames.{AreEnabled}
 use Rattle.cover_check.proofs.FrameLaws.{is_no_event}
-use Rattle.cover_check.specs.declared.judging.Judgement.{Judgement}
 use Rattle.cover_check.specs.declared.judging.Judgement.TheVariants.{Good, Missing, Strange}
 
 itself : (s : Step) → same_step s s ≡ true

@@ -1,6 +1,5 @@
 -- The lines of a text, and how its first one is cut off.
-use Rattle.std.proofs.Common.{◌≡◌, ◌==◌, ◌⊎◌, inl, inr, ℕ, Bool, true, false, List, [], ◌∷◌, ◌++◌, length, map, cond, ap, sym, refl, ◌∙◌, subst, arith, append_assoc, append-nil, eqb-true, one-add}
-use Rattle.std.specs.List.{AllByRecursion, flat_map}
+use Rattle.std.proofs.Common.{◌≡◌, ◌==◌, inl, inr, ℕ, Bool, true, false, List, [], ◌∷◌, ◌++◌, length, cond, ap, sym, refl, ◌∙◌, subst, arith, append-nil, eqb-true, one-add}
 use Rattle.term_core.proofs.Pieces.{Lacks, Begins, front, behind, front-append-behind, behind_begins}
 use Rattle.term_core.proofs.Pieces as Pieces
 use Rattle.cover_check.specs.CoverText.{with_byte, lines_in, HasNoEnd, IsFirstLine}

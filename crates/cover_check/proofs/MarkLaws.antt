@@ -1,6 +1,6 @@
 -- A text on its way to its first line that is the mark.
-use Rattle.std.proofs.Common.{◌≡◌, ◌⊎◌, inl, inr, ℕ, ◌-◌, ◌+◌, ◌<◌, List, [], ◌∷◌, ◌++◌, length, take, ap, sym, refl, ◌∙◌, subst, arith, append_assoc, append-nil, length-append, take_at}
-use Rattle.std.proofs.Common.{Option, Some, None}
+use Rattle.std.proofs.Common.{◌≡◌, ◌⊎◌, inl, inr, ℕ, ◌-◌, ◌+◌, List, [], ◌∷◌, ◌++◌, length, take, ap, sym, refl, ◌∙◌, subst, arith, append_assoc, append-nil, length-append, take_at}
+use Rattle.std.proofs.Common.{Some, None}
 use Rattle.world_model.specs.Names.{IsAmong}
 use Rattle.coverage.proofs.Lists.{among_append}
 use Rattle.cover_check.specs.CoverText.{lines_in, mark, IsAtLineStart, IsCutAtMark, IsCut, IsFirstLine}

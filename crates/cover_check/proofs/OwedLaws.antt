@@ -1,10 +1,10 @@
 -- A cover that is written on its way: what is still owed.
-use Rattle.std.proofs.Common.{◌≡◌, ◌<◌, ℕ, Bool, false, List, [], ◌∷◌, ◌++◌, length, Option, refl, sym, ap, ◌∙◌, subst, arith, append_assoc}
-use Rattle.std.specs.Prelude.{Result, Ok, Err}
+use Rattle.std.proofs.Common.{◌≡◌, ◌<◌, ℕ, Bool, false, List, [], ◌∷◌, ◌++◌, length, Option, refl, sym, ap, ◌∙◌, subst, arith}
+use Rattle.std.specs.Prelude.{Result, Err}
 use Rattle.std.specs.Io.KnownBytes.{Appends}
 use Rattle.term_core.specs.Stream.{BreaksOff, WritesAll}
 use Rattle.term_core.specs.Text.{text_of_schedule}
-use Rattle.term_core.specs.inside.Writing.{Owes, appends_none, begins_first, owes_all, owes_break_in, owes_less, owes_nothing, owes_same}
+use Rattle.term_core.specs.inside.Writing.{Owes, appends_none, begins_first, owes_all, owes_break_in, owes_less, owes_same}
 use Rattle.term_core.specs.declared.step.Step.{Step}
 use Rattle.world_model.specs.Requests.{Program}
 use Rattle.coverage.specs.Covers.{cover_of, lines_of}

@@ -1,6 +1,5 @@
 -- The lines that the search writes, node by node, and that their text is that of a good cover.
-use Rattle.std.proofs.Common.{◌≡◌, ◌<◌, ◌==◌, inl, inr, ℕ, zero, suc, Bool, false, List, [], ◌∷◌, ◌++◌, map, Option, Some, None, refl, sym, ap, ◌∙◌, arith, append_assoc, append-nil}
-use Rattle.std.specs.List.{flat_map}
+use Rattle.std.proofs.Common.{◌≡◌, ◌==◌, inl, ℕ, zero, suc, false, List, [], ◌∷◌, ◌++◌, map, Option, Some, None, refl, sym, ap, ◌∙◌, arith, append_assoc, append-nil}
 use Rattle.term_core.proofs.Pieces.{Lacks, all-append}
 use Rattle.term_core.proofs.PidTexts.{lacks-pid}
 use Rattle.term_core.specs.Schedule.{IsLawfulStep, AreLawful}

@@ -1,5 +1,5 @@
 -- The nodes whose lines are to come, and what is left of lines behind them.
-use Rattle.std.proofs.Common.{◌≡◌, ℕ, zero, suc, Bool, true, false, ◌&&◌, List, [], ◌∷◌, ◌++◌, Option, Some, None, refl, sym, ap, ◌∙◌, append_assoc, append-nil}
+use Rattle.std.proofs.Common.{◌≡◌, ℕ, zero, suc, Bool, true, false, ◌&&◌, List, [], ◌∷◌, ◌++◌, Option, Some, None, refl, sym, ap, ◌∙◌, append-nil}
 use Rattle.std.specs.Prelude.{option_and_then}
 use Rattle.std.specs.List.{list_all}
 use Rattle.term_core.specs.declared.step.Step.{Step}
@@ -7,7 +7,7 @@ use Rattle.world_model.specs.Events.{Event, History}
 use Rattle.world_model.specs.Requests.{Program}
 use Rattle.world_model.specs.Run.{next_event, is_enabled, enabled_steps}
 use Rattle.world_model.specs.Shown.{Flags}
-use Rattle.coverage.specs.Covers.{Lines, is_one_of, are_once, is_empty, is_clean, is_good_line, is_good_end, left_by_next, left_by_step, left_by_steps, left_if, left_over, IsGoodCover}
+use Rattle.coverage.specs.Covers.{Lines, is_one_of, are_once, is_empty, is_clean, left_by_next, left_by_steps, left_if, left_over, IsGoodCover}
 use Rattle.coverage.specs.Jobs.{asleep_below}
 use Rattle.cover_check.specs.Faults.{sleeping, place_after, places_along, places_under, places_below, root_place, after_line, places_after}
 use Rattle.cover_check.specs.Judging.{Place, are_enabled_once, are_all_there, judgement, judgement_of}

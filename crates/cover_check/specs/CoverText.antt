@@ -3,7 +3,6 @@ use Rattle.std.specs.List.{flat_map, AllByRecursion}
 use Rattle.std.specs.Prelude.{◌≡◌, ◌⊎◌, ℕ, ◌==◌, List, [], ◌∷◌, ◌++◌, map, codes, false, if◌then◌else◌, Option, Some, None}
 use Rattle.term_core.specs.Schedule.{AreLawful}
 use Rattle.term_core.specs.Text.{text_of_schedule}
-use Rattle.term_core.specs.declared.step.Step.{Step}
 use Rattle.world_model.specs.Names.{IsAmong}
 use Rattle.coverage.specs.Covers.{Lines}
 

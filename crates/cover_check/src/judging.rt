@@ -112,10 +112,5 @@ pub(crate) fn judge(
     if !is_clean(flags, identities.as_slice()) {
         return Ok(Judgement::ErrorFound);
     }
-    Ok(judge_steps(
-        enabled.as_slice(),
-        node.slept.as_slice(),
-        node.left,
-        line,
-    ))
+    Ok(judge_steps(enabled.as_slice(), node.slept.as_slice(), node.left, line))
 }

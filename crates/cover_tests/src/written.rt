@@ -76,7 +76,11 @@ fn writes_no_other_cover(rt: HostRuntime) -> Result<(), Fail> {
         );
         assert_eq!(rt; outcome, Ok(wanted));
         assert!(rt; !sink.bytes.ends_with(b"\n\n"));
-        assert!(rt; sink.bytes.ends_with(b"result: errors\n") || sink.bytes.ends_with(b"result: incomplete\n") || sink.bytes.ends_with(b"result: clean\n"));
+        assert!(rt;
+            sink.bytes.ends_with(b"result: errors\n")
+                || sink.bytes.ends_with(b"result: incomplete\n")
+                || sink.bytes.ends_with(b"result: clean\n")
+        );
     }
     Ok(())
 }

@@ -11,7 +11,6 @@ use Rattle.cover_check.specs.declared.fault.WriteCoverFault.{WriteCoverFault}
 use Rattle.cover_check.specs.declared.fault.WriteCoverFault.TheVariants as written
 use Rattle.term_core.specs.Stream.{WritesAll}
 use Rattle.world_model.specs.Asking.{program_of}
-use Rattle.world_model.specs.Names.{IsAmong}
 use Rattle.world_model.specs.Shown.{Identity, is_error}
 use Rattle.coverage.specs.Findings.{Finding, IsFound}
 use Rattle.coverage.specs.Shown.{IsShown}
@@ -46,7 +45,7 @@ not_begun None bytes options what contents failed m fault r e is spelt sound = t
 not_begun (Some all) bytes options what contents failed m fault r e is spelt sound =
     subst (λ (r : Result Verdict RunFault). IsExplorationOf all options what contents contents failed r) (sym e) (record { program = m; module_text = spells_all all bytes m is spelt; quiet = record { same = refl; sound = sound } })
 
-explored : (all bytes : List ℕ) (options : Options) (m : ModuleTree) (outcome : Outcome)
+abbrev explored : (all bytes : List ℕ) (options : Options) (m : ModuleTree) (outcome : Outcome)
     → IsInputOf 1048576 all bytes → SpellsModule bytes m → IsOutcome (explored_by m options) options.nodes outcome → IsExact (explored_by m options) outcome → IsExplored all options outcome
 explored all bytes options m outcome is spelt comes exact = record { program = m; module_text = spells_all all bytes m is spelt; is_outcome = comes; is_exact = exact }
 

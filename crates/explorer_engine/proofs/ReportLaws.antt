@@ -1,5 +1,5 @@
 -- What a flush at the end makes of what was written, and what a cover behind a report is.
-use Rattle.std.proofs.Common.{◌≡◌, ◌||◌, ℕ, Bool, true, false, true≢false, List, [], ◌++◌, Option, refl, sym, ap, ◌∙◌, subst, append-nil}
+use Rattle.std.proofs.Common.{◌≡◌, ◌||◌, ℕ, Bool, true, false, true≢false, List, [], ◌++◌, Option, sym, ◌∙◌, subst, append-nil}
 use Rattle.std.specs.Prelude.{Result, Ok, Err}
 use Rattle.std.specs.Io.KnownBytes.{Keeps}
 use Rattle.std.proofs.KnownBytes.{Appends-kept}
@@ -50,8 +50,8 @@ then_written front behind old mid new failed after (Ok done) w b = record { appe
 then_written front behind old mid new failed after (Err Memory) w b = (b.0, begins_then old mid new front behind w.appends b.1)
 then_written front behind old mid new failed after (Err Write) w b = record { beginning = begins_then old mid new front behind w.appends b.beginning; fault = b.fault }
 
-pub first_broken : (front behind : List ℕ) (old new : Option (List ℕ)) (failed : Bool) → BreaksOff old new failed front → IsWritten (front ++ behind) old new failed (Err Write)
-first_broken front behind old new failed b = record { beginning = begins_first old new front behind b.beginning; fault = b.fault }
+pub first_broken : (front behind : List ℕ) (old new : Option (List ℕ)) (failed : Bool) (r : Result (Unit {0}) WriteCoverFault) → r ≡ Err Write → BreaksOff old new failed front → IsWritten (front ++ behind) old new failed r
+first_broken front behind old new failed r e b = subst (λ (x : Result (Unit {0}) WriteCoverFault). IsWritten (front ++ behind) old new failed x) (sym e) (record { beginning = begins_first old new front behind b.beginning; fault = b.fault })
 
 pub nothing_behind : (front : List ℕ) (old new : Option (List ℕ)) (failed : Bool) → WritesAll old new failed front → WritesAll old new failed (front ++ [])
 nothing_behind front old new failed w = subst (λ (t : List ℕ). WritesAll old new failed t) (sym (append-nil front)) w

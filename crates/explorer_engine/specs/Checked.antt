@@ -1,5 +1,5 @@
 -- What a check of a cover comes to, by the bytes that it is given.
-use Rattle.std.specs.Prelude.{◌≡◌, ℕ, Bool, true, List, ◌++◌, codes, Option, Some, None, Result, Ok, Err}
+use Rattle.std.specs.Prelude.{◌≡◌, ℕ, Bool, List, ◌++◌, codes, Option, Some, None, Result, Ok, Err}
 use Rattle.std.specs.Fmt.{decimal}
 use Rattle.core_tree.specs.Syntax.{ModuleTree}
 use Rattle.core_reader.specs.ModuleText.{SpellsModule}

@@ -14,7 +14,7 @@ use Rattle.explorer_engine.specs.Checked.{IsCheckOf}
 use Rattle.explorer_engine.specs.Explored.{IsExplorationOf, IsCleanIfSaid}
 use Rattle.explorer_engine.specs.Input.{IsUnread}
 use Rattle.explorer_engine.specs.declared.verdict.RunFault.{RunFault}
-use Rattle.explorer_engine.specs.declared.verdict.RunFault.TheVariants as run
+use Rattle.explorer_engine.specs.declared.verdict.RunFault.TheVariants as faults
 use Rattle.explorer_engine.specs.declared.verdict.Verdict.{Verdict}
 
 -- what was done to a stream: the bytes that it told before and after, whether a call on it has failed, and whether its last call was a flush that succeeded
@@ -63,7 +63,7 @@ pub record IsRun (words : List (List ℕ)) (input : Option (List ℕ)) (unread :
   pub in_range : IsInRange asked
   pub outcome : Result Verdict RunFault
   pub run : IfSome input (λ bytes. IsDone asked bytes output.old output.new output.failed outcome)
-  pub read_failed : outcome ≡ Err run.ReadFailed → CannotBeRead asked input unread
+  pub read_failed : outcome ≡ Err faults.ReadFailed → CannotBeRead asked input unread
   pub silent : IsRefusedBefore outcome → IsUntouched output
   pub flushed : IsHandedOn outcome output.flushed
   pub reported : IsReported errors outcome

@@ -4,7 +4,6 @@ use Rattle.std.proofs.lemmas.Result.{err_from_is_err_and}
 use Rattle.findings.specs.Identities.{flags_in}
 use Rattle.world_model.specs.Asking.{program_of}
 use Rattle.cover_check.specs.CoverText.{lines_in}
-use Rattle.cover_check.specs.Faults.{IsCoverText}
 use Rattle.cover_check.specs.declared.fault.CoverFault.TheVariants as faults
 use Rattle.cover_check.specs.inside.Frames.{place_of}
 use Rattle.cover_check.proofs.FaultLaws.{goes_on_below, is_good, is_long, is_short, line_fault, no_error, only_memory, refused_by}

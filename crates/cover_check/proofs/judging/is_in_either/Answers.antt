@@ -1,5 +1,4 @@
-use Rattle.std.proofs.Common.{rules, ◌≡◌, ◌||◌, true, false, sym, ap, ◌∙◌}
-use Rattle.coverage.specs.Covers.{is_one_of}
+use Rattle.std.proofs.Common.{rules, ◌≡◌, true, false, sym, ◌∙◌}
 use Rattle.cover_check.proofs.JudgeLaws.{in_first, in_second}
 use Rattle.cover_check.proofs.judging.is_in_either.Goals as goal
 

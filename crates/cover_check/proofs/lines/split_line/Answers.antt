@@ -1,4 +1,4 @@
-use Rattle.std.proofs.Common.{rules, ◌≡◌, [], length}
+use Rattle.std.proofs.Common.{rules, ◌≡◌, []}
 use Rattle.cover_check.proofs.LineLaws.{first_ended, lines_ended, first_alone, lines_first_alone}
 use Rattle.cover_check.proofs.lines.split_line.Goals as goal
 

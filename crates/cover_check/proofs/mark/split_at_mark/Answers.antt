@@ -1,6 +1,6 @@
-use Rattle.std.proofs.Common.{rules, ◌≡◌, []}
+use Rattle.std.proofs.Common.{rules, ◌≡◌}
 use Rattle.cover_check.specs.CoverText.{mark}
-use Rattle.cover_check.proofs.MarkLaws.{cut_begins, cut_goes_on, cut_here, cut_nowhere}
+use Rattle.cover_check.proofs.MarkLaws.{cut_goes_on, cut_here}
 use Rattle.cover_check.proofs.mark.split_at_mark.Goals as goal
 
 pub returns-then-eq : goal.returns-then-eq

@@ -1,6 +1,3 @@
-use Rattle.std.proofs.Common.{◌≡◌, [], ◌∷◌, ◌++◌, subst}
-use Rattle.core_tree.specs.Syntax.{ModuleTree}
-use Rattle.cover_check.specs.inside.Frames.{AreFramesOf}
 use Rattle.cover_check.proofs.FrameLaws.{popped_are_of}
 use Rattle.cover_check.proofs.walk.Walk.take.Goals as goal
 
