@@ -168,13 +168,20 @@ line([Line | _]) when is_integer(Line) -> Line;
 line([_ | Notes]) -> line(Notes);
 line([]) -> none.
 
-%% The least line of a tree, 0 where it has none. Variables stand elsewhere too: their lines do not count.
+%% The least line of a tree, 0 where it has none. A variable that is bound outside has the line of there, which does not
+%% count.
 first_place(Tree) ->
-    Lines = fold(
-        fun(#c_var{}, Sum) -> Sum;
-           (Node, Sum) -> case line(element(2, Node)) of none -> Sum; L -> [L | Sum] end
-        end, [], Tree),
+    Free = free_variables(Tree),
+    Lines = fold(fun(Node, Sum) -> lines_of(Node, Free) ++ Sum end, [], Tree),
     case Lines of [] -> 0; _ -> lists:min(Lines) end.
+
+lines_of(Node, Free) ->
+    IsOutside = is_record(Node, c_var) andalso lists:member(Node#c_var.name, Free),
+    case line(element(2, Node)) of
+        none -> [];
+        _ when IsOutside -> [];
+        Line -> [Line]
+    end.
 
 literal(Value) -> #c_literal{val = Value}.
 
