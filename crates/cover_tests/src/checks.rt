@@ -336,23 +336,45 @@ pub(crate) fn joined(alloc: Global, front: &str, behind: &str) -> Result<String,
     Ok(text)
 }
 
+// The bytes of one text behind those of another.
+fn joined_bytes(alloc: Global, front: &str, behind: &str) -> Result<Vec<u8>, AllocError> {
+    let mut bytes = Vec::new(alloc);
+    bytes.extend_from_slice(front.as_bytes())?;
+    bytes.extend_from_slice(behind.as_bytes())?;
+    Ok(bytes)
+}
+
+// What a check of these bytes writes, the line of its refusal, and its status; so many bytes are read and written at once.
+fn answer_of(
+    alloc: Global,
+    bytes: &[u8],
+    depth: u64,
+    flags: Flags,
+    read: usize,
+    write: usize,
+) -> Result<(Vec<u8>, Vec<u8>, u8), AllocError> {
+    let mut source = MemorySource::in_pieces(bytes, read, u64::MAX);
+    let mut sink = MemorySink::in_pieces(alloc, 10_000, write)?;
+    let outcome = run_check(alloc, &mut source, depth, flags, &Unwatched, &mut sink);
+    let line = line_of(alloc, &outcome)?;
+    Ok((sink.bytes, line, status(&outcome)))
+}
+
 // In one read and one write for each, and byte by byte.
 #[test]
 fn answers_byte_for_byte(rt: HostRuntime) -> Result<(), Fail> {
     let alloc = rt.alloc();
     for (module, cover, depth, allow_deadlock, strict_access, answer, line, number) in ROWS {
-        let text = joined(alloc, module, cover)?;
+        let bytes = joined_bytes(alloc, module, cover)?;
         let flags = Flags {
             allow_deadlock,
             strict_access,
         };
         for (read, write) in [(10_000, 10_000), (1, 10_000), (10_000, 1)] {
-            let mut source = MemorySource::in_pieces(text.as_bytes(), read, u64::MAX);
-            let mut sink = MemorySink::in_pieces(alloc, 10_000, write)?;
-            let outcome = run_check(alloc, &mut source, depth, flags, &Unwatched, &mut sink);
-            assert_eq!(rt; status(&outcome), number, "{cover}: {outcome:?}");
-            assert_eq!(rt; line_of(alloc, &outcome)?.as_slice(), line.as_bytes());
-            assert_eq!(rt; sink.bytes.as_slice(), answer.as_bytes());
+            let (written, told, ended) = answer_of(alloc, &bytes, depth, flags, read, write)?;
+            assert_eq!(rt; ended, number, "{cover}");
+            assert_eq!(rt; told.as_slice(), line.as_bytes());
+            assert_eq!(rt; written.as_slice(), answer.as_bytes());
         }
     }
     Ok(())

@@ -1,4 +1,6 @@
 // Covers that the program writes, and that it accepts then.
+ghost use Rattle.std.specs.Prelude.{◌≡◌};
+
 use crate::checks::{TWO_END, joined};
 use cover_check::split_at_mark;
 use explorer_engine::{Printed, RunFault, Verdict, run_check, run_explore};
