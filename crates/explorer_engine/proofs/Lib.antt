@@ -1,6 +1,5 @@
-pub mod CheckLaws
+pub mod InputLaws
 pub mod EngineLaws
 pub mod ExploredLaws
-pub mod InputLaws
-pub mod ReportLaws
 pub mod RunLaws
+pub mod ReportLaws

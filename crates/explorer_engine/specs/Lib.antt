@@ -4,5 +4,4 @@ pub mod Input
 pub mod Refusals
 pub mod Engine
 pub mod Explored
-pub mod Checked
 pub mod Program

@@ -1,4 +1,0 @@
-pub mod Frames
-pub mod Codes
-pub mod Lines
-pub mod Owned
