@@ -21,88 +21,41 @@ walk(Rule, Outer, State, Node) ->
     end.
 
 %% The node with each child changed by Change(Child, State), in the order of evaluation.
-children(_, S, #c_literal{} = N) -> {N, S};
-children(_, S, #c_var{} = N) -> {N, S};
-children(Change, S0, #c_alias{var = V0, pat = P0} = N) ->
-    {V, S1} = Change(V0, S0),
-    {P, S2} = Change(P0, S1),
-    {N#c_alias{var = V, pat = P}, S2};
-children(Change, S0, #c_apply{op = Op0, args = As0} = N) ->
-    {Op, S1} = Change(Op0, S0),
-    {As, S2} = lists:mapfoldl(Change, S1, As0),
-    {N#c_apply{op = Op, args = As}, S2};
-children(Change, S0, #c_binary{segments = Es0} = N) ->
-    {Es, S1} = lists:mapfoldl(Change, S0, Es0),
-    {N#c_binary{segments = Es}, S1};
-children(Change, S0, #c_bitstr{val = V0, size = Z0} = N) ->
-    {V, S1} = Change(V0, S0),
-    {Z, S2} = Change(Z0, S1),
-    {N#c_bitstr{val = V, size = Z}, S2};
-children(Change, S0, #c_call{module = M0, name = F0, args = As0} = N) ->
-    {M, S1} = Change(M0, S0),
-    {F, S2} = Change(F0, S1),
-    {As, S3} = lists:mapfoldl(Change, S2, As0),
-    {N#c_call{module = M, name = F, args = As}, S3};
-children(Change, S0, #c_case{arg = A0, clauses = Cs0} = N) ->
-    {A, S1} = Change(A0, S0),
-    {Cs, S2} = lists:mapfoldl(Change, S1, Cs0),
-    {N#c_case{arg = A, clauses = Cs}, S2};
-children(Change, S0, #c_catch{body = B0} = N) ->
-    {B, S1} = Change(B0, S0),
-    {N#c_catch{body = B}, S1};
-children(Change, S0, #c_clause{pats = Ps0, guard = G0, body = B0} = N) ->
-    {Ps, S1} = lists:mapfoldl(Change, S0, Ps0),
-    {G, S2} = Change(G0, S1),
-    {B, S3} = Change(B0, S2),
-    {N#c_clause{pats = Ps, guard = G, body = B}, S3};
-children(Change, S0, #c_cons{hd = H0, tl = T0} = N) ->
-    {H, S1} = Change(H0, S0),
-    {T, S2} = Change(T0, S1),
-    {N#c_cons{hd = H, tl = T}, S2};
-children(Change, S0, #c_fun{body = B0} = N) ->
-    {B, S1} = Change(B0, S0),
-    {N#c_fun{body = B}, S1};
-children(Change, S0, #c_let{arg = A0, body = B0} = N) ->
-    {A, S1} = Change(A0, S0),
-    {B, S2} = Change(B0, S1),
-    {N#c_let{arg = A, body = B}, S2};
-children(Change, S0, #c_letrec{defs = Ds0, body = B0} = N) ->
-    {Ds, S1} = lists:mapfoldl(fun({V, F0}, S) -> {F, T} = Change(F0, S), {{V, F}, T} end, S0, Ds0),
-    {B, S2} = Change(B0, S1),
-    {N#c_letrec{defs = Ds, body = B}, S2};
-children(Change, S0, #c_map{arg = A0, es = Es0} = N) ->
-    {A, S1} = Change(A0, S0),
-    {Es, S2} = lists:mapfoldl(Change, S1, Es0),
-    {N#c_map{arg = A, es = Es}, S2};
-children(Change, S0, #c_map_pair{key = K0, val = V0} = N) ->
-    {K, S1} = Change(K0, S0),
-    {V, S2} = Change(V0, S1),
-    {N#c_map_pair{key = K, val = V}, S2};
-children(Change, S0, #c_primop{args = As0} = N) ->
-    {As, S1} = lists:mapfoldl(Change, S0, As0),
-    {N#c_primop{args = As}, S1};
-children(Change, S0, #c_receive{clauses = Cs0, timeout = T0, action = A0} = N) ->
-    {Cs, S1} = lists:mapfoldl(Change, S0, Cs0),
-    {T, S2} = Change(T0, S1),
-    {A, S3} = Change(A0, S2),
-    {N#c_receive{clauses = Cs, timeout = T, action = A}, S3};
-children(Change, S0, #c_seq{arg = A0, body = B0} = N) ->
-    {A, S1} = Change(A0, S0),
-    {B, S2} = Change(B0, S1),
-    {N#c_seq{arg = A, body = B}, S2};
-children(Change, S0, #c_try{arg = A0, body = B0, handler = H0} = N) ->
-    {A, S1} = Change(A0, S0),
-    {B, S2} = Change(B0, S1),
-    {H, S3} = Change(H0, S2),
-    {N#c_try{arg = A, body = B, handler = H}, S3};
-children(Change, S0, #c_tuple{es = Es0} = N) ->
-    {Es, S1} = lists:mapfoldl(Change, S0, Es0),
-    {N#c_tuple{es = Es}, S1};
-children(Change, S0, #c_values{es = Es0} = N) ->
-    {Es, S1} = lists:mapfoldl(Change, S0, Es0),
-    {N#c_values{es = Es}, S1};
-%% of another kind, which no pass knows (readable refuses it)
-children(_, S, N) -> {N, S}.
+children(Change, State, Node) ->
+    lists:foldl(
+        fun(Field, {N, S}) ->
+            {Part, S1} = change_part(Change, element(Field, N), S),
+            {setelement(Field, N, Part), S1}
+        end, {Node, State}, fields(Node)).
+
+%% A child, a list of them, or a definition of a letrec with its name.
+change_part(Change, Parts, S) when is_list(Parts) -> lists:mapfoldl(fun(P, T) -> change_part(Change, P, T) end, S, Parts);
+change_part(Change, {#c_var{} = Name, Fun}, S0) -> {F, S} = Change(Fun, S0), {{Name, F}, S};
+change_part(Change, Child, S) -> Change(Child, S).
+
+%% The fields of a node that hold its children, in the order of evaluation. A node of another kind has none: no pass
+%% knows it, and readable refuses it.
+fields(#c_alias{}) -> [#c_alias.var, #c_alias.pat];
+fields(#c_apply{}) -> [#c_apply.op, #c_apply.args];
+fields(#c_binary{}) -> [#c_binary.segments];
+fields(#c_bitstr{}) -> [#c_bitstr.val, #c_bitstr.size];
+fields(#c_call{}) -> [#c_call.module, #c_call.name, #c_call.args];
+fields(#c_case{}) -> [#c_case.arg, #c_case.clauses];
+fields(#c_catch{}) -> [#c_catch.body];
+fields(#c_clause{}) -> [#c_clause.pats, #c_clause.guard, #c_clause.body];
+fields(#c_cons{}) -> [#c_cons.hd, #c_cons.tl];
+fields(#c_fun{}) -> [#c_fun.body];
+fields(#c_let{}) -> [#c_let.arg, #c_let.body];
+fields(#c_letrec{}) -> [#c_letrec.defs, #c_letrec.body];
+fields(#c_map{}) -> [#c_map.arg, #c_map.es];
+fields(#c_map_pair{}) -> [#c_map_pair.key, #c_map_pair.val];
+fields(#c_primop{}) -> [#c_primop.args];
+fields(#c_receive{}) -> [#c_receive.clauses, #c_receive.timeout, #c_receive.action];
+fields(#c_seq{}) -> [#c_seq.arg, #c_seq.body];
+fields(#c_try{}) -> [#c_try.arg, #c_try.body, #c_try.handler];
+fields(#c_tuple{}) -> [#c_tuple.es];
+fields(#c_values{}) -> [#c_values.es];
+fields(_) -> [].
 
 %% Collect(Node, Sum) of each node, from the top.
 fold(Collect, Sum, Node) ->
