@@ -1,4 +1,4 @@
--- What a whole command line comes to that enters `explore`.
+-- What a whole command line comes to that enters a command which has options.
 use Rattle.std.proofs.Common.{◌≡◌, ◌∙◌, ℕ, ◌≤◌, Bool, true, false, List, [], Option, Some, None, cond, codes, option_map, refl, sym, ap, subst, true≢false}
 use Rattle.std.specs.Option.{option_map_or}
 use Rattle.std.specs.Str.{bytes_eq}
@@ -9,7 +9,7 @@ use Rattle.clap.specs.Walk.{Row, Text, answers_to, nothing_held, rows_after, sto
 use Rattle.clap.specs.Simple.{Shape}
 use Rattle.clap.specs.declared.builder.value_parser.ValueParser.TheVariants.{Unsigned}
 use Rattle.clap.proofs.ValueTestLemmas.{accepts-Accepts}
-use Rattle.command_words.specs.inside.CommandLine.{command_line, explore_built, program_built, replay_command}
+use Rattle.command_words.specs.inside.CommandLine.{Level, built_of, check_built, checking, command_line, explore_built, exploring, name_of, program_built, replay_command}
 use Rattle.command_words.specs.inside.Found.{ReadsNumber}
 use Rattle.command_words.proofs.Kept.{both_pass}
 
@@ -19,39 +19,51 @@ replay_built = built_leaf (inherited program_built replay_command.top)
 abbrev help_built : Shape
 help_built = built_leaf help_shape
 
--- the rows of an exploration are those of a walk over some words that is not at fault
-pub record IsEntered (rows : List Row) : Type 0 where
+-- the rows of the command are those of a walk over some words that is not at fault
+pub record IsEntered (level : Level) (rows : List Row) : Type 0 where
   pub words : List Text
-  pub rows_are : rows ≡ rows_after explore_built.rules [] words
-  pub passes : level_fault explore_built [] nothing_held words false [] ≡ []
+  pub rows_are : rows ≡ rows_after (built_of level).rules [] words
+  pub passes : level_fault (built_of level) [] nothing_held words false [] ≡ []
 
-apart : (rows : List Row) (p : Text × List Row) → bytes_eq p.0 (codes "explore") ≡ false → Some p ≡ Some (codes "explore", rows) → ⊥
-apart rows p differs same =
-    let names : p.0 ≡ codes "explore" = cc in
-    true≢false (sym (ap (λ t. bytes_eq t (codes "explore")) names) ∙ differs)
+apart : (name : Text) (rows : List Row) (p : Text × List Row) → bytes_eq p.0 name ≡ false → bytes_eq name name ≡ true → Some p ≡ Some (name, rows) → ⊥
+apart name rows p differs own same =
+    let names : p.0 ≡ name = cc in
+    true≢false (sym own ∙ sym (ap (λ t. bytes_eq t name) names) ∙ differs)
 
-entered_by : (stop : Option (Text × List Text)) (rows : List Row) → entered (built command_line) stop ≡ Some (codes "explore", rows) → entered_fault (built command_line) stop ≡ [] → IsEntered rows
-entered_by None rows is passes = cc
-entered_by (Some p) rows is passes = by (answers_to p.0 (label_of replay_built)) (answers_to p.0 (label_of explore_built)) (answers_to p.0 (label_of help_built)) is passes
+-- the subcommand that a word names
+abbrev named : Bool → Bool → Bool → Bool → Option Shape
+named replay explore check help = cond replay (Some replay_built) (cond explore (Some explore_built) (cond check (Some check_built) (cond help (Some help_built) None)))
+
+entered_by : (level : Level) (stop : Option (Text × List Text)) (rows : List Row) → entered (built command_line) stop ≡ Some (name_of level, rows) → entered_fault (built command_line) stop ≡ []
+    → IsEntered level rows
+entered_by level None rows is passes = cc
+entered_by level (Some p) rows is passes =
+    by level (answers_to p.0 (label_of replay_built)) (answers_to p.0 (label_of explore_built)) (answers_to p.0 (label_of check_built)) (answers_to p.0 (label_of help_built)) is passes
   where
-    by : (replay explore help : Bool)
-        → option_map (λ s. rows_at s p.1) (cond replay (Some replay_built) (cond explore (Some explore_built) (cond help (Some help_built) None))) ≡ Some (codes "explore", rows)
-        → option_map_or (λ s. level_fault s [] nothing_held p.1 false []) (cond replay (Some replay_built) (cond explore (Some explore_built) (cond help (Some help_built) None))) [] ≡ []
-        → IsEntered rows
-    by true explore help is passes = absurd (apart rows (rows_at replay_built p.1) refl is)
-    by false true help is passes =
+    by : (level : Level) (replay explore check help : Bool) → option_map (λ s. rows_at s p.1) (named replay explore check help) ≡ Some (name_of level, rows)
+        → option_map_or (λ s. level_fault s [] nothing_held p.1 false []) (named replay explore check help) [] ≡ [] → IsEntered level rows
+    by exploring true explore check help is passes = absurd (apart (codes "explore") rows (rows_at replay_built p.1) refl refl is)
+    by exploring false true check help is passes =
         let same : Some (rows_after explore_built.rules [] p.1) ≡ Some rows = ap (option_map (λ (q : Text × List Row). q.1)) is in
         record { words = p.1; rows_are = cc; passes = passes }
-    by false false true is passes = absurd (apart rows (rows_at help_built p.1) refl is)
-    by false false false is passes = cc
+    by exploring false false true help is passes = absurd (apart (codes "explore") rows (rows_at check_built p.1) refl refl is)
+    by exploring false false false true is passes = absurd (apart (codes "explore") rows (rows_at help_built p.1) refl refl is)
+    by exploring false false false false is passes = cc
+    by checking true explore check help is passes = absurd (apart (codes "check") rows (rows_at replay_built p.1) refl refl is)
+    by checking false true check help is passes = absurd (apart (codes "check") rows (rows_at explore_built p.1) refl refl is)
+    by checking false false true help is passes =
+        let same : Some (rows_after check_built.rules [] p.1) ≡ Some rows = ap (option_map (λ (q : Text × List Row). q.1)) is in
+        record { words = p.1; rows_are = cc; passes = passes }
+    by checking false false false true is passes = absurd (apart (codes "check") rows (rows_at help_built p.1) refl refl is)
+    by checking false false false false is passes = cc
 
 -- where the command line is not at fault
-pub entered_rows : (words : List Text) (rows : List Row) → fault_of command_line words ≡ [] → subcommand_of command_line words ≡ Some (codes "explore", rows) → IsEntered rows
-entered_rows words rows none is =
+pub entered_rows : (level : Level) (words : List Text) (rows : List Row) → fault_of command_line words ≡ [] → subcommand_of command_line words ≡ Some (name_of level, rows) → IsEntered level rows
+entered_rows level words rows none is =
     let given = argument_words command_line words in
     let stop = stop_after (built command_line).top.rules (names_of (built command_line)) given in
     let first = both_pass (walk_fault (built command_line).top (names_of (built command_line)) (walk_from nothing_held) given) _ none in
-    entered_by stop rows is (both_pass (entered_fault (built command_line) stop) _ first.1).0
+    entered_by level stop rows is (both_pass (entered_fault (built command_line) stop) _ first.1).0
 
 -- a number that is read is in its range, where its text is
 pub number_fits : (low high n : ℕ) (o : Option Text) → ReadsNumber o (Some n) → ((text : Text) → o ≡ Some text → is_unsigned_in low high text ≡ true) → (low ≤ n) × (n ≤ high)

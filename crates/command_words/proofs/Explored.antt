@@ -1,107 +1,168 @@
--- What the parser makes of the words of an exploration whose options come in any order.
-use Rattle.std.proofs.Common.{◌≡◌, ◌∙◌, ◌||◌, ℕ, Bool, true, false, not, List, [], ◌∷◌, ◌++◌, map, Some, cond, codes, option_map, refl, sym, ap}
-use Rattle.std.specs.List.{fold}
-use Rattle.std.specs.Option.{is_some, option_map_or}
-use Rattle.std.specs.Prelude.{slice_get}
-use Rattle.std.proofs.lemmas.List.{append-nil, append_assoc}
-use Rattle.clap.specs.Facts.{explicit_source}
-use Rattle.clap.specs.Faults.{check_fault, defaults_fault, entered_fault, fault_of, level_fault, settle_fault, walk_fault}
-use Rattle.clap.specs.Kinds.{Kinds, or_else}
-use Rattle.clap.specs.Simple.{built, entered, filled, names_of, subcommand_of}
-use Rattle.clap.specs.Takes.{is_given}
-use Rattle.clap.specs.Walk.{Names, Row, Rule, Text, Walk, finished, has_row, nothing_held, rows_after, settled, walk, walk_from, walked, with_default}
-use Rattle.clap.specs.declared.error.kind.ErrorKind.TheVariants.{DisplayHelp, MissingRequiredArgument}
-use Rattle.clap.proofs.FaultLemmas.{stopped_fault}
-use Rattle.clap.proofs.OnLiterals.{clap_on_literals}
-use Rattle.command_words.specs.Words.{Given, depth, depths_of, words_of_all}
-use Rattle.command_words.specs.inside.CommandLine.{command_line, depth_rule, explore_built, flag_rule, nodes_rule, workers_rule}
-use Rattle.command_words.proofs.Options.{AreLawful, AreNew, IsReady, both_none, options_pass, options_ready}
-use Rattle.command_words.proofs.Rows.{depth_left, depth_row, row_of, with_defaults}
+-- What the program makes of the words of an exploration.
+use Rattle.std.proofs.Common.{◌≡◌, ◌∙◌, ◌⊎◌, ℕ, ◌≤◌, Bool, true, false, List, [], ◌∷◌, length, map, Option, Some, None, codes, option_map, refl, sym, ap, subst, inl, inr, arith}
+use Rattle.std.specs.Fmt.{decimal, digits}
+use Rattle.std.specs.Prelude.{MatchBool, slice_get}
+use Rattle.std.specs.Str.{bytes_eq}
+use Rattle.std.proofs.lemmas.Slice.Eq.{bytes_eq-Decides}
+use Rattle.clap.specs.Words.{Row, Text, fault_of, one_of, subcommand_of}
+use Rattle.clap.specs.declared.parser.matches.ValueSource.TheVariants.{CommandLine, DefaultValue}
+use Rattle.findings.specs.declared.flags.Flags.{Flags}
+use Rattle.findings.specs.declared.options.Options.{Options}
+use Rattle.command_words.specs.declared.words.Printed.{Printed}
+use Rattle.command_words.specs.declared.words.Printed.TheVariants.{Report, ReportAndCover}
+use Rattle.command_words.specs.Words.{AreInRange, Given, IsExplore, IsGivenOr, asks_for_cover, is_cover, nodes_of, workers_of}
+use Rattle.command_words.specs.inside.CommandLine.{command_line, exploring}
+use Rattle.command_words.specs.inside.Found.{AreOptionsIn, AreOptionsOf, AreRead, IsCheckOf, ReadsNumber, schedule_in}
+use Rattle.command_words.proofs.Asked.{IsAsked, asked_enters, asked_has_no_schedule, asked_passes, at_most_once, depth_is_read, depth_read, flag_read, flags_read, number_not_read, number_read, rows_of_given}
+use Rattle.command_words.proofs.Entered.{entered_rows, number_fits}
+use Rattle.command_words.proofs.Once.{Each, lawful_by}
+use Rattle.command_words.proofs.Ranges.{depth_fits, nodes_fits, workers_fits}
+use Rattle.command_words.proofs.Rows.{cover_left, cover_row, nodes_left, nodes_row, row_at, row_of, row_or, row_with, text_of_row, workers_left, workers_row}
 
--- ---- the defaults
+-- ---- the options of an exploration, each once and in its range
 
-no_fault : (b : Bool) → cond {A = Kinds} b [] [] ≡ []
-no_fault true = refl
-no_fault false = refl
+given_once : (default n : ℕ) (counts : List ℕ) → IsGivenOr default counts n → length counts ≤ 1
+given_once default n [] is = omega arith
+given_once default n (m ∷ []) is = omega arith
+given_once default n (m ∷ (k ∷ rest)) is = absurd is
 
-no_default_fault : (b : Bool) (kinds : Kinds) → cond (b || true) [] kinds ≡ []
-no_default_fault true kinds = refl
-no_default_fault false kinds = refl
+given_lawful : (high default n : ℕ) (counts : List ℕ) → IsGivenOr default counts n → 1 ≤ n → n ≤ high → Each (λ m. (1 ≤ m) × (m ≤ high)) counts
+given_lawful high default n [] is least most = tt
+given_lawful high default n (m ∷ []) is least most = ((subst (λ k. 1 ≤ k) is least, subst (λ k. k ≤ high) is most), tt)
+given_lawful high default n (m ∷ (k ∷ rest)) is least most = absurd is
 
-defaults_pass : (rows : List Row) → defaults_fault rows explore_built.rules ≡ []
-unfolding defaults_fault
-defaults_pass rows =
-    let one = with_default rows (filled depth_rule) in
-    let two = with_default one (filled nodes_rule) in
-    let three = with_default two (filled workers_rule) in
-    let four = with_default three (filled (flag_rule (codes "allow-deadlock"))) in
-    let five = with_default four (filled (flag_rule (codes "strict-access"))) in
-    both_none _ _ (no_default_fault (has_row (codes "depth") rows) [])
-    (both_none _ _ (no_fault (has_row (codes "nodes") one || false))
-    (both_none _ _ (no_fault (has_row (codes "workers") two || false))
-    (both_none _ _ (no_fault (has_row (codes "allow-deadlock") three || false))
-    (both_none _ _ (no_fault (has_row (codes "strict-access") four || false))
-    (both_none _ _ (no_default_fault (has_row (codes "help") five) (DisplayHelp ∷ [])) refl)))))
+asked : (words : List Text) (options : Options) (printed : Printed) → IsExplore words options printed → IsAsked exploring words options.depth options.flags
+asked words options printed asks = record {
+  name = asks.name;
+  given = asks.given;
+  words_are = asks.words_are;
+  depth = asks.depth;
+  allow_deadlock = asks.allow_deadlock;
+  strict_access = asks.strict_access;
+  once = record {
+    depths = omega (arith, ap length asks.depth);
+    nodes = given_once 1000000 options.nodes (nodes_of asks.given) asks.nodes;
+    workers = given_once 1 options.workers (workers_of asks.given) asks.workers;
+    allow_deadlock = at_most_once _ options.flags.allow_deadlock asks.allow_deadlock;
+    strict_access = at_most_once _ options.flags.strict_access asks.strict_access;
+    cover = at_most_once _ (asks_for_cover printed) asks.cover;
+  };
+  lawful = lawful_by asks.given (subst (Each (λ n. n ≤ 400)) (sym asks.depth) (asks.in_range.depth, tt))
+      (given_lawful 10000000 1000000 options.nodes (nodes_of asks.given) asks.nodes asks.in_range.least_nodes asks.in_range.most_nodes)
+      (given_lawful 16 1 options.workers (workers_of asks.given) asks.workers asks.in_range.some_workers asks.in_range.most_workers);
+  in_range = asks.in_range.depth;
+}
 
--- ---- the level of `explore`
+-- the words of an exploration have no fault
+pub explore_passes : (words : List Text) (options : Options) (printed : Printed) → IsExplore words options printed → fault_of command_line words ≡ []
+explore_passes words options printed asks = asked_passes exploring words options.depth options.flags (asked words options printed asks)
 
-module _ (given : List Given) (number : ℕ) (new : AreNew [] given) (lawful : AreLawful given) (depth_is : depths_of given ≡ number ∷ []) where
-  ready : IsReady (map row_of given) (walk explore_built.rules [] nothing_held (words_of_all given)).held
-  ready = options_ready given [] nothing_held (record { settles = refl; rows_are = refl }) new lawful
+explore_enters : (words : List Text) (options : Options) (printed : Printed) (asks : IsExplore words options printed)
+    → subcommand_of command_line words ≡ Some (codes "explore", rows_of_given exploring asks.given)
+unfolding asked
+explore_enters words options printed asks = asked_enters exploring words options.depth options.flags (asked words options printed asks)
 
-  -- the rows are those of the options, with the defaults
-  pub rows_left : rows_after explore_built.rules [] (words_of_all given) ≡ with_defaults (map row_of given)
-  rows_left = ap with_defaults ready.rows_are
+-- no schedule is found of them
+pub explore_has_no_schedule : (words : List Text) (options : Options) (printed : Printed) → IsExplore words options printed → schedule_in (subcommand_of command_line words) ≡ None
+explore_has_no_schedule words options printed asks = asked_has_no_schedule exploring words options.depth options.flags (asked words options printed asks)
 
-  depth_given : is_given (codes "depth") (with_defaults (map row_of given)) ≡ true
-  depth_given =
-      ap (λ o. option_map_or (λ r. explicit_source r.source) o false) (depth_left (map row_of given) ∙ depth_row given ∙ ap (λ l. option_map (λ n. row_of (depth n)) (slice_get l 0)) depth_is)
+-- and no check
+pub explore_has_no_check : (words : List Text) (options : Options) (printed : Printed) (read : ℕ × Flags) → IsExplore words options printed → IsCheckOf (subcommand_of command_line words) (Some read) → ⊥
+explore_has_no_check words options printed read asks found =
+    let none : Some read ≡ None = subst (λ o. IsCheckOf o (Some read)) (explore_enters words options printed asks) found in
+    cc
 
-  checks : (rows : List Row) → is_given (codes "depth") rows ≡ true → check_fault explore_built rows false ≡ []
-  checks rows is = ap (λ b. cond (not b || false) (MissingRequiredArgument ∷ []) []) is
+-- ---- the texts of its numbers
 
-  pub level_passes : level_fault explore_built [] nothing_held (words_of_all given) false [] ≡ []
-  level_passes =
-      let end = (walk explore_built.rules [] nothing_held (words_of_all given)).held in
-      both_none _ _ (options_pass given [] nothing_held (record { settles = refl; rows_are = refl }) new lawful)
-      (both_none _ _ ready.settles (both_none _ _ (defaults_pass (settled explore_built.rules end).rows) (checks (rows_after explore_built.rules [] (words_of_all given)) (ap (is_given (codes "depth")) rows_left ∙ depth_given))))
+million : codes "1000000" ≡ decimal 1000000
+unfolding digits
+million = refl
 
--- ---- the whole command line
+one_digit : codes "1" ≡ decimal 1
+unfolding digits
+one_digit = refl
 
--- a walk that stopped at a subcommand keeps the words after it
-pub stopped_walk : (rules : List Rule) (names : Names) (w : Walk) (name : Text) (before words : List Text)
-    → fold (walked rules names) (record w { stopped = Some (name, before) }) words ≡ record w { stopped = Some (name, before ++ words) }
-unfolding walked
-stopped_walk rules names w name before [] = ap (λ l. record w { stopped = Some (name, l) }) (sym (append-nil before))
-stopped_walk rules names w name before (word ∷ rest) =
-    stopped_walk rules names w name (before ++ word ∷ []) rest ∙ ap (λ l. record w { stopped = Some (name, l) }) (append_assoc before (word ∷ []) rest)
+-- a number that is given, or its default
+number_text : (id text : Text) (default n : ℕ) (rows : List Row) (counts : List ℕ) → text ≡ decimal default → IsGivenOr default counts n
+    → row_at id rows ≡ row_or id text (option_map (λ n. row_with CommandLine id (decimal n)) (slice_get counts 0)) → one_of id rows ≡ Some (decimal n)
+number_text id text default n rows [] spelled is row = text_of_row id text DefaultValue rows row ∙ ap Some (spelled ∙ ap decimal (sym is))
+number_text id text default n rows (m ∷ []) spelled is row = text_of_row id (decimal m) CommandLine rows row ∙ ap (λ k. Some (decimal k)) (sym is)
+number_text id text default n rows (m ∷ (k ∷ rest)) spelled is row = absurd is
 
--- where the walk over the whole line ends
-abbrev ended : List Text → Walk
-ended words = record (walk_from nothing_held) { stopped = Some (codes "explore", words) }
+nodes_text : (given : List Given) (n : ℕ) → IsGivenOr 1000000 (nodes_of given) n → one_of (codes "nodes") (rows_of_given exploring given) ≡ Some (decimal n)
+nodes_text given n is =
+    number_text (codes "nodes") (codes "1000000") 1000000 n (rows_of_given exploring given) (nodes_of given) million is
+    (nodes_left (map row_of given) ∙ ap (row_or (codes "nodes") (codes "1000000")) (nodes_row given))
 
-line_walk : (words : List Text) → walk (built command_line).top.rules (names_of (built command_line)) nothing_held (codes "explore" ∷ words) ≡ ended words
-unfolding clap_on_literals
-line_walk words = stopped_walk (built command_line).top.rules (names_of (built command_line)) (walk_from nothing_held) (codes "explore") [] words
+workers_text : (given : List Given) (n : ℕ) → IsGivenOr 1 (workers_of given) n → one_of (codes "workers") (rows_of_given exploring given) ≡ Some (decimal n)
+workers_text given n is =
+    number_text (codes "workers") (codes "1") 1 n (rows_of_given exploring given) (workers_of given) one_digit is
+    (workers_left (map row_of given) ∙ ap (row_or (codes "workers") (codes "1")) (workers_row given))
 
--- the rows of the exploration are what its words leave
-pub line_enters : (name : Text) (words : List Text) → subcommand_of command_line (name ∷ codes "explore" ∷ words) ≡ Some (codes "explore", rows_after explore_built.rules [] words)
-line_enters name words = ap (λ (w : Walk). entered (built command_line) w.stopped) (line_walk words)
+-- ---- the options that are read of them
 
-word_passes : (words : List Text) → walk_fault (built command_line).top (names_of (built command_line)) (walk_from nothing_held) (codes "explore" ∷ words) ≡ []
-unfolding clap_on_literals
-word_passes words = stopped_fault (built command_line).top (names_of (built command_line)) (walk_from nothing_held) (codes "explore", []) words
+same_options : (words : List Text) (options found : Options) (printed prints : Printed) (asks : IsExplore words options printed) → AreRead (rows_of_given exploring asks.given) found prints
+    → found ≡ options
+unfolding asked
+same_options words options found printed prints asks read =
+    let range = asks.in_range in
+    let of = asked words options printed asks in
+    let depth : found.depth ≡ options.depth = depth_read exploring words options.depth options.flags of found.depth read.depth in
+    let nodes : found.nodes ≡ options.nodes = number_read _ options.nodes found.nodes (omega (arith, range.most_nodes)) (nodes_text asks.given options.nodes asks.nodes) read.nodes in
+    let budget : found.budget ≡ options.budget = read.budget ∙ sym range.budget in
+    let workers : found.workers ≡ options.workers = number_read _ options.workers found.workers (omega (arith, range.most_workers)) (workers_text asks.given options.workers asks.workers) read.workers in
+    let flags : found.flags ≡ options.flags = flags_read exploring words options.depth options.flags of found.flags read.flags in
+    (λ i. record { depth = depth i; nodes = nodes i; budget = budget i; workers = workers i; flags = flags i })
 
--- the line is at fault where the level of `explore` is
-abbrev fault_at : List Text → Walk → Kinds
-fault_at words w =
-    let top = (built command_line).top in
-    or_else (walk_fault top (names_of (built command_line)) (walk_from nothing_held) (codes "explore" ∷ words))
-    (or_else (entered_fault (built command_line) w.stopped) (or_else (settle_fault top.rules false w.held)
-    (or_else (defaults_fault (settled top.rules w.held).rows top.rules) (check_fault top (finished top.rules w.held) (is_some (entered (built command_line) w.stopped))))))
+by_its_cover : (printed prints : Printed) → asks_for_cover prints ≡ asks_for_cover printed → prints ≡ printed
+by_its_cover Report Report same = refl
+by_its_cover Report ReportAndCover same = cc
+by_its_cover ReportAndCover Report same = cc
+by_its_cover ReportAndCover ReportAndCover same = refl
 
-pub line_passes : (name : Text) (words : List Text) → level_fault explore_built [] nothing_held words false [] ≡ [] → fault_of command_line (name ∷ codes "explore" ∷ words) ≡ []
-unfolding clap_on_literals
-line_passes name words none =
-    let at : fault_of command_line (name ∷ codes "explore" ∷ words) ≡ fault_at words (ended words) = ap (fault_at words) (line_walk words) in
-    at ∙ both_none (walk_fault (built command_line).top (names_of (built command_line)) (walk_from nothing_held) (codes "explore" ∷ words)) _ (word_passes words) (both_none _ [] none refl)
+same_printed : (words : List Text) (options found : Options) (printed prints : Printed) (asks : IsExplore words options printed) → AreRead (rows_of_given exploring asks.given) found prints
+    → prints ≡ printed
+same_printed words options found printed prints asks read =
+    by_its_cover printed prints (flag_read exploring (codes "cover") is_cover asks.given (asks_for_cover printed) (asks_for_cover prints) asks.cover (cover_left (map row_of asks.given)) (cover_row asks.given) read.cover)
+
+-- the options that are found are those that the words ask for
+pub explore_reads : (words : List Text) (options : Options) (printed : Printed) (read : Options × Printed) → IsExplore words options printed
+    → AreOptionsOf (subcommand_of command_line words) (Some read) → (read.0 ≡ options) × (read.1 ≡ printed)
+explore_reads words options printed read asks found =
+    let at : AreRead (rows_of_given exploring asks.given) read.0 read.1 = subst (λ o. AreOptionsOf o (Some read)) (explore_enters words options printed asks) found in
+    (same_options words options read.0 printed read.1 asks at, same_printed words options read.0 printed read.1 asks at)
+
+-- and there are some
+pub explore_is_found : (words : List Text) (options : Options) (printed : Printed) → IsExplore words options printed → AreOptionsOf (subcommand_of command_line words) None → ⊥
+unfolding asked
+explore_is_found words options printed asks read = by (subst (λ o. AreOptionsOf o None) (explore_enters words options printed asks) read)
+  where
+    by : ReadsNumber (one_of (codes "depth") (rows_of_given exploring asks.given)) None
+        ⊎ (ReadsNumber (one_of (codes "nodes") (rows_of_given exploring asks.given)) None ⊎ ReadsNumber (one_of (codes "workers") (rows_of_given exploring asks.given)) None) → ⊥
+    by (inl depth) = depth_is_read exploring words options.depth options.flags (asked words options printed asks) depth
+    by (inr (inl nodes)) = number_not_read _ options.nodes (omega (arith, asks.in_range.most_nodes)) (nodes_text asks.given options.nodes asks.nodes) nodes
+    by (inr (inr workers)) = number_not_read _ options.workers (omega (arith, asks.in_range.most_workers)) (workers_text asks.given options.workers asks.workers) workers
+
+-- ---- any words
+
+-- what is found of words that are not at fault is in its range
+pub found_in_range : (words : List Text) (found : Options × Printed) → fault_of command_line words ≡ [] → AreOptionsOf (subcommand_of command_line words) (Some found) → AreInRange found.0
+found_in_range words found none read = by (subcommand_of command_line words) refl read
+  where
+    in_rows : (rows : List Row) → subcommand_of command_line words ≡ Some (codes "explore", rows) → AreRead rows found.0 found.1 → AreInRange found.0
+    in_rows rows entered read =
+        let walk = entered_rows exploring words rows none entered in
+        let depth = number_fits 0 400 found.0.depth (one_of (codes "depth") rows) read.depth (λ text is. depth_fits exploring walk.words text walk.passes (ap (one_of (codes "depth")) (sym walk.rows_are) ∙ is)) in
+        let nodes = number_fits 1 10000000 found.0.nodes (one_of (codes "nodes") rows) read.nodes (λ text is. nodes_fits walk.words text walk.passes (ap (one_of (codes "nodes")) (sym walk.rows_are) ∙ is)) in
+        let workers = number_fits 1 16 found.0.workers (one_of (codes "workers") rows) read.workers (λ text is. workers_fits walk.words text walk.passes (ap (one_of (codes "workers")) (sym walk.rows_are) ∙ is)) in
+        record { depth = depth.1; least_nodes = nodes.0; most_nodes = nodes.1; budget = read.budget; some_workers = workers.0; most_workers = workers.1 }
+
+    by : (o : Option (Text × List Row)) → subcommand_of command_line words ≡ o → AreOptionsOf o (Some found) → AreInRange found.0
+    by None entered read = cc
+    by (Some p) entered read = at (bytes_eq p.0 (codes "explore")) refl read
+      where
+        at : (b : Bool) → bytes_eq p.0 (codes "explore") ≡ b → MatchBool b (AreOptionsIn p.1 (Some found)) (Some found ≡ None) → AreInRange found.0
+        at false is read = cc
+        at true is read =
+            let name : p.0 ≡ codes "explore" = (bytes_eq-Decides p.0 (codes "explore")).0 is in
+            in_rows p.1 (entered ∙ ap (λ (n : Text). Some (n, p.1)) name) read

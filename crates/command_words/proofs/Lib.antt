@@ -1,9 +1,11 @@
 pub mod Asked
+pub mod Checked
 pub mod CommandLine
 pub mod Entered
 pub mod Explored
 pub mod Found
 pub mod Kept
+pub mod Levels
 pub mod Named
 pub mod Numbers
 pub mod Once

@@ -11,11 +11,13 @@ use Rattle.clap.specs.Lexer.{long_of, short_of}
 use Rattle.clap.specs.Simple.{Shape, built, entered, filled, help_rule, names_of, subcommand_of}
 use Rattle.clap.specs.Walk.{Held, Names, Row, Step, Text, Walk, after_flag, after_step, bundle_met, bundle_step, first_of, idle, long_or_other, nothing_held, plain, short_or_plain, subcommand_or_other, trailing, walk, walk_from, walked}
 use Rattle.clap.specs.declared.error.kind.ErrorKind.TheVariants.{InvalidSubcommand, UnknownArgument}
+use Rattle.findings.specs.declared.flags.Flags.{Flags}
 use Rattle.findings.specs.declared.options.Options.{Options}
+use Rattle.command_words.specs.declared.words.Printed.{Printed}
 use Rattle.command_words.specs.Words.{IsNamed}
 use Rattle.command_words.specs.inside.CommandLine.{command_line}
-use Rattle.command_words.specs.inside.Found.{AreOptionsIn, AreOptionsOf, schedule_in}
-use Rattle.command_words.proofs.Explored.{stopped_walk}
+use Rattle.command_words.specs.inside.Found.{AreOptionsIn, AreOptionsOf, IsCheckIn, IsCheckOf, schedule_in}
+use Rattle.command_words.proofs.Levels.{stopped_walk}
 use Rattle.command_words.proofs.Kept.{both_pass}
 
 -- the program's own level, and the names of its commands
@@ -113,24 +115,32 @@ module _ (w : Text) (p : Text × List Row) where
       → entered (built command_line) (fold (walked top.rules commands) (first_step (Some (codes "explore"))) rest).stopped ≡ Some p → w ≡ p.0
   named_explore rest is enters = sym (same_word (codes "explore") w is) ∙ sym (entered_name (codes "explore") rest _ refl refl enters)
 
-  abbrev among : Bool → Bool → Bool → Option Text
-  among replay explore help = option_map (λ (s : Text × List Text). s.0) (cond replay (Some (codes "replay", [])) (cond explore (Some (codes "explore", [])) (cond help (Some (codes "help", [])) None)))
+  named_check : (rest : List Text) → (bytes_eq (codes "check") w || false) ≡ true
+      → entered (built command_line) (fold (walked top.rules commands) (first_step (Some (codes "check"))) rest).stopped ≡ Some p → w ≡ p.0
+  named_check rest is enters = sym (same_word (codes "check") w is) ∙ sym (entered_name (codes "check") rest _ refl refl enters)
 
-  word_by : (replay explore help : Bool) (rest : List Text) → (bytes_eq (codes "replay") w || false) ≡ replay → (bytes_eq (codes "explore") w || false) ≡ explore
-      → or_else (other_fault top (among replay explore help) w nothing_held) (step_fault top 1 (met (among replay explore help)).0 (met (among replay explore help)).1) ≡ []
-      → walk_fault top commands (first_step (among replay explore help)) rest ≡ []
-      → entered (built command_line) (fold (walked top.rules commands) (first_step (among replay explore help)) rest).stopped ≡ Some p → w ≡ p.0
-  word_by true explore help rest r e none later enters = named_replay rest r enters
-  word_by false true help rest r e none later enters = named_explore rest e enters
-  word_by false false true rest r e none later enters = cc
-  word_by false false false rest r e none later enters = absurd (no_command (bytes_eq w (45 ∷ 45 ∷ [])) rest none later enters)
+  abbrev among : Bool → Bool → Bool → Bool → Option Text
+  among replay explore check help =
+      option_map (λ (s : Text × List Text). s.0)
+      (cond replay (Some (codes "replay", [])) (cond explore (Some (codes "explore", [])) (cond check (Some (codes "check", [])) (cond help (Some (codes "help", [])) None))))
+
+  word_by : (replay explore check help : Bool) (rest : List Text) → (bytes_eq (codes "replay") w || false) ≡ replay → (bytes_eq (codes "explore") w || false) ≡ explore
+      → (bytes_eq (codes "check") w || false) ≡ check
+      → or_else (other_fault top (among replay explore check help) w nothing_held) (step_fault top 1 (met (among replay explore check help)).0 (met (among replay explore check help)).1) ≡ []
+      → walk_fault top commands (first_step (among replay explore check help)) rest ≡ []
+      → entered (built command_line) (fold (walked top.rules commands) (first_step (among replay explore check help)) rest).stopped ≡ Some p → w ≡ p.0
+  word_by true explore check help rest r e c none later enters = named_replay rest r enters
+  word_by false true check help rest r e c none later enters = named_explore rest e enters
+  word_by false false true help rest r e c none later enters = named_check rest c enters
+  word_by false false false true rest r e c none later enters = cc
+  word_by false false false false rest r e c none later enters = absurd (no_command (bytes_eq w (45 ∷ 45 ∷ [])) rest none later enters)
 
   word_is : (rest : List Text) → walk_fault top commands (walk_from nothing_held) (w ∷ rest) ≡ []
       → entered (built command_line) (walk top.rules commands nothing_held (w ∷ rest)).stopped ≡ Some p → w ≡ p.0
   unfolding walk_fault walked
   word_is rest none enters =
       let parts = both_pass (turn_fault top commands (walk_from nothing_held) w) _ none in
-      word_by _ _ (bytes_eq (codes "help") w || false) rest refl refl parts.0 parts.1 enters
+      word_by _ _ _ (bytes_eq (codes "help") w || false) rest refl refl refl parts.0 parts.1 enters
 
 -- a subcommand is entered by its name, which is the first word
 pub named_first : (words : List Text) (p : Text × List Row) → fault_of command_line words ≡ [] → subcommand_of command_line words ≡ Some p → IsNamed words p.0
@@ -140,7 +150,7 @@ named_first (name ∷ (w ∷ rest)) p none enters =
     let first = (both_pass (walk_fault top commands (walk_from nothing_held) (w ∷ rest)) _ none).0 in
     record { name = name; rest = rest; words_are = ap (λ x. name ∷ (x ∷ rest)) (word_is w p rest first enters) }
 
--- a schedule is found of the words of `replay` alone, and options of those of `explore`
+-- a schedule is found of the words of `replay` alone, options of those of `explore`, and a check of those of `check`
 pub replay_named : (words : List Text) (schedule : Text) → fault_of command_line words ≡ [] → schedule_in (subcommand_of command_line words) ≡ Some schedule → IsNamed words (codes "replay")
 replay_named words schedule none found = by (subcommand_of command_line words) refl found
   where
@@ -152,13 +162,24 @@ replay_named words schedule none found = by (subcommand_of command_line words) r
         at false is found = cc
         at true is found = subst (IsNamed words) ((bytes_eq-Decides p.0 (codes "replay")).0 is) (named_first words p none entered)
 
-pub explore_named : (words : List Text) (options : Options) → fault_of command_line words ≡ [] → AreOptionsOf (subcommand_of command_line words) (Some options) → IsNamed words (codes "explore")
-explore_named words options none found = by (subcommand_of command_line words) refl found
+pub explore_named : (words : List Text) (read : Options × Printed) → fault_of command_line words ≡ [] → AreOptionsOf (subcommand_of command_line words) (Some read) → IsNamed words (codes "explore")
+explore_named words read none found = by (subcommand_of command_line words) refl found
   where
-    by : (o : Option (Text × List Row)) → subcommand_of command_line words ≡ o → AreOptionsOf o (Some options) → IsNamed words (codes "explore")
+    by : (o : Option (Text × List Row)) → subcommand_of command_line words ≡ o → AreOptionsOf o (Some read) → IsNamed words (codes "explore")
     by None entered found = cc
     by (Some p) entered found = at (bytes_eq p.0 (codes "explore")) refl found
       where
-        at : (b : Bool) → bytes_eq p.0 (codes "explore") ≡ b → MatchBool b (AreOptionsIn p.1 (Some options)) (Some options ≡ None) → IsNamed words (codes "explore")
+        at : (b : Bool) → bytes_eq p.0 (codes "explore") ≡ b → MatchBool b (AreOptionsIn p.1 (Some read)) (Some read ≡ None) → IsNamed words (codes "explore")
         at false is found = cc
         at true is found = subst (IsNamed words) ((bytes_eq-Decides p.0 (codes "explore")).0 is) (named_first words p none entered)
+
+pub check_named : (words : List Text) (read : ℕ × Flags) → fault_of command_line words ≡ [] → IsCheckOf (subcommand_of command_line words) (Some read) → IsNamed words (codes "check")
+check_named words read none found = by (subcommand_of command_line words) refl found
+  where
+    by : (o : Option (Text × List Row)) → subcommand_of command_line words ≡ o → IsCheckOf o (Some read) → IsNamed words (codes "check")
+    by None entered found = cc
+    by (Some p) entered found = at (bytes_eq p.0 (codes "check")) refl found
+      where
+        at : (b : Bool) → bytes_eq p.0 (codes "check") ≡ b → MatchBool b (IsCheckIn p.1 (Some read)) (Some read ≡ None) → IsNamed words (codes "check")
+        at false is found = cc
+        at true is found = subst (IsNamed words) ((bytes_eq-Decides p.0 (codes "check")).0 is) (named_first words p none entered)

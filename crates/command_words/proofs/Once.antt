@@ -5,7 +5,8 @@ use Rattle.std.specs.Str.{bytes_eq}
 use Rattle.std.proofs.lemmas.List.Folds.{list_any-append}
 use Rattle.std.proofs.lemmas.List.Sums.{sum_by-cons}
 use Rattle.clap.specs.Walk.{Row, Text, has_row}
-use Rattle.command_words.specs.Words.{Given, depth, nodes, workers, allow_deadlock, strict_access, depths_of, nodes_of, workers_of, is_allow_deadlock, is_strict_access}
+use Rattle.command_words.specs.Words.{Given, depth, nodes, workers, allow_deadlock, strict_access, cover, depths_of, nodes_of, workers_of, is_allow_deadlock, is_strict_access, is_cover}
+use Rattle.command_words.specs.inside.CommandLine.{checking, exploring}
 use Rattle.command_words.proofs.Options.{AreLawful, AreNew}
 use Rattle.command_words.proofs.Rows.{id_of, row_of}
 
@@ -21,6 +22,7 @@ no_depth (nodes n ∷ rest) few = (refl, no_depth rest few)
 no_depth (workers n ∷ rest) few = (refl, no_depth rest few)
 no_depth (allow_deadlock ∷ rest) few = (refl, no_depth rest few)
 no_depth (strict_access ∷ rest) few = (refl, no_depth rest few)
+no_depth (cover ∷ rest) few = (refl, no_depth rest few)
 
 no_nodes : (given : List Given) → length (nodes_of given) ≤ 0 → IsNoneOf (codes "nodes") given
 no_nodes [] few = tt
@@ -29,6 +31,7 @@ no_nodes (depth n ∷ rest) few = (refl, no_nodes rest few)
 no_nodes (workers n ∷ rest) few = (refl, no_nodes rest few)
 no_nodes (allow_deadlock ∷ rest) few = (refl, no_nodes rest few)
 no_nodes (strict_access ∷ rest) few = (refl, no_nodes rest few)
+no_nodes (cover ∷ rest) few = (refl, no_nodes rest few)
 
 no_workers : (given : List Given) → length (workers_of given) ≤ 0 → IsNoneOf (codes "workers") given
 no_workers [] few = tt
@@ -37,6 +40,7 @@ no_workers (depth n ∷ rest) few = (refl, no_workers rest few)
 no_workers (nodes n ∷ rest) few = (refl, no_workers rest few)
 no_workers (allow_deadlock ∷ rest) few = (refl, no_workers rest few)
 no_workers (strict_access ∷ rest) few = (refl, no_workers rest few)
+no_workers (cover ∷ rest) few = (refl, no_workers rest few)
 
 counted : (p : Given → Bool) (given : Given) (rest : List Given) → count_by p (given ∷ rest) ≡ cond (p given) 1 0 + count_by p rest
 counted p given rest = sum_by-cons (λ x. cond (p x) 1 0) given rest
@@ -48,6 +52,7 @@ no_allow_deadlock (depth n ∷ rest) few = (refl, no_allow_deadlock rest (omega 
 no_allow_deadlock (nodes n ∷ rest) few = (refl, no_allow_deadlock rest (omega (arith, counted is_allow_deadlock (nodes n) rest)))
 no_allow_deadlock (workers n ∷ rest) few = (refl, no_allow_deadlock rest (omega (arith, counted is_allow_deadlock (workers n) rest)))
 no_allow_deadlock (strict_access ∷ rest) few = (refl, no_allow_deadlock rest (omega (arith, counted is_allow_deadlock strict_access rest)))
+no_allow_deadlock (cover ∷ rest) few = (refl, no_allow_deadlock rest (omega (arith, counted is_allow_deadlock cover rest)))
 
 no_strict_access : (given : List Given) → count_by is_strict_access given ≤ 0 → IsNoneOf (codes "strict-access") given
 no_strict_access [] few = tt
@@ -56,6 +61,16 @@ no_strict_access (depth n ∷ rest) few = (refl, no_strict_access rest (omega (a
 no_strict_access (nodes n ∷ rest) few = (refl, no_strict_access rest (omega (arith, counted is_strict_access (nodes n) rest)))
 no_strict_access (workers n ∷ rest) few = (refl, no_strict_access rest (omega (arith, counted is_strict_access (workers n) rest)))
 no_strict_access (allow_deadlock ∷ rest) few = (refl, no_strict_access rest (omega (arith, counted is_strict_access allow_deadlock rest)))
+no_strict_access (cover ∷ rest) few = (refl, no_strict_access rest (omega (arith, counted is_strict_access cover rest)))
+
+no_cover : (given : List Given) → count_by is_cover given ≤ 0 → IsNoneOf (codes "cover") given
+no_cover [] few = tt
+no_cover (cover ∷ rest) few = absurd (omega (arith, counted is_cover cover rest))
+no_cover (depth n ∷ rest) few = (refl, no_cover rest (omega (arith, counted is_cover (depth n) rest)))
+no_cover (nodes n ∷ rest) few = (refl, no_cover rest (omega (arith, counted is_cover (nodes n) rest)))
+no_cover (workers n ∷ rest) few = (refl, no_cover rest (omega (arith, counted is_cover (workers n) rest)))
+no_cover (allow_deadlock ∷ rest) few = (refl, no_cover rest (omega (arith, counted is_cover allow_deadlock rest)))
+no_cover (strict_access ∷ rest) few = (refl, no_cover rest (omega (arith, counted is_cover strict_access rest)))
 
 -- no name comes twice
 abbrev AreApart : List Given → Type 0
@@ -69,6 +84,7 @@ pub record AreOnce (given : List Given) : Type 0 where
   pub workers : length (workers_of given) ≤ 1
   pub allow_deadlock : count_by is_allow_deadlock given ≤ 1
   pub strict_access : count_by is_strict_access given ≤ 1
+  pub cover : count_by is_cover given ≤ 1
 
 -- the options after the first are given no more often
 fewer_depths : (first : Given) (rest : List Given) → length (depths_of rest) ≤ length (depths_of (first ∷ rest))
@@ -77,6 +93,7 @@ fewer_depths (nodes n) rest = omega arith
 fewer_depths (workers n) rest = omega arith
 fewer_depths allow_deadlock rest = omega arith
 fewer_depths strict_access rest = omega arith
+fewer_depths cover rest = omega arith
 
 fewer_nodes : (first : Given) (rest : List Given) → length (nodes_of rest) ≤ length (nodes_of (first ∷ rest))
 fewer_nodes (depth n) rest = omega arith
@@ -84,6 +101,7 @@ fewer_nodes (nodes n) rest = omega arith
 fewer_nodes (workers n) rest = omega arith
 fewer_nodes allow_deadlock rest = omega arith
 fewer_nodes strict_access rest = omega arith
+fewer_nodes cover rest = omega arith
 
 fewer_workers : (first : Given) (rest : List Given) → length (workers_of rest) ≤ length (workers_of (first ∷ rest))
 fewer_workers (depth n) rest = omega arith
@@ -91,6 +109,7 @@ fewer_workers (nodes n) rest = omega arith
 fewer_workers (workers n) rest = omega arith
 fewer_workers allow_deadlock rest = omega arith
 fewer_workers strict_access rest = omega arith
+fewer_workers cover rest = omega arith
 
 rest_once : (first : Given) (rest : List Given) → AreOnce (first ∷ rest) → AreOnce rest
 rest_once first rest once = record {
@@ -99,6 +118,7 @@ rest_once first rest once = record {
   workers = omega (arith, once.workers, fewer_workers first rest);
   allow_deadlock = omega (arith, once.allow_deadlock, counted is_allow_deadlock first rest);
   strict_access = omega (arith, once.strict_access, counted is_strict_access first rest);
+  cover = omega (arith, once.cover, counted is_cover first rest);
 }
 
 first_apart : (first : Given) (rest : List Given) → AreOnce (first ∷ rest) → IsNoneOf (id_of first) rest
@@ -107,6 +127,7 @@ first_apart (nodes n) rest once = no_nodes rest (omega (arith, once.nodes))
 first_apart (workers n) rest once = no_workers rest (omega (arith, once.workers))
 first_apart allow_deadlock rest once = no_allow_deadlock rest (omega (arith, once.allow_deadlock, counted is_allow_deadlock allow_deadlock rest))
 first_apart strict_access rest once = no_strict_access rest (omega (arith, once.strict_access, counted is_strict_access strict_access rest))
+first_apart cover rest once = no_cover rest (omega (arith, once.cover, counted is_cover cover rest))
 
 apart : (given : List Given) → AreOnce given → AreApart given
 apart [] once = tt
@@ -139,10 +160,22 @@ abbrev pub Each : (ℕ → Type 0) → List ℕ → Type 0
 Each P [] = Unit {0}
 Each P (n ∷ rest) = P n × Each P rest
 
-pub lawful_by : (given : List Given) → Each (λ n. n ≤ 400) (depths_of given) → Each (λ n. (1 ≤ n) × (n ≤ 10000000)) (nodes_of given) → Each (λ n. (1 ≤ n) × (n ≤ 16)) (workers_of given) → AreLawful given
+-- options of `explore`
+pub lawful_by : (given : List Given) → Each (λ n. n ≤ 400) (depths_of given) → Each (λ n. (1 ≤ n) × (n ≤ 10000000)) (nodes_of given) → Each (λ n. (1 ≤ n) × (n ≤ 16)) (workers_of given) → AreLawful given exploring
 lawful_by [] depths numbers crews = tt
 lawful_by (depth n ∷ rest) depths numbers crews = (depths.0, lawful_by rest depths.1 numbers crews)
 lawful_by (nodes n ∷ rest) depths numbers crews = (numbers.0, lawful_by rest depths numbers.1 crews)
 lawful_by (workers n ∷ rest) depths numbers crews = (crews.0, lawful_by rest depths numbers crews.1)
 lawful_by (allow_deadlock ∷ rest) depths numbers crews = (tt, lawful_by rest depths numbers crews)
 lawful_by (strict_access ∷ rest) depths numbers crews = (tt, lawful_by rest depths numbers crews)
+lawful_by (cover ∷ rest) depths numbers crews = (tt, lawful_by rest depths numbers crews)
+
+-- options of `check`
+pub check_lawful_by : (given : List Given) → Each (λ n. n ≤ 400) (depths_of given) → length (nodes_of given) ≤ 0 → length (workers_of given) ≤ 0 → count_by is_cover given ≤ 0 → AreLawful given checking
+check_lawful_by [] depths numbers crews covers = tt
+check_lawful_by (depth n ∷ rest) depths numbers crews covers = (depths.0, check_lawful_by rest depths.1 numbers crews (omega (arith, covers, counted is_cover (depth n) rest)))
+check_lawful_by (nodes n ∷ rest) depths numbers crews covers = absurd (omega arith)
+check_lawful_by (workers n ∷ rest) depths numbers crews covers = absurd (omega arith)
+check_lawful_by (allow_deadlock ∷ rest) depths numbers crews covers = (tt, check_lawful_by rest depths numbers crews (omega (arith, covers, counted is_cover allow_deadlock rest)))
+check_lawful_by (strict_access ∷ rest) depths numbers crews covers = (tt, check_lawful_by rest depths numbers crews (omega (arith, covers, counted is_cover strict_access rest)))
+check_lawful_by (cover ∷ rest) depths numbers crews covers = absurd (omega (arith, covers, counted is_cover cover rest))

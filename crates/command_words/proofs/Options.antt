@@ -1,4 +1,4 @@
--- The walk over the options of an exploration, one after the other.
+-- The walk over the options of a command, one after the other.
 use Rattle.std.proofs.Common.{◌≡◌, ◌∙◌, ◌&&◌, ℕ, ◌≤◌, true, false, List, [], ◌∷◌, ◌++◌, map, Some, None, cond, codes, refl, sym, ap, subst, arith}
 use Rattle.std.specs.Fmt.{decimal}
 use Rattle.std.specs.List.{fold}
@@ -15,8 +15,8 @@ use Rattle.clap.specs.declared.parser.matches.ValueSource.TheVariants.{CommandLi
 use Rattle.clap.specs.ValueTests.{is_unsigned_in}
 use Rattle.command_words.proofs.Numbers.{decimal_fits, decimal_is_plain}
 use Rattle.clap.proofs.OnLiterals.{clap_on_literals}
-use Rattle.command_words.specs.Words.{Given, begins_with_hyphen, depth, nodes, workers, allow_deadlock, strict_access, words_of, words_of_all}
-use Rattle.command_words.specs.inside.CommandLine.{depth_rule, explore_built, flag_rule, nodes_rule, workers_rule}
+use Rattle.command_words.specs.Words.{Given, begins_with_hyphen, depth, nodes, workers, allow_deadlock, strict_access, cover, words_of, words_of_all}
+use Rattle.command_words.specs.inside.CommandLine.{Level, built_of, checking, depth_rule, exploring, flag_rule, nodes_rule, workers_rule}
 use Rattle.command_words.proofs.Rows.{id_of, row_of, row_with, used_once}
 
 -- two steps pass where each does
@@ -24,17 +24,21 @@ pub both_none : (a b : Kinds) → a ≡ [] → b ≡ [] → or_else a b ≡ []
 both_none a b first second = ap (λ x. or_else x b) first ∙ second
 
 -- what is held, once what waits is settled, has these rows
-pub record IsReady (rows : List Row) (h : Held) : Type 0 where
-  pub settles : settle_fault explore_built.rules false h ≡ []
-  pub rows_are : (settled explore_built.rules h).rows ≡ rows
+pub record IsReady (level : Level) (rows : List Row) (h : Held) : Type 0 where
+  pub settles : settle_fault (built_of level).rules false h ≡ []
+  pub rows_are : (settled (built_of level).rules h).rows ≡ rows
 
--- the option's number is in its range
-abbrev pub IsLawful : Given → Type 0
-IsLawful (depth n) = n ≤ 400
-IsLawful (nodes n) = (1 ≤ n) × (n ≤ 10000000)
-IsLawful (workers n) = (1 ≤ n) × (n ≤ 16)
-IsLawful allow_deadlock = Unit {0}
-IsLawful strict_access = Unit {0}
+-- the option is one of the command, and its number is in its range
+abbrev pub IsLawful : Given → Level → Type 0
+IsLawful (depth n) level = n ≤ 400
+IsLawful (nodes n) exploring = (1 ≤ n) × (n ≤ 10000000)
+IsLawful (nodes n) checking = ⊥
+IsLawful (workers n) exploring = (1 ≤ n) × (n ≤ 16)
+IsLawful (workers n) checking = ⊥
+IsLawful allow_deadlock level = Unit {0}
+IsLawful strict_access level = Unit {0}
+IsLawful cover exploring = Unit {0}
+IsLawful cover checking = ⊥
 
 -- ---- one use of an option
 
@@ -66,186 +70,238 @@ workers_passes value rows none fits =
 -- ---- the words of one option
 
 -- what is held after an option that has a number, and after a flag
-abbrev with_number : Text → Text → Held → Held
-with_number id value h = record (settled explore_built.rules h) { pending = Some (id, value ∷ []) }
+abbrev with_number : Level → Text → Text → Held → Held
+with_number level id value h = record (settled (built_of level).rules h) { pending = Some (id, value ∷ []) }
 
-abbrev with_flag : Text → Held → Held
-with_flag id h = reacted explore_built.rules (filled (flag_rule id)) [] h
+abbrev with_flag : Level → Text → Held → Held
+with_flag level id h = reacted (built_of level).rules (filled (flag_rule id)) [] h
 
-abbrev after : Given → Held → Held
-after (depth n) h = with_number (codes "depth") (decimal n) h
-after (nodes n) h = with_number (codes "nodes") (decimal n) h
-after (workers n) h = with_number (codes "workers") (decimal n) h
-after allow_deadlock h = with_flag (codes "allow-deadlock") h
-after strict_access h = with_flag (codes "strict-access") h
+abbrev after : Given → Level → Held → Held
+after (depth n) level h = with_number level (codes "depth") (decimal n) h
+after (nodes n) level h = with_number level (codes "nodes") (decimal n) h
+after (workers n) level h = with_number level (codes "workers") (decimal n) h
+after allow_deadlock level h = with_flag level (codes "allow-deadlock") h
+after strict_access level h = with_flag level (codes "strict-access") h
+after cover level h = with_flag level (codes "cover") h
 
 -- between the word of an option and its number
-abbrev waiting_for : Text → Held → Walk
-waiting_for id h = record { held = record (settled explore_built.rules h) { pending = Some (id, []) }; waiting = option id; position = 1; is_trailing = false; stopped = None }
+abbrev waiting_for : Level → Text → Held → Walk
+waiting_for level id h = record { held = record (settled (built_of level).rules h) { pending = Some (id, []) }; waiting = option id; position = 1; is_trailing = false; stopped = None }
 
-depth_word : (h : Held) → walked explore_built.rules [] (walk_from h) (codes "--depth") ≡ waiting_for (codes "depth") h
+-- a walk goes on with one word
+abbrev met : Level → Walk → Text → Walk
+met level w word = walked (built_of level).rules [] w word
+
+depth_word : (level : Level) (h : Held) → met level (walk_from h) (codes "--depth") ≡ waiting_for level (codes "depth") h
 unfolding clap_on_literals
-depth_word h = refl
+depth_word exploring h = refl
+depth_word checking h = refl
 
-nodes_word : (h : Held) → walked explore_built.rules [] (walk_from h) (codes "--nodes") ≡ waiting_for (codes "nodes") h
+nodes_word : (h : Held) → met exploring (walk_from h) (codes "--nodes") ≡ waiting_for exploring (codes "nodes") h
 unfolding clap_on_literals
 nodes_word h = refl
 
-workers_word : (h : Held) → walked explore_built.rules [] (walk_from h) (codes "--workers") ≡ waiting_for (codes "workers") h
+workers_word : (h : Held) → met exploring (walk_from h) (codes "--workers") ≡ waiting_for exploring (codes "workers") h
 unfolding clap_on_literals
 workers_word h = refl
 
-allow_deadlock_word : (h : Held) → walked explore_built.rules [] (walk_from h) (codes "--allow-deadlock") ≡ walk_from (with_flag (codes "allow-deadlock") h)
+allow_deadlock_word : (level : Level) (h : Held) → met level (walk_from h) (codes "--allow-deadlock") ≡ walk_from (with_flag level (codes "allow-deadlock") h)
 unfolding clap_on_literals
-allow_deadlock_word h = refl
+allow_deadlock_word exploring h = refl
+allow_deadlock_word checking h = refl
 
-strict_access_word : (h : Held) → walked explore_built.rules [] (walk_from h) (codes "--strict-access") ≡ walk_from (with_flag (codes "strict-access") h)
+strict_access_word : (level : Level) (h : Held) → met level (walk_from h) (codes "--strict-access") ≡ walk_from (with_flag level (codes "strict-access") h)
 unfolding clap_on_literals
-strict_access_word h = refl
+strict_access_word exploring h = refl
+strict_access_word checking h = refl
 
-depth_number : (h : Held) (value : Text) → begins_with_hyphen value ≡ false → walked explore_built.rules [] (waiting_for (codes "depth") h) value ≡ walk_from (with_number (codes "depth") value h)
+cover_word : (h : Held) → met exploring (walk_from h) (codes "--cover") ≡ walk_from (with_flag exploring (codes "cover") h)
 unfolding clap_on_literals
-depth_number h [] plain = refl
-depth_number h (byte ∷ rest) plain = simp plain refl
+cover_word h = refl
 
-nodes_number : (h : Held) (value : Text) → begins_with_hyphen value ≡ false → walked explore_built.rules [] (waiting_for (codes "nodes") h) value ≡ walk_from (with_number (codes "nodes") value h)
+depth_number : (level : Level) (h : Held) (value : Text) → begins_with_hyphen value ≡ false
+    → met level (waiting_for level (codes "depth") h) value ≡ walk_from (with_number level (codes "depth") value h)
+unfolding clap_on_literals
+depth_number exploring h [] plain = refl
+depth_number exploring h (byte ∷ rest) plain = simp plain refl
+depth_number checking h [] plain = refl
+depth_number checking h (byte ∷ rest) plain = simp plain refl
+
+nodes_number : (h : Held) (value : Text) → begins_with_hyphen value ≡ false → met exploring (waiting_for exploring (codes "nodes") h) value ≡ walk_from (with_number exploring (codes "nodes") value h)
 unfolding clap_on_literals
 nodes_number h [] plain = refl
 nodes_number h (byte ∷ rest) plain = simp plain refl
 
-workers_number : (h : Held) (value : Text) → begins_with_hyphen value ≡ false → walked explore_built.rules [] (waiting_for (codes "workers") h) value ≡ walk_from (with_number (codes "workers") value h)
+workers_number : (h : Held) (value : Text) → begins_with_hyphen value ≡ false → met exploring (waiting_for exploring (codes "workers") h) value ≡ walk_from (with_number exploring (codes "workers") value h)
 unfolding clap_on_literals
 workers_number h [] plain = refl
 workers_number h (byte ∷ rest) plain = simp plain refl
 
-depth_word_passes : (h : Held) → settle_fault explore_built.rules false h ≡ [] → turn_fault explore_built [] (walk_from h) (codes "--depth") ≡ []
+depth_word_passes : (level : Level) (h : Held) → settle_fault (built_of level).rules false h ≡ [] → turn_fault (built_of level) [] (walk_from h) (codes "--depth") ≡ []
 unfolding clap_on_literals
-depth_word_passes h settles = both_none (settle_fault explore_built.rules false h) [] settles refl
+depth_word_passes exploring h settles = both_none (settle_fault (built_of exploring).rules false h) [] settles refl
+depth_word_passes checking h settles = both_none (settle_fault (built_of checking).rules false h) [] settles refl
 
-nodes_word_passes : (h : Held) → settle_fault explore_built.rules false h ≡ [] → turn_fault explore_built [] (walk_from h) (codes "--nodes") ≡ []
+nodes_word_passes : (h : Held) → settle_fault (built_of exploring).rules false h ≡ [] → turn_fault (built_of exploring) [] (walk_from h) (codes "--nodes") ≡ []
 unfolding clap_on_literals
-nodes_word_passes h settles = both_none (settle_fault explore_built.rules false h) [] settles refl
+nodes_word_passes h settles = both_none (settle_fault (built_of exploring).rules false h) [] settles refl
 
-workers_word_passes : (h : Held) → settle_fault explore_built.rules false h ≡ [] → turn_fault explore_built [] (walk_from h) (codes "--workers") ≡ []
+workers_word_passes : (h : Held) → settle_fault (built_of exploring).rules false h ≡ [] → turn_fault (built_of exploring) [] (walk_from h) (codes "--workers") ≡ []
 unfolding clap_on_literals
-workers_word_passes h settles = both_none (settle_fault explore_built.rules false h) [] settles refl
+workers_word_passes h settles = both_none (settle_fault (built_of exploring).rules false h) [] settles refl
 
-number_passes : (id : Text) (h : Held) (value : Text) → begins_with_hyphen value ≡ false → turn_fault explore_built [] (waiting_for id h) value ≡ []
+number_passes : (level : Level) (id : Text) (h : Held) (value : Text) → begins_with_hyphen value ≡ false → turn_fault (built_of level) [] (waiting_for level id h) value ≡ []
 unfolding clap_on_literals
-number_passes id h [] plain = refl
-number_passes id h (byte ∷ rest) plain = simp plain refl
+number_passes exploring id h [] plain = refl
+number_passes exploring id h (byte ∷ rest) plain = simp plain refl
+number_passes checking id h [] plain = refl
+number_passes checking id h (byte ∷ rest) plain = simp plain refl
 
 -- the use of a flag at what is held
-reacts : (name : Text) (rows : List Row) (h : Held) → IsReady rows h → has_row name rows ≡ false → react_fault explore_built.rules false (filled (flag_rule name)) [] h ≡ []
-reacts name rows h ready none =
-    let here : has_row name (settled explore_built.rules h).rows ≡ false = ap (has_row name) ready.rows_are ∙ none in
-    both_none (settle_fault explore_built.rules false h) _ ready.settles (flag_passes name (settled explore_built.rules h).rows here)
+reacts : (level : Level) (name : Text) (rows : List Row) (h : Held) → IsReady level rows h → has_row name rows ≡ false → react_fault (built_of level).rules false (filled (flag_rule name)) [] h ≡ []
+reacts level name rows h ready none =
+    let here : has_row name (settled (built_of level).rules h).rows ≡ false = ap (has_row name) ready.rows_are ∙ none in
+    both_none (settle_fault (built_of level).rules false h) _ ready.settles (flag_passes name (settled (built_of level).rules h).rows here)
 
-allow_deadlock_passes : (rows : List Row) (h : Held) → IsReady rows h → has_row (codes "allow-deadlock") rows ≡ false → turn_fault explore_built [] (walk_from h) (codes "--allow-deadlock") ≡ []
+allow_deadlock_passes : (level : Level) (rows : List Row) (h : Held) → IsReady level rows h → has_row (codes "allow-deadlock") rows ≡ false
+    → turn_fault (built_of level) [] (walk_from h) (codes "--allow-deadlock") ≡ []
 unfolding clap_on_literals
-allow_deadlock_passes rows h ready none = both_none (react_fault explore_built.rules false (filled (flag_rule (codes "allow-deadlock"))) [] h) [] (reacts (codes "allow-deadlock") rows h ready none) refl
+allow_deadlock_passes exploring rows h ready none =
+    both_none (react_fault (built_of exploring).rules false (filled (flag_rule (codes "allow-deadlock"))) [] h) [] (reacts exploring (codes "allow-deadlock") rows h ready none) refl
+allow_deadlock_passes checking rows h ready none =
+    both_none (react_fault (built_of checking).rules false (filled (flag_rule (codes "allow-deadlock"))) [] h) [] (reacts checking (codes "allow-deadlock") rows h ready none) refl
 
-strict_access_passes : (rows : List Row) (h : Held) → IsReady rows h → has_row (codes "strict-access") rows ≡ false → turn_fault explore_built [] (walk_from h) (codes "--strict-access") ≡ []
+strict_access_passes : (level : Level) (rows : List Row) (h : Held) → IsReady level rows h → has_row (codes "strict-access") rows ≡ false
+    → turn_fault (built_of level) [] (walk_from h) (codes "--strict-access") ≡ []
 unfolding clap_on_literals
-strict_access_passes rows h ready none = both_none (react_fault explore_built.rules false (filled (flag_rule (codes "strict-access"))) [] h) [] (reacts (codes "strict-access") rows h ready none) refl
+strict_access_passes exploring rows h ready none =
+    both_none (react_fault (built_of exploring).rules false (filled (flag_rule (codes "strict-access"))) [] h) [] (reacts exploring (codes "strict-access") rows h ready none) refl
+strict_access_passes checking rows h ready none =
+    both_none (react_fault (built_of checking).rules false (filled (flag_rule (codes "strict-access"))) [] h) [] (reacts checking (codes "strict-access") rows h ready none) refl
+
+cover_passes : (rows : List Row) (h : Held) → IsReady exploring rows h → has_row (codes "cover") rows ≡ false → turn_fault (built_of exploring) [] (walk_from h) (codes "--cover") ≡ []
+unfolding clap_on_literals
+cover_passes rows h ready none =
+    both_none (react_fault (built_of exploring).rules false (filled (flag_rule (codes "cover"))) [] h) [] (reacts exploring (codes "cover") rows h ready none) refl
 
 -- the walk over an option
-option_walks : (given : Given) (h : Held) (rest : List Text) → IsLawful given
-    → fold (walked explore_built.rules []) (walk_from h) (words_of given ++ rest) ≡ fold (walked explore_built.rules []) (walk_from (after given h)) rest
-option_walks (depth n) h rest lawful =
+option_walks : (given : Given) (level : Level) (h : Held) (rest : List Text) → IsLawful given level
+    → fold (walked (built_of level).rules []) (walk_from h) (words_of given ++ rest) ≡ fold (walked (built_of level).rules []) (walk_from (after given level h)) rest
+option_walks (depth n) level h rest lawful =
     let plain : begins_with_hyphen (decimal n) ≡ false = decimal_is_plain n (omega arith) in
-    ap (λ w. fold (walked explore_built.rules []) w rest) (ap (λ w. walked explore_built.rules [] w (decimal n)) (depth_word h) ∙ depth_number h (decimal n) plain)
-option_walks (nodes n) h rest lawful =
+    ap (λ w. fold (walked (built_of level).rules []) w rest) (ap (λ w. met level w (decimal n)) (depth_word level h) ∙ depth_number level h (decimal n) plain)
+option_walks (nodes n) exploring h rest lawful =
     let plain : begins_with_hyphen (decimal n) ≡ false = decimal_is_plain n (omega arith) in
-    ap (λ w. fold (walked explore_built.rules []) w rest) (ap (λ w. walked explore_built.rules [] w (decimal n)) (nodes_word h) ∙ nodes_number h (decimal n) plain)
-option_walks (workers n) h rest lawful =
+    ap (λ w. fold (walked (built_of exploring).rules []) w rest) (ap (λ w. met exploring w (decimal n)) (nodes_word h) ∙ nodes_number h (decimal n) plain)
+option_walks (nodes n) checking h rest lawful = absurd lawful
+option_walks (workers n) exploring h rest lawful =
     let plain : begins_with_hyphen (decimal n) ≡ false = decimal_is_plain n (omega arith) in
-    ap (λ w. fold (walked explore_built.rules []) w rest) (ap (λ w. walked explore_built.rules [] w (decimal n)) (workers_word h) ∙ workers_number h (decimal n) plain)
-option_walks allow_deadlock h rest lawful = ap (λ w. fold (walked explore_built.rules []) w rest) (allow_deadlock_word h)
-option_walks strict_access h rest lawful = ap (λ w. fold (walked explore_built.rules []) w rest) (strict_access_word h)
+    ap (λ w. fold (walked (built_of exploring).rules []) w rest) (ap (λ w. met exploring w (decimal n)) (workers_word h) ∙ workers_number h (decimal n) plain)
+option_walks (workers n) checking h rest lawful = absurd lawful
+option_walks allow_deadlock level h rest lawful = ap (λ w. fold (walked (built_of level).rules []) w rest) (allow_deadlock_word level h)
+option_walks strict_access level h rest lawful = ap (λ w. fold (walked (built_of level).rules []) w rest) (strict_access_word level h)
+option_walks cover exploring h rest lawful = ap (λ w. fold (walked (built_of exploring).rules []) w rest) (cover_word h)
+option_walks cover checking h rest lawful = absurd lawful
 
 -- a word that passes
-passes_on : (w after : Walk) (word : Text) (rest : List Text) → turn_fault explore_built [] w word ≡ [] → walked explore_built.rules [] w word ≡ after
-    → walk_fault explore_built [] w (word ∷ rest) ≡ walk_fault explore_built [] after rest
+passes_on : (level : Level) (w after : Walk) (word : Text) (rest : List Text) → turn_fault (built_of level) [] w word ≡ [] → met level w word ≡ after
+    → walk_fault (built_of level) [] w (word ∷ rest) ≡ walk_fault (built_of level) [] after rest
 unfolding walk_fault
-passes_on w after word rest none next =
-    ap (λ x. or_else x (walk_fault explore_built [] (walked explore_built.rules [] w word) rest)) none ∙ ap (λ v. walk_fault explore_built [] v rest) next
+passes_on level w after word rest none next =
+    ap (λ x. or_else x (walk_fault (built_of level) [] (met level w word) rest)) none ∙ ap (λ v. walk_fault (built_of level) [] v rest) next
 
 -- an option that passes
-option_passes : (given : Given) (rows : List Row) (h : Held) (rest : List Text) → IsReady rows h → has_row (id_of given) rows ≡ false → IsLawful given
-    → walk_fault explore_built [] (walk_from h) (words_of given ++ rest) ≡ walk_fault explore_built [] (walk_from (after given h)) rest
-option_passes (depth n) rows h rest ready none lawful =
+option_passes : (given : Given) (level : Level) (rows : List Row) (h : Held) (rest : List Text) → IsReady level rows h → has_row (id_of given) rows ≡ false → IsLawful given level
+    → walk_fault (built_of level) [] (walk_from h) (words_of given ++ rest) ≡ walk_fault (built_of level) [] (walk_from (after given level h)) rest
+option_passes (depth n) level rows h rest ready none lawful =
     let plain : begins_with_hyphen (decimal n) ≡ false = decimal_is_plain n (omega arith) in
-    passes_on (walk_from h) (waiting_for (codes "depth") h) (codes "--depth") (decimal n ∷ rest) (depth_word_passes h ready.settles) (depth_word h)
-    ∙ passes_on (waiting_for (codes "depth") h) (walk_from (after (depth n) h)) (decimal n) rest (number_passes (codes "depth") h (decimal n) plain) (depth_number h (decimal n) plain)
-option_passes (nodes n) rows h rest ready none lawful =
+    passes_on level (walk_from h) (waiting_for level (codes "depth") h) (codes "--depth") (decimal n ∷ rest) (depth_word_passes level h ready.settles) (depth_word level h)
+    ∙ passes_on level (waiting_for level (codes "depth") h) (walk_from (after (depth n) level h)) (decimal n) rest (number_passes level (codes "depth") h (decimal n) plain) (depth_number level h (decimal n) plain)
+option_passes (nodes n) exploring rows h rest ready none lawful =
     let plain : begins_with_hyphen (decimal n) ≡ false = decimal_is_plain n (omega arith) in
-    passes_on (walk_from h) (waiting_for (codes "nodes") h) (codes "--nodes") (decimal n ∷ rest) (nodes_word_passes h ready.settles) (nodes_word h)
-    ∙ passes_on (waiting_for (codes "nodes") h) (walk_from (after (nodes n) h)) (decimal n) rest (number_passes (codes "nodes") h (decimal n) plain) (nodes_number h (decimal n) plain)
-option_passes (workers n) rows h rest ready none lawful =
+    passes_on exploring (walk_from h) (waiting_for exploring (codes "nodes") h) (codes "--nodes") (decimal n ∷ rest) (nodes_word_passes h ready.settles) (nodes_word h)
+    ∙ passes_on exploring (waiting_for exploring (codes "nodes") h) (walk_from (after (nodes n) exploring h)) (decimal n) rest (number_passes exploring (codes "nodes") h (decimal n) plain) (nodes_number h (decimal n) plain)
+option_passes (nodes n) checking rows h rest ready none lawful = absurd lawful
+option_passes (workers n) exploring rows h rest ready none lawful =
     let plain : begins_with_hyphen (decimal n) ≡ false = decimal_is_plain n (omega arith) in
-    passes_on (walk_from h) (waiting_for (codes "workers") h) (codes "--workers") (decimal n ∷ rest) (workers_word_passes h ready.settles) (workers_word h)
-    ∙ passes_on (waiting_for (codes "workers") h) (walk_from (after (workers n) h)) (decimal n) rest (number_passes (codes "workers") h (decimal n) plain) (workers_number h (decimal n) plain)
-option_passes allow_deadlock rows h rest ready none lawful =
-    passes_on (walk_from h) (walk_from (after allow_deadlock h)) (codes "--allow-deadlock") rest (allow_deadlock_passes rows h ready none) (allow_deadlock_word h)
-option_passes strict_access rows h rest ready none lawful =
-    passes_on (walk_from h) (walk_from (after strict_access h)) (codes "--strict-access") rest (strict_access_passes rows h ready none) (strict_access_word h)
+    passes_on exploring (walk_from h) (waiting_for exploring (codes "workers") h) (codes "--workers") (decimal n ∷ rest) (workers_word_passes h ready.settles) (workers_word h)
+    ∙ passes_on exploring (waiting_for exploring (codes "workers") h) (walk_from (after (workers n) exploring h)) (decimal n) rest (number_passes exploring (codes "workers") h (decimal n) plain) (workers_number h (decimal n) plain)
+option_passes (workers n) checking rows h rest ready none lawful = absurd lawful
+option_passes allow_deadlock level rows h rest ready none lawful =
+    passes_on level (walk_from h) (walk_from (after allow_deadlock level h)) (codes "--allow-deadlock") rest (allow_deadlock_passes level rows h ready none) (allow_deadlock_word level h)
+option_passes strict_access level rows h rest ready none lawful =
+    passes_on level (walk_from h) (walk_from (after strict_access level h)) (codes "--strict-access") rest (strict_access_passes level rows h ready none) (strict_access_word level h)
+option_passes cover exploring rows h rest ready none lawful =
+    passes_on exploring (walk_from h) (walk_from (after cover exploring h)) (codes "--cover") rest (cover_passes rows h ready none) (cover_word h)
+option_passes cover checking rows h rest ready none lawful = absurd lawful
 
 -- what is held after an option, with its row
-number_ready : (id value : Text) (rows : List Row) (h : Held) → IsReady rows h → has_row id rows ≡ false
-    → settle_fault explore_built.rules false (with_number id value h) ≡ [] → (settled explore_built.rules (with_number id value h)).rows ≡ with_values id AsWritten CommandLine (value ∷ []) (without id (settled explore_built.rules h).rows)
-    → IsReady (rows ++ row_with CommandLine id value ∷ []) (with_number id value h)
-number_ready id value rows h ready none settles rows_are = record {
+number_ready : (level : Level) (id value : Text) (rows : List Row) (h : Held) → IsReady level rows h → has_row id rows ≡ false
+    → settle_fault (built_of level).rules false (with_number level id value h) ≡ []
+    → (settled (built_of level).rules (with_number level id value h)).rows ≡ with_values id AsWritten CommandLine (value ∷ []) (without id (settled (built_of level).rules h).rows)
+    → IsReady level (rows ++ row_with CommandLine id value ∷ []) (with_number level id value h)
+number_ready level id value rows h ready none settles rows_are = record {
   settles = settles;
   rows_are = rows_are ∙ ap (λ l. with_values id AsWritten CommandLine (value ∷ []) (without id l)) ready.rows_are ∙ used_once id value rows none;
 }
 
-flag_ready : (id : Text) (rows : List Row) (h : Held) → IsReady rows h → has_row id rows ≡ false → IsReady (rows ++ row_with CommandLine id (codes "true") ∷ []) (with_flag id h)
-flag_ready id rows h ready none = record {
+flag_ready : (level : Level) (id : Text) (rows : List Row) (h : Held) → IsReady level rows h → has_row id rows ≡ false
+    → IsReady level (rows ++ row_with CommandLine id (codes "true") ∷ []) (with_flag level id h)
+flag_ready level id rows h ready none = record {
   settles = refl;
   rows_are = ap (λ l. with_values id AsWritten CommandLine (codes "true" ∷ []) (without id l)) ready.rows_are ∙ used_once id (codes "true") rows none;
 }
 
-option_ready : (given : Given) (rows : List Row) (h : Held) → IsReady rows h → has_row (id_of given) rows ≡ false → IsLawful given → IsReady (rows ++ row_of given ∷ []) (after given h)
-option_ready (depth n) rows h ready none lawful =
-    let here : has_row (codes "depth") (settled explore_built.rules h).rows ≡ false = ap (has_row (codes "depth")) ready.rows_are ∙ none in
-    number_ready (codes "depth") (decimal n) rows h ready none
-    (depth_passes (decimal n) (settled explore_built.rules h).rows here (decimal_fits 0 400 n (omega arith) lawful (omega arith))) refl
-option_ready (nodes n) rows h ready none lawful =
-    let here : has_row (codes "nodes") (settled explore_built.rules h).rows ≡ false = ap (has_row (codes "nodes")) ready.rows_are ∙ none in
-    number_ready (codes "nodes") (decimal n) rows h ready none
-    (nodes_passes (decimal n) (settled explore_built.rules h).rows here (decimal_fits 1 10000000 n lawful.0 lawful.1 (omega arith))) refl
-option_ready (workers n) rows h ready none lawful =
-    let here : has_row (codes "workers") (settled explore_built.rules h).rows ≡ false = ap (has_row (codes "workers")) ready.rows_are ∙ none in
-    number_ready (codes "workers") (decimal n) rows h ready none
-    (workers_passes (decimal n) (settled explore_built.rules h).rows here (decimal_fits 1 16 n lawful.0 lawful.1 (omega arith))) refl
-option_ready allow_deadlock rows h ready none lawful = flag_ready (codes "allow-deadlock") rows h ready none
-option_ready strict_access rows h ready none lawful = flag_ready (codes "strict-access") rows h ready none
+-- no row among what is held is one of an option that is not there yet
+still_new : (level : Level) (id : Text) (rows : List Row) (h : Held) → IsReady level rows h → has_row id rows ≡ false → has_row id (settled (built_of level).rules h).rows ≡ false
+still_new level id rows h ready none = ap (has_row id) ready.rows_are ∙ none
+
+option_ready : (given : Given) (level : Level) (rows : List Row) (h : Held) → IsReady level rows h → has_row (id_of given) rows ≡ false → IsLawful given level
+    → IsReady level (rows ++ row_of given ∷ []) (after given level h)
+option_ready (depth n) exploring rows h ready none lawful =
+    number_ready exploring (codes "depth") (decimal n) rows h ready none
+    (depth_passes (decimal n) (settled (built_of exploring).rules h).rows (still_new exploring (codes "depth") rows h ready none) (decimal_fits 0 400 n (omega arith) lawful (omega arith))) refl
+option_ready (depth n) checking rows h ready none lawful =
+    number_ready checking (codes "depth") (decimal n) rows h ready none
+    (depth_passes (decimal n) (settled (built_of checking).rules h).rows (still_new checking (codes "depth") rows h ready none) (decimal_fits 0 400 n (omega arith) lawful (omega arith))) refl
+option_ready (nodes n) exploring rows h ready none lawful =
+    number_ready exploring (codes "nodes") (decimal n) rows h ready none
+    (nodes_passes (decimal n) (settled (built_of exploring).rules h).rows (still_new exploring (codes "nodes") rows h ready none) (decimal_fits 1 10000000 n lawful.0 lawful.1 (omega arith))) refl
+option_ready (nodes n) checking rows h ready none lawful = absurd lawful
+option_ready (workers n) exploring rows h ready none lawful =
+    number_ready exploring (codes "workers") (decimal n) rows h ready none
+    (workers_passes (decimal n) (settled (built_of exploring).rules h).rows (still_new exploring (codes "workers") rows h ready none) (decimal_fits 1 16 n lawful.0 lawful.1 (omega arith))) refl
+option_ready (workers n) checking rows h ready none lawful = absurd lawful
+option_ready allow_deadlock level rows h ready none lawful = flag_ready level (codes "allow-deadlock") rows h ready none
+option_ready strict_access level rows h ready none lawful = flag_ready level (codes "strict-access") rows h ready none
+option_ready cover exploring rows h ready none lawful = flag_ready exploring (codes "cover") rows h ready none
+option_ready cover checking rows h ready none lawful = absurd lawful
 
 -- ---- all options
 
--- each option is in its range
-abbrev pub AreLawful : List Given → Type 0
-AreLawful [] = Unit {0}
-AreLawful (given ∷ rest) = IsLawful given × AreLawful rest
+-- each is an option of the command, and in its range
+abbrev pub AreLawful : List Given → Level → Type 0
+AreLawful [] level = Unit {0}
+AreLawful (given ∷ rest) level = IsLawful given level × AreLawful rest level
 
 -- no option has a row among these, nor among those of the options before it
 abbrev pub AreNew : List Row → List Given → Type 0
 AreNew rows [] = Unit {0}
 AreNew rows (given ∷ rest) = (has_row (id_of given) rows ≡ false) × AreNew (rows ++ row_of given ∷ []) rest
 
-pub options_pass : (given : List Given) (rows : List Row) (h : Held) → IsReady rows h → AreNew rows given → AreLawful given → walk_fault explore_built [] (walk_from h) (words_of_all given) ≡ []
+pub options_pass : (given : List Given) (level : Level) (rows : List Row) (h : Held) → IsReady level rows h → AreNew rows given → AreLawful given level
+    → walk_fault (built_of level) [] (walk_from h) (words_of_all given) ≡ []
 unfolding walk_fault
-options_pass [] rows h ready new lawful = refl
-options_pass (given ∷ rest) rows h ready new lawful =
-    option_passes given rows h (words_of_all rest) ready new.0 lawful.0
-    ∙ options_pass rest (rows ++ row_of given ∷ []) (after given h) (option_ready given rows h ready new.0 lawful.0) new.1 lawful.1
+options_pass [] level rows h ready new lawful = refl
+options_pass (given ∷ rest) level rows h ready new lawful =
+    option_passes given level rows h (words_of_all rest) ready new.0 lawful.0
+    ∙ options_pass rest level (rows ++ row_of given ∷ []) (after given level h) (option_ready given level rows h ready new.0 lawful.0) new.1 lawful.1
 
-pub options_ready : (given : List Given) (rows : List Row) (h : Held) → IsReady rows h → AreNew rows given → AreLawful given
-    → IsReady (rows ++ map row_of given) (walk explore_built.rules [] h (words_of_all given)).held
-options_ready [] rows h ready new lawful = subst (λ l. IsReady l h) (sym (append-nil rows)) ready
-options_ready (given ∷ rest) rows h ready new lawful =
-    let later = options_ready rest (rows ++ row_of given ∷ []) (after given h) (option_ready given rows h ready new.0 lawful.0) new.1 lawful.1 in
+pub options_ready : (given : List Given) (level : Level) (rows : List Row) (h : Held) → IsReady level rows h → AreNew rows given → AreLawful given level
+    → IsReady level (rows ++ map row_of given) (walk (built_of level).rules [] h (words_of_all given)).held
+options_ready [] level rows h ready new lawful = subst (λ l. IsReady level l h) (sym (append-nil rows)) ready
+options_ready (given ∷ rest) level rows h ready new lawful =
+    let later = options_ready rest level (rows ++ row_of given ∷ []) (after given level h) (option_ready given level rows h ready new.0 lawful.0) new.1 lawful.1 in
     let same : (rows ++ row_of given ∷ []) ++ map row_of rest ≡ rows ++ map row_of (given ∷ rest) = append_assoc rows (row_of given ∷ []) (map row_of rest) in
-    let held : walk explore_built.rules [] h (words_of_all (given ∷ rest)) ≡ walk explore_built.rules [] (after given h) (words_of_all rest) = option_walks given h (words_of_all rest) lawful.0 in
-    subst (λ w. IsReady (rows ++ map row_of (given ∷ rest)) w.held) (sym held) (subst (λ l. IsReady l (walk explore_built.rules [] (after given h) (words_of_all rest)).held) same later)
+    let held : walk (built_of level).rules [] h (words_of_all (given ∷ rest)) ≡ walk (built_of level).rules [] (after given level h) (words_of_all rest) = option_walks given level h (words_of_all rest) lawful.0 in
+    subst (λ w. IsReady level (rows ++ map row_of (given ∷ rest)) w.held) (sym held) (subst (λ l. IsReady level l (walk (built_of level).rules [] (after given level h) (words_of_all rest)).held) same later)

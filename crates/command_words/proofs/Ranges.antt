@@ -1,4 +1,4 @@
--- The numbers that a walk over any words leaves for an exploration are in their ranges.
+-- The numbers that a walk over any words leaves for a command are in their ranges.
 use Rattle.std.proofs.Common.{◌≡◌, ◌∙◌, ◌⊎◌, ◌&&◌, ℕ, Bool, true, false, List, [], ◌∷◌, ◌++◌, Some, cond, codes, option_map, refl, sym, ap, subst, inl, inr}
 use Rattle.std.specs.List.{find, fold, list_all}
 use Rattle.std.specs.Prelude.{option_and_then, slice_get}
@@ -6,7 +6,7 @@ use Rattle.std.specs.Str.{bytes_eq}
 use Rattle.std.proofs.lemmas.Slice.Eq.{bytes_eq-Decides}
 use Rattle.clap.specs.Faults.{level_fault, settle_fault, use_fault, walk_fault}
 use Rattle.clap.specs.Kinds.{Kinds, or_else, values_kinds}
-use Rattle.clap.specs.Simple.{filled, help_rule}
+use Rattle.clap.specs.Simple.{Shape, filled, help_rule}
 use Rattle.clap.specs.Values.{read_as, refused_kind}
 use Rattle.clap.specs.ValueTests.{accepts, is_unsigned_in}
 use Rattle.clap.specs.Walk.{Row, Rule, Text, at_row, default_rows, has_row, more_values, nothing_held, one_of, reading_by, row_text, rows_after, used, walk, walk_from, with_default, with_values, without}
@@ -16,7 +16,7 @@ use Rattle.clap.specs.declared.builder.value_parser.ValueParser.{ValueParser}
 use Rattle.clap.specs.declared.builder.value_parser.ValueParser.TheVariants.{Unsigned}
 use Rattle.clap.specs.declared.parser.matches.ValueSource.{ValueSource}
 use Rattle.clap.specs.declared.parser.matches.ValueSource.TheVariants.{CommandLine, DefaultValue}
-use Rattle.command_words.specs.inside.CommandLine.{depth_rule, explore_built, flag_rule, nodes_rule, workers_rule}
+use Rattle.command_words.specs.inside.CommandLine.{Level, built_of, check_built, checking, depth_rule, explore_built, exploring, flag_rule, nodes_rule, workers_rule}
 use Rattle.command_words.proofs.Kept.{both_pass, walk_leaves}
 
 -- values that are not at fault passed their parser
@@ -50,7 +50,7 @@ among p (x ∷ xs) a found = by (p x) found (among p xs a)
     by true found rest = inl (cc)
     by false found rest = inr (rest found)
 
--- the options of `explore` that have a number, as they are built
+-- the options that have a number, as they are built
 abbrev depth_built : Rule
 depth_built = filled depth_rule
 
@@ -144,12 +144,12 @@ module _ (id : Text) (low high : ℕ) where
       → AllFit (with_values other how CommandLine values (without other rows))
   other_used_fits other how values rows differs fit = others_fit other how CommandLine values (without other rows) differs (without_fits other rows fit)
 
-  -- each use of an option keeps them, where one of a number does
+  -- each use of an option of `explore` keeps them, where one of a number does
   each_use_fits : (values : List Text) (rows : List Row) → (use_fault false depth_built values rows ≡ [] → AllFit (used depth_built values rows))
       → (use_fault false nodes_built values rows ≡ [] → AllFit (used nodes_built values rows)) → (use_fault false workers_built values rows ≡ [] → AllFit (used workers_built values rows))
-      → bytes_eq (codes "allow-deadlock") id ≡ false → bytes_eq (codes "strict-access") id ≡ false
+      → bytes_eq (codes "allow-deadlock") id ≡ false → bytes_eq (codes "strict-access") id ≡ false → bytes_eq (codes "cover") id ≡ false
       → (p : Rule → Bool) (a : Rule) → find p explore_built.rules ≡ Some a → use_fault false a values rows ≡ [] → AllFit rows → AllFit (used a values rows)
-  each_use_fits values rows depth nodes workers no_deadlock no_access p a found none fit = by (among p explore_built.rules a found)
+  each_use_fits values rows depth nodes workers no_deadlock no_access no_cover p a found none fit = by (among p explore_built.rules a found)
     where
       at : (x : Rule) → a ≡ x → (use_fault false x values rows ≡ [] → AllFit (used x values rows)) → AllFit (used a values rows)
       at x is kept = subst (λ y. use_fault false y values rows ≡ [] → AllFit (used y values rows)) (sym is) kept none
@@ -160,55 +160,87 @@ module _ (id : Text) (low high : ℕ) where
       by (inr (inr (inl is))) = at workers_built is workers
       by (inr (inr (inr (inl is)))) = at _ is (λ none. other_used_fits (codes "allow-deadlock") AsWritten _ rows no_deadlock fit)
       by (inr (inr (inr (inr (inl is))))) = at _ is (λ none. other_used_fits (codes "strict-access") AsWritten _ rows no_access fit)
-      by (inr (inr (inr (inr (inr (inl is)))))) = at _ is (λ none. fit)
-      by (inr (inr (inr (inr (inr (inr nothing)))))) = absurd nothing
+      by (inr (inr (inr (inr (inr (inl is)))))) = at _ is (λ none. other_used_fits (codes "cover") AsWritten _ rows no_cover fit)
+      by (inr (inr (inr (inr (inr (inr (inl is))))))) = at _ is (λ none. fit)
+      by (inr (inr (inr (inr (inr (inr (inr nothing))))))) = absurd nothing
 
-  -- and so does each default
+  -- and so does each of `check`
+  each_check_use_fits : (values : List Text) (rows : List Row) → (use_fault false depth_built values rows ≡ [] → AllFit (used depth_built values rows))
+      → bytes_eq (codes "allow-deadlock") id ≡ false → bytes_eq (codes "strict-access") id ≡ false
+      → (p : Rule → Bool) (a : Rule) → find p check_built.rules ≡ Some a → use_fault false a values rows ≡ [] → AllFit rows → AllFit (used a values rows)
+  each_check_use_fits values rows depth no_deadlock no_access p a found none fit = by (among p check_built.rules a found)
+    where
+      at : (x : Rule) → a ≡ x → (use_fault false x values rows ≡ [] → AllFit (used x values rows)) → AllFit (used a values rows)
+      at x is kept = subst (λ y. use_fault false y values rows ≡ [] → AllFit (used y values rows)) (sym is) kept none
+
+      by : Among a check_built.rules → AllFit (used a values rows)
+      by (inl is) = at depth_built is depth
+      by (inr (inl is)) = at _ is (λ none. other_used_fits (codes "allow-deadlock") AsWritten _ rows no_deadlock fit)
+      by (inr (inr (inl is))) = at _ is (λ none. other_used_fits (codes "strict-access") AsWritten _ rows no_access fit)
+      by (inr (inr (inr (inl is)))) = at _ is (λ none. fit)
+      by (inr (inr (inr (inr nothing)))) = absurd nothing
+
+  -- and so does each default of `explore`
   defaults_fit : (rows : List Row) → ((rows : List Row) → AllFit rows → AllFit (with_values (codes "nodes") AsWritten DefaultValue (codes "1000000" ∷ []) rows))
       → ((rows : List Row) → AllFit rows → AllFit (with_values (codes "workers") AsWritten DefaultValue (codes "1" ∷ []) rows))
-      → bytes_eq (codes "allow-deadlock") id ≡ false → bytes_eq (codes "strict-access") id ≡ false → AllFit rows → AllFit (fold with_default rows explore_built.rules)
-  defaults_fit rows nodes workers no_deadlock no_access fit =
+      → bytes_eq (codes "allow-deadlock") id ≡ false → bytes_eq (codes "strict-access") id ≡ false → bytes_eq (codes "cover") id ≡ false → AllFit rows
+      → AllFit (fold with_default rows explore_built.rules)
+  defaults_fit rows nodes workers no_deadlock no_access no_cover fit =
       let one = default_fits depth_built rows fit fit in
       let two = default_fits nodes_built _ (nodes _ one) one in
       let three = default_fits workers_built _ (workers _ two) two in
       let four = default_fits (filled (flag_rule (codes "allow-deadlock"))) _ (others_fit (codes "allow-deadlock") AsWritten DefaultValue _ _ no_deadlock three) three in
       let five = default_fits (filled (flag_rule (codes "strict-access"))) _ (others_fit (codes "strict-access") AsWritten DefaultValue _ _ no_access four) four in
-      default_fits (filled help_rule) _ five five
+      let six = default_fits (filled (flag_rule (codes "cover"))) _ (others_fit (codes "cover") AsWritten DefaultValue _ _ no_cover five) five in
+      default_fits (filled help_rule) _ six six
+
+  -- and of `check`
+  check_defaults_fit : (rows : List Row) → bytes_eq (codes "allow-deadlock") id ≡ false → bytes_eq (codes "strict-access") id ≡ false → AllFit rows → AllFit (fold with_default rows check_built.rules)
+  check_defaults_fit rows no_deadlock no_access fit =
+      let one = default_fits depth_built rows fit fit in
+      let two = default_fits (filled (flag_rule (codes "allow-deadlock"))) _ (others_fit (codes "allow-deadlock") AsWritten DefaultValue _ _ no_deadlock one) one in
+      let three = default_fits (filled (flag_rule (codes "strict-access"))) _ (others_fit (codes "strict-access") AsWritten DefaultValue _ _ no_access two) two in
+      default_fits (filled help_rule) _ three three
 
   -- what a walk without a fault leaves of an id
-  left_fits : (words : List Text) (text : Text)
-      → ((p : Rule → Bool) (a : Rule) (values : List Text) (rows : List Row) → find p explore_built.rules ≡ Some a → use_fault false a values rows ≡ [] → AllFit rows → AllFit (used a values rows))
-      → ((rows : List Row) → AllFit rows → AllFit (fold with_default rows explore_built.rules))
-      → level_fault explore_built [] nothing_held words false [] ≡ [] → one_of id (rows_after explore_built.rules [] words) ≡ Some text → is_unsigned_in low high text ≡ true
-  left_fits words text uses defaults none reads =
-      let first = both_pass (walk_fault explore_built [] (walk_from nothing_held) words) _ none in
-      let second = both_pass (settle_fault explore_built.rules false (walk explore_built.rules [] nothing_held words).held) _ first.1 in
-      text_fits (rows_after explore_built.rules [] words) text (defaults _ (walk_leaves explore_built AllFit uses [] words nothing_held first.0 second.0 tt)) reads
+  left_fits : (s : Shape) (words : List Text) (text : Text)
+      → ((p : Rule → Bool) (a : Rule) (values : List Text) (rows : List Row) → find p s.rules ≡ Some a → use_fault s.args_override_self a values rows ≡ [] → AllFit rows → AllFit (used a values rows))
+      → ((rows : List Row) → AllFit rows → AllFit (fold with_default rows s.rules))
+      → level_fault s [] nothing_held words false [] ≡ [] → one_of id (rows_after s.rules [] words) ≡ Some text → is_unsigned_in low high text ≡ true
+  left_fits s words text uses defaults none reads =
+      let first = both_pass (walk_fault s [] (walk_from nothing_held) words) _ none in
+      let second = both_pass (settle_fault s.rules s.args_override_self (walk s.rules [] nothing_held words).held) _ first.1 in
+      text_fits (rows_after s.rules [] words) text (defaults _ (walk_leaves s AllFit uses [] words nothing_held first.0 second.0 tt)) reads
 
--- where an exploration is not at fault, its depth and its numbers of nodes and of workers are in their ranges
-pub depth_fits : (words : List Text) (text : Text) → level_fault explore_built [] nothing_held words false [] ≡ [] → one_of (codes "depth") (rows_after explore_built.rules [] words) ≡ Some text
+-- where a command is not at fault, its depth is in its range
+pub depth_fits : (level : Level) (words : List Text) (text : Text) → level_fault (built_of level) [] nothing_held words false [] ≡ [] → one_of (codes "depth") (rows_after (built_of level).rules [] words) ≡ Some text
     → is_unsigned_in 0 400 text ≡ true
-depth_fits words text =
-    left_fits (codes "depth") 0 400 words text
+depth_fits exploring words text =
+    left_fits (codes "depth") 0 400 explore_built words text
     (λ p a values rows found none fit. each_use_fits (codes "depth") 0 400 values rows (λ none. used_fits (codes "depth") 0 400 _ _ _ rows none fit)
-    (λ none. other_used_fits (codes "depth") 0 400 (codes "nodes") AsWritten _ rows refl fit) (λ none. other_used_fits (codes "depth") 0 400 (codes "workers") AsWritten _ rows refl fit) refl refl p a found none fit)
+    (λ none. other_used_fits (codes "depth") 0 400 (codes "nodes") AsWritten _ rows refl fit) (λ none. other_used_fits (codes "depth") 0 400 (codes "workers") AsWritten _ rows refl fit) refl refl refl p a found none fit)
     (λ rows fit. defaults_fit (codes "depth") 0 400 rows (λ rows fit. others_fit (codes "depth") 0 400 (codes "nodes") AsWritten DefaultValue _ rows refl fit)
-    (λ rows fit. others_fit (codes "depth") 0 400 (codes "workers") AsWritten DefaultValue _ rows refl fit) refl refl fit)
+    (λ rows fit. others_fit (codes "depth") 0 400 (codes "workers") AsWritten DefaultValue _ rows refl fit) refl refl refl fit)
+depth_fits checking words text =
+    left_fits (codes "depth") 0 400 check_built words text
+    (λ p a values rows found none fit. each_check_use_fits (codes "depth") 0 400 values rows (λ none. used_fits (codes "depth") 0 400 _ _ _ rows none fit) refl refl p a found none fit)
+    (λ rows fit. check_defaults_fit (codes "depth") 0 400 rows refl refl fit)
 
+-- and the numbers of nodes and of workers of an exploration are in theirs
 pub nodes_fits : (words : List Text) (text : Text) → level_fault explore_built [] nothing_held words false [] ≡ [] → one_of (codes "nodes") (rows_after explore_built.rules [] words) ≡ Some text
     → is_unsigned_in 1 10000000 text ≡ true
 nodes_fits words text =
-    left_fits (codes "nodes") 1 10000000 words text
+    left_fits (codes "nodes") 1 10000000 explore_built words text
     (λ p a values rows found none fit. each_use_fits (codes "nodes") 1 10000000 values rows (λ none. other_used_fits (codes "nodes") 1 10000000 (codes "depth") AsWritten _ rows refl fit)
-    (λ none. used_fits (codes "nodes") 1 10000000 _ _ _ rows none fit) (λ none. other_used_fits (codes "nodes") 1 10000000 (codes "workers") AsWritten _ rows refl fit) refl refl p a found none fit)
+    (λ none. used_fits (codes "nodes") 1 10000000 _ _ _ rows none fit) (λ none. other_used_fits (codes "nodes") 1 10000000 (codes "workers") AsWritten _ rows refl fit) refl refl refl p a found none fit)
     (λ rows fit. defaults_fit (codes "nodes") 1 10000000 rows (λ rows fit. own_fit (codes "nodes") 1 10000000 AsWritten DefaultValue _ rows refl refl fit)
-    (λ rows fit. others_fit (codes "nodes") 1 10000000 (codes "workers") AsWritten DefaultValue _ rows refl fit) refl refl fit)
+    (λ rows fit. others_fit (codes "nodes") 1 10000000 (codes "workers") AsWritten DefaultValue _ rows refl fit) refl refl refl fit)
 
 pub workers_fits : (words : List Text) (text : Text) → level_fault explore_built [] nothing_held words false [] ≡ [] → one_of (codes "workers") (rows_after explore_built.rules [] words) ≡ Some text
     → is_unsigned_in 1 16 text ≡ true
 workers_fits words text =
-    left_fits (codes "workers") 1 16 words text
+    left_fits (codes "workers") 1 16 explore_built words text
     (λ p a values rows found none fit. each_use_fits (codes "workers") 1 16 values rows (λ none. other_used_fits (codes "workers") 1 16 (codes "depth") AsWritten _ rows refl fit)
-    (λ none. other_used_fits (codes "workers") 1 16 (codes "nodes") AsWritten _ rows refl fit) (λ none. used_fits (codes "workers") 1 16 _ _ _ rows none fit) refl refl p a found none fit)
+    (λ none. other_used_fits (codes "workers") 1 16 (codes "nodes") AsWritten _ rows refl fit) (λ none. used_fits (codes "workers") 1 16 _ _ _ rows none fit) refl refl refl p a found none fit)
     (λ rows fit. defaults_fit (codes "workers") 1 16 rows (λ rows fit. others_fit (codes "workers") 1 16 (codes "nodes") AsWritten DefaultValue _ rows refl fit)
-    (λ rows fit. own_fit (codes "workers") 1 16 AsWritten DefaultValue _ rows refl refl fit) refl refl fit)
+    (λ rows fit. own_fit (codes "workers") 1 16 AsWritten DefaultValue _ rows refl refl fit) refl refl refl fit)

@@ -1,4 +1,4 @@
--- The rows of the options of an exploration: each option once, and then the defaults.
+-- The rows of the options of a command: each option once, and then the defaults.
 use Rattle.std.proofs.Common.{◌≡◌, ◌∙◌, ◌||◌, Bool, true, false, List, [], ◌∷◌, ◌++◌, map, Option, Some, None, cond, codes, option_map, refl, ap}
 use Rattle.std.specs.Fmt.{decimal}
 use Rattle.std.specs.List.{find, fold, list_any}
@@ -11,8 +11,8 @@ use Rattle.clap.specs.Walk.{Row, Rule, Text, at_row, default_rows, has_row, more
 use Rattle.clap.specs.declared.builder.value_parser.Reading.TheVariants.{AsWritten}
 use Rattle.clap.specs.declared.parser.matches.ValueSource.{ValueSource}
 use Rattle.clap.specs.declared.parser.matches.ValueSource.TheVariants.{CommandLine, DefaultValue}
-use Rattle.command_words.specs.Words.{Given, depth, nodes, workers, allow_deadlock, strict_access, depths_of, nodes_of, workers_of, is_allow_deadlock, is_strict_access}
-use Rattle.command_words.specs.inside.CommandLine.{depth_rule, explore_built, flag_rule, nodes_rule, workers_rule}
+use Rattle.command_words.specs.Words.{Given, depth, nodes, workers, allow_deadlock, strict_access, cover, depths_of, nodes_of, workers_of, is_allow_deadlock, is_strict_access, is_cover}
+use Rattle.command_words.specs.inside.CommandLine.{Level, built_of, checking, depth_rule, exploring, flag_rule, nodes_rule, workers_rule}
 
 -- the row of one value
 abbrev pub row_with : ValueSource → Text → Text → Row
@@ -25,6 +25,7 @@ id_of (nodes n) = codes "nodes"
 id_of (workers n) = codes "workers"
 id_of allow_deadlock = codes "allow-deadlock"
 id_of strict_access = codes "strict-access"
+id_of cover = codes "cover"
 
 abbrev pub value_of : Given → Text
 value_of (depth n) = decimal n
@@ -32,6 +33,7 @@ value_of (nodes n) = decimal n
 value_of (workers n) = decimal n
 value_of allow_deadlock = codes "true"
 value_of strict_access = codes "true"
+value_of cover = codes "true"
 
 -- the row of an option that is given
 abbrev pub row_of : Given → Row
@@ -93,6 +95,7 @@ depth_row (nodes n ∷ rest) = depth_row rest
 depth_row (workers n ∷ rest) = depth_row rest
 depth_row (allow_deadlock ∷ rest) = depth_row rest
 depth_row (strict_access ∷ rest) = depth_row rest
+depth_row (cover ∷ rest) = depth_row rest
 
 pub nodes_row : (given : List Given) → row_at (codes "nodes") (map row_of given) ≡ option_map (λ n. row_of (nodes n)) (slice_get (nodes_of given) 0)
 nodes_row [] = refl
@@ -101,6 +104,7 @@ nodes_row (depth n ∷ rest) = nodes_row rest
 nodes_row (workers n ∷ rest) = nodes_row rest
 nodes_row (allow_deadlock ∷ rest) = nodes_row rest
 nodes_row (strict_access ∷ rest) = nodes_row rest
+nodes_row (cover ∷ rest) = nodes_row rest
 
 pub workers_row : (given : List Given) → row_at (codes "workers") (map row_of given) ≡ option_map (λ n. row_of (workers n)) (slice_get (workers_of given) 0)
 workers_row [] = refl
@@ -109,6 +113,7 @@ workers_row (depth n ∷ rest) = workers_row rest
 workers_row (nodes n ∷ rest) = workers_row rest
 workers_row (allow_deadlock ∷ rest) = workers_row rest
 workers_row (strict_access ∷ rest) = workers_row rest
+workers_row (cover ∷ rest) = workers_row rest
 
 pub allow_deadlock_row : (given : List Given) → row_at (codes "allow-deadlock") (map row_of given) ≡ cond (list_any is_allow_deadlock given) (Some (row_of allow_deadlock)) None
 allow_deadlock_row [] = refl
@@ -117,6 +122,7 @@ allow_deadlock_row (depth n ∷ rest) = allow_deadlock_row rest
 allow_deadlock_row (nodes n ∷ rest) = allow_deadlock_row rest
 allow_deadlock_row (workers n ∷ rest) = allow_deadlock_row rest
 allow_deadlock_row (strict_access ∷ rest) = allow_deadlock_row rest
+allow_deadlock_row (cover ∷ rest) = allow_deadlock_row rest
 
 pub strict_access_row : (given : List Given) → row_at (codes "strict-access") (map row_of given) ≡ cond (list_any is_strict_access given) (Some (row_of strict_access)) None
 strict_access_row [] = refl
@@ -125,6 +131,16 @@ strict_access_row (depth n ∷ rest) = strict_access_row rest
 strict_access_row (nodes n ∷ rest) = strict_access_row rest
 strict_access_row (workers n ∷ rest) = strict_access_row rest
 strict_access_row (allow_deadlock ∷ rest) = strict_access_row rest
+strict_access_row (cover ∷ rest) = strict_access_row rest
+
+pub cover_row : (given : List Given) → row_at (codes "cover") (map row_of given) ≡ cond (list_any is_cover given) (Some (row_of cover)) None
+cover_row [] = refl
+cover_row (cover ∷ rest) = refl
+cover_row (depth n ∷ rest) = cover_row rest
+cover_row (nodes n ∷ rest) = cover_row rest
+cover_row (workers n ∷ rest) = cover_row rest
+cover_row (allow_deadlock ∷ rest) = cover_row rest
+cover_row (strict_access ∷ rest) = cover_row rest
 
 -- ---- the defaults
 
@@ -163,9 +179,10 @@ default_own a value rows is how same = by (row_at a.id rows) refl
         ap (row_at a.id) (default_new a value rows is how none) ∙ row_at-new a.id rows (row_with DefaultValue a.id value) same found
 
 -- the rows with all defaults
-abbrev pub with_defaults : List Row → List Row
-with_defaults rows = fold with_default rows explore_built.rules
+abbrev pub with_defaults : Level → List Row → List Row
+with_defaults level rows = fold with_default rows (built_of level).rules
 
+-- those of `explore`, one after the other
 abbrev first_two : List Row → List Row
 first_two rows = with_default (with_default rows (filled depth_rule)) (filled nodes_rule)
 
@@ -178,8 +195,14 @@ first_four rows = with_default (first_three rows) (filled (flag_rule (codes "all
 abbrev first_five : List Row → List Row
 first_five rows = with_default (first_four rows) (filled (flag_rule (codes "strict-access")))
 
-all_as_five : (id : Text) (rows : List Row) → row_at id (with_defaults rows) ≡ row_at id (first_five rows)
-all_as_five id rows = ap (row_at id) (no_default (filled help_rule) (first_five rows) refl)
+abbrev first_six : List Row → List Row
+first_six rows = with_default (first_five rows) (filled (flag_rule (codes "cover")))
+
+all_as_six : (id : Text) (rows : List Row) → row_at id (with_defaults exploring rows) ≡ row_at id (first_six rows)
+all_as_six id rows = ap (row_at id) (no_default (filled help_rule) (first_six rows) refl)
+
+six_as_five : (id : Text) (rows : List Row) → bytes_eq (codes "cover") id ≡ false → row_at id (first_six rows) ≡ row_at id (first_five rows)
+six_as_five id rows differs = default_other (filled (flag_rule (codes "cover"))) (codes "false") id (first_five rows) refl refl differs
 
 five_as_four : (id : Text) (rows : List Row) → bytes_eq (codes "strict-access") id ≡ false → row_at id (first_five rows) ≡ row_at id (first_four rows)
 five_as_four id rows differs = default_other (filled (flag_rule (codes "strict-access"))) (codes "false") id (first_four rows) refl refl differs
@@ -194,36 +217,71 @@ two_as_none : (id : Text) (rows : List Row) → bytes_eq (codes "nodes") id ≡ 
 two_as_none id rows differs =
     default_other (filled nodes_rule) (codes "1000000") id (with_default rows (filled depth_rule)) refl refl differs ∙ ap (row_at id) (no_default (filled depth_rule) rows refl)
 
-pub depth_left : (rows : List Row) → row_at (codes "depth") (with_defaults rows) ≡ row_at (codes "depth") rows
-depth_left rows =
-    all_as_five (codes "depth") rows ∙ five_as_four (codes "depth") rows refl ∙ four_as_three (codes "depth") rows refl ∙ three_as_two (codes "depth") rows refl ∙ two_as_none (codes "depth") rows refl
+-- those of `check`
+abbrev check_two : List Row → List Row
+check_two rows = with_default (with_default rows (filled depth_rule)) (filled (flag_rule (codes "allow-deadlock")))
 
-pub nodes_left : (rows : List Row)
-    → row_at (codes "nodes") (with_defaults rows) ≡ Some (unwrap_or (row_at (codes "nodes") rows) (row_with DefaultValue (codes "nodes") (codes "1000000")))
+abbrev check_three : List Row → List Row
+check_three rows = with_default (check_two rows) (filled (flag_rule (codes "strict-access")))
+
+check_all_as_three : (id : Text) (rows : List Row) → row_at id (with_defaults checking rows) ≡ row_at id (check_three rows)
+check_all_as_three id rows = ap (row_at id) (no_default (filled help_rule) (check_three rows) refl)
+
+check_three_as_two : (id : Text) (rows : List Row) → bytes_eq (codes "strict-access") id ≡ false → row_at id (check_three rows) ≡ row_at id (check_two rows)
+check_three_as_two id rows differs = default_other (filled (flag_rule (codes "strict-access"))) (codes "false") id (check_two rows) refl refl differs
+
+check_two_as_none : (id : Text) (rows : List Row) → bytes_eq (codes "allow-deadlock") id ≡ false → row_at id (check_two rows) ≡ row_at id rows
+check_two_as_none id rows differs =
+    default_other (filled (flag_rule (codes "allow-deadlock"))) (codes "false") id (with_default rows (filled depth_rule)) refl refl differs
+    ∙ ap (row_at id) (no_default (filled depth_rule) rows refl)
+
+-- the row of an option, or of its default
+abbrev pub row_or : Text → Text → Option Row → Option Row
+row_or id value row = Some (unwrap_or row (row_with DefaultValue id value))
+
+pub depth_left : (level : Level) (rows : List Row) → row_at (codes "depth") (with_defaults level rows) ≡ row_at (codes "depth") rows
+depth_left exploring rows =
+    all_as_six (codes "depth") rows ∙ six_as_five (codes "depth") rows refl ∙ five_as_four (codes "depth") rows refl ∙ four_as_three (codes "depth") rows refl ∙ three_as_two (codes "depth") rows refl
+    ∙ two_as_none (codes "depth") rows refl
+depth_left checking rows = check_all_as_three (codes "depth") rows ∙ check_three_as_two (codes "depth") rows refl ∙ check_two_as_none (codes "depth") rows refl
+
+pub nodes_left : (rows : List Row) → row_at (codes "nodes") (with_defaults exploring rows) ≡ row_or (codes "nodes") (codes "1000000") (row_at (codes "nodes") rows)
 nodes_left rows =
-    all_as_five (codes "nodes") rows ∙ five_as_four (codes "nodes") rows refl ∙ four_as_three (codes "nodes") rows refl ∙ three_as_two (codes "nodes") rows refl
+    all_as_six (codes "nodes") rows ∙ six_as_five (codes "nodes") rows refl ∙ five_as_four (codes "nodes") rows refl ∙ four_as_three (codes "nodes") rows refl ∙ three_as_two (codes "nodes") rows refl
     ∙ default_own (filled nodes_rule) (codes "1000000") (with_default rows (filled depth_rule)) refl refl refl
-    ∙ ap (λ l. Some (unwrap_or (row_at (codes "nodes") l) (row_with DefaultValue (codes "nodes") (codes "1000000")))) (no_default (filled depth_rule) rows refl)
+    ∙ ap (λ l. row_or (codes "nodes") (codes "1000000") (row_at (codes "nodes") l)) (no_default (filled depth_rule) rows refl)
 
-pub workers_left : (rows : List Row)
-    → row_at (codes "workers") (with_defaults rows) ≡ Some (unwrap_or (row_at (codes "workers") rows) (row_with DefaultValue (codes "workers") (codes "1")))
+pub workers_left : (rows : List Row) → row_at (codes "workers") (with_defaults exploring rows) ≡ row_or (codes "workers") (codes "1") (row_at (codes "workers") rows)
 workers_left rows =
-    all_as_five (codes "workers") rows ∙ five_as_four (codes "workers") rows refl ∙ four_as_three (codes "workers") rows refl
+    all_as_six (codes "workers") rows ∙ six_as_five (codes "workers") rows refl ∙ five_as_four (codes "workers") rows refl ∙ four_as_three (codes "workers") rows refl
     ∙ default_own (filled workers_rule) (codes "1") (first_two rows) refl refl refl
-    ∙ ap (λ o. Some (unwrap_or o (row_with DefaultValue (codes "workers") (codes "1")))) (two_as_none (codes "workers") rows refl)
+    ∙ ap (row_or (codes "workers") (codes "1")) (two_as_none (codes "workers") rows refl)
 
-pub allow_deadlock_left : (rows : List Row)
-    → row_at (codes "allow-deadlock") (with_defaults rows) ≡ Some (unwrap_or (row_at (codes "allow-deadlock") rows) (row_with DefaultValue (codes "allow-deadlock") (codes "false")))
-allow_deadlock_left rows =
-    all_as_five (codes "allow-deadlock") rows ∙ five_as_four (codes "allow-deadlock") rows refl
+pub allow_deadlock_left : (level : Level) (rows : List Row)
+    → row_at (codes "allow-deadlock") (with_defaults level rows) ≡ row_or (codes "allow-deadlock") (codes "false") (row_at (codes "allow-deadlock") rows)
+allow_deadlock_left exploring rows =
+    all_as_six (codes "allow-deadlock") rows ∙ six_as_five (codes "allow-deadlock") rows refl ∙ five_as_four (codes "allow-deadlock") rows refl
     ∙ default_own (filled (flag_rule (codes "allow-deadlock"))) (codes "false") (first_three rows) refl refl refl
-    ∙ ap (λ o. Some (unwrap_or o (row_with DefaultValue (codes "allow-deadlock") (codes "false")))) (three_as_two (codes "allow-deadlock") rows refl ∙ two_as_none (codes "allow-deadlock") rows refl)
+    ∙ ap (row_or (codes "allow-deadlock") (codes "false")) (three_as_two (codes "allow-deadlock") rows refl ∙ two_as_none (codes "allow-deadlock") rows refl)
+allow_deadlock_left checking rows =
+    check_all_as_three (codes "allow-deadlock") rows ∙ check_three_as_two (codes "allow-deadlock") rows refl
+    ∙ default_own (filled (flag_rule (codes "allow-deadlock"))) (codes "false") (with_default rows (filled depth_rule)) refl refl refl
+    ∙ ap (λ l. row_or (codes "allow-deadlock") (codes "false") (row_at (codes "allow-deadlock") l)) (no_default (filled depth_rule) rows refl)
 
-pub strict_access_left : (rows : List Row)
-    → row_at (codes "strict-access") (with_defaults rows) ≡ Some (unwrap_or (row_at (codes "strict-access") rows) (row_with DefaultValue (codes "strict-access") (codes "false")))
-strict_access_left rows =
-    all_as_five (codes "strict-access") rows ∙ default_own (filled (flag_rule (codes "strict-access"))) (codes "false") (first_four rows) refl refl refl
-    ∙ ap (λ o. Some (unwrap_or o (row_with DefaultValue (codes "strict-access") (codes "false")))) (four_as_three (codes "strict-access") rows refl ∙ three_as_two (codes "strict-access") rows refl ∙ two_as_none (codes "strict-access") rows refl)
+pub strict_access_left : (level : Level) (rows : List Row)
+    → row_at (codes "strict-access") (with_defaults level rows) ≡ row_or (codes "strict-access") (codes "false") (row_at (codes "strict-access") rows)
+strict_access_left exploring rows =
+    all_as_six (codes "strict-access") rows ∙ six_as_five (codes "strict-access") rows refl
+    ∙ default_own (filled (flag_rule (codes "strict-access"))) (codes "false") (first_four rows) refl refl refl
+    ∙ ap (row_or (codes "strict-access") (codes "false")) (four_as_three (codes "strict-access") rows refl ∙ three_as_two (codes "strict-access") rows refl ∙ two_as_none (codes "strict-access") rows refl)
+strict_access_left checking rows =
+    check_all_as_three (codes "strict-access") rows ∙ default_own (filled (flag_rule (codes "strict-access"))) (codes "false") (check_two rows) refl refl refl
+    ∙ ap (row_or (codes "strict-access") (codes "false")) (check_two_as_none (codes "strict-access") rows refl)
+
+pub cover_left : (rows : List Row) → row_at (codes "cover") (with_defaults exploring rows) ≡ row_or (codes "cover") (codes "false") (row_at (codes "cover") rows)
+cover_left rows =
+    all_as_six (codes "cover") rows ∙ default_own (filled (flag_rule (codes "cover"))) (codes "false") (first_five rows) refl refl refl
+    ∙ ap (row_or (codes "cover") (codes "false")) (five_as_four (codes "cover") rows refl ∙ four_as_three (codes "cover") rows refl ∙ three_as_two (codes "cover") rows refl ∙ two_as_none (codes "cover") rows refl)
 
 -- the text that is read of a row
 pub text_of_row : (id value : Text) (source : ValueSource) (rows : List Row) → row_at id rows ≡ Some (row_with source id value) → one_of id rows ≡ Some value

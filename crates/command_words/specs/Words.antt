@@ -4,9 +4,12 @@ use Rattle.std.specs.Fmt.{decimal}
 use Rattle.clap.specs.Values.{kind_of}
 use Rattle.clap.specs.declared.error.Error.{Error}
 use Rattle.clap.specs.declared.error.kind.ErrorKind.TheVariants.{OutOfMemory}
+use Rattle.findings.specs.declared.flags.Flags.{Flags}
 use Rattle.findings.specs.declared.options.Options.{Options}
+use Rattle.command_words.specs.declared.words.Printed.{Printed}
+use Rattle.command_words.specs.declared.words.Printed.TheVariants.{Report, ReportAndCover}
 use Rattle.command_words.specs.declared.words.Words.{Words}
-use Rattle.command_words.specs.declared.words.Words.TheVariants.{Replay, Explore}
+use Rattle.command_words.specs.declared.words.Words.TheVariants.{Replay, Explore, Check}
 
 -- a word that begins with a hyphen, which the parser may take for an option
 abbrev pub begins_with_hyphen : List ℕ → Bool
@@ -19,13 +22,14 @@ pub record IsReplay (words : List (List ℕ)) (schedule : List ℕ) : Type 0 whe
   pub words_are : words ≡ name ∷ codes "replay" ∷ schedule ∷ []
   pub plain : begins_with_hyphen schedule ≡ false
 
--- an option of `explore`, as it may be given
+-- an option of `explore` or of `check`, as it may be given
 pub data Given : Type 0 where
   depth : ℕ → Given
   nodes : ℕ → Given
   workers : ℕ → Given
   allow_deadlock : Given
   strict_access : Given
+  cover : Given
 
 -- its words: a number is given by its decimal digits
 abbrev pub words_of : Given → List (List ℕ)
@@ -34,6 +38,7 @@ words_of (nodes n) = codes "--nodes" ∷ decimal n ∷ []
 words_of (workers n) = codes "--workers" ∷ decimal n ∷ []
 words_of allow_deadlock = codes "--allow-deadlock" ∷ []
 words_of strict_access = codes "--strict-access" ∷ []
+words_of cover = codes "--cover" ∷ []
 
 -- the words of one option after another
 abbrev pub words_of_all : List Given → List (List ℕ)
@@ -68,6 +73,16 @@ abbrev pub is_strict_access : Given → Bool
 is_strict_access strict_access = true
 is_strict_access _ = false
 
+-- whether it is the option that asks for the cover
+abbrev pub is_cover : Given → Bool
+is_cover cover = true
+is_cover _ = false
+
+-- whether the cover is printed too
+abbrev pub asks_for_cover : Printed → Bool
+asks_for_cover Report = false
+asks_for_cover ReportAndCover = true
+
 -- a number that may be given once, or else is the default
 abbrev pub IsGivenOr : ℕ → List ℕ → ℕ → Type 0
 IsGivenOr default [] n = n ≡ default
@@ -84,7 +99,7 @@ pub record AreInRange (options : Options) : Type 0 where
   pub most_workers : options.workers ≤ 16
 
 -- the words are the name of the program, `explore` and options in any order: `--depth` once, each other one once or not at all
-pub record IsExplore (words : List (List ℕ)) (options : Options) : Type 0 where
+pub record IsExplore (words : List (List ℕ)) (options : Options) (printed : Printed) : Type 0 where
   pub name : List ℕ
   pub given : List Given
   pub words_are : words ≡ name ∷ codes "explore" ∷ words_of_all given
@@ -93,7 +108,21 @@ pub record IsExplore (words : List (List ℕ)) (options : Options) : Type 0 wher
   pub workers : IsGivenOr 1 (workers_of given) options.workers
   pub allow_deadlock : count_by is_allow_deadlock given ≡ (if options.flags.allow_deadlock then 1 else 0)
   pub strict_access : count_by is_strict_access given ≡ (if options.flags.strict_access then 1 else 0)
+  pub cover : count_by is_cover given ≡ (if asks_for_cover printed then 1 else 0)
   pub in_range : AreInRange options
+
+-- the words are the name of the program, `check` and options in any order: `--depth` once, each of its two flags once or not at all, and no option that is of `explore` alone
+pub record IsCheck (words : List (List ℕ)) (steps : ℕ) (flags : Flags) : Type 0 where
+  pub name : List ℕ
+  pub given : List Given
+  pub words_are : words ≡ name ∷ codes "check" ∷ words_of_all given
+  pub depth : depths_of given ≡ steps ∷ []
+  pub allow_deadlock : count_by is_allow_deadlock given ≡ (if flags.allow_deadlock then 1 else 0)
+  pub strict_access : count_by is_strict_access given ≡ (if flags.strict_access then 1 else 0)
+  pub no_nodes : nodes_of given ≡ []
+  pub no_workers : workers_of given ≡ []
+  pub no_cover : count_by is_cover given ≡ 0
+  pub in_range : steps ≤ 400
 
 -- the words are the name of the program, this name of a command, and others
 pub record IsNamed (words : List (List ℕ)) (command : List ℕ) : Type 0 where
@@ -104,22 +133,29 @@ pub record IsNamed (words : List (List ℕ)) (command : List ℕ) : Type 0 where
 -- the name of the command that was read
 abbrev pub command_of : Words → List ℕ
 command_of (Replay word) = codes "replay"
-command_of (Explore options) = codes "explore"
+command_of (Explore options printed) = codes "explore"
+command_of (Check steps flags) = codes "check"
 
 -- what was read is the replay of this schedule
 abbrev pub AsksReplay : List ℕ → Words → Type 0
 AsksReplay schedule (Replay word) = string_bytes word ≡ schedule
-AsksReplay schedule (Explore options) = ⊥
+AsksReplay schedule _ = ⊥
 
--- what was read is an exploration with these options
-abbrev pub AsksExplore : Options → Words → Type 0
-AsksExplore options (Replay word) = ⊥
-AsksExplore options (Explore found) = found ≡ options
+-- what was read is an exploration with these options, that prints this
+abbrev pub AsksExplore : Options → Printed → Words → Type 0
+AsksExplore options printed (Explore found prints) = (found ≡ options) × (prints ≡ printed)
+AsksExplore options printed _ = ⊥
 
--- the options of an exploration are in their ranges
+-- what was read is the check of a cover up to this number of steps, with these flags
+abbrev pub AsksCheck : ℕ → Flags → Words → Type 0
+AsksCheck steps flags (Check found counts) = (found ≡ steps) × (counts ≡ flags)
+AsksCheck steps flags _ = ⊥
+
+-- the numbers of a command are in their ranges
 abbrev pub IsInRange : Words → Type 0
 IsInRange (Replay word) = Unit {0}
-IsInRange (Explore options) = AreInRange options
+IsInRange (Explore options printed) = AreInRange options
+IsInRange (Check steps flags) = steps ≤ 400
 
 -- the words were read as what they ask for, or there was no memory for them
 abbrev pub AreReadAs : (Words → Type 0) → Result Words Error → Type 0

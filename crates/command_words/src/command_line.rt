@@ -1,10 +1,12 @@
 // The commands of the program and their arguments, and what the parser found of them.
-ghost use Rattle.std.specs.Prelude.{◌≡◌, option_map, IfOk, IfErr};
+ghost use Rattle.std.specs.Prelude.{◌≡◌, codes, option_map, IfOk, IfErr};
 ghost use Rattle.clap.specs.Values.{kind_of};
 ghost use Rattle.clap.specs.Words.{app_of, found_of, one_of, rows_of, subcommand_rows_of};
-ghost use Rattle.command_words.specs.inside.CommandLine.{IsArgument, IsMadeAs, command_line, depth_rule, explore_command, flag_rule, nodes_rule, replay_command, workers_rule};
-ghost use Rattle.command_words.specs.inside.Found.{AreOptionsOf, ReadsNumber, schedule_in};
+ghost use Rattle.command_words.specs.Words.{asks_for_cover};
+ghost use Rattle.command_words.specs.inside.CommandLine.{IsArgument, IsMadeAs, check_command, command_line, depth_rule, explore_command, flag_rule, nodes_rule, replay_command, workers_rule};
+ghost use Rattle.command_words.specs.inside.Found.{AreFlagsOf, AreOptionsOf, IsCheckOf, ReadsFlag, ReadsNumber, schedule_in};
 
+use crate::words::Printed;
 use clap::error::ErrorKind;
 use clap::{Arg, ArgAction, ArgMatches, Command, Error, value_parser};
 use findings::{Flags, Options};
@@ -27,7 +29,8 @@ pub(crate) fn command<'a>(alloc: Global) -> Result<Command<'a>, Error>
         )
         .subcommand_required(true)
         .subcommand(replay_command(alloc)?)?
-        .subcommand(explore_command(alloc)?)?;
+        .subcommand(explore_command(alloc)?)?
+        .subcommand(check_command(alloc)?)?;
     Ok(explorer)
 }
 
@@ -51,16 +54,6 @@ fn explore_command<'a>(alloc: Global) -> Result<Command<'a>, Error>
     ensures line { IfOk result (λ made. IsMadeAs explore_command made) }
     ensures memory { IfErr result (λ e. kind_of e ≡ ErrorKind.OutOfMemory) }
 {
-    let allow_deadlock = flag(
-        alloc,
-        "allow-deadlock",
-        "Does not count a deadlock as an error",
-    );
-    let strict_access = flag(
-        alloc,
-        "strict-access",
-        "Counts a call as an error that is refused because of who makes it",
-    );
     let explore = Command::new(alloc, "explore")
         .about(
             "Explores all schedules up to a number of steps, and reports the errors that they lead to",
@@ -68,9 +61,29 @@ fn explore_command<'a>(alloc: Global) -> Result<Command<'a>, Error>
         .arg(depth_option(alloc))?
         .arg(nodes_option(alloc))?
         .arg(workers_option(alloc))?
-        .arg(allow_deadlock)?
-        .arg(strict_access)?;
+        .arg(allow_deadlock_flag(alloc))?
+        .arg(strict_access_flag(alloc))?
+        .arg(flag(
+            alloc,
+            "cover",
+            "Prints behind a clean report the tree of schedules that it stands on, which `check` reads",
+        ))?;
     Ok(explore)
+}
+
+// `check` and its options.
+fn check_command<'a>(alloc: Global) -> Result<Command<'a>, Error>
+    ensures line { IfOk result (λ made. IsMadeAs check_command made) }
+    ensures memory { IfErr result (λ e. kind_of e ≡ ErrorKind.OutOfMemory) }
+{
+    let check = Command::new(alloc, "check")
+        .about(
+            "Checks a cover: that it stands behind the module, and that no schedule up to a number of steps leads to an error",
+        )
+        .arg(depth_option(alloc))?
+        .arg(allow_deadlock_flag(alloc))?
+        .arg(strict_access_flag(alloc))?;
+    Ok(check)
 }
 
 // `--depth N`.
@@ -112,6 +125,28 @@ fn workers_option<'a>(alloc: Global) -> Arg<'a>
         .help("How many threads work at the exploration, from 1 to 16")
 }
 
+// `--allow-deadlock`.
+fn allow_deadlock_flag<'a>(alloc: Global) -> Arg<'a>
+    ensures { IsArgument (flag_rule (codes "allow-deadlock")) result }
+{
+    flag(
+        alloc,
+        "allow-deadlock",
+        "Does not count a deadlock as an error",
+    )
+}
+
+// `--strict-access`.
+fn strict_access_flag<'a>(alloc: Global) -> Arg<'a>
+    ensures { IsArgument (flag_rule (codes "strict-access")) result }
+{
+    flag(
+        alloc,
+        "strict-access",
+        "Counts a call as an error that is refused because of who makes it",
+    )
+}
+
 // An option that stands alone.
 fn flag<'a>(alloc: Global, name: &'a str, help: &'a str) -> Arg<'a>
     ensures { IsArgument (flag_rule name.entry.now) result }
@@ -129,21 +164,48 @@ pub(crate) fn found_schedule<'a>(matches: &ArgMatches<'a>) -> Option<&'a str>
     matches.subcommand_matches("replay")?.get_str("SCHEDULE")
 }
 
-// The options of the exploration.
-pub(crate) fn found_options(matches: &ArgMatches<'_>) -> Option<Options>
+// The options of the exploration, and what it prints.
+pub(crate) fn found_options(matches: &ArgMatches<'_>) -> Option<(Options, Printed)>
     ensures { AreOptionsOf (subcommand_rows_of matches.now) result }
 {
     let given = matches.subcommand_matches("explore")?;
-    Some(Options {
+    let options = Options {
         depth: found_number(given, "depth")?,
         nodes: found_number(given, "nodes")?,
         budget: BUDGET,
         workers: found_number(given, "workers")?,
-        flags: Flags {
-            allow_deadlock: given.get_flag("allow-deadlock"),
-            strict_access: given.get_flag("strict-access"),
-        },
-    })
+        flags: found_flags(given),
+    };
+    Some((options, found_printed(given)))
+}
+
+// The depth to which a cover is checked, and what counts as an error.
+pub(crate) fn found_check(matches: &ArgMatches<'_>) -> Option<(u64, Flags)>
+    ensures { IsCheckOf (subcommand_rows_of matches.now) result }
+{
+    let given = matches.subcommand_matches("check")?;
+    Some((found_number(given, "depth")?, found_flags(given)))
+}
+
+// What counts as an error.
+fn found_flags(matches: &ArgMatches<'_>) -> Flags
+    ensures { AreFlagsOf (rows_of (found_of matches.now)) result }
+{
+    Flags {
+        allow_deadlock: matches.get_flag("allow-deadlock"),
+        strict_access: matches.get_flag("strict-access"),
+    }
+}
+
+// What an exploration prints.
+fn found_printed(matches: &ArgMatches<'_>) -> Printed
+    ensures { ReadsFlag (one_of (codes "cover") (rows_of (found_of matches.now))) (asks_for_cover result) }
+{
+    if matches.get_flag("cover") {
+        Printed::ReportAndCover
+    } else {
+        Printed::Report
+    }
 }
 
 // The number that an option has.

@@ -5,4 +5,4 @@ pub mod command_line;
 pub mod words;
 
 pub use command_line::{BUDGET, NAME};
-pub use words::{Words, read_words};
+pub use words::{Printed, Words, read_words};

@@ -1,22 +1,35 @@
 // The words of a command line.
 ghost use Rattle.std.specs.Prelude.{ℕ, List, map, IfOk};
+ghost use Rattle.findings.specs.declared.flags.Flags.{Flags};
 ghost use Rattle.findings.specs.declared.options.Options.{Options};
-ghost use Rattle.command_words.specs.Words.{AreReadAs, AsksExplore, AsksReplay, IsExplore, IsInRange, IsNamed, IsReplay, command_of};
+ghost use Rattle.command_words.specs.declared.words.Printed.{Printed};
+ghost use Rattle.command_words.specs.Words.{AreReadAs, AsksCheck, AsksExplore, AsksReplay, IsCheck, IsExplore, IsInRange, IsNamed, IsReplay, command_of};
 
-use crate::command_line::{NAME, command, found_options, found_schedule};
+use crate::command_line::{NAME, command, found_check, found_options, found_schedule};
 use clap::error::ErrorKind;
 use clap::{Command, Error};
-use findings::Options;
+use findings::{Flags, Options};
 use std::alloc::Global;
 use std::convert::AsStr;
+
+/// What an exploration prints.
+#[derive(Clone, Copy, Debug, PartialEq, Eq)]
+pub enum Printed {
+    /// The report alone.
+    Report,
+    /// The report and, behind one that is clean, the cover.
+    ReportAndCover,
+}
 
 /// What the program is asked to do.
 #[derive(Debug, Drop)]
 pub enum Words {
     /// `replay SCHEDULE`: to replay a schedule of the module on standard input.
     Replay(String),
-    /// `explore`, with its options: to explore the schedules of the module on standard input.
-    Explore(Options),
+    /// `explore`, with its options and what it prints: to explore the schedules of the module on standard input.
+    Explore(Options, Printed),
+    /// `check`, with the depth and what counts as an error: to check the cover behind the module on standard input.
+    Check(u64, Flags),
 }
 
 /// Reads the words of a command line, of which the first is the program's name.
@@ -27,7 +40,8 @@ pub enum Words {
 /// there was no memory.
 pub fn read_words<S: AsStr>(alloc: Global, words: &[S]) -> Result<Words, Error>
     ensures replay { (schedule : List ℕ) → IsReplay (map S.text words.now) schedule → AreReadAs (AsksReplay schedule) result }
-    ensures explore { (options : Options) → IsExplore (map S.text words.now) options → AreReadAs (AsksExplore options) result }
+    ensures explore { (options : Options) (printed : Printed) → IsExplore (map S.text words.now) options printed → AreReadAs (AsksExplore options printed) result }
+    ensures check { (depth : ℕ) (flags : Flags) → IsCheck (map S.text words.now) depth flags → AreReadAs (AsksCheck depth flags) result }
     ensures range { IfOk result IsInRange }
     ensures named { IfOk result (λ read. IsNamed (map S.text words.now) (command_of read)) }
 {
@@ -36,8 +50,11 @@ pub fn read_words<S: AsStr>(alloc: Global, words: &[S]) -> Result<Words, Error>
     if let Some(schedule) = found_schedule(&matches) {
         return Ok(Words::Replay(String::from_str(alloc, schedule)?));
     }
-    let Some(options) = found_options(&matches) else {
+    if let Some((options, printed)) = found_options(&matches) {
+        return Ok(Words::Explore(options, printed));
+    }
+    let Some((depth, flags)) = found_check(&matches) else {
         return Err(Command::new(alloc, NAME).error(ErrorKind::MissingSubcommand, "no command")?);
     };
-    Ok(Words::Explore(options))
+    Ok(Words::Check(depth, flags))
 }

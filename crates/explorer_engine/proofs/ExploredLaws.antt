@@ -5,9 +5,12 @@ use Rattle.core_tree.specs.Syntax.{ModuleTree}
 use Rattle.core_reader.specs.ModuleText.{SpellsModule}
 use Rattle.core_reader.specs.Refusal.{IsRefusalOf}
 use Rattle.core_tokens.specs.declared.fault.ReadFault.{ReadFault}
-use Rattle.term_core.specs.Stream.{WritesAll, BreaksOff}
+use Rattle.command_words.specs.declared.words.Printed.{Printed}
+use Rattle.cover_check.specs.Writing.{IsWritten}
+use Rattle.cover_check.specs.declared.fault.WriteCoverFault.{WriteCoverFault}
+use Rattle.cover_check.specs.declared.fault.WriteCoverFault.TheVariants as written
+use Rattle.term_core.specs.Stream.{WritesAll}
 use Rattle.world_model.specs.Asking.{program_of}
-use Rattle.world_model.specs.Names.{IsAmong}
 use Rattle.world_model.specs.Shown.{Identity, is_error}
 use Rattle.coverage.specs.Findings.{Finding, IsFound}
 use Rattle.coverage.specs.Shown.{IsShown}
@@ -17,9 +20,9 @@ use Rattle.findings.specs.declared.outcome.Outcome.TheVariants as outcomes
 use Rattle.sleep_jobs.specs.Explorations.{ExplorationSeen, explored_by, program_in}
 use Rattle.search_crew.specs.Outcomes.{IsOutcome, IsExact}
 use Rattle.search_crew.specs.declared.fault.SearchFault.{SearchFault}
-use Rattle.report_text.specs.ReportText.{text_of_report}
-use Rattle.explorer_engine.specs.Explored.{IsExplored, IsExplorationOf, IsCleanIfSaid, ShowsNoError, complete_verdict, verdict_of}
+use Rattle.explorer_engine.specs.Explored.{IsExplored, IsExplorationOf, IsCleanIfSaid, ShowsNoError, complete_verdict, text_of_exploration, verdict_of}
 use Rattle.explorer_engine.specs.Input.{IsInputOf}
+use Rattle.explorer_engine.specs.Refusals.{refusal_of_printing}
 use Rattle.explorer_engine.specs.declared.verdict.RunFault.{RunFault}
 use Rattle.explorer_engine.specs.declared.verdict.RunFault.TheVariants as run
 use Rattle.explorer_engine.specs.declared.verdict.Verdict.{Verdict}
@@ -27,40 +30,45 @@ use Rattle.explorer_engine.specs.declared.verdict.Verdict.TheVariants.{Clean}
 use Rattle.explorer_engine.proofs.EngineLaws.{spells_all, refused_all}
 
 -- a module that was refused
-pub module_refused : (remaining : Option (List ℕ)) (bytes : List ℕ) (options : Options) (contents : Option (List ℕ)) (failed : Bool) (fault : ReadFault) (r : Result Verdict RunFault)
+pub module_refused : (remaining : Option (List ℕ)) (bytes : List ℕ) (options : Options) (what : Printed) (contents : Option (List ℕ)) (failed : Bool) (fault : ReadFault) (r : Result Verdict RunFault)
     → r ≡ Err (run.Input fault) → IfSome remaining (λ all. IsInputOf 1048576 all bytes) → IsRefusalOf bytes fault → failed ≡ false
-    → IfSome remaining (λ input. IsExplorationOf input options contents contents failed r)
-module_refused None bytes options contents failed fault r e is refusal sound = tt
-module_refused (Some all) bytes options contents failed fault r e is refusal sound =
-    subst (λ (r : Result Verdict RunFault). IsExplorationOf all options contents contents failed r) (sym e) (refused_all all bytes fault is refusal, record { same = refl; sound = sound })
+    → IfSome remaining (λ input. IsExplorationOf input options what contents contents failed r)
+module_refused None bytes options what contents failed fault r e is refusal sound = tt
+module_refused (Some all) bytes options what contents failed fault r e is refusal sound =
+    subst (λ (r : Result Verdict RunFault). IsExplorationOf all options what contents contents failed r) (sym e) (refused_all all bytes fault is refusal, record { same = refl; sound = sound })
 
 -- a search that was not begun
-pub not_begun : (remaining : Option (List ℕ)) (bytes : List ℕ) (options : Options) (contents : Option (List ℕ)) (failed : Bool) (m : ModuleTree) (fault : SearchFault) (r : Result Verdict RunFault)
+pub not_begun : (remaining : Option (List ℕ)) (bytes : List ℕ) (options : Options) (what : Printed) (contents : Option (List ℕ)) (failed : Bool) (m : ModuleTree) (fault : SearchFault) (r : Result Verdict RunFault)
     → r ≡ Err (run.Explore fault) → IfSome remaining (λ all. IsInputOf 1048576 all bytes) → SpellsModule bytes m → failed ≡ false
-    → IfSome remaining (λ input. IsExplorationOf input options contents contents failed r)
-not_begun None bytes options contents failed m fault r e is spelt sound = tt
-not_begun (Some all) bytes options contents failed m fault r e is spelt sound =
-    subst (λ (r : Result Verdict RunFault). IsExplorationOf all options contents contents failed r) (sym e) (record { program = m; module_text = spells_all all bytes m is spelt; quiet = record { same = refl; sound = sound } })
+    → IfSome remaining (λ input. IsExplorationOf input options what contents contents failed r)
+not_begun None bytes options what contents failed m fault r e is spelt sound = tt
+not_begun (Some all) bytes options what contents failed m fault r e is spelt sound =
+    subst (λ (r : Result Verdict RunFault). IsExplorationOf all options what contents contents failed r) (sym e) (record { program = m; module_text = spells_all all bytes m is spelt; quiet = record { same = refl; sound = sound } })
 
-explored : (all bytes : List ℕ) (options : Options) (m : ModuleTree) (outcome : Outcome)
+abbrev explored : (all bytes : List ℕ) (options : Options) (m : ModuleTree) (outcome : Outcome)
     → IsInputOf 1048576 all bytes → SpellsModule bytes m → IsOutcome (explored_by m options) options.nodes outcome → IsExact (explored_by m options) outcome → IsExplored all options outcome
 explored all bytes options m outcome is spelt comes exact = record { program = m; module_text = spells_all all bytes m is spelt; is_outcome = comes; is_exact = exact }
 
 -- a report that was written
-pub reported : (remaining : Option (List ℕ)) (bytes : List ℕ) (options : Options) (old new : Option (List ℕ)) (failed : Bool) (m : ModuleTree) (outcome : Outcome) (verdict : Verdict)
+pub reported : (remaining : Option (List ℕ)) (bytes : List ℕ) (options : Options) (what : Printed) (old new : Option (List ℕ)) (failed : Bool) (m : ModuleTree) (outcome : Outcome) (verdict : Verdict)
     → IfSome remaining (λ all. IsInputOf 1048576 all bytes) → SpellsModule bytes m → IsOutcome (explored_by m options) options.nodes outcome → IsExact (explored_by m options) outcome
-    → WritesAll old new failed (text_of_report options.depth outcome) → verdict ≡ verdict_of outcome → IfSome remaining (λ input. IsExplorationOf input options old new failed (Ok verdict))
-reported None bytes options old new failed m outcome verdict is spelt comes exact written told = tt
-reported (Some all) bytes options old new failed m outcome verdict is spelt comes exact written told =
+    → WritesAll old new failed (text_of_exploration what (program_of m) options.depth outcome) → verdict ≡ verdict_of outcome → IfSome remaining (λ input. IsExplorationOf input options what old new failed (Ok verdict))
+reported None bytes options what old new failed m outcome verdict is spelt comes exact written told = tt
+reported (Some all) bytes options what old new failed m outcome verdict is spelt comes exact written told =
     record { outcome = outcome; explored = explored all bytes options m outcome is spelt comes exact; written = written; told = told }
 
--- one that broke off
-pub broken : (remaining : Option (List ℕ)) (bytes : List ℕ) (options : Options) (old new : Option (List ℕ)) (failed : Bool) (m : ModuleTree) (outcome : Outcome) (r : Result Verdict RunFault)
-    → r ≡ Err run.Output → IfSome remaining (λ all. IsInputOf 1048576 all bytes) → SpellsModule bytes m → IsOutcome (explored_by m options) options.nodes outcome → IsExact (explored_by m options) outcome
-    → BreaksOff old new failed (text_of_report options.depth outcome) → IfSome remaining (λ input. IsExplorationOf input options old new failed r)
-broken None bytes options old new failed m outcome r e is spelt comes exact part = tt
-broken (Some all) bytes options old new failed m outcome r e is spelt comes exact part =
-    subst (λ (r : Result Verdict RunFault). IsExplorationOf all options old new failed r) (sym e) (record { outcome = outcome; explored = explored all bytes options m outcome is spelt comes exact; broken = part })
+-- one that broke off, or whose cover was cut off
+broken_by : (all : List ℕ) (options : Options) (what : Printed) (old new : Option (List ℕ)) (failed : Bool) (outcome : Outcome) (is : IsExplored all options outcome) (fault : WriteCoverFault)
+    → IsWritten (text_of_exploration what (program_of is.program) options.depth outcome) old new failed (Err fault) → IsExplorationOf all options what old new failed (Err (refusal_of_printing fault))
+broken_by all options what old new failed outcome is written.Memory part = record { outcome = outcome; explored = is; begun = part.1; sound = part.0 }
+broken_by all options what old new failed outcome is written.Write part = record { outcome = outcome; explored = is; broken = part }
+
+pub broken : (remaining : Option (List ℕ)) (bytes : List ℕ) (options : Options) (what : Printed) (old new : Option (List ℕ)) (failed : Bool) (m : ModuleTree) (outcome : Outcome) (fault : WriteCoverFault) (r : Result Verdict RunFault)
+    → r ≡ Err (refusal_of_printing fault) → IfSome remaining (λ all. IsInputOf 1048576 all bytes) → SpellsModule bytes m → IsOutcome (explored_by m options) options.nodes outcome → IsExact (explored_by m options) outcome
+    → IsWritten (text_of_exploration what (program_of m) options.depth outcome) old new failed (Err fault) → IfSome remaining (λ input. IsExplorationOf input options what old new failed r)
+broken None bytes options what old new failed m outcome fault r e is spelt comes exact part = tt
+broken (Some all) bytes options what old new failed m outcome fault r e is spelt comes exact part =
+    subst (λ (r : Result Verdict RunFault). IsExplorationOf all options what old new failed r) (sym e) (broken_by all options what old new failed outcome (explored all bytes options m outcome is spelt comes exact) fault part)
 
 -- ---- clean means none
 

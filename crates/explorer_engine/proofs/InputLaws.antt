@@ -1,5 +1,5 @@
 -- What an input that was read within its limits says about the whole of its source.
-use Rattle.std.proofs.Common.{◌≡◌, ℕ, ◌+◌, ◌<◌, ◌≤◌, List, [], ◌++◌, Option, None, Some, IfSome, IfOk, Result, Ok, Err, length, take, sym, ap, ◌∙◌, append-nil, length-append, subst, arith}
+use Rattle.std.proofs.Common.{◌≡◌, ℕ, ◌+◌, ◌<◌, ◌≤◌, List, [], ◌++◌, Option, None, Some, IfSome, IfOk, OnOk, Result, Ok, Err, length, take, sym, ap, ◌∙◌, append-nil, length-append, subst, arith}
 use Rattle.std.proofs.Math.Nat.{lt_of_not-le, not-le_of_lt}
 use Rattle.std.proofs.Math.Seq.{take-append_seam}
 use Rattle.std.specs.Io.KnownBytes.{Consumes, IsAtEnd}
@@ -34,3 +34,21 @@ input_of (Some xs) (Some ys) bytes limit parts end = record {
 pub input_of_read : {T E : Type 0} (r : Result T E) (items : T → List ℕ) (all rest : Option (List ℕ)) (limit : ℕ) → IfOk r (λ t. Consumes all rest (items t)) → IfOk r (λ t. length (items t) ≤ limit → IsAtEnd rest) → IfOk r (λ t. IfSome all (λ xs. IsInputOf limit xs (items t)))
 input_of_read (Ok t) items all rest limit parts end = input_of all rest (items t) limit parts end
 input_of_read (Err e) items all rest limit parts end = tt
+
+-- at `Ok` all of the source was read, where it was read to its end
+pub all_of : {E : Type 0} {T : Type 0} (r : Result T E) (items : T → List ℕ) (all rest : Option (List ℕ)) → IfOk r (λ t. Consumes all rest (items t)) → OnOk r (IsAtEnd rest) → IfOk r (λ t. IfSome all (λ xs. items t ≡ xs))
+all_of (Ok t) items all rest parts end = by all rest parts end
+  where
+    by : (all rest : Option (List ℕ)) → Consumes all rest (items t) → IsAtEnd rest → IfSome all (λ xs. items t ≡ xs)
+    by None rest parts end = tt
+    by (Some xs) None parts end = absurd parts
+    by (Some xs) (Some ys) parts end = sym (parts ∙ ap (λ w. items t ++ w) end ∙ append-nil (items t))
+all_of (Err e) items all rest parts end = tt
+
+-- as many bytes were there as were read
+pub as_many : (all rest : Option (List ℕ)) (bytes : List ℕ) (n : ℕ) → Consumes all rest bytes → n ≤ length bytes → IfSome all (λ xs. n ≤ length xs)
+as_many None rest bytes n parts enough = tt
+as_many (Some xs) None bytes n parts enough = absurd parts
+as_many (Some xs) (Some ys) bytes n parts enough =
+    let long = together xs bytes ys parts in
+    omega (arith, long, enough)

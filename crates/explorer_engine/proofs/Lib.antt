@@ -1,5 +1,6 @@
-pub mod InputLaws
+pub mod CheckLaws
 pub mod EngineLaws
 pub mod ExploredLaws
-pub mod RunLaws
+pub mod InputLaws
 pub mod ReportLaws
+pub mod RunLaws

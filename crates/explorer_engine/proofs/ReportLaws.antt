@@ -1,8 +1,16 @@
--- What a flush at the end makes of a report.
-use Rattle.std.proofs.Common.{◌≡◌, ◌||◌, ℕ, Bool, true, false, List, [], Option, refl, sym, ap, ◌∙◌, append-nil}
+-- What a flush at the end makes of what was written, and what a cover behind a report is.
+use Rattle.std.proofs.Common.{◌≡◌, ◌||◌, ℕ, Bool, true, false, true≢false, List, [], ◌++◌, Option, sym, ◌∙◌, subst, append-nil}
+use Rattle.std.specs.Prelude.{Result, Ok, Err}
 use Rattle.std.specs.Io.KnownBytes.{Keeps}
 use Rattle.std.proofs.KnownBytes.{Appends-kept}
-use Rattle.term_core.specs.Stream.{WritesAll, BreaksOff}
+use Rattle.cover_check.specs.Writing.{IsWritten}
+use Rattle.cover_check.specs.declared.fault.WriteCoverFault.{WriteCoverFault}
+use Rattle.cover_check.specs.declared.fault.WriteCoverFault.TheVariants.{Memory, Write}
+use Rattle.term_core.specs.Stream.{AppendsBeginning, WritesAll, BreaksOff}
+use Rattle.term_core.specs.inside.Writing.{appends_then, begins_first, begins_then}
+
+beginning_kept : (old mid new : Option (List ℕ)) (text : List ℕ) → AppendsBeginning old mid text → Keeps mid new → AppendsBeginning old new text
+beginning_kept old mid new text b k = record { written = b.written; unwritten = b.unwritten; parts = b.parts; appends = Appends-kept old mid new b.written b.appends k }
 
 -- what was written before a flush stands after it
 pub all_flushed : (old mid new : Option (List ℕ)) (failed after : Bool) (text : List ℕ) → WritesAll old mid failed text → Keeps mid new → after ≡ false → WritesAll old new after text
@@ -19,3 +27,31 @@ none_flushed old mid new failed after text w k fault = record {
 pub fails : (before now after : Bool) → after ≡ (before || now) → now ≡ true → after ≡ true
 fails true now after is failed = is
 fails false now after is failed = is ∙ failed
+
+-- ---- a text that takes memory to be made
+
+pub written_flushed : (text : List ℕ) (old mid new : Option (List ℕ)) (failed after : Bool) (r : Result (Unit {0}) WriteCoverFault) → IsWritten text old mid failed r → failed ≡ false → Keeps mid new → after ≡ false → IsWritten text old new after r
+written_flushed text old mid new failed after (Ok done) w sound k is = all_flushed old mid new failed after text w k is
+written_flushed text old mid new failed after (Err Memory) w sound k is = (is, beginning_kept old mid new text w.1 k)
+written_flushed text old mid new failed after (Err Write) w sound k is = absurd (true≢false (sym w.fault ∙ sound))
+
+begun : (text : List ℕ) (old mid : Option (List ℕ)) (failed : Bool) (r : Result (Unit {0}) WriteCoverFault) → IsWritten text old mid failed r → AppendsBeginning old mid text
+begun text old mid failed (Ok done) w = record { written = text; unwritten = []; parts = sym (append-nil text); appends = w.appends }
+begun text old mid failed (Err Memory) w = w.1
+begun text old mid failed (Err Write) w = w.beginning
+
+pub written_broken : (text : List ℕ) (old mid new : Option (List ℕ)) (failed after : Bool) (r : Result (Unit {0}) WriteCoverFault) → IsWritten text old mid failed r → Keeps mid new → after ≡ true → IsWritten text old new after (Err Write)
+written_broken text old mid new failed after r w k fault = record { beginning = beginning_kept old mid new text (begun text old mid failed r w) k; fault = fault }
+
+-- ---- one text behind another
+
+pub then_written : (front behind : List ℕ) (old mid new : Option (List ℕ)) (failed after : Bool) (r : Result (Unit {0}) WriteCoverFault) → WritesAll old mid failed front → IsWritten behind mid new after r → IsWritten (front ++ behind) old new after r
+then_written front behind old mid new failed after (Ok done) w b = record { appends = appends_then old mid new front behind w.appends b.appends; sound = b.sound }
+then_written front behind old mid new failed after (Err Memory) w b = (b.0, begins_then old mid new front behind w.appends b.1)
+then_written front behind old mid new failed after (Err Write) w b = record { beginning = begins_then old mid new front behind w.appends b.beginning; fault = b.fault }
+
+pub first_broken : (front behind : List ℕ) (old new : Option (List ℕ)) (failed : Bool) (r : Result (Unit {0}) WriteCoverFault) → r ≡ Err Write → BreaksOff old new failed front → IsWritten (front ++ behind) old new failed r
+first_broken front behind old new failed r e b = subst (λ (x : Result (Unit {0}) WriteCoverFault). IsWritten (front ++ behind) old new failed x) (sym e) (record { beginning = begins_first old new front behind b.beginning; fault = b.fault })
+
+pub nothing_behind : (front : List ℕ) (old new : Option (List ℕ)) (failed : Bool) → WritesAll old new failed front → WritesAll old new failed (front ++ [])
+nothing_behind front old new failed w = subst (λ (t : List ℕ). WritesAll old new failed t) (sym (append-nil front)) w

@@ -1,12 +1,18 @@
 -- What an exploration of the program comes to, by the bytes that it is given.
-use Rattle.std.specs.Prelude.{◌≡◌, ℕ, Bool, true, List, [], ◌∷◌, Option, Result, Ok, Err}
+use Rattle.std.specs.Prelude.{◌≡◌, ℕ, Bool, true, false, List, [], ◌∷◌, ◌++◌, Option, Result, Ok, Err}
 use Rattle.core_tree.specs.Syntax.{ModuleTree}
 use Rattle.core_reader.specs.ModuleText.{SpellsModule}
 use Rattle.core_reader.specs.Refusal.{IsRefusalOf}
-use Rattle.term_core.specs.Stream.{WritesAll, BreaksOff}
+use Rattle.command_words.specs.declared.words.Printed.{Printed}
+use Rattle.command_words.specs.declared.words.Printed.TheVariants as printed
+use Rattle.cover_check.specs.CoverText.{text_of_cover}
+use Rattle.term_core.specs.Stream.{AppendsBeginning, WritesAll, BreaksOff}
 use Rattle.world_model.specs.Asking.{program_of}
 use Rattle.world_model.specs.Shown.{Identity, is_error}
+use Rattle.world_model.specs.Requests.{Program}
+use Rattle.coverage.specs.Covers.{cover_of, lines_of}
 use Rattle.coverage.specs.Findings.{Finding}
+use Rattle.coverage.specs.Jobs.{root}
 use Rattle.coverage.specs.Shown.{IsShown}
 use Rattle.findings.specs.Identities.{flags_in}
 use Rattle.findings.specs.declared.options.Options.{Options}
@@ -19,7 +25,7 @@ use Rattle.explorer_engine.specs.Engine.{WritesNothing}
 use Rattle.explorer_engine.specs.declared.verdict.RunFault.{RunFault}
 use Rattle.explorer_engine.specs.declared.verdict.RunFault.TheVariants as run
 use Rattle.explorer_engine.specs.declared.verdict.Verdict.{Verdict}
-use Rattle.explorer_engine.specs.declared.verdict.Verdict.TheVariants.{Clean, Errors, Incomplete}
+use Rattle.explorer_engine.specs.declared.verdict.Verdict.TheVariants.{Done, Clean, Errors, Incomplete}
 
 -- the input is a module, and the search of its schedules came to this
 pub record IsExplored (input : List ℕ) (options : Options) (outcome : Outcome) : Type 0 where
@@ -37,18 +43,41 @@ abbrev pub verdict_of : Outcome → Verdict
 verdict_of (outcomes.Complete findings nodes) = complete_verdict findings.errors
 verdict_of (outcomes.Incomplete cause findings) = Incomplete
 
--- the whole report was written
-pub record IsReportOf (input : List ℕ) (options : Options) (old new : Option (List ℕ)) (failed : Bool) (verdict : Verdict) : Type 0 where
+-- a cover stands behind a report where it is asked for, and all nodes are without an error
+abbrev pub has_cover : Printed → Verdict → Bool
+has_cover printed.Report verdict = false
+has_cover printed.ReportAndCover Done = false
+has_cover printed.ReportAndCover Clean = true
+has_cover printed.ReportAndCover Errors = false
+has_cover printed.ReportAndCover Incomplete = false
+
+abbrev pub cover_if : Bool → Program → ℕ → List ℕ
+cover_if true a n = text_of_cover (lines_of (cover_of a n root))
+cover_if false a n = []
+
+-- what an exploration prints
+abbrev pub text_of_exploration : Printed → Program → ℕ → Outcome → List ℕ
+text_of_exploration what a n outcome = text_of_report n outcome ++ cover_if (has_cover what (verdict_of outcome)) a n
+
+-- the whole report was written, and what stands behind it
+pub record IsReportOf (input : List ℕ) (options : Options) (what : Printed) (old new : Option (List ℕ)) (failed : Bool) (verdict : Verdict) : Type 0 where
   pub outcome : Outcome
   pub explored : IsExplored input options outcome
-  pub written : WritesAll old new failed (text_of_report options.depth outcome)
+  pub written : WritesAll old new failed (text_of_exploration what (program_of explored.program) options.depth outcome)
   pub told : verdict ≡ verdict_of outcome
 
--- the output failed, and a beginning of the report was written
-pub record IsBrokenReport (input : List ℕ) (options : Options) (old new : Option (List ℕ)) (failed : Bool) : Type 0 where
+-- the output failed, and a beginning of it was written
+pub record IsBrokenReport (input : List ℕ) (options : Options) (what : Printed) (old new : Option (List ℕ)) (failed : Bool) : Type 0 where
   pub outcome : Outcome
   pub explored : IsExplored input options outcome
-  pub broken : BreaksOff old new failed (text_of_report options.depth outcome)
+  pub broken : BreaksOff old new failed (text_of_exploration what (program_of explored.program) options.depth outcome)
+
+-- there was no memory for the whole cover, and a beginning of it was written
+pub record IsCutOffReport (input : List ℕ) (options : Options) (what : Printed) (old new : Option (List ℕ)) (failed : Bool) : Type 0 where
+  pub outcome : Outcome
+  pub explored : IsExplored input options outcome
+  pub begun : AppendsBeginning old new (text_of_exploration what (program_of explored.program) options.depth outcome)
+  pub sound : failed ≡ false
 
 -- the input is a module, and the search of its schedules has no outcome
 pub record HasNoOutcome (input : List ℕ) (old new : Option (List ℕ)) (failed : Bool) : Type 0 where
@@ -56,15 +85,17 @@ pub record HasNoOutcome (input : List ℕ) (old new : Option (List ℕ)) (failed
   pub module_text : SpellsModule input program
   pub quiet : WritesNothing old new failed
 
--- an exploration wrote its report; or the input was refused as a module, or could not be read, or the search has no outcome, and nothing was written; or the output failed, at a write or at the flush
-abbrev pub IsExplorationOf : List ℕ → Options → (old new : Option (List ℕ)) → Bool → Result Verdict RunFault → Type 0
-IsExplorationOf input options old new failed (Ok verdict) = IsReportOf input options old new failed verdict
-IsExplorationOf input options old new failed (Err (run.Input fault)) = IsRefusalOf input fault × WritesNothing old new failed
-IsExplorationOf input options old new failed (Err run.ReadFailed) = WritesNothing old new failed
-IsExplorationOf input options old new failed (Err (run.Schedule fault)) = ⊥
-IsExplorationOf input options old new failed (Err (run.Replay fault)) = ⊥
-IsExplorationOf input options old new failed (Err (run.Explore fault)) = HasNoOutcome input old new failed
-IsExplorationOf input options old new failed (Err run.Output) = IsBrokenReport input options old new failed
+-- an exploration wrote its report; or the input was refused as a module, or could not be read, or the search has no outcome, and nothing was written; or the output failed, at a write or at the flush, or there was no memory for the whole cover
+abbrev pub IsExplorationOf : List ℕ → Options → Printed → (old new : Option (List ℕ)) → Bool → Result Verdict RunFault → Type 0
+IsExplorationOf input options what old new failed (Ok verdict) = IsReportOf input options what old new failed verdict
+IsExplorationOf input options what old new failed (Err (run.Input fault)) = IsRefusalOf input fault × WritesNothing old new failed
+IsExplorationOf input options what old new failed (Err run.ReadFailed) = WritesNothing old new failed
+IsExplorationOf input options what old new failed (Err (run.Schedule fault)) = ⊥
+IsExplorationOf input options what old new failed (Err (run.Replay fault)) = ⊥
+IsExplorationOf input options what old new failed (Err (run.Explore fault)) = HasNoOutcome input old new failed
+IsExplorationOf input options what old new failed (Err (run.Cover fault)) = ⊥
+IsExplorationOf input options what old new failed (Err run.CoverCutOff) = IsCutOffReport input options what old new failed
+IsExplorationOf input options what old new failed (Err run.Output) = IsBrokenReport input options what old new failed
 
 -- no schedule of the module shows an error that has at most so many steps
 abbrev pub ShowsNoError : ModuleTree → Options → Type 0

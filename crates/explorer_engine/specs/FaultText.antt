@@ -8,6 +8,8 @@ use Rattle.term_core.specs.declared.schedule.ScheduleFault.TheVariants as schedu
 use Rattle.replay_core.specs.declared.replay_fault.ReplayFault.{ReplayFault}
 use Rattle.replay_core.specs.declared.replay_fault.ReplayFault.TheVariants as replay
 use Rattle.search_crew.specs.declared.fault.SearchFault.TheVariants as search
+use Rattle.cover_check.specs.declared.fault.CoverFault.{CoverFault}
+use Rattle.cover_check.specs.declared.fault.CoverFault.TheVariants as cover
 use Rattle.explorer_engine.specs.declared.verdict.RunFault.{RunFault}
 use Rattle.explorer_engine.specs.declared.verdict.RunFault.TheVariants as run
 
@@ -45,6 +47,16 @@ text_of_replay_fault (replay.NotEnabled step) = placed (codes "replay: 1 NotEnab
 text_of_replay_fault replay.Memory = codes "replay: 2 Memory\n"
 text_of_replay_fault replay.Write = codes "output failed\n"
 
+-- the refusal of a cover, by the line that it is about
+abbrev pub text_of_cover_fault : CoverFault → List ℕ
+text_of_cover_fault (cover.Missing line) = placed (codes "cover: 1 Missing at line ") line
+text_of_cover_fault (cover.Strange line) = placed (codes "cover: 2 Strange at line ") line
+text_of_cover_fault (cover.Short line) = placed (codes "cover: 3 Short at line ") line
+text_of_cover_fault (cover.Long line) = placed (codes "cover: 4 Long at line ") line
+text_of_cover_fault (cover.ErrorFound line) = placed (codes "cover: 5 ErrorFound at line ") line
+text_of_cover_fault (cover.BadLine line) = placed (codes "cover: 6 BadLine at line ") line
+text_of_cover_fault cover.Memory = codes "cover: 7 Memory\n"
+
 -- the line of a run's refusal
 abbrev pub text_of_fault : RunFault → List ℕ
 text_of_fault (run.Input fault) = text_of_read_fault fault
@@ -54,4 +66,6 @@ text_of_fault (run.Replay fault) = text_of_replay_fault fault
 text_of_fault (run.Explore search.Memory) = codes "explore: 1 Memory\n"
 text_of_fault (run.Explore search.NoThread) = codes "explore: 2 NoThread\n"
 text_of_fault (run.Explore search.StrangePool) = codes "explore: 3 StrangePool\n"
+text_of_fault (run.Cover fault) = text_of_cover_fault fault
+text_of_fault run.CoverCutOff = codes "cover: 7 Memory\n"
 text_of_fault run.Output = codes "output failed\n"

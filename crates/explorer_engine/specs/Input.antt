@@ -1,5 +1,5 @@
 -- What is read of a source.
-use Rattle.std.specs.Prelude.{◌≡◌, ℕ, ◌<◌, ◌≤◌, List, ◌++◌, length, Option}
+use Rattle.std.specs.Prelude.{◌≡◌, ◌⊎◌, ℕ, ◌<◌, ◌≤◌, Bool, true, List, ◌++◌, length, Option, IfSome}
 use Rattle.std.specs.Io.{StartsWith}
 use Rattle.std.specs.Io.KnownBytes.{Consumes, IsAtEnd}
 
@@ -16,3 +16,7 @@ pub record ReadsMore (source rest : Option (List ℕ)) (old new : List ℕ) (cou
   pub read : Consumes source rest piece
   pub counted : length piece ≡ count
   pub end : count ≡ 0 → IsAtEnd rest
+
+-- a read has failed, or the source had at least as many bytes as there may be reads, as far as it tells them
+abbrev pub IsUnread : Option (List ℕ) → Bool → Type 0
+IsUnread all failed = (failed ≡ true) ⊎ IfSome all (λ bytes. 2097152 ≤ length bytes)

@@ -4,4 +4,5 @@ pub mod Input
 pub mod Refusals
 pub mod Engine
 pub mod Explored
+pub mod Checked
 pub mod Program

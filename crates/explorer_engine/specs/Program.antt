@@ -1,15 +1,20 @@
 -- What the program does with its words and its three streams.
-use Rattle.std.specs.Prelude.{◌≡◌, ◌⊎◌, ℕ, Bool, List, codes, Option, Result, Ok, Err, IfSome, string_bytes}
+use Rattle.std.specs.Prelude.{◌≡◌, ◌⊎◌, ℕ, Bool, true, List, codes, Option, Result, Ok, Err, IfSome, string_bytes}
 use Rattle.term_core.specs.Stream.{WritesAll, BreaksOff}
+use Rattle.findings.specs.declared.flags.Flags.{Flags}
 use Rattle.findings.specs.declared.options.Options.{Options}
-use Rattle.command_words.specs.Words.{AsksExplore, AsksReplay, IsExplore, IsInRange, IsNamed, IsReplay, command_of}
+use Rattle.command_words.specs.Words.{AsksCheck, AsksExplore, AsksReplay, IsCheck, IsExplore, IsInRange, IsNamed, IsReplay, command_of}
 use Rattle.command_words.specs.declared.words.Words.{Words}
-use Rattle.command_words.specs.declared.words.Words.TheVariants.{Replay, Explore}
+use Rattle.command_words.specs.declared.words.Printed.{Printed}
+use Rattle.command_words.specs.declared.words.Words.TheVariants.{Replay, Explore, Check}
 use Rattle.explorer_engine.specs.Engine.{IsRunOf, IsRefusedBefore, IsHandedOn, WritesNothing}
 use Rattle.explorer_engine.specs.FaultText.{text_of_fault}
 use Rattle.explorer_engine.specs.Status.{status_of}
+use Rattle.explorer_engine.specs.Checked.{IsCheckOf}
 use Rattle.explorer_engine.specs.Explored.{IsExplorationOf, IsCleanIfSaid}
+use Rattle.explorer_engine.specs.Input.{IsUnread}
 use Rattle.explorer_engine.specs.declared.verdict.RunFault.{RunFault}
+use Rattle.explorer_engine.specs.declared.verdict.RunFault.TheVariants as faults
 use Rattle.explorer_engine.specs.declared.verdict.Verdict.{Verdict}
 
 -- what was done to a stream: the bytes that it told before and after, whether a call on it has failed, and whether its last call was a flush that succeeded
@@ -36,29 +41,39 @@ abbrev pub IsReported : Written → Result Verdict RunFault → Type 0
 IsReported errors (Ok verdict) = IsUntouched errors
 IsReported errors (Err fault) = Gets errors (text_of_fault fault)
 
--- what was asked for was done with the input: a schedule was replayed, or the schedules were explored
+-- what was asked for was done with the input: a schedule was replayed, or the schedules were explored, or a cover was checked
 abbrev pub IsDone : Words → List ℕ → (old new : Option (List ℕ)) → Bool → Result Verdict RunFault → Type 0
 IsDone (Replay schedule) input old new failed outcome = IsRunOf input (string_bytes schedule) old new failed outcome
-IsDone (Explore options) input old new failed outcome = IsExplorationOf input options old new failed outcome × IsCleanIfSaid input options outcome
+IsDone (Explore options what) input old new failed outcome = IsExplorationOf input options what old new failed outcome × IsCleanIfSaid input options outcome
+IsDone (Check depth flags) input old new failed outcome = IsCheckOf input depth flags old new failed outcome
 
--- what the words ask for was done with the input: what it wrote to the output was flushed, the third stream got the line of a refusal or nothing, and the status is that of its end
-pub record IsRun (words : List (List ℕ)) (input : Option (List ℕ)) (output errors : Written) (status : ℕ) : Type 0 where
+-- the input could not be read: a read has failed, or, where it is read whole, the reads are used up
+abbrev pub CannotBeRead : Words → Option (List ℕ) → Bool → Type 0
+CannotBeRead (Replay schedule) input failed = failed ≡ true
+CannotBeRead (Explore options what) input failed = failed ≡ true
+CannotBeRead (Check depth flags) input failed = IsUnread input failed
+
+-- what the words ask for was done with the input, of which a read may have failed: what it wrote to the output was flushed, the third stream got the line of a refusal or nothing, and the status is that of its end
+pub record IsRun (words : List (List ℕ)) (input : Option (List ℕ)) (unread : Bool) (output errors : Written) (status : ℕ) : Type 0 where
   pub asked : Words
   pub replay : (schedule : List ℕ) → IsReplay words schedule → AsksReplay schedule asked
-  pub explore : (options : Options) → IsExplore words options → AsksExplore options asked
+  pub explore : (options : Options) (what : Printed) → IsExplore words options what → AsksExplore options what asked
+  pub check : (depth : ℕ) (flags : Flags) → IsCheck words depth flags → AsksCheck depth flags asked
   pub named : IsNamed words (command_of asked)
   pub in_range : IsInRange asked
   pub outcome : Result Verdict RunFault
   pub run : IfSome input (λ bytes. IsDone asked bytes output.old output.new output.failed outcome)
+  pub read_failed : outcome ≡ Err faults.ReadFailed → CannotBeRead asked input unread
   pub silent : IsRefusedBefore outcome → IsUntouched output
   pub flushed : IsHandedOn outcome output.flushed
   pub reported : IsReported errors outcome
   pub status_is : status ≡ status_of outcome
 
--- the words were refused: the output got nothing, and the third stream a text, which is that of no memory where the words are a replay or an exploration
+-- the words were refused: the output got nothing, and the third stream a text, which is that of no memory where the words are a replay, an exploration or a check
 pub record AreRefused (words : List (List ℕ)) (output errors : Written) : Type 0 where
   pub silent : IsUntouched output
   pub text : List ℕ
   pub told : Gets errors text
   pub no_replay : (schedule : List ℕ) → IsReplay words schedule → text ≡ codes "error: out of memory\n"
-  pub no_exploration : (options : Options) → IsExplore words options → text ≡ codes "error: out of memory\n"
+  pub no_exploration : (options : Options) (what : Printed) → IsExplore words options what → text ≡ codes "error: out of memory\n"
+  pub no_check : (depth : ℕ) (flags : Flags) → IsCheck words depth flags → text ≡ codes "error: out of memory\n"

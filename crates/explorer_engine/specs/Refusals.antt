@@ -4,6 +4,8 @@ use Rattle.explorer_engine.specs.declared.input.InputFault.{InputFault}
 use Rattle.explorer_engine.specs.declared.input.InputFault.TheVariants as input
 use Rattle.replay_core.specs.declared.replay_fault.ReplayFault.{ReplayFault}
 use Rattle.replay_core.specs.declared.replay_fault.ReplayFault.TheVariants as replay
+use Rattle.cover_check.specs.declared.fault.WriteCoverFault.{WriteCoverFault}
+use Rattle.cover_check.specs.declared.fault.WriteCoverFault.TheVariants as written
 use Rattle.explorer_engine.specs.declared.verdict.RunFault.{RunFault}
 use Rattle.explorer_engine.specs.declared.verdict.RunFault.TheVariants as run
 
@@ -17,3 +19,8 @@ abbrev pub refusal_of_replay : ReplayFault → RunFault
 refusal_of_replay (replay.NotEnabled step) = run.Replay (replay.NotEnabled step)
 refusal_of_replay replay.Memory = run.Replay replay.Memory
 refusal_of_replay replay.Write = run.Output
+
+-- a report, or the cover behind it, that could not be written is output that failed
+abbrev pub refusal_of_printing : WriteCoverFault → RunFault
+refusal_of_printing written.Memory = run.CoverCutOff
+refusal_of_printing written.Write = run.Output

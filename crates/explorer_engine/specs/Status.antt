@@ -7,6 +7,8 @@ use Rattle.term_core.specs.declared.schedule.ScheduleFault.TheVariants as schedu
 use Rattle.replay_core.specs.declared.replay_fault.ReplayFault.{ReplayFault}
 use Rattle.replay_core.specs.declared.replay_fault.ReplayFault.TheVariants as replay
 use Rattle.search_crew.specs.declared.fault.SearchFault.TheVariants as search
+use Rattle.cover_check.specs.declared.fault.CoverFault.{CoverFault}
+use Rattle.cover_check.specs.declared.fault.CoverFault.TheVariants as cover
 use Rattle.explorer_engine.specs.declared.verdict.RunFault.{RunFault}
 use Rattle.explorer_engine.specs.declared.verdict.RunFault.TheVariants as run
 use Rattle.explorer_engine.specs.declared.verdict.Verdict.{Verdict}
@@ -28,6 +30,11 @@ status_of_replay_fault (replay.NotEnabled step) = 2
 status_of_replay_fault replay.Memory = 3
 status_of_replay_fault replay.Write = 4
 
+-- a cover that was refused, or the lack of memory
+abbrev pub status_of_cover_fault : CoverFault → ℕ
+status_of_cover_fault cover.Memory = 3
+status_of_cover_fault _ = 2
+
 -- of a refusal
 abbrev pub status_of_fault : RunFault → ℕ
 status_of_fault (run.Input fault) = status_of_read_fault fault
@@ -37,9 +44,11 @@ status_of_fault (run.Replay fault) = status_of_replay_fault fault
 status_of_fault (run.Explore search.Memory) = 3
 status_of_fault (run.Explore search.NoThread) = 3
 status_of_fault (run.Explore search.StrangePool) = 3
+status_of_fault (run.Cover fault) = status_of_cover_fault fault
+status_of_fault run.CoverCutOff = 3
 status_of_fault run.Output = 4
 
--- of what was not refused: done, or without an error; with errors; nodes were left
+-- of what was not refused: done, the cover good, or without an error; with errors; nodes were left
 abbrev pub status_of_verdict : Verdict → ℕ
 status_of_verdict Done = 0
 status_of_verdict Clean = 0

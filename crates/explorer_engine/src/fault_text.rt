@@ -1,10 +1,11 @@
 // The line by which a refusal is reported. No write takes memory.
 ghost use Rattle.std.specs.Prelude.{◌≡◌, false};
 ghost use Rattle.term_core.specs.Stream.{Writes};
-ghost use Rattle.explorer_engine.specs.FaultText.{placed, text_of_read_fault, text_of_schedule_fault, text_of_replay_fault, text_of_fault};
+ghost use Rattle.explorer_engine.specs.FaultText.{placed, text_of_read_fault, text_of_schedule_fault, text_of_replay_fault, text_of_cover_fault, text_of_fault};
 
 use crate::verdict::RunFault;
 use core_reader::ReadFault;
+use cover_check::CoverFault;
 use replay_core::ReplayFault;
 use search_crew::SearchFault;
 use term_core::{ScheduleFault, Sink, WriteFault, write_all, write_number};
@@ -24,6 +25,8 @@ pub fn write_fault<W: Sink>(sink: &mut W, fault: &RunFault) -> Result<(), WriteF
         RunFault::Explore(SearchFault::Memory) => write_all(sink, b"explore: 1 Memory\n"),
         RunFault::Explore(SearchFault::NoThread) => write_all(sink, b"explore: 2 NoThread\n"),
         RunFault::Explore(SearchFault::StrangePool) => write_all(sink, b"explore: 3 StrangePool\n"),
+        RunFault::Cover(fault) => write_cover_fault(sink, fault),
+        RunFault::CoverCutOff => write_all(sink, b"cover: 7 Memory\n"),
         RunFault::Output => write_all(sink, b"output failed\n"),
     }
 }
@@ -79,6 +82,22 @@ fn write_replay_fault<W: Sink>(sink: &mut W, fault: &ReplayFault) -> Result<(), 
         }
         ReplayFault::Memory => write_all(sink, b"replay: 2 Memory\n"),
         ReplayFault::Write => write_all(sink, b"output failed\n"),
+    }
+}
+
+// Writes the line of a cover's refusal.
+fn write_cover_fault<W: Sink>(sink: &mut W, fault: &CoverFault) -> Result<(), WriteFault>
+    requires { W.has_failed sink.old ≡ false }
+    ensures { Writes (W.contents sink.old) (W.contents sink.new) (W.has_failed sink.new) result (text_of_cover_fault fault.now) }
+{
+    match fault {
+        CoverFault::Missing(line) => write_placed(sink, b"cover: 1 Missing at line ", *line),
+        CoverFault::Strange(line) => write_placed(sink, b"cover: 2 Strange at line ", *line),
+        CoverFault::Short(line) => write_placed(sink, b"cover: 3 Short at line ", *line),
+        CoverFault::Long(line) => write_placed(sink, b"cover: 4 Long at line ", *line),
+        CoverFault::ErrorFound(line) => write_placed(sink, b"cover: 5 ErrorFound at line ", *line),
+        CoverFault::BadLine(line) => write_placed(sink, b"cover: 6 BadLine at line ", *line),
+        CoverFault::Memory => write_all(sink, b"cover: 7 Memory\n"),
     }
 }
 

@@ -1,7 +1,7 @@
-// The bytes of the input, within the limits of a module.
+// The bytes of the input: within the limits of a module, or all of them.
 ghost use Rattle.std.specs.Prelude.{◌≡◌, ◌+◌, ◌<◌, ◌≤◌, length, vec_len, true, false, IfOk, IfSome, OnOk, IsErrOf};
 ghost use Rattle.std.specs.Io.KnownBytes.{Consumes, IsAtEnd};
-ghost use Rattle.explorer_engine.specs.Input.{ReadsMore, IsInputOf};
+ghost use Rattle.explorer_engine.specs.Input.{ReadsMore, IsInputOf, IsUnread};
 
 use std::alloc::{AllocError, Global};
 use term_core::Source;
@@ -73,6 +73,48 @@ fn read_through<R: Source>(
     for _turn in 0..READ_LIMIT {
         let count = read_piece(source, buffer, &mut bytes)?;
         if count == 0 || bytes.len() > INPUT_LIMIT {
+            return Ok(bytes);
+        }
+    }
+    Err(InputFault::ReadFailed)
+}
+
+/// Reads to the end of the source, however many bytes it has. It makes at most `READ_LIMIT` reads of at most
+/// `PIECE_LIMIT` bytes, so that it ends on each source.
+///
+/// # Errors
+///
+/// `ReadFailed` where a read failed, or the reads are used up; `Memory` where a growth was refused.
+pub fn read_whole<R: Source>(alloc: Global, source: &mut R) -> Result<Vec<u8>, InputFault>
+    requires { R.has_failed source.old ≡ false }
+    ensures input { IfOk result (λ read. IfSome (R.remaining source.old) (λ all. read.items ≡ all)) }
+    ensures sound { OnOk result (R.has_failed source.new ≡ false) }
+    // The reads are used up only where the source had at least as many bytes.
+    ensures read_failed { IsErrOf result InputFault.ReadFailed → IsUnread (R.remaining source.old) (R.has_failed source.new) }
+    ensures memory { IsErrOf result InputFault.Memory → R.has_failed source.new ≡ false }
+{
+    let mut buffer = zeros(alloc, PIECE_LIMIT)?;
+    read_to_end(alloc, source, &mut buffer)
+}
+
+// Reads through a buffer to the end of the source.
+fn read_to_end<R: Source>(
+    alloc: Global,
+    source: &mut R,
+    buffer: &mut [u8],
+) -> Result<Vec<u8>, InputFault>
+    requires sound { R.has_failed source.old ≡ false }
+    requires room { length buffer.old ≡ 65536 }
+    ensures bytes { IfOk result (λ read. Consumes (R.remaining source.old) (R.remaining source.new) read.items) }
+    ensures end { OnOk result (IsAtEnd (R.remaining source.new)) }
+    ensures sound { OnOk result (R.has_failed source.new ≡ false) }
+    ensures read_failed { IsErrOf result InputFault.ReadFailed → IsUnread (R.remaining source.old) (R.has_failed source.new) }
+    ensures memory { IsErrOf result InputFault.Memory → R.has_failed source.new ≡ false }
+{
+    let mut bytes = Vec::new(alloc);
+    for _turn in 0..READ_LIMIT {
+        let count = read_piece(source, buffer, &mut bytes)?;
+        if count == 0 {
             return Ok(bytes);
         }
     }

@@ -1,19 +1,23 @@
-// What the program does between its words and its exit status: it reads a module, replays a schedule of it or explores
-// all of them up to a depth, and writes what happened, or why it was refused.
+// What the program does between its words and its exit status: it reads a module, replays a schedule of it, explores
+// all of them up to a depth, or checks a cover of them, and writes what happened, or why it was refused.
 #![tactic(auto)]
 
+pub mod check;
 pub mod engine;
 pub mod explore;
 pub mod fault_text;
 pub mod input;
+mod printing;
 pub mod program;
 pub mod verdict;
+mod watched;
 
-pub use command_words::{NAME, Words, read_words};
+pub use check::run_check;
+pub use command_words::{NAME, Printed, Words, read_words};
 pub use engine::run_replay;
 pub use explore::run_explore;
 pub use fault_text::write_fault;
-pub use input::{INPUT_LIMIT, InputFault, PIECE_LIMIT, READ_LIMIT, read_input};
+pub use input::{INPUT_LIMIT, InputFault, PIECE_LIMIT, READ_LIMIT, read_input, read_whole};
 pub use program::{WORDS_REFUSED, run};
 pub use replay_core::ReplayFault;
 pub use verdict::{RunFault, Verdict, status};

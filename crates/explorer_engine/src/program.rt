@@ -1,12 +1,13 @@
 // The whole program over its three streams, from its words to its exit status.
-ghost use Rattle.std.specs.Prelude.{◌≡◌, ◌≢◌, ◌==◌, ℕ, List, IfSome, false, codes, map};
+ghost use Rattle.std.specs.Prelude.{◌≡◌, ◌≢◌, ◌==◌, ℕ, List, IfSome, false, codes, map, Err};
 ghost use Rattle.clap.specs.Values.{kind_of};
 ghost use Rattle.term_core.specs.Stream.{Writes};
 ghost use Rattle.command_words.specs.Words.{IsInRange};
 ghost use Rattle.explorer_engine.specs.Engine.{IsRefusedBefore, IsHandedOn, WritesNothing};
-ghost use Rattle.explorer_engine.specs.Program.{IsDone, IsRun, IsReported, AreRefused, written};
+ghost use Rattle.explorer_engine.specs.Program.{IsDone, IsRun, IsReported, AreRefused, CannotBeRead, written};
 ghost use Rattle.explorer_engine.specs.Status.{status_of};
 
+use crate::check::run_check;
 use crate::engine::run_replay;
 use crate::explore::run_explore;
 use crate::fault_text::write_fault;
@@ -28,10 +29,10 @@ pub const WORDS_REFUSED: u8 = 64;
 pub const NO_MEMORY_FOR_WORDS: &[u8] = b"error: out of memory\n";
 
 /// Does what the words of a command line ask for, of which the first is the program's name, and gives
-/// the exit status: replays a schedule in the module that the input has, or explores its schedules, writes the
-/// transcript or the report to the output and flushes that, and reports a refusal by its line on the third stream,
-/// which it does not flush. The gate is told of the work of an exploration. Where the words are refused, with status
-/// 64, the third stream gets the parser's text, and the output nothing.
+/// the exit status: replays a schedule in the module that the input has, or explores its schedules, or checks the cover
+/// that stands behind it, writes the transcript, the report or the answer to the output and flushes that, and reports a
+/// refusal by its line on the third stream, which it does not flush. The gate is told of the work of an exploration or a
+/// check. Where the words are refused, with status 64, the third stream gets the parser's text, and the output nothing.
 pub fn run<T: Threads + Wait + Sync, S: AsStr, R: Source, W: Sink, E: Sink, G: Gate + Sync>(
     rt: &T,
     alloc: Global,
@@ -44,7 +45,7 @@ pub fn run<T: Threads + Wait + Sync, S: AsStr, R: Source, W: Sink, E: Sink, G: G
     requires readable { R.has_failed input.old ≡ false }
     requires writable { W.has_failed output.old ≡ false }
     requires reportable { E.has_failed errors.old ≡ false }
-    ensures run { result ≢ 64 → IsRun (map S.text words.now) (R.remaining input.old)
+    ensures run { result ≢ 64 → IsRun (map S.text words.now) (R.remaining input.old) (R.has_failed input.new)
         (written W.contents W.has_failed W.is_flushed output.old output.new)
         (written E.contents E.has_failed E.is_flushed errors.old errors.new) result }
     ensures refused { result ≡ 64 → AreRefused (map S.text words.now)
@@ -78,13 +79,17 @@ fn run_asked<T: Threads + Wait + Sync, R: Source, G: Gate + Sync, W: Sink>(
     requires writable { W.has_failed output.old ≡ false }
     requires range { IsInRange asked.now }
     ensures run { IfSome (R.remaining input.old) (λ bytes. IsDone asked.now bytes (W.contents output.old) (W.contents output.new) (W.has_failed output.new) result) }
+    ensures read_failed { result ≡ Err RunFault.ReadFailed → CannotBeRead asked.now (R.remaining input.old) (R.has_failed input.new) }
     ensures silent { IsRefusedBefore result → WritesNothing (W.contents output.old) (W.contents output.new) (W.has_failed output.new) }
     ensures failed { W.has_failed output.new ≡ (status_of result == 4) }
     ensures flushed { IsHandedOn result (W.is_flushed output.new) }
 {
     match asked {
         Words::Replay(schedule) => run_replay(alloc, input, schedule.as_str(), output),
-        Words::Explore(options) => run_explore(rt, alloc, input, options, gate, output),
+        Words::Explore(options, printed) => {
+            run_explore(rt, alloc, input, options, *printed, gate, output)
+        }
+        Words::Check(depth, flags) => run_check(alloc, input, *depth, *flags, gate, output),
     }
 }
 

@@ -1,9 +1,10 @@
 // How a run ends: its verdict or its refusal, and the exit status that reports it.
 ghost use Rattle.std.specs.Prelude.{◌≡◌};
-ghost use Rattle.explorer_engine.specs.Status.{status_of, status_of_verdict, status_of_fault, status_of_read_fault, status_of_schedule_fault, status_of_replay_fault};
+ghost use Rattle.explorer_engine.specs.Status.{status_of, status_of_verdict, status_of_fault, status_of_read_fault, status_of_schedule_fault, status_of_replay_fault, status_of_cover_fault};
 
 use crate::input::InputFault;
 use core_reader::ReadFault;
+use cover_check::{CoverFault, WriteCoverFault};
 use replay_core::ReplayFault;
 use search_crew::SearchFault;
 use term_core::{ScheduleFault, WriteFault};
@@ -11,7 +12,7 @@ use term_core::{ScheduleFault, WriteFault};
 /// What a run that was not refused came to.
 #[derive(Clone, Copy, Debug, PartialEq, Eq)]
 pub enum Verdict {
-    /// The whole schedule was replayed.
+    /// The whole schedule was replayed, or the cover is good.
     Done,
     /// All nodes were visited, and none shows an error.
     Clean,
@@ -34,6 +35,10 @@ pub enum RunFault {
     Replay(ReplayFault),
     /// The search was not begun.
     Explore(SearchFault),
+    /// The cover that came with the module was refused.
+    Cover(CoverFault),
+    /// There was no memory to write a cover to its end. The report, and a beginning of the cover, were written.
+    CoverCutOff,
     /// The output could not be written or flushed.
     Output,
 }
@@ -94,6 +99,29 @@ impl From<SearchFault> for RunFault {
     }
 }
 
+impl From<CoverFault> for RunFault {
+    ghost use Rattle.explorer_engine.specs.declared.verdict.RunFault.TheVariants as run;
+
+    ghost from_gives = { λ fault refusal. refusal ≡ run.Cover fault };
+
+    fn from(fault: CoverFault) -> RunFault {
+        RunFault::Cover(fault)
+    }
+}
+
+impl From<WriteCoverFault> for RunFault {
+    ghost use Rattle.explorer_engine.specs.Refusals.{refusal_of_printing};
+
+    ghost from_gives = { λ fault refusal. refusal ≡ refusal_of_printing fault };
+
+    fn from(fault: WriteCoverFault) -> RunFault {
+        match fault {
+            WriteCoverFault::Memory => RunFault::CoverCutOff,
+            WriteCoverFault::Write => RunFault::Output,
+        }
+    }
+}
+
 impl From<WriteFault> for RunFault {
     ghost use Rattle.explorer_engine.specs.declared.verdict.RunFault.TheVariants as run;
 
@@ -104,7 +132,7 @@ impl From<WriteFault> for RunFault {
     }
 }
 
-/// The exit status of a run: 0 where it was done or found no error, 1 where it visited all nodes and found errors, 2
+/// The exit status of a run: 0 where it was done, the cover is good, or no error was found, 1 where it visited all nodes and found errors, 2
 /// where what it was given was refused, 3 where there was no memory, nodes were left or the search has no outcome, and 4
 /// where its output could not be written.
 pub fn status(outcome: &Result<Verdict, RunFault>) -> u8
@@ -140,6 +168,8 @@ fn fault_status(fault: &RunFault) -> u8
         RunFault::Explore(SearchFault::Memory) => 3,
         RunFault::Explore(SearchFault::NoThread) => 3,
         RunFault::Explore(SearchFault::StrangePool) => 3,
+        RunFault::Cover(fault) => cover_status(fault),
+        RunFault::CoverCutOff => 3,
         RunFault::Output => 4,
     }
 }
@@ -172,5 +202,15 @@ fn replay_status(fault: &ReplayFault) -> u8
         ReplayFault::NotEnabled(_) => 2,
         ReplayFault::Memory => 3,
         ReplayFault::Write => 4,
+    }
+}
+
+// The exit status where the cover was refused.
+fn cover_status(fault: &CoverFault) -> u8
+    ensures { result ≡ status_of_cover_fault fault.now }
+{
+    match fault {
+        CoverFault::Memory => 3,
+        _ => 2,
     }
 }

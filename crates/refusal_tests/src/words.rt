@@ -1,5 +1,5 @@
 // The words of the command line.
-use explorer_engine::{NAME, Words, read_words, run};
+use explorer_engine::{NAME, Printed, Words, read_words, run};
 use sleep_tree::Unwatched;
 use std::test::Fail;
 use test_support::{MemorySink, MemorySource};
@@ -16,14 +16,15 @@ fn reads_the_words_of_a_replay(rt: HostRuntime) -> Result<(), Fail> {
     Ok(())
 }
 
-// Words of an exploration, and its depth, its limit of nodes, and its flags.
-const EXPLORATIONS: [(&[&str], u64, u64, bool, bool); 4] = [
+// Words of an exploration, and its depth, its limit of nodes, its flags, and what it prints.
+const EXPLORATIONS: [(&[&str], u64, u64, bool, bool, Printed); 5] = [
     (
         &[NAME, "explore", "--depth", "0"],
         0,
         1_000_000,
         false,
         false,
+        Printed::Report,
     ),
     (
         &[NAME, "explore", "--depth", "400", "--nodes", "10000000"],
@@ -31,6 +32,7 @@ const EXPLORATIONS: [(&[&str], u64, u64, bool, bool); 4] = [
         10_000_000,
         false,
         false,
+        Printed::Report,
     ),
     (
         &[
@@ -46,6 +48,7 @@ const EXPLORATIONS: [(&[&str], u64, u64, bool, bool); 4] = [
         1,
         true,
         false,
+        Printed::Report,
     ),
     (
         &[
@@ -60,25 +63,65 @@ const EXPLORATIONS: [(&[&str], u64, u64, bool, bool); 4] = [
         1_000_000,
         true,
         true,
+        Printed::Report,
+    ),
+    (
+        &[NAME, "explore", "--depth", "3", "--cover"],
+        3,
+        1_000_000,
+        false,
+        false,
+        Printed::ReportAndCover,
     ),
 ];
 
 #[test]
 fn reads_the_words_of_an_exploration(rt: HostRuntime) -> Result<(), Fail> {
-    for (words, depth, nodes, allow_deadlock, strict_access) in EXPLORATIONS {
-        let Words::Explore(options) = read_words(rt.alloc(), words)? else {
+    for (words, depth, nodes, allow_deadlock, strict_access, wanted) in EXPLORATIONS {
+        let Words::Explore(options, printed) = read_words(rt.alloc(), words)? else {
             return Err(Fail::from("the words are no exploration"));
         };
         assert_eq!(rt; options.depth, depth);
         assert_eq!(rt; options.nodes, nodes);
         assert_eq!(rt; options.flags.allow_deadlock, allow_deadlock);
         assert_eq!(rt; options.flags.strict_access, strict_access);
+        assert_eq!(rt; printed, wanted);
+    }
+    Ok(())
+}
+
+// Words of a check, and its depth and flags.
+const CHECKS: [(&[&str], u64, bool, bool); 3] = [
+    (&[NAME, "check", "--depth", "0"], 0, false, false),
+    (
+        &[NAME, "check", "--strict-access", "--depth", "400"],
+        400,
+        false,
+        true,
+    ),
+    (
+        &[NAME, "check", "--depth", "7", "--allow-deadlock"],
+        7,
+        true,
+        false,
+    ),
+];
+
+#[test]
+fn reads_the_words_of_a_check(rt: HostRuntime) -> Result<(), Fail> {
+    for (words, depth, allow_deadlock, strict_access) in CHECKS {
+        let Words::Check(found, flags) = read_words(rt.alloc(), words)? else {
+            return Err(Fail::from("the words are no check"));
+        };
+        assert_eq!(rt; found, depth);
+        assert_eq!(rt; flags.allow_deadlock, allow_deadlock);
+        assert_eq!(rt; flags.strict_access, strict_access);
     }
     Ok(())
 }
 
 // Words of no command.
-const REFUSED: [&[&str]; 11] = [
+const REFUSED: [&[&str]; 15] = [
     &[NAME],
     &[NAME, "replay"],
     &[NAME, "replay", "P", "P"],
@@ -87,6 +130,10 @@ const REFUSED: [&[&str]; 11] = [
     &[NAME, "explore", "--depth", "-1"],
     &[NAME, "explore", "--depth", "3", "--nodes", "0"],
     &[NAME, "explore", "--depth", "3", "--nodes", "10000001"],
+    &[NAME, "explore", "--depth", "3", "--workers", "17"],
+    &[NAME, "check"],
+    &[NAME, "check", "--depth", "401"],
+    &[NAME, "check", "--depth", "3", "--cover"],
     &[NAME, "help"],
     &[NAME, "--help"],
     &[NAME, "replay", "--help"],

@@ -34,7 +34,11 @@ flag_rule name = record (new_rule name) { long = Some name; action = Some SetTru
 
 -- `explore` with its options
 abbrev pub explore_command : App
-explore_command = with_rule (with_rule (with_rule (with_rule (with_rule (new_app (codes "explore")) depth_rule) nodes_rule) workers_rule) (flag_rule (codes "allow-deadlock"))) (flag_rule (codes "strict-access"))
+explore_command = with_rule (with_rule (with_rule (with_rule (with_rule (with_rule (new_app (codes "explore")) depth_rule) nodes_rule) workers_rule) (flag_rule (codes "allow-deadlock"))) (flag_rule (codes "strict-access"))) (flag_rule (codes "cover"))
+
+-- `check` with its options
+abbrev pub check_command : App
+check_command = with_rule (with_rule (with_rule (new_app (codes "check")) depth_rule) (flag_rule (codes "allow-deadlock"))) (flag_rule (codes "strict-access"))
 
 -- the program's name and a subcommand, which has to be there
 abbrev pub program_command : App
@@ -42,7 +46,7 @@ program_command = record (new_app (codes "schedule_explorer")) { top = record (n
 
 -- the whole
 abbrev pub command_line : App
-command_line = with_subcommand (with_subcommand program_command replay_command.top) explore_command.top
+command_line = with_subcommand (with_subcommand (with_subcommand program_command replay_command.top) explore_command.top) check_command.top
 
 -- the command is this one, and has no argument that its subcommands have too
 pub record IsMadeAs (app : App) (made : Command) : Type 0 where
@@ -61,3 +65,22 @@ program_built = with_leaf_noted (marked_built command_line.top)
 -- `explore` when it is built, with its option for help
 abbrev pub explore_built : Shape
 explore_built = built_leaf (inherited program_built explore_command.top)
+
+-- `check` when it is built
+abbrev pub check_built : Shape
+check_built = built_leaf (inherited program_built check_command.top)
+
+-- the commands that have options
+pub data Level : Type 0 where
+  exploring : Level
+  checking : Level
+
+-- the name of such a command
+abbrev pub name_of : Level → List ℕ
+name_of exploring = codes "explore"
+name_of checking = codes "check"
+
+-- such a command when it is built
+abbrev pub built_of : Level → Shape
+built_of exploring = explore_built
+built_of checking = check_built

@@ -3,7 +3,10 @@ use Rattle.std.specs.Prelude.{◌≡◌, ◌⊎◌, ℕ, ◌<◌, ◌^◌, Bool,
 use Rattle.std.specs.Str.{bytes_eq}
 use Rattle.std.specs.Str.Parse.{IsNumeral, digits_value, without_leading_plus}
 use Rattle.clap.specs.Words.{Row, Text, first_of, one_of}
+use Rattle.findings.specs.declared.flags.Flags.{Flags}
 use Rattle.findings.specs.declared.options.Options.{Options}
+use Rattle.command_words.specs.Words.{asks_for_cover}
+use Rattle.command_words.specs.declared.words.Printed.{Printed}
 
 -- the word of the schedule, where `replay` was found
 abbrev pub schedule_in : Option (Text × List Row) → Option Text
@@ -26,21 +29,36 @@ pub record ReadsFlag (text : Option Text) (flag : Bool) : Type 0 where
   pub set : text ≡ Some (codes "true") → flag ≡ true
   pub unset : text ≡ Some (codes "false") → flag ≡ false
 
--- the options are those of the rows
-pub record AreRead (rows : List Row) (options : Options) : Type 0 where
+-- the flags are those of the rows
+pub record AreFlagsOf (rows : List Row) (flags : Flags) : Type 0 where
+  pub allow_deadlock : ReadsFlag (one_of (codes "allow-deadlock") rows) flags.allow_deadlock
+  pub strict_access : ReadsFlag (one_of (codes "strict-access") rows) flags.strict_access
+
+-- the options are those of the rows, and what is printed
+pub record AreRead (rows : List Row) (options : Options) (printed : Printed) : Type 0 where
   pub depth : ReadsNumber (one_of (codes "depth") rows) (Some options.depth)
   pub nodes : ReadsNumber (one_of (codes "nodes") rows) (Some options.nodes)
   pub budget : options.budget ≡ 64
   pub workers : ReadsNumber (one_of (codes "workers") rows) (Some options.workers)
-  pub allow_deadlock : ReadsFlag (one_of (codes "allow-deadlock") rows) options.flags.allow_deadlock
-  pub strict_access : ReadsFlag (one_of (codes "strict-access") rows) options.flags.strict_access
+  pub flags : AreFlagsOf rows options.flags
+  pub cover : ReadsFlag (one_of (codes "cover") rows) (asks_for_cover printed)
 
 -- options are read where all numbers are there
-abbrev pub AreOptionsIn : List Row → Option Options → Type 0
+abbrev pub AreOptionsIn : List Row → Option (Options × Printed) → Type 0
 AreOptionsIn rows None = ReadsNumber (one_of (codes "depth") rows) None ⊎ (ReadsNumber (one_of (codes "nodes") rows) None ⊎ ReadsNumber (one_of (codes "workers") rows) None)
-AreOptionsIn rows (Some options) = AreRead rows options
+AreOptionsIn rows (Some read) = AreRead rows read.0 read.1
 
 -- and where `explore` was found
-abbrev pub AreOptionsOf : Option (Text × List Row) → Option Options → Type 0
+abbrev pub AreOptionsOf : Option (Text × List Row) → Option (Options × Printed) → Type 0
 AreOptionsOf None read = read ≡ None
 AreOptionsOf (Some p) read = MatchBool (bytes_eq p.0 (codes "explore")) (AreOptionsIn p.1 read) (read ≡ None)
+
+-- a check is read where its depth is there
+abbrev pub IsCheckIn : List Row → Option (ℕ × Flags) → Type 0
+IsCheckIn rows None = ReadsNumber (one_of (codes "depth") rows) None
+IsCheckIn rows (Some read) = ReadsNumber (one_of (codes "depth") rows) (Some read.0) × AreFlagsOf rows read.1
+
+-- and where `check` was found
+abbrev pub IsCheckOf : Option (Text × List Row) → Option (ℕ × Flags) → Type 0
+IsCheckOf None read = read ≡ None
+IsCheckOf (Some p) read = MatchBool (bytes_eq p.0 (codes "check")) (IsCheckIn p.1 read) (read ≡ None)

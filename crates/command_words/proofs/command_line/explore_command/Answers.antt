@@ -16,5 +16,6 @@ returns-clause-line c =
     let one = made_with _ _ _ _ _ new c.depth_option.ensures c.in_ok-arg.ensures in
     let two = made_with _ _ _ _ _ one c.nodes_option.ensures c.in_ok-arg-2.ensures in
     let three = made_with _ _ _ _ _ two c.workers_option.ensures c.in_ok-arg-3.ensures in
-    let four = made_with _ _ _ _ _ three c.flag-allow_deadlock.ensures c.in_ok-arg-4.ensures in
-    made_with _ _ _ _ _ four c.flag-strict_access.ensures c.in_ok-explore.ensures
+    let four = made_with _ _ _ _ _ three c.allow_deadlock_flag.ensures c.in_ok-arg-4.ensures in
+    let five = made_with _ _ _ _ _ four c.strict_access_flag.ensures c.in_ok-arg-5.ensures in
+    made_with _ _ _ _ _ five c.flag.ensures c.in_ok-explore.ensures

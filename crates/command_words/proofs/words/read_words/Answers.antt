@@ -2,11 +2,12 @@ use Rattle.std.proofs.Common.{◌≡◌, ◌∙◌, None, Some, ap, map, subst, 
 use Rattle.std.specs.Prelude.{Err}
 use Rattle.std.proofs.lemmas.Result.{err_from_is_err_and}
 use Rattle.clap.specs.Words.{app_of, subcommand_of, subcommand_rows_of}
-use Rattle.command_words.specs.Words.{AsksExplore, AsksReplay}
+use Rattle.command_words.specs.Words.{AsksCheck, AsksExplore, AsksReplay}
 use Rattle.command_words.specs.inside.CommandLine.{command_line}
-use Rattle.command_words.specs.inside.Found.{AreOptionsOf, schedule_in}
-use Rattle.command_words.proofs.Asked.{explore_has_no_schedule, explore_is_found, explore_passes, explore_reads, found_in_range}
-use Rattle.command_words.proofs.Named.{explore_named, replay_named}
+use Rattle.command_words.specs.inside.Found.{AreOptionsOf, IsCheckOf, schedule_in}
+use Rattle.command_words.proofs.Checked.{check_has_no_options, check_has_no_schedule, check_in_range, check_is_found, check_passes, check_reads}
+use Rattle.command_words.proofs.Explored.{explore_has_no_schedule, explore_is_found, explore_passes, explore_reads, found_in_range}
+use Rattle.command_words.proofs.Named.{check_named, explore_named, replay_named}
 use Rattle.command_words.proofs.Reading.{entered_is, no_word_found, passes_is, refused_for_memory, word_found}
 use Rattle.command_words.proofs.Replayed.{replay_enters, replay_passes}
 use Rattle.command_words.proofs.words.read_words.Goals as goal
@@ -19,11 +20,18 @@ returns-in_err-matches-clause-replay g c schedule asks =
     c.in_ok-command.ensures.line (replay_passes words schedule asks) c.in_err-matches.ensures.kinds (p.1 ∙ ap Err p.2)
 
 pub returns-in_err-matches-clause-explore : goal.returns-in_err-matches-clause-explore
-returns-in_err-matches-clause-explore g c options asks =
+returns-in_err-matches-clause-explore g c options printed asks =
     let words = map g.S.AsStr.text c.args.words.now in
     let p = err_from_is_err_and c.from_residual-in_err-matches.result c.from_residual-in_err-matches.ensures.1 in
-    refused_for_memory (app_of c.in_ok-command.command) words (AsksExplore options) c.in_err-matches.field-0.0 c.from_residual-in_err-matches.result
-    c.in_ok-command.ensures.line (explore_passes words options asks) c.in_err-matches.ensures.kinds (p.1 ∙ ap Err p.2)
+    refused_for_memory (app_of c.in_ok-command.command) words (AsksExplore options printed) c.in_err-matches.field-0.0 c.from_residual-in_err-matches.result
+    c.in_ok-command.ensures.line (explore_passes words options printed asks) c.in_err-matches.ensures.kinds (p.1 ∙ ap Err p.2)
+
+pub returns-in_err-matches-clause-check : goal.returns-in_err-matches-clause-check
+returns-in_err-matches-clause-check g c depth flags asks =
+    let words = map g.S.AsStr.text c.args.words.now in
+    let p = err_from_is_err_and c.from_residual-in_err-matches.result c.from_residual-in_err-matches.ensures.1 in
+    refused_for_memory (app_of c.in_ok-command.command) words (AsksCheck depth flags) c.in_err-matches.field-0.0 c.from_residual-in_err-matches.result
+    c.in_ok-command.ensures.line (check_passes words depth flags asks) c.in_err-matches.ensures.kinds (p.1 ∙ ap Err p.2)
 
 pub returns-in-Some-clause-replay : goal.returns-in-Some-clause-replay
 returns-in-Some-clause-replay g c schedule asks =
@@ -35,11 +43,19 @@ returns-in-Some-clause-replay g c schedule asks =
     c.in_ok-from_str.ensures.ok ∙ word
 
 pub returns-in-Some-clause-explore : goal.returns-in-Some-clause-explore
-returns-in-Some-clause-explore g c options asks =
+returns-in-Some-clause-explore g c options printed asks =
     let words = map g.S.AsStr.text c.args.words.now in
     let entered = entered_is (app_of c.in_ok-command.command) words (subcommand_rows_of c.in_ok-matches.matches) c.in_ok-command.ensures.line c.in_ok-matches.ensures.matches in
     let found = word_found c.found_schedule.result c.in-Some.schedule _ c.found_schedule.ensures c.in-Some.is in
-    let same : Some c.in-Some.schedule.now ≡ None = sym found ∙ ap schedule_in entered ∙ explore_has_no_schedule words options asks in
+    let same : Some c.in-Some.schedule.now ≡ None = sym found ∙ ap schedule_in entered ∙ explore_has_no_schedule words options printed asks in
+    cc
+
+pub returns-in-Some-clause-check : goal.returns-in-Some-clause-check
+returns-in-Some-clause-check g c depth flags asks =
+    let words = map g.S.AsStr.text c.args.words.now in
+    let entered = entered_is (app_of c.in_ok-command.command) words (subcommand_rows_of c.in_ok-matches.matches) c.in_ok-command.ensures.line c.in_ok-matches.ensures.matches in
+    let found = word_found c.found_schedule.result c.in-Some.schedule _ c.found_schedule.ensures c.in-Some.is in
+    let same : Some c.in-Some.schedule.now ≡ None = sym found ∙ ap schedule_in entered ∙ check_has_no_schedule words depth flags asks in
     cc
 
 pub returns-in-Some-clause-named : goal.returns-in-Some-clause-named
@@ -49,21 +65,69 @@ returns-in-Some-clause-named g c =
     let found = word_found c.found_schedule.result c.in-Some.schedule _ c.found_schedule.ensures c.in-Some.is in
     replay_named words c.in-Some.schedule.now (passes_is (app_of c.in_ok-command.command) words c.in_ok-command.ensures.line c.in_ok-matches.ensures.kinds) (sym (ap schedule_in entered) ∙ found)
 
-pub returns-in_default-found_options-clause-replay : goal.returns-in_default-found_options-clause-replay
-returns-in_default-found_options-clause-replay g c schedule asks =
+pub returns-in-Some-found_options-clause-replay : goal.returns-in-Some-found_options-clause-replay
+returns-in-Some-found_options-clause-replay g c schedule asks =
     let words = map g.S.AsStr.text c.args.words.now in
     let entered = entered_is (app_of c.in_ok-command.command) words (subcommand_rows_of c.in_ok-matches.matches) c.in_ok-command.ensures.line c.in_ok-matches.ensures.matches in
     let found = no_word_found c.found_schedule.result _ c.found_schedule.ensures c.in_default.is in
     let same : None ≡ Some schedule = sym found ∙ ap schedule_in entered ∙ replay_enters words schedule asks in
     cc
 
-pub returns-in_default-found_options-clause-explore : goal.returns-in_default-found_options-clause-explore
-returns-in_default-found_options-clause-explore g c options asks =
+pub returns-in-Some-found_options-clause-explore : goal.returns-in-Some-found_options-clause-explore
+returns-in-Some-found_options-clause-explore g c options printed asks =
     let words = map g.S.AsStr.text c.args.words.now in
     let entered = entered_is (app_of c.in_ok-command.command) words (subcommand_rows_of c.in_ok-matches.matches) c.in_ok-command.ensures.line c.in_ok-matches.ensures.matches in
-    let found : AreOptionsOf (subcommand_of command_line words) None = subst (λ r. AreOptionsOf (subcommand_of command_line words) r) c.in_default-found_options.is
-    (subst (λ o. AreOptionsOf o c.found_options.result) entered c.found_options.ensures) in
-    absurd (explore_is_found words options asks found)
+    let found : AreOptionsOf (subcommand_of command_line words) (Some (c.in-Some-found_options.options, c.in-Some-found_options.printed)) =
+    subst (λ r. AreOptionsOf (subcommand_of command_line words) r) c.in-Some-found_options.is (subst (λ o. AreOptionsOf o c.found_options.result) entered c.found_options.ensures) in
+    explore_reads words options printed (c.in-Some-found_options.options, c.in-Some-found_options.printed) asks found
+
+pub returns-in-Some-found_options-clause-check : goal.returns-in-Some-found_options-clause-check
+returns-in-Some-found_options-clause-check g c depth flags asks =
+    let words = map g.S.AsStr.text c.args.words.now in
+    let entered = entered_is (app_of c.in_ok-command.command) words (subcommand_rows_of c.in_ok-matches.matches) c.in_ok-command.ensures.line c.in_ok-matches.ensures.matches in
+    let found : AreOptionsOf (subcommand_of command_line words) (Some (c.in-Some-found_options.options, c.in-Some-found_options.printed)) =
+    subst (λ r. AreOptionsOf (subcommand_of command_line words) r) c.in-Some-found_options.is (subst (λ o. AreOptionsOf o c.found_options.result) entered c.found_options.ensures) in
+    check_has_no_options words depth flags (c.in-Some-found_options.options, c.in-Some-found_options.printed) asks found
+
+pub returns-in-Some-found_options-clause-range : goal.returns-in-Some-found_options-clause-range
+returns-in-Some-found_options-clause-range g c =
+    let words = map g.S.AsStr.text c.args.words.now in
+    let entered = entered_is (app_of c.in_ok-command.command) words (subcommand_rows_of c.in_ok-matches.matches) c.in_ok-command.ensures.line c.in_ok-matches.ensures.matches in
+    let found : AreOptionsOf (subcommand_of command_line words) (Some (c.in-Some-found_options.options, c.in-Some-found_options.printed)) =
+    subst (λ r. AreOptionsOf (subcommand_of command_line words) r) c.in-Some-found_options.is (subst (λ o. AreOptionsOf o c.found_options.result) entered c.found_options.ensures) in
+    found_in_range words (c.in-Some-found_options.options, c.in-Some-found_options.printed) (passes_is (app_of c.in_ok-command.command) words c.in_ok-command.ensures.line c.in_ok-matches.ensures.kinds) found
+
+pub returns-in-Some-found_options-clause-named : goal.returns-in-Some-found_options-clause-named
+returns-in-Some-found_options-clause-named g c =
+    let words = map g.S.AsStr.text c.args.words.now in
+    let entered = entered_is (app_of c.in_ok-command.command) words (subcommand_rows_of c.in_ok-matches.matches) c.in_ok-command.ensures.line c.in_ok-matches.ensures.matches in
+    let found : AreOptionsOf (subcommand_of command_line words) (Some (c.in-Some-found_options.options, c.in-Some-found_options.printed)) =
+    subst (λ r. AreOptionsOf (subcommand_of command_line words) r) c.in-Some-found_options.is (subst (λ o. AreOptionsOf o c.found_options.result) entered c.found_options.ensures) in
+    explore_named words (c.in-Some-found_options.options, c.in-Some-found_options.printed) (passes_is (app_of c.in_ok-command.command) words c.in_ok-command.ensures.line c.in_ok-matches.ensures.kinds) found
+
+pub returns-in_default-found_check-clause-replay : goal.returns-in_default-found_check-clause-replay
+returns-in_default-found_check-clause-replay g c schedule asks =
+    let words = map g.S.AsStr.text c.args.words.now in
+    let entered = entered_is (app_of c.in_ok-command.command) words (subcommand_rows_of c.in_ok-matches.matches) c.in_ok-command.ensures.line c.in_ok-matches.ensures.matches in
+    let found = no_word_found c.found_schedule.result _ c.found_schedule.ensures c.in_default.is in
+    let same : None ≡ Some schedule = sym found ∙ ap schedule_in entered ∙ replay_enters words schedule asks in
+    cc
+
+pub returns-in_default-found_check-clause-explore : goal.returns-in_default-found_check-clause-explore
+returns-in_default-found_check-clause-explore g c options printed asks =
+    let words = map g.S.AsStr.text c.args.words.now in
+    let entered = entered_is (app_of c.in_ok-command.command) words (subcommand_rows_of c.in_ok-matches.matches) c.in_ok-command.ensures.line c.in_ok-matches.ensures.matches in
+    let found : AreOptionsOf (subcommand_of command_line words) None =
+    subst (λ r. AreOptionsOf (subcommand_of command_line words) r) c.in_default-found_options.is (subst (λ o. AreOptionsOf o c.found_options.result) entered c.found_options.ensures) in
+    absurd (explore_is_found words options printed asks found)
+
+pub returns-in_default-found_check-clause-check : goal.returns-in_default-found_check-clause-check
+returns-in_default-found_check-clause-check g c depth flags asks =
+    let words = map g.S.AsStr.text c.args.words.now in
+    let entered = entered_is (app_of c.in_ok-command.command) words (subcommand_rows_of c.in_ok-matches.matches) c.in_ok-command.ensures.line c.in_ok-matches.ensures.matches in
+    let found : IsCheckOf (subcommand_of command_line words) None =
+    subst (λ r. IsCheckOf (subcommand_of command_line words) r) c.in_default-found_check.is (subst (λ o. IsCheckOf o c.found_check.result) entered c.found_check.ensures) in
+    absurd (check_is_found words depth flags asks found)
 
 pub returns-clause-replay : goal.returns-clause-replay
 returns-clause-replay g c schedule asks =
@@ -74,25 +138,33 @@ returns-clause-replay g c schedule asks =
     cc
 
 pub returns-clause-explore : goal.returns-clause-explore
-returns-clause-explore g c options asks =
+returns-clause-explore g c options printed asks =
     let words = map g.S.AsStr.text c.args.words.now in
     let entered = entered_is (app_of c.in_ok-command.command) words (subcommand_rows_of c.in_ok-matches.matches) c.in_ok-command.ensures.line c.in_ok-matches.ensures.matches in
-    let found : AreOptionsOf (subcommand_of command_line words) (Some c.in-Some-found_options.options) =
-    subst (λ r. AreOptionsOf (subcommand_of command_line words) r) c.in-Some-found_options.is (subst (λ o. AreOptionsOf o c.found_options.result) entered c.found_options.ensures) in
-    explore_reads words options c.in-Some-found_options.options asks found
+    let found : AreOptionsOf (subcommand_of command_line words) None =
+    subst (λ r. AreOptionsOf (subcommand_of command_line words) r) c.in_default-found_options.is (subst (λ o. AreOptionsOf o c.found_options.result) entered c.found_options.ensures) in
+    absurd (explore_is_found words options printed asks found)
+
+pub returns-clause-check : goal.returns-clause-check
+returns-clause-check g c depth flags asks =
+    let words = map g.S.AsStr.text c.args.words.now in
+    let entered = entered_is (app_of c.in_ok-command.command) words (subcommand_rows_of c.in_ok-matches.matches) c.in_ok-command.ensures.line c.in_ok-matches.ensures.matches in
+    let found : IsCheckOf (subcommand_of command_line words) (Some (c.in-Some-found_check.depth, c.in-Some-found_check.flags)) =
+    subst (λ r. IsCheckOf (subcommand_of command_line words) r) c.in-Some-found_check.is (subst (λ o. IsCheckOf o c.found_check.result) entered c.found_check.ensures) in
+    check_reads words depth flags (c.in-Some-found_check.depth, c.in-Some-found_check.flags) asks found
 
 pub returns-clause-range : goal.returns-clause-range
 returns-clause-range g c =
     let words = map g.S.AsStr.text c.args.words.now in
     let entered = entered_is (app_of c.in_ok-command.command) words (subcommand_rows_of c.in_ok-matches.matches) c.in_ok-command.ensures.line c.in_ok-matches.ensures.matches in
-    let found : AreOptionsOf (subcommand_of command_line words) (Some c.in-Some-found_options.options) =
-    subst (λ r. AreOptionsOf (subcommand_of command_line words) r) c.in-Some-found_options.is (subst (λ o. AreOptionsOf o c.found_options.result) entered c.found_options.ensures) in
-    found_in_range words c.in-Some-found_options.options (passes_is (app_of c.in_ok-command.command) words c.in_ok-command.ensures.line c.in_ok-matches.ensures.kinds) found
+    let found : IsCheckOf (subcommand_of command_line words) (Some (c.in-Some-found_check.depth, c.in-Some-found_check.flags)) =
+    subst (λ r. IsCheckOf (subcommand_of command_line words) r) c.in-Some-found_check.is (subst (λ o. IsCheckOf o c.found_check.result) entered c.found_check.ensures) in
+    check_in_range words (c.in-Some-found_check.depth, c.in-Some-found_check.flags) (passes_is (app_of c.in_ok-command.command) words c.in_ok-command.ensures.line c.in_ok-matches.ensures.kinds) found
 
 pub returns-clause-named : goal.returns-clause-named
 returns-clause-named g c =
     let words = map g.S.AsStr.text c.args.words.now in
     let entered = entered_is (app_of c.in_ok-command.command) words (subcommand_rows_of c.in_ok-matches.matches) c.in_ok-command.ensures.line c.in_ok-matches.ensures.matches in
-    let found : AreOptionsOf (subcommand_of command_line words) (Some c.in-Some-found_options.options) =
-    subst (λ r. AreOptionsOf (subcommand_of command_line words) r) c.in-Some-found_options.is (subst (λ o. AreOptionsOf o c.found_options.result) entered c.found_options.ensures) in
-    explore_named words c.in-Some-found_options.options (passes_is (app_of c.in_ok-command.command) words c.in_ok-command.ensures.line c.in_ok-matches.ensures.kinds) found
+    let found : IsCheckOf (subcommand_of command_line words) (Some (c.in-Some-found_check.depth, c.in-Some-found_check.flags)) =
+    subst (λ r. IsCheckOf (subcommand_of command_line words) r) c.in-Some-found_check.is (subst (λ o. IsCheckOf o c.found_check.result) entered c.found_check.ensures) in
+    check_named words (c.in-Some-found_check.depth, c.in-Some-found_check.flags) (passes_is (app_of c.in_ok-command.command) words c.in_ok-command.ensures.line c.in_ok-matches.ensures.kinds) found

@@ -1,4 +1,4 @@
-use Rattle.std.proofs.Common.{◌∙◌, refl}
+use Rattle.std.proofs.Common.{refl}
 use Rattle.explorer_engine.proofs.RunLaws.{gets}
 use Rattle.explorer_engine.proofs.program.run.Goals as goal
 
@@ -7,10 +7,12 @@ returns-in-Ok-clause-run g c ran = record {
   asked = c.in-Ok.asked;
   replay = c.in-Ok.ensures.replay;
   explore = c.in-Ok.ensures.explore;
+  check = c.in-Ok.ensures.check;
   named = c.in-Ok.ensures.named;
   in_range = c.in-Ok.ensures.range;
   outcome = c.run_asked-outcome.result;
   run = c.run_asked-outcome.ensures.run;
+  read_failed = c.run_asked-outcome.ensures.read_failed;
   silent = c.run_asked-outcome.ensures.silent;
   flushed = c.run_asked-outcome.ensures.flushed;
   reported = c.report.ensures.line;
@@ -23,5 +25,6 @@ returns-in-Err-clause-refused g c refused = record {
   text = c.write_words_error.ensures.0;
   told = gets _ _ _ _ _ c.write_words_error.ensures.2;
   no_replay = λ schedule asks. c.write_words_error.ensures.1 (c.in-Err.ensures.replay schedule asks);
-  no_exploration = λ options asks. c.write_words_error.ensures.1 (c.in-Err.ensures.explore options asks);
+  no_exploration = λ options what asks. c.write_words_error.ensures.1 (c.in-Err.ensures.explore options what asks);
+  no_check = λ depth flags asks. c.write_words_error.ensures.1 (c.in-Err.ensures.check depth flags asks);
 }

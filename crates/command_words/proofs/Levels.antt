@@ -1,0 +1,137 @@
+-- What the parser makes of the words of a command whose options come in any order.
+use Rattle.std.proofs.Common.{◌≡◌, ◌∙◌, ◌||◌, ℕ, Bool, true, false, not, List, [], ◌∷◌, ◌++◌, map, Some, cond, codes, option_map, refl, sym, ap}
+use Rattle.std.specs.List.{fold}
+use Rattle.std.specs.Option.{is_some, option_map_or}
+use Rattle.std.specs.Prelude.{slice_get}
+use Rattle.std.proofs.lemmas.List.{append-nil, append_assoc}
+use Rattle.clap.specs.Facts.{explicit_source}
+use Rattle.clap.specs.Faults.{check_fault, defaults_fault, entered_fault, fault_of, level_fault, settle_fault, walk_fault}
+use Rattle.clap.specs.Kinds.{Kinds, or_else}
+use Rattle.clap.specs.Simple.{built, entered, filled, names_of, subcommand_of}
+use Rattle.clap.specs.Takes.{is_given}
+use Rattle.clap.specs.Walk.{Names, Row, Rule, Text, Walk, finished, has_row, nothing_held, rows_after, settled, walk, walk_from, walked, with_default}
+use Rattle.clap.specs.declared.error.kind.ErrorKind.TheVariants.{DisplayHelp, MissingRequiredArgument}
+use Rattle.clap.proofs.FaultLemmas.{stopped_fault}
+use Rattle.clap.proofs.OnLiterals.{clap_on_literals}
+use Rattle.command_words.specs.Words.{Given, depth, depths_of, words_of_all}
+use Rattle.command_words.specs.inside.CommandLine.{Level, built_of, checking, command_line, depth_rule, exploring, flag_rule, name_of, nodes_rule, workers_rule}
+use Rattle.command_words.proofs.Options.{AreLawful, AreNew, IsReady, both_none, options_pass, options_ready}
+use Rattle.command_words.proofs.Rows.{depth_left, depth_row, row_of, with_defaults}
+
+-- ---- the defaults
+
+no_fault : (b : Bool) → cond {A = Kinds} b [] [] ≡ []
+no_fault true = refl
+no_fault false = refl
+
+no_default_fault : (b : Bool) (kinds : Kinds) → cond (b || true) [] kinds ≡ []
+no_default_fault true kinds = refl
+no_default_fault false kinds = refl
+
+defaults_pass : (level : Level) (rows : List Row) → defaults_fault rows (built_of level).rules ≡ []
+unfolding defaults_fault
+defaults_pass exploring rows =
+    let one = with_default rows (filled depth_rule) in
+    let two = with_default one (filled nodes_rule) in
+    let three = with_default two (filled workers_rule) in
+    let four = with_default three (filled (flag_rule (codes "allow-deadlock"))) in
+    let five = with_default four (filled (flag_rule (codes "strict-access"))) in
+    let six = with_default five (filled (flag_rule (codes "cover"))) in
+    both_none _ _ (no_default_fault (has_row (codes "depth") rows) [])
+    (both_none _ _ (no_fault (has_row (codes "nodes") one || false))
+    (both_none _ _ (no_fault (has_row (codes "workers") two || false))
+    (both_none _ _ (no_fault (has_row (codes "allow-deadlock") three || false))
+    (both_none _ _ (no_fault (has_row (codes "strict-access") four || false))
+    (both_none _ _ (no_fault (has_row (codes "cover") five || false))
+    (both_none _ _ (no_default_fault (has_row (codes "help") six) (DisplayHelp ∷ [])) refl))))))
+defaults_pass checking rows =
+    let one = with_default rows (filled depth_rule) in
+    let two = with_default one (filled (flag_rule (codes "allow-deadlock"))) in
+    let three = with_default two (filled (flag_rule (codes "strict-access"))) in
+    both_none _ _ (no_default_fault (has_row (codes "depth") rows) [])
+    (both_none _ _ (no_fault (has_row (codes "allow-deadlock") one || false))
+    (both_none _ _ (no_fault (has_row (codes "strict-access") two || false))
+    (both_none _ _ (no_default_fault (has_row (codes "help") three) (DisplayHelp ∷ [])) refl)))
+
+-- ---- the level of the command
+
+checks : (level : Level) (rows : List Row) → is_given (codes "depth") rows ≡ true → check_fault (built_of level) rows false ≡ []
+checks exploring rows is = ap (λ b. cond (not b || false) (MissingRequiredArgument ∷ []) []) is
+checks checking rows is = ap (λ b. cond (not b || false) (MissingRequiredArgument ∷ []) []) is
+
+-- the words of a level have no fault where none of its four steps has one
+all_pass : (level : Level) (words : List Text) → walk_fault (built_of level) [] (walk_from nothing_held) words ≡ []
+    → settle_fault (built_of level).rules false (walk (built_of level).rules [] nothing_held words).held ≡ [] → is_given (codes "depth") (rows_after (built_of level).rules [] words) ≡ true
+    → level_fault (built_of level) [] nothing_held words false [] ≡ []
+all_pass exploring words walks settles is =
+    both_none _ _ walks (both_none _ _ settles (both_none _ _ (defaults_pass exploring (settled (built_of exploring).rules (walk (built_of exploring).rules [] nothing_held words).held).rows)
+    (checks exploring (rows_after (built_of exploring).rules [] words) is)))
+all_pass checking words walks settles is =
+    both_none _ _ walks (both_none _ _ settles (both_none _ _ (defaults_pass checking (settled (built_of checking).rules (walk (built_of checking).rules [] nothing_held words).held).rows)
+    (checks checking (rows_after (built_of checking).rules [] words) is)))
+
+-- nothing is held at first
+ready_at_first : (level : Level) → IsReady level [] nothing_held
+ready_at_first level = record { settles = refl; rows_are = refl }
+
+module _ (level : Level) (given : List Given) (number : ℕ) (new : AreNew [] given) (lawful : AreLawful given level) (depth_is : depths_of given ≡ number ∷ []) where
+  ready : IsReady level (map row_of given) (walk (built_of level).rules [] nothing_held (words_of_all given)).held
+  ready = options_ready given level [] nothing_held (ready_at_first level) new lawful
+
+  -- the rows are those of the options, with the defaults
+  pub rows_left : rows_after (built_of level).rules [] (words_of_all given) ≡ with_defaults level (map row_of given)
+  rows_left = ap (with_defaults level) ready.rows_are
+
+  depth_given : is_given (codes "depth") (with_defaults level (map row_of given)) ≡ true
+  depth_given =
+      ap (λ o. option_map_or (λ r. explicit_source r.source) o false) (depth_left level (map row_of given) ∙ depth_row given ∙ ap (λ l. option_map (λ n. row_of (depth n)) (slice_get l 0)) depth_is)
+
+  pub level_passes : level_fault (built_of level) [] nothing_held (words_of_all given) false [] ≡ []
+  level_passes =
+      all_pass level (words_of_all given) (options_pass given level [] nothing_held (ready_at_first level) new lawful) ready.settles (ap (is_given (codes "depth")) rows_left ∙ depth_given)
+
+-- ---- the whole command line
+
+-- a walk that stopped at a subcommand keeps the words after it
+pub stopped_walk : (rules : List Rule) (names : Names) (w : Walk) (name : Text) (before words : List Text)
+    → fold (walked rules names) (record w { stopped = Some (name, before) }) words ≡ record w { stopped = Some (name, before ++ words) }
+unfolding walked
+stopped_walk rules names w name before [] = ap (λ l. record w { stopped = Some (name, l) }) (sym (append-nil before))
+stopped_walk rules names w name before (word ∷ rest) =
+    stopped_walk rules names w name (before ++ word ∷ []) rest ∙ ap (λ l. record w { stopped = Some (name, l) }) (append_assoc before (word ∷ []) rest)
+
+-- where the walk over the whole line ends
+abbrev ended : Level → List Text → Walk
+ended level words = record (walk_from nothing_held) { stopped = Some (name_of level, words) }
+
+line_walk : (level : Level) (words : List Text) → walk (built command_line).top.rules (names_of (built command_line)) nothing_held (name_of level ∷ words) ≡ ended level words
+unfolding clap_on_literals
+line_walk exploring words = stopped_walk (built command_line).top.rules (names_of (built command_line)) (walk_from nothing_held) (codes "explore") [] words
+line_walk checking words = stopped_walk (built command_line).top.rules (names_of (built command_line)) (walk_from nothing_held) (codes "check") [] words
+
+-- the rows of the command are what its words leave
+pub line_enters : (level : Level) (name : Text) (words : List Text) → subcommand_of command_line (name ∷ name_of level ∷ words) ≡ Some (name_of level, rows_after (built_of level).rules [] words)
+line_enters exploring name words = ap (λ (w : Walk). entered (built command_line) w.stopped) (line_walk exploring words)
+line_enters checking name words = ap (λ (w : Walk). entered (built command_line) w.stopped) (line_walk checking words)
+
+word_passes : (level : Level) (words : List Text) → walk_fault (built command_line).top (names_of (built command_line)) (walk_from nothing_held) (name_of level ∷ words) ≡ []
+unfolding clap_on_literals
+word_passes exploring words = stopped_fault (built command_line).top (names_of (built command_line)) (walk_from nothing_held) (codes "explore", []) words
+word_passes checking words = stopped_fault (built command_line).top (names_of (built command_line)) (walk_from nothing_held) (codes "check", []) words
+
+-- the line is at fault where the level of the command is
+abbrev fault_at : Level → List Text → Walk → Kinds
+fault_at level words w =
+    let top = (built command_line).top in
+    or_else (walk_fault top (names_of (built command_line)) (walk_from nothing_held) (name_of level ∷ words))
+    (or_else (entered_fault (built command_line) w.stopped) (or_else (settle_fault top.rules false w.held)
+    (or_else (defaults_fault (settled top.rules w.held).rows top.rules) (check_fault top (finished top.rules w.held) (is_some (entered (built command_line) w.stopped))))))
+
+pub line_passes : (level : Level) (name : Text) (words : List Text) → level_fault (built_of level) [] nothing_held words false [] ≡ [] → fault_of command_line (name ∷ name_of level ∷ words) ≡ []
+unfolding clap_on_literals
+line_passes exploring name words none =
+    let at : fault_of command_line (name ∷ codes "explore" ∷ words) ≡ fault_at exploring words (ended exploring words) = ap (fault_at exploring words) (line_walk exploring words) in
+    at ∙ both_none (walk_fault (built command_line).top (names_of (built command_line)) (walk_from nothing_held) (codes "explore" ∷ words)) _ (word_passes exploring words) (both_none _ [] none refl)
+line_passes checking name words none =
+    let at : fault_of command_line (name ∷ codes "check" ∷ words) ≡ fault_at checking words (ended checking words) = ap (fault_at checking words) (line_walk checking words) in
+    at ∙ both_none (walk_fault (built command_line).top (names_of (built command_line)) (walk_from nothing_held) (codes "check" ∷ words)) _ (word_passes checking words) (both_none _ [] none refl)

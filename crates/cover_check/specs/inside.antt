@@ -1,0 +1,4 @@
+pub mod Frames
+pub mod Codes
+pub mod Lines
+pub mod Owned

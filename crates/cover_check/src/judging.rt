@@ -1,0 +1,116 @@
+// What a line of a cover comes to, at the node that it belongs to.
+ghost use Rattle.std.specs.Prelude.{◌≡◌, ◌&&◌, ◌++◌, true, map, filter, IfOk};
+ghost use Rattle.std.specs.List.{list_all};
+ghost use Rattle.coverage.specs.Covers.{are_once, is_empty, is_one_of};
+ghost use Rattle.cover_check.specs.Judging.{are_all_there, are_enabled_once, judgement, judgement_of};
+ghost use Rattle.cover_check.specs.inside.Frames.{place_of};
+ghost use Rattle.findings.specs.Identities.{flags_in, identity_in};
+ghost use Rattle.world_model.specs.Asking.{program_of};
+ghost use Rattle.world_model.specs.Events.{History};
+ghost use Rattle.world_model.specs.Requests.{Program};
+ghost use Rattle.world_model.specs.Run.{enabled_steps};
+ghost use Rattle.world_model.specs.Shown.{is_error};
+
+use crate::node::Node;
+use crate::sleeping::is_one_of;
+use findings::{Flags, Identity};
+use std::alloc::Global;
+use term_core::Step;
+use world_core::WorldFault;
+
+/// What a line comes to.
+#[derive(Clone, Copy, Debug, PartialEq, Eq)]
+pub enum Judgement {
+    /// The node shows no error, and the line takes enabled steps, each once, and leaves out none that is awake.
+    Good,
+    /// The line leaves out an enabled step that does not sleep.
+    Missing,
+    /// The line has a step that is not enabled, that stands twice, or that stands at the depth.
+    Strange,
+    /// The node shows an error.
+    ErrorFound,
+}
+
+// Whether none of these is an error under the flags.
+fn is_clean(flags: Flags, identities: &[Identity]) -> bool
+    ensures { result ≡ is_empty (filter (is_error (flags_in flags)) (map identity_in identities.now)) }
+{
+    for identity in identities {
+        if identity.is_error(flags) {
+            return false;
+        }
+    }
+    true
+}
+
+// Whether the steps of a line are among those that are enabled, and none stands twice.
+fn are_enabled_once(enabled: &[Step], line: &[Step]) -> bool
+    ensures { result ≡ are_once line.now && list_all (is_one_of enabled.now) line.now }
+{
+    let mut rest = line;
+    while let Some((step, later)) = rest.split_first() {
+        if !is_one_of(enabled, step) || is_one_of(later, step) {
+            return false;
+        }
+        rest = later;
+    }
+    true
+}
+
+// Whether a step sleeps or is taken.
+fn is_in_either(slept: &[Step], line: &[Step], step: &Step) -> bool
+    ensures { result ≡ is_one_of (slept.now ++ line.now) step.now }
+{
+    if is_one_of(slept, step) {
+        return true;
+    }
+    is_one_of(line, step)
+}
+
+// Whether each enabled step sleeps or is taken.
+fn are_all_there(enabled: &[Step], slept: &[Step], line: &[Step]) -> bool
+    ensures { result ≡ list_all (is_one_of (slept.now ++ line.now)) enabled.now }
+{
+    for step in enabled {
+        if !is_in_either(slept, line, step) {
+            return false;
+        }
+    }
+    true
+}
+
+// What a line comes to, where these steps are enabled and the node shows no error.
+fn judge_steps(enabled: &[Step], slept: &[Step], left: u64, line: &[Step]) -> Judgement
+    ensures { (a : Program) (h : History) → enabled.now ≡ enabled_steps a h → result ≡ judgement true (are_enabled_once a left h line.now) (are_all_there a left h slept.now line.now) }
+{
+    if left == 0 {
+        if !line.is_empty() {
+            return Judgement::Strange;
+        }
+        return Judgement::Good;
+    }
+    if !are_enabled_once(enabled, line) {
+        return Judgement::Strange;
+    }
+    if !are_all_there(enabled, slept, line) {
+        return Judgement::Missing;
+    }
+    Judgement::Good
+}
+
+/// What the line of a node comes to. `Memory` where there is none.
+pub(crate) fn judge(
+    alloc: Global,
+    flags: Flags,
+    node: &Node<'_>,
+    line: &[Step],
+) -> Result<Judgement, WorldFault>
+    ensures { IfOk result (λ is. is ≡ judgement_of (flags_in flags) (program_of node.now.program) (place_of node.now) line.now) }
+{
+    let enabled = node.world.enabled(alloc)?;
+    let identities = node.world.errors_among(alloc, enabled.as_slice())?;
+    if !is_clean(flags, identities.as_slice()) {
+        return Ok(Judgement::ErrorFound);
+    }
+    Ok(judge_steps(enabled.as_slice(), node.slept.as_slice(), node.left, line))
+}
