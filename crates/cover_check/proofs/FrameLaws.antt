@@ -1,11 +1,12 @@
 -- The stack of a walk: what a line puts on it, and what a child takes off.
-use Rattle.std.proofs.Common.{◌≡◌, ◌-◌, ℕ, zero, suc, true, List, [], ◌∷◌, ◌++◌, reverse, Option, Some, None, refl, sym, ap, ◌∙◌, subst, arith, append_assoc, append-nil, is_some}
+use Rattle.std.proofs.Common.{◌≡◌, ◌⊎◌, inr, ◌-◌, ℕ, zero, suc, true, List, [], ◌∷◌, ◌++◌, reverse, Option, Some, None, refl, sym, ap, ◌∙◌, subst, arith, append_assoc, append-nil, is_some}
 use Rattle.std.proofs.lemmas.List.{reverse-append, reverse-reverse}
 use Rattle.std.specs.List.{AllByRecursion}
 use Rattle.term_core.specs.declared.step.Step.{Step}
 use Rattle.core_tree.specs.Syntax.{ModuleTree}
 use Rattle.world_model.specs.Asking.{program_of}
 use Rattle.world_model.specs.Events.{Event, History}
+use Rattle.world_model.specs.Names.{IsAmong}
 use Rattle.world_model.specs.Requests.{Program}
 use Rattle.world_model.specs.Run.{next_event, extended, IsRun}
 use Rattle.world_model.specs.Steps.{next_deed}
@@ -13,7 +14,8 @@ use Rattle.world_model.specs.World.{contents}
 use Rattle.world_model.proofs.Histories.{step_is}
 use Rattle.cover_check.specs.Faults.{sleeping, place_after, places_along, places_under}
 use Rattle.cover_check.specs.Judging.{Place}
-use Rattle.cover_check.specs.inside.Frames.{AreFramesOf, FrameSeen, places_of_frame, places_of_frames}
+use Rattle.coverage.specs.Jobs.{asleep_below}
+use Rattle.cover_check.specs.inside.Frames.{AreEnabled, AreFramesOf, FrameSeen, NodeSeen, place_of, places_of_frame, places_of_frames, places_of_root}
 
 some_is : {X : Type 0} (x y : X) → Some x ≡ Some y → x ≡ y
 some_is x y e = cc
@@ -85,3 +87,39 @@ pushed_places m h slept line whole left fs gs some is now =
     ap places_of_frames now
     ∙ frames_push fs (record { program = m; history = h; slept = slept; line = line; left = left - 1 })
     ∙ ap (λ vs. vs ++ places_of_frames fs) (sym (under_some (program_of m) left h slept line some) ∙ ap (places_under (program_of m) left h slept) (sym is))
+
+-- ---- the child that is taken next
+
+-- the node of a step that was taken is the place of that step
+first_place : (a : Program) (n : ℕ) (h : History) (slept : List Step) (s : Step) (v : NodeSeen) → extended h (next_event a h s) ≡ Some v.history → v.slept ≡ sleeping n (asleep_below a h slept s) → v.left ≡ n → place_after n (asleep_below a h slept s) h (next_event a h s) ≡ place_of v ∷ []
+first_place a n h slept s v happens asleep left =
+    place_is n (asleep_below a h slept s) h v.history (next_event a h s) happens
+    ∙ ap (λ (steps : List Step). (let u : Place = record { history = v.history; slept = steps; left = n } in u) ∷ []) (sym asleep)
+    ∙ ap (λ (m : ℕ). (let u : Place = record { history = v.history; slept = v.slept; left = m } in u) ∷ []) (sym left)
+
+-- the places along a line, where the node of its first step is known
+pub next_place : (a : Program) (n : ℕ) (h : History) (slept rest : List Step) (s : Step) (v : NodeSeen) → extended h (next_event a h s) ≡ Some v.history → v.slept ≡ sleeping n (asleep_below a h slept s) → v.left ≡ n → places_along a n h slept (s ∷ rest) ≡ place_of v ∷ places_along a n h (slept ++ s ∷ []) rest
+next_place a n h slept rest s v happens asleep left = ap (λ vs. vs ++ places_along a n h (slept ++ s ∷ []) rest) (first_place a n h slept s v happens asleep left)
+
+pub last_child : (a : Program) (n : ℕ) (h : History) (slept after : List Step) (s : Step) (v : NodeSeen) (vs : List Place) → after ≡ [] → extended h (next_event a h s) ≡ Some v.history → v.slept ≡ sleeping n (asleep_below a h slept s) → v.left ≡ n → places_along a n h slept (s ∷ reverse after) ++ vs ≡ place_of v ∷ vs
+last_child a n h slept after s v vs none happens asleep left =
+    ap (λ steps. places_along a n h slept (s ∷ reverse steps) ++ vs) none
+    ∙ ap (λ us. us ++ vs) (next_place a n h slept [] s v happens asleep left)
+
+-- a line that is gone through from its end, without its last step
+pub without_last : (after others : List Step) (following : Step) → after ≡ others ++ following ∷ [] → reverse after ≡ following ∷ reverse others
+without_last after others following is = ap reverse is ∙ reverse-append others (following ∷ [])
+
+pub other_child : (m : ModuleTree) (n : ℕ) (h : History) (slept more after others : List Step) (s following : Step) (v : NodeSeen) (fs gs : List FrameSeen) → after ≡ others ++ following ∷ [] → more ≡ slept ++ s ∷ [] → gs ≡ fs ++ record { program = m; history = h; slept = more; line = following ∷ reverse others; left = n } ∷ [] → extended h (next_event (program_of m) h s) ≡ Some v.history → v.slept ≡ sleeping n (asleep_below (program_of m) h slept s) → v.left ≡ n → places_along (program_of m) n h slept (s ∷ reverse after) ++ places_of_frames fs ≡ place_of v ∷ places_of_frames gs
+other_child m n h slept more after others s following v fs gs is longer now happens asleep left =
+    ap (λ vs. vs ++ places_of_frames fs) (next_place (program_of m) n h slept (reverse after) s v happens asleep left)
+    ∙ ap (λ vs. place_of v ∷ (vs ++ places_of_frames fs)) (ap (places_along (program_of m) n h (slept ++ s ∷ [])) (without_last after others following is) ∙ ap (λ steps. places_along (program_of m) n h steps (following ∷ reverse others)) (sym longer))
+    ∙ ap (λ vs. place_of v ∷ vs) (sym (ap places_of_frames now ∙ frames_push fs (record { program = m; history = h; slept = more; line = following ∷ reverse others; left = n })))
+
+-- the steps of the other children can be taken too
+pub others_enabled : (a : Program) (h : History) (after others : List Step) (s following : Step) → after ≡ others ++ following ∷ [] → AreEnabled a h (s ∷ reverse after) → AreEnabled a h (following ∷ reverse others)
+others_enabled a h after others s following is able = λ step among. able step (inr (subst (IsAmong step) (sym (without_last after others following is)) among))
+
+-- what a walk leaves, where its next node is that of the frame on top
+pub taken : (all fs gs : List FrameSeen) (f : FrameSeen) (v : Place) (root : Option NodeSeen) → all ≡ fs ++ f ∷ [] → places_of_frame f ++ places_of_frames fs ≡ v ∷ places_of_frames gs → places_of_frames all ++ places_of_root root ≡ v ∷ (places_of_frames gs ++ places_of_root root)
+taken all fs gs f v root is next = ap (λ vs. vs ++ places_of_root root) (ap places_of_frames is ∙ frames_push fs f ∙ next)

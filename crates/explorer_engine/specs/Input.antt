@@ -20,3 +20,7 @@ pub record ReadsMore (source rest : Option (List ℕ)) (old new : List ℕ) (cou
 -- a read has failed, or the source had at least as many bytes as there may be reads, as far as it tells them
 abbrev pub IsUnread : Option (List ℕ) → Bool → Type 0
 IsUnread all failed = (failed ≡ true) ⊎ IfSome all (λ bytes. 2097152 ≤ length bytes)
+
+-- no more was read than the most bytes of an input within its limits: those of the limit, and of one read more
+abbrev pub IsReadWithin : Option (List ℕ) → Option (List ℕ) → Type 0
+IsReadWithin source rest = (read : List ℕ) × Consumes source rest read × (length read ≤ 1114112)

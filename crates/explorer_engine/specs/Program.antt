@@ -1,5 +1,5 @@
 -- What the program does with its words and its three streams.
-use Rattle.std.specs.Prelude.{◌≡◌, ◌⊎◌, ℕ, Bool, true, List, codes, Option, Result, Ok, Err, IfSome, string_bytes}
+use Rattle.std.specs.Prelude.{◌≡◌, ◌⊎◌, ℕ, Bool, true, false, List, codes, Option, Result, Ok, Err, IfSome, string_bytes}
 use Rattle.term_core.specs.Stream.{WritesAll, BreaksOff}
 use Rattle.findings.specs.declared.flags.Flags.{Flags}
 use Rattle.findings.specs.declared.options.Options.{Options}
@@ -53,8 +53,8 @@ CannotBeRead (Replay schedule) input failed = failed ≡ true
 CannotBeRead (Explore options what) input failed = failed ≡ true
 CannotBeRead (Check depth flags) input failed = IsUnread input failed
 
--- what the words ask for was done with the input, of which a read may have failed: what it wrote to the output was flushed, the third stream got the line of a refusal or nothing, and the status is that of its end
-pub record IsRun (words : List (List ℕ)) (input : Option (List ℕ)) (unread : Bool) (output errors : Written) (status : ℕ) : Type 0 where
+-- what the words ask for was done with the input, a read of which may have failed: what it wrote to the output was flushed, the third stream got the line of a refusal or nothing, and the status is that of its end
+pub record IsRun (words : List (List ℕ)) (input : Option (List ℕ)) (failed : Bool) (output errors : Written) (status : ℕ) : Type 0 where
   pub asked : Words
   pub replay : (schedule : List ℕ) → IsReplay words schedule → AsksReplay schedule asked
   pub explore : (options : Options) (what : Printed) → IsExplore words options what → AsksExplore options what asked
@@ -63,7 +63,8 @@ pub record IsRun (words : List (List ℕ)) (input : Option (List ℕ)) (unread :
   pub in_range : IsInRange asked
   pub outcome : Result Verdict RunFault
   pub run : IfSome input (λ bytes. IsDone asked bytes output.old output.new output.failed outcome)
-  pub read_failed : outcome ≡ Err faults.ReadFailed → CannotBeRead asked input unread
+  pub read_failed : outcome ≡ Err faults.ReadFailed → CannotBeRead asked input failed
+  pub sound : (outcome ≡ Err faults.ReadFailed → ⊥) → failed ≡ false
   pub silent : IsRefusedBefore outcome → IsUntouched output
   pub flushed : IsHandedOn outcome output.flushed
   pub reported : IsReported errors outcome
@@ -77,3 +78,7 @@ pub record AreRefused (words : List (List ℕ)) (output errors : Written) : Type
   pub no_replay : (schedule : List ℕ) → IsReplay words schedule → text ≡ codes "error: out of memory\n"
   pub no_exploration : (options : Options) (what : Printed) → IsExplore words options what → text ≡ codes "error: out of memory\n"
   pub no_check : (depth : ℕ) (flags : Flags) → IsCheck words depth flags → text ≡ codes "error: out of memory\n"
+
+-- there was no memory for the words: the output got nothing, and the third stream the parser's text for that
+abbrev pub HaveNoMemory : (output errors : Written) → Type 0
+HaveNoMemory output errors = IsUntouched output × Gets errors (codes "error: out of memory\n")

@@ -44,6 +44,8 @@ pub fn run_check<R: Source, G: Gate, W: Sink>(
     // Whether or not it does.
     ensures silent { IsRefusedBefore result → WritesNothing (W.contents sink.old) (W.contents sink.new) (W.has_failed sink.new) }
     ensures read_failed { result ≡ Err RunFault.ReadFailed → IsUnread (R.remaining source.old) (R.has_failed source.new) }
+    // The source has not failed else.
+    ensures sound { (result ≡ Err RunFault.ReadFailed → ⊥) → R.has_failed source.new ≡ false }
     ensures output_failed { result ≡ Err RunFault.Output → W.has_failed sink.new ≡ true }
     // Status 4 comes where the sink has failed, and only there.
     ensures failed { W.has_failed sink.new ≡ (status_of result == 4) }

@@ -1,7 +1,8 @@
 // An exploration of the program, from the bytes that it is given to the report that it writes.
-ghost use Rattle.std.specs.Prelude.{◌≡◌, ◌==◌, ◌≤◌, true, false, IfSome, Err};
+ghost use Rattle.std.specs.Prelude.{◌≡◌, ◌==◌, ◌≤◌, true, false, IfSome, OnOk, Err};
 ghost use Rattle.explorer_engine.specs.Engine.{IsRefusedBefore, IsHandedOn, WritesNothing};
 ghost use Rattle.explorer_engine.specs.Explored.{IsCleanIfSaid, IsExplorationOf};
+ghost use Rattle.explorer_engine.specs.Input.{IsReadWithin};
 ghost use Rattle.explorer_engine.specs.Status.{status_of};
 
 use crate::input::read_input;
@@ -50,6 +51,9 @@ pub fn run_explore<T: Threads + Wait + Sync, R: Source, G: Gate + Sync, W: Sink>
     // Whether or not it does.
     ensures silent { IsRefusedBefore result → WritesNothing (W.contents sink.old) (W.contents sink.new) (W.has_failed sink.new) }
     ensures read_failed { result ≡ Err RunFault.ReadFailed → R.has_failed source.new ≡ true }
+    // The source has not failed else.
+    ensures sound { (result ≡ Err RunFault.ReadFailed → ⊥) → R.has_failed source.new ≡ false }
+    ensures reads { OnOk result (IsReadWithin (R.remaining source.old) (R.remaining source.new)) }
     ensures output_failed { result ≡ Err RunFault.Output → W.has_failed sink.new ≡ true }
     // Status 4 comes where the sink has failed, and only there.
     ensures failed { W.has_failed sink.new ≡ (status_of result == 4) }

@@ -44,7 +44,8 @@ pub fn read_input<R: Source>(alloc: Global, source: &mut R) -> Result<Vec<u8>, I
     requires { R.has_failed source.old ≡ false }
     // All that the source had, or where that is more than a module may have, a beginning that is too.
     ensures input { IfOk result (λ read. IfSome (R.remaining source.old) (λ all. IsInputOf 1048576 all read.items)) }
-    // However long the source is.
+    // And nothing behind it, however long the source is.
+    ensures consumed { IfOk result (λ read. Consumes (R.remaining source.old) (R.remaining source.new) read.items) }
     ensures bound { IfOk result (λ read. vec_len read ≤ 1114112) }
     ensures sound { OnOk result (R.has_failed source.new ≡ false) }
     ensures read_failed { IsErrOf result InputFault.ReadFailed → R.has_failed source.new ≡ true }
@@ -88,6 +89,7 @@ fn read_through<R: Source>(
 pub fn read_whole<R: Source>(alloc: Global, source: &mut R) -> Result<Vec<u8>, InputFault>
     requires { R.has_failed source.old ≡ false }
     ensures input { IfOk result (λ read. IfSome (R.remaining source.old) (λ all. read.items ≡ all)) }
+    ensures end { OnOk result (IsAtEnd (R.remaining source.new)) }
     ensures sound { OnOk result (R.has_failed source.new ≡ false) }
     // The reads are used up only where the source had at least as many bytes.
     ensures read_failed { IsErrOf result InputFault.ReadFailed → IsUnread (R.remaining source.old) (R.has_failed source.new) }

@@ -18,6 +18,6 @@ pub use engine::run_replay;
 pub use explore::run_explore;
 pub use fault_text::write_fault;
 pub use input::{INPUT_LIMIT, InputFault, PIECE_LIMIT, READ_LIMIT, read_input, read_whole};
-pub use program::{WORDS_REFUSED, run};
+pub use program::{WORDS_REFUSED, run, run_to_exit};
 pub use replay_core::ReplayFault;
 pub use verdict::{RunFault, Verdict, status};

@@ -1,10 +1,10 @@
 // The whole program over its three streams, from its words to its exit status.
-ghost use Rattle.std.specs.Prelude.{◌≡◌, ◌≢◌, ◌==◌, ℕ, List, IfSome, false, codes, map, Err};
+ghost use Rattle.std.specs.Prelude.{◌≡◌, ◌≢◌, ◌==◌, ℕ, List, None, IfSome, false, codes, map, Err};
 ghost use Rattle.clap.specs.Values.{kind_of};
 ghost use Rattle.term_core.specs.Stream.{Writes};
 ghost use Rattle.command_words.specs.Words.{IsInRange};
 ghost use Rattle.explorer_engine.specs.Engine.{IsRefusedBefore, IsHandedOn, WritesNothing};
-ghost use Rattle.explorer_engine.specs.Program.{IsDone, IsRun, IsReported, AreRefused, CannotBeRead, written};
+ghost use Rattle.explorer_engine.specs.Program.{IsDone, IsRun, IsReported, AreRefused, CannotBeRead, HaveNoMemory, written};
 ghost use Rattle.explorer_engine.specs.Status.{status_of};
 
 use crate::check::run_check;
@@ -18,6 +18,7 @@ use command_words::{Words, read_words};
 use search_crew::Gate;
 use std::alloc::Global;
 use std::convert::AsStr;
+use std::process::ExitCode;
 use std::sync::Wait;
 use std::thread::Threads;
 use term_core::{Sink, Source, WriteFault, write_all};
@@ -27,6 +28,51 @@ pub const WORDS_REFUSED: u8 = 64;
 
 /// What is written where there was no memory for the words: the parser's own text.
 pub const NO_MEMORY_FOR_WORDS: &[u8] = b"error: out of memory\n";
+
+/// The whole program: does what its words ask for, as `run` does, and gives the exit code of that status. There are no
+/// words where there was no memory for them: then nothing is read, the third stream gets the parser's text for that, and
+/// the status is 64.
+pub fn run_to_exit<
+    T: Threads + Wait + Sync,
+    S: AsStr + Drop,
+    R: Source,
+    W: Sink,
+    E: Sink,
+    G: Gate + Sync,
+>(
+    rt: &T,
+    alloc: Global,
+    words: Option<Vec<S>>,
+    input: &mut R,
+    output: &mut W,
+    errors: &mut E,
+    gate: &G,
+) -> ExitCode
+    requires readable { R.has_failed input.old ≡ false }
+    requires writable { W.has_failed output.old ≡ false }
+    requires reportable { E.has_failed errors.old ≡ false }
+    ensures run { exit_status result ≢ 64 → IfSome words.entry (λ words. IsRun (map S.text words.items) (R.remaining input.old) (R.has_failed input.new)
+        (written W.contents W.has_failed W.is_flushed output.old output.new)
+        (written E.contents E.has_failed E.is_flushed errors.old errors.new) (exit_status result)) }
+    ensures refused { exit_status result ≡ 64 → IfSome words.entry (λ words. AreRefused (map S.text words.items)
+        (written W.contents W.has_failed W.is_flushed output.old output.new)
+        (written E.contents E.has_failed E.is_flushed errors.old errors.new)) }
+    ensures no_words { words.entry ≡ None → (exit_status result ≡ 64)
+        × HaveNoMemory (written W.contents W.has_failed W.is_flushed output.old output.new) (written E.contents E.has_failed E.is_flushed errors.old errors.new) }
+    // Nothing is read where the words were refused.
+    ensures unread { exit_status result ≡ 64 → (R.remaining input.new ≡ R.remaining input.old) × (R.has_failed input.new ≡ false) }
+    // Status 4 comes where the output has failed, at a write or at the flush, and only there.
+    ensures failed { W.has_failed output.new ≡ (exit_status result == 4) }
+{
+    let status = match words {
+        Some(words) => run(rt, alloc, words.as_slice(), input, output, errors, gate),
+        None => {
+            let _ = write_all(errors, NO_MEMORY_FOR_WORDS);
+            WORDS_REFUSED
+        }
+    };
+    ExitCode::from(status)
+}
 
 /// Does what the words of a command line ask for, of which the first is the program's name, and gives
 /// the exit status: replays a schedule in the module that the input has, or explores its schedules, or checks the cover
@@ -51,6 +97,8 @@ pub fn run<T: Threads + Wait + Sync, S: AsStr, R: Source, W: Sink, E: Sink, G: G
     ensures refused { result ≡ 64 → AreRefused (map S.text words.now)
         (written W.contents W.has_failed W.is_flushed output.old output.new)
         (written E.contents E.has_failed E.is_flushed errors.old errors.new) }
+    // Nothing is read then.
+    ensures unread { result ≡ 64 → (R.remaining input.new ≡ R.remaining input.old) × (R.has_failed input.new ≡ false) }
     // Status 4 comes where the output has failed, at a write or at the flush, and only there.
     ensures failed { W.has_failed output.new ≡ (result == 4) }
 {
@@ -80,6 +128,7 @@ fn run_asked<T: Threads + Wait + Sync, R: Source, G: Gate + Sync, W: Sink>(
     requires range { IsInRange asked.now }
     ensures run { IfSome (R.remaining input.old) (λ bytes. IsDone asked.now bytes (W.contents output.old) (W.contents output.new) (W.has_failed output.new) result) }
     ensures read_failed { result ≡ Err RunFault.ReadFailed → CannotBeRead asked.now (R.remaining input.old) (R.has_failed input.new) }
+    ensures sound { (result ≡ Err RunFault.ReadFailed → ⊥) → R.has_failed input.new ≡ false }
     ensures silent { IsRefusedBefore result → WritesNothing (W.contents output.old) (W.contents output.new) (W.has_failed output.new) }
     ensures failed { W.has_failed output.new ≡ (status_of result == 4) }
     ensures flushed { IsHandedOn result (W.is_flushed output.new) }

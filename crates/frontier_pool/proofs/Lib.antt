@@ -1,4 +1,5 @@
 pub mod Places
+mod Handing
 pub mod Jobs
 pub mod Legal
 pub mod Sums

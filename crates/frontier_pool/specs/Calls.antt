@@ -51,6 +51,13 @@ entries_in Idle = 0
 entries_in Finished = 0
 entries_in Stopped = 0
 
+-- what is handed out is the job that its ticket names; tickets are numbered from 1
+abbrev pub IsOfItsTicket : Taken → Type 0
+IsOfItsTicket (Work ticket job) = (1 ≤ ticket.number) × IsJobOf job.exploration ticket job
+IsOfItsTicket Idle = Unit {0}
+IsOfItsTicket Finished = Unit {0}
+IsOfItsTicket Stopped = Unit {0}
+
 -- ---- stop
 
 -- the first cause stays
@@ -96,6 +103,12 @@ abbrev pub RefusesTo : Seen → TicketSeen → PieceSeen → GiveFault → Seen 
 RefusesTo s ticket piece (StrangeTicket back) t = (t ≡ s) × (back ≡ piece) × (Contains s.standing.out ticket → ⊥)
 RefusesTo s ticket piece (StrangePiece back) t = (t ≡ s) × (back ≡ piece) × Contains s.standing.out ticket × (IsFor s.exploration ticket piece → ⊥)
 RefusesTo s ticket piece refused.Memory t = (t ≡ stopped_seen s) × Contains s.standing.out ticket × IsFor s.exploration ticket piece
+
+-- a piece that is refused comes back
+abbrev pub HandsBack : PieceSeen → GiveFault → Type 0
+HandsBack piece (StrangeTicket back) = back ≡ piece
+HandsBack piece (StrangePiece back) = back ≡ piece
+HandsBack piece refused.Memory = Unit {0}
 
 -- ---- finish
 

@@ -1,6 +1,6 @@
 // A pool behind a lock.
-ghost use Rattle.std.specs.Prelude.{◌≡◌, ◌+◌, IfOk, OnOk, OnErr};
-ghost use Rattle.frontier_pool.specs.Calls.{entries_in};
+ghost use Rattle.std.specs.Prelude.{◌≡◌, ◌+◌, IfOk, IfErr, OnOk, OnErr};
+ghost use Rattle.frontier_pool.specs.Calls.{HandsBack, IsOfItsTicket, entries_in};
 
 use crate::answer::{GiveFault, Taken};
 use crate::seat::{PoolName, Seat};
@@ -36,6 +36,7 @@ impl<'m, N: PoolName> Pool<'m, N> {
         alloc: Global,
         seat: &mut Seat<N>,
     ) -> Result<Taken<'m>, AllocError>
+        ensures of_ticket { IfOk result IsOfItsTicket }
         ensures entered { IfOk result (λ taken. seat.new ≡ seat.old + entries_in taken) }
         ensures refused { OnErr result (seat.new ≡ seat.old) }
     {
@@ -48,7 +49,7 @@ impl<'m, N: PoolName> Pool<'m, N> {
     ///
     /// # Errors
     ///
-    /// Those of the pool's state; the seat is unchanged.
+    /// Those of the pool's state: a piece that is refused comes back, and the seat is unchanged.
     pub fn give<R: Wait>(
         &self,
         rt: &R,
@@ -57,6 +58,7 @@ impl<'m, N: PoolName> Pool<'m, N> {
         piece: Piece<'m>,
     ) -> Result<(), GiveFault<'m>>
         ensures entered { OnOk result (seat.new ≡ seat.old + 1) }
+        ensures back { IfErr result (HandsBack piece.entry) }
         ensures refused { OnErr result (seat.new ≡ seat.old) }
     {
         let given = self.state.lock(rt).give(seat, ticket, piece);

@@ -1,8 +1,9 @@
 // The words of the command line.
-use explorer_engine::{NAME, Printed, Words, read_words, run};
+use explorer_engine::{NAME, Printed, Words, read_words, run, run_to_exit};
 use sleep_tree::Unwatched;
+use std::process::ExitCode;
 use std::test::Fail;
-use test_support::{MemorySink, MemorySource};
+use test_support::{MemorySink, MemorySource, same};
 
 // Blanks stand as they are.
 #[test]
@@ -169,6 +170,47 @@ fn reports_other_words(rt: HostRuntime) -> Result<(), Fail> {
         };
         let text = format!(in rt.alloc(); "{error}")?;
         assert_eq!(rt; errors.bytes.as_slice(), text.as_bytes());
+    }
+    Ok(())
+}
+
+// A process that ends at once.
+const ENDS: &[u8] = b"module 'm' ['main'/0] attributes [] 'main'/0 = fun () -> 'ok' end";
+
+// The last word, if there was memory for the words; then the status, the output, and what the third stream gets.
+const EXITS: [(Option<&str>, u8, &[u8], &[u8]); 3] = [
+    (Some("P"), 0, b"1 P ends 'normal'\n", b""),
+    (
+        Some("P P"),
+        2,
+        b"1 P ends 'normal'\n",
+        b"replay: 1 NotEnabled at step 2\n",
+    ),
+    (None, 64, b"", b"error: out of memory\n"),
+];
+
+#[test]
+fn gives_the_status_as_an_exit_code(rt: HostRuntime) -> Result<(), Fail> {
+    for (schedule, status, lines, line) in EXITS {
+        let mut words = None;
+        if let Some(schedule) = schedule {
+            words = Some(vec![in rt.alloc(); NAME, "replay", schedule]?);
+        }
+        let mut input = MemorySource::new(ENDS);
+        let mut output = MemorySink::with_room(rt.alloc(), 100)?;
+        let mut errors = MemorySink::with_room(rt.alloc(), 100)?;
+        let exit = run_to_exit(
+            &rt,
+            rt.alloc(),
+            words,
+            &mut input,
+            &mut output,
+            &mut errors,
+            &Unwatched,
+        );
+        assert!(rt; exit == ExitCode::from(status));
+        same(output.bytes.as_slice(), lines)?;
+        same(errors.bytes.as_slice(), line)?;
     }
     Ok(())
 }

@@ -1,12 +1,14 @@
 -- What a flush at the end makes of a replay.
-use Rattle.std.proofs.Common.{◌≡◌, ℕ, Bool, true, List, [], Option, sym, append-nil}
+use Rattle.std.proofs.Common.{◌≡◌, ℕ, ◌+◌, Bool, true, List, [], take, drop, length, Option, sym, append-nil}
 use Rattle.std.specs.Prelude.{Result, Ok, Err}
 use Rattle.std.specs.Io.KnownBytes.{Keeps}
 use Rattle.std.proofs.KnownBytes.{Appends-kept}
 use Rattle.world_model.specs.Requests.{Program}
 use Rattle.term_core.specs.Stream.{AppendsBeginning, WritesAll}
 use Rattle.term_core.specs.declared.step.Step.{Step}
-use Rattle.replay_core.specs.Replay.{Replays, transcript}
+use Rattle.replay_core.specs.Replay.{Replays, reached_on, transcript}
+use Rattle.replay_core.proofs.Lines.{lines_on}
+use Rattle.replay_core.proofs.WholeLines.{transcript_parts}
 use Rattle.replay_core.specs.declared.replay_fault.ReplayFault.{ReplayFault}
 use Rattle.replay_core.specs.declared.replay_fault.ReplayFault.TheVariants as replay
 
@@ -24,7 +26,7 @@ pub flushed : (a : Program) (steps : List Step) (old mid new : Option (List ℕ)
     → Replays a steps old mid failed r → Keeps mid new → Replays a steps old new failed r
 flushed a steps old mid new failed (Ok done) h k = (h.0, all_kept old mid new failed (transcript a steps) h.1 k)
 flushed a steps old mid new failed (Err (replay.NotEnabled place)) h k = (h.0, all_kept old mid new failed (transcript a steps) h.1 k)
-flushed a steps old mid new failed (Err replay.Memory) h k = (h.0, beginning_kept old mid new (transcript a steps) h.1 k)
+flushed a steps old mid new failed (Err replay.Memory) h k = (h.0, (h.1, all_kept old mid new failed (transcript a (take h.0 steps)) h.2 k))
 flushed a steps old mid new failed (Err replay.Write) h k = record { beginning = beginning_kept old mid new (transcript a steps) h.beginning k; fault = h.fault }
 
 -- all that a replay wrote is a beginning of its lines
@@ -32,7 +34,7 @@ begun : (a : Program) (steps : List Step) (old mid : Option (List ℕ)) (failed 
     → Replays a steps old mid failed r → AppendsBeginning old mid (transcript a steps)
 begun a steps old mid failed (Ok done) h = all_begun old mid failed (transcript a steps) h.1
 begun a steps old mid failed (Err (replay.NotEnabled place)) h = all_begun old mid failed (transcript a steps) h.1
-begun a steps old mid failed (Err replay.Memory) h = h.1
+begun a steps old mid failed (Err replay.Memory) h = record { written = transcript a (take h.0 steps); unwritten = lines_on a (reached_on a [] (take h.0 steps)) (length (reached_on a [] (take h.0 steps)) + 1) (drop h.0 steps); parts = transcript_parts a steps h.0 h.1; appends = h.2.appends }
 begun a steps old mid failed (Err replay.Write) h = h.beginning
 
 -- a replay whose flush failed has output that failed

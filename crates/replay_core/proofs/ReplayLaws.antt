@@ -10,37 +10,11 @@ use Rattle.term_core.specs.inside.Writing.{Owes, owes_all, owes_same, owes_less,
 use Rattle.world_model.specs.Events.{Event, History}
 use Rattle.world_model.specs.Run.{next_event}
 use Rattle.report_text.specs.EventText.{text_of_event, text_of_events}
-use Rattle.replay_core.specs.Replay.{with_next, reached_on, stop_on, stop, transcript, Replays, ReplaysStep}
+use Rattle.replay_core.specs.Replay.{with_next, stop_on, stop, transcript, Replays, ReplaysStep}
 use Rattle.replay_core.specs.declared.replay_fault.ReplayFault.{ReplayFault}
 use Rattle.replay_core.specs.declared.replay_fault.ReplayFault.TheVariants.{NotEnabled, Memory, Write}
-
--- the line of the next event and what follows it
-abbrev pub line_and : ℕ → (History → List ℕ) → History → Option Event → List ℕ
-line_and number go h None = []
-line_and number go h (Some e) = text_of_event number e ++ go (e ∷ h)
-
--- the lines of steps that follow a history, numbered from there on
-abbrev pub lines_on : Program → History → ℕ → List Step → List ℕ
-lines_on a h number [] = []
-lines_on a h number (step ∷ steps) = line_and number (λ g. lines_on a g (number + 1) steps) h (next_event a h step)
-
--- the same at the next event, where it is so of what follows
-follow_by : (a : Program) (h : History) (number : ℕ) (steps : List Step) → number ≡ length h + 1
-    → ((event : Event) → text_of_events (reached_on a (event ∷ h) steps) ≡ text_of_events (event ∷ h) ++ lines_on a (event ∷ h) (number + 1) steps)
-    → (o : Option Event) → text_of_events (with_next (λ g. reached_on a g steps) h h o) ≡ text_of_events h ++ line_and number (λ g. lines_on a g (number + 1) steps) h o
-follow_by a h number steps e rest None = sym (append-nil (text_of_events h))
-follow_by a h number steps e rest (Some event) =
-    rest event
-    ∙ append_assoc (text_of_events h) (text_of_event (length h + 1) event) (lines_on a (event ∷ h) (number + 1) steps)
-    ∙ ap (λ n. text_of_events h ++ (text_of_event n event ++ lines_on a (event ∷ h) (number + 1) steps)) (sym e)
-
-next_number : (h : History) (event : Event) (number : ℕ) → number ≡ length h + 1 → number + 1 ≡ length (event ∷ h) + 1
-next_number h event number e = omega (arith, e)
-
--- the lines of the history, and then the others
-pub lines_follow : (a : Program) (h : History) (number : ℕ) (steps : List Step) → number ≡ length h + 1 → text_of_events (reached_on a h steps) ≡ text_of_events h ++ lines_on a h number steps
-lines_follow a h number [] e = sym (append-nil (text_of_events h))
-lines_follow a h number (step ∷ steps) e = follow_by a h number steps e (λ event. lines_follow a (event ∷ h) (number + 1) steps (next_number h event number e)) (next_event a h step)
+use Rattle.replay_core.proofs.Lines.{line_and, lines_follow, lines_on}
+use Rattle.replay_core.proofs.WholeLines.{AreWritten, are_whole, none_written, one_written}
 
 -- so far each step was enabled and its line written; the rest is owed
 pub record SoFar (a : Program) (steps : List Step) (start now : Option (List ℕ)) (failed : Bool) (program : Program) (h : History) (spent : Bool) (i : ℕ) : Type 0 where
@@ -49,6 +23,7 @@ pub record SoFar (a : Program) (steps : List Step) (start now : Option (List ℕ
   pub same : program ≡ a
   pub owes : Owes start now (lines_on a h (i + 1) (drop i steps)) (transcript a steps)
   pub stops : stop a steps ≡ stop_on a h (i + 1) (drop i steps)
+  pub whole : AreWritten a steps start now h i
 
 pub begins : (a : Program) (steps : List Step) (start : Option (List ℕ)) (failed : Bool) → failed ≡ false → SoFar a steps start start failed a [] false 0
 begins a steps start failed sound = record {
@@ -57,6 +32,7 @@ begins a steps start failed sound = record {
   same = refl;
   owes = owes_same start start (transcript a steps) (lines_on a [] 1 steps) (transcript a steps) (lines_follow a [] 1 steps refl) (owes_all start (transcript a steps));
   stops = refl;
+  whole = none_written a steps start;
 }
 
 -- the lines and the stop, where the next step is known
@@ -89,6 +65,7 @@ goes_on a steps start now new failed failed' program program' h later spent spen
           (owes_less start now new (text_of_event (i + 1) took.0) (lines_on a (took.0 ∷ h) (i + 1 + 1) (drop (i + 1) steps)) (transcript a steps)
           (owes_same start now _ _ (transcript a steps) (lines_at a h steps i step (Some took.0) within at next) so.owes) took.3.appends);
       stops = so.stops ∙ stop_at a h steps i step (Some took.0) within at next ∙ ap (λ (g : History). stop_on a g (i + 1 + 1) (drop (i + 1) steps)) (sym took.2);
+      whole = one_written a steps start now new h later i step took.0 so.whole within at next took.2 took.3.appends;
     }
 
 -- a step at which the replay stops
@@ -103,7 +80,7 @@ stops_there a steps start now new failed failed' program h later spent i step (N
       subst (λ (n : Option (List ℕ)). WritesAll start n failed' (transcript a steps)) (sym took.2) (owes_nothing start now failed' (transcript a steps) done took.3),
     )
 stops_there a steps start now new failed failed' program h later spent i step Memory so within at took =
-    (took.1, so.owes.breaks new (record { written = []; unwritten = lines_on a h (i + 1) (drop i steps); parts = refl; appends = subst (λ (n : Option (List ℕ)). Appends now n []) (sym took.0) (appends_none now) }))
+    (i, (so.whole.runs, record { appends = are_whole a steps start now new h i so.whole took.0; sound = took.1 }))
 stops_there a steps start now new failed failed' program h later spent i step Write so within at took =
     let next : next_event a h step ≡ Some took.0 = ap (λ p. next_event p h step) (sym so.same) ∙ took.1 in
     owes_break_in start now new failed' (text_of_event (i + 1) took.0) (lines_on a (took.0 ∷ h) (i + 1 + 1) (drop (i + 1) steps)) (transcript a steps)

@@ -1,7 +1,7 @@
 -- What a replay of a schedule comes to: as far as its steps are enabled.
 use Rattle.std.specs.Prelude.{◌≡◌, ℕ, ◌+◌, Bool, false, List, [], ◌∷◌, take, Option, Some, None, Result, Ok, Err}
 use Rattle.world_model.specs.Requests.{Program}
-use Rattle.term_core.specs.Stream.{AppendsBeginning, WritesAll, BreaksOff}
+use Rattle.term_core.specs.Stream.{WritesAll, BreaksOff}
 use Rattle.term_core.specs.declared.step.Step.{Step}
 use Rattle.world_model.specs.Events.{Event, History}
 use Rattle.world_model.specs.Run.{next_event, run}
@@ -36,11 +36,11 @@ stop a steps = stop_on a [] 1 steps
 abbrev pub transcript : Program → List Step → List ℕ
 transcript a steps = text_of_events (reached a steps)
 
--- a replay wrote the whole transcript and came to its end or to the step that is not enabled, or it broke off within it: for lack of memory, or where the sink has failed
+-- a replay wrote the whole transcript and came to its end or to the step that is not enabled; or memory was wanting, and it wrote the lines of the steps that it took; or it broke off within a line, where the sink has failed
 abbrev pub Replays : Program → List Step → (old new : Option (List ℕ)) → Bool → Result (Unit {0}) ReplayFault → Type 0
 Replays a steps old new failed (Ok done) = (stop a steps ≡ None) × WritesAll old new failed (transcript a steps)
 Replays a steps old new failed (Err (NotEnabled place)) = (stop a steps ≡ Some place) × WritesAll old new failed (transcript a steps)
-Replays a steps old new failed (Err Memory) = (failed ≡ false) × AppendsBeginning old new (transcript a steps)
+Replays a steps old new failed (Err Memory) = (n : ℕ) × (stop a (take n steps) ≡ None) × WritesAll old new failed (transcript a (take n steps))
 Replays a steps old new failed (Err Write) = BreaksOff old new failed (transcript a steps)
 
 -- one step was replayed in a world: its event was added and its line written; or it is not enabled and nothing was written; or memory was wanting; or the line broke off

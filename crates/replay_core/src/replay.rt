@@ -1,5 +1,7 @@
 // The replay of one schedule.
 ghost use Rattle.std.specs.Prelude.{◌≡◌, ℕ, true, false, List, None, Some, OnOk};
+ghost use Rattle.term_core.specs.Schedule.{AreLawful};
+ghost use Rattle.term_core.specs.Text.{text_of_schedule};
 ghost use Rattle.term_core.specs.declared.step.Step.{Step};
 ghost use Rattle.world_core.specs.Seen.{program_in};
 ghost use Rattle.world_model.specs.Asking.{program_of};
@@ -21,14 +23,20 @@ pub fn replays_are_runs()
     ensures part { (a : Program) (steps : List Step) (place : ℕ) → stop a steps ≡ Some place → StopsAt a steps place (reached a steps) }
 {}
 
+/// A text is that of at most one schedule.
+pub fn texts_say_one_schedule()
+    ensures { (text : List ℕ) (steps others : List Step) → AreLawful steps → AreLawful others → text ≡ text_of_schedule steps → text ≡ text_of_schedule others → steps ≡ others }
+{}
+
 /// Takes the steps of a schedule one after another in a new world of the module, and writes the line
 /// of each event as it happens.
 ///
 /// # Errors
 ///
 /// `NotEnabled` at the first step that is not enabled, by its place in the schedule from 1, and then
-/// the lines of the steps before it were written; `Memory` where memory ran out, and `Write` where
-/// the sink failed: then a beginning of the lines was written.
+/// the lines of the steps before it were written; `Memory` where memory ran out, and then the lines of
+/// the steps that were taken were written, each whole; `Write` where the sink failed: then a beginning
+/// of the lines was written.
 pub fn replay<W: Sink>(
     alloc: Global,
     program: &Module,

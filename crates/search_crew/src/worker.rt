@@ -33,7 +33,8 @@ fn expand_one<'m, N: PoolName, R: Wait, G: Gate>(
     budget: u64,
     gate: &G,
 ) -> Progress
-    requires { 1 ≤ budget }
+    requires budget { 1 ≤ budget }
+    requires numbered { 1 ≤ ticket.now.number }
 {
     let Ok(piece) = expand(alloc, job, budget, gate) else {
         pool.stop(rt);

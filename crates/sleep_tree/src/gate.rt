@@ -1,12 +1,14 @@
 // What a caller sees of the work.
+ghost use Rattle.std.specs.Prelude.{◌≤◌};
 
 /// What is told of the work while it is done. Its calls return.
 pub trait Gate {
     /// A node is about to be visited, for the ticket of this number.
     fn turn(&self, ticket: u64);
 
-    /// A piece was given back for the ticket of this number.
-    fn given(&self, ticket: u64);
+    /// A piece was given back for the ticket of this number; tickets are numbered from 1.
+    fn given(&self, ticket: u64)
+        requires { 1 ≤ ticket };
 }
 
 /// A gate that does nothing: nobody watches the work.

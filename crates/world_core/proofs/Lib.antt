@@ -4,3 +4,4 @@ pub mod Showing
 pub mod Worlds
 pub mod Runs
 pub mod Turns
+mod Deadlocks

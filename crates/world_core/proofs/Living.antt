@@ -1,5 +1,5 @@
 -- The processes that live are those of the records, in their order.
-use Rattle.std.proofs.Common.{◌≡◌, ◌∙◌, inl, inr, Bool, true, false, ◌||◌, List, [], ◌∷◌, Some, None, refl, sym, ap, if◌then◌else◌, true≢false, is_some, option_map, map}
+use Rattle.std.proofs.Common.{◌≡◌, ◌∙◌, inl, inr, Bool, true, false, ◌||◌, List, [], ◌∷◌, Some, None, refl, sym, ap, if◌then◌else◌, subst, true≢false, is_some, option_map, map}
 use Rattle.std.proofs.lemmas.Cmp.{tied_itself}
 use Rattle.std.specs.BTreeMap.{is_at}
 use Rattle.std.specs.Cmp.Lexicographic.{nat_list_cmp_total}
@@ -15,7 +15,7 @@ use Rattle.world_model.specs.Events.{event, History, RanAway}
 use Rattle.world_model.specs.Names.{Pid, IsAmong}
 use Rattle.world_model.specs.Run.{is_enabled, enabled_steps, living, possible_steps, turn_of}
 use Rattle.world_model.specs.StepLaws.{ComesBefore, AreInOrder}
-use Rattle.world_model.specs.World.{contents}
+use Rattle.world_model.specs.World.{alive, contents}
 use Rattle.world_model.proofs.Opened.{enabled_listed, listed_enabled, listed_in_order}
 use Rattle.coverage.proofs.Steps as steps
 use Rattle.coverage.proofs.Steps.{everyone, living_in}
@@ -126,3 +126,30 @@ living_are h ps sorted lives =
     (found_there h ps lives)
     (found_here h ps lives) in
     sym (turns_back ps) ∙ ap (filter_map turn_of) same ∙ turns_back (filter_map turn_of open_) ∙ sym (living_in h (possible_steps h))
+
+-- ---- the list of those that live
+
+living_turns : (h : History) → turns_of (living h) ≡ turns_among (enabled_steps everyone h)
+living_turns h = ap turns_of (living_in h (possible_steps h))
+
+pub listed_alive : (h : History) (p : Pid) → IsAmong p (living h) → alive h p ≡ true
+listed_alive h p there =
+    let turn : IsAmong (Turn p) (turns_among (enabled_steps everyone h)) = subst (IsAmong (Turn p)) (living_turns h) (turn_among p (living h) there) in
+    lives_if p (contents h (Alive p)) (listed_enabled everyone h (Turn p) (was_among (Turn p) (enabled_steps everyone h) turn))
+
+pub alive_listed : (h : History) (p : Pid) → alive h p ≡ true → IsAmong p (living h)
+alive_listed h p lives =
+    let turn : IsAmong (Turn p) (turns_among (enabled_steps everyone h)) = stays_among p (enabled_steps everyone h) (enabled_listed everyone h (Turn p) (turns_if p (contents h (Alive p)) lives)) in
+    among_turns p (living h) (subst (IsAmong (Turn p)) (sym (living_turns h)) turn)
+
+below_all : (p : Pid) (ps : List Pid) → ComesBefore (Turn p) (turns_of ps) → AllByRecursion (λ q. order_of_lists p q ≡ Less) ps
+below_all p [] before = tt
+below_all p (q ∷ qs) before = (before.0, below_all p qs before.1)
+
+sorted_back : (ps : List Pid) → AreInOrder (turns_of ps) → IsStrictlySortedBy order_of_lists ps
+unfolding IsStrictlySortedBy
+sorted_back [] sorted = tt
+sorted_back (p ∷ ps) sorted = (below_all p ps sorted.0, sorted_back ps sorted.1)
+
+pub living_sorted : (h : History) → IsStrictlySortedBy order_of_lists (living h)
+living_sorted h = sorted_back (living h) (subst AreInOrder (sym (living_turns h)) (turns_sorted (enabled_steps everyone h) (listed_in_order everyone h)))

@@ -42,8 +42,8 @@ goes_on old mid new steps i step within at runs same grown =
 
 -- or stops there
 pub stopped : (old mid new : Seen) (steps : List Step) (i : ℕ) (step : Step) (fault : WorldFault) → i < length steps → get_or steps i step ≡ step → RunsTo (program_in old) old.history (take i steps) mid.history → mid.program ≡ old.program → mid.spent ≡ false
-    → (fault ≡ NotEnabled → next_event (program_in mid) mid.history step ≡ None) → (fault ≡ NotEnabled → new ≡ mid) → (fault ≡ Memory → new.spent ≡ true) → IsStopped old steps (i + 1) fault new
-stopped old mid new steps i step NotEnabled within at runs same sound none kept spent = (
+    → (fault ≡ NotEnabled → next_event (program_in mid) mid.history step ≡ None) → (fault ≡ NotEnabled → new ≡ mid) → (fault ≡ Memory → new.spent ≡ true) → new.history ≡ mid.history → IsStopped old steps (i + 1) fault new
+stopped old mid new steps i step NotEnabled within at runs same sound none kept spent stays = (
   record {
     before = i;
     counted = refl;
@@ -52,4 +52,4 @@ stopped old mid new steps i step NotEnabled within at runs same sound none kept 
   },
   ap (λ (w : Seen). w.spent) (kept refl) ∙ sound,
 )
-stopped old mid new steps i step Memory within at runs same sound none kept spent = spent refl
+stopped old mid new steps i step Memory within at runs same sound none kept spent stays = (record { before = i; counted = refl; runs = runs ∙ ap (λ (h : History). Some h) (sym stays) }, spent refl)

@@ -10,12 +10,11 @@ use Rattle.term_core.specs.declared.step.Step.{Step}
 use Rattle.term_core.specs.declared.step.Step.TheVariants.{Turn, Deliver}
 use Rattle.core_tree.specs.Syntax.{ModuleTree}
 use Rattle.proc_machines.specs.Processes.{lives_in, turns_in}
-use Rattle.world_model.specs.Asking.{program_of}
 use Rattle.world_model.specs.Events as events
 use Rattle.world_model.specs.Events.{History}
 use Rattle.world_model.specs.Names.{Pid}
-use Rattle.world_model.specs.Run.{enabled_steps, latest, living}
-use Rattle.world_model.specs.Shown.{deadlock_of, request_in, shown, shown_by, shown_last}
+use Rattle.world_model.specs.Run.{latest, living}
+use Rattle.world_model.specs.Shown.{deadlock_of, request_in, shown_by, shown_last}
 use Rattle.world_model.specs.World.{contents, turns}
 use Rattle.world_records.specs.Records.{Agrees, processes_of}
 use Rattle.world_records.specs.declared.records.Records.{Records}
@@ -49,14 +48,14 @@ told_copied (Some event) = refl
 pub not_empty : (steps : List Step) → false ≡ (length steps == 0) → steps ≡ [] → ⊥
 not_empty steps some none = false≢true (some ∙ ap (λ xs. length xs == 0) none)
 
-same_dead : (enabled open_ : List Step) (ps qs : List Pid) → enabled ≡ open_ → (enabled ≡ [] → ps ≡ qs) → deadlock_of enabled ps ≡ deadlock_of open_ qs
-same_dead [] open_ ps qs is same = λ i. deadlock_of (is i) (same refl i)
-same_dead (step ∷ steps) open_ ps qs is same = ap (λ e. deadlock_of e qs) is
+same_dead : (enabled : List Step) (ps qs : List Pid) → (enabled ≡ [] → ps ≡ qs) → deadlock_of enabled ps ≡ deadlock_of enabled qs
+same_dead [] ps qs same = ap (deadlock_of []) (same refl)
+same_dead (step ∷ steps) ps qs same = refl
 
 pub shows_all : (m : ModuleTree) (h : History) (records : Records) (last : Option (Bor Event)) (enabled : List Step) (ps : List Pid)
-    → Agrees m records (contents h) → option_map (λ (event : Bor Event). event_in event.now) last ≡ latest (Some h) → enabled ≡ enabled_steps (program_of m) h
+    → Agrees m records (contents h) → option_map (λ (event : Bor Event). event_in event.now) last ≡ latest (Some h)
     → (enabled ≡ [] → IsStrictlySortedBy order_of_lists ps) → ((p : Pid) → list_any (is_at (order_of_lists p)) ps ≡ lives_in (processes_of records) p)
-    → last_shown (turns_in (processes_of records)) (option_copied last) ++ deadlock_of enabled ps ≡ shown (program_of m) h
-shows_all m h records last enabled ps told is listed sorted lives = λ i.
+    → last_shown (turns_in (processes_of records)) (option_copied last) ++ deadlock_of enabled ps ≡ shown_last h ++ deadlock_of enabled (living h)
+shows_all m h records last enabled ps told is sorted lives = λ i.
     last_is h (turns_in (processes_of records)) (option_copied last) (λ p. told.processes_are.turns p) (told_copied last ∙ is) i
-    ++ same_dead enabled (enabled_steps (program_of m) h) ps (living h) listed (λ none. living_are h ps (sorted none) (λ p. lives p ∙ told.processes_are.alive p)) i
+    ++ same_dead enabled ps (living h) (λ none. living_are h ps (sorted none) (λ p. lives p ∙ told.processes_are.alive p)) i

@@ -1,10 +1,13 @@
 // The laws of worlds: what the definitions of their steps come to.
-ghost use Rattle.std.specs.Prelude.{◌≡◌, Some, None, true};
+ghost use Rattle.std.specs.List.Sorted.{IsStrictlySortedBy};
+ghost use Rattle.std.specs.Prelude.{◌≡◌, ◌↔◌, List, Some, None, [], true};
+ghost use Rattle.term_core.specs.Order.{order_of_lists};
 ghost use Rattle.world_core.specs.Waiting.{Waits};
 ghost use Rattle.world_model.specs.Events.{Event, History};
-ghost use Rattle.world_model.specs.Names.{Pid};
+ghost use Rattle.world_model.specs.Names.{Pid, IsAmong};
 ghost use Rattle.world_model.specs.Requests.{Program};
-ghost use Rattle.world_model.specs.Run.{next_event};
+ghost use Rattle.world_model.specs.Run.{enabled_steps, living, next_event};
+ghost use Rattle.world_model.specs.Shown.{Deadlock, Shows};
 ghost use Rattle.world_model.specs.World.{alive};
 ghost use Rattle.term_core.specs.declared.step.Step.TheVariants.{Turn};
 
@@ -12,4 +15,15 @@ ghost use Rattle.term_core.specs.declared.step.Step.TheVariants.{Turn};
 pub fn living_processes_have_turns()
     ensures turn { (a : Program) (h : History) (p : Pid) → alive h p ≡ true → ¬ (Waits a h p) → (e : Event) × (next_event a h (Turn p) ≡ Some e) }
     ensures waits { (a : Program) (h : History) (p : Pid) → Waits a h p → next_event a h (Turn p) ≡ None }
+{}
+
+/// The processes that live are listed in their order, each once.
+pub fn living_are_listed()
+    ensures lives { (h : History) (p : Pid) → IsAmong p (living h) ↔ (alive h p ≡ true) }
+    ensures in_order { (h : History) → IsStrictlySortedBy order_of_lists (living h) }
+{}
+
+/// A deadlock is shown where no step is enabled and a process lives, and nowhere else; and it is of all that live.
+pub fn deadlocks_are_of_the_living()
+    ensures { (a : Program) (h : History) (ps : List Pid) → Shows a h (Deadlock ps) ↔ ((enabled_steps a h ≡ []) × ((living h ≡ ps) × (ps ≡ [] → ⊥))) }
 {}

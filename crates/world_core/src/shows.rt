@@ -10,10 +10,9 @@ ghost use Rattle.term_core.specs.Term.{meaning_of};
 ghost use Rattle.term_core.specs.declared.step.Step.TheVariants.{Turn, Deliver};
 ghost use Rattle.world_calls.specs.Replies.{refusal_in};
 ghost use Rattle.world_core.specs.inside.Showing.{told_by, last_shown};
-ghost use Rattle.world_model.specs.Asking.{program_of};
 ghost use Rattle.world_model.specs.Events.{History};
-ghost use Rattle.world_model.specs.Run.{enabled_steps, latest};
-ghost use Rattle.world_model.specs.Shown.{deadlock_of, shown, shown_by, shown_by_fate, shown_by_refusal, unless_normal};
+ghost use Rattle.world_model.specs.Run.{latest, living};
+ghost use Rattle.world_model.specs.Shown.{deadlock_of, shown_by, shown_by_fate, shown_by_refusal, shown_last, unless_normal};
 ghost use Rattle.world_model.specs.World.{contents};
 ghost use Rattle.world_records.specs.Records.{Agrees, processes_of};
 ghost use Rattle.world_steps.specs.Deeds.{deed_in, event_in};
@@ -173,7 +172,7 @@ fn push_if_any(shown: &mut Vec<Identity>, identity: Option<Identity>) -> Result<
     Ok(())
 }
 
-/// What a world shows whose records, last event and enabled steps these are: the end of a process with another reason
+/// What a world shows whose records and last event these are, where these steps are enabled: the end of a process with another reason
 /// than `normal`, a process that made too many applications without a request, or a refused call of a table, whichever
 /// the last event is; and then the deadlock of those that live, where no step is enabled. `AllocError` if there is no
 /// memory for it.
@@ -183,7 +182,7 @@ pub(crate) fn shown_by_world(
     event: Option<&Event>,
     enabled: &[Step],
 ) -> Result<Vec<Identity>, AllocError>
-    ensures { IfOk result (λ found. (m : ModuleTree) (h : History) → Agrees m records.now (contents h) → option_map (λ event. event_in event.now) event.entry ≡ latest (Some h) → enabled.now ≡ enabled_steps (program_of m) h → map identity_in found.items ≡ shown (program_of m) h) }
+    ensures { IfOk result (λ found. (m : ModuleTree) (h : History) → Agrees m records.now (contents h) → option_map (λ event. event_in event.now) event.entry ≡ latest (Some h) → map identity_in found.items ≡ shown_last h ++ deadlock_of enabled.now (living h)) }
 {
     let mut found = Vec::new(alloc);
     push_if_any(&mut found, by_last_event(records, event)?)?;

@@ -1,12 +1,12 @@
 // The world of one schedule.
-ghost use Rattle.std.specs.Prelude.{◌≡◌, ◌↔◌, [], true, false, Some, None, IfOk, OnOk, OnErr, IfErr, IsErr, IsSome, MatchResult, Contains, option_map, map};
+ghost use Rattle.std.specs.Prelude.{◌≡◌, ◌↔◌, ◌++◌, [], true, false, Some, None, IfOk, OnOk, OnErr, IfErr, IsErr, IsSome, MatchResult, Contains, option_map, map};
 ghost use Rattle.findings.specs.Identities.{identity_in};
 ghost use Rattle.term_core.specs.declared.step.Step.{Step};
 ghost use Rattle.world_core.specs.Advanced.{Advances};
 ghost use Rattle.world_core.specs.Seen.{new_world, program_in};
 ghost use Rattle.world_core.specs.declared.fault.WorldFault.TheVariants.{NotEnabled, Memory};
-ghost use Rattle.world_model.specs.Run.{enabled_steps, extended, latest, next_event, run, schedule_of};
-ghost use Rattle.world_model.specs.Shown.{shown};
+ghost use Rattle.world_model.specs.Run.{enabled_steps, extended, latest, living, next_event, run, schedule_of};
+ghost use Rattle.world_model.specs.Shown.{deadlock_of, shown, shown_last};
 ghost use Rattle.world_model.specs.StepLaws.{AreInOrder};
 ghost use Rattle.world_model.specs.World.{alive, contents};
 ghost use Rattle.world_records.specs.Records.{Agrees};
@@ -214,7 +214,7 @@ impl<'m> World<'m> {
     ///
     /// `Memory` where memory ran out, now or in an earlier step.
     pub fn errors_among(&self, alloc: Global, enabled: &[Step]) -> Result<Vec<Identity>, WorldFault>
-        ensures shown { IfOk result (λ found. enabled.now ≡ enabled_steps (program_in self.now) self.now.history → map identity_in found.items ≡ shown (program_in self.now) self.now.history) }
+        ensures shown { IfOk result (λ found. map identity_in found.items ≡ shown_last self.now.history ++ deadlock_of enabled.now (living self.now.history)) }
         ensures memory { IfErr result (λ fault. fault ≡ Memory) }
         ensures spent { self.now.spent ≡ true → IsErr result }
     {

@@ -13,6 +13,7 @@ returns-in-Ok-clause-run g c ran = record {
   outcome = c.run_asked-outcome.result;
   run = c.run_asked-outcome.ensures.run;
   read_failed = c.run_asked-outcome.ensures.read_failed;
+  sound = c.run_asked-outcome.ensures.sound;
   silent = c.run_asked-outcome.ensures.silent;
   flushed = c.run_asked-outcome.ensures.flushed;
   reported = c.report.ensures.line;

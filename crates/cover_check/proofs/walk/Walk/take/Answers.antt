@@ -1,4 +1,5 @@
-use Rattle.cover_check.proofs.FrameLaws.{popped_are_of}
+use Rattle.cover_check.proofs.FrameLaws.{popped_are_of, taken}
+use Rattle.cover_check.specs.inside.Frames.{place_of}
 use Rattle.cover_check.proofs.walk.Walk.take.Goals as goal
 
 pub invariant_of-self-in_err-node : goal.invariant_of-self-in_err-node

@@ -7,7 +7,7 @@ pub returns-in-Err-clause-advanced : goal.returns-in-Err-clause-advanced
 returns-in-Err-clause-advanced c =
     stopped c.args.self.now c.loop-index.self c.step.new.self c.args.steps.now c.loop-index.index c.index-steps-index.result c.in-Err.fault c.loop-index-test.true (sym c.index-steps-index.is)
     c.loop-index.invariant.runs c.loop-index.invariant.program c.loop-index.invariant.sound
-    (λ e. c.in-Err.ensures.not_enabled (ap (λ f. Err f) e)) (λ e. c.in-Err.ensures.unchanged (ap (λ f. Err f) e)) (λ e. c.in-Err.ensures.spent (ap (λ f. Err f) e))
+    (λ e. c.in-Err.ensures.not_enabled (ap (λ f. Err f) e)) (λ e. c.in-Err.ensures.unchanged (ap (λ f. Err f) e)) (λ e. c.in-Err.ensures.spent (ap (λ f. Err f) e)) c.in-Err.ensures.kept
 
 pub loop-index-preserved : goal.loop-index-preserved
 loop-index-preserved c = record {
