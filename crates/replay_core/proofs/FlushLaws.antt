@@ -26,7 +26,7 @@ pub flushed : (a : Program) (steps : List Step) (old mid new : Option (List ℕ)
     → Replays a steps old mid failed r → Keeps mid new → Replays a steps old new failed r
 flushed a steps old mid new failed (Ok done) h k = (h.0, all_kept old mid new failed (transcript a steps) h.1 k)
 flushed a steps old mid new failed (Err (replay.NotEnabled place)) h k = (h.0, all_kept old mid new failed (transcript a steps) h.1 k)
-flushed a steps old mid new failed (Err replay.Memory) h k = (h.0, (h.1, all_kept old mid new failed (transcript a (take h.0 steps)) h.2 k))
+flushed a steps old mid new failed (Err replay.Memory) h k = (h.0, h.1, all_kept old mid new failed (transcript a (take h.0 steps)) h.2 k)
 flushed a steps old mid new failed (Err replay.Write) h k = record { beginning = beginning_kept old mid new (transcript a steps) h.beginning k; fault = h.fault }
 
 -- all that a replay wrote is a beginning of its lines

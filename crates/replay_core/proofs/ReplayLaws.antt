@@ -80,7 +80,7 @@ stops_there a steps start now new failed failed' program h later spent i step (N
       subst (λ (n : Option (List ℕ)). WritesAll start n failed' (transcript a steps)) (sym took.2) (owes_nothing start now failed' (transcript a steps) done took.3),
     )
 stops_there a steps start now new failed failed' program h later spent i step Memory so within at took =
-    (i, (so.whole.runs, record { appends = are_whole a steps start now new h i so.whole took.0; sound = took.1 }))
+    (i, so.whole.runs, record { appends = are_whole a steps start now new h i so.whole took.0; sound = took.1 })
 stops_there a steps start now new failed failed' program h later spent i step Write so within at took =
     let next : next_event a h step ≡ Some took.0 = ap (λ p. next_event p h step) (sym so.same) ∙ took.1 in
     owes_break_in start now new failed' (text_of_event (i + 1) took.0) (lines_on a (took.0 ∷ h) (i + 1 + 1) (drop (i + 1) steps)) (transcript a steps)
