@@ -1,5 +1,6 @@
 // The whole program over its three streams, from its words to its exit status.
 ghost use Rattle.std.specs.Prelude.{◌≡◌, ◌≢◌, ◌==◌, ℕ, List, None, IfSome, false, codes, map, Err};
+ghost use Rattle.std.specs.Process.{exit_status};
 ghost use Rattle.clap.specs.Values.{kind_of};
 ghost use Rattle.term_core.specs.Stream.{Writes};
 ghost use Rattle.command_words.specs.Words.{IsInRange};
@@ -51,13 +52,13 @@ pub fn run_to_exit<
     requires readable { R.has_failed input.old ≡ false }
     requires writable { W.has_failed output.old ≡ false }
     requires reportable { E.has_failed errors.old ≡ false }
-    ensures run { exit_status result ≢ 64 → IfSome words.entry (λ words. IsRun (map S.text words.items) (R.remaining input.old) (R.has_failed input.new)
+    ensures run { exit_status result ≢ 64 → IfSome words (λ words. IsRun (map S.text words.items) (R.remaining input.old) (R.has_failed input.new)
         (written W.contents W.has_failed W.is_flushed output.old output.new)
         (written E.contents E.has_failed E.is_flushed errors.old errors.new) (exit_status result)) }
-    ensures refused { exit_status result ≡ 64 → IfSome words.entry (λ words. AreRefused (map S.text words.items)
+    ensures refused { exit_status result ≡ 64 → IfSome words (λ words. AreRefused (map S.text words.items)
         (written W.contents W.has_failed W.is_flushed output.old output.new)
         (written E.contents E.has_failed E.is_flushed errors.old errors.new)) }
-    ensures no_words { words.entry ≡ None → (exit_status result ≡ 64)
+    ensures no_words { words ≡ None → (exit_status result ≡ 64)
         × HaveNoMemory (written W.contents W.has_failed W.is_flushed output.old output.new) (written E.contents E.has_failed E.is_flushed errors.old errors.new) }
     // Nothing is read where the words were refused.
     ensures unread { exit_status result ≡ 64 → (R.remaining input.new ≡ R.remaining input.old) × (R.has_failed input.new ≡ false) }
