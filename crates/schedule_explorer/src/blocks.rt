@@ -1,5 +1,4 @@
 // Standard output in blocks.
-use std::alloc::Global;
 use std::io;
 use std::io::{BufWriter, Write};
 
@@ -10,17 +9,6 @@ pub enum Blocks<W: Write + Drop> {
     Gathered(BufWriter<W>),
     /// Each piece is written at once.
     AtOnce(W),
-}
-
-impl<W: Write + Drop> Blocks<W> {
-    /// The writer that `open` gives, in blocks where there is memory for one.
-    pub fn new<F: FnMut() -> W>(alloc: Global, open: F) -> Blocks<W> {
-        let mut open = open;
-        match BufWriter::new(alloc, open()) {
-            Ok(writer) => Blocks::Gathered(writer),
-            Err(_) => Blocks::AtOnce(open()),
-        }
-    }
 }
 
 impl<W: Write + Drop> Write for Blocks<W> {

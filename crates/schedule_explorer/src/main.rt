@@ -8,7 +8,9 @@ use blocks::Blocks;
 use explorer_engine::run_to_exit;
 use progress::{Erasing, Progress};
 use std::env;
+use std::io::BufWriter;
 use std::process::ExitCode;
+use std::rt::Stdout;
 use term_core::{Input, Output};
 
 // The words, if there is memory for them.
@@ -17,16 +19,25 @@ fn words_of(rt: &HostRuntime) -> Option<Vec<String>> {
     words.collect(rt.alloc()).ok()
 }
 
+// Standard output, before which the line of progress is erased.
+fn stdout_of<'p, 'r>(
+    rt: &HostRuntime,
+    progress: &'p Progress<'r, HostRuntime>,
+) -> Blocks<Erasing<'p, 'r, HostRuntime, Stdout>> {
+    match BufWriter::new(rt.alloc(), Erasing::new(progress, rt.stdout())) {
+        Ok(writer) => Blocks::Gathered(writer),
+        Err(_) => Blocks::AtOnce(Erasing::new(progress, rt.stdout())),
+    }
+}
+
 fn main(rt: HostRuntime) -> ExitCode {
-    let alloc = rt.alloc();
     let progress = Progress::new(&rt, rt.stderr());
-    let stdout = Blocks::new(alloc, || Erasing::new(&progress, rt.stdout()));
     run_to_exit(
         &rt,
-        alloc,
+        rt.alloc(),
         words_of(&rt),
         &mut Input::new(rt.stdin()),
-        &mut Output::new(stdout),
+        &mut Output::new(stdout_of(&rt, &progress)),
         &mut Output::new(Erasing::new(&progress, rt.stderr())),
         &progress,
     )
