@@ -27,7 +27,7 @@ const WAITING: &str =
 
 // A module, what stands behind it, the depth, whether a deadlock is allowed and access is strict, what is written, the line of
 // the refusal, and the status.
-const ROWS: [(&str, &str, u64, bool, bool, &str, &str, u8); 28] = [
+const ROWS: [(&str, &str, u64, bool, bool, &str, &str, u8); 29] = [
     (
         TWO_END,
         "%%cover\nP\nP P.1\nP.1\n\n\n",
@@ -193,12 +193,23 @@ const ROWS: [(&str, &str, u64, bool, bool, &str, &str, u8); 28] = [
     ),
     (
         IDLE,
-        "%%cover \nP\n\n",
+        "%%cover \n",
         1,
         false,
         false,
         "",
         "cover: 3 Short at line 1\n",
+        2,
+    ),
+    // so what stands behind it is of the module
+    (
+        IDLE,
+        "%%cover \nP\n\n",
+        1,
+        false,
+        false,
+        "",
+        "input: 2 Expected at 75\n",
         2,
     ),
     (
