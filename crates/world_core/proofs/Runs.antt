@@ -1,5 +1,5 @@
 -- Schedules step by step.
-use Rattle.std.proofs.Common.{◌≡◌, ◌∷◌, ◌++◌, ◌∙◌, ◌+◌, ◌<◌, ◌≤◌, [], ℕ, List, Option, Some, None, refl, sym, ap, subst, take, length, get_or, false, true}
+use Rattle.std.proofs.Common.{◌≡◌, ◌∷◌, ◌++◌, ◌∙◌, ◌+◌, ◌<◌, ◌≤◌, [], ℕ, List, Option, Some, None, refl, sym, ap, subst, take, length, get_or, false, true, arith}
 use Rattle.std.proofs.lemmas.List.{take_more}
 use Rattle.term_core.specs.declared.step.Step.{Step}
 use Rattle.world_model.specs.Events.{History}
@@ -52,4 +52,4 @@ stopped old mid new steps i step NotEnabled within at runs same sound none kept 
   },
   ap (λ (w : Seen). w.spent) (kept refl) ∙ sound,
 )
-stopped old mid new steps i step Memory within at runs same sound none kept spent stays = (record { before = i; counted = refl; runs = runs ∙ ap (λ (h : History). Some h) (sym stays) }, spent refl)
+stopped old mid new steps i step Memory within at runs same sound none kept spent stays = (record { before = i; counted = refl; within = omega (arith, within); runs = runs ∙ ap (λ (h : History). Some h) (sym stays) }, spent refl)

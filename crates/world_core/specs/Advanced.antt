@@ -1,5 +1,5 @@
 -- What several steps in a row come to.
-use Rattle.std.specs.Prelude.{◌≡◌, ◌+◌, ℕ, List, take, true, false, Result, Ok, Err, Some, None}
+use Rattle.std.specs.Prelude.{◌≡◌, ◌+◌, ◌≤◌, ℕ, List, take, length, true, false, Result, Ok, Err, Some, None}
 use Rattle.term_core.specs.declared.step.Step.{Step}
 use Rattle.world_model.specs.Events.{History}
 use Rattle.world_model.specs.Requests.{Program}
@@ -23,6 +23,7 @@ pub record StopsAt (a : Program) (h : History) (steps : List Step) (place : ℕ)
 pub record StandsBefore (a : Program) (h : History) (steps : List Step) (place : ℕ) (g : History) : Type 0 where
   pub before : ℕ
   pub counted : place ≡ before + 1
+  pub within : before ≤ length steps
   pub runs : RunsTo a h (take before steps) g
 
 -- the step of this place is not enabled, or memory was wanting there
