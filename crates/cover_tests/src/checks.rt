@@ -25,9 +25,24 @@ const PRIVATE: &str =
 const WAITING: &str =
     "module 'm' ['main'/0] attributes [] 'main'/0 = fun () -> receive <X> when 'true' -> X after 'infinity' -> 'x' end\n";
 
+// A process sends to itself and takes that; another one sends to it besides.
+const BEHIND: &str =
+    "module 'm' ['main'/0,'c'/1] attributes [] 'main'/0 = fun () -> let <S> = call 'erlang':'self'() in do call 'erlang':'spawn'('m','c',[S]) do call 'erlang':'!'(S,'x') receive <X> when 'true' -> X after 'infinity' -> 'true' 'c'/1 = fun (To) -> call 'erlang':'!'(To,'y') end\n";
+
 // A module, what stands behind it, the depth, whether a deadlock is allowed and access is strict, what is written, the line of
 // the refusal, and the status.
-const ROWS: [(&str, &str, u64, bool, bool, &str, &str, u8); 29] = [
+const ROWS: [(&str, &str, u64, bool, bool, &str, &str, u8); 30] = [
+    // the delivery sleeps behind the receive that takes a message which is there
+    (
+        BEHIND,
+        "%%cover\nP\nP P.1\nP P.1\nP P.1\nP.1\n\nP P.1 P.1>P\n\n\n\nP.1 P.1>P\nP.1>P\n\n\nP.1 P.1>P\nP.1>P\nP\n\nP\nP\n\n",
+        5,
+        false,
+        false,
+        "cover good to depth 5\n",
+        "",
+        0,
+    ),
     (
         TWO_END,
         "%%cover\nP\nP P.1\nP.1\n\n\n",

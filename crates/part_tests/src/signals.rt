@@ -254,10 +254,12 @@ fn flushes(alloc: Global, own: &RefId, other: &RefId) -> Result<bool, AllocError
     mailbox.put(tuple(alloc, 5, other)?)?;
     mailbox.put(tuple(alloc, 5, own)?)?;
     mailbox.put(tuple(alloc, 6, own)?)?;
+    let was_there = mailbox.has_down(own) && mailbox.has_down(other);
     mailbox.flush_down(own)?;
     let flushed = mailbox.len() == 3 && is_of_five(mailbox.get(1)) && !is_of_five(mailbox.get(2));
+    let is_told = was_there && !mailbox.has_down(own) && mailbox.has_down(other);
     mailbox.flush_down(own)?;
-    Ok(flushed && mailbox.len() == 3)
+    Ok(flushed && is_told && mailbox.len() == 3)
 }
 
 #[test]

@@ -1,21 +1,22 @@
 -- How mailboxes follow the changes of cells.
-use Rattle.std.proofs.Common.{◌≡◌, ◌<◌, ℕ, Bool, true, false, List, [], ◌∷◌, Option, Some, None, refl, sym, ap, ◌∙◌, subst, arith, if◌then◌else◌, length, slice_get}
+use Rattle.std.proofs.Common.{◌≡◌, ◌<◌, ℕ, Bool, true, false, List, [], ◌∷◌, ◌++◌, Option, Some, None, refl, sym, ap, ◌∙◌, subst, arith, if◌then◌else◌, length, slice_get}
 use Prim.Native.Nat.{suc, zero}
 use Rattle.std.specs.List.{remove}
 use Rattle.term_core.specs.Meaning.{Meaning}
-use Rattle.world_model.specs.Cells as cells
 use Rattle.world_model.specs.Cells.{Contents}
-use Rattle.world_model.specs.Changes.{after, without_first}
+use Rattle.world_model.specs.Changes.{after, changed, without_first, Mails, Picks}
+use Rattle.world_model.specs.Mailboxes.{picked, selected_of}
 use Rattle.world_model.specs.Names.{Pid, same_pid, same_term}
 use Rattle.proc_signals.proofs.Beside.{pids_same}
-use Rattle.proc_signals.proofs.Removing.{place_picked}
-use Rattle.proc_signals.specs.Mailbox.{first_place}
-use Rattle.proc_mailboxes.specs.Mailboxes.{Mailboxes, AreMailboxes, IsChangedAt, messages_in, picked}
+use Rattle.proc_signals.proofs.Removing.{place_selected, place_removed}
+use Rattle.proc_signals.proofs.Cells.{mails_at, picks_at}
+use Rattle.world_model.proofs.MailboxLaws.{selected_there, without_selected, without_none}
+use Rattle.proc_signals.specs.Mailbox.{first_place, IsMailbox}
+use Rattle.proc_mailboxes.specs.Mailboxes.{Mailboxes, AreMailboxes, IsChangedAt, messages_in}
 
--- what is made of the messages of one process is made of what its cell contains
-pub follows : (f : List Meaning → List Meaning) (p : Pid) (old new : Mailboxes) (v : Contents) → IsChangedAt p f old new → AreMailboxes old v
-    → (q : Pid) → messages_in new q ≡ (if same_pid p q then f (v (cells.Mailbox q)) else v (cells.Mailbox q))
-follows f p old new v is told q = is q ∙ ap (λ messages. if same_pid p q then f messages else messages) (told q)
+-- a message comes in at one process
+pub mails_follow : (p : Pid) (m : Meaning) (old new : Mailboxes) (v : Contents) → IsChangedAt p (λ messages. messages ++ m ∷ []) old new → AreMailboxes old v → AreMailboxes new (changed (Mails p m) v)
+mails_follow p m old new v is told q = subst (λ ms. IsMailbox ms (changed (Mails p m) v) q) (sym (is q)) (mails_at p q m (messages_in old q) v (told q))
 
 if_alike : (b : Bool) (x y z : List Meaning) → (b ≡ true → x ≡ y) → (if b then x else z) ≡ (if b then y else z)
 if_alike true x y z same = same refl
@@ -32,10 +33,24 @@ is_there [] n none within = omega arith
 is_there (m ∷ ms) zero none within = absurd cc
 is_there (m ∷ ms) (suc n) none within = is_there ms n none (omega arith)
 
+if_either : (b : Bool) (x : List Meaning) → (if b then x else x) ≡ x
+if_either true x = refl
+if_either false x = refl
+
+-- what is selected at one process is taken there, if it is
+pub picked_follows : (test : Meaning → Bool) (p : Pid) (old new : Mailboxes) (v : Contents) (o : Option Meaning) → selected_of test (messages_in old p) ≡ o → IsChangedAt p (without_first test) old new → AreMailboxes old v → AreMailboxes new (after (picked p o) v)
+picked_follows test p old new v None is at told q =
+    let same = if_alike (same_pid p q) (without_first test (messages_in old q)) (messages_in old q) (messages_in old q) (λ e. without_none test (messages_in old q) (ap (λ r. selected_of test (messages_in old r)) (sym (pids_same p q e)) ∙ is)) in
+    subst (λ ms. IsMailbox ms v q) (sym (at q ∙ same ∙ if_either (same_pid p q) (messages_in old q))) (told q)
+picked_follows test p old new v (Some m) is at told q =
+    let here : same_pid p q ≡ true → selected_of test (messages_in old q) ≡ Some m = λ e. ap (λ r. selected_of test (messages_in old r)) (sym (pids_same p q e)) ∙ is in
+    let same = if_alike (same_pid p q) (without_first test (messages_in old q)) (without_first (same_term m) (messages_in old q)) (messages_in old q) (λ e. sym (without_selected test (messages_in old q) m (here e))) in
+    subst (λ ms. IsMailbox ms (changed (Picks p m) v) q) (sym (at q ∙ same)) (picks_at p q m (messages_in old q) v (λ e. selected_there test (messages_in old q) m (here e)) (told q))
+
 -- a message that is found and taken is picked
 pub picks_follow : (selects : Meaning → Bool) (p : Pid) (old new : Mailboxes) (n : ℕ) (taken : Option Meaning) → Some n ≡ first_place selects (messages_in old p) → n < length (messages_in old p) → taken ≡ slice_get (messages_in old p) n
     → IsChangedAt p (λ messages. remove messages n) old new → (v : Contents) → AreMailboxes old v → AreMailboxes new (after (picked p taken) v)
 picks_follow selects p old new n None found within is at v told = absurd (is_there (messages_in old p) n is within)
 picks_follow selects p old new n (Some x) found within is at v told =
-    follows (without_first (same_term x)) p old new v
-    (in_other_way (λ messages. remove messages n) (without_first (same_term x)) p old new (sym (place_picked selects (messages_in old p) n x (sym found) (sym is))) at) told
+    picked_follows selects p old new v (Some x) (sym (place_selected selects (messages_in old p) n (sym found)) ∙ sym is)
+    (in_other_way (λ messages. remove messages n) (without_first selects) p old new (sym (place_removed selects (messages_in old p) n (sym found))) at) told

@@ -1,10 +1,9 @@
 -- Mailboxes: the messages of each process, as they are kept and as cells contain them.
-use Rattle.std.specs.Prelude.{◌≡◌, List, [], ◌∷◌, Option, Some, None, if◌then◌else◌}
+use Rattle.std.specs.Prelude.{◌≡◌, List, [], Option, Some, None, if◌then◌else◌}
 use Rattle.proc_signals.specs.Channels.{beside}
+use Rattle.proc_signals.specs.Mailbox.{IsMailbox}
 use Rattle.term_core.specs.Meaning.{Meaning}
-use Rattle.world_model.specs.Cells as cells
 use Rattle.world_model.specs.Cells.{Contents}
-use Rattle.world_model.specs.Changes.{Change, Picks}
 use Rattle.world_model.specs.Names.{Pid, same_pid}
 
 -- processes in their order, each with its messages, the oldest first
@@ -20,9 +19,9 @@ messages_of (Some messages) = messages
 abbrev pub messages_in : Mailboxes → Pid → List Meaning
 messages_in mailboxes p = messages_of (beside mailboxes p)
 
--- each process has the messages that its cell contains
+-- each process has its messages
 abbrev pub AreMailboxes : Mailboxes → Contents → Type 0
-AreMailboxes mailboxes v = (p : Pid) → messages_in mailboxes p ≡ v (cells.Mailbox p)
+AreMailboxes mailboxes v = (p : Pid) → IsMailbox (messages_in mailboxes p) v p
 
 -- each process has the messages that it had
 abbrev pub IsUnchanged : Mailboxes → Mailboxes → Type 0
@@ -31,8 +30,3 @@ IsUnchanged old new = (p : Pid) → messages_in new p ≡ messages_in old p
 -- one process has what f makes of its messages, and the others have those that they had
 abbrev pub IsChangedAt : Pid → (List Meaning → List Meaning) → Mailboxes → Mailboxes → Type 0
 IsChangedAt p f old new = (q : Pid) → messages_in new q ≡ (if same_pid p q then f (messages_in old q) else messages_in old q)
-
--- what is changed where a process takes a message, or takes none
-abbrev pub picked : Pid → Option Meaning → List Change
-picked p None = []
-picked p (Some message) = Picks p message ∷ []

@@ -1,14 +1,14 @@
 // The mailboxes of all processes: copies share them until one of them is changed.
 ghost use Rattle.std.specs.Prelude.{◌≡◌, ◌<◌, [], ◌∷◌, ◌++◌, IfOk, IfSome, OnOk, OnErr, None, length, option_and_then, option_copied, option_map, slice_get};
 ghost use Rattle.std.specs.List.{remove};
-ghost use Rattle.proc_mailboxes.specs.Mailboxes.{AreMailboxes, IsChangedAt, IsUnchanged, messages_in, messages_of, picked};
+ghost use Rattle.proc_mailboxes.specs.Mailboxes.{AreMailboxes, IsChangedAt, IsUnchanged, messages_in, messages_of};
 ghost use Rattle.proc_signals.specs.Mailbox.{first_place};
 ghost use Rattle.proc_signals.specs.Signal.{ref_of};
 ghost use Rattle.term_core.specs.Term.{meaning_of};
 ghost use Rattle.world_model.specs.Cells.{Contents};
-ghost use Rattle.world_model.specs.Changes.{Flushes, Mails, after, changed, is_of_watch, without_first};
+ghost use Rattle.world_model.specs.Changes.{Mails, after, changed, is_of_watch, without_first};
+ghost use Rattle.world_model.specs.Mailboxes.{mailbox_in, picked, selected_of};
 ghost use Rattle.world_model.specs.Names as names;
-ghost use Rattle.world_model.specs.Steps.{selected_of};
 
 use crate::mailbox_map::MailboxMap;
 use proc_signals::{Mailbox, Selector};
@@ -144,7 +144,7 @@ impl Mailboxes {
     pub fn flush(&mut self, pid: &Pid, reference: &RefId) -> Result<(), AllocError>
         ensures ok { OnOk result (IsChangedAt pid.now (without_first (is_of_watch (ref_of reference.now))) self.old self.new) }
         ensures flushes { OnOk result ((v : Contents) → AreMailboxes self.old v →
-            AreMailboxes self.new (changed (Flushes pid.now (ref_of reference.now)) v)) }
+            AreMailboxes self.new (after (picked pid.now (selected_of (is_of_watch (ref_of reference.now)) (mailbox_in v pid.now))) v)) }
         ensures err { OnErr result (IsUnchanged self.old self.new) }
     {
         let mailboxes = Arc::make_mut(&mut self.mailboxes)?;

@@ -1,31 +1,69 @@
 -- How mailboxes and channels follow the changes of cells.
-use Rattle.std.proofs.Common.{◌≡◌, ◌&&◌, ◌+◌, ◌≤◌, ℕ, Option, Some, None, slice_get, option_map, IsSome, Bool, true, false, List, [], ◌∷◌, ◌++◌, refl, sym, ap, ◌∙◌, subst, if◌then◌else◌, drop, length, length-append, arith}
+use Rattle.std.proofs.Common.{◌≡◌, ◌&&◌, ◌+◌, ◌≤◌, ℕ, Option, Some, None, slice_get, option_map, IsSome, Bool, true, false, List, [], ◌∷◌, ◌++◌, refl, sym, ap, ◌∙◌, subst, if◌then◌else◌, drop, length, length-append, append_assoc, arith}
 use Prim.Native.Nat.{suc, zero}
-use Rattle.std.specs.List.{remove}
+use Rattle.std.specs.List.{list_any, remove}
 use Rattle.term_core.specs.Meaning.{Meaning}
+use Rattle.world_model.proofs.MailboxLaws.{left_last, without_behind, selected_there, without_selected, without_none}
 use Rattle.world_model.proofs.Meeting.{both}
-use Rattle.world_model.specs.Cells.{Contents, Front, Tail}
-use Rattle.world_model.specs.Changes.{changed, without_first, Puts, Fetches}
+use Rattle.world_model.specs.Cells.{Contents, Taken, Mailed, Front, Tail}
+use Rattle.world_model.specs.Changes.{changed, after, without_first, Mails, Picks, Puts, Fetches}
 use Rattle.world_model.specs.Events.{Signal}
+use Rattle.world_model.specs.Mailboxes.{left_of, selected_of, picked}
 use Rattle.world_model.specs.Names.{Pid, same_pid, same_term}
 use Rattle.world_model.specs.Signals.{first_of}
 use Rattle.proc_signals.specs.Channels.{Senders, between, IsChangedBetween, AreWaiting, AreChannels}
-use Rattle.proc_signals.specs.Mailbox.{first_place}
+use Rattle.proc_signals.specs.Mailbox.{first_place, IsMailbox}
 use Rattle.proc_signals.proofs.Beside.{pid_itself, pids_same}
-use Rattle.proc_signals.proofs.Removing.{place_picked}
+use Rattle.proc_signals.proofs.Removing.{place_selected, place_removed}
 
 chosen : {A : Type 0} (b : Bool) (x y : A) → b ≡ true → (if b then x else y) ≡ x
 chosen true x y e = refl
 chosen false x y e = absurd cc
 
--- a change of a cell is what it does to what the cell contains
-pub mailbox_changed : (p : Pid) (f : List Meaning → List Meaning) (old new now : List Meaning) → old ≡ now → new ≡ f old → new ≡ (if same_pid p p then f now else now)
-mailbox_changed p f old new now told is = is ∙ ap f told ∙ sym (chosen (same_pid p p) (f now) now (pid_itself p))
+-- ---- mailboxes
 
--- a message that was found is taken out: it is the first that is the same
-pub picks_follow : (selects : Meaning → Bool) (p : Pid) (old new now : List Meaning) (n : ℕ) (x : Meaning) → first_place selects old ≡ Some n → slice_get old n ≡ Some x → new ≡ remove old n → old ≡ now → new ≡ (if same_pid p p then without_first (same_term x) now else now)
-picks_follow selects p old new now n x first at rest told =
-    mailbox_changed p (without_first (same_term x)) old new now told (rest ∙ sym (place_picked selects old n x first at))
+abbrev Left : List Meaning → List Meaning → List Meaning → Type 0
+Left messages ts xs = (messages ≡ left_of ts xs) × ((more : List Meaning) → left_of ts (xs ++ more) ≡ messages ++ more)
+
+mailed_if : (b : Bool) (ms ts xs : List Meaning) (m : Meaning) → Left ms ts xs → Left (if b then ms ++ (m ∷ []) else ms) ts (if b then xs ++ (m ∷ []) else xs)
+mailed_if true ms ts xs m told =
+    (sym (told.1 (m ∷ [])), λ more. ap (left_of ts) (append_assoc xs (m ∷ []) more) ∙ told.1 (m ∷ more) ∙ sym (append_assoc ms (m ∷ []) more))
+mailed_if false ms ts xs m told = told
+
+picked_if : (b : Bool) (ms ts xs : List Meaning) (m : Meaning) → (b ≡ true → list_any (same_term m) ms ≡ true) → Left ms ts xs → Left (if b then without_first (same_term m) ms else ms) (if b then ts ++ (m ∷ []) else ts) xs
+picked_if true ms ts xs m there told =
+    (ap (without_first (same_term m)) told.0 ∙ sym (left_last ts m xs), λ more. left_last ts m (xs ++ more) ∙ ap (without_first (same_term m)) (told.1 more) ∙ without_behind (same_term m) ms more (there refl))
+picked_if false ms ts xs m there told = told
+
+-- a message comes in at one process, and others have what they had
+pub mails_at : (p q : Pid) (m : Meaning) (ms : List Meaning) (v : Contents) → IsMailbox ms v q → IsMailbox (if same_pid p q then ms ++ (m ∷ []) else ms) (changed (Mails p m) v) q
+mails_at p q m ms v told =
+    let now = mailed_if (same_pid p q) ms (v (Taken q)) (v (Mailed q)) m (told.left, told.behind) in
+    record { left = now.0; behind = now.1 }
+
+-- a message that is there is taken
+pub picks_at : (p q : Pid) (m : Meaning) (ms : List Meaning) (v : Contents) → (same_pid p q ≡ true → list_any (same_term m) ms ≡ true) → IsMailbox ms v q → IsMailbox (if same_pid p q then without_first (same_term m) ms else ms) (changed (Picks p m) v) q
+picks_at p q m ms v there told =
+    let now = picked_if (same_pid p q) ms (v (Taken q)) (v (Mailed q)) m there (told.left, told.behind) in
+    record { left = now.0; behind = now.1 }
+
+pub mails_follow : (p : Pid) (m : Meaning) (old new : List Meaning) (v : Contents) → new ≡ old ++ (m ∷ []) → IsMailbox old v p → IsMailbox new (changed (Mails p m) v) p
+mails_follow p m old new v is told = subst (λ ms. IsMailbox ms (changed (Mails p m) v) p) (chosen (same_pid p p) (old ++ (m ∷ [])) old (pid_itself p) ∙ sym is) (mails_at p p m old v told)
+
+-- the first message of a selection is taken
+pub picks_selected : (test : Meaning → Bool) (p : Pid) (old new : List Meaning) (v : Contents) (m : Meaning) → selected_of test old ≡ Some m → new ≡ without_first test old → IsMailbox old v p → IsMailbox new (changed (Picks p m) v) p
+picks_selected test p old new v m is at told =
+    subst (λ ms. IsMailbox ms (changed (Picks p m) v) p) (chosen (same_pid p p) (without_first (same_term m) old) old (pid_itself p) ∙ without_selected test old m is ∙ sym at) (picks_at p p m old v (λ same. selected_there test old m is) told)
+
+-- what is found is taken, if it is
+pub picked_follows : (test : Meaning → Bool) (p : Pid) (old new : List Meaning) (v : Contents) (o : Option Meaning) → selected_of test old ≡ o → new ≡ without_first test old → IsMailbox old v p → IsMailbox new (after (picked p o) v) p
+picked_follows test p old new v None is at told = subst (λ ms. IsMailbox ms v p) (sym (without_none test old is) ∙ sym at) told
+picked_follows test p old new v (Some m) is at told = picks_selected test p old new v m is at told
+
+-- a message that was found is taken out
+pub picks_follow : (selects : Meaning → Bool) (p : Pid) (old new : List Meaning) (v : Contents) (n : ℕ) (x : Meaning) → first_place selects old ≡ Some n → slice_get old n ≡ Some x → new ≡ remove old n → IsMailbox old v p → IsMailbox new (changed (Picks p x) v) p
+picks_follow selects p old new v n x first at rest told =
+    picks_selected selects p old new v x (sym (place_selected selects old n first) ∙ at) (rest ∙ sym (place_removed selects old n first)) told
 
 -- ---- channels
 

@@ -1,8 +1,8 @@
 -- Messages in a mailbox: where the oldest lies that is wanted, and that they are what a cell contains.
-use Rattle.std.specs.Prelude.{◌≡◌, ℕ, ◌+◌, Bool, List, [], ◌∷◌, Option, Some, None, option_map, if◌then◌else◌}
+use Rattle.std.specs.Prelude.{◌≡◌, ℕ, ◌+◌, Bool, List, [], ◌∷◌, ◌++◌, Option, Some, None, option_map, if◌then◌else◌}
 use Rattle.term_core.specs.Meaning.{Meaning}
-use Rattle.world_model.specs.Cells as cells
-use Rattle.world_model.specs.Cells.{Contents}
+use Rattle.world_model.specs.Cells.{Contents, Taken, Mailed}
+use Rattle.world_model.specs.Mailboxes.{left_of, mailbox_in}
 use Rattle.world_model.specs.Names.{Pid}
 
 -- the least place, from 0, of a message that passes a test; none where none passes
@@ -10,6 +10,7 @@ abbrev pub first_place : (Meaning → Bool) → List Meaning → Option ℕ
 first_place test [] = None
 first_place test (m ∷ ms) = if test m then Some 0 else option_map (λ n. n + 1) (first_place test ms)
 
--- these are the messages of a process
-abbrev pub IsMailbox : List Meaning → Contents → Pid → Type 0
-IsMailbox messages v p = messages ≡ v (cells.Mailbox p)
+-- these are the messages of a process: what is left of those that came, and whatever comes stays behind them
+pub record IsMailbox (messages : List Meaning) (v : Contents) (p : Pid) : Type 0 where
+  pub left : messages ≡ mailbox_in v p
+  pub behind : (more : List Meaning) → left_of (v (Taken p)) (v (Mailed p) ++ more) ≡ messages ++ more

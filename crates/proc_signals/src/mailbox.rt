@@ -1,12 +1,12 @@
 // Mailboxes.
-ghost use Rattle.std.specs.Prelude.{◌≡◌, ◌<◌, Bool, [], ◌∷◌, ◌++◌, IfOk, IfSome, OnOk, OnErr, Some, length, slice_get, option_and_then, option_map};
+ghost use Rattle.std.specs.Prelude.{◌≡◌, ◌<◌, Bool, [], ◌∷◌, ◌++◌, IfOk, IfSome, OnOk, OnErr, Some, is_some, length, slice_get, option_and_then, option_map};
 ghost use Rattle.std.specs.List.{remove};
 ghost use Rattle.term_core.specs.Meaning.{Meaning};
 ghost use Rattle.term_core.specs.Term.{meaning_of};
 ghost use Rattle.world_model.specs.Cells.{Contents};
-ghost use Rattle.world_model.specs.Changes.{Mails, Picks, Flushes, changed, without_first, is_of_watch};
+ghost use Rattle.world_model.specs.Changes.{Mails, Picks, after, changed, without_first, is_of_watch};
+ghost use Rattle.world_model.specs.Mailboxes.{mailbox_in, picked, selected_of};
 ghost use Rattle.world_model.specs.Names.{Pid as PidSeen};
-ghost use Rattle.world_model.specs.Steps.{selected_of};
 ghost use Rattle.proc_signals.specs.Mailbox.{first_place, IsMailbox};
 ghost use Rattle.proc_signals.specs.Signal.{ref_of};
 
@@ -90,7 +90,7 @@ impl Mailbox {
 
     /// A message comes in, behind the others (Erlang reference manual, "Processes", "Delivery of Signals"), or
     /// `AllocError` if there is no memory for it: then the mailbox is as it was, and the message is dropped.
-    #[tactic(auto, using(crate::proofs::Cells::mailbox_changed))]
+    #[tactic(auto, using(crate::proofs::Cells::mails_follow))]
     pub fn put(&mut self, message: Term) -> Result<(), AllocError>
         ensures ok { OnOk result (self.new ≡ self.old ++ meaning_of message ∷ []) }
         ensures mails { OnOk result ((v : Contents) (p : PidSeen) →
@@ -121,7 +121,6 @@ impl Mailbox {
 
     /// Takes out the message at a place; the others keep their order. `AllocError` if there is no memory for
     /// it, and then the mailbox is as it was.
-    #[tactic(auto, using(crate::proofs::Removing::place_picked, crate::proofs::Cells::mailbox_changed))]
     pub fn take_at(&mut self, place: usize) -> Result<Term, AllocError>
         requires { place < length self.old }
         ensures message { IfOk result (λ message. slice_get self.old place ≡ Some (meaning_of message)) }
@@ -135,14 +134,22 @@ impl Mailbox {
         Ok(messages.take_at(place))
     }
 
+    /// Whether the message of a watch is there: a tuple of five with this reference second. It takes no memory.
+    #[tactic(auto, using(crate::proofs::Removing::place_some))]
+    pub fn has_down(&self, reference: &RefId) -> bool
+        ensures { result ≡ is_some (selected_of (is_of_watch (ref_of reference.now)) self.now) }
+    {
+        self.messages.find_down(reference).is_some()
+    }
+
     /// Takes out the oldest message of a watch, if there is one: a tuple of five with this reference second
     /// (OTP, module `erlang`, `demonitor/2` with the option `flush`). `AllocError` if there is no memory for
     /// it, and then the mailbox is as it was.
-    #[tactic(auto, using(crate::proofs::Removing::place_removed, crate::proofs::Removing::none_removed, crate::proofs::Cells::mailbox_changed))]
+    #[tactic(auto, using(crate::proofs::Removing::place_removed, crate::proofs::Removing::none_removed, crate::proofs::Cells::picked_follows))]
     pub fn flush_down(&mut self, reference: &RefId) -> Result<(), AllocError>
         ensures ok { OnOk result (self.new ≡ without_first (is_of_watch (ref_of reference.now)) self.old) }
         ensures flushes { OnOk result ((v : Contents) (p : PidSeen) →
-            IsMailbox self.old v p → IsMailbox self.new (changed (Flushes p (ref_of reference.now)) v) p) }
+            IsMailbox self.old v p → IsMailbox self.new (after (picked p (selected_of (is_of_watch (ref_of reference.now)) (mailbox_in v p))) v) p) }
         ensures err { OnErr result (self.new ≡ self.old) }
     {
         let Some(place) = self.messages.find_down(reference) else {

@@ -14,7 +14,8 @@ use Rattle.world_model.specs.Events.{Deed}
 use Rattle.world_model.specs.Lines.{line}
 use Rattle.world_model.specs.Names.{Pid}
 use Rattle.world_model.specs.Requests.{Request}
-use Rattle.world_model.specs.Steps.{asked, deed_asked, deed_of_call, ended_or, ends_itself, judged, must_wait, next_deed, received, selected_of}
+use Rattle.world_model.specs.Mailboxes.{selected_of}
+use Rattle.world_model.specs.Steps.{asked, deed_asked, deed_of_call, ended_or, ends_itself, judged, must_wait, next_deed, received}
 
 same_first : (takes : Meaning → Bool) (m : Meaning) (b : Bool) (o : Option ℕ) (rest : Option Meaning) → is_some o ≡ is_some rest → is_some (if b then Some 0 else option_map (λ n. n + 1) o) ≡ is_some (if b then Some m else rest)
 same_first takes m true o rest e = refl

@@ -2,11 +2,11 @@
 ghost use Rattle.std.specs.Prelude.{◌≡◌, true, IfOk, is_some};
 ghost use Rattle.proc_machines.specs.Processes.{lives_in, selects_in};
 ghost use Rattle.term_core.specs.declared.step.Step.TheVariants.{Turn, Deliver};
-ghost use Rattle.world_model.specs.Cells as cells;
 ghost use Rattle.core_tree.specs.Syntax.{ModuleTree};
 ghost use Rattle.world_model.specs.Asking.{program_of};
 ghost use Rattle.world_model.specs.Cells.{Contents};
-ghost use Rattle.world_model.specs.Steps.{next_deed, selected_of};
+ghost use Rattle.world_model.specs.Mailboxes.{mailbox_in, selected_of};
+ghost use Rattle.world_model.specs.Steps.{next_deed};
 ghost use Rattle.world_records.specs.Records.{Agrees, processes_of};
 
 use crate::waiting::must_wait;
@@ -18,7 +18,7 @@ use world_records::Records;
 /// Whether a message is there that the receive of a process selects, where the process lives and waits at one.
 /// `AllocError` where the search of a mailbox has no memory.
 pub fn has_message(records: &Records<'_>, alloc: Global, pid: &Pid) -> Result<bool, AllocError>
-    ensures { IfOk result (λ has. (m : ModuleTree) (v : Contents) → Agrees m records.now v → lives_in (processes_of records.now) pid.now ≡ true → has ≡ is_some (selected_of (selects_in (processes_of records.now) pid.now) (v (cells.Mailbox pid.now)))) }
+    ensures { IfOk result (λ has. (m : ModuleTree) (v : Contents) → Agrees m records.now v → lives_in (processes_of records.now) pid.now ≡ true → has ≡ is_some (selected_of (selects_in (processes_of records.now) pid.now) (mailbox_in v pid.now))) }
 {
     let Some(receiver) = records.processes().receiver(pid) else {
         return Ok(false);

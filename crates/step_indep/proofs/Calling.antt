@@ -5,25 +5,26 @@ use Rattle.core_calls.specs.declared.call.CallKind.{CallKind}
 use Rattle.term_core.specs.Meaning.{Meaning}
 use Rattle.term_core.specs.declared.step.Step.{Step}
 use Rattle.term_core.specs.declared.step.Step.TheVariants.{Turn, Deliver}
-use Rattle.world_model.specs.Calls.{Call, IsAlive, SendExit, Send, ToName, SpawnWay, Spawn, call_of}
+use Rattle.world_model.specs.Calls.{Call, Demonitor, IsAlive, SendExit, Send, ToName, SpawnWay, Spawn, call_of}
 use Rattle.world_model.specs.Cells as cells
 use Rattle.world_model.specs.Cells.{Cell, Contents}
-use Rattle.world_model.specs.Changes.{Change, Sheds, Touches, Unwatches, cell_of}
+use Rattle.world_model.specs.Changes.{Change, Sheds, Touches, Unwatches, cell_of, is_of_watch}
 use Rattle.world_model.specs.Ends.{ends, reads_of_end}
 use Rattle.world_model.specs.Events.{Deed, Delivered, Fate, Arrives, IsIgnored, IsDropped, Kills, Refusal, Signal, Message, Exit, LinkExit, Down}
 use Rattle.world_model.specs.Lines.{line}
+use Rattle.world_model.specs.Mailboxes.{reads_to_pick, mailbox_in, selected_of}
 use Rattle.world_model.specs.Names.{Name, Pid, Ref, same_pid}
-use Rattle.world_model.specs.ProcessLines.{CallLine, LinkWay, Stands, Pairs, PairsGone, Fails, bound, child_told, exited, flushed, gone_told, holder_read, link_changes, link_refusal, next_child, next_ref, read_of_target, sent, sent_to_holder, unless_held, watch_begins, watch_ends}
+use Rattle.world_model.specs.ProcessLines.{CallLine, LinkWay, Stands, Pairs, PairsGone, Fails, bound, child_told, exited, flushed, gone_told, holder_read, link_changes, link_refusal, next_child, next_ref, read_of_target, reads_to_flush, sent, sent_to_holder, unless_held, watch_begins, watch_ends, demonitor_reads}
 use Rattle.world_model.specs.Requests.{Program, Request}
 use Rattle.world_model.specs.Signals.{first_of, waiting_in}
 use Rattle.world_model.specs.Steps.{asked, changes_of_fate, changes_of_turn, deed_asked, deed_delivered, deed_of_call, ended_or, ends_itself, judged, must_wait, next_deed, own_end, reads_if_ended, reads_if_killed, reads_of_call, reads_of_request, reads_of_signal, received}
 use Rattle.step_indep.specs.Footprints.{Adds}
 use Rattle.step_indep.specs.Independence.{actor_of, is_enabled, written_by}
-use Rattle.step_indep.specs.inside.Written.{outcome_of, unless_refused, written_by_call, written_by_flush, written_by_line, written_by_link, written_by_unwatch, written_by_watch, written_or_ended, written_to}
+use Rattle.step_indep.specs.inside.Written.{outcome_of, unless_refused, written_by_call, written_by_flush, read_by_flush, read_by_taking, written_by_line, written_by_link, written_by_unwatch, written_by_watch, written_or_ended, written_to}
 use Rattle.step_indep.specs.declared.delivery.Outcome.{Outcome}
 use Rattle.step_indep.specs.declared.delivery.Outcome.TheVariants as outcomes
 use Rattle.step_indep.specs.declared.footprints.Footprint.{Footprint}
-use Rattle.step_indep.proofs.Adding.{adds_as, end_nil, map_both}
+use Rattle.step_indep.proofs.Adding.{adds_as, adds_then, end_nil, map_both}
 use Rattle.step_indep.proofs.Ending.{put_written}
 
 -- ---- lines
@@ -101,9 +102,29 @@ pub unwatch_written : (p : Pid) (ref : Ref) (o : Option Pid) → written_by_unwa
 unwatch_written p ref None = refl
 unwatch_written p ref (Some q) = own_watch (same_pid ref.pid p) ref q
 
-pub flush_written : (b : Bool) (p : Pid) (ref : Ref) → written_by_flush b p ≡ map cell_of (flushed b p ref)
-flush_written true p ref = refl
-flush_written false p ref = refl
+pub flush_written : (b : Bool) (p : Pid) (o : Option Meaning) → written_by_flush b (is_some o) p ≡ map cell_of (flushed b p o)
+flush_written true p None = refl
+flush_written true p (Some m) = refl
+flush_written false p o = refl
+
+pub flush_read : (b : Bool) (p : Pid) (o : Option Meaning) → read_by_flush b (is_some o) p ≡ reads_to_flush b p o
+flush_read true p None = refl
+flush_read true p (Some m) = refl
+flush_read false p o = refl
+
+pub unwatch_adds : (v : Contents) (p : Pid) (ref : Ref) (flushes : Bool) (o : Option Pid) (f g h : Footprint) → o ≡ v (cells.Watch ref) → Adds (demonitor_reads ref o) (written_by_unwatch ref o) f g
+    → Adds (read_by_flush flushes (is_some (selected_of (is_of_watch ref) (mailbox_in v p))) p) (written_by_flush flushes (is_some (selected_of (is_of_watch ref) (mailbox_in v p))) p) g h
+    → Adds (reads_of_call v p (Demonitor (Some ref) (Some flushes))) (written_by_call v p (Demonitor (Some ref) (Some flushes))) f h
+unwatch_adds v p ref flushes o f g h is watch flush =
+    let target = v (cells.Watch ref) in
+    let found = selected_of (is_of_watch ref) (mailbox_in v p) in
+    let ks = watch_ends p ref target in
+    let ls = flushed flushes p found in
+    let all = adds_then (demonitor_reads ref o) (read_by_flush flushes (is_some found) p) (written_by_unwatch ref o) (written_by_flush flushes (is_some found) p) f g h watch flush in
+    by_line v p (Demonitor (Some ref) (Some flushes)) f h refl
+    (adds_as (demonitor_reads ref o ++ read_by_flush flushes (is_some found) p) (demonitor_reads ref target ++ reads_to_flush flushes p found) (written_by_unwatch ref o ++ written_by_flush flushes (is_some found) p) (map cell_of (ks ++ ls)) f h
+    (λ i. demonitor_reads ref (is i) ++ flush_read flushes p found i)
+    ((λ i. written_by_unwatch ref (is i) ++ flush_written flushes p found i) ∙ ap (λ cs. cs ++ map cell_of ls) (unwatch_written p ref target) ∙ sym (map_both cell_of ks ls)) all)
 
 -- ---- turns that call
 
@@ -139,10 +160,19 @@ receive_off v p waits (Some m) e = absurd (true≢false (sym e))
 receive_off v p true None e = refl
 receive_off v p false None e = absurd (true≢false (sym e))
 
-pub receive_on : (v : Contents) (p : Pid) (waits takes : Bool) (o : Option Meaning) → true ≡ is_some (received waits o) → takes ≡ is_some o → cells.Machine p ∷ (if takes then cells.Mailbox p ∷ [] else []) ≡ written_by v (Turn p) (received waits o)
-receive_on v p waits takes (Some m) e so = ap (λ b. cells.Machine p ∷ (if b then cells.Mailbox p ∷ [] else [])) so
+pub receive_on : (v : Contents) (p : Pid) (waits takes : Bool) (o : Option Meaning) → true ≡ is_some (received waits o) → takes ≡ is_some o → cells.Machine p ∷ (if takes then cells.Taken p ∷ [] else []) ≡ written_by v (Turn p) (received waits o)
+receive_on v p waits takes (Some m) e so = ap (λ b. cells.Machine p ∷ (if b then cells.Taken p ∷ [] else [])) so
 receive_on v p true takes None e so = absurd (true≢false e)
-receive_on v p false takes None e so = ap (λ b. cells.Machine p ∷ (if b then cells.Mailbox p ∷ [] else [])) so
+receive_on v p false takes None e so = ap (λ b. cells.Machine p ∷ (if b then cells.Taken p ∷ [] else [])) so
+
+pub reads_off : (p : Pid) (waits : Bool) (o : Option Meaning) → false ≡ is_some (received waits o) → read_by_taking false p ≡ reads_to_pick p o
+reads_off p waits (Some m) e = absurd (true≢false (sym e))
+reads_off p true None e = refl
+reads_off p false None e = refl
+
+pub reads_on : (p : Pid) (takes : Bool) (o : Option Meaning) → takes ≡ is_some o → read_by_taking takes p ≡ reads_to_pick p o
+reads_on p takes (Some m) so = ap (λ b. read_by_taking b p) so
+reads_on p takes None so = ap (λ b. read_by_taking b p) so
 
 pub waits_takes : (o : Option Meaning) → is_some (received true o) ≡ true → true ≡ is_some o
 waits_takes None e = absurd (true≢false (sym e))
@@ -156,7 +186,7 @@ effect_ends w r (Arrives m) f g e adds = absurd cc
 effect_ends w r IsIgnored f g e adds = absurd cc
 effect_ends w r IsDropped f g e adds = absurd cc
 
-pub effect_mails : (w : Contents) (r : Pid) (fate : Fate) (f g : Footprint) → outcomes.Mails ≡ outcome_of fate → Adds [] (cells.Mailbox r ∷ []) f g → Adds (reads_if_killed w r fate) (map cell_of (changes_of_fate w r fate)) f g
+pub effect_mails : (w : Contents) (r : Pid) (fate : Fate) (f g : Footprint) → outcomes.Mails ≡ outcome_of fate → Adds [] (cells.Mailed r ∷ []) f g → Adds (reads_if_killed w r fate) (map cell_of (changes_of_fate w r fate)) f g
 effect_mails w r (Kills reason) f g e adds = absurd cc
 effect_mails w r (Arrives m) f g e adds = adds
 effect_mails w r IsIgnored f g e adds = absurd cc

@@ -7,7 +7,7 @@ use Rattle.world_model.specs.Names.{Name, Pid, Ref}
 use Rattle.step_indep.specs.declared.cell.Cell as stored
 use Rattle.step_indep.specs.declared.cell.Cell.TheVariants.{OfProcess, OfChannel, OfName, OfReference, Row, Rows}
 use Rattle.step_indep.specs.declared.cell.ProcessPart.{ProcessPart}
-use Rattle.step_indep.specs.declared.cell.ProcessPart.TheVariants.{Machine, Alive, Trap, Mailbox, Links, Watchers, NameOf, Owned}
+use Rattle.step_indep.specs.declared.cell.ProcessPart.TheVariants.{Machine, Alive, Trap, Taken, Mailed, Links, Watchers, NameOf, Owned}
 use Rattle.step_indep.specs.declared.cell.ChannelPart.{ChannelPart}
 use Rattle.step_indep.specs.declared.cell.ChannelPart.TheVariants.{Front, Tail}
 use Rattle.step_indep.specs.declared.cell.NamePart.{NamePart}
@@ -19,7 +19,8 @@ abbrev pub process_cell : ProcessPart → Pid → cells.Cell
 process_cell Machine p = cells.Machine p
 process_cell Alive p = cells.Alive p
 process_cell Trap p = cells.Trap p
-process_cell Mailbox p = cells.Mailbox p
+process_cell Taken p = cells.Taken p
+process_cell Mailed p = cells.Mailed p
 process_cell Links p = cells.Links p
 process_cell Watchers p = cells.Watchers p
 process_cell NameOf p = cells.NameOf p

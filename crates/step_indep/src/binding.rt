@@ -1,14 +1,16 @@
 // Watches, names, flags and questions: what each call reads and writes (erlang manual, `monitor/2`, `demonitor/2`,
 // `process_flag/2`, `register/2`, `unregister/1`, `whereis/1`, `is_process_alive/1`).
-ghost use Rattle.std.specs.Prelude.{◌≡◌, ◌∷◌, [], false, true, OnOk, Some, is_none, option_copied, option_map};
+ghost use Rattle.std.specs.Prelude.{◌≡◌, ◌∷◌, [], false, true, OnOk, Some, is_none, is_some, option_copied, option_map};
 ghost use Rattle.core_tree.specs.Syntax.{ModuleTree};
 ghost use Rattle.proc_calls.specs.Arguments.{flushes, is_process, traps};
 ghost use Rattle.proc_groups.specs.References.{ref_of};
-ghost use Rattle.step_indep.specs.Footprints.{AreMore};
-ghost use Rattle.step_indep.specs.inside.Written.{AddsCall, reads_of_whom, written_by_flush, written_by_unwatch, written_by_watch};
+ghost use Rattle.step_indep.specs.Footprints.{Adds, AreMore};
+ghost use Rattle.step_indep.specs.inside.Written.{AddsCall, read_by_flush, reads_of_whom, written_by_flush, written_by_unwatch, written_by_watch};
 ghost use Rattle.world_model.specs.Calls as calls;
 ghost use Rattle.world_model.specs.Cells as cells;
 ghost use Rattle.world_model.specs.Cells.{Contents};
+ghost use Rattle.world_model.specs.Changes.{is_of_watch};
+ghost use Rattle.world_model.specs.Mailboxes.{mailbox_in, selected_of};
 ghost use Rattle.world_model.specs.Names as names;
 ghost use Rattle.world_model.specs.ProcessLines.{demonitor_reads, register_refusal};
 ghost use Rattle.world_records.specs.Records.{Agrees};
@@ -19,8 +21,9 @@ use crate::cell::{
     put_of_process, put_of_reference,
 };
 use crate::footprints::Footprint;
-use crate::readings::{has_name, holder, lives, watched};
+use crate::readings::{has_down, has_name, holder, lives, watched};
 use crate::spawning::next_reference;
+use crate::taking::{read_taking, write_taking};
 use proc_calls::{Flushing, MonitorType, Trapping};
 use std::alloc::{AllocError, Global};
 use term_core::{Atom, Pid, RefId};
@@ -125,12 +128,25 @@ fn write_unwatch(
     }
 }
 
-// The message of a watch goes, or stays.
-fn write_flush(caller: &Pid, flushing: Flushing, writes: &mut Vec<Cell>) -> Result<(), AllocError>
-    ensures { OnOk result (AreMore (written_by_flush (flushes flushing) caller.now) writes.old.items writes.new.items) }
+// The message of a watch is taken, if it is there, or stays.
+fn flush(
+    records: &Records<'_>,
+    caller: &Pid,
+    reference: &RefId,
+    flushing: Flushing,
+    footprint: &mut Footprint,
+) -> Result<(), AllocError>
+    ensures { OnOk result ((m : ModuleTree) (v : Contents) → Agrees m records.now v → Adds
+        (read_by_flush (flushes flushing) (is_some (selected_of (is_of_watch (ref_of reference.now)) (mailbox_in v caller.now))) caller.now)
+        (written_by_flush (flushes flushing) (is_some (selected_of (is_of_watch (ref_of reference.now)) (mailbox_in v caller.now))) caller.now) footprint.old footprint.new) }
 {
     match flushing {
-        Flushing::Flushes => put_of_process(writes, ProcessPart::Mailbox, caller),
+        Flushing::Flushes => {
+            let takes = has_down(records, caller, reference);
+            read_taking(takes, caller, &mut footprint.reads)?;
+            write_taking(takes, caller, &mut footprint.writes)?;
+            Ok(())
+        }
         Flushing::Keeps => Ok(()),
     }
 }
@@ -151,7 +167,7 @@ fn demonitor_of(
         return Ok(());
     };
     write_unwatch(reference, target, &mut footprint.writes)?;
-    write_flush(caller, flushing, &mut footprint.writes)?;
+    flush(records, caller, reference, flushing, footprint)?;
     Ok(())
 }
 

@@ -18,8 +18,10 @@ pub enum ProcessPart {
     Alive,
     /// Whether it traps exits (erlang manual, `process_flag/2`).
     Trap,
-    /// Its messages.
-    Mailbox,
+    /// What was taken from its mailbox.
+    Taken,
+    /// What came into its mailbox.
+    Mailed,
     /// To whom it is linked.
     Links,
     /// By whom it is watched.

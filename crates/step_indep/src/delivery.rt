@@ -206,7 +206,7 @@ fn take_effect(
 {
     match outcome_at(records, from, to, signal) {
         Outcome::Ends => kill(records, from, to, signal, footprint),
-        Outcome::Mails => put_of_process(&mut footprint.writes, ProcessPart::Mailbox, to),
+        Outcome::Mails => put_of_process(&mut footprint.writes, ProcessPart::Mailed, to),
         Outcome::Nothing => Ok(()),
     }
 }
@@ -240,6 +240,6 @@ pub(crate) fn deliver(
 {
     match front(records, from, to) {
         Some(signal) => deliver_signal(records, from, to, signal, footprint),
-        None => Ok(()),
+        None => put_of_channel(&mut footprint.reads, ChannelPart::Tail, from, to),
     }
 }

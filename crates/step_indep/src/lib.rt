@@ -15,6 +15,7 @@ pub mod readings;
 pub mod spawning;
 pub mod step;
 pub mod tables;
+pub mod taking;
 pub mod turn;
 
 pub use cell::{Cell, ChannelPart, NamePart, ProcessPart, ReferencePart};

@@ -23,11 +23,12 @@ fn place_of_process(part: ProcessPart) -> u8
         ProcessPart::Machine => 0,
         ProcessPart::Alive => 1,
         ProcessPart::Trap => 2,
-        ProcessPart::Mailbox => 3,
-        ProcessPart::Links => 4,
-        ProcessPart::Watchers => 5,
-        ProcessPart::NameOf => 6,
-        ProcessPart::Owned => 7,
+        ProcessPart::Taken => 3,
+        ProcessPart::Mailed => 4,
+        ProcessPart::Links => 5,
+        ProcessPart::Watchers => 6,
+        ProcessPart::NameOf => 7,
+        ProcessPart::Owned => 8,
     }
 }
 

@@ -34,10 +34,10 @@ use world_records::Records;
 
 // A signal to oneself, which takes effect at once.
 fn to_itself(caller: &Pid, footprint: &mut Footprint) -> Result<(), AllocError>
-    ensures { OnOk result (Adds (cells.Trap caller.now ∷ []) (cells.Mailbox caller.now ∷ []) footprint.old footprint.new) }
+    ensures { OnOk result (Adds (cells.Trap caller.now ∷ []) (cells.Mailed caller.now ∷ []) footprint.old footprint.new) }
 {
     put_of_process(&mut footprint.reads, ProcessPart::Trap, caller)?;
-    put_of_process(&mut footprint.writes, ProcessPart::Mailbox, caller)?;
+    put_of_process(&mut footprint.writes, ProcessPart::Mailed, caller)?;
     Ok(())
 }
 

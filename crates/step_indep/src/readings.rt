@@ -7,7 +7,8 @@ ghost use Rattle.proc_machines.specs.Processes.{lives_in};
 ghost use Rattle.proc_signals.specs.Signal.{signal_of};
 ghost use Rattle.world_model.specs.Cells as cells;
 ghost use Rattle.world_model.specs.Cells.{Contents};
-ghost use Rattle.world_model.specs.Changes.{Dies, changed};
+ghost use Rattle.world_model.specs.Changes.{Dies, changed, is_of_watch};
+ghost use Rattle.world_model.specs.Mailboxes.{mailbox_in, selected_of};
 ghost use Rattle.world_model.specs.Names as names;
 ghost use Rattle.world_model.specs.Names.{same_pid};
 ghost use Rattle.world_model.specs.Signals.{first_of, waiting_in};
@@ -78,4 +79,14 @@ pub(crate) fn front<'r>(records: &'r Records<'_>, from: &Pid, to: &Pid) -> Optio
     ensures { (m : ModuleTree) (v : Contents) → Agrees m records.now v → option_map (λ signal. signal_of signal.now) result ≡ first_of (waiting_in v from.now to.now) }
 {
     records.channels().front(from, to)
+}
+
+/// Whether the message of a watch lies in the mailbox of a process.
+pub(crate) fn has_down(records: &Records<'_>, pid: &Pid, reference: &RefId) -> bool
+    ensures { (m : ModuleTree) (v : Contents) → Agrees m records.now v → result ≡ is_some (selected_of (is_of_watch (ref_of reference.now)) (mailbox_in v pid.now)) }
+{
+    match records.mailboxes().of(pid) {
+        Some(mailbox) => mailbox.has_down(reference),
+        None => false,
+    }
 }

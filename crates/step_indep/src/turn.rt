@@ -14,7 +14,8 @@ ghost use Rattle.world_model.specs.Cells.{Contents};
 ghost use Rattle.world_model.specs.Changes.{cell_of};
 ghost use Rattle.world_model.specs.Ends.{ends, reads_of_end};
 ghost use Rattle.world_model.specs.Requests as requests;
-ghost use Rattle.world_model.specs.Steps.{asked, deed_asked, reads_of_request, received, selected_of};
+ghost use Rattle.world_model.specs.Steps.{asked, deed_asked, reads_of_request, received};
+ghost use Rattle.world_model.specs.Mailboxes.{mailbox_in, selected_of};
 ghost use Rattle.world_records.specs.Records.{Agrees, processes_of};
 
 use crate::cell::{Cell, ProcessPart, put_of_process};
@@ -22,6 +23,7 @@ use crate::ends::end;
 use crate::footprints::Footprint;
 use crate::on_processes::call_process;
 use crate::on_tables::call_table;
+use crate::taking::{read_taking, write_taking};
 use core_eval::Request;
 use core_tree::CallKind;
 use proc_calls::ProcessRequest;
@@ -46,8 +48,8 @@ fn takes_message(
     pid: &Pid,
     waits: bool,
 ) -> Result<bool, AllocError>
-    ensures { IfOk result (λ takes. (m : ModuleTree) (v : Contents) → Agrees m records.now v → v (cells.Alive pid.now) ≡ true → is_some (received waits (selected_of (selects_in (processes_of records.now) pid.now) (v (cells.Mailbox pid.now)))) ≡ true →
-        takes ≡ is_some (selected_of (selects_in (processes_of records.now) pid.now) (v (cells.Mailbox pid.now)))) }
+    ensures { IfOk result (λ takes. (m : ModuleTree) (v : Contents) → Agrees m records.now v → v (cells.Alive pid.now) ≡ true → is_some (received waits (selected_of (selects_in (processes_of records.now) pid.now) (mailbox_in v pid.now))) ≡ true →
+        takes ≡ is_some (selected_of (selects_in (processes_of records.now) pid.now) (mailbox_in v pid.now))) }
 {
     if waits {
         return Ok(true);
@@ -65,16 +67,6 @@ fn count(counts: bool, pid: &Pid, writes: &mut Vec<Cell>) -> Result<(), AllocErr
     Ok(())
 }
 
-// A message that is taken, if one is.
-fn take(takes: bool, pid: &Pid, writes: &mut Vec<Cell>) -> Result<(), AllocError>
-    ensures { OnOk result (AreMore (if takes then cells.Mailbox pid.now ∷ [] else []) writes.old.items writes.new.items) }
-{
-    if takes {
-        put_of_process(writes, ProcessPart::Mailbox, pid)?;
-    }
-    Ok(())
-}
-
 // A turn that receives.
 fn receive(
     records: &Records<'_>,
@@ -86,13 +78,14 @@ fn receive(
 ) -> Result<(), AllocError>
     ensures { OnOk result (AddsTurn pid.now (requests.Receives waits (selects_in (processes_of records.now) pid.now)) enabled records.now footprint.old footprint.new) }
 {
-    put_of_process(&mut footprint.reads, ProcessPart::Mailbox, pid)?;
     if !enabled {
+        read_taking(false, pid, &mut footprint.reads)?;
         return Ok(());
     }
     let takes = takes_message(records, alloc, pid, waits)?;
+    read_taking(takes, pid, &mut footprint.reads)?;
     put_of_process(&mut footprint.writes, ProcessPart::Machine, pid)?;
-    take(takes, pid, &mut footprint.writes)?;
+    write_taking(takes, pid, &mut footprint.writes)?;
     Ok(())
 }
 

@@ -6,12 +6,14 @@ use Rattle.core_tree.specs.Syntax.{ModuleTree}
 use Rattle.world_model.specs.Calls.{Spawn, SpawnWay, Send, ToName, Link, Monitor, Demonitor, Register, Unregister}
 use Rattle.world_model.specs.Cells as cells
 use Rattle.world_model.specs.Cells.{Contents}
-use Rattle.world_model.specs.Changes.{Change, Begins, Lives, after, changed}
+use Rattle.world_model.specs.Changes.{Change, Begins, Lives, after, changed, is_of_watch}
 use Rattle.world_model.specs.Events.{Badarg, NoProcess}
+use Rattle.world_model.specs.Mailboxes.{mailbox_in, selected_of}
 use Rattle.world_model.specs.Names.{Name, Pid, Ref, same_pid}
 use Rattle.world_model.specs.ProcessLines.{bound, child_told, flushed, gone_told, link_changes, link_refusal, link_way, next_child, next_ref, register_refusal, sent, sent_to_holder, unless_held, unregister_line, watch_begins, watch_ends}
 use Rattle.world_model.specs.Requests.{Origin}
 use Rattle.world_model.specs.Terms.{ok, reference}
+use Rattle.world_model.proofs.MailLaws.{ended_alone}
 use Rattle.proc_links.specs.Links.{way_of}
 use Rattle.proc_links.specs.Names.{changes_registered, refusal_of}
 use Rattle.proc_links.specs.declared.links.Linking.{Linking}
@@ -67,12 +69,12 @@ watch_serves m v p q ref new is are = record {
 }
 
 pub unwatch_serves : (m : ModuleTree) (v : Contents) (p : Pid) (ref : Ref) (flushes : Bool) (answer : Meaning) (new : Records) → answer ≡ ok
-    → Agrees m new (after (flushed flushes p ref) (after (watch_ends p ref (v (cells.Watch ref))) v)) → IsServed m v p (Demonitor (Some ref) (Some flushes)) answer new
+    → Agrees m new (after (flushed flushes p (selected_of (is_of_watch ref) (mailbox_in (after (watch_ends p ref (v (cells.Watch ref))) v) p))) (after (watch_ends p ref (v (cells.Watch ref))) v)) → IsServed m v p (Demonitor (Some ref) (Some flushes)) answer new
 unwatch_serves m v p ref flushes answer new answered are = record {
   goes_on = refl;
   is_served = refl;
   answers = answered;
-  leaves = subst (λ w. Agrees m new w) (sym (after_append (watch_ends p ref (v (cells.Watch ref))) (flushed flushes p ref) v)) are;
+  leaves = subst (λ w. Agrees m new w) (ap (λ xs. after (flushed flushes p (selected_of (is_of_watch ref) xs)) (after (watch_ends p ref (v (cells.Watch ref))) v)) (ended_alone p ref (v (cells.Watch ref)) v p) ∙ sym (after_append (watch_ends p ref (v (cells.Watch ref))) (flushed flushes p (selected_of (is_of_watch ref) (mailbox_in v p))) v)) are;
 }
 
 -- ---- names

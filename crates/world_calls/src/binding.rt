@@ -4,6 +4,8 @@ ghost use Rattle.proc_calls.specs.Arguments.{flushes, is_process};
 ghost use Rattle.proc_links.specs.Process.{ref_of};
 ghost use Rattle.world_calls.specs.Replies.{Replies};
 ghost use Rattle.world_model.specs.Calls as calls;
+ghost use Rattle.world_model.specs.Changes.{is_of_watch};
+ghost use Rattle.world_model.specs.Mailboxes.{mailbox_in, selected_of};
 ghost use Rattle.world_model.specs.ProcessLines.{flushed};
 ghost use Rattle.world_records.specs.Records.{Follows};
 
@@ -88,7 +90,7 @@ fn flush_if(
     reference: &RefId,
     flushing: Flushing,
 ) -> Result<(), AllocError>
-    ensures { OnOk result (Follows (λ v. flushed (flushes flushing) caller.now (ref_of reference.now)) records.old records.new) }
+    ensures { OnOk result (Follows (λ v. flushed (flushes flushing) caller.now (selected_of (is_of_watch (ref_of reference.now)) (mailbox_in v caller.now))) records.old records.new) }
 {
     match flushing {
         Flushing::Flushes => {

@@ -4,12 +4,13 @@ use Rattle.term_core.specs.Meaning.{Meaning}
 use Rattle.term_core.specs.declared.step.Step.TheVariants.{Turn}
 use Rattle.core_calls.specs.declared.call.CallKind.{CallKind}
 use Rattle.world_model.specs.Calls.{call_of}
-use Rattle.world_model.specs.Cells.{Alive, Contents, Machine, Mailbox}
+use Rattle.world_model.specs.Cells.{Alive, Contents, Machine}
 use Rattle.world_model.specs.Events.{Deed, Event, event, History}
+use Rattle.world_model.specs.Mailboxes.{mailbox_in, selected_of}
 use Rattle.world_model.specs.Names.{Pid}
 use Rattle.world_model.specs.Requests.{Program, Request, Calls, Receives, Ends, RunsAway}
 use Rattle.world_model.specs.Run.{next_event}
-use Rattle.world_model.specs.Steps.{asked, deed_asked, must_wait, received, selected_of}
+use Rattle.world_model.specs.Steps.{asked, deed_asked, must_wait, received}
 use Rattle.world_model.specs.World.{alive, contents}
 use Rattle.world_core.specs.Waiting.{WaitsAt, Waits}
 
@@ -24,7 +25,7 @@ received_if waits (Some message) not = (_, refl)
 
 has_deed : (v : Contents) (p : Pid) (request : Request) → (WaitsAt v p request → ⊥) → (d : Deed) × (deed_asked v p request ≡ Some d)
 has_deed v p (Calls kind arguments) not = served_if (must_wait v p (call_of kind arguments)) _ not
-has_deed v p (Receives waits selects) not = received_if waits (selected_of selects (v (Mailbox p))) not
+has_deed v p (Receives waits selects) not = received_if waits (selected_of selects (mailbox_in v p)) not
 has_deed v p (Ends reason) not = (_, refl)
 has_deed v p RunsAway not = (_, refl)
 
@@ -37,7 +38,7 @@ none_received waits o w e = λ i. received (w i) (e i)
 
 has_none : (v : Contents) (p : Pid) (request : Request) → WaitsAt v p request → deed_asked v p request ≡ None
 has_none v p (Calls kind arguments) waits = none_if (must_wait v p (call_of kind arguments)) _ waits
-has_none v p (Receives waits_ selects) waits = none_received waits_ (selected_of selects (v (Mailbox p))) waits.0 waits.1
+has_none v p (Receives waits_ selects) waits = none_received waits_ (selected_of selects (mailbox_in v p)) waits.0 waits.1
 has_none v p (Ends reason) waits = absurd waits
 has_none v p RunsAway waits = absurd waits
 

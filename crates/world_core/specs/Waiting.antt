@@ -1,17 +1,18 @@
 -- When a process that lives has no turn.
 use Rattle.std.specs.Prelude.{◌≡◌, true, None}
 use Rattle.world_model.specs.Calls.{call_of}
-use Rattle.world_model.specs.Cells.{Contents, Machine, Mailbox}
+use Rattle.world_model.specs.Cells.{Contents, Machine}
 use Rattle.world_model.specs.Events.{History}
+use Rattle.world_model.specs.Mailboxes.{mailbox_in, selected_of}
 use Rattle.world_model.specs.Names.{Pid}
 use Rattle.world_model.specs.Requests.{Program, Request, Calls, Receives, Ends, RunsAway}
-use Rattle.world_model.specs.Steps.{asked, must_wait, selected_of}
+use Rattle.world_model.specs.Steps.{asked, must_wait}
 use Rattle.world_model.specs.World.{alive, contents}
 
 -- a process that asks this waits: for a message that its receive selects, or until its own signals to a process have arrived of which it asks whether it lives
 abbrev pub WaitsAt : Contents → Pid → Request → Type 0
 WaitsAt v p (Calls kind arguments) = must_wait v p (call_of kind arguments) ≡ true
-WaitsAt v p (Receives waits selects) = (waits ≡ true) × (selected_of selects (v (Mailbox p)) ≡ None)
+WaitsAt v p (Receives waits selects) = (waits ≡ true) × (selected_of selects (mailbox_in v p) ≡ None)
 WaitsAt v p (Ends reason) = ⊥
 WaitsAt v p RunsAway = ⊥
 

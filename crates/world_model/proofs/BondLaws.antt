@@ -7,10 +7,11 @@ use Rattle.term_core.specs.declared.step.Step.TheVariants.{Deliver, Turn}
 use Rattle.world_model.specs.Bonds.{paired_by_way, linked_by_call, way_now, linked_in, LinkedIsTold, watched_by_call, watched_in, WatchedIsTold, vacated, held_by_call, name_of_ended, held_in, HolderIsTold}
 use Rattle.world_model.specs.Calls.{Link, Call, Spawn, Alone, Linked, Watched, Unlink, OnTable, call_of, Monitor, Demonitor, Register, Unregister}
 use Rattle.world_model.specs.Cells.{Cell, Links, Table, Contents, Watch, Watchers, Alive, Holder, NameOf, Owned}
-use Rattle.world_model.specs.Changes.{after, changed, Turns, Fetches, Unwatches, Sheds, Touches, Change, Dies, Halts, Empties}
+use Rattle.world_model.specs.Changes.{is_of_watch, after, changed, Turns, Fetches, Unwatches, Sheds, Touches, Change, Dies, Halts, Empties}
 use Rattle.world_model.specs.Ends.{ends, passed, table_passes, living_heir, tables_pass, partners_told, watchers_told, name_left}
 use Rattle.world_model.specs.Events.{History, Fate, Signal, Delivered, Message, Exit, LinkExit, Down, Arrives, IsIgnored, IsDropped, Kills, Deed, Served, Refused, EndedItself, Ended, Received, TimedOut, RanAway}
 use Rattle.world_model.specs.Lines.{line}
+use Rattle.world_model.specs.Mailboxes.{mailbox_in, selected_of}
 use Rattle.world_model.specs.Names.{Pid, same_pid, Ref, same_ref, Name, same_name}
 use Rattle.world_model.specs.ProcessLines.{LinkWay, link_changes, Stands, Pairs, PairsGone, Fails, watch_ends, flushed, gone_told, next_ref, watch_begins, unregister_line}
 use Rattle.world_model.specs.Signals.{goes_with, put_if}
@@ -95,9 +96,10 @@ watch_told : (p : Pid) (u ref : Ref) (o : Option Pid) (w : Contents) → w (Watc
 watch_told p u ref None w is = either_way (same_ref u ref) (w (Watch ref)) ∙ ends_if (same_pid u.pid p) (same_ref u ref) (w (Watch ref)) (λ same. ap (λ r. w (Watch r)) (sym (refs_same u ref same)) ∙ is)
 watch_told p u ref (Some q) w is = watch_left p u ref (same_pid u.pid p) q w
 
-flush_told : (b : Bool) (p : Pid) (u ref : Ref) (w : Contents) → after (flushed b p u) w (Watch ref) ≡ w (Watch ref)
-flush_told true p u ref w = refl
-flush_told false p u ref w = refl
+flush_told : (b : Bool) (p : Pid) (o : Option Meaning) (ref : Ref) (w : Contents) → after (flushed b p o) w (Watch ref) ≡ w (Watch ref)
+flush_told false p o ref w = refl
+flush_told true p None ref w = refl
+flush_told true p (Some m) ref w = refl
 
 gone_watched : (b : Bool) (p q : Pid) (u ref : Ref) (w : Contents) → after (gone_told b p q u) w (Watch ref) ≡ w (Watch ref)
 gone_watched true p q u ref w = refl
@@ -118,7 +120,8 @@ call_watched h w p (Demonitor None flushes) ref same = refl
 call_watched h w p (Demonitor (Some u) None) ref same = refl
 call_watched h w p (Demonitor (Some u) (Some flushes)) ref same =
     let ks = watch_ends p u (contents h (Watch u)) in
-    after_both ks (flushed flushes p u) w (Watch ref) ∙ flush_told flushes p u ref (after ks w) ∙ watch_told p u ref (contents h (Watch u)) w (same u)
+    let found = selected_of (is_of_watch u) (mailbox_in (contents h) p) in
+    after_both ks (flushed flushes p found) w (Watch ref) ∙ flush_told flushes p found ref (after ks w) ∙ watch_told p u ref (contents h (Watch u)) w (same u)
 call_watched h w p (OnTable argument call) ref same = call_leaves (contents h) w p (OnTable argument call) (Watch ref) (no_watch call ref)
 call_watched h w p call ref same = call_leaves (contents h) w p call (Watch ref) refl
 

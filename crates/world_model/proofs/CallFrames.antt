@@ -1,13 +1,15 @@
 -- The law of frames of each call: contents that agree on what its line reads give it the same line.
-use Rattle.std.proofs.Common.{◌∙◌, refl, ap, subst}
+use Rattle.std.proofs.Common.{◌∙◌, refl, ap, subst, sym}
 use Rattle.std.specs.Prelude.{if◌then◌else◌, ◌≡◌, ◌∷◌, Bool, true, false, Option, None, Some, [], List, codes}
 use Rattle.term_core.specs.Meaning.{Meaning}
 use Rattle.world_model.specs.Calls.{Call, Spawn, Send, ToNobody, ToProcess, ToName, SendExit, Link, Unlink, Monitor, Demonitor, Flag, Register, Unregister, WhereIs, IsAlive, MakeRef, New, OnTable, Misfit}
-use Rattle.world_model.specs.Cells.{Contents, TableName, Holder, Machine, Trap, Alive, Front, Tail}
-use Rattle.world_model.specs.Changes.{Traps}
+use Rattle.world_model.specs.Cells.{Contents, TableName, Holder, Machine, Trap, Alive, Front, Tail, Watch}
+use Rattle.world_model.specs.Changes.{Traps, is_of_watch}
+use Rattle.world_model.specs.Ends.{alive_if}
 use Rattle.world_model.specs.Events.{Message, Exit}
 use Rattle.world_model.specs.Frames.{AgreeOn}
 use Rattle.world_model.specs.Lines.{line}
+use Rattle.world_model.specs.Mailboxes.{left_of, mailbox_in, selected_of, reads_to_pick}
 use Rattle.world_model.specs.Names.{Pid, same_pid, Name, Ref}
 use Rattle.world_model.specs.NewTables.{name_taken, new_reads, new_rule, new_line}
 use Rattle.world_model.specs.ProcessLines.{sent, read_of_target, exited, holder_read, sent_to_holder, unregister_line, register_line, spawn_line, serves, serves_unless, unless_held, link_line, link_way, monitor_line, ref_of, badarg, demonitor_reads, demonitor_line}
@@ -15,7 +17,7 @@ use Rattle.world_model.specs.Signals.{put_if}
 use Rattle.world_model.specs.Tables.{TableOption, is_named}
 use Rattle.world_model.specs.Terms.{ok, truth, process_or, reference}
 use Rattle.world_model.specs.declared.rule.Rule.{Rule}
-use Rattle.world_model.proofs.TableFrames.{on_table_framed}
+use Rattle.world_model.proofs.TableFrames.{on_table_framed, agree_parts}
 
 -- ---- signals that are put
 
@@ -30,6 +32,16 @@ exited_framed v w p to r false agree = λ i. put_if (agree.0.0 i) p to (Exit r)
 holder_framed : (v w : Contents) (p : Pid) (o : Option Pid) (m : Meaning) → AgreeOn v w (holder_read p o) → sent_to_holder v p o m ≡ sent_to_holder w p o m
 holder_framed v w p None m agree = refl
 holder_framed v w p (Some to) m agree = sent_framed v w p to m (same_pid p to) agree
+
+-- ---- mailboxes
+
+found_framed : (v w : Contents) (p : Pid) (selects : Meaning → Bool) (o : Option Meaning) → selected_of selects (mailbox_in v p) ≡ o → AgreeOn v w (reads_to_pick p o) → selected_of selects (mailbox_in w p) ≡ o
+found_framed v w p selects None is agree = sym (λ i. selected_of selects (left_of (agree.0.0 i) (agree.1.0.0 i))) ∙ is
+found_framed v w p selects (Some m) is agree = agree.0.1 selects m is
+
+-- who agrees on what is read to take a message finds the same
+pub selected_framed : (v w : Contents) (p : Pid) (selects : Meaning → Bool) → AgreeOn v w (reads_to_pick p (selected_of selects (mailbox_in v p))) → selected_of selects (mailbox_in v p) ≡ selected_of selects (mailbox_in w p)
+selected_framed v w p selects agree = sym (found_framed v w p selects (selected_of selects (mailbox_in v p)) refl agree)
 
 -- ---- names
 
@@ -74,7 +86,10 @@ call_framed v w p (Monitor false (Some q)) machine agree = refl
 call_framed v w p (Monitor true (Some q)) machine agree = λ i. monitor_line p q (ref_of p (machine i)) (agree.0.0 i)
 call_framed v w p (Demonitor None flushes) machine agree = refl
 call_framed v w p (Demonitor (Some ref) None) machine agree = λ i. badarg (demonitor_reads ref (agree.0.0 i))
-call_framed v w p (Demonitor (Some ref) (Some flushes)) machine agree = λ i. demonitor_line p ref flushes (agree.0.0 i)
+call_framed v w p (Demonitor (Some ref) (Some false)) machine agree = λ i. demonitor_line p ref false (agree.0.0 i) None
+call_framed v w p (Demonitor (Some ref) (Some true)) machine agree =
+    let parts = agree_parts v w (alive_if (v (Watch ref))) (reads_to_pick p (selected_of (is_of_watch ref) (mailbox_in v p))) agree.1 in
+    λ i. demonitor_line p ref true (agree.0.0 i) (selected_framed v w p (is_of_watch ref) parts.1 i)
 call_framed v w p (Flag None) machine agree = refl
 call_framed v w p (Flag (Some traps)) machine agree = λ i. serves (Trap p ∷ []) (truth (agree.0.0 i)) (Traps p traps ∷ [])
 call_framed v w p (Register None None) machine agree = refl

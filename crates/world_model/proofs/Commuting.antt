@@ -1,18 +1,20 @@
 -- Changes leave the cells that they do not touch, and so independent steps commute.
-use Rattle.std.proofs.Common.{◌≡◌, Bool, true, false, ◌||◌, ◌&&◌, ℕ, List, [], ◌∷◌, ◌++◌, Some, refl, sym, ap, ◌∙◌, suc, zero, append_assoc, true≢false, if◌then◌else◌, map, ◌⊎◌, inl, inr, drop}
+use Rattle.std.proofs.Common.{◌≡◌, Bool, true, false, ◌||◌, ◌&&◌, ℕ, List, [], ◌∷◌, ◌++◌, Option, Some, refl, sym, ap, ◌∙◌, suc, zero, append_assoc, true≢false, if◌then◌else◌, map, ◌⊎◌, inl, inr, drop}
+use Rattle.term_core.specs.Meaning.{Meaning}
 use Rattle.term_core.specs.declared.step.Step.{Step}
-use Rattle.world_model.specs.Names.{Pid, Ref, same_ref}
+use Rattle.world_model.specs.Names.{Pid, Ref, same_ref, same_term}
 use Rattle.world_model.specs.Requests.{Program}
 use Rattle.world_model.specs.Events.{Signal}
 use Rattle.world_model.specs.Rows.{Key, same_key, RowChange, rows_rewritten}
-use Rattle.world_model.specs.Cells.{Cell, Front, Tail, Row, Rows, meet, Contents}
-use Rattle.world_model.specs.Changes.{Change, Puts, Writes, Touches, cell_of, renewed, changed, after}
+use Rattle.world_model.specs.Cells.{Cell, Taken, Mailed, Front, Tail, Row, Rows, meet, Contents}
+use Rattle.world_model.specs.Changes.{Change, Mails, without_first, Puts, Writes, Touches, cell_of, renewed, changed, after}
+use Rattle.world_model.specs.Mailboxes.{left_of, mailbox_in, selected_of}
 use Rattle.world_model.specs.Signals.{first_of}
 use Rattle.world_model.specs.Steps.{reads}
 use Rattle.world_model.specs.Frames.{SeesFirst, AgreeOn}
 use Rattle.world_model.proofs.Meeting.{is_row, left_meets, right_meets, both, refs_same}
 use Rattle.world_model.proofs.RowLaws.{rows_swapped, keys_same}
-use Rattle.world_model.proofs.Outcomes.{Outcome, outcome, touches, meets, IsHeld, AreHeld, AreIndependent, Commute}
+use Rattle.world_model.proofs.Outcomes.{Outcome, outcome, touches, meets, AreIndependent, Commute}
 
 -- ---- tests
 
@@ -52,18 +54,15 @@ first_stays zero (z ∷ xs) ys x e = e
 first_stays (suc n) [] ys x e = absurd cc
 first_stays (suc n) (z ∷ xs) ys x e = first_stays n xs ys x e
 
-IsLonger : List Signal → List Signal → Type 0
-IsLonger before now = (more : List Signal) × (now ≡ before ++ more)
-
-not_longer : (xs : List Signal) → xs ≡ xs ++ []
+not_longer : {A : Type 0} (xs : List A) → xs ≡ xs ++ []
 not_longer [] = refl
 not_longer (x ∷ xs) = ap (λ ys. x ∷ ys) (not_longer xs)
 
-longer_by : (b : Bool) (xs : List Signal) (x : Signal) → (more : List Signal) × ((if b then xs ++ (x ∷ []) else xs) ≡ xs ++ more)
+longer_by : {A : Type 0} (b : Bool) (xs : List A) (x : A) → (more : List A) × ((if b then xs ++ (x ∷ []) else xs) ≡ xs ++ more)
 longer_by true xs x = (x ∷ [], refl)
 longer_by false xs x = ([], not_longer xs)
 
-same_as : (b : Bool) (xs : List Signal) → (more : List Signal) × ((if b then xs else xs) ≡ xs ++ more)
+same_as : {A : Type 0} (b : Bool) (xs : List A) → (more : List A) × ((if b then xs else xs) ≡ xs ++ more)
 same_as true xs = ([], not_longer xs)
 same_as false xs = ([], not_longer xs)
 
@@ -79,23 +78,70 @@ grown (k ∷ ks) v s r =
     let rest = grown ks (changed k v) s r in
     (one.0 ++ rest.0, rest.1 ∙ ap (λ xs. xs ++ rest.0) one.1 ∙ append_assoc (v (Tail s r)) one.0 rest.0)
 
+-- ---- a mailbox
+
+-- what came only grows
+came_by : (k : Change) (v : Contents) (p : Pid) → (more : List Meaning) × (changed k v (Mailed p) ≡ v (Mailed p) ++ more)
+came_by (Mails q m) v p = longer_by (meet (Mailed q) (Mailed p)) (v (Mailed p)) m
+came_by k v p = same_as (meet (cell_of k) (Mailed p)) (v (Mailed p))
+
+pub came : (ks : List Change) (v : Contents) (p : Pid) → (more : List Meaning) × (after ks v (Mailed p) ≡ v (Mailed p) ++ more)
+came [] v p = ([], not_longer (v (Mailed p)))
+came (k ∷ ks) v p =
+    let one = came_by k v p in
+    let rest = came ks (changed k v) p in
+    (one.0 ++ rest.0, rest.1 ∙ ap (λ xs. xs ++ rest.0) one.1 ∙ append_assoc (v (Mailed p)) one.0 rest.0)
+
+-- what comes behind stays behind what is left
+without_by : (b : Bool) (x : Meaning) (xs ys us ws more : List Meaning) → us ≡ ws ++ more → (rest : List Meaning) × ((if b then xs ++ ys else x ∷ us) ≡ (if b then xs else x ∷ ws) ++ rest)
+without_by true x xs ys us ws more is = (ys, refl)
+without_by false x xs ys us ws more is = (more, ap (λ zs. x ∷ zs) is)
+
+without_more : (test : Meaning → Bool) (xs ys : List Meaning) → (more : List Meaning) × (without_first test (xs ++ ys) ≡ without_first test xs ++ more)
+without_more test [] ys = (without_first test ys, refl)
+without_more test (x ∷ xs) ys =
+    let rest = without_more test xs ys in
+    without_by (test x) x xs ys (without_first test (xs ++ ys)) (without_first test xs) rest.0 rest.1
+
+left_more : (taken xs ys : List Meaning) → (more : List Meaning) × (left_of taken (xs ++ ys) ≡ left_of taken xs ++ more)
+left_more [] xs ys = (ys, refl)
+left_more (t ∷ ts) xs ys =
+    let one = without_more (same_term t) xs ys in
+    let rest = left_more ts (without_first (same_term t) xs) one.0 in
+    (rest.0, ap (left_of ts) one.1 ∙ rest.1)
+
+-- and does not matter to who finds a message
+found_by : (b : Bool) (x m : Meaning) (o q : Option Meaning) → (o ≡ Some m → q ≡ Some m) → (if b then Some x else o) ≡ Some m → (if b then Some x else q) ≡ Some m
+found_by true x m o q rest is = is
+found_by false x m o q rest is = rest is
+
+selected_stays : (selects : Meaning → Bool) (xs ys : List Meaning) (m : Meaning) → selected_of selects xs ≡ Some m → selected_of selects (xs ++ ys) ≡ Some m
+selected_stays selects [] ys m is = absurd cc
+selected_stays selects (x ∷ xs) ys m is = found_by (selects x) x m (selected_of selects xs) (selected_of selects (xs ++ ys)) (selected_stays selects xs ys m) is
+
 -- ---- the law of frames, and commuting
 
--- a reader of a front that is held sees the same signal there
-sees_first : (ks : List Change) (v : Contents) (all : List Cell) (c : Cell) → IsHeld v all c → meets ks all ≡ false → touches ks c ≡ false → SeesFirst v (after ks v) c
-sees_first ks v all (Front s r) (inl held) apart other =
+-- what is first stays first
+sees_first : (ks : List Change) (v : Contents) (c : Cell) → touches ks c ≡ false → SeesFirst v (after ks v) c
+sees_first ks v (Front s r) other =
     let more = grown ks v s r in
-    held.1 ∙ sym (ap (λ n. first_of (drop n (after ks v (Tail s r)))) (stays ks v (Front s r) other) ∙ ap (λ xs. first_of (drop (v (Front s r)) xs)) more.1 ∙ first_stays (v (Front s r)) (v (Tail s r)) more.0 held.0 held.1)
-sees_first ks v all (Front s r) (inr held) apart other =
-    λ i. first_of (drop (sym (stays ks v (Front s r) other) i) (sym (stays ks v (Tail s r) (held ks apart)) i))
-sees_first ks v all c held apart other = tt
+    λ x is. ap (λ n. first_of (drop n (after ks v (Tail s r)))) (stays ks v (Front s r) other) ∙ ap (λ xs. first_of (drop (v (Front s r)) xs)) more.1 ∙ first_stays (v (Front s r)) (v (Tail s r)) more.0 x is
+sees_first ks v (Taken p) other =
+    let more = came ks v p in
+    let rest = left_more (v (Taken p)) (v (Mailed p)) more.0 in
+    λ selects m is.
+    ap (λ ts. selected_of selects (left_of ts (after ks v (Mailed p)))) (stays ks v (Taken p) other)
+    ∙ ap (λ xs. selected_of selects (left_of (v (Taken p)) xs)) more.1
+    ∙ ap (selected_of selects) rest.1
+    ∙ selected_stays selects (mailbox_in v p) rest.0 m is
+sees_first ks v c other = tt
 
 -- so what is read stays where it is not touched
-agree_after : (ks : List Change) (v : Contents) (all cs : List Cell) → AreHeld v all cs → meets ks all ≡ false → meets ks cs ≡ false → AgreeOn v (after ks v) cs
-agree_after ks v all [] held apart other = tt
-agree_after ks v all (c ∷ cs) held apart other =
+agree_after : (ks : List Change) (v : Contents) (cs : List Cell) → meets ks cs ≡ false → AgreeOn v (after ks v) cs
+agree_after ks v [] other = tt
+agree_after ks v (c ∷ cs) other =
     let here = left_false (touches ks c) (meets ks cs) other in
-    ((sym (stays ks v c here), sees_first ks v all c held.0 apart here), agree_after ks v all cs held.1 apart (right_false (touches ks c) (meets ks cs) other))
+    ((sym (stays ks v c here), sees_first ks v c here), agree_after ks v cs (right_false (touches ks c) (meets ks cs) other))
 
 -- ---- two changes that do not meet leave the same in either order
 
@@ -197,18 +243,14 @@ same_in_order (k ∷ ks) ls v apart = same_in_order ks ls (changed k v) (rest_ap
 abbrev pub Frames : Program → Type 0
 Frames a = (v w : Contents) (s : Step) → AgreeOn v w (reads a v s) → (outcome a v s ≡ outcome a w s) × (reads a v s ≡ reads a w s)
 
--- each enabled step that reads the front of a channel holds it
-abbrev pub Holds : Program → Type 0
-Holds a = (v : Contents) (s : Step) (o : Outcome) → outcome a v s ≡ Some o → AreHeld v (reads a v s) (reads a v s)
-
 -- a step is after another what it was before, where that writes nothing that it reads
-same_after : (a : Program) (v : Contents) (s : Step) (o : Outcome) (ks : List Change) → Frames a → Holds a → outcome a v s ≡ Some o → meets ks (reads a v s) ≡ false → outcome a (after ks v) s ≡ Some o
-same_after a v s o ks frames holds is apart = sym (frames v (after ks v) s (agree_after ks v (reads a v s) (reads a v s) (holds v s o is) apart apart)).0 ∙ is
+same_after : (a : Program) (v : Contents) (s : Step) (o : Outcome) (ks : List Change) → Frames a → outcome a v s ≡ Some o → meets ks (reads a v s) ≡ false → outcome a (after ks v) s ≡ Some o
+same_after a v s o ks frames is apart = sym (frames v (after ks v) s (agree_after ks v (reads a v s) apart)).0 ∙ is
 
 -- independent steps commute
-pub commute : (a : Program) (v : Contents) (s t : Step) (d e : Outcome) → Frames a → Holds a → outcome a v s ≡ Some d → outcome a v t ≡ Some e → AreIndependent a v s t d.1 e.1 → Commute a v s t d e
-commute a v s t d e frames holds first second apart = record {
-  second_after_first = same_after a v t e d.1 frames holds second apart.second_reads;
-  first_after_second = same_after a v s d e.1 frames holds first apart.first_reads;
+pub commute : (a : Program) (v : Contents) (s t : Step) (d e : Outcome) → Frames a → outcome a v s ≡ Some d → outcome a v t ≡ Some e → AreIndependent a v s t d.1 e.1 → Commute a v s t d e
+commute a v s t d e frames first second apart = record {
+  second_after_first = same_after a v t e d.1 frames second apart.second_reads;
+  first_after_second = same_after a v s d e.1 frames first apart.first_reads;
   same = λ c i. same_in_order d.1 e.1 v apart.writes i c;
 }

@@ -14,16 +14,17 @@ use Rattle.eval_rules.specs.Asked.{Asked, Answered}
 use Rattle.eval_rules.specs.Servable.{IsReadRequest}
 use Rattle.world_model.specs.Asking.{entry_of, program_of, request_of}
 use Rattle.world_model.specs.Calls.{Call, New, OnTable, call_of}
-use Rattle.world_model.specs.Cells.{Contents, Alive, Machine, Mailbox, Table, TableName}
+use Rattle.world_model.specs.Cells.{Contents, Alive, Machine, Table, TableName}
 use Rattle.world_model.specs.Events.{History, Deed, Served, Refused, Received, TimedOut, Ended, RanAway, Refusal, ByRule}
 use Rattle.world_model.specs.Found.{Found}
 use Rattle.world_model.specs.Headline.{call_in, first_rule, owner_then, judged_by, TableCallsAreJudged}
 use Rattle.world_model.specs.Judging.{refusal_by, tells_owner}
 use Rattle.world_model.specs.Lines.{line}
+use Rattle.world_model.specs.Mailboxes.{mailbox_in, selected_of}
 use Rattle.world_model.specs.Names.{Pid, same_name}
 use Rattle.world_model.specs.NewTables.{by_rule, new_rule}
 use Rattle.world_model.specs.Requests.{Calls, Receives, Ends, RunsAway, Request}
-use Rattle.world_model.specs.Steps.{asked, deed_asked, ended_or, ends_itself, judged, must_wait, next_deed, received, selected_of}
+use Rattle.world_model.specs.Steps.{asked, deed_asked, ended_or, ends_itself, judged, must_wait, next_deed, received}
 use Rattle.world_model.specs.World.{contents, found, owner, rule_of, answer_of}
 use Rattle.world_model.specs.declared.rule.Rule.{Rule}
 use Rattle.world_model.proofs.Histories.{deed_is}
@@ -144,7 +145,7 @@ asks_it v p (Calls kind arguments) e k xs now is =
     let deed = ended_or kind arguments (ends_itself v p call) (judged kind arguments (line v p call).refusal (line v p call).answer) in
     let by = pair_is (kind, arguments) (k, xs) (sym (ended_calls kind arguments (ends_itself v p call) (line v p call).refusal (line v p call).answer) ∙ ap call_in (not_waited (must_wait v p call) deed e now) ∙ is) in
     λ i. Calls (by.0 i) (by.1 i)
-asks_it v p (Receives waits selects) e k xs now is = absurd (received_no_call waits (selected_of selects (v (Mailbox p))) e k xs now is)
+asks_it v p (Receives waits selects) e k xs now is = absurd (received_no_call waits (selected_of selects (mailbox_in v p)) e k xs now is)
 asks_it v p (Ends reason) e k xs now is = absurd (no_call (Ended reason) e k xs now refl is)
 asks_it v p RunsAway e k xs now is = absurd (no_call RanAway e k xs now refl is)
 

@@ -2,7 +2,7 @@
 use Rattle.std.proofs.Common.{◌∙◌, ap, refl, sym}
 use Rattle.std.specs.Prelude.{◌∷◌, ◌||◌, ◌≡◌, ◌&&◌, List, map, [], Option, option_map, Some, None, unwrap_or, drop, not, true, Bool, false, is_some}
 use Rattle.term_core.specs.declared.step.Step.{Step}
-use Rattle.world_model.specs.Cells.{Cell, meet, Contents, Alive, Machine, Trap, Front, Tail, Mailbox, Links, Watch, Holder, Table, Row, Rows}
+use Rattle.world_model.specs.Cells.{Cell, meet, Contents, Alive, Machine, Trap, Front, Tail, Taken, Mailed, Links, Watch, Holder, Table, Row, Rows}
 use Rattle.world_model.specs.Changes.{after, Change, cell_of}
 use Rattle.world_model.specs.Commuting.{TellTheSame, Commutes, IndependentCommute}
 use Rattle.world_model.specs.Events.{Event, event, Deed, History}
@@ -11,12 +11,12 @@ use Rattle.world_model.specs.Frames.{LeavesOthers, ReadsSettle}
 use Rattle.world_model.specs.Independence.{one_meets, some_meet, are_apart, written}
 use Rattle.world_model.specs.Judging.{table_rule}
 use Rattle.world_model.specs.Lines.{line}
+use Rattle.world_model.specs.Mailboxes.{left_of}
 use Rattle.world_model.specs.Requests.{Program}
 use Rattle.world_model.specs.Run.{next_event}
 use Rattle.world_model.specs.Steps.{reads, changes_by, next_deed}
 use Rattle.world_model.specs.World.{contents}
-use Rattle.world_model.proofs.Commuting.{stays, follows}
-use Rattle.world_model.proofs.Held.{steps_commute}
+use Rattle.world_model.proofs.Commuting.{stays, follows, commute}
 use Rattle.world_model.proofs.Meeting.{both}
 use Rattle.world_model.proofs.Outcomes.{touches, meets, Outcome, with_changes, outcome, AreIndependent}
 use Rattle.world_model.proofs.StepFrames.{frames}
@@ -66,7 +66,7 @@ same_contents h g same =
       answers = λ p. ap (λ m. m.answers) (same (Machine p));
       traps = λ p. same (Trap p);
       waiting = λ s r i. drop (same (Front s r) i) (same (Tail s r) i);
-      mailbox = λ p. same (Mailbox p);
+      mailbox = λ p i. left_of (same (Taken p) i) (same (Mailed p) i);
       linked = λ p. same (Links p);
       watched = λ ref. same (Watch ref);
       holder = λ name. same (Holder name);
@@ -90,7 +90,7 @@ unfolding contents
 commute_by a h s t d e first second apart =
     let ks = changes_by (contents h) s d in
     let ls = changes_by (contents h) t e in
-    let both = steps_commute a (contents h) s t (d, ks) (e, ls) (outcome_is a h s d first) (outcome_is a h t e second) apart in
+    let both = commute a (contents h) s t (d, ks) (e, ls) (frames a) (outcome_is a h s d first) (outcome_is a h t e second) apart in
     let later = event_is (after ks (contents h)) t (next_deed a (after ks (contents h)) t) e ls both.second_after_first in
     let earlier = event_is (after ls (contents h)) s (next_deed a (after ls (contents h)) s) d ks both.first_after_second in
     let same : (c : Cell) → contents (event t e ∷ event s d ∷ h) c ≡ contents (event s d ∷ event t e ∷ h) c = λ c. ap (λ xs. after xs (after ks (contents h)) c) later.1 ∙ both.same c ∙ sym (ap (λ xs. after xs (after ls (contents h)) c) earlier.1) in

@@ -1,99 +1,316 @@
 -- Mailboxes and channels, by what each event brings, takes and puts.
 use Rattle.std.proofs.Common.{◌≡◌, Bool, true, false, ◌&&◌, ℕ, zero, suc, ◌+◌, ◌<◌, ◌≤◌, List, [], ◌∷◌, ◌++◌, length, length-append, ap, drop, Option, Some, None, refl, sym, ◌∙◌, if◌then◌else◌, arith, append_assoc}
+use Rattle.std.specs.List.{list_any}
+use Rattle.std.specs.Prelude.{unwrap_or}
 use Rattle.term_core.specs.Meaning.{Meaning}
 use Rattle.term_core.specs.declared.step.Step.{Step}
 use Rattle.term_core.specs.declared.step.Step.TheVariants.{Deliver, Turn}
+use Rattle.core_calls.specs.declared.call.CallKind.{CallKind}
+use Rattle.eval_rules.specs.Asked as answered
 use Rattle.world_model.specs.Calls.{Call, Send, ToNobody, ToProcess, ToName, SendExit, Demonitor, OnTable, call_of}
-use Rattle.world_model.specs.Cells.{Mailbox, Contents, Alive, Watch, Watchers, Holder, Tail, meet, Front}
-use Rattle.world_model.specs.Changes.{after, Unwatches, Sheds, Touches, Flushes, without_first, is_of_watch, changed, Turns, Fetches, Change, Puts}
-use Rattle.world_model.specs.Events.{Signal, Message, Exit, History, LinkExit, Down, Fate, Delivered, Arrives, IsIgnored, IsDropped, Kills, Deed, Served, Refused, EndedItself, Ended, Received, TimedOut, RanAway, Event}
+use Rattle.world_model.specs.Cells.{Machine, Taken, Mailed, Contents, Alive, Watch, Watchers, Holder, Tail, meet, Front}
+use Rattle.world_model.specs.Changes.{after, Unwatches, Sheds, Touches, Mails, Picks, without_first, is_of_watch, changed, Turns, Fetches, Change, Puts}
+use Rattle.world_model.specs.Events.{Signal, Message, Exit, History, LinkExit, Down, Fate, Delivered, Arrives, IsIgnored, IsDropped, Kills, Deed, Served, Refused, EndedItself, Ended, Received, TimedOut, RanAway, Event, Refusal}
 use Rattle.world_model.specs.Lines.{line}
-use Rattle.world_model.specs.Mail.{mailed_if, mailed_to_holder, mailed_by_call, mailed_in, MailboxIsTold, signals_to, delivers, WaitingIsTold}
-use Rattle.world_model.specs.Names.{Pid, same_pid, Ref}
+use Rattle.world_model.specs.Mail.{mailed, mailed_if, mailed_to_holder, mailed_by_call, mailed_in, MailboxIsTold, signals_to, delivers, WaitingIsTold}
+use Rattle.world_model.specs.Ends.{ends}
+use Rattle.world_model.specs.Mailboxes.{left_of, mailbox_in, selected_of, picked}
+use Rattle.world_model.specs.Names.{Pid, same_pid, same_term, Ref}
 use Rattle.world_model.specs.ProcessLines.{sent, exited, sent_to_holder, watch_ends}
-use Rattle.world_model.specs.Requests.{Program}
+use Rattle.world_model.specs.Requests.{Program, Request, Calls, Receives, Ends, RunsAway}
 use Rattle.world_model.specs.Run.{next_event, IsRun}
 use Rattle.world_model.specs.Signals.{put_if, exit_message, goes_with, first_of, waiting_in}
-use Rattle.world_model.specs.Steps.{changes_of_fate, changes_by, runaway, deed_delivered, next_deed}
+use Rattle.world_model.specs.Steps.{changes_of_fate, changes_by, runaway, deed_delivered, next_deed, judged, ended_or, ends_itself, must_wait, received, deed_asked, asked}
 use Rattle.world_model.specs.World.{contents}
-use Rattle.world_model.proofs.Commuting.{stays, either_way}
+use Rattle.world_model.proofs.Commuting.{stays, either_way, came}
 use Rattle.world_model.proofs.EndSorts.{after_both, end_leaves}
 use Rattle.world_model.proofs.Histories.{deed_is}
+use Rattle.world_model.proofs.MailboxLaws.{left_last, without_behind, selected_there, without_selected, without_none}
 use Rattle.world_model.proofs.Meeting.{both, pids_same}
 use Rattle.world_model.proofs.Outcomes.{touches}
-use Rattle.world_model.proofs.SortLaws.{call_leaves, no_mail, no_front}
+use Rattle.world_model.proofs.SortLaws.{call_leaves, no_mail, none_taken, no_front}
+use Rattle.world_model.proofs.Sorts.{is_among, sorts_of}
 
 -- ---- mailboxes
 
-put_mail : (b : Bool) (s r : Pid) (x : Signal) (w : Contents) (q : Pid) → after (put_if b s r x) w (Mailbox q) ≡ w (Mailbox q)
+-- a mailbox whose two cells are left
+left_alone : (v w : Contents) (q : Pid) → v (Taken q) ≡ w (Taken q) → v (Mailed q) ≡ w (Mailed q) → mailbox_in v q ≡ mailbox_in w q
+left_alone v w q taken mailed = λ i. left_of (taken i) (mailed i)
+
+-- whatever comes stays behind what is there: what was taken was there
+abbrev StaysBehind : List Meaning → List Meaning → Type 0
+StaysBehind ts xs = (ys : List Meaning) → left_of ts (xs ++ ys) ≡ left_of ts xs ++ ys
+
+abbrev IsSound : Contents → Pid → Type 0
+IsSound v q = StaysBehind (v (Taken q)) (v (Mailed q))
+
+mailed_by : (b : Bool) (ts xs : List Meaning) (m : Meaning) → StaysBehind ts xs → left_of ts (if b then xs ++ (m ∷ []) else xs) ≡ (if b then left_of ts xs ++ (m ∷ []) else left_of ts xs)
+mailed_by true ts xs m behind = behind (m ∷ [])
+mailed_by false ts xs m behind = refl
+
+mails_mail : (p : Pid) (m : Meaning) (w : Contents) (q : Pid) → IsSound w q → mailbox_in (changed (Mails p m) w) q ≡ mailed p m q (mailbox_in w q)
+mails_mail p m w q sound = mailed_by (same_pid p q) (w (Taken q)) (w (Mailed q)) m sound
+
+put_mail : (b : Bool) (s r : Pid) (x : Signal) (w : Contents) (q : Pid) → mailbox_in (after (put_if b s r x) w) q ≡ mailbox_in w q
 put_mail true s r x w q = refl
 put_mail false s r x w q = refl
 
-sent_mail : (b : Bool) (v w : Contents) (p to q : Pid) (m : Meaning) → after (sent b v p to m) w (Mailbox q) ≡ mailed_if b p m q (w (Mailbox q))
-sent_mail true v w p to q m = refl
-sent_mail false v w p to q m = put_mail (v (Alive to)) p to (Message m) w q
+sent_mail : (b : Bool) (v w : Contents) (p to q : Pid) (m : Meaning) → IsSound w q → mailbox_in (after (sent b v p to m) w) q ≡ mailed_if b p m q (mailbox_in w q)
+sent_mail true v w p to q m sound = mails_mail p m w q sound
+sent_mail false v w p to q m sound = put_mail (v (Alive to)) p to (Message m) w q
 
-exited_mail : (b : Bool) (v w : Contents) (p to q : Pid) (m : Meaning) → after (exited b v p to m) w (Mailbox q) ≡ mailed_if b p (exit_message p m) q (w (Mailbox q))
-exited_mail true v w p to q m = refl
-exited_mail false v w p to q m = put_mail (v (Alive to)) p to (Exit m) w q
+exited_mail : (b : Bool) (v w : Contents) (p to q : Pid) (m : Meaning) → IsSound w q → mailbox_in (after (exited b v p to m) w) q ≡ mailed_if b p (exit_message p m) q (mailbox_in w q)
+exited_mail true v w p to q m sound = mails_mail p (exit_message p m) w q sound
+exited_mail false v w p to q m sound = put_mail (v (Alive to)) p to (Exit m) w q
 
-holder_mail : (v w : Contents) (p : Pid) (o : Option Pid) (q : Pid) (m : Meaning) → after (sent_to_holder v p o m) w (Mailbox q) ≡ mailed_to_holder o p m q (w (Mailbox q))
-holder_mail v w p None q m = refl
-holder_mail v w p (Some to) q m = sent_mail (same_pid p to) v w p to q m
+holder_mail : (v w : Contents) (p : Pid) (o : Option Pid) (q : Pid) (m : Meaning) → IsSound w q → mailbox_in (after (sent_to_holder v p o m) w) q ≡ mailed_to_holder o p m q (mailbox_in w q)
+holder_mail v w p None q m sound = refl
+holder_mail v w p (Some to) q m sound = sent_mail (same_pid p to) v w p to q m sound
 
-ended_by_mail : (b : Bool) (p : Pid) (u : Ref) (x : Pid) (w : Contents) (q : Pid) → after (if b then Unwatches u ∷ Sheds x u ∷ [] else Touches (Watch u) ∷ Touches (Watchers x) ∷ []) w (Mailbox q) ≡ w (Mailbox q)
+ended_by_taken : (b : Bool) (p : Pid) (u : Ref) (x : Pid) (w : Contents) (q : Pid) → after (if b then Unwatches u ∷ Sheds x u ∷ [] else Touches (Watch u) ∷ Touches (Watchers x) ∷ []) w (Taken q) ≡ w (Taken q)
+ended_by_taken true p u x w q = refl
+ended_by_taken false p u x w q = refl
+
+ended_taken : (p : Pid) (u : Ref) (o : Option Pid) (w : Contents) (q : Pid) → after (watch_ends p u o) w (Taken q) ≡ w (Taken q)
+ended_taken p u None w q = refl
+ended_taken p u (Some x) w q = ended_by_taken (same_pid u.pid p) p u x w q
+
+ended_by_mail : (b : Bool) (p : Pid) (u : Ref) (x : Pid) (w : Contents) (q : Pid) → after (if b then Unwatches u ∷ Sheds x u ∷ [] else Touches (Watch u) ∷ Touches (Watchers x) ∷ []) w (Mailed q) ≡ w (Mailed q)
 ended_by_mail true p u x w q = refl
 ended_by_mail false p u x w q = refl
 
-ended_mail : (p : Pid) (u : Ref) (o : Option Pid) (w : Contents) (q : Pid) → after (watch_ends p u o) w (Mailbox q) ≡ w (Mailbox q)
+ended_mail : (p : Pid) (u : Ref) (o : Option Pid) (w : Contents) (q : Pid) → after (watch_ends p u o) w (Mailed q) ≡ w (Mailed q)
 ended_mail p u None w q = refl
 ended_mail p u (Some x) w q = ended_by_mail (same_pid u.pid p) p u x w q
 
-call_mail : (h : History) (w : Contents) (p : Pid) (call : Call) (q : Pid) → after (line (contents h) p call).changes w (Mailbox q) ≡ mailed_by_call h p call q (w (Mailbox q))
-call_mail h w p (Send ToNobody m) q = refl
-call_mail h w p (Send (ToProcess to) m) q = sent_mail (same_pid p to) (contents h) w p to q m
-call_mail h w p (Send (ToName name) m) q = holder_mail (contents h) w p (contents h (Holder name)) q m
-call_mail h w p (SendExit None reason) q = refl
-call_mail h w p (SendExit (Some to) reason) q = exited_mail (same_pid p to) (contents h) w p to q reason
-call_mail h w p (Demonitor None flushes) q = refl
-call_mail h w p (Demonitor (Some u) None) q = refl
-call_mail h w p (Demonitor (Some u) (Some true)) q = after_both (watch_ends p u (contents h (Watch u))) (Flushes p u ∷ []) w (Mailbox q) ∙ ap (λ xs. if same_pid p q then without_first (is_of_watch u) xs else xs) (ended_mail p u (contents h (Watch u)) w q)
-call_mail h w p (Demonitor (Some u) (Some false)) q = after_both (watch_ends p u (contents h (Watch u))) [] w (Mailbox q) ∙ ended_mail p u (contents h (Watch u)) w q
-call_mail h w p (OnTable argument call) q = call_leaves (contents h) w p (OnTable argument call) (Mailbox q) (no_mail call q)
-call_mail h w p call q = call_leaves (contents h) w p call (Mailbox q) refl
+pub ended_alone : (p : Pid) (u : Ref) (o : Option Pid) (w : Contents) (q : Pid) → mailbox_in (after (watch_ends p u o) w) q ≡ mailbox_in w q
+ended_alone p u o w q = left_alone (after (watch_ends p u o) w) w q (ended_taken p u o w q) (ended_mail p u o w q)
 
-goes_mail : (s r q : Pid) (x : Signal) → touches (goes_with s r x) (Mailbox q) ≡ false
+-- the message that is found is taken
+picked_by : (b : Bool) (ts xs : List Meaning) (m : Meaning) → left_of (if b then ts ++ (m ∷ []) else ts) xs ≡ (if b then without_first (same_term m) (left_of ts xs) else left_of ts xs)
+picked_by true ts xs m = left_last ts m xs
+picked_by false ts xs m = refl
+
+picks_mail : (p : Pid) (m : Meaning) (w : Contents) (q : Pid) → mailbox_in (changed (Picks p m) w) q ≡ (if same_pid p q then without_first (same_term m) (mailbox_in w q) else mailbox_in w q)
+picks_mail p m w q = picked_by (same_pid p q) (w (Taken q)) (w (Mailed q)) m
+
+where_same : (b : Bool) (xs ys zs : List Meaning) → (b ≡ true → xs ≡ ys) → (if b then xs else zs) ≡ (if b then ys else zs)
+where_same true xs ys zs same = same refl
+where_same false xs ys zs same = refl
+
+picked_mail : (p q : Pid) (test : Meaning → Bool) (o : Option Meaning) (w : Contents) → selected_of test (mailbox_in w p) ≡ o → mailbox_in (after (picked p o) w) q ≡ (if same_pid p q then without_first test (mailbox_in w q) else mailbox_in w q)
+picked_mail p q test None w is =
+    sym (either_way (same_pid p q) (mailbox_in w q))
+    ∙ where_same (same_pid p q) (mailbox_in w q) (without_first test (mailbox_in w q)) (mailbox_in w q) (λ same. sym (without_none test (mailbox_in w q) (ap (λ r. selected_of test (mailbox_in w r)) (sym (pids_same p q same)) ∙ is)))
+picked_mail p q test (Some m) w is =
+    picks_mail p m w q
+    ∙ where_same (same_pid p q) (without_first (same_term m) (mailbox_in w q)) (without_first test (mailbox_in w q)) (mailbox_in w q) (λ same. without_selected test (mailbox_in w q) m (ap (λ r. selected_of test (mailbox_in w r)) (sym (pids_same p q same)) ∙ is))
+
+call_alone : (v w : Contents) (p : Pid) (call : Call) (q : Pid) → is_among (sorts_of call) (Taken q) ≡ false → is_among (sorts_of call) (Mailed q) ≡ false → mailbox_in (after (line v p call).changes w) q ≡ mailbox_in w q
+call_alone v w p call q taken mailed = left_alone (after (line v p call).changes w) w q (call_leaves v w p call (Taken q) taken) (call_leaves v w p call (Mailed q) mailed)
+
+flushed_mail : (v w : Contents) (p : Pid) (u : Ref) (q : Pid) → mailbox_in w p ≡ mailbox_in v p → mailbox_in (after (line v p (Demonitor (Some u) (Some true))).changes w) q ≡ (if same_pid p q then without_first (is_of_watch u) (mailbox_in w q) else mailbox_in w q)
+flushed_mail v w p u q same =
+    let ks = watch_ends p u (v (Watch u)) in
+    let found = selected_of (is_of_watch u) (mailbox_in v p) in
+    left_alone (after (ks ++ picked p found) w) (after (picked p found) (after ks w)) q (after_both ks (picked p found) w (Taken q)) (after_both ks (picked p found) w (Mailed q))
+    ∙ picked_mail p q (is_of_watch u) found (after ks w) (ap (selected_of (is_of_watch u)) (ended_alone p u (v (Watch u)) w p ∙ same))
+    ∙ ap (λ xs. if same_pid p q then without_first (is_of_watch u) xs else xs) (ended_alone p u (v (Watch u)) w q)
+
+call_mail : (h : History) (w : Contents) (p : Pid) (call : Call) (q : Pid) → mailbox_in w p ≡ mailbox_in (contents h) p → IsSound w q → mailbox_in (after (line (contents h) p call).changes w) q ≡ mailed_by_call h p call q (mailbox_in w q)
+call_mail h w p (Send ToNobody m) q same sound = refl
+call_mail h w p (Send (ToProcess to) m) q same sound = sent_mail (same_pid p to) (contents h) w p to q m sound
+call_mail h w p (Send (ToName name) m) q same sound = holder_mail (contents h) w p (contents h (Holder name)) q m sound
+call_mail h w p (SendExit None reason) q same sound = refl
+call_mail h w p (SendExit (Some to) reason) q same sound = exited_mail (same_pid p to) (contents h) w p to q reason sound
+call_mail h w p (Demonitor None flushes) q same sound = refl
+call_mail h w p (Demonitor (Some u) None) q same sound = refl
+call_mail h w p (Demonitor (Some u) (Some true)) q same sound = flushed_mail (contents h) w p u q same
+call_mail h w p (Demonitor (Some u) (Some false)) q same sound =
+    let ks = watch_ends p u (contents h (Watch u)) in
+    left_alone (after (ks ++ []) w) (after ks w) q (after_both ks [] w (Taken q)) (after_both ks [] w (Mailed q)) ∙ ended_alone p u (contents h (Watch u)) w q
+call_mail h w p (OnTable argument call) q same sound = call_alone (contents h) w p (OnTable argument call) q (none_taken call q) (no_mail call q)
+call_mail h w p call q same sound = call_alone (contents h) w p call q refl refl
+
+goes_taken : (s r q : Pid) (x : Signal) → touches (goes_with s r x) (Taken q) ≡ false
+goes_taken s r q (Message m) = refl
+goes_taken s r q (Exit reason) = refl
+goes_taken s r q (LinkExit reason) = refl
+goes_taken s r q (Down u reason) = refl
+
+goes_mail : (s r q : Pid) (x : Signal) → touches (goes_with s r x) (Mailed q) ≡ false
 goes_mail s r q (Message m) = refl
 goes_mail s r q (Exit reason) = refl
 goes_mail s r q (LinkExit reason) = refl
 goes_mail s r q (Down u reason) = refl
 
-fate_mail : (h : History) (v w : Contents) (s r q : Pid) (x : Signal) (f : Fate) → after (changes_of_fate v r f) w (Mailbox q) ≡ mailed_in h (Deliver s r) (Delivered x f) q (w (Mailbox q))
-fate_mail h v w s r q x (Arrives m) = refl
-fate_mail h v w s r q x IsIgnored = refl
-fate_mail h v w s r q x IsDropped = refl
-fate_mail h v w s r q x (Kills reason) = end_leaves v w r reason (Mailbox q) refl
+end_alone : (v w : Contents) (p : Pid) (reason : Meaning) (q : Pid) → mailbox_in (after (ends v p reason) w) q ≡ mailbox_in w q
+end_alone v w p reason q = left_alone (after (ends v p reason) w) w q (end_leaves v w p reason (Taken q) refl) (end_leaves v w p reason (Mailed q) refl)
 
-told_mail : (h : History) (step : Step) (deed : Deed) (q : Pid) → after (changes_by (contents h) step deed) (contents h) (Mailbox q) ≡ mailed_in h step deed q (contents h (Mailbox q))
-told_mail h (Turn p) (Served kind arguments answer) q = call_mail h _ p (call_of kind arguments) q
-told_mail h (Turn p) (Refused kind arguments refusal) q = refl
-told_mail h (Turn p) (EndedItself kind arguments reason) q = end_leaves (contents h) (changed (Turns p []) (contents h)) p reason (Mailbox q) refl
-told_mail h (Turn p) (Received m) q = refl
-told_mail h (Turn p) TimedOut q = refl
-told_mail h (Turn p) (Ended reason) q = end_leaves (contents h) (changed (Turns p []) (contents h)) p reason (Mailbox q) refl
-told_mail h (Turn p) RanAway q = end_leaves (contents h) (changed (Turns p []) (contents h)) p runaway (Mailbox q) refl
-told_mail h (Turn p) (Delivered x f) q = refl
-told_mail h (Deliver s r) (Delivered x f) q =
+fate_mail : (h : History) (v w : Contents) (s r q : Pid) (x : Signal) (f : Fate) → IsSound w q → mailbox_in (after (changes_of_fate v r f) w) q ≡ mailed_in h (Deliver s r) (Delivered x f) q (mailbox_in w q)
+fate_mail h v w s r q x (Arrives m) sound = mails_mail r m w q sound
+fate_mail h v w s r q x IsIgnored sound = refl
+fate_mail h v w s r q x IsDropped sound = refl
+fate_mail h v w s r q x (Kills reason) sound = end_alone v w r reason q
+
+told_mail : (h : History) (step : Step) (deed : Deed) (q : Pid) → IsSound (contents h) q → mailbox_in (after (changes_by (contents h) step deed) (contents h)) q ≡ mailed_in h step deed q (mailbox_in (contents h) q)
+told_mail h (Turn p) (Served kind arguments answer) q sound = call_mail h (changed (Turns p (answered.Value answer ∷ [])) (contents h)) p (call_of kind arguments) q refl sound
+told_mail h (Turn p) (Refused kind arguments refusal) q sound = refl
+told_mail h (Turn p) (EndedItself kind arguments reason) q sound = end_alone (contents h) (changed (Turns p []) (contents h)) p reason q
+told_mail h (Turn p) (Received m) q sound = picks_mail p m (changed (Turns p (answered.Message m ∷ [])) (contents h)) q
+told_mail h (Turn p) TimedOut q sound = refl
+told_mail h (Turn p) (Ended reason) q sound = end_alone (contents h) (changed (Turns p []) (contents h)) p reason q
+told_mail h (Turn p) RanAway q sound = end_alone (contents h) (changed (Turns p []) (contents h)) p runaway q
+told_mail h (Turn p) (Delivered x f) q sound = refl
+told_mail h (Deliver s r) (Delivered x f) q sound =
     let ks = goes_with s r x in
+    let ls = changes_of_fate (after ks (contents h)) r f in
     let w = changed (Fetches s r) (contents h) in
-    after_both ks (changes_of_fate (after ks (contents h)) r f) w (Mailbox q)
-    ∙ fate_mail h (after ks (contents h)) (after ks w) s r q x f
-    ∙ ap (mailed_in h (Deliver s r) (Delivered x f) q) (stays ks w (Mailbox q) (goes_mail s r q x))
-told_mail h (Deliver s r) deed q = refl
+    let taken = stays ks w (Taken q) (goes_taken s r q x) in
+    let mailed = stays ks w (Mailed q) (goes_mail s r q x) in
+    left_alone (after (ks ++ ls) w) (after ls (after ks w)) q (after_both ks ls w (Taken q)) (after_both ks ls w (Mailed q))
+    ∙ fate_mail h (after ks (contents h)) (after ks w) s r q x f (λ ys. (λ i. left_of (taken i) (mailed i ++ ys)) ∙ sound ys ∙ sym (λ i. left_of (taken i) (mailed i) ++ ys))
+    ∙ ap (mailed_in h (Deliver s r) (Delivered x f) q) (left_alone (after ks w) w q taken mailed)
+told_mail h (Deliver s r) deed q sound = refl
+
+-- ---- what was taken was there
+
+-- where nothing is taken
+kept : (ks : List Change) (w : Contents) (q : Pid) → after ks w (Taken q) ≡ w (Taken q) → IsSound w q → IsSound (after ks w) q
+kept ks w q same sound =
+    let more = came ks w q in
+    let ts = w (Taken q) in
+    let xs = w (Mailed q) in
+    λ ys.
+    (λ i. left_of (same i) (more.1 i ++ ys))
+    ∙ ap (left_of ts) (append_assoc xs more.0 ys)
+    ∙ sound (more.0 ++ ys)
+    ∙ sym (append_assoc (left_of ts xs) more.0 ys)
+    ∙ ap (λ zs. zs ++ ys) (sym (sound more.0))
+    ∙ sym (λ i. left_of (same i) (more.1 i) ++ ys)
+
+picks_by : (b : Bool) (ts xs : List Meaning) (m : Meaning) → StaysBehind ts xs → (b ≡ true → list_any (same_term m) (left_of ts xs) ≡ true) → StaysBehind (if b then ts ++ (m ∷ []) else ts) xs
+picks_by true ts xs m sound is =
+    λ ys.
+    left_last ts m (xs ++ ys)
+    ∙ ap (without_first (same_term m)) (sound ys)
+    ∙ without_behind (same_term m) (left_of ts xs) ys (is refl)
+    ∙ ap (λ zs. zs ++ ys) (sym (left_last ts m xs))
+picks_by false ts xs m sound is = sound
+
+picks_sound : (p : Pid) (m : Meaning) (w : Contents) (q : Pid) → list_any (same_term m) (mailbox_in w p) ≡ true → IsSound w q → IsSound (changed (Picks p m) w) q
+picks_sound p m w q is sound = picks_by (same_pid p q) (w (Taken q)) (w (Mailed q)) m sound (λ same. ap (λ r. list_any (same_term m) (mailbox_in w r)) (sym (pids_same p q same)) ∙ is)
+
+picked_sound : (p q : Pid) (test : Meaning → Bool) (o : Option Meaning) (w : Contents) → selected_of test (mailbox_in w p) ≡ o → IsSound w q → IsSound (after (picked p o) w) q
+picked_sound p q test None w is sound = sound
+picked_sound p q test (Some m) w is sound = picks_sound p m w q (selected_there test (mailbox_in w p) m is) sound
+
+flushed_sound : (v w : Contents) (p : Pid) (u : Ref) (q : Pid) → mailbox_in w p ≡ mailbox_in v p → IsSound w q → IsSound (after (line v p (Demonitor (Some u) (Some true))).changes w) q
+flushed_sound v w p u q same sound =
+    let ks = watch_ends p u (v (Watch u)) in
+    let found = selected_of (is_of_watch u) (mailbox_in v p) in
+    let there = picked_sound p q (is_of_watch u) found (after ks w) (ap (selected_of (is_of_watch u)) (ended_alone p u (v (Watch u)) w p ∙ same)) (kept ks w q (ended_taken p u (v (Watch u)) w q) sound) in
+    let taken = after_both ks (picked p found) w (Taken q) in
+    let mailed = after_both ks (picked p found) w (Mailed q) in
+    λ ys. (λ i. left_of (taken i) (mailed i ++ ys)) ∙ there ys ∙ sym (λ i. left_of (taken i) (mailed i) ++ ys)
+
+call_kept : (v w : Contents) (p : Pid) (call : Call) (q : Pid) → is_among (sorts_of call) (Taken q) ≡ false → IsSound w q → IsSound (after (line v p call).changes w) q
+call_kept v w p call q other sound = kept (line v p call).changes w q (call_leaves v w p call (Taken q) other) sound
+
+call_sound : (v w : Contents) (p : Pid) (call : Call) (q : Pid) → mailbox_in w p ≡ mailbox_in v p → IsSound w q → IsSound (after (line v p call).changes w) q
+call_sound v w p (Demonitor None flushes) q same sound = sound
+call_sound v w p (Demonitor (Some u) None) q same sound = sound
+call_sound v w p (Demonitor (Some u) (Some true)) q same sound = flushed_sound v w p u q same sound
+call_sound v w p (Demonitor (Some u) (Some false)) q same sound =
+    let ks = watch_ends p u (v (Watch u)) in
+    kept (ks ++ []) w q (after_both ks [] w (Taken q) ∙ ended_taken p u (v (Watch u)) w q) sound
+call_sound v w p (OnTable argument call) q same sound = call_kept v w p (OnTable argument call) q (none_taken call q) sound
+call_sound v w p call q same sound = call_kept v w p call q refl sound
+
+end_sound : (v w : Contents) (p : Pid) (reason : Meaning) (q : Pid) → IsSound w q → IsSound (after (ends v p reason) w) q
+end_sound v w p reason q sound = kept (ends v p reason) w q (end_leaves v w p reason (Taken q) refl) sound
+
+fate_taken : (v w : Contents) (r q : Pid) (f : Fate) → after (changes_of_fate v r f) w (Taken q) ≡ w (Taken q)
+fate_taken v w r q (Arrives m) = refl
+fate_taken v w r q IsIgnored = refl
+fate_taken v w r q IsDropped = refl
+fate_taken v w r q (Kills reason) = end_leaves v w r reason (Taken q) refl
+
+-- a message that is received is there
+abbrev TakesThere : Contents → Step → Deed → Type 0
+TakesThere v step deed = (p : Pid) (m : Meaning) → step ≡ Turn p → deed ≡ Received m → list_any (same_term m) (mailbox_in v p) ≡ true
+
+event_sound : (v : Contents) (step : Step) (deed : Deed) (q : Pid) → TakesThere v step deed → IsSound v q → IsSound (after (changes_by v step deed) v) q
+event_sound v (Turn p) (Served kind arguments answer) q there sound = call_sound v (changed (Turns p (answered.Value answer ∷ [])) v) p (call_of kind arguments) q refl sound
+event_sound v (Turn p) (Refused kind arguments refusal) q there sound = sound
+event_sound v (Turn p) (EndedItself kind arguments reason) q there sound = end_sound v (changed (Turns p []) v) p reason q sound
+event_sound v (Turn p) (Received m) q there sound = picks_sound p m (changed (Turns p (answered.Message m ∷ [])) v) q (there p m refl refl) sound
+event_sound v (Turn p) TimedOut q there sound = sound
+event_sound v (Turn p) (Ended reason) q there sound = end_sound v (changed (Turns p []) v) p reason q sound
+event_sound v (Turn p) RanAway q there sound = end_sound v (changed (Turns p []) v) p runaway q sound
+event_sound v (Turn p) (Delivered x f) q there sound = sound
+event_sound v (Deliver s r) (Delivered x f) q there sound =
+    let ks = goes_with s r x in
+    let ls = changes_of_fate (after ks v) r f in
+    let w = changed (Fetches s r) v in
+    kept (ks ++ ls) w q (after_both ks ls w (Taken q) ∙ fate_taken (after ks v) (after ks w) r q f ∙ stays ks w (Taken q) (goes_taken s r q x)) sound
+event_sound v (Deliver s r) deed q there sound = sound
+
+received_in : Deed → Option Meaning
+received_in (Received m) = Some m
+received_in deed = None
+
+nothing_in : {A : Type 0} {x : A} → None ≡ Some x → ⊥
+nothing_in e = absurd cc
+
+judged_takes : (kind : CallKind) (arguments : List Meaning) (o : Option Refusal) (x m : Meaning) → received_in (judged kind arguments o x) ≡ Some m → ⊥
+unfolding received_in
+judged_takes kind arguments None x m is = absurd cc
+judged_takes kind arguments (Some refusal) x m is = absurd cc
+
+ended_takes : (kind : CallKind) (arguments : List Meaning) (end : Option Meaning) (o : Option Refusal) (x m : Meaning) → received_in (ended_or kind arguments end (judged kind arguments o x)) ≡ Some m → ⊥
+unfolding received_in
+ended_takes kind arguments None o x m is = judged_takes kind arguments o x m is
+ended_takes kind arguments (Some reason) o x m is = absurd cc
+
+waited_takes : (b : Bool) (d e : Deed) (m : Meaning) → (if b then None else Some d) ≡ Some e → received_in e ≡ Some m → received_in d ≡ Some m
+unfolding received_in
+waited_takes true d e m now is = absurd cc
+waited_takes false d e m now is = ap (λ o. received_in (unwrap_or o d)) now ∙ is
+
+received_takes : (waits : Bool) (o : Option Meaning) (e : Deed) (m : Meaning) → received waits o ≡ Some e → received_in e ≡ Some m → o ≡ Some m
+unfolding received_in
+received_takes waits (Some x) e m now is = ap (λ o. received_in (unwrap_or o (Received x))) now ∙ is
+received_takes true None e m now is = absurd cc
+received_takes false None e m now is = absurd (nothing_in (ap (λ o. received_in (unwrap_or o TimedOut)) now ∙ is))
+
+asked_takes : (v : Contents) (p : Pid) (r : Request) (e : Deed) (m : Meaning) → deed_asked v p r ≡ Some e → received_in e ≡ Some m → list_any (same_term m) (mailbox_in v p) ≡ true
+unfolding received_in
+asked_takes v p (Calls kind arguments) e m now is =
+    let call = call_of kind arguments in
+    absurd (ended_takes kind arguments (ends_itself v p call) (line v p call).refusal (line v p call).answer m (waited_takes (must_wait v p call) (ended_or kind arguments (ends_itself v p call) (judged kind arguments (line v p call).refusal (line v p call).answer)) e m now is))
+asked_takes v p (Receives waits selects) e m now is = selected_there selects (mailbox_in v p) m (received_takes waits (selected_of selects (mailbox_in v p)) e m now is)
+asked_takes v p (Ends reason) e m now is = absurd (nothing_in (ap (λ o. received_in (unwrap_or o (Ended reason))) now ∙ is))
+asked_takes v p RunsAway e m now is = absurd (nothing_in (ap (λ o. received_in (unwrap_or o RanAway)) now ∙ is))
+
+turn_takes : (v : Contents) (b : Bool) (p : Pid) (r : Request) (e : Deed) (m : Meaning) → (if b then deed_asked v p r else None) ≡ Some e → received_in e ≡ Some m → list_any (same_term m) (mailbox_in v p) ≡ true
+turn_takes v true p r e m now is = asked_takes v p r e m now is
+turn_takes v false p r e m now is = absurd cc
+
+event_takes : (a : Program) (h : History) (e : Event) → next_event a h e.step ≡ Some e → TakesThere (contents h) e.step e.deed
+unfolding received_in
+event_takes a h e now = λ p m is deed.
+    let there : next_deed a (contents h) (Turn p) ≡ Some e.deed = ap (next_deed a (contents h)) (sym is) ∙ deed_is e.step (next_deed a (contents h) e.step) e now in
+    turn_takes (contents h) (contents h (Alive p)) p (asked a p (contents h (Machine p))) e.deed m there (ap received_in deed)
+
+run_sound : (a : Program) (h : History) → IsRun a h → (q : Pid) → IsSound (contents h) q
+unfolding contents
+run_sound a [] is q = λ ys. refl
+run_sound a (e ∷ h) is q = event_sound (contents h) e.step e.deed q (event_takes a h e is.0) (run_sound a h is.1 q)
 
 pub mailbox_told : MailboxIsTold
 unfolding contents
-mailbox_told h e q = told_mail h e.step e.deed q
+mailbox_told a h e q is = told_mail h e.step e.deed q (run_sound a h is q)
 
 -- ---- channels
 

@@ -4,7 +4,7 @@ use Rattle.std.specs.Prelude.{bytes_eq}
 use Rattle.std.proofs.lemmas.Slice.Eq.{bytes_eq-Decides}
 use Rattle.std.proofs.lemmas.Bool.{eqb-true, eq-eqb}
 use Rattle.world_model.specs.Names.{Ref, same_pid, same_ref}
-use Rattle.world_model.specs.Cells.{Cell, Machine, Alive, Trap, Watchers, Watch, Holder, NameOf, Mailbox, Front, Tail, Links, TableName, Table, Row, Rows, Owned, meet}
+use Rattle.world_model.specs.Cells.{Cell, Machine, Alive, Trap, Watchers, Watch, Holder, NameOf, Taken, Mailed, Front, Tail, Links, TableName, Table, Row, Rows, Owned, meet}
 
 pub both : (a b : Bool) → (a && b) ≡ true → (a ≡ true) × (b ≡ true)
 both true b e = (refl, e)
@@ -43,7 +43,8 @@ is_row c = false
 pub whole_same : (a b : Cell) → meet a b ≡ true → whole a ≡ whole b
 whole_same (Machine p) (Machine q) e = ap Machine (pids_same p q e)
 whole_same (Alive p) (Alive q) e = ap Alive (pids_same p q e)
-whole_same (Mailbox p) (Mailbox q) e = ap Mailbox (pids_same p q e)
+whole_same (Taken p) (Taken q) e = ap Taken (pids_same p q e)
+whole_same (Mailed p) (Mailed q) e = ap Mailed (pids_same p q e)
 whole_same (Front s r) (Front t u) e =
     let parts = both (same_pid s t) (same_pid r u) e in
     λ i. Front (pids_same s t parts.0 i) (pids_same r u parts.1 i)
@@ -72,7 +73,8 @@ both_true a b e f = λ i. (e i) && (f i)
 pub meets_whole : (a : Cell) → meet a (whole a) ≡ true
 meets_whole (Machine p) = pid_itself p
 meets_whole (Alive p) = pid_itself p
-meets_whole (Mailbox p) = pid_itself p
+meets_whole (Taken p) = pid_itself p
+meets_whole (Mailed p) = pid_itself p
 meets_whole (Front s r) = both_true (same_pid s s) (same_pid r r) (pid_itself s) (pid_itself r)
 meets_whole (Tail s r) = both_true (same_pid s s) (same_pid r r) (pid_itself s) (pid_itself r)
 meets_whole (Links p) = pid_itself p

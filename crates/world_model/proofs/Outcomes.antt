@@ -1,11 +1,10 @@
 -- What a step comes to, and what is asked of two that commute.
-use Rattle.std.proofs.Common.{◌≡◌, ◌⊎◌, Bool, false, ◌||◌, List, [], ◌∷◌, Option, Some, option_map, map}
+use Rattle.std.proofs.Common.{◌≡◌, Bool, false, ◌||◌, List, [], ◌∷◌, Option, Some, option_map, map}
 use Rattle.term_core.specs.declared.step.Step.{Step}
 use Rattle.world_model.specs.Requests.{Program}
-use Rattle.world_model.specs.Events.{Deed, Signal}
-use Rattle.world_model.specs.Cells.{Cell, Front, Tail, meet, Contents}
+use Rattle.world_model.specs.Events.{Deed}
+use Rattle.world_model.specs.Cells.{Cell, meet, Contents}
 use Rattle.world_model.specs.Changes.{Change, cell_of, after}
-use Rattle.world_model.specs.Signals.{waiting_in, first_of}
 use Rattle.world_model.specs.Steps.{next_deed, changes_by, reads}
 
 -- what a step comes to: its deed, and what that changes
@@ -38,12 +37,3 @@ pub record Commute (a : Program) (v : Contents) (s t : Step) (d e : Outcome) : T
   pub second_after_first : outcome a (after d.1 v) t ≡ Some e
   pub first_after_second : outcome a (after e.1 v) s ≡ Some d
   pub same : (c : Cell) → after e.1 (after d.1 v) c ≡ after d.1 (after e.1 v) c
-
--- who reads the front of a channel finds a signal there, or reads the tail as well
-abbrev pub IsHeld : Contents → List Cell → Cell → Type 0
-IsHeld v all (Front s r) = ((x : Signal) × (first_of (waiting_in v s r) ≡ Some x)) ⊎ ((ks : List Change) → meets ks all ≡ false → touches ks (Tail s r) ≡ false)
-IsHeld v all c = Unit {0}
-
-abbrev pub AreHeld : Contents → List Cell → List Cell → Type 0
-AreHeld v all [] = Unit {0}
-AreHeld v all (c ∷ cs) = IsHeld v all c × AreHeld v all cs

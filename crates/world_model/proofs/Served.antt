@@ -6,13 +6,14 @@ use Rattle.term_core.specs.declared.step.Step.{Step}
 use Rattle.term_core.specs.declared.step.Step.TheVariants.{Turn}
 use Rattle.core_calls.specs.declared.call.CallKind.{CallKind}
 use Rattle.world_model.specs.Calls.{call_of}
-use Rattle.world_model.specs.Cells.{Alive, Contents, Machine, Mailbox}
+use Rattle.world_model.specs.Cells.{Alive, Contents, Machine}
 use Rattle.world_model.specs.Events.{Event, Deed, Served, Ended, Received, TimedOut, RanAway, Refusal, History}
 use Rattle.world_model.specs.Lines.{line}
+use Rattle.world_model.specs.Mailboxes.{mailbox_in, selected_of}
 use Rattle.world_model.specs.Names.{Pid}
 use Rattle.world_model.specs.Requests.{Calls, Ends, Request, Receives, RunsAway, Program}
 use Rattle.world_model.specs.Run.{next_event}
-use Rattle.world_model.specs.Steps.{judged, ended_or, received, asked, deed_asked, ends_itself, must_wait, selected_of, next_deed}
+use Rattle.world_model.specs.Steps.{judged, ended_or, received, asked, deed_asked, ends_itself, must_wait, next_deed}
 use Rattle.world_model.specs.World.{contents}
 use Rattle.world_model.proofs.Histories.{deed_is}
 
@@ -55,7 +56,7 @@ asked_served v p (Calls kind arguments) e k xs now is =
     let call = call_of kind arguments in
     let by = ended_served kind arguments (ends_itself v p call) (line v p call).refusal (line v p call).answer k xs (waited_served (must_wait v p call) (ended_or kind arguments (ends_itself v p call) (judged kind arguments (line v p call).refusal (line v p call).answer)) e k xs now is) in
     (λ i. (line v p (call_of (sym by.1 i) (sym by.2 i))).refusal) ∙ by.0
-asked_served v p (Receives waits selects) e k xs now is = absurd (received_served waits (selected_of selects (v (Mailbox p))) e k xs now is)
+asked_served v p (Receives waits selects) e k xs now is = absurd (received_served waits (selected_of selects (mailbox_in v p)) e k xs now is)
 asked_served v p (Ends reason) e k xs now is = absurd (no_served (ap (λ o. served_in (unwrap_or o (Ended reason))) now ∙ is))
 asked_served v p RunsAway e k xs now is = absurd (no_served (ap (λ o. served_in (unwrap_or o RanAway)) now ∙ is))
 

@@ -4,13 +4,14 @@ use Rattle.std.specs.List.{list_any}
 use Rattle.std.specs.Prelude.{true, false, List, ◌∷◌, ◌==◌, ◌≡◌, ◌++◌, if◌then◌else◌, ◌||◌, ℕ, [], Bool, Option, None, Some, map}
 use Rattle.term_core.specs.Meaning.{Meaning}
 use Rattle.world_model.specs.Calls.{Call, Spawn, SpawnWay, Alone, Link, Linked, Watched, TableCall, Insert, InsertNew, New, DeleteTable, DeleteKey, DeleteObject, DeleteAll, Take, UpdateCounter, UpdateElement, GiveAway, SetOptions, Send, ToNobody, ToProcess, ToName, SendExit, Unlink, Monitor, Demonitor, Flag, Register, Unregister, WhereIs, IsAlive, MakeRef, OnTable, Misfit, First}
-use Rattle.world_model.specs.Cells.{Watch, Alive, Cell, meet, Row, Tail, Contents, Holder, Links, Trap, TableName, Machine, Mailbox, Front}
-use Rattle.world_model.specs.Changes.{Change, cell_of, Inherits, after}
+use Rattle.world_model.specs.Cells.{Watch, Alive, Cell, meet, Row, Tail, Contents, Holder, Links, Trap, TableName, Machine, Taken, Mailed, Front}
+use Rattle.world_model.specs.Changes.{Change, cell_of, Inherits, after, is_of_watch}
 use Rattle.world_model.specs.Ends.{name_freed}
 use Rattle.world_model.specs.Events.{Exit, Signal, Message}
 use Rattle.world_model.specs.Found.{Found, find}
 use Rattle.world_model.specs.Judging.{found_line}
 use Rattle.world_model.specs.Lines.{line}
+use Rattle.world_model.specs.Mailboxes.{mailbox_in, selected_of}
 use Rattle.world_model.specs.Names.{Name, Ref, Pid, same_pid}
 use Rattle.world_model.specs.NewTables.{new_line, new_rule}
 use Rattle.world_model.specs.Objects.{stored_at, stores, removed_at, given, one_present, keys_asked}
@@ -90,13 +91,14 @@ gone_among : (b : Bool) (p q : Pid) (ref : Ref) → AllAmong (8 ∷ 7 ∷ 5 ∷ 
 gone_among true p q ref = tt
 gone_among false p q ref = (refl, tt)
 
-watch_among : (p : Pid) (ref : Ref) (o : Option Pid) → AllAmong (8 ∷ 7 ∷ 3 ∷ []) (watch_ends p ref o)
+watch_among : (p : Pid) (ref : Ref) (o : Option Pid) → AllAmong (8 ∷ 7 ∷ 15 ∷ []) (watch_ends p ref o)
 watch_among p ref None = (refl, tt)
-watch_among p ref (Some q) = among_if (8 ∷ 7 ∷ 3 ∷ []) (same_pid ref.pid p) _ _ (refl, (refl, tt)) (refl, (refl, tt))
+watch_among p ref (Some q) = among_if (8 ∷ 7 ∷ 15 ∷ []) (same_pid ref.pid p) _ _ (refl, (refl, tt)) (refl, (refl, tt))
 
-flushed_among : (b : Bool) (p : Pid) (ref : Ref) → AllAmong (8 ∷ 7 ∷ 3 ∷ []) (flushed b p ref)
-flushed_among true p ref = (refl, tt)
-flushed_among false p ref = tt
+flushed_among : (b : Bool) (p : Pid) (o : Option Meaning) → AllAmong (8 ∷ 7 ∷ 15 ∷ []) (flushed b p o)
+flushed_among false p o = tt
+flushed_among true p None = tt
+flushed_among true p (Some m) = (refl, tt)
 
 unregistered_among : (n : Name) (o : Option Pid) → AllAmong (9 ∷ 10 ∷ []) (unregister_line n o).changes
 unregistered_among n None = tt
@@ -168,7 +170,9 @@ call_among v p (Monitor false (Some q)) = tt
 call_among v p (Monitor true (Some q)) = (refl, (refl, gone_among (v (Alive q)) p q (next_ref v p)))
 call_among v p (Demonitor None flushes) = tt
 call_among v p (Demonitor (Some ref) None) = tt
-call_among v p (Demonitor (Some ref) (Some flushes)) = among_both (8 ∷ 7 ∷ 3 ∷ []) (watch_ends p ref (v (Watch ref))) (flushed flushes p ref) (watch_among p ref (v (Watch ref))) (flushed_among flushes p ref)
+call_among v p (Demonitor (Some ref) (Some flushes)) =
+    let found = selected_of (is_of_watch ref) (mailbox_in v p) in
+    among_both (8 ∷ 7 ∷ 15 ∷ []) (watch_ends p ref (v (Watch ref))) (flushed flushes p found) (watch_among p ref (v (Watch ref))) (flushed_among flushes p found)
 call_among v p (Flag None) = tt
 call_among v p (Flag (Some b)) = (refl, tt)
 call_among v p (Register None None) = tt
@@ -204,9 +208,13 @@ pub no_course : (call : TableCall) (q : Pid) → is_among (table_sorts call) (Ma
 no_course First q = refl
 no_course call q = refl
 
-pub no_mail : (call : TableCall) (q : Pid) → is_among (table_sorts call) (Mailbox q) ≡ false
+pub no_mail : (call : TableCall) (q : Pid) → is_among (table_sorts call) (Mailed q) ≡ false
 no_mail First q = refl
 no_mail call q = refl
+
+pub none_taken : (call : TableCall) (q : Pid) → is_among (table_sorts call) (Taken q) ≡ false
+none_taken First q = refl
+none_taken call q = refl
 
 pub no_link : (call : TableCall) (q : Pid) → is_among (table_sorts call) (Links q) ≡ false
 no_link First q = refl

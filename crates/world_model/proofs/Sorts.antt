@@ -2,13 +2,14 @@
 use Rattle.std.specs.List.{list_any}
 use Rattle.std.specs.Prelude.{◌∷◌, ◌==◌, ℕ, List, Bool, []}
 use Rattle.world_model.specs.Calls.{Link, TableCall, Call, Insert, InsertNew, New, DeleteTable, DeleteKey, DeleteObject, DeleteAll, Take, UpdateCounter, UpdateElement, GiveAway, SetOptions, Spawn, Send, SendExit, Unlink, Monitor, Demonitor, Flag, Register, Unregister, WhereIs, IsAlive, MakeRef, OnTable, Misfit}
-use Rattle.world_model.specs.Cells.{Cell, Machine, Alive, Trap, Mailbox, Front, Tail, Links, Watch, Watchers, Holder, NameOf, TableName, Table, Owned, Row, Rows}
+use Rattle.world_model.specs.Cells.{Cell, Machine, Alive, Trap, Taken, Mailed, Front, Tail, Links, Watch, Watchers, Holder, NameOf, TableName, Table, Owned, Row, Rows}
 
 abbrev pub sort_of : Cell → ℕ
 sort_of (Machine p) = 0
 sort_of (Alive p) = 1
 sort_of (Trap p) = 2
-sort_of (Mailbox p) = 3
+sort_of (Mailed p) = 3
+sort_of (Taken p) = 15
 sort_of (Front s r) = 4
 sort_of (Tail s r) = 5
 sort_of (Links p) = 6
@@ -46,7 +47,7 @@ sorts_of (SendExit to reason) = 3 ∷ 5 ∷ []
 sorts_of (Link q) = 6 ∷ 5 ∷ []
 sorts_of (Unlink q) = 6 ∷ []
 sorts_of (Monitor is_process q) = 8 ∷ 7 ∷ 5 ∷ []
-sorts_of (Demonitor ref flush) = 8 ∷ 7 ∷ 3 ∷ []
+sorts_of (Demonitor ref flush) = 8 ∷ 7 ∷ 15 ∷ []
 sorts_of (Flag b) = 2 ∷ []
 sorts_of (Register n q) = 9 ∷ 10 ∷ []
 sorts_of (Unregister n) = 9 ∷ 10 ∷ []

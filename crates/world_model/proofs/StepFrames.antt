@@ -1,25 +1,26 @@
 -- The law of frames of turns and deliveries.
-use Rattle.std.proofs.Common.{◌∙◌, ap, refl}
+use Rattle.std.proofs.Common.{◌∙◌, ap, refl, sym}
 use Rattle.std.specs.List.{list_any}
-use Rattle.std.specs.Prelude.{◌&&◌, ◌∷◌, if◌then◌else◌, ◌≡◌, ◌++◌, Bool, true, false, Some, None, is_some, List, Option, [], option_map}
+use Rattle.std.specs.Prelude.{◌&&◌, ◌∷◌, if◌then◌else◌, ◌≡◌, ◌++◌, Bool, true, false, Some, None, is_some, List, Option, [], option_map, drop}
 use Rattle.term_core.specs.Meaning.{Meaning}
 use Rattle.term_core.specs.declared.step.Step.{Step}
 use Rattle.term_core.specs.declared.step.Step.TheVariants.{Turn, Deliver}
 use Rattle.core_calls.specs.declared.call.CallKind.{CallKind}
 use Rattle.eval_rules.specs.Asked as answered
 use Rattle.world_model.specs.Calls.{Call, SendExit, IsAlive, call_of}
-use Rattle.world_model.specs.Cells.{Contents, Trap, Alive, Machine, Mailbox, Front, Links}
+use Rattle.world_model.specs.Cells.{Contents, Trap, Alive, Machine, Front, Links}
 use Rattle.world_model.specs.Changes.{Turns, Change, after, Fetches}
 use Rattle.world_model.specs.Ends.{reads_of_end}
 use Rattle.world_model.specs.Events.{Exit, Refusal, Served, EndedItself, Ended, Deed, RanAway, Signal, Message, LinkExit, Down, Fate, Arrives, IsIgnored, IsDropped, Kills, Delivered}
-use Rattle.world_model.specs.Frames.{AgreeOn}
+use Rattle.world_model.specs.Frames.{Sees, AgreeOn}
 use Rattle.world_model.specs.Lines.{line}
+use Rattle.world_model.specs.Mailboxes.{mailbox_in, selected_of, reads_to_pick}
 use Rattle.world_model.specs.Names.{Pid, same_pid}
 use Rattle.world_model.specs.ProcessLines.{read_of_target}
 use Rattle.world_model.specs.Requests.{Request, Calls, Receives, Ends, RunsAway, Program}
 use Rattle.world_model.specs.Signals.{reads_of_fate, trap_if, fate_of, exit_fate, link_fate, down_fate, goes_with, first_of, waiting_in}
-use Rattle.world_model.specs.Steps.{own_end, ends_itself, reads, must_wait, judged, reads_if_ended, ended_or, deed_asked, asked, reads_of_request, reads_of_call, received, selected_of, runaway, reads_if_killed, changes_of_fate, deed_delivered, reads_of_signal}
-use Rattle.world_model.proofs.CallFrames.{call_framed}
+use Rattle.world_model.specs.Steps.{own_end, ends_itself, reads, must_wait, judged, reads_if_ended, ended_or, deed_asked, asked, reads_of_request, reads_of_call, received, runaway, reads_if_killed, changes_of_fate, deed_delivered, reads_of_signal}
+use Rattle.world_model.proofs.CallFrames.{call_framed, selected_framed}
 use Rattle.world_model.proofs.EndFrames.{ends_framed, same_of, SameOn, same_after_both}
 use Rattle.world_model.proofs.Outcomes.{with_changes, Outcome, outcome}
 use Rattle.world_model.proofs.TableFrames.{agree_parts}
@@ -37,7 +38,7 @@ ends_itself_framed v w p (SendExit None reason) agree = refl
 ends_itself_framed v w p call agree = refl
 
 must_wait_framed : (v w : Contents) (p : Pid) (call : Call) → AgreeOn v w (line v p call).reads → must_wait v p call ≡ must_wait w p call
-must_wait_framed v w p (IsAlive (Some q)) agree = λ i. agree.0.0 i && is_some (agree.1.0.1 i)
+must_wait_framed v w p (IsAlive (Some q)) agree = λ i. agree.0.0 i && is_some (first_of (drop (agree.1.0.0 i) (agree.1.1.0.0 i)))
 must_wait_framed v w p (IsAlive None) agree = refl
 must_wait_framed v w p call agree = refl
 
@@ -83,7 +84,8 @@ received_framed v w p false None = refl
 request_framed : (v w : Contents) (p : Pid) (q : Request) → v (Machine p) ≡ w (Machine p) → AgreeOn v w (reads_of_request v p q) → IsFramed v w p q
 request_framed v w p (Calls kind arguments) machine agree = call_framed_too v w p kind arguments machine agree
 request_framed v w p (Receives waits selects) machine agree =
-    (received_framed v w p waits (selected_of selects (v (Mailbox p))) ∙ (λ i. option_map (with_changes w (Turn p)) (received waits (selected_of selects (agree.0.0 i)))), refl)
+    let same = selected_framed v w p selects agree in
+    (received_framed v w p waits (selected_of selects (mailbox_in v p)) ∙ (λ i. option_map (with_changes w (Turn p)) (received waits (same i))), ap (reads_to_pick p) same)
 request_framed v w p (Ends reason) machine agree =
     let end = ends_framed v w p reason (same_of v w (reads_of_end v p) agree) in
     ((λ i. Some ((Ended reason, Turns p [] ∷ end.0 i))), end.1)
@@ -141,9 +143,13 @@ signal_framed v w s r (Some x) agree =
     let effect = effect_framed ks v w r (fate_of v s r x) (same_of v w (reads_if_killed (after ks v) r (fate_of v s r x)) parts.1) in
     ((λ i. Some ((Delivered x (fates i), Fetches s r ∷ (ks ++ (effect.0 ∙ ap (changes_of_fate (after ks w) r) fates) i)))), (λ i. fate_reads_framed v w s r x parts.0 i ++ (effect.1 ∙ ap (reads_if_killed (after ks w) r) fates) i))
 
+first_framed : (v w : Contents) (s r : Pid) (o : Option Signal) → first_of (waiting_in v s r) ≡ o → Sees v w (Front s r) → AgreeOn v w (reads_of_signal v s r o) → first_of (waiting_in w s r) ≡ o
+first_framed v w s r None is front agree = sym (λ i. first_of (drop (front.0 i) (agree.0.0 i))) ∙ is
+first_framed v w s r (Some x) is front agree = front.1 x is
+
 delivery_framed : (a : Program) (v w : Contents) (s r : Pid) → AgreeOn v w (reads a v (Deliver s r)) → (outcome a v (Deliver s r) ≡ outcome a w (Deliver s r)) × (reads a v (Deliver s r) ≡ reads a w (Deliver s r))
 delivery_framed a v w s r agree =
-    let first = agree.1.0.1 in
+    let first = sym (first_framed v w s r (first_of (waiting_in v s r)) refl agree.1.0 agree.1.1) in
     let signal = signal_framed v w s r (first_of (waiting_in v s r)) agree.1.1 in
     (where_enabled v w (Deliver s r) (v (Alive r)) (deed_delivered v s r (first_of (waiting_in v s r))) (deed_delivered w s r (first_of (waiting_in v s r))) signal.0 ∙ (λ i. option_map (with_changes w (Deliver s r)) (if agree.0.0 i then deed_delivered w s r (first i) else None)), ap (λ cs. Alive r ∷ Front s r ∷ cs) (signal.1 ∙ ap (reads_of_signal w s r) first))
 

@@ -6,12 +6,13 @@ use Rattle.term_core.specs.declared.step.Step.{Step}
 use Rattle.term_core.specs.declared.step.Step.TheVariants.{Turn, Deliver}
 use Rattle.world_model.specs.Calls.{Call, New, call_of, TableCall, DeleteTable, GiveAway, SetOptions, OnTable, Spawn, Monitor, SpawnWay, Alone, Linked, Watched, Demonitor}
 use Rattle.world_model.specs.Cells.{Table, Contents, meet, TableName, Watch, Watchers, Alive}
-use Rattle.world_model.specs.Changes.{after, Inherits, changed, Frees, Goes, Wipes, Loses, Dies, Halts, Fetches, Unwatches, Sheds, Touches}
+use Rattle.world_model.specs.Changes.{is_of_watch, after, Inherits, changed, Frees, Goes, Wipes, Loses, Dies, Halts, Fetches, Unwatches, Sheds, Touches}
 use Rattle.world_model.specs.Ends.{ends}
 use Rattle.world_model.specs.Events.{Deed, Served, Signal, Message, Exit, LinkExit, Down, Fate, Arrives, IsIgnored, IsDropped, Kills, Refused, Ended, EndedItself, Received, TimedOut, RanAway, Delivered}
 use Rattle.world_model.specs.Found.{Found, find}
 use Rattle.world_model.specs.Judging.{found_line}
 use Rattle.world_model.specs.Lines.{line}
+use Rattle.world_model.specs.Mailboxes.{mailbox_in, selected_of}
 use Rattle.world_model.specs.Names.{Pid, Ref, same_ref, Name, same_pid}
 use Rattle.world_model.specs.NewTables.{means_if, new_line, new_rule}
 use Rattle.world_model.specs.Owners.{table_passed}
@@ -145,9 +146,10 @@ told_none : (b : Bool) (p q : Pid) (u ref : Ref) (w : Contents) → after (gone_
 told_none true p q u ref w = refl
 told_none false p q u ref w = refl
 
-flush_none : (b : Bool) (p : Pid) (u ref : Ref) (w : Contents) → after (flushed b p u) w (Watch ref) ≡ w (Watch ref)
-flush_none true p u ref w = refl
-flush_none false p u ref w = refl
+flush_none : (b : Bool) (p : Pid) (o : Option Meaning) (ref : Ref) (w : Contents) → after (flushed b p o) w (Watch ref) ≡ w (Watch ref)
+flush_none false p o ref w = refl
+flush_none true p None ref w = refl
+flush_none true p (Some m) ref w = refl
 
 ends_by : (b : Bool) (q : Pid) (u ref : Ref) (w : Contents) → w (Watch ref) ≡ None → after (if b then Unwatches u ∷ Sheds q u ∷ [] else Touches (Watch u) ∷ Touches (Watchers q) ∷ []) w (Watch ref) ≡ None
 ends_by true q u ref w is = none_if (same_ref u ref) (w (Watch ref)) is
@@ -166,8 +168,9 @@ call_unwatched v w p (Monitor true (Some q)) ref other is = told_none (v (Alive 
 call_unwatched v w p (Demonitor None flushes) ref other is = is
 call_unwatched v w p (Demonitor (Some u) None) ref other is = is
 call_unwatched v w p (Demonitor (Some u) (Some flushes)) ref other is =
-    after_both (watch_ends p u (v (Watch u))) (flushed flushes p u) w (Watch ref)
-    ∙ flush_none flushes p u ref (after (watch_ends p u (v (Watch u))) w) ∙ ended_none p u ref (v (Watch u)) w is
+    let found = selected_of (is_of_watch u) (mailbox_in v p) in
+    after_both (watch_ends p u (v (Watch u))) (flushed flushes p found) w (Watch ref)
+    ∙ flush_none flushes p found ref (after (watch_ends p u (v (Watch u))) w) ∙ ended_none p u ref (v (Watch u)) w is
 call_unwatched v w p (OnTable argument call) ref other is = call_leaves v w p (OnTable argument call) (Watch ref) (no_watch call ref) ∙ is
 call_unwatched v w p call ref other is = call_leaves v w p call (Watch ref) refl ∙ is
 

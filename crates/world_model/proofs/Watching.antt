@@ -6,10 +6,11 @@ use Rattle.term_core.specs.declared.step.Step.TheVariants.{Turn, Deliver}
 use Rattle.eval_rules.specs.Asked as answered
 use Rattle.world_model.specs.Calls.{Call, Spawn, SpawnWay, Alone, Linked, Watched, Monitor, Demonitor, OnTable, TableCall, First, call_of}
 use Rattle.world_model.specs.Cells.{Contents, Alive, Watch, Watchers}
-use Rattle.world_model.specs.Changes.{Begins, Lives, Unwatches, Sheds, Touches, Turns, Fetches, after, changed}
+use Rattle.world_model.specs.Changes.{Begins, Lives, Unwatches, Sheds, Touches, Turns, Fetches, after, changed, is_of_watch}
 use Rattle.world_model.specs.Ends.{ends}
 use Rattle.world_model.specs.Events.{Deed, Served, Refused, EndedItself, Ended, Received, TimedOut, RanAway, Delivered, Signal, Message, Exit, LinkExit, Down, Fate, Arrives, IsIgnored, IsDropped, Kills}
 use Rattle.world_model.specs.Lines.{line}
+use Rattle.world_model.specs.Mailboxes.{mailbox_in, selected_of}
 use Rattle.world_model.specs.Names.{Pid, Ref, same_pid, same_ref}
 use Rattle.world_model.specs.ProcessLines.{bound, flushed, gone_told, next_child, next_ref, watch_begins, watch_ends}
 use Rattle.world_model.specs.Signals.{goes_with}
@@ -60,13 +61,15 @@ gone_watch : (b : Bool) (p q : Pid) (u : Ref) (w : Contents) (t : Ref) → after
 gone_watch true p q u w t = refl
 gone_watch false p q u w t = refl
 
-flush_watchers : (b : Bool) (p : Pid) (u : Ref) (w : Contents) (x : Pid) → after (flushed b p u) w (Watchers x) ≡ w (Watchers x)
-flush_watchers true p u w x = refl
-flush_watchers false p u w x = refl
+flush_watchers : (b : Bool) (p : Pid) (o : Option Meaning) (w : Contents) (x : Pid) → after (flushed b p o) w (Watchers x) ≡ w (Watchers x)
+flush_watchers false p o w x = refl
+flush_watchers true p None w x = refl
+flush_watchers true p (Some m) w x = refl
 
-flush_watch : (b : Bool) (p : Pid) (u : Ref) (w : Contents) (t : Ref) → after (flushed b p u) w (Watch t) ≡ w (Watch t)
-flush_watch true p u w t = refl
-flush_watch false p u w t = refl
+flush_watch : (b : Bool) (p : Pid) (o : Option Meaning) (w : Contents) (t : Ref) → after (flushed b p o) w (Watch t) ≡ w (Watch t)
+flush_watch false p o w t = refl
+flush_watch true p None w t = refl
+flush_watch true p (Some m) w t = refl
 
 ended_by : (b : Bool) (u : Ref) (q : Pid) (w : Contents) → AreListed w → IsOf w u q → Known w → Known (after (if b then Unwatches u ∷ Sheds q u ∷ [] else Touches (Watch u) ∷ Touches (Watchers q) ∷ []) w)
 ended_by true u q w sorted of before_ = ends_known w u q sorted of before_
@@ -92,9 +95,10 @@ call_known v w p (Demonitor None flushes) same none sorted before_ = before_
 call_known v w p (Demonitor (Some u) None) same none sorted before_ = before_
 call_known v w p (Demonitor (Some u) (Some flushes)) same none sorted before_ =
     let ks = watch_ends p u (v (Watch u)) in
+    let found = selected_of (is_of_watch u) (mailbox_in v p) in
     known_same (after ks w) (after (line v p (Demonitor (Some u) (Some flushes))).changes w)
-    (λ x. after_both ks (flushed flushes p u) w (Watchers x) ∙ flush_watchers flushes p u (after ks w) x)
-    (λ t. after_both ks (flushed flushes p u) w (Watch t) ∙ flush_watch flushes p u (after ks w) t)
+    (λ x. after_both ks (flushed flushes p found) w (Watchers x) ∙ flush_watchers flushes p found (after ks w) x)
+    (λ t. after_both ks (flushed flushes p found) w (Watch t) ∙ flush_watch flushes p found (after ks w) t)
     (watch_ended p u (v (Watch u)) w (same u) sorted before_)
 call_known v w p (OnTable argument call) same none sorted before_ = known_same w (after (line v p (OnTable argument call)).changes w) (λ x. call_leaves v w p (OnTable argument call) (Watchers x) (no_watchers call x)) (λ t. call_leaves v w p (OnTable argument call) (Watch t) (no_watch call t)) before_
 call_known v w p call same none sorted before_ = known_same w (after (line v p call).changes w) (λ x. call_leaves v w p call (Watchers x) refl) (λ t. call_leaves v w p call (Watch t) refl) before_

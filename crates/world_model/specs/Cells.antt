@@ -10,11 +10,13 @@ use Rattle.world_model.specs.Rows.{Key, Object, same_key}
 use Rattle.world_model.specs.Tables as tables
 
 pub data Cell : Type 0 where
-  -- the course of a process, whether it lives, whether it traps exits, and its mailbox
+  -- the course of a process, whether it lives, and whether it traps exits
   Machine : (p : Pid) → Cell
   Alive : (p : Pid) → Cell
   Trap : (p : Pid) → Cell
-  Mailbox : (p : Pid) → Cell
+  -- its mailbox: what was taken from it, and what came
+  Taken : (p : Pid) → Cell
+  Mailed : (p : Pid) → Cell
   -- the channel from one process to another: how far it is delivered, and what was put
   Front : (s r : Pid) → Cell
   Tail : (s r : Pid) → Cell
@@ -38,7 +40,8 @@ abbrev pub meet : Cell → Cell → Bool
 meet (Machine p) (Machine q) = same_pid p q
 meet (Alive p) (Alive q) = same_pid p q
 meet (Trap p) (Trap q) = same_pid p q
-meet (Mailbox p) (Mailbox q) = same_pid p q
+meet (Taken p) (Taken q) = same_pid p q
+meet (Mailed p) (Mailed q) = same_pid p q
 meet (Front s r) (Front t u) = same_pid s t && same_pid r u
 meet (Tail s r) (Tail t u) = same_pid s t && same_pid r u
 meet (Links p) (Links q) = same_pid p q
@@ -66,7 +69,9 @@ abbrev pub Content : Cell → Type 0
 Content (Machine p) = Course
 Content (Alive p) = Bool
 Content (Trap p) = Bool
-Content (Mailbox p) = List Meaning
+-- all messages that were taken, and all that came, in order
+Content (Taken p) = List Meaning
+Content (Mailed p) = List Meaning
 -- how many signals were delivered
 Content (Front s r) = ℕ
 -- all signals that were put, in order

@@ -6,7 +6,7 @@ use Rattle.std.specs.declared.cmp.Ordering.TheVariants.{Less, Equal, Greater}
 use Rattle.term_core.specs.Meaning.{Meaning}
 use Rattle.term_core.specs.Order.{order_of_lists}
 use Rattle.eval_rules.specs.Asked.{Answered}
-use Rattle.world_model.specs.Cells.{Table, Rows, Row, Cell, Machine, Alive, Trap, Mailbox, Front, Tail, Links, Watchers, Watch, Holder, NameOf, TableName, Owned, meet, Content, Contents}
+use Rattle.world_model.specs.Cells.{Table, Rows, Row, Cell, Machine, Alive, Trap, Taken, Mailed, Front, Tail, Links, Watchers, Watch, Holder, NameOf, TableName, Owned, meet, Content, Contents}
 use Rattle.world_model.specs.Events.{Signal}
 use Rattle.world_model.specs.Names.{Name, Pid, Ref, same_pid, same_ref, same_term, order_of_refs}
 use Rattle.world_model.specs.Requests.{Origin}
@@ -23,10 +23,9 @@ pub data Change : Type 0 where
   Lives : (p : Pid) → Change
   Dies : (p : Pid) → Change
   Traps : (p : Pid) (traps : Bool) → Change
-  -- a message comes into a mailbox, is taken from it, or the message of a watch is
+  -- a message comes into a mailbox, or is taken from it
   Mails : (p : Pid) (message : Meaning) → Change
   Picks : (p : Pid) (message : Meaning) → Change
-  Flushes : (p : Pid) (ref : Ref) → Change
   -- a signal is put, and the oldest is taken
   Puts : (s r : Pid) (signal : Signal) → Change
   Fetches : (s r : Pid) → Change
@@ -67,9 +66,8 @@ cell_of (Halts p reason) = Machine p
 cell_of (Lives p) = Alive p
 cell_of (Dies p) = Alive p
 cell_of (Traps p traps) = Trap p
-cell_of (Mails p message) = Mailbox p
-cell_of (Picks p message) = Mailbox p
-cell_of (Flushes p ref) = Mailbox p
+cell_of (Mails p message) = Mailed p
+cell_of (Picks p message) = Taken p
 cell_of (Puts s r signal) = Tail s r
 cell_of (Fetches s r) = Front s r
 cell_of (Joins p q) = Links p
@@ -130,9 +128,8 @@ renewed (Halts q reason) (Machine p) before = record { origin = before.origin; t
 renewed (Lives q) (Alive p) before = true
 renewed (Dies q) (Alive p) before = false
 renewed (Traps q traps) (Trap p) before = traps
-renewed (Mails q message) (Mailbox p) before = before ++ (message ∷ [])
-renewed (Picks q message) (Mailbox p) before = without_first (same_term message) before
-renewed (Flushes q ref) (Mailbox p) before = without_first (is_of_watch ref) before
+renewed (Mails q message) (Mailed p) before = before ++ (message ∷ [])
+renewed (Picks q message) (Taken p) before = before ++ (message ∷ [])
 renewed (Puts a b signal) (Tail s r) before = before ++ (signal ∷ [])
 renewed (Fetches a b) (Front s r) before = before + 1
 renewed (Joins q partner) (Links p) before = set_in_order order_of_lists partner before

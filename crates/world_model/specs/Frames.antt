@@ -1,18 +1,21 @@
 -- What each step reads and writes is all that matters to it.
-use Rattle.std.specs.Prelude.{◌≡◌, false, List, [], ◌∷◌, Some, map}
+use Rattle.std.specs.Prelude.{◌≡◌, Bool, false, List, [], ◌∷◌, Some, map}
+use Rattle.term_core.specs.Meaning.{Meaning}
 use Rattle.term_core.specs.declared.step.Step.{Step}
-use Rattle.world_model.specs.Cells.{Contents, Cell, Front}
+use Rattle.world_model.specs.Cells.{Contents, Cell, Front, Taken}
 use Rattle.world_model.specs.Changes.{cell_of}
-use Rattle.world_model.specs.Events.{History, Event}
+use Rattle.world_model.specs.Events.{History, Event, Signal}
 use Rattle.world_model.specs.Independence.{one_meets, footprint}
+use Rattle.world_model.specs.Mailboxes.{mailbox_in, selected_of}
 use Rattle.world_model.specs.Requests.{Program}
 use Rattle.world_model.specs.Run.{changes, next_event}
 use Rattle.world_model.specs.Signals.{first_of, waiting_in}
 use Rattle.world_model.specs.World.{contents}
 
--- what reading the front of a channel tells besides: the signal that is there
+-- what reading tells besides, of the front of a channel and of what was taken from a mailbox: which signal waits first, and which message is the oldest of those that are selected, is so in the other too; where nothing is, nothing is told
 abbrev pub SeesFirst : Contents → Contents → Cell → Type 0
-SeesFirst v w (Front s r) = first_of (waiting_in v s r) ≡ first_of (waiting_in w s r)
+SeesFirst v w (Front s r) = (x : Signal) → first_of (waiting_in v s r) ≡ Some x → first_of (waiting_in w s r) ≡ Some x
+SeesFirst v w (Taken p) = (selects : Meaning → Bool) (m : Meaning) → selected_of selects (mailbox_in v p) ≡ Some m → selected_of selects (mailbox_in w p) ≡ Some m
 SeesFirst v w c = Unit {0}
 
 -- two contents agree on a cell, and on cells

@@ -31,6 +31,7 @@ pub mod TableLaws
 pub mod Told
 pub mod Bonds
 pub mod Mail
+pub mod Mailboxes
 pub mod Posted
 pub mod RowsLeft
 pub mod Owners

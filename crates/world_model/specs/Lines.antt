@@ -2,9 +2,10 @@
 use Rattle.std.specs.Prelude.{◌∷◌, None, [], Some, false, true, codes}
 use Rattle.world_model.specs.Calls.{Link, New, Call, Spawn, Send, ToNobody, ToProcess, ToName, SendExit, Unlink, Monitor, Demonitor, Flag, Register, Unregister, WhereIs, IsAlive, MakeRef, OnTable, Misfit}
 use Rattle.world_model.specs.Cells.{Alive, Contents, Machine, Holder, Links, Trap, Watch, NameOf, Front, Tail, TableName}
-use Rattle.world_model.specs.Changes.{Traps}
+use Rattle.world_model.specs.Changes.{Traps, is_of_watch}
 use Rattle.world_model.specs.Events.{ByRule}
 use Rattle.world_model.specs.Judging.{on_table_line}
+use Rattle.world_model.specs.Mailboxes.{mailbox_in, selected_of}
 use Rattle.world_model.specs.Names.{Pid, same_pid}
 use Rattle.world_model.specs.NewTables.{new_line, new_rule}
 use Rattle.world_model.specs.ProcessLines.{CallLine, badarg, spawn_line, serves, read_of_target, sent, serves_unless, unless_held, holder_read, sent_to_holder, exited, link_line, link_way, monitor_line, ref_of, demonitor_reads, demonitor_line, register_line, unregister_line}
@@ -37,7 +38,7 @@ line v p (Monitor true (Some q)) = monitor_line p q (ref_of p (v (Machine p))) (
 -- demonitor/1, demonitor/2
 line v p (Demonitor None flushes) = badarg []
 line v p (Demonitor (Some ref) None) = badarg (demonitor_reads ref (v (Watch ref)))
-line v p (Demonitor (Some ref) (Some flushes)) = demonitor_line p ref flushes (v (Watch ref))
+line v p (Demonitor (Some ref) (Some flushes)) = demonitor_line p ref flushes (v (Watch ref)) (selected_of (is_of_watch ref) (mailbox_in v p))
 -- process_flag/2
 line v p (Flag None) = badarg []
 line v p (Flag (Some traps)) = serves (Trap p ∷ []) (truth (v (Trap p))) (Traps p traps ∷ [])

@@ -12,7 +12,7 @@ use Rattle.world_model.specs.Run.{changes, IsRun}
 use Rattle.world_model.specs.Signals.{exit_message}
 use Rattle.world_model.specs.World.{mailbox, holder, waiting}
 
--- ---- mailboxes: a message comes in where it is delivered, or where a process sends to itself; it goes where a receive takes it, or `demonitor/2` flushes it
+-- ---- mailboxes, after any event of what really happened: a message comes in where it is delivered, or where a process sends to itself; it goes where a receive takes it, or `demonitor/2` flushes it
 
 abbrev pub mailed : Pid → Meaning → Pid → List Meaning → List Meaning
 mailed p message q there = if same_pid p q then there ++ (message ∷ []) else there
@@ -39,7 +39,7 @@ mailed_in h (Deliver s r) (Delivered signal (Arrives message)) q there = mailed 
 mailed_in h step deed q there = there
 
 abbrev pub MailboxIsTold : Type 0
-MailboxIsTold = (h : History) (e : Event) (q : Pid) → mailbox (e ∷ h) q ≡ mailed_in h e.step e.deed q (mailbox h q)
+MailboxIsTold = (a : Program) (h : History) (e : Event) (q : Pid) → IsRun a h → mailbox (e ∷ h) q ≡ mailed_in h e.step e.deed q (mailbox h q)
 
 -- ---- channels
 

@@ -1,5 +1,5 @@
 -- Small modules in which the order of two steps matters, and such in which it does not.
-use Rattle.std.specs.Prelude.{true, false, List, [], ◌∷◌, pos, codes}
+use Rattle.std.specs.Prelude.{◌++◌, true, false, List, [], ◌∷◌, pos, codes}
 use Rattle.term_core.specs.Meaning.{Meaning}
 use Rattle.term_core.specs.declared.step.Step.{Step}
 use Rattle.term_core.specs.declared.step.Step.TheVariants.{Turn, Deliver}
@@ -7,13 +7,13 @@ use Rattle.core_tree.specs.Syntax.{ModuleTree, Tree}
 use Rattle.core_calls.specs.declared.call.CallKind.TheVariants as kinds
 use Rattle.core_calls.specs.declared.pure.PureCall.TheVariants as pures
 use Rattle.world_model.specs.Cells.{Alive}
-use Rattle.world_model.specs.Events.{event, Refused, Badarg, Delivered, Exit, IsIgnored, Arrives}
+use Rattle.world_model.specs.Events.{event, Refused, Badarg, Delivered, Exit, IsIgnored, Arrives, Received, TimedOut}
 use Rattle.world_model.specs.Happenings.{P, P_1, P_2, R_1, t, a_1, serves_it, normal}
-use Rattle.world_model.specs.Modules.{the, the_atom, the_number, the_tuple, the_list, the_table, ask_for, compute, in_turn, with_result, function, module_of, main, child, spawn_child, spawn_linked, new_table, put_one, look_up}
+use Rattle.world_model.specs.Modules.{the, the_atom, the_number, the_tuple, the_list, the_table, ask_for, compute, in_turn, with_result, function, module_of, main, child, spawn_child, spawn_linked, new_table, put_one, look_up, receive, on, only}
 use Rattle.world_model.specs.Names.{Name}
 use Rattle.world_model.specs.Orders.{OrderMatters, Depend, AreFree, ReadsIt, Tells}
 use Rattle.world_model.specs.ProcessExamples.{trap}
-use Rattle.world_model.specs.ReceiveExamples.{hears}
+use Rattle.world_model.specs.ReceiveExamples.{hears, hurries, as_me, spawn_with, sends_its, sends_both}
 use Rattle.world_model.specs.Signals.{exit_message}
 use Rattle.world_model.specs.TableExamples.{gives, bequeaths}
 use Rattle.world_model.specs.Terms.{atom, number, ok, truth, list_of, process, tuple}
@@ -142,6 +142,49 @@ SecondLiesFirst = Tells (λ h. mailbox h P) hears (Turn P ∷ Turn P ∷ Turn P_
 -- but the sends of the two are independent
 abbrev pub SendsAreFree : Type 0
 SendsAreFree = AreFree hears both_begun (Turn P_1) (Turn P_2)
+
+-- ---- a message that is there, and one that comes behind it
+
+-- who takes the one does not depend on the other
+abbrev pub ReceiveIsFree : Type 0
+ReceiveIsFree = AreFree hears (both_sent ++ (Deliver P_1 P ∷ [])) (Turn P) (Deliver P_2 P)
+
+-- who finds none does: it comes to its timeout, or takes what comes
+abbrev pub ReceiveComesAfterDelivery : Type 0
+ReceiveComesAfterDelivery = OrderMatters hurries (Turn P ∷ Turn P_1 ∷ []) (Deliver P_1 P) (Turn P) (event (Turn P) TimedOut) (event (Turn P) (Received (atom (codes "x"))))
+
+-- a child sends 'a', then 'b'; with 'a' there, its parent wants this message, or comes to its timeout
+abbrev pub wants : Name → ModuleTree
+wants text = module_of (main (as_me (in_turn (spawn_with []) (receive (on (only text) (the_atom (codes "x")) ∷ []) (the_number (pos 0)) (the_atom (codes "x"))))) ∷ sends_both ∷ [])
+
+abbrev pub first_is_there : List Step
+first_is_there = Turn P ∷ Turn P_1 ∷ Turn P_1 ∷ Deliver P_1 P ∷ []
+
+abbrev pub ReceiveTakesWhatComes : Type 0
+ReceiveTakesWhatComes = OrderMatters (wants (codes "b")) first_is_there (Deliver P_1 P) (Turn P) (event (Turn P) TimedOut) (event (Turn P) (Received (atom (codes "b"))))
+
+-- also where neither is what it wants
+abbrev pub ReceiveOfNeitherDepends : Type 0
+ReceiveOfNeitherDepends = Depend (wants (codes "c")) first_is_there (Turn P) (Deliver P_1 P)
+
+-- so it is with a flush: a child sends, and its parent flushes, with the message of a watch in its mailbox or with none
+abbrev pub flushes_after : Tree → ModuleTree
+flushes_after before = module_of (main (as_me (in_turn (spawn_with (the_atom (codes "a") ∷ [])) (with_result (codes "R") (ask_for kinds.MakeRef []) (in_turn before (ask_for kinds.DemonitorWith (the (codes "R") ∷ the_list (the_atom (codes "flush") ∷ []) ∷ [])))))) ∷ sends_its ∷ [])
+
+abbrev pub down_to_me : Tree
+down_to_me = ask_for kinds.Bang (the (codes "Me") ∷ the_tuple (the (codes "R") ∷ the (codes "R") ∷ the (codes "R") ∷ the (codes "R") ∷ the (codes "R") ∷ []) ∷ [])
+
+abbrev pub all_but_flush : List Step
+all_but_flush = Turn P ∷ Turn P ∷ Turn P ∷ Turn P_1 ∷ []
+
+abbrev pub FlushIsFree : Type 0
+FlushIsFree = AreFree (flushes_after down_to_me) all_but_flush (Turn P) (Deliver P_1 P)
+
+abbrev pub FlushTakesItsMessage : Type 0
+FlushTakesItsMessage = Tells (λ h. mailbox h P) (flushes_after down_to_me) (all_but_flush ++ (Deliver P_1 P ∷ Turn P ∷ [])) (a ∷ [])
+
+abbrev pub FlushDependsOnDelivery : Type 0
+FlushDependsOnDelivery = Depend (flushes_after (ask_for kinds.MakeRef [])) all_but_flush (Turn P) (Deliver P_1 P)
 
 -- ---- a name: who is refused it reads whose it is
 

@@ -4,9 +4,10 @@ use Rattle.std.specs.Prelude.{List, ◌++◌, if◌then◌else◌, ◌+◌, ◌&
 use Rattle.term_core.specs.Meaning.{Meaning}
 use Rattle.world_model.specs.Calls.{SpawnWay, Alone, Linked, Watched}
 use Rattle.world_model.specs.Cells.{Cell, Watch, Course, Contents, Machine, Trap, Alive, Links, Watchers, Holder, NameOf}
-use Rattle.world_model.specs.Changes.{Change, Joins, Watches, Draws, Begins, Lives, Mails, Touches, Puts, Unwatches, Sheds, Flushes, Holds, Bears, Vacates, Bares}
+use Rattle.world_model.specs.Changes.{Change, Joins, Watches, Draws, Begins, Lives, Mails, Touches, Puts, Unwatches, Sheds, Holds, Bears, Vacates, Bares}
 use Rattle.world_model.specs.Ends.{alive_if}
 use Rattle.world_model.specs.Events.{Refusal, Badarg, Message, Exit, NoProcess, LinkExit, Down}
+use Rattle.world_model.specs.Mailboxes.{picked, reads_to_pick}
 use Rattle.world_model.specs.Names.{Name, Ref, Pid, same_pid, same_name}
 use Rattle.world_model.specs.Requests.{Origin}
 use Rattle.world_model.specs.Signals.{put_if, exit_message}
@@ -142,15 +143,20 @@ abbrev pub watch_ends : Pid → Ref → Option Pid → List Change
 watch_ends p ref None = Touches (Watch ref) ∷ []
 watch_ends p ref (Some q) = if same_pid ref.pid p then Unwatches ref ∷ Sheds q ref ∷ [] else Touches (Watch ref) ∷ Touches (Watchers q) ∷ []
 
-abbrev pub flushed : Bool → Pid → Ref → List Change
-flushed false p ref = []
-flushed true p ref = Flushes p ref ∷ []
+-- a flush takes its message, if it is there
+abbrev pub flushed : Bool → Pid → Option Meaning → List Change
+flushed false p message = []
+flushed true p message = picked p message
+
+abbrev pub reads_to_flush : Bool → Pid → Option Meaning → List Cell
+reads_to_flush false p message = []
+reads_to_flush true p message = reads_to_pick p message
 
 abbrev pub demonitor_reads : Ref → Option Pid → List Cell
 demonitor_reads ref target = Watch ref ∷ alive_if target
 
-abbrev pub demonitor_line : Pid → Ref → Bool → Option Pid → CallLine
-demonitor_line p ref flushes target = serves (demonitor_reads ref target) ok (watch_ends p ref target ++ flushed flushes p ref)
+abbrev pub demonitor_line : Pid → Ref → Bool → Option Pid → Option Meaning → CallLine
+demonitor_line p ref flushes target message = serves (demonitor_reads ref target ++ reads_to_flush flushes p message) ok (watch_ends p ref target ++ flushed flushes p message)
 
 -- ---- names
 

@@ -6,11 +6,12 @@ use Rattle.term_core.specs.declared.step.Step.TheVariants.{Turn, Deliver}
 use Rattle.core_calls.specs.declared.call.CallKind.{CallKind}
 use Rattle.eval_rules.specs.Asked as answered
 use Rattle.world_model.specs.Calls.{Call, SendExit, IsAlive, call_of}
-use Rattle.world_model.specs.Cells.{Cell, Alive, Contents, Trap, Mailbox, Course, Machine, Front}
+use Rattle.world_model.specs.Cells.{Cell, Alive, Contents, Trap, Course, Machine, Front, Tail}
 use Rattle.world_model.specs.Changes.{Change, Turns, Picks, Mails, Fetches, after}
 use Rattle.world_model.specs.Ends.{ends, reads_of_end}
 use Rattle.world_model.specs.Events.{Signal, Fate, Arrives, IsIgnored, IsDropped, Kills, Refusal, Deed, Served, Refused, Ended, EndedItself, Received, TimedOut, RanAway, Badarg, NoProcess, ByRule, Delivered}
 use Rattle.world_model.specs.Lines.{line}
+use Rattle.world_model.specs.Mailboxes.{mailbox_in, selected_of, reads_to_pick}
 use Rattle.world_model.specs.Names.{Name, Pid, same_pid}
 use Rattle.world_model.specs.Requests.{Ends, Request, Calls, Receives, RunsAway, Program}
 use Rattle.world_model.specs.Signals.{exit_fate, first_of, waiting_in, fate_of, goes_with, reads_of_fate}
@@ -53,12 +54,7 @@ deed_of_call v p kind arguments =
 
 -- ---- turns
 
--- the oldest message that a clause selects
-abbrev pub selected_of : (Meaning → Bool) → List Meaning → Option Meaning
-selected_of selects [] = None
-selected_of selects (m ∷ ms) = if selects m then Some m else selected_of selects ms
-
--- a receive takes it; where none is, it waits, or comes to its timeout
+-- a receive takes the oldest message that a clause selects; where none is, it waits, or comes to its timeout
 abbrev pub received : Bool → Option Meaning → Option Deed
 received waits (Some message) = Some (Received message)
 received true None = None
@@ -67,7 +63,7 @@ received false None = Some TimedOut
 -- a turn serves what its process asks
 abbrev pub deed_asked : Contents → Pid → Request → Option Deed
 deed_asked v p (Calls kind arguments) = deed_of_call v p kind arguments
-deed_asked v p (Receives waits selects) = received waits (selected_of selects (v (Mailbox p)))
+deed_asked v p (Receives waits selects) = received waits (selected_of selects (mailbox_in v p))
 deed_asked v p (Ends reason) = Some (Ended reason)
 deed_asked v p RunsAway = Some RanAway
 
@@ -104,7 +100,7 @@ reads_of_call v p call = (line v p call).reads ++ reads_if_ended v p (ends_itsel
 
 abbrev pub reads_of_request : Contents → Pid → Request → List Cell
 reads_of_request v p (Calls kind arguments) = reads_of_call v p (call_of kind arguments)
-reads_of_request v p (Receives waits selects) = Mailbox p ∷ []
+reads_of_request v p (Receives waits selects) = reads_to_pick p (selected_of selects (mailbox_in v p))
 reads_of_request v p (Ends reason) = reads_of_end v p
 reads_of_request v p RunsAway = reads_of_end v p
 
@@ -132,8 +128,9 @@ reads_if_killed v r IsIgnored = []
 reads_if_killed v r IsDropped = []
 reads_if_killed v r (Kills reason) = reads_of_end v r
 
+-- where no signal waits, all that were put are read
 abbrev pub reads_of_signal : Contents → Pid → Pid → Option Signal → List Cell
-reads_of_signal v s r None = []
+reads_of_signal v s r None = Tail s r ∷ []
 reads_of_signal v s r (Some signal) = reads_of_fate v s r signal ++ reads_if_killed (after (goes_with s r signal) v) r (fate_of v s r signal)
 
 -- ---- steps

@@ -6,12 +6,13 @@ use Rattle.term_core.specs.declared.step.Step.{Step}
 use Rattle.eval_rules.specs.Ask.{is_first}
 use Rattle.eval_rules.specs.Asked.{Answered}
 use Rattle.world_model.specs.Calls.{Call, TableArgument, TableCall}
-use Rattle.world_model.specs.Cells.{Table, Row, Rows, Contents, Machine, Alive, Trap, Mailbox, Front, Tail, Links, Watch, Watchers, Holder, NameOf, TableName, Owned}
+use Rattle.world_model.specs.Cells.{Table, Row, Rows, Contents, Machine, Alive, Trap, Taken, Mailed, Front, Tail, Links, Watch, Watchers, Holder, NameOf, TableName, Owned}
 use Rattle.world_model.specs.Changes.{after}
 use Rattle.world_model.specs.Events.{Deed, History, Signal, Refusal}
 use Rattle.world_model.specs.Found.{Found, find}
 use Rattle.world_model.specs.Judging.{table_rule}
 use Rattle.world_model.specs.Lines.{line}
+use Rattle.world_model.specs.Mailboxes.{mailbox_in}
 use Rattle.world_model.specs.Names.{Name, Ref, Pid}
 use Rattle.world_model.specs.Requests.{Main}
 use Rattle.world_model.specs.Rows.{Key, Object, Rows as RowsOf}
@@ -28,7 +29,8 @@ abbrev pub beginning : Contents
 beginning (Machine p) = record { origin = Main; turns = 0; answers = []; ended = None }
 beginning (Alive p) = is_first p
 beginning (Trap p) = false
-beginning (Mailbox p) = []
+beginning (Taken p) = []
+beginning (Mailed p) = []
 beginning (Front s r) = 0
 beginning (Tail s r) = []
 beginning (Links p) = []
@@ -75,7 +77,7 @@ waiting h s r = waiting_in (contents h) s r
 
 -- its messages, the oldest first
 abbrev pub mailbox : History → Pid → List Meaning
-mailbox h p = contents h (Mailbox p)
+mailbox h p = mailbox_in (contents h) p
 
 -- to whom it is linked
 abbrev pub linked : History → Pid → List Pid

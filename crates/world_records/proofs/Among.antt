@@ -9,9 +9,9 @@ use Rattle.proc_links.specs.declared.links.Linking.{Linking}
 use Rattle.proc_links.specs.declared.links.Linking.TheVariants.{Stands, Pairs, PairsGone, Fails}
 use Rattle.proc_links.specs.declared.names.Naming.{Naming}
 use Rattle.proc_links.specs.declared.names.Naming.TheVariants.{Served, Refused}
-use Rattle.proc_mailboxes.specs.Mailboxes.{picked}
 use Rattle.world_model.specs.Cells.{Cell}
 use Rattle.world_model.specs.Changes.{Change, cell_of}
+use Rattle.world_model.specs.Mailboxes.{picked}
 use Rattle.world_model.specs.Names.{Name, Pid, Ref, same_pid}
 use Rattle.world_model.specs.NewTables.{made}
 use Rattle.world_model.specs.ProcessLines.{link_changes, unregister_line, watch_ends}

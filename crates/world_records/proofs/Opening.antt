@@ -1,5 +1,5 @@
 -- The records in the beginning, and the same records.
-use Rattle.std.proofs.Common.{◌≡◌, ◌∙◌, [], None, sym, ap, subst, arith}
+use Rattle.std.proofs.Common.{◌≡◌, ◌∙◌, ◌++◌, [], None, sym, ap, subst, arith}
 use Rattle.std.specs.FinMap.{get-empty}
 use Rattle.std.specs.Prelude.{option_map}
 use Rattle.term_core.specs.Order.{order_of_terms}
@@ -22,6 +22,7 @@ use Rattle.proc_machines.specs.Processes as processes
 use Rattle.proc_machines.specs.declared.processes.Processes.{Processes}
 use Rattle.proc_mailboxes.specs.Mailboxes.{messages_in}
 use Rattle.proc_signals.specs.Channels.{between}
+use Rattle.proc_signals.specs.Mailbox.{IsMailbox}
 use Rattle.world_records.specs.Records.{Agrees, AreAlike}
 use Rattle.world_records.specs.declared.records.Records.{Records}
 
@@ -30,7 +31,7 @@ pub begins : (m : ModuleTree) (r : Records) → processes.Agrees m r.processes b
     → ((t : Ref) → held_in r.tables t ≡ None) → ((n : Name) → meant_in r.tables n ≡ None) → ((p : Pid) → owned_in r.tables p ≡ []) → Agrees m r beginning
 begins m r begun no_mail no_signals no_links no_watchers no_watches no_holders no_names no_tables none_meant none_owned = record {
   processes_are = begun;
-  mailboxes_are = no_mail;
+  mailboxes_are = λ p. record { left = no_mail p; behind = λ more. ap (λ ms. ms ++ more) (sym (no_mail p)) };
   channels_are = λ s t. record { waiting = no_signals s t; counted = omega arith };
   links_are = no_links;
   watchers_are = no_watchers;
@@ -63,7 +64,7 @@ pub alike : (old new : Records) → processes.IsUnchanged old.processes new.proc
     → watchers.IsUnchanged old.watchers new.watchers → ((n : Name) → holder_in new.names n ≡ holder_in old.names n) → ((p : Pid) → name_in new.names p ≡ name_in old.names p) → tables.IsUnchanged old.tables new.tables → AreAlike old new
 alike old new ps boxes channels links watches holders borne ts m v told = record {
   processes_are = processes_alike m old.processes new.processes v ps told.processes_are;
-  mailboxes_are = λ p. boxes p ∙ told.mailboxes_are p;
+  mailboxes_are = λ p. subst (λ ms. IsMailbox ms v p) (sym (boxes p)) (told.mailboxes_are p);
   channels_are = λ s t. record { waiting = ap (λ c. between c s t) channels ∙ (told.channels_are s t).waiting; counted = (told.channels_are s t).counted };
   links_are = λ p. links p ∙ told.links_are p;
   watchers_are = λ p. watches.watchers p ∙ told.watchers_are p;

@@ -1,5 +1,5 @@
 -- What a part of the records says of the cells is a matter of its own sorts of cells.
-use Rattle.std.proofs.Common.{◌≡◌, ◌∙◌, ◌||◌, Bool, true, false, ℕ, List, [], ◌∷◌, refl, sym, ap, subst, drop, true≢false}
+use Rattle.std.proofs.Common.{◌≡◌, ◌∙◌, ◌||◌, Bool, true, false, ℕ, List, [], ◌∷◌, ◌++◌, refl, sym, ap, subst, drop, true≢false}
 use Rattle.std.proofs.lemmas.Bool.{eqb-true}
 use Rattle.std.specs.List.{list_any}
 use Rattle.std.specs.Prelude.{◌==◌, ◌≤◌, ◌&&◌, not, length}
@@ -8,6 +8,7 @@ use Rattle.core_tree.specs.Syntax.{ModuleTree}
 use Rattle.world_model.specs.Cells as cells
 use Rattle.world_model.specs.Cells.{Cell, Contents}
 use Rattle.world_model.specs.Changes.{Change, after}
+use Rattle.world_model.specs.Mailboxes.{left_of}
 use Rattle.world_model.specs.Rows.{some_if}
 use Rattle.world_model.proofs.Commuting.{stays}
 use Rattle.world_model.proofs.SortLaws.{AllAmong, untouched_by}
@@ -33,7 +34,7 @@ abbrev pub of_processes : List ℕ
 of_processes = 0 ∷ 1 ∷ 2 ∷ []
 
 abbrev pub of_mailboxes : List ℕ
-of_mailboxes = 3 ∷ []
+of_mailboxes = 3 ∷ 15 ∷ []
 
 abbrev pub of_channels : List ℕ
 of_channels = 4 ∷ 5 ∷ []
@@ -91,7 +92,15 @@ processes_same m ps v w same told = record {
 }
 
 pub mailboxes_same : (boxes : Mailboxes) (v w : Contents) → Same of_mailboxes v w → AreMailboxes boxes v → AreMailboxes boxes w
-mailboxes_same boxes v w same told p = told p ∙ sym (same (cells.Mailbox p) refl)
+mailboxes_same boxes v w same told p = record {
+  left = (told p).left ∙ (λ i. left_of (taken i) (mailed i));
+  behind = λ more. sym (λ i. left_of (taken i) (mailed i ++ more)) ∙ (told p).behind more;
+} where
+  taken : v (cells.Taken p) ≡ w (cells.Taken p)
+  taken = sym (same (cells.Taken p) refl)
+
+  mailed : v (cells.Mailed p) ≡ w (cells.Mailed p)
+  mailed = sym (same (cells.Mailed p) refl)
 
 pub channels_same : (channels : Senders) (v w : Contents) → Same of_channels v w → AreChannels channels v → AreChannels channels w
 channels_same channels v w same told s r = record {

@@ -3,16 +3,15 @@ ghost use Rattle.std.specs.Prelude.{◌≡◌, ◌∷◌, [], IfOk, OnOk, IsSome
 ghost use Rattle.core_tree.specs.Syntax.{ModuleTree};
 ghost use Rattle.proc_links.specs.Process.{ref_of};
 ghost use Rattle.proc_machines.specs.Processes.{lives_in, selects_in};
-ghost use Rattle.proc_mailboxes.specs.Mailboxes.{picked};
 ghost use Rattle.proc_signals.specs.Signal.{signal_of};
 ghost use Rattle.term_core.specs.Term.{meaning_of};
 ghost use Rattle.world_model.specs.Cells as cells;
 ghost use Rattle.world_model.specs.Cells.{Contents};
-ghost use Rattle.world_model.specs.Changes.{Fetches, Flushes, Mails, Puts};
+ghost use Rattle.world_model.specs.Changes.{Fetches, Mails, Puts, is_of_watch};
+ghost use Rattle.world_model.specs.Mailboxes.{mailbox_in, picked, selected_of};
 ghost use Rattle.world_model.specs.ProcessLines.{sent, exited};
 ghost use Rattle.world_model.specs.Names.{same_pid};
 ghost use Rattle.world_model.specs.Signals.{first_of, put_if, waiting_in};
-ghost use Rattle.world_model.specs.Steps.{selected_of};
 ghost use Rattle.world_records.specs.Records.{Agrees, AreAlike, Follows, processes_of};
 
 use crate::records::Records;
@@ -122,7 +121,7 @@ impl<'m> Records<'m> {
     /// there is no memory.
     pub fn pick(&mut self, alloc: Global, pid: &Pid) -> Result<Option<Term>, AllocError>
         ensures taken { IfOk result (λ taken. (m : ModuleTree) (v : Contents) → Agrees m self.old v → lives_in (processes_of self.old) pid.now ≡ true →
-            option_map meaning_of taken ≡ selected_of (selects_in (processes_of self.old) pid.now) (v (cells.Mailbox pid.now))) }
+            option_map meaning_of taken ≡ selected_of (selects_in (processes_of self.old) pid.now) (mailbox_in v pid.now)) }
         ensures ok { IfOk result (λ taken. Follows (λ v. picked pid.now (option_map meaning_of taken)) self.old self.new) }
     {
         let Some(receiver) = self.processes.receiver(pid) else {
@@ -135,7 +134,7 @@ impl<'m> Records<'m> {
     /// The message of a watch leaves the mailbox of a process, if it is there (erlang manual, `demonitor/2`, option
     /// `flush`). `AllocError` if there is no memory.
     pub fn flush(&mut self, pid: &Pid, reference: &RefId) -> Result<(), AllocError>
-        ensures { OnOk result (Follows (λ v. Flushes pid.now (ref_of reference.now) ∷ []) self.old self.new) }
+        ensures { OnOk result (Follows (λ v. picked pid.now (selected_of (is_of_watch (ref_of reference.now)) (mailbox_in v pid.now))) self.old self.new) }
     {
         self.mailboxes.flush(pid, reference)?;
         Ok(())

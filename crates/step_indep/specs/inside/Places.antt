@@ -1,7 +1,7 @@
 -- The parts that cells are of, each with a number.
 use Rattle.std.specs.Prelude.{ℕ}
 use Rattle.step_indep.specs.declared.cell.ProcessPart.{ProcessPart}
-use Rattle.step_indep.specs.declared.cell.ProcessPart.TheVariants.{Machine, Alive, Trap, Mailbox, Links, Watchers, NameOf, Owned}
+use Rattle.step_indep.specs.declared.cell.ProcessPart.TheVariants.{Machine, Alive, Trap, Taken, Mailed, Links, Watchers, NameOf, Owned}
 use Rattle.step_indep.specs.declared.cell.ChannelPart.{ChannelPart}
 use Rattle.step_indep.specs.declared.cell.ChannelPart.TheVariants.{Front, Tail}
 use Rattle.step_indep.specs.declared.cell.NamePart.{NamePart}
@@ -13,11 +13,12 @@ abbrev pub place_of_process : ProcessPart → ℕ
 place_of_process Machine = 0
 place_of_process Alive = 1
 place_of_process Trap = 2
-place_of_process Mailbox = 3
-place_of_process Links = 4
-place_of_process Watchers = 5
-place_of_process NameOf = 6
-place_of_process Owned = 7
+place_of_process Taken = 3
+place_of_process Mailed = 4
+place_of_process Links = 5
+place_of_process Watchers = 6
+place_of_process NameOf = 7
+place_of_process Owned = 8
 
 abbrev pub place_of_channel : ChannelPart → ℕ
 place_of_channel Front = 0

@@ -73,7 +73,7 @@ AddsCall p call records old new = (m : ModuleTree) (v : Contents) → Agrees m r
 
 -- what a signal to oneself or to another writes: a mailbox, or a channel where the other lives
 abbrev pub written_to : Bool → Bool → Pid → Pid → List Cell
-written_to is_own lives p q = if is_own then cells.Mailbox p ∷ [] else (if lives then cells.Tail p q ∷ [] else [])
+written_to is_own lives p q = if is_own then cells.Mailed p ∷ [] else (if lives then cells.Tail p q ∷ [] else [])
 
 -- what `link/1` writes
 abbrev pub written_by_link : Pid → Pid → LinkWay → List Cell
@@ -86,14 +86,24 @@ written_by_link p q Fails = []
 abbrev pub written_by_watch : Pid → Ref → Pid → Bool → List Cell
 written_by_watch p ref q lives = if lives then cells.Watch ref ∷ cells.Watchers q ∷ [] else cells.Watch ref ∷ cells.Watchers q ∷ cells.Tail q p ∷ []
 
--- what `demonitor/2` writes, whoever made the watch, and of the message
+-- what `demonitor/2` writes, whoever made the watch; and what taking a message writes
 abbrev pub written_by_unwatch : Ref → Option Pid → List Cell
 written_by_unwatch ref None = cells.Watch ref ∷ []
 written_by_unwatch ref (Some q) = cells.Watch ref ∷ cells.Watchers q ∷ []
 
-abbrev pub written_by_flush : Bool → Pid → List Cell
-written_by_flush true p = cells.Mailbox p ∷ []
-written_by_flush false p = []
+abbrev pub written_by_taking : Bool → Pid → List Cell
+written_by_taking takes p = if takes then cells.Taken p ∷ [] else []
+
+-- what taking a message reads, if one is taken, or none is
+abbrev pub read_by_taking : Bool → Pid → List Cell
+read_by_taking takes p = if takes then cells.Taken p ∷ [] else cells.Taken p ∷ cells.Mailed p ∷ []
+
+-- what a flush reads and writes, if there is one
+abbrev pub read_by_flush : Bool → Bool → Pid → List Cell
+read_by_flush flushes takes p = if flushes then read_by_taking takes p else []
+
+abbrev pub written_by_flush : Bool → Bool → Pid → List Cell
+written_by_flush flushes takes p = if flushes then written_by_taking takes p else []
 
 -- what `register/2` without a name reads
 abbrev pub reads_of_whom : Option Pid → List Cell

@@ -1,5 +1,5 @@
 // Pairs of steps of small modules: those that depend on each other, and those that do not.
-ghost use Rattle.world_model.specs.OrderExamples.{FirstDependsOnInsert, SizeDependsOnInsert, LookupComesAfterList, InsertNewComesAfterInsert, LookupComesAfterClear, TwoKeysAreFree, OtherKeyIsFree, InfoComesAfterDelete, EndReadsItsHeir, EndReadsItsDeadHeir, GiftReadsItsTarget, AliveComesAfterEnd, SendDependsOnEnd, ExitComesAfterFlag, LinkReadsFlag, DroppedReadsNoFlag, DeliveriesDepend, FirstLiesFirst, SecondLiesFirst, SendsAreFree, RegisterComesAfterUnregister};
+ghost use Rattle.world_model.specs.OrderExamples.{FirstDependsOnInsert, SizeDependsOnInsert, LookupComesAfterList, InsertNewComesAfterInsert, LookupComesAfterClear, TwoKeysAreFree, OtherKeyIsFree, InfoComesAfterDelete, EndReadsItsHeir, EndReadsItsDeadHeir, GiftReadsItsTarget, AliveComesAfterEnd, SendDependsOnEnd, ExitComesAfterFlag, LinkReadsFlag, DroppedReadsNoFlag, DeliveriesDepend, FirstLiesFirst, SecondLiesFirst, SendsAreFree, ReceiveIsFree, ReceiveComesAfterDelivery, ReceiveTakesWhatComes, ReceiveOfNeitherDepends, FlushIsFree, FlushTakesItsMessage, FlushDependsOnDelivery, RegisterComesAfterUnregister};
 
 /// A walk over the keys of a table, and the number of its objects, depend on every insert.
 #[tactic(auto, unfolding(crate::specs::World::contents))]
@@ -69,6 +69,19 @@ pub fn mailboxes_keep_an_order()
     ensures first { FirstLiesFirst }
     ensures second { SecondLiesFirst }
     ensures sends { SendsAreFree }
+{}
+
+/// A receive and a flush that find their message do not depend on a delivery behind it; those that find
+/// none do.
+#[tactic(auto, unfolding(crate::specs::World::contents))]
+pub fn messages_come_behind()
+    ensures received { ReceiveIsFree }
+    ensures timed_out { ReceiveComesAfterDelivery }
+    ensures took { ReceiveTakesWhatComes }
+    ensures left_out { ReceiveOfNeitherDepends }
+    ensures flushed { FlushIsFree }
+    ensures left { FlushTakesItsMessage }
+    ensures not_flushed { FlushDependsOnDelivery }
 {}
 
 /// A register that is refused depends on an unregister of its name.

@@ -8,8 +8,8 @@ use Rattle.world_model.specs.Requests as requests
 use Rattle.world_records.specs.Records.{processes_of}
 use Rattle.step_enabled.proofs.Doing.{same_in, turn_has, call_has, timeout_has, wait_has}
 use Rattle.world_model.specs.Calls.{call_of}
-use Rattle.world_model.specs.Cells as cells
-use Rattle.world_model.specs.Steps.{must_wait, selected_of}
+use Rattle.world_model.specs.Mailboxes.{mailbox_in, selected_of}
+use Rattle.world_model.specs.Steps.{must_wait}
 use Rattle.step_enabled.proofs.enabled.has_turn.Goals as goal
 
 pub returns-in-Call : goal.returns-in-Call
@@ -32,7 +32,7 @@ returns-then-not-waits c = λ m v told.
     let request = sym (same_in _ _ (c.in-Some.ensures.asked m v held (sym there))) in
     let told_of = request_with (selects_in c.processes.result.now p) in
     let selects = selects_in c.processes.result.now p in
-    turn_has m v p (requests.Receives c.in-Receive.waits selects) (not c.in-Receive.waits) lives (request ∙ ap told_of (ap told_by c.in-Receive.is)) (timeout_has c.in-Receive.waits (selected_of selects (v (cells.Mailbox p))) c.if-not-waits.true)
+    turn_has m v p (requests.Receives c.in-Receive.waits selects) (not c.in-Receive.waits) lives (request ∙ ap told_of (ap told_by c.in-Receive.is)) (timeout_has c.in-Receive.waits (selected_of selects (mailbox_in v p)) c.if-not-waits.true)
 
 pub returns-in_ok-has_message-in-Receive : goal.returns-in_ok-has_message-in-Receive
 returns-in_ok-has_message-in-Receive c = λ m v told.
@@ -44,7 +44,7 @@ returns-in_ok-has_message-in-Receive c = λ m v told.
     let told_of = request_with (selects_in c.processes.result.now p) in
     let selects = selects_in (processes_of c.args.records.now) p in
     turn_has m v p (requests.Receives c.in-Receive.waits selects) c.in_ok-has_message-in-Receive.field-0 lives (request ∙ ap told_of (ap told_by c.in-Receive.is) ∙ ap (λ ps. requests.Receives c.in-Receive.waits (selects_in ps p)) c.processes.ensures)
-    (wait_has c.in-Receive.waits c.in_ok-has_message-in-Receive.field-0 (selected_of selects (v (cells.Mailbox p))) c.if-not-waits.false (c.in_ok-has_message-in-Receive.ensures m v told (told.processes_are.alive p ∙ lives)))
+    (wait_has c.in-Receive.waits c.in_ok-has_message-in-Receive.field-0 (selected_of selects (mailbox_in v p)) c.if-not-waits.false (c.in_ok-has_message-in-Receive.ensures m v told (told.processes_are.alive p ∙ lives)))
 
 pub returns-in-End : goal.returns-in-End
 returns-in-End c = λ m v told.

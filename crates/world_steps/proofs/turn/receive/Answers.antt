@@ -1,8 +1,8 @@
 use Rattle.std.proofs.Common.{◌∷◌, ◌∙◌, [], sym, ap, subst, option_map, refl}
 use Rattle.term_core.specs.Term.{meaning_of}
 use Rattle.eval_rules.specs.Asked as answered
-use Rattle.proc_mailboxes.specs.Mailboxes.{picked}
 use Rattle.world_model.specs.Changes.{Picks, Turns, after}
+use Rattle.world_model.specs.Mailboxes.{picked}
 use Rattle.world_model.specs.Steps.{received}
 use Rattle.world_records.specs.Records.{Agrees}
 use Rattle.world_steps.proofs.Stepped.{turn_last}
