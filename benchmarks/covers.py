@@ -15,8 +15,8 @@ import time
 from pathlib import Path
 
 ROOT = Path(__file__).resolve().parent.parent
-MODULES = ["inserts", "messages"]
-DEPTHS = [14, 16, 18]
+# the modules, and the depths of each
+ROWS = {"inserts": (14, 16, 18), "messages": (16, 20, 24)}
 MARK = b"%%cover\n"
 
 
@@ -59,8 +59,8 @@ def main():
         sys.exit("there is no program: run ./schedule_explorer once")
     print("| module | depth | nodes | bytes of the cover | explore | with the cover | check | check by explore |")
     print("| --- | --- | --- | --- | --- | --- | --- | --- |")
-    for module in MODULES:
-        for depth in DEPTHS:
+    for module, depths in ROWS.items():
+        for depth in depths:
             print(row_of(given.program, module, depth, given.runs), flush=True)
 
 

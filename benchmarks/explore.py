@@ -22,8 +22,8 @@ PROGRAM = HERE.parent / "crates/schedule_explorer/out/schedule_explorer"
 # the module, the depth, and the nodes of its tree
 ROWS = [
     ("inserts", 20, 747_115),
-    ("messages", 20, 1_641_875),
-    ("mixed", 30, 363_183),
+    ("messages", 28, 618_218),
+    ("mixed", 30, 240_862),
 ]
 
 
