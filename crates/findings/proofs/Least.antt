@@ -1,6 +1,6 @@
 -- The lesser of two schedules: it does not matter in which order they come.
-use Rattle.std.proofs.Common.{◌≡◌, Bool, true, false, List, if◌then◌else◌, refl, sym, ap, ◌∙◌}
-use Rattle.std.proofs.lemmas.Cmp.{upto}
+use Rattle.std.proofs.Common.{◌≡◌, ◌↔◌, Bool, true, false, List, if◌then◌else◌, refl, sym, ap, ◌∙◌}
+use Rattle.std.proofs.lemmas.Cmp.{upto, tied_itself}
 use Rattle.std.specs.Ordering.{is_gt, ordering_reverse}
 use Rattle.std.specs.declared.cmp.Ordering.{Ordering}
 use Rattle.std.specs.declared.cmp.Ordering.TheVariants.{Less, Equal, Greater}
@@ -36,6 +36,17 @@ lesser_comm s t = go (order_of_schedules s t) refl
     go Less e = first s t (ap is_gt e) ∙ sym (second t s (ap is_gt (turned s t Less e)))
     go Equal e = first s t (ap is_gt e) ∙ same_schedule s t e ∙ sym (first t s (ap is_gt (turned s t Equal e)))
     go Greater e = second s t (ap is_gt e) ∙ sym (first t s (ap is_gt (turned s t Greater e)))
+
+-- the second stays just where it is not greater than the first
+pub second_stays : (s t : List Step) → (is_gt (order_of_schedules t s) ≡ false) ↔ (lesser s t ≡ t)
+second_stays s t = (λ e. lesser_comm s t ∙ first t s e, λ e. go (order_of_schedules t s) refl e)
+  where
+    go : (o : Ordering) → order_of_schedules t s ≡ o → lesser s t ≡ t → is_gt (order_of_schedules t s) ≡ false
+    go Less p e = ap is_gt p
+    go Equal p e = ap is_gt p
+    go Greater p e =
+        let same : s ≡ t = sym (second t s (ap is_gt p)) ∙ lesser_comm t s ∙ e in
+        ap (λ (r : List Step). is_gt (order_of_schedules t r)) same ∙ ap is_gt (tied_itself schedules_total t)
 
 pub lesser_assoc : (r s t : List Step) → lesser (lesser r s) t ≡ lesser r (lesser s t)
 lesser_assoc r s t = go (is_gt (order_of_schedules r s)) (is_gt (order_of_schedules s t)) refl refl

@@ -8,7 +8,7 @@ use Rattle.coverage.proofs.IdentityOrder.{identities_total, same_identity}
 use Rattle.coverage.specs.Identities.{order_of_identities}
 use Rattle.world_model.specs.Shown.{Flags, is_error, is_refusal, Identity}
 use Rattle.coverage.specs.Findings.{Finding, Findings, lesser, put_before, with_finding, with_all, LeadsAll, AreSorted}
-use Rattle.findings.specs.Merging.{merged, merged_findings, with_shown, nothing}
+use Rattle.findings.specs.Merging.{merged, with_shown}
 use Rattle.findings.proofs.Least.{lesser_comm, lesser_assoc}
 
 abbrev pub finding : Identity → List Step → Finding
@@ -123,9 +123,9 @@ merged_with fs g (h ∷ gs) = go (order_of_identities g.identity h.identity) ref
     go Equal e more = ap (merged fs) (put_equal g h gs e) ∙ ap (λ (i : Identity). with_finding (finding h.identity (lesser g.schedule h.schedule)) (merged fs gs)) (same_identity g.identity h.identity e) ∙ sym (put_twice g h (merged fs gs) e)
     go Greater e more = ap (merged fs) (put_greater g h gs e) ∙ ap (with_finding h) more ∙ put_swap h g (merged fs gs)
 
-pub merged_with_all : (s : List Step) (is : List Identity) (fs gs : List Finding) → merged fs (with_all s is gs) ≡ with_all s is (merged fs gs)
-merged_with_all s [] fs gs = refl
-merged_with_all s (i ∷ is) fs gs = merged_with fs (finding i s) (with_all s is gs) ∙ ap (with_finding (finding i s)) (merged_with_all s is fs gs)
+-- a finding that the first list has, both have
+pub merged_stays : (f : Finding) (fs gs : List Finding) → with_finding f fs ≡ fs → merged fs gs ≡ with_finding f (merged fs gs)
+merged_stays f fs gs same = ap (λ (hs : List Finding). merged hs gs) (sym same) ∙ merged_after f fs gs
 
 pub merged_assoc : (es fs gs : List Finding) → merged (merged es fs) gs ≡ merged es (merged fs gs)
 merged_assoc es fs [] = refl
@@ -157,10 +157,4 @@ pub shown_more : (flags : Flags) (s : List Step) (i : Identity) (is : List Ident
 shown_more flags s i is f = λ k. record {
   errors = filter_all (is_error flags) s i is f.errors k;
   refusals = filter_all is_refusal s i is f.refusals k;
-}
-
-pub shown_merged : (flags : Flags) (s : List Step) (is : List Identity) (f : Findings) → merged_findings f (with_shown flags s is nothing) ≡ with_shown flags s is f
-shown_merged flags s is f = λ k. record {
-  errors = merged_with_all s (filter (is_error flags) is) f.errors [] k;
-  refusals = merged_with_all s (filter is_refusal is) f.refusals [] k;
 }

@@ -5,7 +5,6 @@ ghost use Rattle.findings.specs.Identities.{flags_in};
 ghost use Rattle.findings.specs.Merging.{with_shown, merged_findings, nothing};
 ghost use Rattle.findings.specs.Laws.{AddsSchedule, AddsSchedules};
 
-use crate::finding::Finding;
 use crate::flags::Flags;
 use crate::identity::Identity;
 use crate::list::{FindingList, put_all};
@@ -66,27 +65,31 @@ impl Findings {
         &self.refusals
     }
 
-    /// What one identity is that a schedule shows, an error, a refusal, both or neither.
-    fn put(
+    /// What one identity is that a schedule shows, an error, a refusal, both or neither, as far as it changes others
+    /// into which all this is put later.
+    fn put_for(
         &mut self,
+        others: &Findings,
         alloc: Global,
         flags: Flags,
         identity: &Identity,
         schedule: &[Step],
     ) -> Result<(), AllocError>
-        ensures { OnOk result (self.new ≡ with_shown (flags_in flags) schedule.now (identity_in identity.now ∷ []) self.old) }
+        ensures { OnOk result (merged_findings others.now self.new ≡ with_shown (flags_in flags) schedule.now (identity_in identity.now ∷ []) (merged_findings others.now self.old)) }
     {
         if identity.is_error(flags) {
-            self.errors.put(Finding::of(alloc, identity, schedule)?)?;
+            let others = &others.errors;
+            self.errors.put_for(others, alloc, identity, schedule)?;
         }
         if identity.is_refusal() {
-            self.refusals.put(Finding::of(alloc, identity, schedule)?)?;
+            let others = &others.refusals;
+            self.refusals.put_for(others, alloc, identity, schedule)?;
         }
         Ok(())
     }
 
     /// All that a schedule shows: its errors under the flags and its refusals. Each identity keeps its least
-    /// schedule. The schedule is copied only where something is found.
+    /// schedule. The schedule is copied only for an identity that is new, or has a greater one.
     ///
     /// # Errors
     ///
@@ -104,7 +107,7 @@ impl Findings {
     {
         let mut new = Findings::new(alloc);
         for identity in identities {
-            new.put(alloc, flags, identity, schedule)?;
+            new.put_for(self, alloc, flags, identity, schedule)?;
         }
         self.merge(new)?;
         Ok(())

@@ -1,5 +1,5 @@
 // Findings in order, each identity once.
-ghost use Rattle.std.specs.Prelude.{◌≡◌, ◌+◌, ◌<◌, ◌≤◌, length, [], map, vec_len, vec_capacity, IfOk, IfErr, OnOk, OnErr};
+ghost use Rattle.std.specs.Prelude.{◌≡◌, ◌↔◌, ◌+◌, ◌<◌, ◌≤◌, length, [], map, vec_len, vec_capacity, IfOk, IfErr, IsOk, IsTrue, OnOk, OnErr};
 ghost use Rattle.std.specs.List.{HoldsAt};
 ghost use Rattle.std.specs.List.Sorted.{IsPartitionPoint};
 ghost use Rattle.coverage.specs.Identities.{order_of_identities};
@@ -126,6 +126,18 @@ impl FindingList {
         self.items.as_slice()
     }
 
+    /// Whether the identity stands here with a schedule that is not greater: just then the list stays as it is with
+    /// this schedule too. It takes no memory.
+    fn has_lesser(&self, identity: &Identity, schedule: &[Step]) -> bool
+        ensures { IsTrue result ↔ (with_finding (record { identity = identity_in identity.now; schedule = schedule.now }) self.now ≡ self.now) }
+    {
+        let items = self.items.as_slice();
+        match place_of(items, identity) {
+            Ok(at) => !compare_schedules(items[at].schedule.as_slice(), schedule).is_gt(),
+            Err(_) => false,
+        }
+    }
+
     /// One more schedule for an identity, which stays where it is less than the one before.
     ///
     /// # Errors
@@ -138,6 +150,29 @@ impl FindingList {
         self.items.reserve(1)?;
         put(&mut self.items, finding);
         Ok(())
+    }
+
+    /// A copy of a finding that is to be put into others later, where it changes them. Where they have a schedule that
+    /// is not greater for the identity, nothing is copied.
+    ///
+    /// # Errors
+    ///
+    /// `AllocError` if there is no memory, and only where something is copied.
+    pub(crate) fn put_for(
+        &mut self,
+        others: &FindingList,
+        alloc: Global,
+        identity: &Identity,
+        schedule: &[Step],
+    ) -> Result<(), AllocError>
+        ensures ok { OnOk result (merged others.now self.new ≡ with_finding (record { identity = identity_in identity.now; schedule = schedule.now }) (merged others.now self.old)) }
+        ensures succeeds { with_finding (record { identity = identity_in identity.now; schedule = schedule.now }) others.now ≡ others.now → IsOk result }
+        ensures same { with_finding (record { identity = identity_in identity.now; schedule = schedule.now }) others.now ≡ others.now → self.new ≡ self.old }
+    {
+        if others.has_lesser(identity, schedule) {
+            return Ok(());
+        }
+        self.put(Finding::of(alloc, identity, schedule)?)
     }
 
     /// All findings of another list too: each identity keeps its least schedule.
