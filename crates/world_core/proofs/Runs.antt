@@ -52,4 +52,4 @@ stopped old mid new steps i step NotEnabled within at runs same sound none kept 
   },
   ap (λ (w : Seen). w.spent) (kept refl) ∙ sound,
 )
-stopped old mid new steps i step Memory within at runs same sound none kept spent stays = (record { before = i; counted = refl; within = omega (arith, within); runs = runs ∙ ap (λ (h : History). Some h) (sym stays) }, spent refl)
+stopped old mid new steps i step Memory within at runs same sound none kept spent stays = (record { before = i; counted = refl; within = λ _. omega (arith, within); runs = runs ∙ ap (λ (h : History). Some h) (sym stays) }, spent refl)

@@ -19,17 +19,17 @@ pub record StopsAt (a : Program) (h : History) (steps : List Step) (place : ℕ)
   pub runs : RunsTo a h (take before steps) g
   pub ends : run_from a (Some h) (take (before + 1) steps) ≡ None
 
--- the steps before this place, counted from 1, lead to a history
-pub record StandsBefore (a : Program) (h : History) (steps : List Step) (place : ℕ) (g : History) : Type 0 where
+-- the steps before this place, counted from 1, lead to a history; a step has this place, unless memory was wanting before
+pub record StandsBefore (old : Seen) (steps : List Step) (place : ℕ) (g : History) : Type 0 where
   pub before : ℕ
   pub counted : place ≡ before + 1
-  pub within : before ≤ length steps
-  pub runs : RunsTo a h (take before steps) g
+  pub within : old.spent ≡ false → place ≤ length steps
+  pub runs : RunsTo (program_in old) old.history (take before steps) g
 
 -- the step of this place is not enabled, or memory was wanting there
 abbrev pub IsStopped : Seen → List Step → ℕ → WorldFault → Seen → Type 0
 IsStopped old steps place NotEnabled new = StopsAt (program_in old) old.history steps place new.history × (new.spent ≡ false)
-IsStopped old steps place Memory new = StandsBefore (program_in old) old.history steps place new.history × (new.spent ≡ true)
+IsStopped old steps place Memory new = StandsBefore old steps place new.history × (new.spent ≡ true)
 
 -- a world took all the steps, or stopped
 abbrev pub Advances : Seen → List Step → Result (Unit {0}) (ℕ × WorldFault) → Seen → Type 0
