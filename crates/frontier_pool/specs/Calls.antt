@@ -18,6 +18,8 @@ use Rattle.frontier_pool.specs.declared.answer.GiveFault.TheVariants.{StrangeTic
 use Rattle.frontier_pool.specs.declared.answer.GiveFault.TheVariants as refused
 use Rattle.frontier_pool.specs.declared.answer.Taken.{Taken}
 use Rattle.frontier_pool.specs.declared.answer.Taken.TheVariants.{Work, Idle, Finished, Stopped}
+use Rattle.frontier_pool.specs.declared.answer.Wake.{Wake}
+use Rattle.frontier_pool.specs.declared.answer.Wake.TheVariants.{Everybody, Nobody}
 use Rattle.frontier_pool.specs.declared.entry.PoolEvent.TheVariants.{Took, Gave}
 use Rattle.frontier_pool.specs.declared.entry.Stop.{Stop}
 
@@ -103,6 +105,11 @@ abbrev pub RefusesTo : Seen → TicketSeen → PieceSeen → GiveFault → Seen 
 RefusesTo s ticket piece (StrangeTicket back) t = (t ≡ s) × (back ≡ piece) × (Contains s.standing.out ticket → ⊥)
 RefusesTo s ticket piece (StrangePiece back) t = (t ≡ s) × (back ≡ piece) × Contains s.standing.out ticket × (IsFor s.exploration ticket piece → ⊥)
 RefusesTo s ticket piece refused.Memory t = (t ≡ stopped_seen s) × Contains s.standing.out ticket × IsFor s.exploration ticket piece
+
+-- a give wakes those who wait exactly where the pool was idle, as they wait for, and is no more
+abbrev pub WakesTo : Seen → Wake → Seen → Type 0
+WakesTo s Everybody t = IsIdle s × (IsIdle t → ⊥)
+WakesTo s Nobody t = IsIdle s → IsIdle t
 
 -- a piece that is refused comes back
 abbrev pub HandsBack : PieceSeen → GiveFault → Type 0

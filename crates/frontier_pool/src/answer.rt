@@ -14,6 +14,15 @@ pub enum Taken<'m> {
     Stopped,
 }
 
+/// Whom a `give` wakes of those who wait.
+#[derive(Clone, Copy, Debug, PartialEq, Eq)]
+pub enum Wake {
+    /// All of them: a job came in, or none is out any more, or the pool was stopped.
+    Everybody,
+    /// None of them: they have no reason to go on.
+    Nobody,
+}
+
 /// Why a `give` is refused.
 #[derive(Drop)]
 pub enum GiveFault<'m> {

@@ -12,7 +12,7 @@ mod sameness;
 pub mod seat;
 pub mod state;
 
-pub use answer::{GiveFault, StrangePool, Taken};
+pub use answer::{GiveFault, StrangePool, Taken, Wake};
 pub use entry::{PoolEvent, Stop};
 pub use frontier::Frontier;
 pub use pool::Pool;

@@ -2,18 +2,20 @@
 ghost use Rattle.std.specs.Prelude.{◌≡◌, ◌+◌, IfOk, IfErr, OnOk, OnErr};
 ghost use Rattle.frontier_pool.specs.Calls.{HandsBack, IsOfItsTicket, entries_in};
 
-use crate::answer::{GiveFault, Taken};
+use crate::answer::{GiveFault, Taken, Wake};
 use crate::seat::{PoolName, Seat};
 use crate::state::PoolState;
 use sleep_jobs::{Piece, Ticket};
 use std::alloc::{AllocError, Global};
+use std::sync::atomic::{AtomicU64, Ordering};
 use std::sync::{Condvar, Mutex, Wait};
 
-/// A pool that threads share.
+/// A pool that threads share, and how many of them wait for work.
 #[derive(Drop)]
 pub struct Pool<'m, N: PoolName> {
     state: Mutex<PoolState<'m, N>>,
     changed: Condvar,
+    waiting: AtomicU64,
 }
 
 impl<'m, N: PoolName> Pool<'m, N> {
@@ -22,10 +24,12 @@ impl<'m, N: PoolName> Pool<'m, N> {
         Pool {
             state: Mutex::new(state),
             changed: Condvar::new(),
+            waiting: AtomicU64::new(0),
         }
     }
 
-    /// Hands out a job to a seat, and wakes the others.
+    /// Hands out a job to a seat. It wakes nobody: the others wait while no job is open and one is out, and they wait on
+    /// where a job that was open goes out.
     ///
     /// # Errors
     ///
@@ -41,11 +45,11 @@ impl<'m, N: PoolName> Pool<'m, N> {
         ensures refused { OnErr result (seat.new ≡ seat.old) }
     {
         let taken = self.state.lock(rt).take(alloc, seat);
-        self.changed.notify_all();
         taken
     }
 
-    /// Takes in the piece of a ticket from a seat, and wakes the others.
+    /// Takes in the piece of a ticket from a seat, and says whom that wakes. The others are woken where they waited for
+    /// it: jobs came in, or none is out any more, or the pool was stopped, at its limit or for want of memory.
     ///
     /// # Errors
     ///
@@ -56,17 +60,19 @@ impl<'m, N: PoolName> Pool<'m, N> {
         seat: &mut Seat<N>,
         ticket: &Ticket,
         piece: Piece<'m>,
-    ) -> Result<(), GiveFault<'m>>
+    ) -> Result<Wake, GiveFault<'m>>
         ensures entered { OnOk result (seat.new ≡ seat.old + 1) }
         ensures back { IfErr result (HandsBack piece.entry) }
         ensures refused { OnErr result (seat.new ≡ seat.old) }
     {
         let given = self.state.lock(rt).give(seat, ticket, piece);
-        self.changed.notify_all();
+        if let Ok(Wake::Everybody) | Err(GiveFault::Memory) = given {
+            self.changed.notify_all();
+        }
         given
     }
 
-    /// Stops the pool for want of memory, and wakes the others.
+    /// Stops the pool for want of memory, and wakes all others.
     pub fn stop<R: Wait>(&self, rt: &R) {
         self.state.lock(rt).stop();
         self.changed.notify_all();
@@ -74,9 +80,17 @@ impl<'m, N: PoolName> Pool<'m, N> {
 
     /// Waits while no job is open and one is out.
     pub fn wait<R: Wait>(&self, rt: &R) {
-        let _state = self
+        self.waiting.fetch_add(1, Ordering::SeqCst);
+        let state = self
             .changed
             .wait_while(rt, self.state.lock(rt), |state| state.is_idle());
+        drop(state);
+        self.waiting.fetch_sub(1, Ordering::SeqCst);
+    }
+
+    /// Whether somebody waits for work. It takes no lock, and may be otherwise as soon as it is answered.
+    pub fn is_awaited(&self) -> bool {
+        self.waiting.load(Ordering::SeqCst) > 0
     }
 
     /// The state, out of its lock.

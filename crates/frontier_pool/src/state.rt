@@ -1,12 +1,12 @@
 // What lies under the lock of a pool.
 ghost use Rattle.std.specs.Prelude.{◌≡◌, ℕ, ◌+◌, ◌≤◌, true, false, [], None, IfOk, IfErr, OnOk, OnErr, length, sum, vec_len};
-ghost use Rattle.frontier_pool.specs.Calls.{Accepts, ComesTo, IsDone, IsIdle, IsOwn, RefusesTo, TakesTo, entries_in, opened, stopped_seen};
+ghost use Rattle.frontier_pool.specs.Calls.{Accepts, ComesTo, IsDone, IsIdle, IsOwn, RefusesTo, TakesTo, WakesTo, entries_in, opened, stopped_seen};
 ghost use Rattle.sleep_jobs.specs.Explorations.{explored_by};
 ghost use Rattle.frontier_pool.specs.Machine.{IsLegal};
 ghost use Rattle.frontier_pool.specs.Seen.{listed};
 ghost use Rattle.frontier_pool.specs.Sums.{AddsUp, SumsUp};
 
-use crate::answer::{GiveFault, StrangePool, Taken};
+use crate::answer::{GiveFault, StrangePool, Taken, Wake};
 use crate::frontier::Frontier;
 use crate::seat::{PoolName, Seat};
 use core_tree::Module;
@@ -118,7 +118,7 @@ impl<'m, N: PoolName> PoolState<'m, N> {
         Ok((state, seats))
     }
 
-    /// Hands out a job to a seat.
+    /// Hands out a job to a seat. Whoever waits has no reason to go on.
     ///
     /// # Errors
     ///
@@ -127,6 +127,7 @@ impl<'m, N: PoolName> PoolState<'m, N> {
         ensures taken { IfOk result (λ taken. TakesTo self.old taken self.new) }
         ensures entered { IfOk result (λ taken. seat.new ≡ seat.old + entries_in taken) }
         ensures refused { OnErr result ((self.new ≡ self.old) × (seat.new ≡ seat.old)) }
+        ensures waits { IsIdle self.old → IsIdle self.new }
     {
         self.book.audit(&mut seat.share);
         let taken = self.frontier.take(alloc)?;
@@ -138,7 +139,8 @@ impl<'m, N: PoolName> PoolState<'m, N> {
         Ok(taken)
     }
 
-    /// Takes in the piece of a ticket from a seat.
+    /// Takes in the piece of a ticket from a seat, and says whom that wakes: those who wait, where the pool was idle and
+    /// is no more.
     ///
     /// # Errors
     ///
@@ -148,18 +150,23 @@ impl<'m, N: PoolName> PoolState<'m, N> {
         seat: &mut Seat<N>,
         ticket: &Ticket,
         piece: Piece<'m>,
-    ) -> Result<(), GiveFault<'m>>
+    ) -> Result<Wake, GiveFault<'m>>
         ensures given { OnOk result (Accepts self.old ticket.now piece.entry self.new) }
         ensures entered { OnOk result (seat.new ≡ seat.old + 1) }
         ensures refused { IfErr result (λ fault. RefusesTo self.old ticket.now piece.entry fault self.new) }
         ensures same { OnErr result (seat.new ≡ seat.old) }
+        ensures woken { IfOk result (λ wake. WakesTo self.old wake self.new) }
     {
         self.book.audit(&mut seat.share);
+        let was_idle = self.frontier.is_idle();
         self.frontier.give(ticket, piece)?;
         let _most = self.frontier.entries();
         self.book.add(&mut seat.share, 1);
         seat.entries += 1;
-        Ok(())
+        if was_idle && !self.frontier.is_idle() {
+            return Ok(Wake::Everybody);
+        }
+        Ok(Wake::Nobody)
     }
 
     /// Stops the pool for want of memory. The first cause stays. It takes no memory.

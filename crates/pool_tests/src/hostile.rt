@@ -3,7 +3,7 @@ ghost use Rattle.std.specs.Prelude.{◌≡◌, ◌≤◌};
 
 use core_reader::{Module, read_module};
 use findings::{Cause, Flags, Options, Outcome};
-use frontier_pool::{GiveFault, PoolName, PoolState, Seat, StrangePool, Taken};
+use frontier_pool::{GiveFault, PoolName, PoolState, Seat, StrangePool, Taken, Wake};
 use sleep_tree::{Job, Piece, Ticket, Unwatched, expand};
 use std::alloc::Global;
 use std::marker::Brand;
@@ -86,14 +86,14 @@ impl<'m, N: PoolName> Bench<'m, N> {
     }
 
     // What is answered to a piece.
-    fn give(&mut self, ticket: &Ticket, piece: Piece<'m>) -> Result<(), GiveFault<'m>> {
+    fn give(&mut self, ticket: &Ticket, piece: Piece<'m>) -> Result<Wake, GiveFault<'m>> {
         self.state.give(&mut self.seat, ticket, piece)
     }
 
-    // A piece is accepted.
-    fn accept(&mut self, ticket: &Ticket, piece: Piece<'m>) -> Result<(), Fail> {
+    // A piece is accepted: whom that wakes.
+    fn accept(&mut self, ticket: &Ticket, piece: Piece<'m>) -> Result<Wake, Fail> {
         match self.give(ticket, piece) {
-            Ok(()) => Ok(()),
+            Ok(wake) => Ok(wake),
             Err(_) => Err(Fail::from("a piece is refused")),
         }
     }
@@ -167,12 +167,12 @@ impl<'m, N: PoolName> Bench<'m, N> {
 }
 
 // Whether a ticket was strange.
-fn is_strange_ticket(answer: Result<(), GiveFault<'_>>) -> bool {
+fn is_strange_ticket(answer: Result<Wake, GiveFault<'_>>) -> bool {
     matches!(answer, Err(GiveFault::StrangeTicket(_)))
 }
 
 // The piece that comes back since it was strange.
-fn strange_piece<'m>(answer: Result<(), GiveFault<'m>>) -> Result<Piece<'m>, Fail> {
+fn strange_piece<'m>(answer: Result<Wake, GiveFault<'m>>) -> Result<Piece<'m>, Fail> {
     match answer {
         Err(GiveFault::StrangePiece(piece)) => Ok(piece),
         _ => Err(Fail::from("a strange piece is accepted")),
@@ -278,6 +278,22 @@ fn stops<N: PoolName>(alloc: Global, blank: Blank, program: &Module) -> Result<b
     bench.is_out_of_memory(alloc, program)
 }
 
+// The piece of the first ticket leaves a job to those who wait, and that of the third comes in while another job is open,
+// so that nobody waits.
+fn wakes<N: PoolName>(alloc: Global, blank: Blank, program: &Module) -> Result<bool, Fail>
+    requires name { blank.name ≡ N.name }
+    requires parts { blank.parts ≡ N.parts }
+    requires seats { (N.seats ≡ N.parts) × (N.seats ≡ 1) }
+{
+    let mut bench = Bench::<N>::open(alloc, blank, program, 5)?;
+    let (first, piece) = bench.visit(alloc)?;
+    let leaves_a_job = bench.accept(&first, piece)?;
+    bench.work(alloc)?;
+    let (third, piece) = bench.visit(alloc)?;
+    let beside_a_job = bench.accept(&third, piece)?;
+    Ok(leaves_a_job == Wake::Everybody && beside_a_job == Wake::Nobody)
+}
+
 // The fourth ticket is given as the ninth entry of the list, for which that has to grow. Where there is no memory for it
 // the pool is stopped, and the ticket still out: given once more, it is accepted, and the pool ends for want of memory.
 fn gives<N: PoolName>(alloc: Global, blank: Blank, program: &Module) -> Result<bool, Fail>
@@ -344,6 +360,13 @@ fn a_pool_is_finished_as_itself(rt: HostRuntime) -> Result<(), Fail> {
 fn a_stopped_pool_takes_pieces_in(rt: HostRuntime) -> Result<(), Fail> {
     let program = read_module(rt.alloc(), TABLES.as_bytes())?;
     assert!(rt; stops::<Brand>(rt.alloc(), Blank::new(1), &program)?);
+    Ok(())
+}
+
+#[test]
+fn those_who_wait_are_woken(rt: HostRuntime) -> Result<(), Fail> {
+    let program = read_module(rt.alloc(), TABLES.as_bytes())?;
+    assert!(rt; wakes::<Brand>(rt.alloc(), Blank::new(1), &program)?);
     Ok(())
 }
 

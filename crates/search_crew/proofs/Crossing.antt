@@ -28,7 +28,7 @@ module _ (N : RattleType) (g : PoolName.Ghosts N.Denot) (l : Ledger.Ghosts N.Den
   pool_state_send a = view_send _ _ _ _ _ (declared_send (PoolStateInside.the_type a N g l) (search (frontier_send, sendable) depth 20, (search sendable, (search (book.the_send, sendable) depth 40, (search (share.the_send, sendable) depth 40, tt)))))
 
   pub pool_sync : (a : NamedLft) → IsSync (Pool.the_row a N g l)
-  pool_sync a = declared_sync (Pool.the_type a N g l) (search (pool_state_send, crosses, sendable) depth 20, (search (crosses, sendable) depth 20, tt))
+  pool_sync a = declared_sync (Pool.the_type a N g l) (search (pool_state_send, crosses, sendable) depth 20, (search (crosses, sendable) depth 20, (search (crosses, sendable) depth 20, tt)))
 
   pub seat_send : IsSend (Seat.the_row N g l)
   seat_send = view_send _ _ _ _ _ (declared_send (SeatInside.the_type N g l) (search sendable, (search (share.the_send, sendable) depth 40, tt)))

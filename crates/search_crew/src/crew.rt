@@ -115,8 +115,9 @@ fn searched<N: PoolName + Send + Sync, R: Threads + Wait + Sync, G: Gate + Sync>
 /// Visits the nodes of the tree of schedules with sleep sets (Godefroid, "Partial-Order Methods for the Verification of
 /// Concurrent Systems"), each once, by so many workers: what they show, and how many they are. Each worker is a thread
 /// of its own; it takes a job from a pool, expands it while no lock is held, and gives back what it found and the jobs
-/// that are left. The gate is told of each node before it is visited, and of each job after its piece was accepted;
-/// jobs are numbered from 1.
+/// that are left. Of its first job it visits at most as many nodes as the budget says, and of the next ones twice as
+/// many from job to job, up to 64 times as many, until a worker waits for work: then it begins again. The gate is told
+/// of each node before it is visited, and of each job after its piece was accepted; jobs are numbered from 1.
 ///
 /// It is `Complete` where all nodes were visited, which are at most as many as may be; `Incomplete` for `NodeLimit` only
 /// where they are more, and for `Memory` where there was none: then each finding is shown by its schedule. How many

@@ -1,6 +1,7 @@
 // The search: workers take the jobs of an exploration from a pool, expand them, and give them back.
 #![tactic(auto)]
 
+mod budget;
 pub mod crew;
 pub mod fault;
 mod worker;

@@ -1,6 +1,7 @@
 // What one worker does.
 ghost use Rattle.std.specs.Prelude.{◌≤◌};
 
+use crate::budget::Budget;
 use frontier_pool::{GiveFault, Pool, PoolName, Seat, Taken};
 use sleep_tree::{Gate, Job, Ticket, expand};
 use std::alloc::Global;
@@ -41,7 +42,7 @@ fn expand_one<'m, N: PoolName, R: Wait, G: Gate>(
         return Progress::Ends;
     };
     match pool.give(rt, seat, ticket, piece) {
-        Ok(()) => {
+        Ok(_) => {
             gate.given(ticket.number);
             Progress::GoesOn
         }
@@ -54,18 +55,20 @@ fn expand_one<'m, N: PoolName, R: Wait, G: Gate>(
 }
 
 /// Takes jobs, expands them and gives them back, until no job is left or the pool was stopped. It waits where no job is
-/// open and one is out.
+/// open and one is out. It visits the least number of nodes of a job, and more from job to job while no worker waits, this
+/// one among them.
 pub(crate) fn work<'m, N: PoolName, R: Wait, G: Gate>(
     rt: &R,
     alloc: Global,
     pool: &Pool<'m, N>,
     seat: Seat<N>,
-    budget: u64,
+    least: u64,
     gate: &G,
 ) -> Back<N>
-    requires { 1 ≤ budget }
+    requires { 1 ≤ least }
 {
     let mut seat = seat;
+    let mut budget = Budget::of(least);
     let mut progress = Progress::GoesOn;
     for _ in rt.forever() {
         let Progress::GoesOn = progress else {
@@ -75,13 +78,16 @@ pub(crate) fn work<'m, N: PoolName, R: Wait, G: Gate>(
             pool.stop(rt);
             break;
         };
+        let is_idle = matches!(taken, Taken::Idle);
         match taken {
             Taken::Idle => pool.wait(rt),
             Taken::Finished | Taken::Stopped => break,
             Taken::Work(ticket, job) => {
-                progress = expand_one(rt, alloc, pool, &mut seat, &ticket, job, budget, gate);
+                let nodes = budget.nodes();
+                progress = expand_one(rt, alloc, pool, &mut seat, &ticket, job, nodes, gate);
             }
         }
+        budget = budget.next(is_idle || pool.is_awaited());
     }
     Back {
         seat,

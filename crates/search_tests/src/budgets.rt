@@ -5,9 +5,10 @@ use crate::modules::{INSERTS, LINE, MAKERS, MESSAGES, MIXED, WRITERS};
 use core_reader::{Module, read_module};
 use findings::{Flags, Options, Outcome};
 use report_text::write_report;
-use search_crew::{Unwatched, search};
+use search_crew::{Gate, Unwatched, search};
 use std::alloc::Global;
 use std::sync::Wait;
+use std::sync::atomic::{AtomicU64, Ordering};
 use std::test::Fail;
 use std::thread::Threads;
 use term_core::{Output, WriteFault};
@@ -124,5 +125,48 @@ fn a_line_has_a_node_for_each_turn(rt: HostRuntime) -> Result<(), Fail> {
             "{depth}"
         );
     }
+    Ok(())
+}
+
+// How many pieces were given back.
+#[derive(Drop)]
+struct Pieces {
+    given: AtomicU64,
+}
+
+impl Gate for Pieces {
+    fn turn(&self, _ticket: u64) {}
+
+    fn given(&self, _ticket: u64) {
+        self.given.fetch_add(1, Ordering::SeqCst);
+    }
+}
+
+// In how many pieces one worker visits the nodes of the line.
+fn pieces_of<T: Threads + Wait + Sync>(
+    rt: &T,
+    alloc: Global,
+    program: &Module,
+    budget: u64,
+) -> Result<u64, Fail>
+    requires { 1 ≤ budget }
+{
+    let gate = Pieces {
+        given: AtomicU64::new(0),
+    };
+    match search(rt, alloc, program, &options(40, budget), &gate) {
+        Ok(Outcome::Complete(_, 22)) => Ok(gate.given.load(Ordering::SeqCst)),
+        _ => Err(Fail::from("the search was not complete")),
+    }
+}
+
+// The line has 22 nodes: they are visited in pieces of 1, 2, 4, 8 and 7, of 3, 6, 12 and 1, and all in one.
+#[test]
+fn a_budget_grows_while_nobody_waits(rt: HostRuntime) -> Result<(), Fail> {
+    let program = read_module(rt.alloc(), LINE.as_bytes())?;
+    assert_eq!(rt; pieces_of(&rt, rt.alloc(), &program, 1)?, 5);
+    assert_eq!(rt; pieces_of(&rt, rt.alloc(), &program, 3)?, 4);
+    assert_eq!(rt; pieces_of(&rt, rt.alloc(), &program, 22)?, 1);
+    assert_eq!(rt; pieces_of(&rt, rt.alloc(), &program, u64::MAX)?, 1);
     Ok(())
 }

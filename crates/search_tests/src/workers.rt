@@ -31,9 +31,10 @@ fn options(depth: u64, budget: u64, workers: u64) -> Options
     }
 }
 
-// The third job waits, a long time at most, until the piece of the fourth was given back.
+// At its first node the third job waits, a long time at most, until the piece of the fourth was given back.
 #[derive(Drop)]
 struct Meeting {
+    waited: AtomicU64,
     given: AtomicU64,
     met: AtomicU64,
 }
@@ -41,6 +42,7 @@ struct Meeting {
 impl Meeting {
     fn new() -> Meeting {
         Meeting {
+            waited: AtomicU64::new(0),
             given: AtomicU64::new(0),
             met: AtomicU64::new(0),
         }
@@ -49,9 +51,10 @@ impl Meeting {
 
 impl Gate for Meeting {
     fn turn(&self, ticket: u64) {
-        if ticket != 3 {
+        if ticket != 3 || self.waited.load(Ordering::SeqCst) == 1 {
             return;
         }
+        self.waited.store(1, Ordering::SeqCst);
         for _ in 0..1_000_000 {
             if self.given.load(Ordering::SeqCst) == 1 {
                 self.met.store(1, Ordering::SeqCst);
@@ -68,7 +71,7 @@ impl Gate for Meeting {
     }
 }
 
-// How many meet, of so many workers that visit one node of a job each.
+// How many meet, of so many workers that visit one node of their first job each.
 fn met_by<T: Threads + Wait + Sync>(rt: &T, alloc: Global, workers: u64) -> Result<u64, Fail> {
     let program = read_module(alloc, MAKERS.as_bytes())?;
     let gate = Meeting::new();

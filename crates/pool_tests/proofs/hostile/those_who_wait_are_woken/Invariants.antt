@@ -1,0 +1,7 @@
+use Rattle.pool_tests.proofs.hostile.those_who_wait_are_woken.Given as goal
+
+abbrev pub ghosts-wakes-N-PoolName : goal.ghosts-wakes-N-PoolName
+ghosts-wakes-N-PoolName g a = record { seats = 1 }
+
+abbrev pub ghosts-wakes-N-Ledger : goal.ghosts-wakes-N-Ledger
+ghosts-wakes-N-Ledger g a = record { name = a.blank.name; parts = a.blank.parts }
