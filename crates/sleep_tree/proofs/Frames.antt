@@ -13,7 +13,7 @@ use Rattle.coverage.specs.Jobs.{Node, asleep_below, awake_steps, nodes_after, no
 use Rattle.coverage.proofs.Lists.{kept_passes}
 use Rattle.sleep_sets.specs.Search.{is_among}
 use Rattle.sleep_jobs.specs.Explorations.{ExplorationSeen}
-use Rattle.sleep_tree.specs.inside.Frames.{NodeSeen, FrameSeen, own_node, nodes_of_node, nodes_of_frame, nodes_of_frames, AreEnabled, IsFrame, IsNodeOf, IsFrameOf, AreFramesOf, history_below}
+use Rattle.sleep_tree.specs.inside.Frames.{NodeSeen, FrameSeen, own_node, nodes_of_node, nodes_of_frame, nodes_of_frames, AreEnabled, IsFrame, IsNodeOf, IsFrameOf, AreFramesOf, frame_after, others_of, history_below}
 use Rattle.sleep_tree.specs.inside.Snapshots.{IsNode}
 use Rattle.sleep_jobs.proofs.Lists.{all_append}
 use Rattle.sleep_jobs.proofs.Runs.{not_none}
@@ -143,14 +143,11 @@ child_first f s rest v c =
     ap (nodes_along (nodes_from (program_of f.program) f.left) (program_of f.program) f.history (schedule_of f.history) f.slept) c.line
     ∙ ap (λ vs. vs ++ others f s rest) (child_nodes f s rest v c)
 
-pub last_child : (f : FrameSeen) (s : Step) (v : NodeSeen) (vs : List Node) → IsChild f s [] v → nodes_of_frame f ++ vs ≡ nodes_of_node v ++ vs
+last_child : (f : FrameSeen) (s : Step) (v : NodeSeen) (vs : List Node) → IsChild f s [] v → nodes_of_frame f ++ vs ≡ nodes_of_node v ++ vs
 last_child f s v vs c = ap (λ us. us ++ vs) (child_first f s [] v c ∙ append-nil (nodes_of_node v))
 
--- the frame with one step less
-abbrev pub frame_after : FrameSeen → Step → List Step → FrameSeen
-frame_after f s rest = record { program = f.program; history = f.history; slept = f.slept ++ s ∷ []; line = rest; left = f.left }
-
-pub more_children : (f : FrameSeen) (s : Step) (rest : List Step) (v : NodeSeen) (fs gs : List FrameSeen) → IsChild f s rest v → gs ≡ fs ++ frame_after f s rest ∷ [] → nodes_of_frame f ++ nodes_of_frames fs ≡ nodes_of_node v ++ nodes_of_frames gs
+-- the others go back on the stack
+more_children : (f : FrameSeen) (s : Step) (rest : List Step) (v : NodeSeen) (fs gs : List FrameSeen) → IsChild f s rest v → gs ≡ fs ++ frame_after f s rest ∷ [] → nodes_of_frame f ++ nodes_of_frames fs ≡ nodes_of_node v ++ nodes_of_frames gs
 more_children f s rest v fs gs c now =
     ap (λ us. us ++ nodes_of_frames fs) (child_first f s rest v c) ∙ append_assoc (nodes_of_node v) (others f s rest) (nodes_of_frames fs)
     ∙ ap (λ us. nodes_of_node v ++ us) (sym (ap nodes_of_frames now ∙ frames_push fs (frame_after f s rest)))
@@ -165,9 +162,19 @@ child_is_of e f s rest v c belongs =
     }
 
 -- so is the frame with one step less
-pub more_are_of : (e : ExplorationSeen) (f : FrameSeen) (s : Step) (rest : List Step) (fs gs : List FrameSeen) → gs ≡ fs ++ frame_after f s rest ∷ [] → IsFrameOf e f → AreFramesOf e fs → AreFramesOf e gs
+more_are_of : (e : ExplorationSeen) (f : FrameSeen) (s : Step) (rest : List Step) (fs gs : List FrameSeen) → gs ≡ fs ++ frame_after f s rest ∷ [] → IsFrameOf e f → AreFramesOf e fs → AreFramesOf e gs
 more_are_of e f s rest fs gs now belongs all =
     subst (AreFramesOf e) (sym now) (all_append (IsFrameOf e) fs (frame_after f s rest ∷ []) all (record { program = belongs.program; deep = belongs.deep }, tt))
+
+-- a child, and what is put back
+pub child_and_others : (f : FrameSeen) (s : Step) (rest : List Step) (v : NodeSeen) (fs gs : List FrameSeen) → IsChild f s rest v → gs ≡ fs ++ others_of f (s ∷ rest) → nodes_of_frame f ++ nodes_of_frames fs ≡ nodes_of_node v ++ nodes_of_frames gs
+child_and_others f s [] v fs gs c now = last_child f s v (nodes_of_frames fs) c ∙ ap (λ xs. nodes_of_node v ++ nodes_of_frames xs) (sym (now ∙ append-nil fs))
+child_and_others f s (t ∷ rest) v fs gs c now = more_children f s (t ∷ rest) v fs gs c now
+
+pub others_are_of : (e : ExplorationSeen) (f : FrameSeen) (line : List Step) (fs gs : List FrameSeen) → gs ≡ fs ++ others_of f line → IsFrameOf e f → AreFramesOf e fs → AreFramesOf e gs
+others_are_of e f [] fs gs now belongs all = subst (AreFramesOf e) (sym (now ∙ append-nil fs)) all
+others_are_of e f (s ∷ []) fs gs now belongs all = subst (AreFramesOf e) (sym (now ∙ append-nil fs)) all
+others_are_of e f (s ∷ t ∷ rest) fs gs now belongs all = more_are_of e f s (t ∷ rest) fs gs now belongs all
 
 -- its line can be taken
 pub frame_goes_on : (w : Seen) (taken left : ℕ) (s : Step) (line rest : List Step) (snapshot : Seen) → line ≡ rest → IsFrame w taken left (s ∷ line) snapshot → IsFrame w taken left rest snapshot

@@ -3,3 +3,4 @@ pub mod Snapshots
 pub mod Frames
 pub mod Pieces
 pub mod Children
+pub mod Agendas

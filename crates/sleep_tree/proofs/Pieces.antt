@@ -14,8 +14,8 @@ use Rattle.coverage.proofs.JobLaws.{map_join}
 use Rattle.coverage.proofs.Lists.{among_left}
 use Rattle.sleep_jobs.specs.Explorations.{ExplorationSeen, JobSeen, program_in, nodes_of, nodes_of_all, findings_of}
 use Rattle.sleep_jobs.specs.Meanings.{AreShown, AreOfJob}
-use Rattle.sleep_jobs.specs.Pieces.{IsDone, AreOf, IsPiece}
-use Rattle.sleep_tree.specs.inside.Frames.{NodeSeen, FrameSeen, own_node, nodes_of_node, nodes_of_frame, nodes_of_frames, IsFrameOf, AreFramesOf, IsExploring}
+use Rattle.sleep_jobs.specs.Pieces.{AreOf, IsPiece}
+use Rattle.sleep_tree.specs.inside.Frames.{NodeSeen, FrameSeen, own_node, nodes_of_node, nodes_of_frame, nodes_of_frames, IsFrameOf, AreFramesOf, IsExploring, VisitsNext}
 use Rattle.sleep_tree.proofs.Frames.{frames_push}
 use Rattle.sleep_jobs.proofs.Passing.{found_passes}
 use Rattle.sleep_jobs.proofs.Lists.{all_append, all_front, all_back}
@@ -40,10 +40,6 @@ node_adds e w slept left flags f g done same belongs runs adds old =
     ∙ (λ i. findings_among (sym same i) (program_of (belongs i)) (schedules_of done ++ s ∷ []))
     ∙ ap (findings_among e.flags (program_in e)) (sym (map_join (λ (v : Node). v.schedule) done (own_node own ∷ [])))
 
-done_more : (e : ExplorationSeen) (done : List Node) (f g : Findings) (k : ℕ) (v : NodeSeen) → IsDone e done f k → Adds e v f g → IsDone e (done ++ own_node v ∷ []) g (k + 1)
-done_more e done f g k v d adds =
-    record { found = adds done d.found; counted = omega (arith, d.counted, length-append done (own_node v ∷ [])) }
-
 -- the first visit
 pub exploring_first : (e : ExplorationSeen) (name : Job) (v : NodeSeen) (f g : Findings) (fs gs : List FrameSeen) → nodes_of_node v ≡ nodes_of e name → fs ≡ [] → f ≡ findings_of e [] → nodes_of_node v ++ nodes_of_frames fs ≡ own_node v ∷ nodes_of_frames gs → Adds e v f g → AreFramesOf e gs → IsExploring e name g 1 gs
 exploring_first e name v f g fs gs own none nothing now adds belong = record {
@@ -53,20 +49,22 @@ exploring_first e name v f g fs gs own none nothing now adds belong = record {
   are_of = belong;
 }
 
--- one more
-pub exploring_more : (e : ExplorationSeen) (name : Job) (f g : Findings) (k : ℕ) (all fs gs hs : List FrameSeen) (frame : FrameSeen) (v : NodeSeen) → IsExploring e name f k all → all ≡ fs ++ frame ∷ [] → nodes_of_frame frame ++ nodes_of_frames fs ≡ nodes_of_node v ++ nodes_of_frames gs → nodes_of_node v ++ nodes_of_frames gs ≡ own_node v ∷ nodes_of_frames hs → Adds e v f g → AreFramesOf e hs → IsExploring e name g (k + 1) hs
-exploring_more e name f g k all fs gs hs frame v x popped down opened adds belong = record {
-  done = x.done ++ own_node v ∷ [];
-  is_done = done_more e x.done f g k v x.is_done adds;
-  made_up = x.made_up ∙ ap (λ vs. x.done ++ vs) (ap nodes_of_frames popped ∙ frames_push fs frame ∙ down ∙ opened) ∙ sym (append_assoc x.done (own_node v ∷ []) (nodes_of_frames hs));
-  are_of = belong;
-}
-
 -- the frame on top, and those below it
 pub popped : (e : ExplorationSeen) (all fs : List FrameSeen) (frame : FrameSeen) → AreFramesOf e all → all ≡ fs ++ frame ∷ [] → IsFrameOf e frame × AreFramesOf e fs
 popped e all fs frame belong is =
     let both : AreFramesOf e (fs ++ frame ∷ []) = subst (AreFramesOf e) is belong in
     ((all_back (IsFrameOf e) fs (frame ∷ []) both).0, all_front (IsFrameOf e) fs (frame ∷ []) both)
+
+-- one more
+pub exploring_more : (e : ExplorationSeen) (name : Job) (flags : Flags) (f g : Findings) (k : ℕ) (all fs hs : List FrameSeen) (frame : FrameSeen) → IsExploring e name f k all → all ≡ fs ++ frame ∷ [] → e.flags ≡ flags → VisitsNext flags frame fs f hs g → IsExploring e name g (k + 1) hs
+exploring_more e name flags f g k all fs hs frame x is same next =
+    let b = popped e all fs frame x.are_of is in
+    record {
+      done = x.done ++ next.node ∷ [];
+      is_done = record { found = next.found e x.done same b.0 b.1 x.is_done.found; counted = omega (arith, x.is_done.counted, length-append x.done (next.node ∷ [])) };
+      made_up = x.made_up ∙ ap (λ vs. x.done ++ vs) (ap nodes_of_frames is ∙ frames_push fs frame ∙ next.nodes) ∙ sym (append_assoc x.done (next.node ∷ []) (nodes_of_frames hs));
+      are_of = next.are_of e b.0 b.1;
+    }
 
 -- ---- the rest
 

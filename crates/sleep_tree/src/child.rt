@@ -7,12 +7,14 @@ use crate::node::{Node, snapshot_below};
 use sleep_jobs::{Exploration, Job, JobName};
 use std::alloc::Global;
 use std::marker::Model;
+use std::rc::Rc;
 use std::sync::Arc;
+use step_agenda::Agenda;
 use term_core::Step;
 use world_core::{World, WorldFault};
 
 /// A child: the world of the node above it, how many steps led there, the steps that sleep for the child, the step to
-/// it, how many steps may follow it, and the snapshot for the world above.
+/// it, how many steps may follow it, and the snapshot and the agenda of the node above.
 #[derive(Drop)]
 pub(crate) struct Child<'m> {
     pub(crate) above: World<'m>,
@@ -21,9 +23,11 @@ pub(crate) struct Child<'m> {
     pub(crate) step: Step,
     pub(crate) left: u64,
     pub(crate) snapshot: Arc<World<'m>>,
+    pub(crate) agenda: Rc<Agenda>,
 }
 
 impl<'m> Model for Child<'m> {
+    ghost use Rattle.step_agenda.specs.Plans.{IsAgenda};
     ghost use Rattle.world_core.specs.Seen.{program_in};
     ghost use Rattle.world_model.specs.Run.{next_event};
     ghost use Rattle.sleep_tree.specs.inside.Codes.{coded_node};
@@ -35,7 +39,7 @@ impl<'m> Model for Child<'m> {
 
     ghost view = { λ c. record { program = c.above.program; history = history_below c.above.history (next_event (program_in c.above) c.above.history c.step); slept = c.slept.items; left = c.left } };
 
-    ghost invariant = { λ c. IsChildOf c.above c.taken c.left c.step c.snapshot.value };
+    ghost invariant = { λ c. IsChildOf c.above c.taken c.left c.step c.snapshot.value × IsAgenda (program_in c.above) c.above.history c.agenda.value };
 }
 
 impl<'m> Child<'m> {
@@ -50,10 +54,12 @@ impl<'m> Child<'m> {
             step,
             left,
             snapshot,
+            agenda,
         } = self;
-        let node = Node::below(alloc, above, taken, slept, &step, left, snapshot)?;
+        let node = Node::below(alloc, above, taken, slept, &step, left, snapshot, &agenda)?;
         Ok(node)
     }
+
     /// The job of it, which is not visited. `Memory` where there is none.
     pub(crate) fn leave(
         self,
@@ -71,6 +77,7 @@ impl<'m> Child<'m> {
             step,
             left: _,
             snapshot,
+            agenda: _,
         } = self;
         let mut prefix = above.schedule(alloc)?;
         let snapshot = snapshot_below(alloc, above, taken, &step, snapshot)?;

@@ -5,10 +5,10 @@ ghost use Rattle.sleep_jobs.specs.Meanings.{AreOfJob};
 ghost use Rattle.sleep_jobs.specs.Pieces.{AreOf, IsPiece};
 ghost use Rattle.sleep_tree.specs.inside.Frames.{AreFramesOf, nodes_of_frames};
 
-use crate::frame::{Frame, descend, next_child};
+use crate::frame::{Frame, next_child};
 use crate::gate::Gate;
 use crate::node::Node;
-use crate::visit::visit;
+use crate::visit::{visit, visit_next};
 use findings::Findings;
 use sleep_jobs::{Exploration, Job, JobName, Piece, Ticket};
 use std::alloc::Global;
@@ -64,9 +64,8 @@ fn expanded<'m, G: Gate>(
         let Some(frame) = frames.pop() else {
             break;
         };
-        let node = descend(alloc, frame, &mut frames)?;
         gate.turn(job.number());
-        visit(alloc, exploration.flags, node, &mut findings, &mut frames)?;
+        visit_next(alloc, exploration.flags, frame, &mut findings, &mut frames)?;
         nodes += 1;
     }
     let rest = rest_of(alloc, exploration, frames)?;

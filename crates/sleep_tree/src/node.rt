@@ -3,6 +3,7 @@ ghost use Rattle.std.specs.Prelude.{◌≡◌, ◌+◌, ◌^◌, ◌<◌, ◌%�
 ghost use Rattle.world_core.specs.Seen.{program_in};
 ghost use Rattle.world_model.specs.Run.{extended, next_event};
 ghost use Rattle.sleep_jobs.specs.Explorations.{nodes_of};
+ghost use Rattle.step_agenda.specs.Plans.{IsAgenda};
 ghost use Rattle.sleep_tree.specs.inside.Frames.{IsNodeOf, nodes_of_node};
 ghost use Rattle.sleep_tree.specs.inside.Snapshots.{IsAfter, IsNode};
 
@@ -11,11 +12,12 @@ use sleep_jobs::Job;
 use std::alloc::Global;
 use std::marker::Model;
 use std::sync::Arc;
+use step_agenda::Agenda;
 use term_core::Step;
 use world_core::{World, WorldFault};
 
-/// A node: its world, how many steps led to it, the steps that sleep there, how many steps may follow, and the snapshot
-/// of the world after the greatest number of its steps that 16 divides.
+/// A node: its world, how many steps led to it, the steps that sleep there, how many steps may follow, the snapshot of the
+/// world after the greatest number of its steps that 16 divides, and its agenda.
 #[derive(Drop)]
 pub(crate) struct Node<'m> {
     pub(crate) world: World<'m>,
@@ -23,12 +25,15 @@ pub(crate) struct Node<'m> {
     pub(crate) slept: Vec<Step>,
     pub(crate) left: u64,
     pub(crate) snapshot: Arc<World<'m>>,
+    pub(crate) agenda: Agenda,
 }
 
 impl<'m> Model for Node<'m> {
     ghost use Rattle.sleep_tree.specs.inside.Codes.{coded_node};
     ghost use Rattle.sleep_tree.specs.inside.Frames.{NodeSeen};
     ghost use Rattle.sleep_tree.specs.inside.Snapshots.{IsNode};
+    ghost use Rattle.step_agenda.specs.Plans.{IsAgenda};
+    ghost use Rattle.world_core.specs.Seen.{program_in};
 
     ghost Value = { NodeSeen };
 
@@ -36,7 +41,7 @@ impl<'m> Model for Node<'m> {
 
     ghost view = { λ n. record { program = n.world.program; history = n.world.history; slept = n.slept.items; left = n.left } };
 
-    ghost invariant = { λ n. IsNode n.world n.taken n.left n.snapshot.value };
+    ghost invariant = { λ n. IsNode n.world n.taken n.left n.snapshot.value × IsAgenda (program_in n.world) n.world.history n.agenda };
 }
 
 /// The snapshot for a world, from the one for the steps before its last. `Memory` where there is none, or the copies can
@@ -104,16 +109,19 @@ impl<'m> Node<'m> {
         let prefix = name.prefix.as_slice();
         let taken = prefix.len() as u64;
         let snapshot = job.snapshot()?;
+        let agenda = Agenda::of(world.records(), alloc)?;
         Ok(Node {
             world,
             taken,
             slept,
             left: exploration.depth - taken,
             snapshot,
+            agenda,
         })
     }
 
-    /// The node that an enabled step leads to, from a world that is taken over. `Memory` where there is none.
+    /// The node that an enabled step leads to, from a world that is taken over, whose agenda this is. `Memory` where there
+    /// is none.
     pub(crate) fn below(
         alloc: Global,
         world: World<'m>,
@@ -122,8 +130,10 @@ impl<'m> Node<'m> {
         step: &Step,
         left: u64,
         snapshot: Arc<World<'m>>,
+        agenda: &Agenda,
     ) -> Result<Node<'m>, WorldFault>
         requires node { IsNode world taken (left + 1) snapshot.value }
+        requires agenda { IsAgenda (program_in world) world.history agenda.now }
         requires enabled { next_event (program_in world) world.history step.now ≡ None → ⊥ }
         ensures program { IfOk result (λ node. node.program ≡ world.entry.program) }
         ensures history { IfOk result (λ node. extended world.entry.history (next_event (program_in world.entry) world.entry.history step.now) ≡ Some node.history) }
@@ -133,12 +143,14 @@ impl<'m> Node<'m> {
         let world = stepped(alloc, world, step)?;
         let taken = taken + 1;
         let snapshot = renewed(alloc, &world, taken, snapshot)?;
+        let agenda = agenda.below(world.records(), alloc, step)?;
         Ok(Node {
             world,
             taken,
             slept,
             left,
             snapshot,
+            agenda,
         })
     }
 }

@@ -7,9 +7,9 @@ ghost use Rattle.world_core.specs.Seen.{program_in};
 ghost use Rattle.world_model.specs.Run.{enabled_steps, schedule_of};
 ghost use Rattle.world_model.specs.Shown.{shown as shown_of};
 ghost use Rattle.sleep_jobs.specs.Explorations.{ExplorationSeen, findings_of};
-ghost use Rattle.sleep_tree.specs.inside.Frames.{nodes_of_frames, nodes_of_node, own_node, AreFramesOf, IsNodeOf};
+ghost use Rattle.sleep_tree.specs.inside.Frames.{nodes_of_frames, nodes_of_node, own_node, AreFramesOf, IsNodeOf, VisitsNext};
 
-use crate::frame::{Frame, open};
+use crate::frame::{Frame, descend, open, put_others};
 use crate::node::Node;
 use findings::{Findings, Flags};
 use std::alloc::Global;
@@ -50,8 +50,28 @@ pub(crate) fn visit<'m>(
     ensures nodes { OnOk result (nodes_of_node node.entry ++ nodes_of_frames frames.old.items ≡ own_node node.entry ∷ nodes_of_frames frames.new.items) }
     ensures are_of { OnOk result ((e : ExplorationSeen) → IsNodeOf e node.entry → AreFramesOf e frames.old.items → AreFramesOf e frames.new.items) }
 {
-    let enabled = node.world.enabled(alloc)?;
+    let enabled = node.agenda.enabled(alloc)?;
     report(alloc, flags, &node.world, enabled.as_slice(), findings)?;
     open(alloc, node, enabled, frames)?;
+    Ok(())
+}
+
+/// Visits the next child of a frame, whose other children go back on the stack: where it is plain that it shows nothing
+/// and has no children, without its world. `Memory` where there is none.
+pub(crate) fn visit_next<'m>(
+    alloc: Global,
+    flags: Flags,
+    frame: Frame<'m>,
+    findings: &mut Findings,
+    frames: &mut Vec<Frame<'m>>,
+) -> Result<(), WorldFault>
+    ensures { OnOk result (VisitsNext (flags_in flags) frame.entry frames.old.items findings.old frames.new.items findings.new) }
+{
+    if frame.leads_to_a_plain_leaf(alloc)? {
+        put_others(frame, frames)?;
+        return Ok(());
+    }
+    let node = descend(alloc, frame, frames)?;
+    visit(alloc, flags, node, findings, frames)?;
     Ok(())
 }

@@ -21,5 +21,5 @@ pub mod turn;
 pub use cell::{Cell, ChannelPart, NamePart, ProcessPart, ReferencePart};
 pub use footprints::Footprint;
 pub use independence::{asleep_below, independent};
-pub use meeting::meet;
-pub use step::footprint;
+pub use meeting::{are_apart, meet, some_meet};
+pub use step::{footprint, footprint_of};

@@ -168,8 +168,8 @@ fn one_meets(cells: &[Cell], other: &Cell) -> bool
     false
 }
 
-// Whether one of these cells meets one of those.
-fn some_meet(cells: &[Cell], others: &[Cell]) -> bool
+/// Whether one of these cells meets one of those. It takes no memory.
+pub fn some_meet(cells: &[Cell], others: &[Cell]) -> bool
     ensures { result ≡ some_meet (cells_in cells.now) (cells_in others.now) }
 {
     for other in others {
@@ -181,7 +181,7 @@ fn some_meet(cells: &[Cell], others: &[Cell]) -> bool
 }
 
 /// Whether neither of two steps writes a cell that meets one that the other reads or writes. It takes no memory.
-pub(crate) fn are_apart(one: &Footprint, other: &Footprint) -> bool
+pub fn are_apart(one: &Footprint, other: &Footprint) -> bool
     ensures { result ≡ are_apart (footprint_in one.now) (footprint_in other.now) }
 {
     !some_meet(&one.writes, &other.reads)

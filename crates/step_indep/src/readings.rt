@@ -75,7 +75,7 @@ pub(crate) fn watched<'r>(records: &'r Records<'_>, reference: &RefId) -> Option
 }
 
 /// The oldest signal on its way from one process to another.
-pub(crate) fn front<'r>(records: &'r Records<'_>, from: &Pid, to: &Pid) -> Option<&'r Signal>
+pub fn front<'r>(records: &'r Records<'_>, from: &Pid, to: &Pid) -> Option<&'r Signal>
     ensures { (m : ModuleTree) (v : Contents) → Agrees m records.now v → option_map (λ signal. signal_of signal.now) result ≡ first_of (waiting_in v from.now to.now) }
 {
     records.channels().front(from, to)

@@ -73,7 +73,7 @@ fn add_step(
 
 /// The footprint of a step of a process that lives, of which it is known whether it is enabled. `AllocError` if there is
 /// no memory for the cells, or for the search of a mailbox.
-pub(crate) fn footprint_of(
+pub fn footprint_of(
     records: &Records<'_>,
     alloc: Global,
     step: &Step,

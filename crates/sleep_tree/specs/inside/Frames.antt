@@ -7,10 +7,11 @@ use Rattle.world_model.specs.Asking.{program_of}
 use Rattle.world_model.specs.Events.{Event, History}
 use Rattle.world_model.specs.Names.{IsAmong}
 use Rattle.world_model.specs.Requests.{Program}
-use Rattle.world_model.specs.Run.{next_event, schedule_of}
+use Rattle.world_model.specs.Run.{next_event, run, schedule_of}
+use Rattle.world_model.specs.Shown.{Flags, shown}
 use Rattle.coverage.specs.Findings.{Findings}
 use Rattle.coverage.specs.Jobs.{Job, Node, node_at, nodes_from, nodes_along}
-use Rattle.sleep_jobs.specs.Explorations.{ExplorationSeen, nodes_of}
+use Rattle.sleep_jobs.specs.Explorations.{ExplorationSeen, findings_of, nodes_of}
 use Rattle.sleep_jobs.specs.Pieces.{IsDone}
 use Rattle.sleep_tree.specs.inside.Snapshots.{IsNode}
 use Rattle.world_core.specs.Seen.{Seen, program_in}
@@ -37,6 +38,15 @@ pub record FrameSeen : Type 0 where
   pub line : List Step
   pub left : ℕ
 
+-- the frame of the steps behind the first one, which sleeps for them
+abbrev pub frame_after : FrameSeen → Step → List Step → FrameSeen
+frame_after f s rest = record { program = f.program; history = f.history; slept = f.slept ++ s ∷ []; line = rest; left = f.left }
+
+abbrev pub others_of : FrameSeen → List Step → List FrameSeen
+others_of f [] = []
+others_of f (s ∷ []) = []
+others_of f (s ∷ t ∷ rest) = frame_after f s (t ∷ rest) ∷ []
+
 -- the nodes that it leaves to be visited
 abbrev pub nodes_of_frame : FrameSeen → List Node
 nodes_of_frame f =
@@ -61,6 +71,24 @@ abbrev pub history_below : History → Option Event → History
 history_below h None = h
 history_below h (Some e) = e ∷ h
 
+-- the leaf below a frame by the first step of its line
+abbrev pub history_along : Program → History → List Step → History
+history_along a h [] = h
+history_along a h (s ∷ steps) = history_below h (next_event a h s)
+
+abbrev pub leaf_below : FrameSeen → NodeSeen
+leaf_below f = record { program = f.program; history = history_along (program_of f.program) f.history f.line; slept = []; left = 0 }
+
+-- the next child of a frame lies at the depth and shows nothing
+pub record IsPlainBelow (f : FrameSeen) : Type 0 where
+  pub step : Step
+  pub rest : List Step
+  pub line : f.line ≡ step ∷ rest
+  pub enabled : next_event (program_of f.program) f.history step ≡ None → ⊥
+  pub at_depth : f.left ≡ 0
+  pub reached : run (program_of f.program) (schedule_of (leaf_below f).history) ≡ Some (leaf_below f).history
+  pub shows : shown (program_of f.program) (leaf_below f).history ≡ []
+
 -- a node, and a step that is enabled there and that so many may follow
 pub record IsChildOf (w : Seen) (taken left : ℕ) (step : Step) (snapshot : Seen) : Type 0 where
   pub node : IsNode w taken (left + 1) snapshot
@@ -77,6 +105,13 @@ pub record IsFrameOf (e : ExplorationSeen) (f : FrameSeen) : Type 0 where
 
 abbrev pub AreFramesOf : ExplorationSeen → List FrameSeen → Type 0
 AreFramesOf e fs = AllByRecursion (IsFrameOf e) fs
+
+-- the next child of a frame is visited: what it shows is added, and the others stay on the stack
+pub record VisitsNext (flags : Flags) (f : FrameSeen) (old : List FrameSeen) (before : Findings) (new : List FrameSeen) (after : Findings) : Type 0 where
+  pub node : Node
+  pub nodes : nodes_of_frame f ++ nodes_of_frames old ≡ node ∷ nodes_of_frames new
+  pub found : (e : ExplorationSeen) (done : List Node) → e.flags ≡ flags → IsFrameOf e f → AreFramesOf e old → before ≡ findings_of e done → after ≡ findings_of e (done ++ node ∷ [])
+  pub are_of : (e : ExplorationSeen) → IsFrameOf e f → AreFramesOf e old → AreFramesOf e new
 
 -- the nodes of a job are those that were visited, and then those that the stack leaves
 pub record IsExploring (e : ExplorationSeen) (name : Job) (findings : Findings) (nodes : ℕ) (frames : List FrameSeen) : Type 0 where

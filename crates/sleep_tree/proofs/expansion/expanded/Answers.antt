@@ -2,7 +2,7 @@ use Rattle.std.proofs.Common.{◌≡◌, ap, sym, subst, arith}
 use Rattle.findings.specs.Identities.{flags_in}
 use Rattle.sleep_jobs.specs.Explorations.{ExplorationSeen}
 use Rattle.sleep_tree.specs.inside.Frames.{AreFramesOf}
-use Rattle.sleep_tree.proofs.Pieces.{popped, exploring_first, exploring_more}
+use Rattle.sleep_tree.proofs.Pieces.{exploring_first, exploring_more}
 use Rattle.sleep_tree.proofs.expansion.expanded.Goals as goal
 
 pub loop-nodes-init : goal.loop-nodes-init
@@ -21,15 +21,11 @@ loop-nodes-init g c =
 pub loop-nodes-preserved : goal.loop-nodes-preserved
 loop-nodes-preserved g c =
     let e = c.args.job.now.exploration in
-    let same : e.flags ≡ flags_in c.exploration-exploration.result.flags = sym (ap (λ (x : ExplorationSeen). x.flags) c.exploration-exploration.ensures) in
-    let x = c.loop-nodes.invariant.exploring in
-    let b = popped e c.loop-nodes.frames.items c.pop.new.self.items c.in-Some.frame x.are_of c.in-Some.ensures.items in
-    let below = c.in_ok-node.ensures.are_of e b.0 b.1 in
+    let flags = flags_in c.exploration-exploration.result.flags in
+    let same : e.flags ≡ flags = sym (ap (λ (x : ExplorationSeen). x.flags) c.exploration-exploration.ensures) in
     record {
-      exploring = exploring_more e c.args.job.now.name c.loop-nodes.findings c.visit-in-loop-nodes.new.findings c.loop-nodes.nodes c.loop-nodes.frames.items c.pop.new.self.items c.descend.new.frames.items c.visit-in-loop-nodes.new.frames.items c.in-Some.frame c.in_ok-node.node
-          x c.in-Some.ensures.items c.in_ok-node.ensures.nodes c.in_ok-visit-2.ensures.nodes
-          (λ done old. c.in_ok-visit-2.ensures.found e done same below.0 old)
-          (c.in_ok-visit-2.ensures.are_of e below.0 below.1);
+      exploring = exploring_more e c.args.job.now.name flags c.loop-nodes.findings c.visit_next.new.findings c.loop-nodes.nodes c.loop-nodes.frames.items c.pop.new.self.items c.visit_next.new.frames.items c.in-Some.frame
+          c.loop-nodes.invariant.exploring c.in-Some.ensures.items same c.in_ok-visit_next.ensures;
       some = omega arith;
       within = omega arith;
     }

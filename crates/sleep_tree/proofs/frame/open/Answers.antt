@@ -4,6 +4,7 @@ use Rattle.world_model.specs.Asking.{program_of}
 use Rattle.world_model.specs.Run.{enabled_steps}
 use Rattle.coverage.specs.Jobs.{awake_steps}
 use Rattle.sleep_tree.specs.inside.Frames.{NodeSeen, IsNodeOf, nodes_of_frames}
+use Rattle.step_agenda.specs.Plans.{IsAgenda}
 use Rattle.sleep_jobs.proofs.Lists.{reverse_last, reverse_none}
 use Rattle.sleep_tree.proofs.Frames.{awake_are, opened_frame, opened_is_of, opened_node, sleeping_node}
 use Rattle.sleep_tree.proofs.frame.open.Goals as goal
@@ -16,7 +17,7 @@ invariant_of-push c =
     subst (λ (v : NodeSeen). c.args.enabled.items ≡ enabled_steps (program_of v.program) v.history) (sym c.node.view_is) c.requires in
     let is : line ≡ awake_steps (program_in w) w.history c.node.inside.slept.items =
     sym (ap reverse c.in-Some.ensures.items ∙ reverse_last c.pop.new.self.items c.in-Some.next) ∙ c.in_ok-after.ensures ∙ awake_are (program_in w) w.history c.args.enabled.items c.as_slice.result.now c.node.inside.slept.items enabled c.as_slice.ensures.value in
-    opened_frame w c.node.inside.taken c.node.inside.left c.node.inside.slept.items line c.node.inside.snapshot.value c.node.invariant (λ e. absurd (omega (arith, e, c.if-left-eq0.false))) is
+    (opened_frame w c.node.inside.taken c.node.inside.left c.node.inside.slept.items line c.node.inside.snapshot.value c.node.invariant.0 (λ e. absurd (omega (arith, e, c.if-left-eq0.false))) is, subst (IsAgenda (program_in w) w.history) (sym c.in_ok-agenda.ensures.ok) c.node.invariant.1)
 
 pub returns-clause-nodes : goal.returns-clause-nodes
 returns-clause-nodes c =

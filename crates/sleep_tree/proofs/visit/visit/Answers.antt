@@ -7,4 +7,4 @@ use Rattle.sleep_tree.proofs.visit.visit.Goals as goal
 pub returns-clause-found : goal.returns-clause-found
 returns-clause-found c = λ e done same belongs old.
     let own = subst (IsNodeOf e) (sym c.node.view_is) belongs in
-    rw (← c.node.view_is) (node_adds e c.node.inside.world c.node.inside.slept.items c.node.inside.left (flags_in c.args.flags) c.args.findings.now c.report.new.findings done same own.program c.node.invariant.reached c.in_ok-report.ensures old)
+    rw (← c.node.view_is) (node_adds e c.node.inside.world c.node.inside.slept.items c.node.inside.left (flags_in c.args.flags) c.args.findings.now c.report.new.findings done same own.program c.node.invariant.0.reached c.in_ok-report.ensures old)
