@@ -1,9 +1,11 @@
-// Tests of the reader: which texts are modules, the first fault of each other text, and when two modules are
-// the same.
+// Tests of the reader: which texts are modules, the first fault of each other text, when two modules are the
+// same, and that a copy is the same.
 #![tactic(auto)]
 
 #[cfg(test)]
 mod calls;
+#[cfg(test)]
+mod copies;
 #[cfg(test)]
 mod language;
 #[cfg(test)]
