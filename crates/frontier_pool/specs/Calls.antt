@@ -6,9 +6,10 @@ use Rattle.findings.specs.declared.outcome.Cause.TheVariants.{NodeLimit}
 use Rattle.findings.specs.declared.outcome.Cause.TheVariants as cause
 use Rattle.findings.specs.declared.outcome.Outcome.{Outcome}
 use Rattle.findings.specs.declared.outcome.Outcome.TheVariants.{Complete, Incomplete}
-use Rattle.sleep_jobs.specs.Explorations.{ExplorationSeen, JobSeen, TicketSeen, names_of, nodes_of, findings_of}
+use Rattle.sleep_jobs.specs.Explorations.{ExplorationSeen, JobSeen, TicketSeen, program_in, names_of, nodes_of, findings_of}
 use Rattle.sleep_jobs.specs.Meanings.{AreOfJob}
 use Rattle.sleep_jobs.specs.Pieces.{PieceSeen}
+use Rattle.world_model.specs.Requests.{Program}
 use Rattle.frontier_pool.specs.Explorations.{AreOne, IsJobOf}
 use Rattle.frontier_pool.specs.Machine.{Standing, Takes, after_give, opening, stopped}
 use Rattle.frontier_pool.specs.Seen.{Seen, cause_of}
@@ -59,6 +60,13 @@ IsOfItsTicket (Work ticket job) = (1 ≤ ticket.number) × IsJobOf job.explorati
 IsOfItsTicket Idle = Unit {0}
 IsOfItsTicket Finished = Unit {0}
 IsOfItsTicket Stopped = Unit {0}
+
+-- what is handed out is a job of the program
+abbrev pub IsOfProgram : Program → Taken → Type 0
+IsOfProgram a (Work ticket job) = program_in job.exploration ≡ a
+IsOfProgram a Idle = Unit {0}
+IsOfProgram a Finished = Unit {0}
+IsOfProgram a Stopped = Unit {0}
 
 -- ---- stop
 

@@ -109,7 +109,7 @@ impl<'m> Frontier<'m> {
         ensures { IfOk result (λ frontier. frontier ≡ opened (explored_by program.now options.now) options.now.nodes) }
     {
         let exploration = Exploration::of(program, options);
-        let root = Job::root(alloc, program, options)?;
+        let root = Job::root(alloc, program, options);
         let mut todo = Vec::new(alloc);
         todo.push(root)?;
         let out = Vec::new(alloc);

@@ -1,6 +1,6 @@
 // A pool behind a lock.
 ghost use Rattle.std.specs.Prelude.{◌≡◌, ◌+◌, IfOk, IfErr, OnOk, OnErr};
-ghost use Rattle.frontier_pool.specs.Calls.{HandsBack, IsOfItsTicket, entries_in};
+ghost use Rattle.frontier_pool.specs.Calls.{HandsBack, IsOfItsTicket, IsOfProgram, entries_in};
 
 use crate::answer::{GiveFault, Taken, Wake};
 use crate::seat::{PoolName, Seat};
@@ -28,7 +28,7 @@ impl<'m, N: PoolName> Pool<'m, N> {
         }
     }
 
-    /// Hands out a job to a seat. It wakes nobody: the others wait while no job is open and one is out, and they wait on
+    /// Hands out a job of the program to a seat. It wakes nobody: the others wait while no job is open and one is out, and they wait on
     /// where a job that was open goes out.
     ///
     /// # Errors
@@ -41,6 +41,7 @@ impl<'m, N: PoolName> Pool<'m, N> {
         seat: &mut Seat<N>,
     ) -> Result<Taken<'m>, AllocError>
         ensures of_ticket { IfOk result IsOfItsTicket }
+        ensures explored { IfOk result (IsOfProgram N.program) }
         ensures entered { IfOk result (λ taken. seat.new ≡ seat.old + entries_in taken) }
         ensures refused { OnErr result (seat.new ≡ seat.old) }
     {

@@ -1,10 +1,11 @@
 // What lies under the lock of a pool.
 ghost use Rattle.std.specs.Prelude.{◌≡◌, ℕ, ◌+◌, ◌≤◌, true, false, [], None, IfOk, IfErr, OnOk, OnErr, length, sum, vec_len};
-ghost use Rattle.frontier_pool.specs.Calls.{Accepts, ComesTo, IsDone, IsIdle, IsOwn, RefusesTo, TakesTo, WakesTo, entries_in, opened, stopped_seen};
+ghost use Rattle.frontier_pool.specs.Calls.{Accepts, ComesTo, IsDone, IsIdle, IsOfProgram, IsOwn, RefusesTo, TakesTo, WakesTo, entries_in, opened, stopped_seen};
 ghost use Rattle.sleep_jobs.specs.Explorations.{explored_by};
 ghost use Rattle.frontier_pool.specs.Machine.{IsLegal};
 ghost use Rattle.frontier_pool.specs.Seen.{listed};
 ghost use Rattle.frontier_pool.specs.Sums.{AddsUp, SumsUp};
+ghost use Rattle.world_model.specs.Asking.{program_of};
 
 use crate::answer::{GiveFault, StrangePool, Taken, Wake};
 use crate::frontier::Frontier;
@@ -41,6 +42,7 @@ impl<'m, N: PoolName> Model for PoolState<'m, N> {
     ghost use Rattle.std.specs.Prelude.{◌≡◌, length};
     ghost use Rattle.frontier_pool.specs.Seen.{Seen};
     ghost use Rattle.frontier_pool.specs.inside.Codes.{coded_seen};
+    ghost use Rattle.sleep_jobs.specs.Explorations.{program_in};
 
     ghost Value = { Seen };
 
@@ -48,7 +50,7 @@ impl<'m, N: PoolName> Model for PoolState<'m, N> {
 
     ghost view = { λ p. p.frontier };
 
-    ghost invariant = { λ p. (p.book.total ≡ length p.frontier.events) × (p.seats ≡ N.seats) × (p.left.parts ≡ 0) × (p.left.amount ≡ 0) };
+    ghost invariant = { λ p. (p.book.total ≡ length p.frontier.events) × (p.seats ≡ N.seats) × (program_in p.frontier.exploration ≡ N.program) × (p.left.parts ≡ 0) × (p.left.amount ≡ 0) };
 }
 
 /// Seats with a part each, and the share that is left. `AllocError` if there is no memory for them.
@@ -103,6 +105,7 @@ impl<'m, N: PoolName> PoolState<'m, N> {
         requires name { blank.name ≡ N.name }
         requires parts { blank.parts ≡ N.parts }
         requires seats { (N.seats ≡ N.parts) × (options.now.workers ≡ N.seats) }
+        requires program { program_of program.now ≡ N.program }
         ensures state { IfOk result (λ r. r.0 ≡ opened (explored_by program.now options.now) options.now.nodes) }
         ensures seats { IfOk result (λ r. (vec_len r.1 ≡ options.now.workers) × (sum r.1.items ≡ 0)) }
     {
@@ -118,13 +121,14 @@ impl<'m, N: PoolName> PoolState<'m, N> {
         Ok((state, seats))
     }
 
-    /// Hands out a job to a seat. Whoever waits has no reason to go on.
+    /// Hands out a job of the program to a seat. Whoever waits has no reason to go on.
     ///
     /// # Errors
     ///
     /// `AllocError` if there is no memory: pool and seat are unchanged.
     pub fn take(&mut self, alloc: Global, seat: &mut Seat<N>) -> Result<Taken<'m>, AllocError>
         ensures taken { IfOk result (λ taken. TakesTo self.old taken self.new) }
+        ensures explored { IfOk result (IsOfProgram N.program) }
         ensures entered { IfOk result (λ taken. seat.new ≡ seat.old + entries_in taken) }
         ensures refused { OnErr result ((self.new ≡ self.old) × (seat.new ≡ seat.old)) }
         ensures waits { IsIdle self.old → IsIdle self.new }

@@ -1,5 +1,7 @@
 // What a pool answers to whom it should not trust.
-ghost use Rattle.std.specs.Prelude.{◌≡◌, ◌≤◌};
+ghost use Rattle.std.specs.Prelude.{◌≡◌, ◌≤◌, IfOk};
+ghost use Rattle.sleep_jobs.specs.Explorations.{program_in};
+ghost use Rattle.world_model.specs.Asking.{program_of};
 
 use core_reader::{Module, read_module};
 use findings::{Cause, Flags, Options, Outcome};
@@ -32,8 +34,10 @@ fn options(depth: u64) -> Options
 }
 
 // One node of a job is visited.
-fn expanded<'m>(alloc: Global, job: Job<'m>) -> Result<Piece<'m>, Fail> {
-    match expand(alloc, job, 1, &Unwatched) {
+fn expanded<'m>(alloc: Global, program: &Module, job: Job<'m>) -> Result<Piece<'m>, Fail>
+    requires { program_of program.now ≡ program_in job.exploration }
+{
+    match expand(alloc, program, job, 1, &Unwatched) {
         Ok(piece) => Ok(piece),
         Err(_) => Err(Fail::from("there is no memory")),
     }
@@ -63,6 +67,7 @@ impl<'m, N: PoolName> Bench<'m, N> {
         requires name { blank.name ≡ N.name }
         requires parts { blank.parts ≡ N.parts }
         requires seats { (N.seats ≡ N.parts) × (N.seats ≡ 1) }
+        requires program { program_of program.now ≡ N.program }
     {
         let (state, mut seats) = PoolState::<'m, N>::open(alloc, blank, program, &options(depth))?;
         match seats.pop() {
@@ -72,7 +77,9 @@ impl<'m, N: PoolName> Bench<'m, N> {
     }
 
     // A job is handed out.
-    fn take(&mut self, alloc: Global) -> Result<(Ticket, Job<'m>), Fail> {
+    fn take(&mut self, alloc: Global) -> Result<(Ticket, Job<'m>), Fail>
+        ensures { IfOk result (λ taken. program_in taken.1.exploration ≡ N.program) }
+    {
         match self.state.take(alloc, &mut self.seat)? {
             Taken::Work(ticket, job) => Ok((ticket, job)),
             _ => Err(Fail::from("no job is handed out")),
@@ -80,9 +87,11 @@ impl<'m, N: PoolName> Bench<'m, N> {
     }
 
     // One node of the next job is visited, and nothing is given back yet.
-    fn visit(&mut self, alloc: Global) -> Result<(Ticket, Piece<'m>), Fail> {
+    fn visit(&mut self, alloc: Global, program: &Module) -> Result<(Ticket, Piece<'m>), Fail>
+        requires { program_of program.now ≡ N.program }
+    {
         let (ticket, job) = self.take(alloc)?;
-        Ok((ticket, expanded(alloc, job)?))
+        Ok((ticket, expanded(alloc, program, job)?))
     }
 
     // What is answered to a piece.
@@ -99,10 +108,12 @@ impl<'m, N: PoolName> Bench<'m, N> {
     }
 
     // Whether there is a job; then one node of it is visited, and its piece is accepted.
-    fn work(&mut self, alloc: Global) -> Result<bool, Fail> {
+    fn work(&mut self, alloc: Global, program: &Module) -> Result<bool, Fail>
+        requires { program_of program.now ≡ N.program }
+    {
         match self.state.take(alloc, &mut self.seat)? {
             Taken::Work(ticket, job) => {
-                let piece = expanded(alloc, job)?;
+                let piece = expanded(alloc, program, job)?;
                 self.accept(&ticket, piece)?;
                 Ok(true)
             }
@@ -112,9 +123,11 @@ impl<'m, N: PoolName> Bench<'m, N> {
     }
 
     // The pool works to its end.
-    fn work_out(&mut self, alloc: Global) -> Result<(), Fail> {
+    fn work_out(&mut self, alloc: Global, program: &Module) -> Result<(), Fail>
+        requires { program_of program.now ≡ N.program }
+    {
         for _ in 0..100 {
-            if !self.work(alloc)? {
+            if !self.work(alloc, program)? {
                 return Ok(());
             }
         }
@@ -155,10 +168,11 @@ impl<'m, N: PoolName> Bench<'m, N> {
 
     // The pool works to its end: how many nodes it came to.
     fn nodes(self, alloc: Global, program: &Module) -> Result<u64, Fail>
-        requires { N.seats ≡ N.parts }
+        requires seats { N.seats ≡ N.parts }
+        requires program { program_of program.now ≡ N.program }
     {
         let mut bench = self;
-        bench.work_out(alloc)?;
+        bench.work_out(alloc, program)?;
         match bench.finish(alloc, program, 5)? {
             Ok(Outcome::Complete(_, nodes)) => Ok(nodes),
             _ => Err(Fail::from("the pool is not complete")),
@@ -184,9 +198,10 @@ fn gives_twice<N: PoolName>(alloc: Global, blank: Blank, program: &Module) -> Re
     requires name { blank.name ≡ N.name }
     requires parts { blank.parts ≡ N.parts }
     requires seats { (N.seats ≡ N.parts) × (N.seats ≡ 1) }
+    requires program { program_of program.now ≡ N.program }
 {
     let mut bench = Bench::<N>::open(alloc, blank, program, 5)?;
-    let (ticket, piece) = bench.visit(alloc)?;
+    let (ticket, piece) = bench.visit(alloc, program)?;
     bench.accept(&ticket, piece.copy(alloc)?)?;
     if !is_strange_ticket(bench.give(&ticket, piece)) {
         return Err(Fail::from("a ticket is given twice"));
@@ -199,12 +214,13 @@ fn gives_another<N: PoolName>(alloc: Global, blank: Blank, program: &Module) -> 
     requires name { blank.name ≡ N.name }
     requires parts { blank.parts ≡ N.parts }
     requires seats { (N.seats ≡ N.parts) × (N.seats ≡ 1) }
+    requires program { program_of program.now ≡ N.program }
 {
     let mut bench = Bench::<N>::open(alloc, blank, program, 5)?;
-    bench.work(alloc)?;
-    bench.work(alloc)?;
-    let (third, piece) = bench.visit(alloc)?;
-    let (fourth, other) = bench.visit(alloc)?;
+    bench.work(alloc, program)?;
+    bench.work(alloc, program)?;
+    let (third, piece) = bench.visit(alloc, program)?;
+    let (fourth, other) = bench.visit(alloc, program)?;
     let back = strange_piece(bench.give(&third, other))?;
     bench.accept(&fourth, back)?;
     bench.accept(&third, piece)?;
@@ -222,10 +238,11 @@ fn gives_elsewhere<N: PoolName, M: PoolName>(
     requires parts { (blank.parts ≡ N.parts) × (other.parts ≡ M.parts) }
     requires seats { (N.seats ≡ N.parts) × (N.seats ≡ 1) }
     requires other_seats { (M.seats ≡ M.parts) × (M.seats ≡ 1) }
+    requires programs { (program_of program.now ≡ N.program) × (program_of program.now ≡ M.program) }
 {
     let mut bench = Bench::<N>::open(alloc, blank, program, 5)?;
-    let (_, strange) = Bench::<M>::open(alloc, other, program, 4)?.visit(alloc)?;
-    let (ticket, piece) = bench.visit(alloc)?;
+    let (_, strange) = Bench::<M>::open(alloc, other, program, 4)?.visit(alloc, program)?;
+    let (ticket, piece) = bench.visit(alloc, program)?;
     let _back = strange_piece(bench.give(&ticket, strange))?;
     bench.accept(&ticket, piece)?;
     bench.nodes(alloc, program)
@@ -240,9 +257,10 @@ fn finishes_elsewhere<N: PoolName>(
     requires name { blank.name ≡ N.name }
     requires parts { blank.parts ≡ N.parts }
     requires seats { (N.seats ≡ N.parts) × (N.seats ≡ 1) }
+    requires program { program_of program.now ≡ N.program }
 {
     let mut bench = Bench::<N>::open(alloc, blank, program, 5)?;
-    bench.work_out(alloc)?;
+    bench.work_out(alloc, program)?;
     Ok(bench.finish(alloc, program, 4)?.is_err())
 }
 
@@ -251,6 +269,7 @@ fn finishes_early<N: PoolName>(alloc: Global, blank: Blank, program: &Module) ->
     requires name { blank.name ≡ N.name }
     requires parts { blank.parts ≡ N.parts }
     requires seats { (N.seats ≡ N.parts) × (N.seats ≡ 1) }
+    requires program { program_of program.now ≡ N.program }
 {
     let mut bench = Bench::<N>::open(alloc, blank, program, 5)?;
     bench.take(alloc)?;
@@ -262,12 +281,13 @@ fn stops<N: PoolName>(alloc: Global, blank: Blank, program: &Module) -> Result<b
     requires name { blank.name ≡ N.name }
     requires parts { blank.parts ≡ N.parts }
     requires seats { (N.seats ≡ N.parts) × (N.seats ≡ 1) }
+    requires program { program_of program.now ≡ N.program }
 {
     let mut bench = Bench::<N>::open(alloc, blank, program, 5)?;
-    bench.work(alloc)?;
-    bench.work(alloc)?;
-    let (third, piece) = bench.visit(alloc)?;
-    let (fourth, other) = bench.visit(alloc)?;
+    bench.work(alloc, program)?;
+    bench.work(alloc, program)?;
+    let (third, piece) = bench.visit(alloc, program)?;
+    let (fourth, other) = bench.visit(alloc, program)?;
     bench.state.stop();
     bench.accept(&third, piece)?;
     if !bench.is_stopped(alloc)? {
@@ -284,12 +304,13 @@ fn wakes<N: PoolName>(alloc: Global, blank: Blank, program: &Module) -> Result<b
     requires name { blank.name ≡ N.name }
     requires parts { blank.parts ≡ N.parts }
     requires seats { (N.seats ≡ N.parts) × (N.seats ≡ 1) }
+    requires program { program_of program.now ≡ N.program }
 {
     let mut bench = Bench::<N>::open(alloc, blank, program, 5)?;
-    let (first, piece) = bench.visit(alloc)?;
+    let (first, piece) = bench.visit(alloc, program)?;
     let leaves_a_job = bench.accept(&first, piece)?;
-    bench.work(alloc)?;
-    let (third, piece) = bench.visit(alloc)?;
+    bench.work(alloc, program)?;
+    let (third, piece) = bench.visit(alloc, program)?;
     let beside_a_job = bench.accept(&third, piece)?;
     Ok(leaves_a_job == Wake::Everybody && beside_a_job == Wake::Nobody)
 }
@@ -300,14 +321,15 @@ fn gives<N: PoolName>(alloc: Global, blank: Blank, program: &Module) -> Result<b
     requires name { blank.name ≡ N.name }
     requires parts { blank.parts ≡ N.parts }
     requires seats { (N.seats ≡ N.parts) × (N.seats ≡ 1) }
+    requires program { program_of program.now ≡ N.program }
 {
     let mut bench = Bench::<N>::open(alloc, blank, program, 5)?;
-    bench.work(alloc)?;
-    bench.work(alloc)?;
-    let (third, piece) = bench.visit(alloc)?;
-    let (fourth, other) = bench.visit(alloc)?;
+    bench.work(alloc, program)?;
+    bench.work(alloc, program)?;
+    let (third, piece) = bench.visit(alloc, program)?;
+    let (fourth, other) = bench.visit(alloc, program)?;
     bench.accept(&third, piece)?;
-    let (fifth, last) = bench.visit(alloc)?;
+    let (fifth, last) = bench.visit(alloc, program)?;
     let spare = other.copy(alloc)?;
     if let Err(_) = bench.give(&fourth, other) {
         let is_stopped = bench.is_stopped(alloc)?;

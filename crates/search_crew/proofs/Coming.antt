@@ -1,9 +1,9 @@
 -- What a finished pool comes to is what the search comes to.
-use Rattle.std.proofs.Common.{◌≡◌, ◌≤◌, ◌<◌, ℕ, List, ◌++◌, Some, None, Option, length, refl, sym, ap, ◌∙◌, subst, true}
+use Rattle.std.proofs.Common.{◌≡◌, ◌≤◌, ◌<◌, ℕ, List, ◌++◌, length, refl, sym, ap, ◌∙◌, subst, true}
 use Rattle.std.specs.List.Sorted.{IsPermutation}
 use Rattle.world_model.specs.Names.{IsAmong}
 use Rattle.world_model.specs.Requests.{Program}
-use Rattle.world_model.specs.Shown.{Flags, Identity, is_error, is_refusal}
+use Rattle.world_model.specs.Shown.{Flags, Identity, is_error}
 use Rattle.coverage.specs.Findings.{Finding, Findings, findings_among}
 use Rattle.coverage.specs.Jobs.{Node, root, schedules_of}
 use Rattle.coverage.specs.Shown.{RunShows}

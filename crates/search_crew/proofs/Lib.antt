@@ -1,2 +1,3 @@
 pub mod Coming
+mod Findings
 pub mod Crossing

@@ -3,6 +3,7 @@ ghost use Rattle.std.specs.Prelude.{◌≡◌, ◌+◌, ◌<◌, ◌≤◌, IfOk
 ghost use Rattle.std.specs.Thread.{IsSend, IsSync};
 ghost use Rattle.search_crew.specs.Outcomes.{IsExact, IsOutcome};
 ghost use Rattle.sleep_jobs.specs.Explorations.{explored_by};
+ghost use Rattle.world_model.specs.Asking.{program_of};
 
 use crate::fault::SearchFault;
 use crate::worker::{Back, work};
@@ -40,10 +41,12 @@ fn work_together<'m, N: PoolName + Send + Sync, R: Threads + Wait + Sync, G: Gat
     alloc: Global,
     pool: &Pool<'m, N>,
     seats: Vec<Seat<N>>,
+    program: &Module,
     budget: u64,
     gate: &G,
 ) -> Result<Vec<Seat<N>>, SearchFault>
-    requires { 1 ≤ budget }
+    requires some { 1 ≤ budget }
+    requires program { program_of program.now ≡ N.program }
 {
     let workers = seats.len();
     let mut handles = Vec::with_capacity(alloc, workers)?;
@@ -54,6 +57,7 @@ fn work_together<'m, N: PoolName + Send + Sync, R: Threads + Wait + Sync, G: Gat
         move |scope| -> Result<Vec<Seat<N>>, SearchFault>
             requires shared { IsSend N.row × IsSync N.row × IsSync R.row × IsSync G.row }
             requires budget { 1 ≤ budget }
+            requires program { program_of program.now ≡ N.program }
             requires room { (vec_len seats ≤ vec_capacity handles) × (vec_len seats ≤ vec_capacity back) × (vec_len handles ≡ 0) × (vec_len back ≡ 0) }
         {
             let mut fault = Ok(());
@@ -62,7 +66,7 @@ fn work_together<'m, N: PoolName + Send + Sync, R: Threads + Wait + Sync, G: Gat
                 let builder = thread::Builder::new().stack_size(STACK);
                 match builder.spawn_scoped(
                     scope,
-                    move || work(rt, alloc, pool, seat, budget, gate),
+                    move || work(rt, alloc, pool, seat, program, budget, gate),
                 ) {
                     Ok(handle) => put(&mut handles, handle),
                     Err(_) => {
@@ -98,13 +102,14 @@ fn searched<N: PoolName + Send + Sync, R: Threads + Wait + Sync, G: Gate + Sync>
     requires parts { blank.parts ≡ N.parts }
     requires seats { (N.seats ≡ N.parts) × (options.now.workers ≡ N.seats) }
     requires budget { 1 ≤ options.now.budget }
+    requires program { program_of program.now ≡ N.program }
     ensures outcome { IfOk result (λ outcome. IsOutcome (explored_by program.now options.now) options.now.nodes outcome) }
     ensures exact { IfOk result (λ outcome. IsExact (explored_by program.now options.now) outcome) }
 {
     places_do_not_matter();
     let (state, seats) = PoolState::<'_, N>::open(alloc, blank, program, options)?;
     let pool = Pool::new(state);
-    let seats = work_together(rt, alloc, &pool, seats, options.budget, gate)?;
+    let seats = work_together(rt, alloc, &pool, seats, program, options.budget, gate)?;
     let state = pool.into_state();
     match state.finish(seats, program, options) {
         Ok(outcome) => Ok(outcome),
@@ -114,10 +119,11 @@ fn searched<N: PoolName + Send + Sync, R: Threads + Wait + Sync, G: Gate + Sync>
 
 /// Visits the nodes of the tree of schedules with sleep sets (Godefroid, "Partial-Order Methods for the Verification of
 /// Concurrent Systems"), each once, by so many workers: what they show, and how many they are. Each worker is a thread
-/// of its own; it takes a job from a pool, expands it while no lock is held, and gives back what it found and the jobs
-/// that are left. Of its first job it visits at most as many nodes as the budget says, and of the next ones twice as
-/// many from job to job, up to 64 times as many, until a worker waits for work: then it begins again. The gate is told
-/// of each node before it is visited, and of each job after its piece was accepted; jobs are numbered from 1.
+/// of its own, and has a module of its own, a copy; it takes a job from a pool, expands it while no lock is held, and
+/// gives back what it found and the jobs that are left. Of its first job it visits at most as many nodes as the budget
+/// says, and of the next ones twice as many from job to job, up to 64 times as many, until a worker waits for work: then
+/// it begins again. The gate is told of each node before it is visited, and of each job after its piece was accepted;
+/// jobs are numbered from 1.
 ///
 /// It is `Complete` where all nodes were visited, which are at most as many as may be; `Incomplete` for `NodeLimit` only
 /// where they are more, and for `Memory` where there was none: then each finding is shown by its schedule. How many

@@ -1,7 +1,11 @@
 // What one worker does.
-ghost use Rattle.std.specs.Prelude.{◌≤◌};
+ghost use Rattle.std.specs.Prelude.{◌≡◌, ◌≤◌};
+ghost use Rattle.sleep_jobs.specs.Explorations.{program_in};
+ghost use Rattle.world_model.specs.Asking.{program_of};
 
 use crate::budget::Budget;
+use core_copies::copy_module;
+use core_tree::Module;
 use frontier_pool::{GiveFault, Pool, PoolName, Seat, Taken};
 use sleep_tree::{Gate, Job, Ticket, expand};
 use std::alloc::Global;
@@ -29,6 +33,7 @@ fn expand_one<'m, N: PoolName, R: Wait, G: Gate>(
     alloc: Global,
     pool: &Pool<'m, N>,
     seat: &mut Seat<N>,
+    program: &Module,
     ticket: &Ticket,
     job: Job<'m>,
     budget: u64,
@@ -36,8 +41,9 @@ fn expand_one<'m, N: PoolName, R: Wait, G: Gate>(
 ) -> Progress
     requires budget { 1 ≤ budget }
     requires numbered { 1 ≤ ticket.now.number }
+    requires program { program_of program.now ≡ program_in job.exploration }
 {
-    let Ok(piece) = expand(alloc, job, budget, gate) else {
+    let Ok(piece) = expand(alloc, program, job, budget, gate) else {
         pool.stop(rt);
         return Progress::Ends;
     };
@@ -57,24 +63,25 @@ fn expand_one<'m, N: PoolName, R: Wait, G: Gate>(
 /// Takes jobs, expands them and gives them back, until no job is left or the pool was stopped. It waits where no job is
 /// open and one is out. It visits the least number of nodes of a job, and more from job to job while no worker waits, this
 /// one among them.
-pub(crate) fn work<'m, N: PoolName, R: Wait, G: Gate>(
+fn expand_all<'m, N: PoolName, R: Wait, G: Gate>(
     rt: &R,
     alloc: Global,
     pool: &Pool<'m, N>,
-    seat: Seat<N>,
+    seat: &mut Seat<N>,
+    program: &Module,
     least: u64,
     gate: &G,
-) -> Back<N>
-    requires { 1 ≤ least }
+) -> Progress
+    requires some { 1 ≤ least }
+    requires program { program_of program.now ≡ N.program }
 {
-    let mut seat = seat;
     let mut budget = Budget::of(least);
     let mut progress = Progress::GoesOn;
     for _ in rt.forever() {
         let Progress::GoesOn = progress else {
             break;
         };
-        let Ok(taken) = pool.take(rt, alloc, &mut seat) else {
+        let Ok(taken) = pool.take(rt, alloc, seat) else {
             pool.stop(rt);
             break;
         };
@@ -84,11 +91,37 @@ pub(crate) fn work<'m, N: PoolName, R: Wait, G: Gate>(
             Taken::Finished | Taken::Stopped => break,
             Taken::Work(ticket, job) => {
                 let nodes = budget.nodes();
-                progress = expand_one(rt, alloc, pool, &mut seat, &ticket, job, nodes, gate);
+                progress = expand_one(rt, alloc, pool, seat, program, &ticket, job, nodes, gate);
             }
         }
         budget = budget.next(is_idle || pool.is_awaited());
     }
+    progress
+}
+
+/// What a worker does: it copies the module, so that it shares no memory with others while it expands a job, and expands
+/// jobs until none is left or the pool was stopped. Where memory is wanting for its module, it stops the pool.
+pub(crate) fn work<'m, N: PoolName, R: Wait, G: Gate>(
+    rt: &R,
+    alloc: Global,
+    pool: &Pool<'m, N>,
+    seat: Seat<N>,
+    program: &Module,
+    least: u64,
+    gate: &G,
+) -> Back<N>
+    requires some { 1 ≤ least }
+    requires program { program_of program.now ≡ N.program }
+{
+    let mut seat = seat;
+    let Ok(own) = copy_module(alloc, program) else {
+        pool.stop(rt);
+        return Back {
+            seat,
+            is_strange: false,
+        };
+    };
+    let progress = expand_all(rt, alloc, pool, &mut seat, &own, least, gate);
     Back {
         seat,
         is_strange: matches!(progress, Progress::IsStrange),

@@ -1,4 +1,4 @@
 pub mod Lists
 pub mod Runs
-pub mod Snapshots
+pub mod Reached
 pub mod Passing

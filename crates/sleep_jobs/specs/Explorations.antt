@@ -1,5 +1,5 @@
 -- What is explored, and its jobs, as contracts see them.
-use Rattle.std.specs.Prelude.{ℕ, List, [], map}
+use Rattle.std.specs.Prelude.{ℕ, List, map}
 use Rattle.core_tree.specs.Syntax.{ModuleTree}
 use Rattle.world_model.specs.Asking.{program_of}
 use Rattle.world_model.specs.Requests.{Program}

@@ -2,4 +2,4 @@ pub mod inside
 pub mod Explorations
 pub mod Pieces
 pub mod Meanings
-pub mod Snapshots
+pub mod Reached

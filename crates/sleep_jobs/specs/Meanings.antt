@@ -1,6 +1,5 @@
 -- What the findings of a piece mean.
 use Rattle.std.specs.Prelude.{◌≡◌, Bool, true, List}
-use Rattle.term_core.specs.declared.step.Step.{Step}
 use Rattle.world_model.specs.Names.{IsAmong}
 use Rattle.world_model.specs.Shown.{Identity, is_error, is_refusal}
 use Rattle.coverage.specs.Findings.{Finding, Findings}

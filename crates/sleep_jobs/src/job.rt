@@ -1,9 +1,10 @@
 // Jobs: a node, and all nodes below it.
-ghost use Rattle.std.specs.Prelude.{◌≡◌, [], IfErr, IfOk};
+ghost use Rattle.std.specs.Prelude.{◌≡◌, ◌≤◌, [], IfErr, IfOk, length};
 ghost use Rattle.coverage.specs.Jobs.{root};
 ghost use Rattle.findings.specs.Identities.{flags_in};
-ghost use Rattle.sleep_jobs.specs.Explorations.{exploration_in};
-ghost use Rattle.sleep_jobs.specs.Snapshots.{IsAt, IsJob};
+ghost use Rattle.sleep_jobs.specs.Explorations.{exploration_in, program_in};
+ghost use Rattle.sleep_jobs.specs.Reached.{IsAt, IsJob};
+ghost use Rattle.world_model.specs.Asking.{program_of};
 ghost use Rattle.world_core.specs.declared.fault.WorldFault.TheVariants.{Memory};
 
 use crate::exploration::Exploration;
@@ -12,16 +13,13 @@ use core_tree::Module;
 use findings::Options;
 use std::alloc::{AllocError, Global};
 use std::marker::Model;
-use std::sync::Arc;
 use world_core::{World, WorldFault};
 
-/// A job: a node of the tree of schedules, and all nodes below it. It holds its exploration, its name, the world after
-/// the greatest number of its steps that 16 divides, which it shares, and the number of its ticket, 0 while it has
-/// none.
+/// A job: a node of the tree of schedules, and all nodes below it. It holds its exploration, its name, and the number of
+/// its ticket, 0 while it has none. It holds no world, so that nothing of one goes from thread to thread.
 pub struct Job<'m> {
     exploration: Exploration<'m>,
     name: JobName,
-    snapshot: Arc<World<'m>>,
     number: u64,
 }
 
@@ -31,7 +29,6 @@ impl Drop for Job<'_> {
         let Job {
             exploration: _,
             name: _,
-            snapshot: _,
             number: _,
         } = self;
     }
@@ -40,7 +37,7 @@ impl Drop for Job<'_> {
 impl<'m> Model for Job<'m> {
     ghost use Rattle.sleep_jobs.specs.Explorations.{JobSeen, exploration_in};
     ghost use Rattle.sleep_jobs.specs.inside.Codes.{coded_job};
-    ghost use Rattle.sleep_jobs.specs.Snapshots.{IsJob};
+    ghost use Rattle.sleep_jobs.specs.Reached.{IsJob};
 
     ghost Value = { JobSeen };
 
@@ -48,49 +45,36 @@ impl<'m> Model for Job<'m> {
 
     ghost view = { λ j. record { exploration = exploration_in j.exploration; name = j.name; number = j.number } };
 
-    ghost invariant = { λ j. IsJob (exploration_in j.exploration) j.name j.snapshot.value };
+    ghost invariant = { λ j. IsJob (exploration_in j.exploration) j.name };
 }
 
 impl<'m> Job<'m> {
-    /// The job of the whole tree: no step is taken yet, and none sleeps.
-    ///
-    /// # Errors
-    ///
-    /// `AllocError` if there is no memory.
-    pub fn root(
-        alloc: Global,
-        program: &'m Module,
-        options: &Options,
-    ) -> Result<Job<'m>, AllocError>
-        ensures { IfOk result (λ job. job ≡ record {
+    /// The job of the whole tree: no step is taken yet, and none sleeps. It takes no memory.
+    pub fn root(alloc: Global, program: &'m Module, options: &Options) -> Job<'m>
+        ensures { result ≡ record {
           exploration = record { program = program.now; depth = options.now.depth; flags = flags_in options.now.flags };
           name = root;
           number = 0;
-        }) }
+        } }
     {
-        let Ok(world) = World::open(alloc, program) else {
-            return Err(AllocError);
-        };
-        Ok(Job {
+        Job {
             exploration: Exploration::of(program, options),
             name: JobName {
                 prefix: Vec::new(alloc),
                 slept: Vec::new(alloc),
             },
-            snapshot: Arc::new(alloc, world)?,
             number: 0,
-        })
+        }
     }
 
-    /// The job of a node with its name and the snapshot for it, which are of the exploration. It has no ticket.
-    pub fn of_node(exploration: Exploration<'m>, name: JobName, snapshot: Arc<World<'m>>) -> Job<'m>
-        requires { IsJob (exploration_in exploration) name snapshot.value }
+    /// The job of a node with its name, which is one of the exploration. It has no ticket.
+    pub fn of_node(exploration: Exploration<'m>, name: JobName) -> Job<'m>
+        requires { IsJob (exploration_in exploration) name }
         ensures { result ≡ record { exploration = exploration_in exploration.entry; name = name; number = 0 } }
     {
         Job {
             exploration,
             name,
-            snapshot,
             number: 0,
         }
     }
@@ -116,7 +100,6 @@ impl<'m> Job<'m> {
         let Job {
             exploration: _,
             name,
-            snapshot: _,
             number: _,
         } = self;
         name
@@ -136,38 +119,42 @@ impl<'m> Job<'m> {
         self.number = number;
     }
 
-    /// The same job, which shares its world with this one, or `AllocError` if there is no memory for it.
+    /// The same job, or `AllocError` if there is no memory for it.
     pub fn copy(&self, alloc: Global) -> Result<Job<'m>, AllocError>
         ensures { IfOk result (λ copied. copied ≡ self.now) }
     {
         Ok(Job {
             exploration: self.exploration,
             name: self.name.copy(alloc)?,
-            snapshot: Arc::try_clone(&self.snapshot)?,
             number: self.number,
         })
     }
 
-    /// The world after the greatest number of its steps that 16 divides, which is shared, or `AllocError` if it can no
-    /// longer be counted who shares it.
-    pub fn snapshot(&self) -> Result<Arc<World<'m>>, AllocError>
-        ensures { IfOk result (λ snapshot. IsJob self.now.exploration self.now.name snapshot.value) }
+    /// The same job, whose name shares no memory with this one, or `AllocError` if there is no memory for it.
+    pub fn own(&self, alloc: Global) -> Result<Job<'m>, AllocError>
+        ensures { IfOk result (λ own. own ≡ self.now) }
     {
-        Arc::try_clone(&self.snapshot)
+        Ok(Job {
+            exploration: self.exploration,
+            name: self.name.own(alloc)?,
+            number: self.number(),
+        })
     }
 
-    /// The world of its node: a copy of the snapshot that takes at most fifteen steps.
+    /// The world of its node: each of its steps is taken, in a new world of a module that asks what the one does that is
+    /// explored.
     ///
     /// # Errors
     ///
     /// `Memory` if there is no memory.
-    pub fn world(&self, alloc: Global) -> Result<World<'m>, WorldFault>
-        ensures at { IfOk result (λ world. IsAt self.now.exploration.program self.now.name.prefix world) }
+    pub fn world<'w>(&self, alloc: Global, program: &'w Module) -> Result<World<'w>, WorldFault>
+        requires { program_of program.now ≡ program_in self.now.exploration }
+        ensures at { IfOk result (λ world. IsAt (program_in self.now.exploration) self.now.name.prefix world) }
+        ensures short { IfOk result (λ _. length self.now.name.prefix ≤ self.now.exploration.depth) }
         ensures memory { IfErr result (λ fault. fault ≡ Memory) }
     {
-        let mut world = self.snapshot.copy()?;
-        let steps = self.name.prefix.as_slice();
-        match world.advance(alloc, &steps[16 * (steps.len() / 16)..]) {
+        let mut world = World::open(alloc, program)?;
+        match world.advance(alloc, self.name.prefix.as_slice()) {
             Ok(()) => Ok(world),
             Err((_, WorldFault::Memory)) => Err(WorldFault::Memory),
             Err((_, WorldFault::NotEnabled)) => unreachable!(),

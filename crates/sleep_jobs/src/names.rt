@@ -4,7 +4,7 @@ ghost use Rattle.std.specs.Prelude.{◌≡◌, IfOk};
 use findings::copy_schedule;
 use std::alloc::{AllocError, Global};
 use std::marker::Model;
-use term_core::Step;
+use term_core::{Pid, Step};
 
 /// What a job is called: the steps that lead to its node, and those that sleep there.
 pub struct JobName {
@@ -61,6 +61,35 @@ impl Model for Ticket {
     ghost view = { λ t. record { number = t.number; name = t.name } };
 }
 
+// A process with memory of its own, or `AllocError` if there is none for it.
+fn own_pid(alloc: Global, pid: &Pid) -> Result<Pid, AllocError>
+    ensures { IfOk result (λ own. own ≡ pid.now) }
+{
+    let numbers = Vec::from_slice(alloc, pid.numbers())?;
+    Pid::new(alloc, numbers)
+}
+
+// A step with memory of its own, or `AllocError` if there is none for it.
+fn own_step(alloc: Global, step: &Step) -> Result<Step, AllocError>
+    ensures { IfOk result (λ own. own ≡ step.now) }
+{
+    match step {
+        Step::Turn(pid) => Ok(Step::Turn(own_pid(alloc, pid)?)),
+        Step::Deliver(from, to) => Ok(Step::Deliver(own_pid(alloc, from)?, own_pid(alloc, to)?)),
+    }
+}
+
+// Steps with memory of their own, or `AllocError` if there is none for them.
+fn own_steps(alloc: Global, steps: &[Step]) -> Result<Vec<Step>, AllocError>
+    ensures { IfOk result (λ own. own.items ≡ steps.now) }
+{
+    let mut own = Vec::with_capacity(alloc, steps.len())?;
+    for step in steps {
+        own.push(own_step(alloc, step)?)?;
+    }
+    Ok(own)
+}
+
 impl JobName {
     /// The same name, or `AllocError` if there is no memory for it.
     pub fn copy(&self, alloc: Global) -> Result<JobName, AllocError>
@@ -69,6 +98,16 @@ impl JobName {
         Ok(JobName {
             prefix: copy_schedule(alloc, self.prefix.as_slice())?,
             slept: copy_schedule(alloc, self.slept.as_slice())?,
+        })
+    }
+
+    /// The same name, which shares no memory with this one, or `AllocError` if there is no memory for it.
+    pub fn own(&self, alloc: Global) -> Result<JobName, AllocError>
+        ensures { IfOk result (λ own. own ≡ self.now) }
+    {
+        Ok(JobName {
+            prefix: own_steps(alloc, self.prefix.as_slice())?,
+            slept: own_steps(alloc, self.slept.as_slice())?,
         })
     }
 }

@@ -1,5 +1,5 @@
 -- What a stack of frames leaves to be visited.
-use Rattle.std.proofs.Common.{◌≡◌, inl, inr, ◌<◌, ◌^◌, ℕ, zero, suc, ◌+◌, ◌-◌, true, List, [], ◌∷◌, ◌++◌, length, filter, not, Option, Some, None, is_some, refl, sym, ap, ◌∙◌, subst, arith, append_assoc, append-nil}
+use Rattle.std.proofs.Common.{◌≡◌, inl, inr, ℕ, zero, suc, ◌+◌, ◌-◌, true, List, [], ◌∷◌, ◌++◌, length, Option, Some, None, is_some, refl, sym, ap, ◌∙◌, subst, arith, append_assoc, append-nil}
 use Rattle.term_core.specs.declared.step.Step.{Step}
 use Rattle.world_core.specs.Seen.{Seen, program_in}
 use Rattle.world_model.specs.Asking.{program_of}
@@ -8,13 +8,11 @@ use Rattle.world_model.specs.Names.{IsAmong}
 use Rattle.world_model.specs.Requests.{Program}
 use Rattle.world_model.specs.Run.{next_event, extended, enabled_steps, schedule_of}
 use Rattle.world_model.proofs.Opened.{listed_enabled}
-use Rattle.coverage.specs.Explored.{same_step}
 use Rattle.coverage.specs.Jobs.{Node, asleep_below, awake_steps, nodes_after, nodes_along, node_at, nodes_from}
 use Rattle.coverage.proofs.Lists.{kept_passes}
-use Rattle.sleep_sets.specs.Search.{is_among}
 use Rattle.sleep_jobs.specs.Explorations.{ExplorationSeen}
-use Rattle.sleep_tree.specs.inside.Frames.{NodeSeen, FrameSeen, own_node, nodes_of_node, nodes_of_frame, nodes_of_frames, AreEnabled, IsFrame, IsNodeOf, IsFrameOf, AreFramesOf, frame_after, others_of, history_below}
-use Rattle.sleep_tree.specs.inside.Snapshots.{IsNode}
+use Rattle.sleep_tree.specs.inside.Frames.{NodeSeen, FrameSeen, own_node, nodes_of_node, nodes_of_frame, nodes_of_frames, AreEnabled, IsFrame, IsNodeOf, IsFrameOf, AreFramesOf, frame_after, others_of}
+use Rattle.sleep_tree.specs.inside.Nodes.{IsNode, history_below}
 use Rattle.sleep_jobs.proofs.Lists.{all_append}
 use Rattle.sleep_jobs.proofs.Runs.{not_none}
 use Rattle.sleep_tree.proofs.Runs.{next_of, longer, one_longer}
@@ -68,10 +66,6 @@ opened_is_of e v line fs gs some now belongs all =
     some_left zero some = absurd (some refl)
     some_left (suc n) some = omega arith
 
--- those of the enabled steps that do not sleep are the steps that are taken
-pub awake_are : (a : Program) (h : History) (enabled given slept : List Step) → enabled ≡ enabled_steps a h → given ≡ slept → filter (λ s. not (is_among same_step given s)) enabled ≡ awake_steps a h slept
-awake_are a h enabled given slept all same = λ i. filter (λ s. not (is_among same_step (same i) s)) (all i)
-
 -- the steps of its line can be taken
 pub awake_enabled : (a : Program) (h : History) (slept line : List Step) → line ≡ awake_steps a h slept → AreEnabled a h line
 awake_enabled a h slept line is s there none =
@@ -81,15 +75,8 @@ awake_enabled a h slept line is s there none =
     some_event None is = absurd cc
     some_event (Some e) is = (e, refl)
 
-pub opened_frame : (w : Seen) (taken left : ℕ) (slept line : List Step) (snapshot : Seen) → IsNode w taken left snapshot → (left ≡ 0 → ⊥) → line ≡ awake_steps (program_in w) w.history slept → IsFrame w taken (left - 1) line snapshot
-opened_frame w taken left slept line snapshot n some is = record {
-  node = record { lives = n.lives; reached = n.reached; counted = n.counted; fits = fits left some n.fits; is_snapshot = n.is_snapshot };
-  enabled = awake_enabled (program_in w) w.history slept line is;
-}
-  where
-    fits : (k : ℕ) → (k ≡ 0 → ⊥) → taken + k < 2 ^ 64 → taken + ((k - 1) + 1) < 2 ^ 64
-    fits zero some less = absurd (some refl)
-    fits (suc k) some less = omega (arith, less)
+pub opened_frame : (w : Seen) (slept line : List Step) → IsNode w → line ≡ awake_steps (program_in w) w.history slept → IsFrame w line
+opened_frame w slept line n is = record { node = n; enabled = awake_enabled (program_in w) w.history slept line is }
 
 -- ---- the next child
 
@@ -157,7 +144,7 @@ pub child_is_of : (e : ExplorationSeen) (f : FrameSeen) (s : Step) (rest : List 
 child_is_of e f s rest v c belongs =
     let next = next_of (program_of f.program) f.history s v.history c.history in
     record {
-      program = c.program ∙ belongs.program;
+      program = ap program_of c.program ∙ belongs.program;
       deep = omega (arith, one_longer (program_of f.program) f.history s v.history next, belongs.deep, c.left);
     }
 
@@ -177,9 +164,9 @@ others_are_of e f (s ∷ []) fs gs now belongs all = subst (AreFramesOf e) (sym 
 others_are_of e f (s ∷ t ∷ rest) fs gs now belongs all = more_are_of e f s (t ∷ rest) fs gs now belongs all
 
 -- its line can be taken
-pub frame_goes_on : (w : Seen) (taken left : ℕ) (s : Step) (line rest : List Step) (snapshot : Seen) → line ≡ rest → IsFrame w taken left (s ∷ line) snapshot → IsFrame w taken left rest snapshot
-frame_goes_on w taken left s line rest snapshot is f =
+pub frame_goes_on : (w : Seen) (s : Step) (line rest : List Step) → line ≡ rest → IsFrame w (s ∷ line) → IsFrame w rest
+frame_goes_on w s line rest is f =
     record { node = f.node; enabled = λ t there. f.enabled t (inr (subst (IsAmong t) (sym is) there)) }
 
-pub first_enabled : (w : Seen) (taken left : ℕ) (s : Step) (line : List Step) (snapshot : Seen) → IsFrame w taken left (s ∷ line) snapshot → next_event (program_in w) w.history s ≡ None → ⊥
-first_enabled w taken left s line snapshot f = f.enabled s (inl refl)
+pub first_enabled : (w : Seen) (s : Step) (line : List Step) → IsFrame w (s ∷ line) → next_event (program_in w) w.history s ≡ None → ⊥
+first_enabled w s line f = f.enabled s (inl refl)

@@ -1,6 +1,8 @@
 pub mod Runs
-pub mod Snapshots
+pub mod Nodes
+pub mod Asleep
 pub mod Frames
 pub mod Pieces
 pub mod Children
 pub mod Agendas
+pub mod Leaves

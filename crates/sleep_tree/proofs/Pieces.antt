@@ -32,12 +32,12 @@ abbrev pub Adds : ExplorationSeen → NodeSeen → Findings → Findings → Typ
 Adds e v old new = (done : List Node) → old ≡ findings_of e done → new ≡ findings_of e (done ++ own_node v ∷ [])
 
 -- a visit that adds what the world shows does so
-pub node_adds : (e : ExplorationSeen) (w : Seen) (slept : List Step) (left : ℕ) (flags : Flags) (f g : Findings) (done : List Node) → e.flags ≡ flags → w.program ≡ e.program → run (program_of w.program) (schedule_of w.history) ≡ Some w.history → AddsSchedule flags (schedule_of w.history) (shown (program_of w.program) w.history) f g → f ≡ findings_of e done → g ≡ findings_of e (done ++ own_node (record { program = w.program; history = w.history; slept = slept; left = left }) ∷ [])
+pub node_adds : (e : ExplorationSeen) (w : Seen) (slept : List Step) (left : ℕ) (flags : Flags) (f g : Findings) (done : List Node) → e.flags ≡ flags → program_of w.program ≡ program_in e → run (program_of w.program) (schedule_of w.history) ≡ Some w.history → AddsSchedule flags (schedule_of w.history) (shown (program_of w.program) w.history) f g → f ≡ findings_of e done → g ≡ findings_of e (done ++ own_node (record { program = w.program; history = w.history; slept = slept; left = left }) ∷ [])
 node_adds e w slept left flags f g done same belongs runs adds old =
     let own : NodeSeen = record { program = w.program; history = w.history; slept = slept; left = left } in
     let s = schedule_of w.history in
-    adds (program_of w.program) (schedules_of done) w.history runs refl (old ∙ (λ i. findings_among (same i) (program_of (sym belongs i)) (schedules_of done)))
-    ∙ (λ i. findings_among (sym same i) (program_of (belongs i)) (schedules_of done ++ s ∷ []))
+    adds (program_of w.program) (schedules_of done) w.history runs refl (old ∙ (λ i. findings_among (same i) (sym belongs i) (schedules_of done)))
+    ∙ (λ i. findings_among (sym same i) (belongs i) (schedules_of done ++ s ∷ []))
     ∙ ap (findings_among e.flags (program_in e)) (sym (map_join (λ (v : Node). v.schedule) done (own_node own ∷ [])))
 
 -- the first visit

@@ -1,3 +1,4 @@
 pub mod Codes
-pub mod Snapshots
+pub mod Nodes
 pub mod Frames
+pub mod Leaves

@@ -1,45 +1,46 @@
 // A child of a node that was visited: it is visited next, or left to a job.
 ghost use Rattle.std.specs.Prelude.{◌≡◌, IfOk};
 ghost use Rattle.sleep_jobs.specs.Explorations.{exploration_in, nodes_of};
-ghost use Rattle.sleep_tree.specs.inside.Frames.{IsNodeOf, nodes_of_node};
+ghost use Rattle.sleep_tree.specs.inside.Frames.{IsNodeOf, IsWorldOf, nodes_of_node};
 
-use crate::node::{Node, snapshot_below};
+use crate::node::{Node, stepped};
+use crate::sleeping::steps_of;
 use sleep_jobs::{Exploration, Job, JobName};
 use std::alloc::Global;
 use std::marker::Model;
 use std::rc::Rc;
-use std::sync::Arc;
-use step_agenda::Agenda;
-use term_core::Step;
+use step_agenda::{Agenda, Plan};
 use world_core::{World, WorldFault};
 
-/// A child: the world of the node above it, how many steps led there, the steps that sleep for the child, the step to
-/// it, how many steps may follow it, and the snapshot and the agenda of the node above.
+/// A child: the world of the node above it, the plans of the steps that sleep for the child, that of the step to it, how
+/// many steps may follow it, and the agenda of the node above.
 #[derive(Drop)]
 pub(crate) struct Child<'m> {
     pub(crate) above: World<'m>,
-    pub(crate) taken: u64,
-    pub(crate) slept: Vec<Step>,
-    pub(crate) step: Step,
+    pub(crate) slept: Vec<Rc<Plan>>,
+    pub(crate) plan: Rc<Plan>,
     pub(crate) left: u64,
-    pub(crate) snapshot: Arc<World<'m>>,
     pub(crate) agenda: Rc<Agenda>,
 }
 
 impl<'m> Model for Child<'m> {
-    ghost use Rattle.step_agenda.specs.Plans.{IsAgenda};
+    ghost use Rattle.step_agenda.specs.Plans.{ArePlans, IsAgenda, IsPlan, steps_in};
     ghost use Rattle.world_core.specs.Seen.{program_in};
     ghost use Rattle.world_model.specs.Run.{next_event};
     ghost use Rattle.sleep_tree.specs.inside.Codes.{coded_node};
-    ghost use Rattle.sleep_tree.specs.inside.Frames.{NodeSeen, IsChildOf, history_below};
+    ghost use Rattle.sleep_tree.specs.inside.Frames.{NodeSeen, IsChildOf};
+    ghost use Rattle.sleep_tree.specs.inside.Nodes.{history_below};
 
     ghost Value = { NodeSeen };
 
     ghost coded = { coded_node };
 
-    ghost view = { λ c. record { program = c.above.program; history = history_below c.above.history (next_event (program_in c.above) c.above.history c.step); slept = c.slept.items; left = c.left } };
+    ghost view = { λ c. record { program = c.above.program; history = history_below c.above.history (next_event (program_in c.above) c.above.history c.plan.value.step); slept = steps_in c.slept.items; left = c.left } };
 
-    ghost invariant = { λ c. IsChildOf c.above c.taken c.left c.step c.snapshot.value × IsAgenda (program_in c.above) c.above.history c.agenda.value };
+    ghost invariant = { λ c. IsChildOf c.above c.plan.value.step
+        × IsAgenda (program_in c.above) c.above.history c.agenda.value
+        × IsPlan (program_in c.above) c.above.history c.plan.value
+        × ArePlans (program_in c.above) (history_below c.above.history (next_event (program_in c.above) c.above.history c.plan.value.step)) c.slept.items };
 }
 
 impl<'m> Child<'m> {
@@ -49,39 +50,49 @@ impl<'m> Child<'m> {
     {
         let Child {
             above,
-            taken,
             slept,
-            step,
+            plan,
             left,
-            snapshot,
             agenda,
         } = self;
-        let node = Node::below(alloc, above, taken, slept, &step, left, snapshot, &agenda)?;
+        let node = Node::below(alloc, above, slept, &plan, left, &agenda)?;
         Ok(node)
     }
 
+    /// Its world: the step is taken. `Memory` where there is none.
+    pub(crate) fn into_world(self, alloc: Global) -> Result<World<'m>, WorldFault>
+        ensures { IfOk result (λ world. IsWorldOf self.entry world) }
+    {
+        let Child {
+            above,
+            slept: _,
+            plan,
+            left: _,
+            agenda: _,
+        } = self;
+        stepped(alloc, above, &plan.step)
+    }
+
     /// The job of it, which is not visited. `Memory` where there is none.
-    pub(crate) fn leave(
+    pub(crate) fn leave<'e>(
         self,
         alloc: Global,
-        exploration: Exploration<'m>,
-    ) -> Result<Job<'m>, WorldFault>
+        exploration: Exploration<'e>,
+    ) -> Result<Job<'e>, WorldFault>
         requires { IsNodeOf (exploration_in exploration) self }
         ensures nodes { IfOk result (λ job. nodes_of (exploration_in exploration.entry) job.name ≡ nodes_of_node self.entry) }
         ensures exploration { IfOk result (λ job. job.exploration ≡ exploration_in exploration.entry) }
     {
         let Child {
             above,
-            taken,
             slept,
-            step,
+            plan,
             left: _,
-            snapshot,
             agenda: _,
         } = self;
         let mut prefix = above.schedule(alloc)?;
-        let snapshot = snapshot_below(alloc, above, taken, &step, snapshot)?;
-        prefix.push(step)?;
-        Ok(Job::of_node(exploration, JobName { prefix, slept }, snapshot))
+        prefix.push(plan.step.copy()?)?;
+        let slept = steps_of(alloc, slept.as_slice())?;
+        Ok(Job::of_node(exploration, JobName { prefix, slept }))
     }
 }

@@ -1,14 +1,16 @@
 // The expansion of a job.
 ghost use Rattle.std.specs.Prelude.{◌≡◌, ◌≤◌, IfOk, IfErr};
-ghost use Rattle.sleep_jobs.specs.Explorations.{exploration_in, nodes_of_all};
+ghost use Rattle.sleep_jobs.specs.Explorations.{exploration_in, nodes_of_all, program_in};
 ghost use Rattle.sleep_jobs.specs.Meanings.{AreOfJob};
 ghost use Rattle.sleep_jobs.specs.Pieces.{AreOf, IsPiece};
 ghost use Rattle.sleep_tree.specs.inside.Frames.{AreFramesOf, nodes_of_frames};
+ghost use Rattle.world_model.specs.Asking.{program_of};
 
 use crate::frame::{Frame, next_child};
 use crate::gate::Gate;
 use crate::node::Node;
 use crate::visit::{visit, visit_next};
+use core_tree::Module;
 use findings::Findings;
 use sleep_jobs::{Exploration, Job, JobName, Piece, Ticket};
 use std::alloc::Global;
@@ -26,7 +28,7 @@ struct Done<'m> {
 fn rest_of<'m>(
     alloc: Global,
     exploration: Exploration<'m>,
-    frames: Vec<Frame<'m>>,
+    frames: Vec<Frame<'_>>,
 ) -> Result<Vec<Job<'m>>, WorldFault>
     requires { AreFramesOf (exploration_in exploration) frames.items }
     ensures nodes { IfOk result (λ rest. nodes_of_all (exploration_in exploration.entry) rest.items ≡ nodes_of_frames frames.entry.items) }
@@ -45,18 +47,21 @@ fn rest_of<'m>(
 /// Visits at most so many nodes of a job, depth first, at least one. `Memory` where there is none.
 fn expanded<'m, G: Gate>(
     alloc: Global,
+    program: &Module,
     job: &Job<'m>,
     budget: u64,
     gate: &G,
 ) -> Result<Done<'m>, WorldFault>
-    requires { 1 ≤ budget }
+    requires some { 1 ≤ budget }
+    requires program { program_of program.now ≡ program_in job.now.exploration }
     ensures piece { IfOk result (λ done. IsPiece job.now.exploration job.now.name done.findings done.nodes done.rest.items) }
     ensures nodes { IfOk result (λ done. (1 ≤ done.nodes) × (done.nodes ≤ budget)) }
 {
     let exploration = job.exploration();
     let mut findings = Findings::new(alloc);
     let mut frames = Vec::new(alloc);
-    let first = Node::of_job(alloc, job)?;
+    let own = job.own(alloc)?;
+    let first = Node::of_job(alloc, program, &own)?;
     gate.turn(job.number());
     visit(alloc, exploration.flags, first, &mut findings, &mut frames)?;
     let mut nodes = 1;
@@ -77,18 +82,21 @@ fn expanded<'m, G: Gate>(
 }
 
 /// Visits at most `budget` nodes of a job, depth first, at least one: the nodes of the job are those, and then those of
-/// the jobs that are left.
+/// the jobs that are left. Worlds are made of the module, which asks what the explored one does, and of a copy of the
+/// job's name, and are gone at the end: so who has a module of its own shares no memory with others meanwhile.
 ///
 /// # Errors
 ///
 /// What the job is called, where there was no memory.
 pub fn expand<'m, G: Gate>(
     alloc: Global,
+    program: &Module,
     job: Job<'m>,
     budget: u64,
     gate: &G,
 ) -> Result<Piece<'m>, JobName>
-    requires { 1 ≤ budget }
+    requires some { 1 ≤ budget }
+    requires program { program_of program.now ≡ program_in job.exploration }
     ensures ticket { IfOk result (λ piece. piece.ticket ≡ record { number = job.entry.number; name = job.entry.name }) }
     ensures exploration { IfOk result (λ piece. piece.exploration ≡ job.entry.exploration) }
     ensures piece { IfOk result (λ piece. IsPiece job.entry.exploration job.entry.name piece.findings piece.nodes piece.rest) }
@@ -96,7 +104,7 @@ pub fn expand<'m, G: Gate>(
     ensures nodes { IfOk result (λ piece. (1 ≤ piece.nodes) × (piece.nodes ≤ budget)) }
     ensures refused { IfErr result (λ name. name ≡ job.entry.name) }
 {
-    let Ok(done) = expanded(alloc, &job, budget, gate) else {
+    let Ok(done) = expanded(alloc, program, &job, budget, gate) else {
         return Err(job.into_name());
     };
     let Done {

@@ -1,33 +1,27 @@
 // A node that was visited, and whose children were not all.
 ghost use Rattle.std.specs.Prelude.{◌≡◌, ◌∷◌, ◌++◌, true, IfOk, OnOk};
 ghost use Rattle.sleep_jobs.specs.Explorations.{ExplorationSeen};
-ghost use Rattle.sleep_tree.specs.inside.Frames.{nodes_of_frame, nodes_of_frames, nodes_of_node, own_node, others_of, AreFramesOf, IsFrameOf, IsNodeOf, IsPlainBelow};
-ghost use Rattle.world_model.specs.Asking.{program_of};
-ghost use Rattle.world_model.specs.Run.{enabled_steps};
+ghost use Rattle.sleep_tree.specs.inside.Frames.{nodes_of_frame, nodes_of_frames, nodes_of_node, own_node, others_of, AreFramesOf, IsFrameOf, IsNodeOf};
+ghost use Rattle.sleep_tree.specs.inside.Leaves.{IsLedTo, IsQuietBelow, LivesBelow};
 
 use crate::child::Child;
 use crate::node::Node;
-use crate::sleeping::{awake_backwards, sleep_below};
+use crate::sleeping::sleep_below;
 use std::alloc::Global;
 use std::marker::Model;
 use std::rc::Rc;
-use std::sync::Arc;
-use step_agenda::{Agenda, is_quiet};
-use term_core::Step;
+use step_agenda::{Agenda, Plan, is_quiet};
 use world_core::{World, WorldFault};
 
-/// A node that was visited: its world, how many steps led to it, the steps that sleep for its next child, the step to
-/// that child, the steps to the children after it, the last one first, how many steps may follow a child, the snapshot
-/// for its world, and its agenda.
+/// A node that was visited: its world, the steps that sleep for its next child, the step to that child, the steps to the
+/// children after it, the last one first, how many steps may follow a child, and its agenda.
 #[derive(Drop)]
 pub(crate) struct Frame<'m> {
     world: World<'m>,
-    taken: u64,
-    slept: Vec<Step>,
-    next: Step,
-    after: Vec<Step>,
+    slept: Vec<Rc<Plan>>,
+    next: Rc<Plan>,
+    after: Vec<Rc<Plan>>,
     left: u64,
-    snapshot: Arc<World<'m>>,
     agenda: Rc<Agenda>,
 }
 
@@ -35,54 +29,50 @@ impl<'m> Model for Frame<'m> {
     ghost use Rattle.std.specs.Prelude.{◌∷◌, reverse};
     ghost use Rattle.sleep_tree.specs.inside.Codes.{coded_frame};
     ghost use Rattle.sleep_tree.specs.inside.Frames.{FrameSeen, IsFrame};
-    ghost use Rattle.step_agenda.specs.Plans.{IsAgenda};
+    ghost use Rattle.step_agenda.specs.Plans.{ArePlans, IsAgenda, steps_in};
     ghost use Rattle.world_core.specs.Seen.{program_in};
 
     ghost Value = { FrameSeen };
 
     ghost coded = { coded_frame };
 
-    ghost view = { λ f. record { program = f.world.program; history = f.world.history; slept = f.slept.items; line = f.next ∷ reverse f.after.items; left = f.left } };
+    ghost view = { λ f. record { program = f.world.program; history = f.world.history; slept = steps_in f.slept.items; line = steps_in (f.next ∷ reverse f.after.items); left = f.left } };
 
-    ghost invariant = { λ f. IsFrame f.world f.taken f.left (f.next ∷ reverse f.after.items) f.snapshot.value × IsAgenda (program_in f.world) f.world.history f.agenda.value };
+    ghost invariant = { λ f. IsFrame f.world (steps_in (f.next ∷ reverse f.after.items))
+        × IsAgenda (program_in f.world) f.world.history f.agenda.value
+        × ArePlans (program_in f.world) f.world.history f.slept.items
+        × ArePlans (program_in f.world) f.world.history (f.next ∷ reverse f.after.items) };
 }
 
-/// Puts the node's frame on the stack, where it has children; these are the steps that are enabled there. `Memory`
-/// where there is none.
+/// Puts the node's frame on the stack, where it has children. `Memory` where there is none.
 pub(crate) fn open<'m>(
     alloc: Global,
     node: Node<'m>,
-    enabled: Vec<Step>,
     frames: &mut Vec<Frame<'m>>,
 ) -> Result<(), WorldFault>
-    requires { enabled.items ≡ enabled_steps (program_of node.program) node.history }
     ensures nodes { OnOk result (nodes_of_node node.entry ++ nodes_of_frames frames.old.items ≡ own_node node.entry ∷ nodes_of_frames frames.new.items) }
     ensures are_of { OnOk result ((e : ExplorationSeen) → IsNodeOf e node.entry → AreFramesOf e frames.old.items → AreFramesOf e frames.new.items) }
 {
     let Node {
         world,
-        taken,
         slept,
         left,
-        snapshot,
         agenda,
     } = node;
     if left == 0 {
         return Ok(());
     }
-    let mut after = awake_backwards(alloc, enabled, slept.as_slice())?;
+    let mut after = agenda.awake_backwards(alloc, slept.as_slice())?;
     let Some(next) = after.pop() else {
         return Ok(());
     };
     let agenda = Rc::new(alloc, agenda)?;
     frames.push(Frame {
         world,
-        taken,
         slept,
         next,
         after,
         left: left - 1,
-        snapshot,
         agenda,
     })?;
     Ok(())
@@ -98,12 +88,10 @@ pub(crate) fn put_others<'m>(
 {
     let Frame {
         world,
-        taken,
         slept,
         next,
         after,
         left,
-        snapshot,
         agenda,
     } = frame;
     let mut after = after;
@@ -114,12 +102,10 @@ pub(crate) fn put_others<'m>(
     slept.push(next)?;
     frames.push(Frame {
         world,
-        taken,
         slept,
         next: following,
         after,
         left,
-        snapshot,
         agenda,
     })?;
     Ok(())
@@ -134,38 +120,33 @@ pub(crate) fn next_child<'m>(
 ) -> Result<Child<'m>, WorldFault>
     ensures nodes { IfOk result (λ child. nodes_of_frame frame.entry ++ nodes_of_frames frames.old.items ≡ nodes_of_node child ++ nodes_of_frames frames.new.items) }
     ensures are_of { IfOk result (λ child. (e : ExplorationSeen) → IsFrameOf e frame.entry → AreFramesOf e frames.old.items → IsNodeOf e child × AreFramesOf e frames.new.items) }
+    ensures led_to { IfOk result (IsLedTo frame.entry) }
 {
     let slept = frame.slept.as_slice();
-    let asleep = sleep_below(alloc, &frame.agenda, slept, &frame.next, frame.left)?;
+    let asleep = sleep_below(alloc, slept, &frame.next, frame.left)?;
     let others = frame.after.len();
     if others == 0 {
         let Frame {
             world,
-            taken,
             slept: _,
             next,
             after: _,
             left,
-            snapshot,
             agenda,
         } = frame;
         return Ok(Child {
             above: world,
-            taken,
             slept: asleep,
-            step: next,
+            plan: next,
             left,
-            snapshot,
             agenda,
         });
     }
     let child = Child {
         above: frame.world.copy()?,
-        taken: frame.taken,
         slept: asleep,
-        step: frame.next.copy()?,
+        plan: frame.next.clone()?,
         left: frame.left,
-        snapshot: Arc::try_clone(&frame.snapshot)?,
         agenda: frame.agenda.clone()?,
     };
     put_others(frame, frames)?;
@@ -187,14 +168,25 @@ pub(crate) fn descend<'m>(
 }
 
 impl Frame<'_> {
-    /// Whether it is plain without the world of the next child that this shows nothing and has no children: it lies at
-    /// the depth, its event shows nothing, and some step is enabled there. `Memory` where there is none to tell.
-    pub(crate) fn leads_to_a_plain_leaf(&self, alloc: Global) -> Result<bool, WorldFault>
-        ensures { IfOk result (λ plain. plain ≡ true → IsPlainBelow self.now) }
+    /// Whether its next child lies at the depth. It takes no memory.
+    pub(crate) fn leads_to_a_leaf(&self) -> bool
+        ensures { result ≡ true → self.now.left ≡ 0 }
     {
-        if self.left != 0 || !self.agenda.lives_below(&self.next) {
-            return Ok(false);
-        }
-        Ok(is_quiet(self.world.records(), alloc, &self.next)?)
+        self.left == 0
+    }
+
+    /// Whether it is plain without the world of the next child that some step is enabled there. It takes no memory.
+    pub(crate) fn lives_below(&self) -> bool
+        ensures { result ≡ true → LivesBelow self.now }
+    {
+        self.agenda.lives_below(&self.next)
+    }
+
+    /// Whether it is plain without the world of the next child that its event shows nothing. `Memory` where there is none
+    /// to tell.
+    pub(crate) fn is_quiet_below(&self, alloc: Global) -> Result<bool, WorldFault>
+        ensures { IfOk result (λ quiet. quiet ≡ true → IsQuietBelow self.now) }
+    {
+        Ok(is_quiet(self.world.records(), alloc, &self.next.step)?)
     }
 }

@@ -1,34 +1,51 @@
 // The visit of a node.
-ghost use Rattle.std.specs.Prelude.{◌≡◌, ◌∷◌, ◌++◌, [], List, false, OnOk};
+ghost use Rattle.std.specs.Prelude.{◌≡◌, ◌∷◌, ◌++◌, [], List, true, IfOk, OnOk, map, option_map};
 ghost use Rattle.coverage.specs.Jobs.{Node as Visited};
-ghost use Rattle.findings.specs.Identities.{flags_in};
+ghost use Rattle.findings.specs.Identities.{flags_in, identity_in};
 ghost use Rattle.findings.specs.Laws.{AddsSchedule};
 ghost use Rattle.world_core.specs.Seen.{program_in};
 ghost use Rattle.world_model.specs.Run.{enabled_steps, schedule_of};
 ghost use Rattle.world_model.specs.Shown.{shown as shown_of};
 ghost use Rattle.sleep_jobs.specs.Explorations.{ExplorationSeen, findings_of};
+ghost use Rattle.sleep_tree.specs.inside.Leaves.{IsLife, LivesBelow};
 ghost use Rattle.sleep_tree.specs.inside.Frames.{nodes_of_frames, nodes_of_node, own_node, AreFramesOf, IsNodeOf, VisitsNext};
 
-use crate::frame::{Frame, descend, open, put_others};
+use crate::frame::{Frame, descend, next_child, open, put_others};
 use crate::node::Node;
-use findings::{Findings, Flags};
+use findings::{Findings, Flags, Identity};
 use std::alloc::Global;
+use std::slice::from_ref;
 use term_core::Step;
 use world_core::{World, WorldFault};
 
-/// Adds what a world shows where these steps are enabled. Its schedule is made only where it shows something. `Memory`
-/// where there is none.
+/// What a world shows where this step is enabled, or none is. `Memory` where there is none.
+fn shown_where(
+    alloc: Global,
+    world: &World<'_>,
+    enabled: Option<&Step>,
+) -> Result<Vec<Identity>, WorldFault>
+    requires { IsLife (option_map (λ step. step.now) enabled) (enabled_steps (program_in world.now) world.now.history) }
+    ensures { IfOk result (λ found. map identity_in found.items ≡ shown_of (program_in world.now) world.now.history) }
+{
+    match enabled {
+        Some(step) => world.errors_among(alloc, from_ref(step)),
+        None => world.errors_among(alloc, &[]),
+    }
+}
+
+/// Adds what a world shows where this step is enabled, or none is. Its schedule is made only where it shows something.
+/// `Memory` where there is none.
 fn report(
     alloc: Global,
     flags: Flags,
     world: &World<'_>,
-    enabled: &[Step],
+    enabled: Option<&Step>,
     findings: &mut Findings,
 ) -> Result<(), WorldFault>
-    requires { enabled.now ≡ enabled_steps (program_in world.now) world.now.history }
+    requires { IsLife (option_map (λ step. step.now) enabled) (enabled_steps (program_in world.now) world.now.history) }
     ensures { OnOk result (AddsSchedule (flags_in flags) (schedule_of world.now.history) (shown_of (program_in world.now) world.now.history) findings.old findings.new) }
 {
-    let identities = world.errors_among(alloc, enabled)?;
+    let identities = shown_where(alloc, world, enabled)?;
     let shown = identities.as_slice();
     if shown.len() == 0 {
         return Ok(());
@@ -50,14 +67,45 @@ pub(crate) fn visit<'m>(
     ensures nodes { OnOk result (nodes_of_node node.entry ++ nodes_of_frames frames.old.items ≡ own_node node.entry ∷ nodes_of_frames frames.new.items) }
     ensures are_of { OnOk result ((e : ExplorationSeen) → IsNodeOf e node.entry → AreFramesOf e frames.old.items → AreFramesOf e frames.new.items) }
 {
-    let enabled = node.agenda.enabled(alloc)?;
-    report(alloc, flags, &node.world, enabled.as_slice(), findings)?;
-    open(alloc, node, enabled, frames)?;
+    report(
+        alloc,
+        flags,
+        &node.world,
+        node.agenda.first_enabled(),
+        findings,
+    )?;
+    open(alloc, node, frames)?;
     Ok(())
 }
 
-/// Visits the next child of a frame, whose other children go back on the stack: where it is plain that it shows nothing
-/// and has no children, without its world. `Memory` where there is none.
+/// Visits the next child of a frame, which lies at the depth, with its world and without an agenda; the other children go
+/// back on the stack. It may be known that some step is enabled there. `Memory` where there is none.
+fn visit_leaf<'m>(
+    alloc: Global,
+    flags: Flags,
+    frame: Frame<'m>,
+    lives: bool,
+    findings: &mut Findings,
+    frames: &mut Vec<Frame<'m>>,
+) -> Result<(), WorldFault>
+    requires at_depth { frame.left ≡ 0 }
+    requires lives { lives ≡ true → LivesBelow frame }
+    ensures { OnOk result (VisitsNext (flags_in flags) frame.entry frames.old.items findings.old frames.new.items findings.new) }
+{
+    let child = next_child(alloc, frame, frames)?;
+    let step = child.plan.step.copy()?;
+    let world = child.into_world(alloc)?;
+    if lives {
+        report(alloc, flags, &world, Some(&step), findings)?;
+        return Ok(());
+    }
+    let enabled = world.enabled(alloc)?;
+    report(alloc, flags, &world, enabled.as_slice().first(), findings)?;
+    Ok(())
+}
+
+/// Visits the next child of a frame, whose other children go back on the stack. At the depth no agenda is made for it, and
+/// no world where it is plain that it shows nothing. `Memory` where there is none.
 pub(crate) fn visit_next<'m>(
     alloc: Global,
     flags: Flags,
@@ -67,9 +115,13 @@ pub(crate) fn visit_next<'m>(
 ) -> Result<(), WorldFault>
     ensures { OnOk result (VisitsNext (flags_in flags) frame.entry frames.old.items findings.old frames.new.items findings.new) }
 {
-    if frame.leads_to_a_plain_leaf(alloc)? {
-        put_others(frame, frames)?;
-        return Ok(());
+    if frame.leads_to_a_leaf() {
+        let lives = frame.lives_below();
+        if lives && frame.is_quiet_below(alloc)? {
+            put_others(frame, frames)?;
+            return Ok(());
+        }
+        return visit_leaf(alloc, flags, frame, lives, findings, frames);
     }
     let node = descend(alloc, frame, frames)?;
     visit(alloc, flags, node, findings, frames)?;

@@ -1,43 +1,60 @@
 -- What is found in an agenda.
-use Rattle.std.proofs.Common.{◌≡◌, ◌∙◌, ◌<◌, ◌+◌, ℕ, Bool, true, false, ◌||◌, cond, List, [], ◌∷◌, ◌++◌, Some, get_or, length, take, map, refl, sym, ap, subst, true≢false}
-use Rattle.std.specs.List.{filter}
+use Rattle.std.proofs.Common.{◌≡◌, ◌∙◌, inl, inr, ◌<◌, ◌≤◌, ◌+◌, ℕ, Bool, true, false, ◌||◌, cond, not, List, [], ◌∷◌, ◌++◌, None, Some, drop, get_or, length, take, map, refl, sym, ap, subst, true≢false}
+use Rattle.std.specs.List.{AllByRecursion, filter}
 use Rattle.std.specs.Prelude.{◌&&◌}
-use Rattle.std.proofs.lemmas.List.{take_more}
+use Rattle.std.proofs.lemmas.List.{drop_all, drop_more, take_all, take_more}
 use Rattle.std.proofs.lemmas.Cmp.{tied_itself}
 use Rattle.std.specs.Ordering.{is_eq}
 use Rattle.term_core.specs.inside.StepOrderLaws.{steps_total}
 use Rattle.term_core.specs.declared.step.Step.{Step}
 use Rattle.world_model.specs.Events.{Event, History}
-use Rattle.world_model.specs.Independence.{Footprint, are_apart, are_independent, footprint, some_meet}
+use Rattle.world_model.specs.Independence.{footprint, some_meet}
 use Rattle.world_model.specs.Names.{IsAmong}
 use Rattle.world_model.specs.Requests.{Program}
 use Rattle.world_model.specs.Run.{enabled_steps, is_enabled, next_event}
+use Rattle.world_model.specs.Signals.{first_of}
 use Rattle.world_model.proofs.Opened.{enabled_listed}
 use Rattle.coverage.specs.Explored.{same_step}
 use Rattle.coverage.proofs.Lists.{found_by}
 use Rattle.sleep_sets.specs.Search.{is_among}
 use Rattle.step_indep.specs.Cells.{cells_in}
-use Rattle.step_indep.specs.Footprints.{footprint_in}
-use Rattle.step_indep.specs.declared.footprints.Footprint as held
-use Rattle.step_agenda.specs.Plans.{ArePlans, IsAgenda, IsPlan, Shared, enabled_in}
+use Rattle.step_agenda.specs.Plans.{ArePlans, IsAgenda, IsPlan, Shared, enabled_in, steps_in}
 use Rattle.step_agenda.specs.declared.agenda.Agenda.{Agenda}
 use Rattle.step_agenda.specs.declared.plan.Plan.{Plan}
-use Rattle.step_agenda.proofs.Putting.{all_held, enabled_append, held_at, mapped_if}
+use Rattle.step_agenda.proofs.Putting.{all_append, all_held, held_at}
 use Rattle.step_agenda.proofs.Settling.{plan_stays, writes_are}
 
 -- a plan of an agenda
 pub plan_at : (a : Program) (h : History) (g : Agenda) (plans : List Shared) (i : ℕ) (p : Shared) → plans ≡ g.plans.items → i < length plans → p ≡ get_or plans i p → IsAgenda a h g → IsPlan a h p.value
 plan_at a h g plans i p same within at is = all_held (λ (q : Shared). IsPlan a h q.value) p plans (subst (ArePlans a h) (sym same) is.plans) (held_at plans i p within at)
 
--- ---- the steps that are enabled, one after the other
+-- ---- the first of those that are enabled
 
-pub listed_more : (plans : List Shared) (i : ℕ) (p : Shared) (old new : List Step) → i < length plans → p ≡ get_or plans i p → old ≡ enabled_in (take i plans) → new ≡ old ++ cond p.value.enabled (p.value.step ∷ []) [] → new ≡ enabled_in (take (i + 1) plans)
-listed_more plans i p old new within at was now =
-    now
-    ∙ (λ j. was j ++ cond p.value.enabled (p.value.step ∷ []) [])
-    ∙ ap (λ steps. enabled_in (take i plans) ++ steps) (sym (mapped_if p.value.enabled p))
-    ∙ sym (enabled_append (take i plans) (p ∷ []))
-    ∙ ap enabled_in (ap (λ q. take i plans ++ q ∷ []) at ∙ sym (take_more plans i p within))
+split_at : {X : Type 0} (xs : List X) (i : ℕ) (x : X) → i < length xs → x ≡ get_or xs i x → drop i xs ≡ x ∷ drop (i + 1) xs
+split_at xs i x within at = drop_more xs i x within ∙ ap (λ y. y ∷ drop (i + 1) xs) (sym at)
+
+off_first : (p : Shared) (ps : List Shared) → p.value.enabled ≡ false → enabled_in (p ∷ ps) ≡ enabled_in ps
+off_first p ps off = ap (λ b. map (λ (q : Shared). q.value.step) (cond b (p ∷ filter (λ (q : Shared). q.value.enabled) ps) (filter (λ (q : Shared). q.value.enabled) ps))) off
+
+on_first : (p : Shared) (ps : List Shared) → p.value.enabled ≡ true → enabled_in (p ∷ ps) ≡ p.value.step ∷ enabled_in ps
+on_first p ps on = ap (λ b. map (λ (q : Shared). q.value.step) (cond b (p ∷ filter (λ (q : Shared). q.value.enabled) ps) (filter (λ (q : Shared). q.value.enabled) ps))) on
+
+pub none_so_far : (plans : List Shared) (i : ℕ) (p : Shared) → i < length plans → p ≡ get_or plans i p → p.value.enabled ≡ false → enabled_in plans ≡ enabled_in (drop i plans) → enabled_in plans ≡ enabled_in (drop (i + 1) plans)
+none_so_far plans i p within at off so_far = so_far ∙ ap enabled_in (split_at plans i p within at) ∙ off_first p (drop (i + 1) plans) off
+
+pub first_found : (a : Program) (h : History) (g : Agenda) (plans : List Shared) (i : ℕ) (p : Shared) → plans ≡ g.plans.items → i < length plans → p ≡ get_or plans i p → p.value.enabled ≡ true → enabled_in plans ≡ enabled_in (drop i plans) → IsAgenda a h g → Some p.value.step ≡ first_of (enabled_steps a h)
+first_found a h g plans i p same within at on so_far is =
+    ap first_of (sym (so_far ∙ ap enabled_in (split_at plans i p within at) ∙ on_first p (drop (i + 1) plans) on) ∙ ap enabled_in same ∙ is.enabled)
+
+pub none_found : (a : Program) (h : History) (g : Agenda) (plans : List Shared) (i : ℕ) → plans ≡ g.plans.items → length plans ≤ i → enabled_in plans ≡ enabled_in (drop i plans) → IsAgenda a h g → None ≡ first_of (enabled_steps a h)
+none_found a h g plans i same within so_far is =
+    ap first_of (sym (so_far ∙ ap enabled_in (drop_all i plans within)) ∙ ap enabled_in same ∙ is.enabled)
+
+-- ---- those that are enabled and do not sleep
+
+-- the steps that are enabled and are not among these
+abbrev pub awake_in : List Shared → List Shared → List Step
+awake_in slept plans = filter (λ s. not (is_among same_step (steps_in slept) s)) (enabled_in plans)
 
 -- ---- a step that is enabled, or is not
 
@@ -64,36 +81,49 @@ off_if a h s false off none = refl
 pub not_enabled : (a : Program) (h : History) (g : Agenda) (s : Step) → is_among same_step (enabled_in g.plans.items) s ≡ false → IsAgenda a h g → is_enabled a h s ≡ false
 not_enabled a h g s none is = off_if a h s (is_enabled a h s) refl (ap (λ steps. is_among same_step steps s) (sym is.enabled) ∙ none)
 
--- what the plan of a step says
-pub footprint_at : (a : Program) (h : History) (p : Plan) (s : Step) → IsPlan a h p → p.step ≡ s → footprint_in p.footprint ≡ footprint a h s
-footprint_at a h p s is same = is.footprint ∙ ap (footprint a h) same
-
-pub enabled_at : (a : Program) (h : History) (p : Plan) (s : Step) → IsPlan a h p → p.step ≡ s → p.enabled ≡ true → is_enabled a h s ≡ true
-enabled_at a h p s is same on = ap (is_enabled a h) (sym same) ∙ sym is.enabled ∙ on
-
--- ---- what sleeps
-
-pub apart_by : (a : Program) (h : History) (t : Step) (f g : Footprint) → is_enabled a h t ≡ true → g ≡ footprint a h t → are_apart f g ≡ (is_enabled a h t && are_apart f (footprint a h t))
-apart_by a h t f g on is = λ i. sym on i && are_apart f (is i)
-
-pub not_apart : (a : Program) (h : History) (t : Step) (f : Footprint) → is_enabled a h t ≡ false → false ≡ (is_enabled a h t && are_apart f (footprint a h t))
-not_apart a h t f off = λ i. sym off i && are_apart f (footprint a h t)
-
-pub asleep_when : (a : Program) (h : History) (slept : List Step) (s : Step) (f : Footprint) → is_enabled a h s ≡ true → f ≡ footprint a h s → filter (λ t. is_enabled a h t && are_apart f (footprint a h t)) slept ≡ filter (are_independent a h s) slept
-asleep_when a h slept s f on is = λ i. filter (λ t. sym on i && (is_enabled a h t && are_apart (is i) (footprint a h t))) slept
-
-none_kept : (b : Bool) (test : Step → Bool) (xs : List Step) → b ≡ false → [] ≡ filter (λ t. b && test t) xs
-none_kept b test [] e = refl
-none_kept b test (x ∷ xs) e = none_kept b test xs e ∙ ap (λ y. cond (y && test x) (x ∷ filter (λ t. b && test t) xs) (filter (λ t. b && test t) xs)) (sym e)
-
-pub none_asleep : (a : Program) (h : History) (slept : List Step) (s : Step) → is_enabled a h s ≡ false → [] ≡ filter (are_independent a h s) slept
-none_asleep a h slept s off = none_kept (is_enabled a h s) (λ t. is_enabled a h t && are_apart (footprint a h s) (footprint a h t)) slept off
-
 -- ---- a step that stays enabled
 
-pub stays_enabled : (a : Program) (h : History) (e : Event) (step : Step) (f : held.Footprint) (p : Plan) → IsPlan a h p → p.enabled ≡ true → footprint_in f ≡ footprint a h step → next_event a h step ≡ Some e → some_meet (cells_in f.writes.items) (cells_in p.footprint.reads.items) ≡ false → enabled_steps a (e ∷ h) ≡ [] → ⊥
-stays_enabled a h e step f p is on of now apart none =
-    let writes = writes_are a h e step f of now in
-    let after : IsPlan a (e ∷ h) p = plan_stays a h e p is (ap (λ ws. some_meet ws (cells_in p.footprint.reads.items)) (sym writes) ∙ apart) in
-    let there : IsAmong p.step (enabled_steps a (e ∷ h)) = enabled_listed a (e ∷ h) p.step (sym after.enabled ∙ on) in
+split_on : (b m : Bool) → (b && not m) ≡ true → (b ≡ true) × (m ≡ false)
+split_on true true e = absurd (true≢false (sym e))
+split_on true false e = (refl, refl)
+split_on false m e = absurd (true≢false (sym e))
+
+pub stays_enabled : (a : Program) (h : History) (e : Event) (taken p : Plan) → IsPlan a h taken → IsPlan a h p → (p.enabled && not (some_meet (cells_in taken.footprint.writes.items) (cells_in p.footprint.reads.items))) ≡ true → next_event a h taken.step ≡ Some e → enabled_steps a (e ∷ h) ≡ [] → ⊥
+stays_enabled a h e taken p of is on now none =
+    let parts = split_on p.enabled (some_meet (cells_in taken.footprint.writes.items) (cells_in p.footprint.reads.items)) on in
+    let writes = writes_are a h e taken.step taken.footprint of.footprint now in
+    let after : IsPlan a (e ∷ h) p = plan_stays a h e p is (ap (λ ws. some_meet ws (cells_in p.footprint.reads.items)) (sym writes) ∙ parts.1) in
+    let there : IsAmong p.step (enabled_steps a (e ∷ h)) = enabled_listed a (e ∷ h) p.step (sym after.enabled ∙ parts.0) in
     absurd (subst (IsAmong p.step) none there)
+
+-- ---- the steps that are met
+
+-- the enabled ones of these plans are of steps that read what this one writes
+abbrev pub AllMet : Plan → List Shared → Type 0
+AllMet taken plans = AllByRecursion (λ p. p.value.enabled ≡ true → some_meet (cells_in taken.footprint.writes.items) (cells_in p.value.footprint.reads.items) ≡ true) plans
+
+met_by : (b m : Bool) → (b && not m) ≡ false → b ≡ true → m ≡ true
+met_by true true off on = refl
+met_by true false off on = absurd (true≢false off)
+met_by false m off on = absurd (true≢false (sym on))
+
+pub met_more : (taken : Plan) (plans : List Shared) (i : ℕ) (p : Shared) → i < length plans → p ≡ get_or plans i p → (p.value.enabled && not (some_meet (cells_in taken.footprint.writes.items) (cells_in p.value.footprint.reads.items))) ≡ false → AllMet taken (take i plans) → AllMet taken (take (i + 1) plans)
+met_more taken plans i p within at off before =
+    subst (AllMet taken) (ap (λ (q : Shared). take i plans ++ q ∷ []) at ∙ sym (take_more plans i p within))
+    (all_append (λ (q : Shared). q.value.enabled ≡ true → some_meet (cells_in taken.footprint.writes.items) (cells_in q.value.footprint.reads.items) ≡ true) (take i plans) (p ∷ []) before (met_by p.value.enabled _ off, tt))
+
+meets_as : (a : Program) (h : History) (taken p : Plan) → IsPlan a h taken → IsPlan a h p → some_meet (cells_in taken.footprint.writes.items) (cells_in p.footprint.reads.items) ≡ some_meet (footprint a h taken.step).writes (footprint a h p.step).reads
+meets_as a h taken p of is = λ i. some_meet (of.footprint i).writes (is.footprint i).reads
+
+first_met : (a : Program) (h : History) (taken : Plan) (s : Step) (p : Shared) (ps : List Shared) (b : Bool) → p.value.enabled ≡ b → IsPlan a h taken → IsPlan a h p.value → (p.value.enabled ≡ true → some_meet (cells_in taken.footprint.writes.items) (cells_in p.value.footprint.reads.items) ≡ true) → (IsAmong s (enabled_in ps) → some_meet (footprint a h taken.step).writes (footprint a h s).reads ≡ true) → IsAmong s (map (λ (q : Shared). q.value.step) (cond b (p ∷ filter (λ (q : Shared). q.value.enabled) ps) (filter (λ (q : Shared). q.value.enabled) ps))) → some_meet (footprint a h taken.step).writes (footprint a h s).reads ≡ true
+first_met a h taken s p ps true on of is met rest (inl same) = ap (λ t. some_meet (footprint a h taken.step).writes (footprint a h t).reads) (sym same) ∙ sym (meets_as a h taken p.value of is) ∙ met on
+first_met a h taken s p ps true on of is met rest (inr there) = rest there
+first_met a h taken s p ps false off of is met rest there = rest there
+
+among_met : (a : Program) (h : History) (taken : Plan) (s : Step) (plans : List Shared) → IsPlan a h taken → ArePlans a h plans → AllMet taken plans → IsAmong s (enabled_in plans) → some_meet (footprint a h taken.step).writes (footprint a h s).reads ≡ true
+among_met a h taken s [] of all met there = absurd there
+among_met a h taken s (p ∷ ps) of all met there = first_met a h taken s p ps p.value.enabled refl of all.0 met.0 (among_met a h taken s ps of all.1 met.1) there
+
+pub all_met : (a : Program) (h : History) (g : Agenda) (taken : Plan) (plans : List Shared) (i : ℕ) (s : Step) → plans ≡ g.plans.items → length plans ≤ i → AllMet taken (take i plans) → IsPlan a h taken → IsAgenda a h g → IsAmong s (enabled_steps a h) → some_meet (footprint a h taken.step).writes (footprint a h s).reads ≡ true
+all_met a h g taken plans i s same within met of is there =
+    among_met a h taken s g.plans.items of is.plans (subst (AllMet taken) (take_all i plans within ∙ same) met) (subst (IsAmong s) (sym is.enabled) there)

@@ -22,14 +22,14 @@ use Rattle.world_core.proofs.Listed.{listed}
 use Rattle.world_core.specs.inside.Enabling.{turns_of, deliveries_of, is_enabled_at}
 use Rattle.world_records.specs.declared.records.Records.{Records}
 use Rattle.step_indep.specs.Cells.{cells_in}
-use Rattle.step_indep.specs.declared.cell.Cell as stored
 use Rattle.world_model.specs.Independence.{some_meet}
 use Rattle.step_agenda.specs.Plans.{ArePlans, IsPlan, IsWorld, Shared, enabled_in}
-use Rattle.step_agenda.specs.inside.Planning.{HasPlans, IsHeldIn, PutsPlans}
+use Rattle.step_agenda.specs.declared.above.Above.{Above}
+use Rattle.step_agenda.specs.inside.Planning.{HasPlans, IsHeldIn, IsMetIn, PutsPlans}
 
 -- ---- elements
 
-all_append : {X : Type 0} (P : X → Type 0) (xs ys : List X) → AllByRecursion P xs → AllByRecursion P ys → AllByRecursion P (xs ++ ys)
+pub all_append : {X : Type 0} (P : X → Type 0) (xs ys : List X) → AllByRecursion P xs → AllByRecursion P ys → AllByRecursion P (xs ++ ys)
 all_append P [] ys p q = q
 all_append P (x ∷ xs) ys p q = (p.0, all_append P xs ys p.1 q)
 
@@ -42,6 +42,17 @@ pub held_at : {X : Type 0} (xs : List X) (i : ℕ) (x : X) → i < length xs →
 held_at [] i x within is = absurd (omega (arith, within))
 held_at (y ∷ ys) zero x within is = inl (sym is)
 held_at (y ∷ ys) (suc i) x within is = inr (held_at ys i x (omega (arith, within)) is)
+
+pub element_at : {X : Type 0} (xs : List X) (i : ℕ) → i < length xs → (x : X) × (x ≡ get_or xs i x)
+element_at [] i within = absurd (omega (arith, within))
+element_at (y ∷ ys) zero within = (y, refl)
+element_at (y ∷ ys) (suc i) within = element_at ys i (omega (arith, within))
+
+-- what stands at a place is one thing
+pub at_same : {X : Type 0} (xs : List X) (i : ℕ) (x y : X) → i < length xs → x ≡ get_or xs i x → y ≡ get_or xs i y → x ≡ y
+at_same [] i x y within one other = absurd (omega (arith, within))
+at_same (z ∷ zs) zero x y within one other = one ∙ sym other
+at_same (z ∷ zs) (suc i) x y within one other = at_same zs i x y (omega (arith, within)) one other
 
 -- ---- the steps of those that are enabled
 
@@ -78,25 +89,31 @@ has_none a h s old off all = record {
 }
 
 -- a plan that is taken over
-pub puts_kept : (records : Records) (above : List Shared) (writes : List stored.Cell) (s : Step) (p q : Shared) (old new : List Shared) → IsHeldIn p above → p.value.step ≡ s → some_meet (cells_in writes) (cells_in p.value.footprint.reads.items) ≡ false → q.value ≡ p.value → new ≡ old ++ q ∷ [] → PutsPlans records above writes (s ∷ []) old new
-puts_kept records above writes s p q old new there is apart same now =
+pub puts_kept : (records : Records) (above : Above) (s : Step) (p q : Shared) (old new : List Shared) → IsHeldIn p above.plans.now → p.value.step ≡ s → some_meet (cells_in above.taken.now.footprint.writes.items) (cells_in p.value.footprint.reads.items) ≡ false → q.value ≡ p.value → new ≡ old ++ q ∷ [] → PutsPlans records (Some above) (s ∷ []) old new
+puts_kept records above s p q old new there is apart same now =
     λ m h world takes all.
-    let holds = all_held (λ (r : Shared). some_meet (cells_in writes) (cells_in r.value.footprint.reads.items) ≡ false → IsPlan (program_of m) h r.value) p above takes there apart in
+    let holds = all_held (λ (r : Shared). some_meet (cells_in above.taken.now.footprint.writes.items) (cells_in r.value.footprint.reads.items) ≡ false → IsPlan (program_of m) h r.value) p above.plans.now takes there apart in
     has_one (program_of m) h s q old new now (subst (IsPlan (program_of m) h) (sym same) holds) (ap (λ r. r.step) same ∙ is) all
 
--- one that is made
-pub puts_new : (records : Records) (above : List Shared) (writes : List stored.Cell) (s : Step) (p : Shared) (old new : List Shared) → p.value.step ≡ s → ((m : ModuleTree) (h : History) → IsWorld m h records → IsPlan (program_of m) h p.value) → new ≡ old ++ p ∷ [] → PutsPlans records above writes (s ∷ []) old new
-puts_new records above writes s p old new is holds now = λ m h world takes all. has_one (program_of m) h s p old new now (holds m h world) is all
+-- one that is not, since it is met
+pub met_at : (above : Above) (place : ℕ) (s : Step) → place < length above.plans.now → ((p : Shared) → p ≡ get_or above.plans.now place p → p.value.step ≡ s) → ((p : Shared) → p ≡ get_or above.plans.now place p → some_meet (cells_in above.taken.now.footprint.writes.items) (cells_in p.value.footprint.reads.items) ≡ true) → IsMetIn above s
+met_at above place s within same met =
+    let here = element_at above.plans.now place within in
+    record { plan = here.0; held = held_at above.plans.now place here.0 within here.1; same = same here.0 here.1; met = met here.0 here.1 }
 
-pub puts_no_plan : (records : Records) (above : List Shared) (writes : List stored.Cell) (s : Step) (old : List Shared) → ((m : ModuleTree) (h : History) → IsWorld m h records → is_enabled (program_of m) h s ≡ false) → PutsPlans records above writes (s ∷ []) old old
-puts_no_plan records above writes s old off = λ m h world takes all. has_none (program_of m) h s old (off m h world) all
+-- one that is made
+pub puts_new : (records : Records) (above : Option Above) (s : Step) (p : Shared) (old new : List Shared) → p.value.step ≡ s → ((m : ModuleTree) (h : History) → IsWorld m h records → IsPlan (program_of m) h p.value) → new ≡ old ++ p ∷ [] → PutsPlans records above (s ∷ []) old new
+puts_new records above s p old new is holds now = λ m h world takes all. has_one (program_of m) h s p old new now (holds m h world) is all
+
+pub puts_no_plan : (records : Records) (above : Option Above) (s : Step) (old : List Shared) → ((m : ModuleTree) (h : History) → IsWorld m h records → is_enabled (program_of m) h s ≡ false) → PutsPlans records above (s ∷ []) old old
+puts_no_plan records above s old off = λ m h world takes all. has_none (program_of m) h s old (off m h world) all
 
 -- those of more steps
-pub puts_none : (records : Records) (above : List Shared) (writes : List stored.Cell) (old : List Shared) → PutsPlans records above writes [] old old
-puts_none records above writes old = λ m h world takes all. record { hold = all; enabled = sym (append-nil (enabled_in old)) }
+pub puts_none : (records : Records) (above : Option Above) (old : List Shared) → PutsPlans records above [] old old
+puts_none records above old = λ m h world takes all. record { hold = all; enabled = sym (append-nil (enabled_in old)) }
 
-pub puts_more : (records : Records) (above : List Shared) (writes : List stored.Cell) (xs ys : List Step) (old mid new : List Shared) → PutsPlans records above writes xs old mid → PutsPlans records above writes ys mid new → PutsPlans records above writes (xs ++ ys) old new
-puts_more records above writes xs ys old mid new first second = λ m h world takes all.
+pub puts_more : (records : Records) (above : Option Above) (xs ys : List Step) (old mid new : List Shared) → PutsPlans records above xs old mid → PutsPlans records above ys mid new → PutsPlans records above (xs ++ ys) old new
+puts_more records above xs ys old mid new first second = λ m h world takes all.
     let test = is_enabled (program_of m) h in
     let one = first m h world takes all in
     let two = second m h world takes one.hold in
@@ -109,15 +126,15 @@ puts_more records above writes xs ys old mid new first second = λ m h world tak
           ∙ ap (λ zs. enabled_in old ++ zs) (sym (filter-append test xs ys));
     }
 
-pub puts_turn : (records : Records) (above : List Shared) (writes : List stored.Cell) (ps : List (Bor (List ℕ))) (p : Bor (List ℕ)) (q : Pid) (old mid new : List Shared) → q ≡ p.now → PutsPlans records above writes (turns_of (map (λ x. x.now) ps)) old mid → PutsPlans records above writes (Turn q ∷ []) mid new → PutsPlans records above writes (turns_of (map (λ x. x.now) (ps ++ p ∷ []))) old new
-puts_turn records above writes ps p q old mid new same first second =
-    subst (λ xs. PutsPlans records above writes xs old new) (sym (ap turns_of (map-append (λ x. x.now) ps (p ∷ [])) ∙ map-append Turn (map (λ x. x.now) ps) (p.now ∷ []) ∙ ap (λ x. turns_of (map (λ y. y.now) ps) ++ Turn x ∷ []) (sym same)))
-    (puts_more records above writes (turns_of (map (λ x. x.now) ps)) (Turn q ∷ []) old mid new first second)
+pub puts_turn : (records : Records) (above : Option Above) (ps : List (Bor (List ℕ))) (p : Bor (List ℕ)) (q : Pid) (old mid new : List Shared) → q ≡ p.now → PutsPlans records above (turns_of (map (λ x. x.now) ps)) old mid → PutsPlans records above (Turn q ∷ []) mid new → PutsPlans records above (turns_of (map (λ x. x.now) (ps ++ p ∷ []))) old new
+puts_turn records above ps p q old mid new same first second =
+    subst (λ xs. PutsPlans records above xs old new) (sym (ap turns_of (map-append (λ x. x.now) ps (p ∷ [])) ∙ map-append Turn (map (λ x. x.now) ps) (p.now ∷ []) ∙ ap (λ x. turns_of (map (λ y. y.now) ps) ++ Turn x ∷ []) (sym same)))
+    (puts_more records above (turns_of (map (λ x. x.now) ps)) (Turn q ∷ []) old mid new first second)
 
-pub puts_delivery : (records : Records) (above : List Shared) (writes : List stored.Cell) (pairs : List (Pid × Pid)) (pair : Pid × Pid) (old mid new : List Shared) → PutsPlans records above writes (deliveries_of pairs) old mid → PutsPlans records above writes (Deliver pair.0 pair.1 ∷ []) mid new → PutsPlans records above writes (deliveries_of (pairs ++ pair ∷ [])) old new
-puts_delivery records above writes pairs pair old mid new first second =
-    subst (λ xs. PutsPlans records above writes xs old new) (sym (map-append (λ (x : Pid × Pid). Deliver x.0 x.1) pairs (pair ∷ [])))
-    (puts_more records above writes (deliveries_of pairs) (Deliver pair.0 pair.1 ∷ []) old mid new first second)
+pub puts_delivery : (records : Records) (above : Option Above) (pairs : List (Pid × Pid)) (pair : Pid × Pid) (old mid new : List Shared) → PutsPlans records above (deliveries_of pairs) old mid → PutsPlans records above (Deliver pair.0 pair.1 ∷ []) mid new → PutsPlans records above (deliveries_of (pairs ++ pair ∷ [])) old new
+puts_delivery records above pairs pair old mid new first second =
+    subst (λ xs. PutsPlans records above xs old new) (sym (map-append (λ (x : Pid × Pid). Deliver x.0 x.1) pairs (pair ∷ [])))
+    (puts_more records above (deliveries_of pairs) (Deliver pair.0 pair.1 ∷ []) old mid new first second)
 
 -- ---- the enabled steps
 

@@ -41,6 +41,15 @@ ArePlans a h plans = AllByRecursion (λ p. IsPlan a h p.value) plans
 abbrev pub enabled_in : List Shared → List Step
 enabled_in plans = map (λ p. p.value.step) (filter (λ p. p.value.enabled) plans)
 
+-- the steps of plans
+abbrev pub steps_in : List Shared → List Step
+steps_in plans = map (λ p. p.value.step) plans
+
+-- plans of these steps, which hold
+pub record AreStanding (a : Program) (h : History) (of : List Step) (those : List Shared) : Type 0 where
+  pub plans : ArePlans a h those
+  pub steps : steps_in those ≡ of
+
 -- each plan of an agenda holds, and the enabled steps are planned
 pub record IsAgenda (a : Program) (h : History) (g : Agenda) : Type 0 where
   pub plans : ArePlans a h g.plans.items

@@ -1,47 +1,65 @@
 // What a node takes over from the node above it.
-ghost use Rattle.std.specs.Prelude.{◌≡◌, false, IfSome};
-ghost use Rattle.step_agenda.specs.inside.Planning.{IsHeldIn};
+ghost use Rattle.std.specs.Prelude.{◌≡◌, ◌⊎◌, ◌<◌, true, false, get_or, length, None, IfSome};
+ghost use Rattle.step_agenda.specs.Plans.{Shared};
+ghost use Rattle.step_agenda.specs.inside.Planning.{IsHeldIn, IsMetIn, IsPassed};
 ghost use Rattle.step_indep.specs.Cells.{cells_in};
 ghost use Rattle.world_model.specs.Independence.{some_meet};
 
-use crate::plan::{Plan, is_of};
+use crate::plan::{Plan, meets};
+use std::cmp::Ordering;
 use std::rc::Rc;
-use step_indep::{Cell, some_meet};
 use term_core::Step;
 
-/// The plans of the node above, in the order of their steps, and the cells that the step between the nodes writes.
+/// The plans of the node above, in the order of their steps, and the plan of the step between the nodes.
 #[derive(Clone, Copy)]
 pub(crate) struct Above<'a> {
     pub(crate) plans: &'a [Rc<Plan>],
-    pub(crate) writes: &'a [Cell],
+    pub(crate) taken: &'a Plan,
 }
 
-/// The place, from this one on, of the first plan whose step does not come before a step.
-pub(crate) fn place_from(plans: &[Rc<Plan>], from: usize, step: &Step) -> usize {
+/// The place, from this one on, of the first plan whose step does not come before a step, if that is a plan of the step;
+/// and where to look for the steps behind it.
+fn place_from(plans: &[Rc<Plan>], from: usize, step: &Step) -> (Option<usize>, usize)
+    ensures found { IfSome result.0 (λ place. (place < length plans.now) × ((p : Shared) → p ≡ get_or plans.now place p → p.value.step ≡ step.now)) }
+    ensures passed { result.0 ≡ None → IsPassed plans.now result.1 step.now }
+{
     let mut place = from;
-    while place < plans.len() && plans[place].step < *step {
-        place += 1;
+    while place < plans.len() {
+        match plans[place].step.cmp(step) {
+            Ordering::Less => place += 1,
+            Ordering::Equal => return (Some(place), place + 1),
+            Ordering::Greater => return (None, place),
+        }
     }
-    place
+    (None, place)
 }
 
 impl<'a> Above<'a> {
-    /// The plan at a place, if it is of this step, and the step between the nodes writes nothing that it reads.
-    pub(crate) fn kept(self, place: usize, step: &Step) -> Option<&'a Rc<Plan>>
+    // The plan at a place, where the step between the nodes writes nothing that it reads.
+    fn unmet_at(self, place: usize) -> Option<&'a Rc<Plan>>
+        requires { place < length self.plans.now }
         ensures held { IfSome result (λ plan. IsHeldIn plan.now self.entry.plans.now) }
-        ensures step { IfSome result (λ plan. plan.now.value.step ≡ step.now) }
-        ensures unmet { IfSome result (λ plan. some_meet (cells_in self.entry.writes.now) (cells_in plan.now.value.footprint.reads.items) ≡ false) }
+        ensures same { IfSome result (λ plan. plan.now ≡ get_or self.entry.plans.now place plan.now) }
+        ensures unmet { IfSome result (λ plan. some_meet (cells_in self.entry.taken.now.footprint.writes.items) (cells_in plan.now.value.footprint.reads.items) ≡ false) }
+        ensures met { result ≡ None → (p : Shared) → p ≡ get_or self.entry.plans.now place p → some_meet (cells_in self.entry.taken.now.footprint.writes.items) (cells_in p.value.footprint.reads.items) ≡ true }
     {
-        if place >= self.plans.len() {
-            return None;
-        }
         let plan = &self.plans[place];
-        if !is_of(plan, step) {
-            return None;
-        }
-        if some_meet(self.writes, plan.footprint.reads.as_slice()) {
+        if meets(self.taken, plan) {
             return None;
         }
         Some(plan)
+    }
+
+    /// The plan of a step, where one is found from this place on, and the step between the nodes writes nothing that it
+    /// reads. Steps come in their order, and the place goes on with them.
+    pub(crate) fn kept(self, place: &mut usize, step: &Step) -> Option<&'a Rc<Plan>>
+        ensures held { IfSome result (λ plan. IsHeldIn plan.now self.entry.plans.now) }
+        ensures step { IfSome result (λ plan. plan.now.value.step ≡ step.now) }
+        ensures unmet { IfSome result (λ plan. some_meet (cells_in self.entry.taken.now.footprint.writes.items) (cells_in plan.now.value.footprint.reads.items) ≡ false) }
+        ensures none { result ≡ None → IsPassed self.entry.plans.now place.new step.now ⊎ IsMetIn self.entry step.now }
+    {
+        let (found, behind) = place_from(self.plans, *place, step);
+        *place = behind;
+        self.unmet_at(found?)
     }
 }

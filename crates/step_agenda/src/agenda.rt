@@ -1,22 +1,26 @@
 // The agenda of a node.
 ghost use Rattle.std.specs.List.{filter};
-ghost use Rattle.std.specs.Prelude.{◌≡◌, ◌∷◌, ◌&&◌, [], true, false, None, Some, IfOk, IfSome};
+ghost use Rattle.std.specs.Prelude.{◌≡◌, ◌∷◌, [], true, false, not, reverse, None, Some, IfOk, IfSome, option_map};
 ghost use Rattle.core_tree.specs.Syntax.{ModuleTree};
-ghost use Rattle.step_agenda.specs.Plans.{IsAgenda, IsWorld, TakesOver};
-ghost use Rattle.step_indep.specs.Footprints.{footprint_in};
+ghost use Rattle.coverage.specs.Explored.{same_step};
+ghost use Rattle.sleep_sets.specs.Search.{is_among};
+ghost use Rattle.step_agenda.specs.Plans.{AreStanding, IsAgenda, IsPlan, IsWorld, steps_in};
+ghost use Rattle.step_agenda.specs.inside.Planning.{TakesOverFrom};
+ghost use Rattle.term_core.specs.declared.step.Step.{Step};
 ghost use Rattle.world_model.specs.Asking.{program_of};
 ghost use Rattle.world_model.specs.Events.{Event, History};
-ghost use Rattle.world_model.specs.Independence.{are_apart, are_independent, footprint};
+ghost use Rattle.world_model.specs.Independence.{footprint, some_meet};
+ghost use Rattle.world_model.specs.Names.{IsAmong};
 ghost use Rattle.world_model.specs.Requests.{Program};
 ghost use Rattle.world_model.specs.Run.{enabled_steps, is_enabled, next_event};
+ghost use Rattle.world_model.specs.Signals.{first_of};
 
 use crate::above::Above;
-use crate::laws::plans_settle;
-use crate::plan::{Plan, is_enabled_at};
+use crate::plan::{Plan, is_enabled_at, outlives, share};
 use crate::planning::{put_deliveries, put_turns};
+use crate::sleeping::is_awake;
 use std::alloc::{AllocError, Global};
 use std::rc::Rc;
-use step_indep::{Footprint, are_apart, some_meet};
 use term_core::Step;
 use world_records::Records;
 
@@ -33,15 +37,18 @@ impl Drop for Agenda {
     }
 }
 
+// How many plans there is room for at first.
+const ROOM: usize = 8;
+
 // The agenda of a node below another one, or of one with nothing above it. `AllocError` if there is no memory for it.
 fn agenda_below(
     records: &Records<'_>,
     alloc: Global,
-    above: Above<'_>,
+    above: Option<Above<'_>>,
 ) -> Result<Agenda, AllocError>
-    ensures { IfOk result (λ agenda. (m : ModuleTree) (h : History) → IsWorld m h records.now → TakesOver (program_of m) h above.entry.plans.now above.entry.writes.now → IsAgenda (program_of m) h agenda) }
+    ensures { IfOk result (λ agenda. (m : ModuleTree) (h : History) → IsWorld m h records.now → TakesOverFrom (program_of m) h above.entry → IsAgenda (program_of m) h agenda) }
 {
-    let mut plans = Vec::with_capacity(alloc, above.plans.len())?;
+    let mut plans = Vec::with_capacity(alloc, ROOM)?;
     let mut place = 0;
     let living = records.processes().living();
     put_turns(records, alloc, living, above, &mut place, &mut plans)?;
@@ -56,14 +63,7 @@ impl Agenda {
     pub fn of(records: &Records<'_>, alloc: Global) -> Result<Agenda, AllocError>
         ensures { IfOk result (λ agenda. (m : ModuleTree) (h : History) → IsWorld m h records.now → IsAgenda (program_of m) h agenda) }
     {
-        agenda_below(
-            records,
-            alloc,
-            Above {
-                plans: &[],
-                writes: &[],
-            },
-        )
+        agenda_below(records, alloc, None)
     }
 
     /// The agenda of the node that an enabled step leads to, whose records these are: plans that read nothing that the
@@ -73,42 +73,57 @@ impl Agenda {
         &self,
         records: &Records<'_>,
         alloc: Global,
-        step: &Step,
+        taken: &Plan,
     ) -> Result<Agenda, AllocError>
-        ensures { IfOk result (λ agenda. (m : ModuleTree) (h : History) (e : Event) → IsAgenda (program_of m) h self.now → next_event (program_of m) h step.now ≡ Some e → IsWorld m (e ∷ h) records.now → IsAgenda (program_of m) (e ∷ h) agenda) }
+        ensures { IfOk result (λ agenda. (m : ModuleTree) (h : History) (e : Event) → IsAgenda (program_of m) h self.now → IsPlan (program_of m) h taken.now → next_event (program_of m) h taken.now.step ≡ Some e → IsWorld m (e ∷ h) records.now → IsAgenda (program_of m) (e ∷ h) agenda) }
     {
-        plans_settle();
-        let Some(plan) = self.enabled_plan(step) else {
-            return Agenda::of(records, alloc);
+        let above = Above {
+            plans: self.plans.as_slice(),
+            taken,
         };
-        agenda_below(
-            records,
-            alloc,
-            Above {
-                plans: self.plans.as_slice(),
-                writes: plan.footprint.writes.as_slice(),
-            },
-        )
+        agenda_below(records, alloc, Some(above))
     }
 
-    /// The steps that are enabled, in their order. `AllocError` if there is no memory for them.
-    pub fn enabled(&self, alloc: Global) -> Result<Vec<Step>, AllocError>
-        ensures { IfOk result (λ steps. (a : Program) (h : History) → IsAgenda a h self.now → steps.items ≡ enabled_steps a h) }
+    /// The first of the steps that are enabled, if there is one. It takes no memory.
+    pub fn first_enabled(&self) -> Option<&Step>
+        ensures { (a : Program) (h : History) → IsAgenda a h self.now → option_map (λ step. step.now) result ≡ first_of (enabled_steps a h) }
     {
         let plans = self.plans.as_slice();
-        let mut steps = Vec::with_capacity(alloc, plans.len())?;
         for plan in plans {
             if plan.enabled {
-                steps.push(plan.step.copy()?)?;
+                return Some(&plan.step);
             }
         }
-        Ok(steps)
+        None
+    }
+
+    /// The plans of the steps that are enabled and do not sleep, the last one first. `AllocError` if there is no memory
+    /// for them.
+    pub fn awake_backwards(
+        &self,
+        alloc: Global,
+        slept: &[Rc<Plan>],
+    ) -> Result<Vec<Rc<Plan>>, AllocError>
+        ensures { IfOk result (λ line. (a : Program) (h : History) → IsAgenda a h self.now → AreStanding a h (filter (λ s. not (is_among same_step (steps_in slept.now) s)) (enabled_steps a h)) (reverse line.items)) }
+    {
+        let plans = self.plans.as_slice();
+        let mut line = Vec::new(alloc);
+        let mut left = plans.len();
+        while left > 0 {
+            left -= 1;
+            let plan = &plans[left];
+            if is_awake(plan, slept) {
+                line.push(share(plan)?)?;
+            }
+        }
+        Ok(line)
     }
 
     // The plan of a step, if it is enabled.
-    fn enabled_plan(&self, step: &Step) -> Option<&Plan>
-        ensures footprint { IfSome result (λ plan. (a : Program) (h : History) → IsAgenda a h self.now → footprint_in plan.now.footprint ≡ footprint a h step.now) }
-        ensures enabled { IfSome result (λ plan. (a : Program) (h : History) → IsAgenda a h self.now → is_enabled a h step.now ≡ true) }
+    fn enabled_plan(&self, step: &Step) -> Option<&Rc<Plan>>
+        ensures plan { IfSome result (λ plan. (a : Program) (h : History) → IsAgenda a h self.now → IsPlan a h plan.now.value) }
+        ensures step { IfSome result (λ plan. plan.now.value.step ≡ step.now) }
+        ensures enabled { IfSome result (λ plan. plan.now.value.enabled ≡ true) }
         ensures none { result ≡ None → (a : Program) (h : History) → IsAgenda a h self.now → is_enabled a h step.now ≡ false }
     {
         let plans = self.plans.as_slice();
@@ -120,64 +135,29 @@ impl Agenda {
         None
     }
 
-    // Whether a step is enabled, and apart from this footprint.
-    fn is_apart_from(&self, one: &Footprint, other: &Step) -> bool
-        ensures { (a : Program) (h : History) → IsAgenda a h self.now → result ≡ is_enabled a h other.now && are_apart (footprint_in one.now) (footprint a h other.now) }
+    /// The plans of these steps, in their order, as far as they are enabled; of others there is none. `AllocError` if
+    /// there is no memory for them.
+    pub fn plans_of(&self, alloc: Global, steps: &[Step]) -> Result<Vec<Rc<Plan>>, AllocError>
+        ensures { IfOk result (λ plans. (a : Program) (h : History) → IsAgenda a h self.now → AreStanding a h (filter (is_enabled a h) steps.now) plans.items) }
     {
-        match self.enabled_plan(other) {
-            Some(plan) => are_apart(one, &plan.footprint),
-            None => false,
-        }
-    }
-
-    // Of these steps, those that are enabled and apart from this footprint, in their order.
-    fn apart_from(
-        &self,
-        alloc: Global,
-        slept: &[Step],
-        one: &Footprint,
-    ) -> Result<Vec<Step>, AllocError>
-        ensures { IfOk result (λ asleep. (a : Program) (h : History) → IsAgenda a h self.now → asleep.items ≡ filter (λ other. is_enabled a h other && are_apart (footprint_in one.now) (footprint a h other)) slept.now) }
-    {
-        let mut asleep = Vec::new(alloc);
-        for other in slept {
-            if self.is_apart_from(one, other) {
-                asleep.push(other.copy()?)?;
+        let mut plans = Vec::with_capacity(alloc, steps.len())?;
+        for step in steps {
+            if let Some(plan) = self.enabled_plan(step) {
+                plans.push(share(plan)?)?;
             }
         }
-        Ok(asleep)
-    }
-
-    /// Of the steps that sleep, those that stay asleep below a step: those that are independent of it, in their order
-    /// (Godefroid, "Partial-Order Methods for the Verification of Concurrent Systems", sleep sets). `AllocError` if there
-    /// is no memory for them.
-    pub fn asleep_below(
-        &self,
-        alloc: Global,
-        slept: &[Step],
-        step: &Step,
-    ) -> Result<Vec<Step>, AllocError>
-        ensures { IfOk result (λ asleep. (a : Program) (h : History) → IsAgenda a h self.now → asleep.items ≡ filter (are_independent a h step.now) slept.now) }
-    {
-        let Some(plan) = self.enabled_plan(step) else {
-            return Ok(Vec::new(alloc));
-        };
-        self.apart_from(alloc, slept, &plan.footprint)
+        Ok(plans)
     }
 
     /// Whether it is plain without the world below an enabled step that some step is enabled there: one that is enabled
     /// here and reads nothing that the step writes. It takes no memory.
-    pub fn lives_below(&self, step: &Step) -> bool
-        ensures { result ≡ true → (a : Program) (h : History) (e : Event) → IsAgenda a h self.now → next_event a h step.now ≡ Some e → enabled_steps a (e ∷ h) ≡ [] → ⊥ }
+    pub fn lives_below(&self, taken: &Plan) -> bool
+        ensures lives { result ≡ true → (a : Program) (h : History) (e : Event) → IsAgenda a h self.now → IsPlan a h taken.now → next_event a h taken.now.step ≡ Some e → enabled_steps a (e ∷ h) ≡ [] → ⊥ }
+        ensures met { result ≡ false → (a : Program) (h : History) → IsAgenda a h self.now → IsPlan a h taken.now → (s : Step) → IsAmong s (enabled_steps a h) → some_meet (footprint a h taken.now.step).writes (footprint a h s).reads ≡ true }
     {
-        plans_settle();
-        let Some(plan) = self.enabled_plan(step) else {
-            return false;
-        };
-        let writes = plan.footprint.writes.as_slice();
         let plans = self.plans.as_slice();
         for other in plans {
-            if other.enabled && !some_meet(writes, other.footprint.reads.as_slice()) {
+            if outlives(other, taken) {
                 return true;
             }
         }

@@ -1,19 +1,20 @@
 -- The stack of an expansion: nodes that were visited, and whose children were not all.
 use Rattle.std.specs.List.{AllByRecursion}
-use Rattle.std.specs.Prelude.{◌≡◌, ◌+◌, ℕ, List, [], ◌∷◌, ◌++◌, Option, Some, None, length}
+use Rattle.std.specs.Prelude.{◌≡◌, ◌+◌, ℕ, List, [], ◌∷◌, ◌++◌, None, length}
 use Rattle.core_tree.specs.Syntax.{ModuleTree}
 use Rattle.term_core.specs.declared.step.Step.{Step}
 use Rattle.world_model.specs.Asking.{program_of}
-use Rattle.world_model.specs.Events.{Event, History}
+use Rattle.world_model.specs.Events.{History}
 use Rattle.world_model.specs.Names.{IsAmong}
 use Rattle.world_model.specs.Requests.{Program}
-use Rattle.world_model.specs.Run.{next_event, run, schedule_of}
-use Rattle.world_model.specs.Shown.{Flags, shown}
+use Rattle.world_model.specs.Run.{next_event, schedule_of}
+use Rattle.world_model.specs.Shown.{Flags}
 use Rattle.coverage.specs.Findings.{Findings}
 use Rattle.coverage.specs.Jobs.{Job, Node, node_at, nodes_from, nodes_along}
+use Rattle.sleep_jobs.specs.Explorations as seen
 use Rattle.sleep_jobs.specs.Explorations.{ExplorationSeen, findings_of, nodes_of}
 use Rattle.sleep_jobs.specs.Pieces.{IsDone}
-use Rattle.sleep_tree.specs.inside.Snapshots.{IsNode}
+use Rattle.sleep_tree.specs.inside.Nodes.{IsNode, history_below}
 use Rattle.world_core.specs.Seen.{Seen, program_in}
 
 -- a node that is to be visited, as contracts see it: how many steps may follow it
@@ -61,15 +62,10 @@ nodes_of_frames (f ∷ fs) = nodes_of_frames fs ++ nodes_of_frame f
 abbrev pub AreEnabled : Program → History → List Step → Type 0
 AreEnabled a h line = (s : Step) → IsAmong s line → next_event a h s ≡ None → ⊥
 
--- a node of which steps are still to be taken, all of them enabled, and so many may follow each
-pub record IsFrame (w : Seen) (taken left : ℕ) (line : List Step) (snapshot : Seen) : Type 0 where
-  pub node : IsNode w taken (left + 1) snapshot
+-- a node of which steps are still to be taken, all of them enabled
+pub record IsFrame (w : Seen) (line : List Step) : Type 0 where
+  pub node : IsNode w
   pub enabled : AreEnabled (program_in w) w.history line
-
--- what has happened after a step that is enabled
-abbrev pub history_below : History → Option Event → History
-history_below h None = h
-history_below h (Some e) = e ∷ h
 
 -- the leaf below a frame by the first step of its line
 abbrev pub history_along : Program → History → List Step → History
@@ -79,28 +75,24 @@ history_along a h (s ∷ steps) = history_below h (next_event a h s)
 abbrev pub leaf_below : FrameSeen → NodeSeen
 leaf_below f = record { program = f.program; history = history_along (program_of f.program) f.history f.line; slept = []; left = 0 }
 
--- the next child of a frame lies at the depth and shows nothing
-pub record IsPlainBelow (f : FrameSeen) : Type 0 where
-  pub step : Step
-  pub rest : List Step
-  pub line : f.line ≡ step ∷ rest
-  pub enabled : next_event (program_of f.program) f.history step ≡ None → ⊥
-  pub at_depth : f.left ≡ 0
-  pub reached : run (program_of f.program) (schedule_of (leaf_below f).history) ≡ Some (leaf_below f).history
-  pub shows : shown (program_of f.program) (leaf_below f).history ≡ []
-
--- a node, and a step that is enabled there and that so many may follow
-pub record IsChildOf (w : Seen) (taken left : ℕ) (step : Step) (snapshot : Seen) : Type 0 where
-  pub node : IsNode w taken (left + 1) snapshot
+-- a node, and a step that is enabled there
+pub record IsChildOf (w : Seen) (step : Step) : Type 0 where
+  pub node : IsNode w
   pub enabled : next_event (program_in w) w.history step ≡ None → ⊥
+
+-- a world of what a node has seen
+pub record IsWorldOf (v : NodeSeen) (w : Seen) : Type 0 where
+  pub program : w.program ≡ v.program
+  pub node : IsNode w
+  pub history : w.history ≡ v.history
 
 -- the node is one of the exploration
 pub record IsNodeOf (e : ExplorationSeen) (v : NodeSeen) : Type 0 where
-  pub program : v.program ≡ e.program
+  pub program : program_of v.program ≡ seen.program_in e
   pub deep : length (schedule_of v.history) + v.left ≡ e.depth
 
 pub record IsFrameOf (e : ExplorationSeen) (f : FrameSeen) : Type 0 where
-  pub program : f.program ≡ e.program
+  pub program : program_of f.program ≡ seen.program_in e
   pub deep : length (schedule_of f.history) + (f.left + 1) ≡ e.depth
 
 abbrev pub AreFramesOf : ExplorationSeen → List FrameSeen → Type 0

@@ -1,20 +1,40 @@
 -- Plans that are put behind others.
 use Rattle.std.specs.List.{filter}
-use Rattle.std.specs.Prelude.{◌≡◌, ◌++◌, List}
+use Rattle.std.specs.Prelude.{◌≡◌, ◌<◌, ◌++◌, ℕ, true, List, Option, None, Some, get_or, length, ⊤}
 use Rattle.core_tree.specs.Syntax.{ModuleTree}
+use Rattle.std.specs.declared.cmp.Ordering.TheVariants.{Greater}
+use Rattle.term_core.specs.StepOrder.{order_of_steps}
 use Rattle.term_core.specs.declared.step.Step.{Step}
 use Rattle.world_model.specs.Asking.{program_of}
 use Rattle.world_model.specs.Events.{History}
+use Rattle.world_model.specs.Independence.{some_meet}
 use Rattle.world_model.specs.Names.{IsAmong}
 use Rattle.world_model.specs.Requests.{Program}
 use Rattle.world_model.specs.Run.{is_enabled}
 use Rattle.world_records.specs.declared.records.Records.{Records}
-use Rattle.step_indep.specs.declared.cell.Cell.{Cell}
+use Rattle.step_indep.specs.Cells.{cells_in}
 use Rattle.step_agenda.specs.Plans.{ArePlans, IsWorld, Shared, TakesOver, enabled_in}
+use Rattle.step_agenda.specs.declared.above.Above.{Above}
 
 -- a plan stands in a list
 abbrev pub IsHeldIn : Shared → List Shared → Type 0
 IsHeldIn plan plans = IsAmong plan plans
+
+-- the steps of plans at a place and behind it come after a step, where the plans are in their order
+abbrev pub IsPassed : List Shared → ℕ → Step → Type 0
+IsPassed plans place step = place < length plans → (p : Shared) → p ≡ get_or plans place p → order_of_steps p.value.step step ≡ Greater
+
+-- there is a plan of a step, and the step between the nodes writes what that one reads
+pub record IsMetIn (above : Above) (step : Step) : Type 0 where
+  pub plan : Shared
+  pub held : IsHeldIn plan above.plans.now
+  pub same : plan.value.step ≡ step
+  pub met : some_meet (cells_in above.taken.now.footprint.writes.items) (cells_in plan.value.footprint.reads.items) ≡ true
+
+-- what holds of the plans of the node above, if there is one, that are taken over
+abbrev pub TakesOverFrom : Program → History → Option Above → Type 0
+TakesOverFrom a h None = ⊤
+TakesOverFrom a h (Some above) = TakesOver a h above.plans.now above.taken.now.footprint.writes.items
 
 -- plans with those of more steps behind them
 pub record HasPlans (a : Program) (h : History) (steps : List Step) (old new : List Shared) : Type 0 where
@@ -22,5 +42,5 @@ pub record HasPlans (a : Program) (h : History) (steps : List Step) (old new : L
   pub enabled : enabled_in new ≡ enabled_in old ++ filter (is_enabled a h) steps
 
 -- whatever history the records are of, the plans of these steps are put behind others, some of them taken over
-abbrev pub PutsPlans : Records → List Shared → List Cell → List Step → List Shared → List Shared → Type 0
-PutsPlans records above writes steps old new = (m : ModuleTree) (h : History) → IsWorld m h records → TakesOver (program_of m) h above writes → ArePlans (program_of m) h old → HasPlans (program_of m) h steps old new
+abbrev pub PutsPlans : Records → Option Above → List Step → List Shared → List Shared → Type 0
+PutsPlans records above steps old new = (m : ModuleTree) (h : History) → IsWorld m h records → TakesOverFrom (program_of m) h above → ArePlans (program_of m) h old → HasPlans (program_of m) h steps old new

@@ -1,12 +1,13 @@
 use Rattle.std.proofs.Common.{◌∙◌}
 use Rattle.findings.specs.Identities.{flags_in}
 use Rattle.sleep_tree.specs.inside.Frames.{own_node}
-use Rattle.sleep_tree.proofs.Agendas.{leaf_visited}
+use Rattle.sleep_tree.proofs.Leaves.{leaf_visited}
 use Rattle.sleep_tree.proofs.visit.visit_next.Goals as goal
 
 pub returns-then-branch : goal.returns-then-branch
 returns-then-branch c =
-    leaf_visited (flags_in c.args.flags) c.args.frame c.args.frames.now.items c.put_others.new.frames.items c.args.findings.now (c.in_ok-leads_to_a_plain_leaf.ensures c.if-branch.true) c.in_ok-put_others.ensures
+    leaf_visited (flags_in c.args.flags) c.args.frame c.args.frames.now.items c.put_others.new.frames.items c.args.findings.now
+    (c.leads_to_a_leaf.ensures c.if-leads_to_a_leaf.true) (c.lives_below-lives.ensures c.if-lives.true) (c.in_ok-is_quiet_below.ensures c.if-branch.true) c.in_ok-put_others.ensures
 
 pub returns : goal.returns
 returns c = record {

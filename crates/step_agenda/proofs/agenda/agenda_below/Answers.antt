@@ -11,14 +11,13 @@ use Rattle.step_agenda.proofs.agenda.agenda_below.Goals as goal
 pub returns : goal.returns
 returns c = λ m h world takes.
     let records = c.args.records.now in
-    let above = c.args.above.plans.now in
-    let writes = c.args.above.writes.now in
+    let above = c.args.above in
     let ps = c.living-living.result.now.keys in
     let pairs = c.in_ok-pairs.pairs.items in
     let mid = c.put_turns.new.plans.items in
     let plans = c.put_deliveries.new.plans.items in
-    let first = subst (λ old. PutsPlans records above writes (turns_of ps) old mid) c.in_ok-plans.ensures.items c.in_ok-put_turns.ensures.put in
-    let has : HasPlans (program_of m) h (turns_of ps ++ deliveries_of pairs) [] plans = puts_more records above writes (turns_of ps) (deliveries_of pairs) [] mid plans first c.in_ok-put_deliveries.ensures m h world takes tt in
+    let first = subst (λ old. PutsPlans records above (turns_of ps) old mid) c.in_ok-plans.ensures.items c.in_ok-put_turns.ensures.put in
+    let has : HasPlans (program_of m) h (turns_of ps ++ deliveries_of pairs) [] plans = puts_more records above (turns_of ps) (deliveries_of pairs) [] mid plans first c.in_ok-put_deliveries.ensures m h world takes tt in
     record {
       plans = has.hold;
       enabled =

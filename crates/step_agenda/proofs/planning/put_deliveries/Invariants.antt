@@ -4,4 +4,4 @@ use Rattle.step_agenda.proofs.planning.put_deliveries.Given as goal
 
 -- the plans of the deliveries so far are put behind the others
 abbrev pub invariant-loop-from : goal.invariant-loop-from
-invariant-loop-from l = PutsPlans l.records l.above.plans.now l.above.writes.now (deliveries_of l.yielded) l.fn.plans.items l.plans.items
+invariant-loop-from l = PutsPlans l.records l.above (deliveries_of l.yielded) l.fn.plans.items l.plans.items

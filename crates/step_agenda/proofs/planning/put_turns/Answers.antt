@@ -2,7 +2,7 @@ use Rattle.step_agenda.proofs.Putting.{puts_none, puts_turn}
 use Rattle.step_agenda.proofs.planning.put_turns.Goals as goal
 
 pub loop-pid-init : goal.loop-pid-init
-loop-pid-init c = puts_none _ _ _ _
+loop-pid-init c = puts_none _ _ _
 
 pub loop-pid-preserved : goal.loop-pid-preserved
-loop-pid-preserved c = puts_turn _ _ _ _ _ _ _ _ _ c.in_ok-copy.ensures c.loop-pid.invariant c.in_ok-put_plan.ensures
+loop-pid-preserved c = puts_turn _ _ _ _ _ _ _ _ c.in_ok-copy.ensures c.loop-pid.invariant c.in_ok-put_plan.ensures

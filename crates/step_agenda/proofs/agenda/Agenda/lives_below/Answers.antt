@@ -1,16 +1,30 @@
-use Rattle.std.proofs.Common.{◌∙◌, ap, sym}
+use Rattle.std.proofs.Common.{◌∙◌, ap, not, sym}
+use Rattle.std.specs.Prelude.{◌&&◌}
 use Rattle.step_indep.specs.Cells.{cells_in}
 use Rattle.world_model.specs.Independence.{some_meet}
 use Rattle.step_agenda.specs.declared.plan.Plan.{Plan}
-use Rattle.step_agenda.proofs.Looking.{plan_at, stays_enabled}
+use Rattle.step_agenda.proofs.Looking.{all_met, met_more, plan_at, stays_enabled}
 use Rattle.step_agenda.proofs.agenda.Agenda.lives_below.Goals as goal
 
-pub returns-then-not-some_meet : goal.returns-then-not-some_meet
-returns-then-not-some_meet c = λ yes a h e is now none.
+pub loop-other-init : goal.loop-other-init
+loop-other-init c = tt
+
+pub loop-other-preserved : goal.loop-other-preserved
+loop-other-preserved c =
+    let taken = c.args.taken.now in
+    met_more taken c.as_slice-plans.result.now c.loop-other.other-index c.other-item.result c.loop-other-test.true c.other-item.is
+    (ap (λ (q : Plan). q.enabled && not (some_meet (cells_in taken.footprint.writes.items) (cells_in q.footprint.reads.items))) (sym c.deref.ensures) ∙ sym c.outlives.ensures ∙ c.if-outlives.false)
+    c.loop-other.invariant
+
+pub returns-then-outlives-clause-lives : goal.returns-then-outlives-clause-lives
+returns-then-outlives-clause-lives c = λ yes a h e is of now none.
     let p = c.other-item.result.value in
-    let f = c.in-Some.plan.now.footprint in
-    let reads = c.as_slice.ensures.value ∙ ap (λ (q : Plan). q.footprint.reads.items) c.deref-then-deref.ensures in
-    let apart = (λ i. some_meet (cells_in (sym c.as_slice-writes.ensures.value i)) (cells_in (sym reads i))) ∙ sym c.some_meet.ensures ∙ c.if-not-some_meet.true in
-    stays_enabled a h e c.args.step.now f p
-    (plan_at a h c.args.self.now c.as_slice-plans.result.now c.loop-other.other-index c.other-item.result c.as_slice-plans.ensures.value c.loop-other-test.true c.other-item.is is)
-    (ap (λ (q : Plan). q.enabled) (sym c.deref.ensures) ∙ c.if-deref.true) (c.in-Some.ensures.footprint a h is) now apart none
+    let taken = c.args.taken.now in
+    let plans = c.as_slice-plans.result.now in
+    let holds = plan_at a h c.args.self.now plans c.loop-other.other-index c.other-item.result c.as_slice-plans.ensures.value c.loop-other-test.true c.other-item.is is in
+    let on = ap (λ (q : Plan). q.enabled && not (some_meet (cells_in taken.footprint.writes.items) (cells_in q.footprint.reads.items))) (sym c.deref.ensures) ∙ sym c.outlives.ensures ∙ c.if-outlives.true in
+    stays_enabled a h e taken p of holds on now none
+
+pub returns-clause-met : goal.returns-clause-met
+returns-clause-met c = λ no a h is of s there.
+    all_met a h c.args.self.now c.args.taken.now c.as_slice-plans.result.now c.loop-other.other-index s c.as_slice-plans.ensures.value c.loop-other-test.false c.loop-other.invariant of is there
