@@ -1,4 +1,5 @@
 pub mod Holding
 pub mod Owning
 pub mod RowChanges
+pub mod RowsWritten
 pub mod Writing

@@ -39,7 +39,7 @@ keeps_then t v w x first next = record {
   owned = λ p. next.owned p ∙ first.owned p;
 }
 
-write_keeps : (t : Ref) (key : Key) (change : RowChange) (v : Contents) → KeepsOthers t v (changed (Writes t key change) v)
+pub write_keeps : (t : Ref) (key : Key) (change : RowChange) (v : Contents) → KeepsOthers t v (changed (Writes t key change) v)
 write_keeps t key change v = record {
   tables = λ u. refl;
   rows = λ u e. not_met (same_ref t u) _ _ e;
@@ -48,7 +48,7 @@ write_keeps t key change v = record {
   owned = λ p. refl;
 }
 
-wipe_keeps : (t : Ref) (v : Contents) → KeepsOthers t v (changed (Wipes t) v)
+pub wipe_keeps : (t : Ref) (v : Contents) → KeepsOthers t v (changed (Wipes t) v)
 wipe_keeps t v = record {
   tables = λ u. refl;
   rows = λ u e. not_met (same_ref t u) _ _ e;

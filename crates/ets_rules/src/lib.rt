@@ -7,7 +7,9 @@ pub mod ends;
 pub mod found;
 pub mod judge;
 pub mod make;
+pub mod rewriting;
 mod serve;
+pub mod shelving;
 pub mod tables;
 
 pub use apply::Done;

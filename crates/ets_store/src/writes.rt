@@ -5,7 +5,7 @@ ghost use Rattle.std.specs.Prelude.{◌≡◌, IfOk, OnOk, OnErr, not};
 ghost use Rattle.ets_store.specs.TableRows.{with_rows, with_object, with_objects, without_object, one_has_key, with_new_objects};
 ghost use Rattle.term_core.specs.Meaning.{Int};
 ghost use Rattle.term_core.specs.Term.{meaning_of};
-ghost use Rattle.world_model.specs.Rows.{rows_rewritten, Clears, Alters, tuples, under};
+ghost use Rattle.world_model.specs.Rows.{rows_rewritten, Stores, Removes, Clears, Alters, tuples, under};
 
 use crate::object::Object;
 use crate::row_map::RowMap;
@@ -30,6 +30,31 @@ impl Rows {
         let kind = self.kind;
         let map = Arc::make_mut(&mut self.map)?;
         map.store(alloc, kind, key, object)?;
+        Ok(())
+    }
+
+    /// Puts an object in under a key, as the kind of the table says, or `AllocError` if there is no memory for it:
+    /// then all is as it was, and the object is dropped.
+    pub fn store(&mut self, alloc: Global, key: &Term, object: Object) -> Result<(), AllocError>
+        ensures ok { OnOk result (self.new ≡ with_rows self.old (rows_rewritten (meaning_of key.now) (Stores self.old.kind object) self.old.rows)) }
+        ensures err { OnErr result (self.new ≡ self.old) }
+    {
+        let own_key = key.copy()?;
+        let kind = self.kind;
+        let map = Arc::make_mut(&mut self.map)?;
+        map.store(alloc, kind, own_key, object)?;
+        Ok(())
+    }
+
+    /// Takes all instances of an object under a key out, or `AllocError` if there is no memory for the others:
+    /// then all is as it was.
+    pub fn erase(&mut self, alloc: Global, key: &Term, object: &Object) -> Result<(), AllocError>
+        ensures ok { OnOk result (self.new ≡ with_rows self.old (rows_rewritten (meaning_of key.now) (Removes object.now) self.old.rows)) }
+        ensures err { OnErr result (self.new ≡ self.old) }
+    {
+        let own_key = key.copy()?;
+        let map = Arc::make_mut(&mut self.map)?;
+        map.erase(alloc, own_key, object)?;
         Ok(())
     }
 

@@ -1,5 +1,5 @@
 -- What the shelves show after a change is what the contents have after it.
-use Rattle.std.proofs.Common.{◌≡◌, ◌⊎◌, ◌&&◌, inl, inr, Bool, true, false, List, [], ◌∷◌, Option, Some, None, if◌then◌else◌, refl, sym, ap, subst, ◌∙◌}
+use Rattle.std.proofs.Common.{◌≡◌, ◌⊎◌, ◌&&◌, inl, inr, Bool, true, false, List, [], ◌∷◌, Option, Some, None, is_some, true≢false, if◌then◌else◌, refl, sym, ap, subst, ◌∙◌}
 use Rattle.std.specs.FinMap.{empty, get-empty}
 use Rattle.std.specs.Prelude.{option_map}
 use Rattle.term_core.specs.Order.{order_of_terms}
@@ -14,6 +14,7 @@ use Rattle.world_model.specs.Tables.{Heir, owned_by, with_heir}
 use Rattle.world_model.proofs.Meeting as meeting
 use Rattle.proc_groups.proofs.Grouping.{same_either}
 use Rattle.ets_store.specs.Tables.{settings_in}
+use Rattle.ets_store.specs.declared.table.Table.{Table}
 use Rattle.ets_tables.specs.Shelves.{AreSame, AreShelved, IsAltered, IsMeant, IsOwned, IsMadeOn, changes_destroyed, held_on, table_on, rows_of, rows_on, meant_on, owned_on}
 use Rattle.ets_tables.specs.Tables.{changes_passed, changes_made}
 use Rattle.ets_tables.specs.declared.shelves.Shelves.{Shelves}
@@ -78,6 +79,14 @@ same_rows old new t table rows there altered = record {
 pub makes : (old new : Shelves) (t : Ref) (table : tables.Table) (rows : Rows) (v : Contents) → rows_on old t ≡ rows → IsAltered t (λ _. Some table) (λ _. rows) old new → AreShelved old v → AreShelved new (changed (Makes t table) v)
 makes old new t table rows v there altered told =
     table_follows old new t (λ _. Some table) v (changed (Makes t table) v) (same_rows old new t table rows there altered) told (λ _. refl) (λ _. refl) (λ _ _. refl) (λ _. refl) (λ _. refl)
+
+-- where there is no table, there are no rows
+no_rows : (o : Option Table) → option_map settings_in o ≡ None → rows_of o ≡ empty
+no_rows None e = refl
+no_rows (Some table) e = absurd (true≢false (ap is_some e))
+
+pub none_shelved : (shelves : Shelves) (t : Ref) (v : Contents) → v (cells.Table t) ≡ None → AreShelved shelves v → rows_on shelves t ≡ empty
+none_shelved shelves t v none told = no_rows (held_on shelves t) (told.tables t ∙ none)
 
 none_under : (b : Bool) (r : Rows) (there : List Object) (key : Key) → under r key ≡ there → under (if b then empty else r) key ≡ (if b then [] else there)
 none_under true r there key is = ap listed (get-empty order_of_terms key)
@@ -193,6 +202,14 @@ unnamed_made old a b t table rows is_named first second = record {
   rows_there = λ u. second.rows u ∙ first.rows u;
   names = λ name. second.names name ∙ first.names name ∙ ap (λ c. if c && same_name table.name name then Some t else meant_on old name) (sym is_named);
   owned = λ p. second.owned p ∙ ap (λ ts. if same_pid table.owner p then set_in_order order_of_refs t ts else ts) (first.owned p);
+}
+
+pub made_since : (old lent new : Shelves) (t : Ref) (table : tables.Table) (rows : Rows) → AreSame old lent → IsMadeOn t table rows lent new → IsMadeOn t table rows old new
+made_since old lent new t table rows same made = record {
+  tables = λ u. made.tables u ∙ ap (λ o. if same_ref t u then Some table else o) (same.tables u);
+  rows_there = λ u. made.rows_there u ∙ ap (λ r. if same_ref t u then rows else r) (same.rows u);
+  names = λ name. made.names name ∙ ap (λ o. if table.is_named && same_name table.name name then Some t else o) (same.names name);
+  owned = λ p. made.owned p ∙ ap (λ ts. if same_pid table.owner p then set_in_order order_of_refs t ts else ts) (same.owned p);
 }
 
 means_off : (b : Bool) (name : Name) (t : Ref) (w : Contents) (c : cells.Cell) → cells.meet (cells.TableName name) c ≡ false → after (means_if b name t) w c ≡ w c

@@ -19,7 +19,8 @@ use Rattle.proc_groups.specs.References.{ref_of}
 use Rattle.proc_groups.specs.declared.groups.Groups.{Groups}
 use Rattle.proc_groups.proofs.Grouping.{same_either}
 use Rattle.proc_groups.proofs.Referring.{Id, refs_same, map_if}
-use Rattle.ets_tables.specs.Shelves.{AreSame, IsAltered, IsMeant, IsOwned, table_on, rows_on, rows_of, held_on}
+use Rattle.ets_tables.specs.Shelves.{AreSame, IsAltered, IsMeant, IsOwned, MeanTheSame, named_in, table_on, rows_on, rows_of}
+use Rattle.ets_tables.specs.declared.name_map.NameMap.{NameMap}
 use Rattle.ets_tables.specs.declared.shelves.Shelves.{Shelves}
 
 abbrev pub Entries : Type 0
@@ -99,23 +100,58 @@ over_if : {A B : Type 0} (f : A → B) (b : Bool) (x y : Option A) → option_ma
 over_if f true x y = refl
 over_if f false x y = refl
 
+-- a map of names with another value at one, or none
+pub named_at : (m n : BTreeMap Name Id) (k : Name) (w : Option Id) → ((q : Name) → get order_of_lists n q ≡ cond (is_at (order_of_lists k) q) w (get order_of_lists m q))
+    → (q : Name) → option_map ref_of (get order_of_lists n q) ≡ (if bytes_eq k q then option_map ref_of w else option_map ref_of (get order_of_lists m q))
+named_at m n k w has q = ap (option_map ref_of) (has q ∙ ap (λ b. cond b w (get order_of_lists m q)) (is_eq-slice_cmp k q)) ∙ over_if ref_of (bytes_eq k q) w (get order_of_lists m q)
+
+-- names that are lent are what they were, or a clone of it
+pub same_names : (old now : NameMap) → (now ≡ old) ⊎ MeanTheSame old now → MeanTheSame old now
+same_names old now (inl e) = λ q. ap (λ m. named_in m q) e
+same_names old now (inr same) = same
+
 -- the shelves with other names
-pub meant_at : (old : Shelves) (n : BTreeMap Name Id) (k : Name) (w : Option Id) → ((q : Name) → get order_of_lists n q ≡ cond (is_at (order_of_lists k) q) w (get order_of_lists old.names q)) → IsMeant k (option_map ref_of w) old (record old { names = n })
-meant_at old n k w has = record {
+pub meant_at : (old : Shelves) (lent left : NameMap) (n : Arc NameMap Global) (k : Name) (t : Option Ref) → MeanTheSame old.names.value lent → ((q : Name) → named_in left q ≡ (if same_name k q then t else named_in lent q)) → n.value ≡ left → IsMeant k t old (record old { names = n })
+meant_at old lent left n k t same has is = record {
   tables = λ _. refl;
   rows = λ _. refl;
-  names = λ q. ap (option_map ref_of) (has q ∙ ap (λ b. cond b w (get order_of_lists old.names q)) (is_eq-slice_cmp k q)) ∙ over_if ref_of (bytes_eq k q) w (get order_of_lists old.names q);
+  names = λ q. ap (λ m. named_in m q) is ∙ has q ∙ ap (λ o. if same_name k q then t else o) (same q);
   owned = λ _. refl;
 }
 
+pub still_meant : (old : Shelves) (lent left : NameMap) (n : Arc NameMap Global) → MeanTheSame old.names.value lent → MeanTheSame lent left → n.value ≡ left → AreSame old (record old { names = n })
+still_meant old lent left n same has is = record {
+  tables = λ _. refl;
+  rows = λ _. refl;
+  names = λ q. ap (λ m. named_in m q) is ∙ has q ∙ same q;
+  owned = λ _. refl;
+}
+
+-- each process has the same tables
+abbrev pub HaveTheSame : Groups Id → Groups Id → Type 0
+HaveTheSame old now = (q : Pid) → members_in now q ≡ members_in old q
+
+pub same_groups : (old now : Groups Id) → (now ≡ old) ⊎ HaveTheSame old now → HaveTheSame old now
+same_groups old now (inl e) = λ q. ap (λ g. members_in g q) e
+same_groups old now (inr same) = same
+
 -- the shelves with other owners
-pub owned_at : (old : Shelves) (n : Groups Id) (p : Pid) (f : List Id → List Id) (g : List Ref → List Ref) → ((xs : List Id) → map ref_of (f xs) ≡ g (map ref_of xs))
-    → ((q : Pid) → members_in n q ≡ (if bytes_eq p q then f (members_in old.owned q) else members_in old.owned q)) → IsOwned p g old (record old { owned = n })
-owned_at old n p f g same has = record {
+pub owned_at : (old : Shelves) (lent left : Groups Id) (n : Arc (Groups Id) Global) (p : Pid) (f : List Id → List Id) (g : List Ref → List Ref) → ((xs : List Id) → map ref_of (f xs) ≡ g (map ref_of xs)) → HaveTheSame old.owned.value lent
+    → ((q : Pid) → members_in left q ≡ (if bytes_eq p q then f (members_in lent q) else members_in lent q)) → n.value ≡ left → IsOwned p g old (record old { owned = n })
+owned_at old lent left n p f g alike same has is = record {
   tables = λ _. refl;
   rows = λ _. refl;
   names = λ _. refl;
-  owned = λ q. ap (map ref_of) (has q) ∙ map_if ref_of (bytes_eq p q) _ _ ∙ ap (λ zs. if bytes_eq p q then zs else map ref_of (members_in old.owned q)) (same (members_in old.owned q));
+  owned = λ q. ap (λ o. map ref_of (members_in o q)) is ∙ ap (map ref_of) (has q) ∙ map_if ref_of (bytes_eq p q) _ _ ∙ ap (λ zs. if bytes_eq p q then zs else map ref_of (members_in lent q)) (alike (members_in lent q))
+      ∙ ap (λ xs. if bytes_eq p q then g (map ref_of xs) else map ref_of xs) (same q);
+}
+
+pub still_owned : (old : Shelves) (lent left : Groups Id) (n : Arc (Groups Id) Global) → HaveTheSame old.owned.value lent → HaveTheSame lent left → n.value ≡ left → AreSame old (record old { owned = n })
+still_owned old lent left n same has is = record {
+  tables = λ _. refl;
+  rows = λ _. refl;
+  names = λ _. refl;
+  owned = λ q. ap (λ o. map ref_of (members_in o q)) is ∙ ap (map ref_of) (has q ∙ same q);
 }
 
 -- clones of entries that show the same

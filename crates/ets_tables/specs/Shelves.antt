@@ -16,6 +16,7 @@ use Rattle.ets_store.specs.Tables.{settings_in}
 use Rattle.ets_store.specs.declared.table.Table.{Table}
 use Rattle.proc_groups.specs.Groups.{members_in}
 use Rattle.proc_groups.specs.References.{ref_of}
+use Rattle.ets_tables.specs.declared.name_map.NameMap.{NameMap}
 use Rattle.ets_tables.specs.declared.shelves.Shelves.{Shelves}
 
 -- the table that a reference finds, as it is held
@@ -35,13 +36,21 @@ table_on shelves t = option_map settings_in (held_on shelves t)
 abbrev pub rows_on : Shelves → Ref → Rows
 rows_on shelves t = rows_of (held_on shelves t)
 
+-- what a name means
+abbrev pub named_in : NameMap → Name → Option Ref
+named_in map name = option_map ref_of (get order_of_lists map.references name)
+
+-- each name means the same
+abbrev pub MeanTheSame : NameMap → NameMap → Type 0
+MeanTheSame a b = (name : Name) → named_in b name ≡ named_in a name
+
 -- the table that a name means
 abbrev pub meant_on : Shelves → Name → Option Ref
-meant_on shelves name = option_map ref_of (get order_of_lists shelves.names name)
+meant_on shelves name = named_in shelves.names.value name
 
 -- the tables of a process, in the order of references
 abbrev pub owned_on : Shelves → Pid → List Ref
-owned_on shelves p = map ref_of (members_in shelves.owned p)
+owned_on shelves p = map ref_of (members_in shelves.owned.value p)
 
 -- the tables are what the contents say
 pub record AreShelved (shelves : Shelves) (v : Contents) : Type 0 where

@@ -93,7 +93,7 @@ impl Registry {
             return Ok(None);
         };
         let Some(heir) = living_heir(table, living) else {
-            shelves.forget(id, table);
+            shelves.forget(id, table)?;
             return Ok(None);
         };
         shelves.pass(id, &heir.pid)?;
@@ -145,7 +145,7 @@ impl Registry {
     {
         let mut shelves = self.copied()?;
         let transfers = self.leave_all(alloc, &mut shelves, pid, living)?;
-        shelves.empty(pid);
+        shelves.empty(pid)?;
         self.shelves = Arc::new(alloc, shelves)?;
         Ok(transfers)
     }

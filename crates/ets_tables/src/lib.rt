@@ -4,6 +4,7 @@
 pub mod ends;
 mod entry;
 pub mod laws;
+mod name_map;
 pub mod registry;
 mod shelves;
 

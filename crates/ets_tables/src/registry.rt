@@ -1,11 +1,13 @@
 // The tables that there are (ets manual, "Description" and `new/2`).
+ghost use Rattle.std.specs.FinMap.{empty};
 ghost use Rattle.std.specs.Prelude.{◌≡◌, ◌∷◌, [], IfOk, IsSome, OnOk, OnErr, Some, None, map, option_copied, option_map};
 ghost use Rattle.ets_store.specs.Tables.{settings_in, heir_in};
 ghost use Rattle.proc_groups.specs.Groups.{members_of};
 ghost use Rattle.proc_groups.specs.References.{ref_of};
 ghost use Rattle.world_model.specs.Names as names;
+ghost use Rattle.world_model.specs.Cells as cells;
 ghost use Rattle.world_model.specs.Cells.{Contents};
-ghost use Rattle.world_model.specs.Changes.{after, Inherits};
+ghost use Rattle.world_model.specs.Changes.{after, Empties, Frees, Gains, Goes, Inherits, Loses, Makes, Means, Passes, Wipes};
 
 use crate::shelves::Shelves;
 use ets_store::{Heir, Table};
@@ -41,7 +43,7 @@ impl Registry {
         ensures owned { IfOk result (λ begun. (p : names.Pid) → owned_by begun p ≡ []) }
     {
         Ok(Registry {
-            shelves: Arc::new(alloc, Shelves::new(alloc))?,
+            shelves: Arc::new(alloc, Shelves::new(alloc)?)?,
         })
     }
 
@@ -127,7 +129,7 @@ impl Registry {
         let owner = table.owner.copy()?;
         let mut shelves = self.copied()?;
         shelves.pass(id, to)?;
-        shelves.lose(&owner, id);
+        shelves.lose(&owner, id)?;
         shelves.gain(alloc, to, id)?;
         self.shelves = Arc::new(alloc, shelves)?;
         Ok(())
@@ -140,8 +142,99 @@ impl Registry {
         ensures ok { OnOk result ((v : Contents) → AreTables self.old v → AreTables self.new (after (changes_destroyed (ref_of id.now) (table_at self.old (ref_of id.now))) v)) }
         ensures err { OnErr result (IsUnchanged self.old self.new) }
     {
+        let mut shelves = self.copied()?;
+        shelves.destroy(id)?;
+        let place = Arc::make_mut(&mut self.shelves)?;
+        *place = shelves;
+        Ok(())
+    }
+
+    /// Puts a new table, without rows, under its reference, which finds none. `AllocError` if there is no memory: then
+    /// nothing is changed, and the table is dropped.
+    pub fn put(&mut self, alloc: Global, id: &RefId, table: Table) -> Result<(), AllocError>
+        ensures ok { OnOk result ((v : Contents) → v (cells.Table (ref_of id.now)) ≡ None → table.rows.rows ≡ empty → AreTables self.old v → AreTables self.new (after (Makes (ref_of id.now) (settings_in table) ∷ []) v)) }
+        ensures err { OnErr result (IsUnchanged self.old self.new) }
+    {
         let shelves = Arc::make_mut(&mut self.shelves)?;
-        shelves.destroy(id);
+        shelves.put(alloc, id, table)?;
+        Ok(())
+    }
+
+    /// Makes a process the owner of the table of a reference, if there is one. `AllocError` if there is no memory for
+    /// what is shared with a copy: then nothing is changed.
+    pub fn hand(&mut self, id: &RefId, owner: &Pid) -> Result<(), AllocError>
+        ensures ok { OnOk result ((v : Contents) → AreTables self.old v → AreTables self.new (after (Passes (ref_of id.now) owner.now ∷ []) v)) }
+        ensures err { OnErr result (IsUnchanged self.old self.new) }
+    {
+        let shelves = Arc::make_mut(&mut self.shelves)?;
+        shelves.pass(id, owner)?;
+        Ok(())
+    }
+
+    /// Takes the table of a reference away, if there is one, with its rows. `AllocError` if there is no memory for what
+    /// is shared with a copy: then nothing is changed.
+    pub fn take(&mut self, id: &RefId) -> Result<(), AllocError>
+        ensures ok { OnOk result ((v : Contents) → AreTables self.old v → AreTables self.new (after (Goes (ref_of id.now) ∷ Wipes (ref_of id.now) ∷ []) v)) }
+        ensures err { OnErr result (IsUnchanged self.old self.new) }
+    {
+        let shelves = Arc::make_mut(&mut self.shelves)?;
+        drop(shelves.take(id));
+        Ok(())
+    }
+
+    /// A name means the table of a reference. `AllocError` if there is no memory: then nothing is changed.
+    pub fn mean(&mut self, name: &Atom, id: &RefId) -> Result<(), AllocError>
+        ensures ok { OnOk result ((v : Contents) → AreTables self.old v → AreTables self.new (after (Means name.now (ref_of id.now) ∷ []) v)) }
+        ensures err { OnErr result (IsUnchanged self.old self.new) }
+    {
+        let shelves = Arc::make_mut(&mut self.shelves)?;
+        shelves.mean(name, id)?;
+        Ok(())
+    }
+
+    /// A name means no table. `AllocError` if there is no memory for what is shared with a copy: then nothing is
+    /// changed.
+    pub fn free(&mut self, name: &Atom) -> Result<(), AllocError>
+        ensures ok { OnOk result ((v : Contents) → AreTables self.old v → AreTables self.new (after (Frees name.now ∷ []) v)) }
+        ensures err { OnErr result (IsUnchanged self.old self.new) }
+    {
+        let shelves = Arc::make_mut(&mut self.shelves)?;
+        shelves.free(name)?;
+        Ok(())
+    }
+
+    /// A process has the table of a reference. `AllocError` if there is no memory: then nothing is changed.
+    pub fn gain(&mut self, alloc: Global, pid: &Pid, id: &RefId) -> Result<(), AllocError>
+        ensures ok { OnOk result ((v : Contents) → AreTables self.old v → AreTables self.new (after (Gains pid.now (ref_of id.now) ∷ []) v)) }
+        ensures err { OnErr result (IsUnchanged self.old self.new) }
+    {
+        let shelves = Arc::make_mut(&mut self.shelves)?;
+        shelves.gain(alloc, pid, id)?;
+        Ok(())
+    }
+
+    /// A process has the table of a reference no more. `AllocError` if there is no memory for what is shared with a
+    /// copy: then nothing is changed.
+    pub fn lose(&mut self, pid: &Pid, id: &RefId) -> Result<(), AllocError>
+        ensures ok { OnOk result ((v : Contents) → AreTables self.old v → AreTables self.new (after (Loses pid.now (ref_of id.now) ∷ []) v)) }
+        ensures err { OnErr result (IsUnchanged self.old self.new) }
+    {
+        let shelves = Arc::make_mut(&mut self.shelves)?;
+        shelves.lose(pid, id)?;
+        Ok(())
+    }
+
+    /// A process has no tables. Where it has none, nothing is copied or changed. `AllocError` if there is no memory for
+    /// what is shared with a copy: then nothing is changed.
+    pub fn empty(&mut self, pid: &Pid) -> Result<(), AllocError>
+        ensures ok { OnOk result ((v : Contents) → AreTables self.old v → AreTables self.new (after (Empties pid.now ∷ []) v)) }
+        ensures err { OnErr result (IsUnchanged self.old self.new) }
+    {
+        if self.owned(pid).is_none() {
+            return Ok(());
+        }
+        let shelves = Arc::make_mut(&mut self.shelves)?;
+        shelves.empty(pid)?;
         Ok(())
     }
 

@@ -11,6 +11,7 @@ ghost use Rattle.world_model.specs.Names.{same_ref, order_of_refs};
 ghost use Rattle.world_model.specs.Tables.{owned_by, with_heir};
 
 use crate::entry::{entrust, hand};
+use crate::name_map::NameMap;
 use ets_store::{Heir, Table};
 use proc_groups::Groups;
 use std::alloc::{AllocError, Global};
@@ -18,12 +19,13 @@ use std::collections::{BTreeMap, BTreeSet};
 use std::sync::Arc;
 use term_core::{Atom, Pid, RefId};
 
-/// The tables under their references, the references under their names, and the tables of each process.
+/// The tables under their references, the references under their names, and the tables of each process. Names and
+/// owners are shared until one of them is written, apart from the tables.
 #[derive(Drop)]
 pub(crate) struct Shelves {
     pub(crate) tables: BTreeMap<RefId, Arc<Table>>,
-    pub(crate) names: BTreeMap<Atom, RefId>,
-    pub(crate) owned: Groups<RefId>,
+    pub(crate) names: Arc<NameMap>,
+    pub(crate) owned: Arc<Groups<RefId>>,
 }
 
 impl Clone for Shelves {
@@ -31,12 +33,12 @@ impl Clone for Shelves {
 
     ghost is_clone = { AreSame };
 
-    /// The same shelves, which share the tables with these.
+    /// The same shelves, which share the tables, the names and the owners with these.
     fn clone(&self) -> Result<Shelves, AllocError> {
         Ok(Shelves {
             tables: self.tables.clone()?,
-            names: self.names.clone()?,
-            owned: self.owned.clone()?,
+            names: Arc::try_clone(&self.names)?,
+            owned: Arc::try_clone(&self.owned)?,
         })
     }
 }
@@ -46,17 +48,17 @@ impl Shelves {
     ghost use Rattle.ets_tables.specs.inside.Lending.{LendsShelved};
     ghost use Rattle.ets_tables.specs.Shelves.{AreSame, AreShelved, IsAltered, IsMeant, IsOwned, IsMadeOn, changes_destroyed, table_on, rows_on, held_on, meant_on, owned_on};
 
-    /// Empty shelves. It takes no memory.
-    pub(crate) fn new(alloc: Global) -> Shelves
-        ensures tables { (t : names.Ref) → held_on result t ≡ None }
-        ensures names { (name : names.Name) → meant_on result name ≡ None }
-        ensures owned { (p : names.Pid) → owned_on result p ≡ [] }
+    /// Empty shelves.
+    pub(crate) fn new(alloc: Global) -> Result<Shelves, AllocError>
+        ensures tables { IfOk result (λ begun. (t : names.Ref) → held_on begun t ≡ None) }
+        ensures names { IfOk result (λ begun. (name : names.Name) → meant_on begun name ≡ None) }
+        ensures owned { IfOk result (λ begun. (p : names.Pid) → owned_on begun p ≡ []) }
     {
-        Shelves {
+        Ok(Shelves {
             tables: BTreeMap::new(alloc),
-            names: BTreeMap::new(alloc),
-            owned: Groups::new(alloc),
-        }
+            names: Arc::new(alloc, NameMap::new(alloc))?,
+            owned: Arc::new(alloc, Groups::new(alloc))?,
+        })
     }
 
     /// A table is made.
@@ -119,15 +121,19 @@ impl Shelves {
         ensures ok { OnOk result (IsMeant name.now (Some (ref_of id.now)) self.old self.new) }
         ensures err { OnErr result (AreSame self.old self.new) }
     {
-        self.names.insert(name.copy()?, id.copy()?)?;
+        let named = Arc::make_mut(&mut self.names)?;
+        named.put(name, id)?;
         Ok(())
     }
 
     /// A name means nothing.
-    pub(crate) fn free(&mut self, name: &Atom)
-        ensures { IsMeant name.now None self.old self.new }
+    pub(crate) fn free(&mut self, name: &Atom) -> Result<(), AllocError>
+        ensures ok { OnOk result (IsMeant name.now None self.old self.new) }
+        ensures err { OnErr result (AreSame self.old self.new) }
     {
-        drop(self.names.remove(name));
+        let named = Arc::make_mut(&mut self.names)?;
+        named.remove(name);
+        Ok(())
     }
 
     /// A process has a table.
@@ -135,22 +141,30 @@ impl Shelves {
         ensures ok { OnOk result (IsOwned pid.now (set_in_order order_of_refs (ref_of id.now)) self.old self.new) }
         ensures err { OnErr result (AreSame self.old self.new) }
     {
-        self.owned.add(alloc, pid, id.copy()?)?;
+        let own_id = id.copy()?;
+        let groups = Arc::make_mut(&mut self.owned)?;
+        groups.add(alloc, pid, own_id)?;
         Ok(())
     }
 
     /// A process has a table no more.
-    pub(crate) fn lose(&mut self, pid: &Pid, id: &RefId)
-        ensures { IsOwned pid.now (without_first (same_ref (ref_of id.now))) self.old self.new }
+    pub(crate) fn lose(&mut self, pid: &Pid, id: &RefId) -> Result<(), AllocError>
+        ensures ok { OnOk result (IsOwned pid.now (without_first (same_ref (ref_of id.now))) self.old self.new) }
+        ensures err { OnErr result (AreSame self.old self.new) }
     {
-        self.owned.remove(pid, id);
+        let groups = Arc::make_mut(&mut self.owned)?;
+        groups.remove(pid, id);
+        Ok(())
     }
 
     /// A process has no table.
-    pub(crate) fn empty(&mut self, pid: &Pid)
-        ensures { IsOwned pid.now (λ _. []) self.old self.new }
+    pub(crate) fn empty(&mut self, pid: &Pid) -> Result<(), AllocError>
+        ensures ok { OnOk result (IsOwned pid.now (λ _. []) self.old self.new) }
+        ensures err { OnErr result (AreSame self.old self.new) }
     {
-        self.owned.clear(pid);
+        let groups = Arc::make_mut(&mut self.owned)?;
+        groups.clear(pid);
+        Ok(())
     }
 
     /// A new table stands under its reference, its owner has it, and its name means it where it is found by
@@ -172,26 +186,29 @@ impl Shelves {
 
     /// A table goes, with all its rows; its owner has it no more, and its name means nothing where it was found
     /// by that.
-    pub(crate) fn destroy(&mut self, id: &RefId)
-        ensures { (v : Contents) → AreShelved self.old v → AreShelved self.new (after (changes_destroyed (ref_of id.now) (table_on self.old (ref_of id.now))) v) }
+    pub(crate) fn destroy(&mut self, id: &RefId) -> Result<(), AllocError>
+        ensures { OnOk result ((v : Contents) → AreShelved self.old v → AreShelved self.new (after (changes_destroyed (ref_of id.now) (table_on self.old (ref_of id.now))) v)) }
     {
         let Some(entry) = self.take(id) else {
-            return;
+            return Ok(());
         };
         let table: &Table = &entry;
-        self.lose(&table.owner, id);
-        if table.is_named {
-            self.free(&table.name);
+        self.lose(&table.owner, id)?;
+        if !table.is_named {
+            return Ok(());
         }
+        self.free(&table.name)?;
+        Ok(())
     }
 
     /// A table goes, with all its rows, and its name means nothing where it was found by that.
-    pub(crate) fn forget(&mut self, id: &RefId, table: &Table)
-        ensures { (v : Contents) → AreShelved self.old v → AreShelved self.new (after (Goes (ref_of id.now) ∷ Wipes (ref_of id.now) ∷ name_freed (settings_in table.now)) v) }
+    pub(crate) fn forget(&mut self, id: &RefId, table: &Table) -> Result<(), AllocError>
+        ensures { OnOk result ((v : Contents) → AreShelved self.old v → AreShelved self.new (after (Goes (ref_of id.now) ∷ Wipes (ref_of id.now) ∷ name_freed (settings_in table.now)) v)) }
     {
         drop(self.take(id));
         if table.is_named {
-            self.free(&table.name);
+            self.free(&table.name)?;
         }
+        Ok(())
     }
 }

@@ -1,10 +1,10 @@
 // The names of processes (Erlang reference manual, "Processes": "Registered Processes").
-ghost use Rattle.std.specs.Prelude.{◌≡◌, [], IfOk, OnOk, OnErr, Some, None, option_copied};
+ghost use Rattle.std.specs.Prelude.{◌≡◌, ◌∷◌, [], IfOk, OnOk, OnErr, Some, None, option_copied};
 ghost use Rattle.std.specs.BTreeMap.{get};
 ghost use Rattle.term_core.specs.Order.{order_of_lists};
 ghost use Rattle.world_model.specs.Names as names;
 ghost use Rattle.world_model.specs.Cells.{Contents};
-ghost use Rattle.world_model.specs.Changes.{after};
+ghost use Rattle.world_model.specs.Changes.{after, Bares, Bears, Holds, Vacates};
 ghost use Rattle.world_model.specs.Ends.{name_left};
 ghost use Rattle.world_model.specs.ProcessLines.{register_refusal, unregister_line};
 
@@ -195,14 +195,44 @@ impl Names {
         Ok(())
     }
 
-    /// Takes a name from the process that has it.
-    fn take(&mut self, name: &Atom, pid: &Pid) -> Result<(), AllocError>
+    /// A process holds a name, and has it, whatever either had before. `AllocError` if there is no memory, and
+    /// then the process may hold the name and not have it.
+    pub fn put(&mut self, name: &Atom, pid: &Pid) -> Result<(), AllocError>
+        ensures holders { OnOk result ((v : Contents) → AreHolders self.old v → AreHolders self.new (after (Holds name.now pid.now ∷ Bears pid.now name.now ∷ []) v)) }
+        ensures names { OnOk result ((v : Contents) → AreBorne self.old v → AreBorne self.new (after (Holds name.now pid.now ∷ Bears pid.now name.now ∷ []) v)) }
+    {
+        let bearers = Arc::make_mut(&mut self.bearers)?;
+        bearers.hold(name, pid)?;
+        bearers.bear(pid, name)?;
+        Ok(())
+    }
+
+    /// Nobody holds a name, and the process that had it has none. `AllocError` if there is no memory for what is
+    /// shared with a copy, and then nothing is changed.
+    pub fn take(&mut self, name: &Atom, pid: &Pid) -> Result<(), AllocError>
         ensures ok { OnOk result (IsNamed name.now pid.now None None self.old self.new) }
+        ensures holders { OnOk result ((v : Contents) → AreHolders self.old v → AreHolders self.new (after (Vacates name.now ∷ Bares pid.now ∷ []) v)) }
+        ensures names { OnOk result ((v : Contents) → AreBorne self.old v → AreBorne self.new (after (Vacates name.now ∷ Bares pid.now ∷ []) v)) }
         ensures err { OnErr result (IsUnchanged self.old self.new) }
     {
         let bearers = Arc::make_mut(&mut self.bearers)?;
         bearers.vacate(name);
         bearers.bare(pid);
+        Ok(())
+    }
+
+    /// A process has no name, whoever holds that. Where it has none, nothing is copied or changed. `AllocError` if
+    /// there is no memory for what is shared with a copy, and then nothing is changed.
+    pub fn bare(&mut self, pid: &Pid) -> Result<(), AllocError>
+        ensures holders { OnOk result ((v : Contents) → AreHolders self.old v → AreHolders self.new (after (Bares pid.now ∷ []) v)) }
+        ensures names { OnOk result ((v : Contents) → AreBorne self.old v → AreBorne self.new (after (Bares pid.now ∷ []) v)) }
+        ensures err { OnErr result (IsUnchanged self.old self.new) }
+    {
+        if self.name_of(pid).is_none() {
+            return Ok(());
+        }
+        let own = Arc::make_mut(&mut self.bearers)?;
+        own.bare(pid);
         Ok(())
     }
 

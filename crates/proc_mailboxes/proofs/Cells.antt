@@ -1,8 +1,9 @@
 -- How mailboxes follow the changes of cells.
-use Rattle.std.proofs.Common.{◌≡◌, ◌<◌, ℕ, Bool, true, false, List, [], ◌∷◌, ◌++◌, Option, Some, None, refl, sym, ap, ◌∙◌, subst, arith, if◌then◌else◌, length, slice_get}
+use Rattle.std.proofs.Common.{◌≡◌, ◌<◌, ◌||◌, ℕ, Bool, true, false, true≢false, List, [], ◌∷◌, ◌++◌, Option, Some, None, refl, sym, ap, ◌∙◌, subst, arith, if◌then◌else◌, length, slice_get}
 use Prim.Native.Nat.{suc, zero}
-use Rattle.std.specs.List.{remove}
+use Rattle.std.specs.List.{list_any, remove}
 use Rattle.term_core.specs.Meaning.{Meaning}
+use Rattle.term_core.proofs.Equality.{terms_same}
 use Rattle.world_model.specs.Cells.{Contents}
 use Rattle.world_model.specs.Changes.{after, changed, without_first, Mails, Picks}
 use Rattle.world_model.specs.Mailboxes.{picked, selected_of}
@@ -54,3 +55,18 @@ picks_follow selects p old new n None found within is at v told = absurd (is_the
 picks_follow selects p old new n (Some x) found within is at v told =
     picked_follows selects p old new v (Some x) (sym (place_selected selects (messages_in old p) n (sym found)) ∙ sym is)
     (in_other_way (λ messages. remove messages n) (without_first selects) p old new (sym (place_removed selects (messages_in old p) n (sym found))) at) told
+
+-- a message that is there is the oldest that is the same
+there_first : (b : Bool) (x m : Meaning) (o : Option Meaning) → (b ≡ true → x ≡ m) → (b ≡ false → o ≡ Some m) → (if b then Some x else o) ≡ Some m
+there_first true x m o here later = ap Some (here refl)
+there_first false x m o here later = later refl
+
+later_there : (a b : Bool) → a ≡ false → (a || b) ≡ true → b ≡ true
+later_there true b e there = absurd (true≢false e)
+later_there false b e there = there
+
+pub same_selected : (m : Meaning) (ms : List Meaning) → list_any (same_term m) ms ≡ true → selected_of (same_term m) ms ≡ Some m
+same_selected m [] there = absurd (true≢false (sym there))
+same_selected m (x ∷ xs) there =
+    there_first (same_term m x) x m (selected_of (same_term m) xs) (λ e. sym ((terms_same m x (same_term m x) refl).0 e))
+    (λ e. same_selected m xs (later_there (same_term m x) (list_any (same_term m) xs) e there))

@@ -1,1 +1,2 @@
 pub mod Mailboxes
+pub mod inside

@@ -4,5 +4,6 @@
 mod held;
 mod mailbox_map;
 pub mod mailboxes;
+mod same;
 
 pub use mailboxes::Mailboxes;

@@ -1,16 +1,18 @@
 // The mailboxes of all processes: copies share them until one of them is changed.
-ghost use Rattle.std.specs.Prelude.{◌≡◌, ◌<◌, [], ◌∷◌, ◌++◌, IfOk, IfSome, OnOk, OnErr, None, length, option_and_then, option_copied, option_map, slice_get};
-ghost use Rattle.std.specs.List.{remove};
+ghost use Rattle.std.specs.Prelude.{◌≡◌, ◌<◌, [], ◌∷◌, ◌++◌, IfOk, IfSome, OnOk, OnErr, None, true, length, option_and_then, option_copied, option_map, slice_get};
+ghost use Rattle.std.specs.List.{list_any, remove};
 ghost use Rattle.proc_mailboxes.specs.Mailboxes.{AreMailboxes, IsChangedAt, IsUnchanged, messages_in, messages_of};
 ghost use Rattle.proc_signals.specs.Mailbox.{first_place};
 ghost use Rattle.proc_signals.specs.Signal.{ref_of};
 ghost use Rattle.term_core.specs.Term.{meaning_of};
 ghost use Rattle.world_model.specs.Cells.{Contents};
-ghost use Rattle.world_model.specs.Changes.{Mails, after, changed, is_of_watch, without_first};
+ghost use Rattle.world_model.specs.Changes.{Mails, Picks, after, changed, is_of_watch, without_first};
 ghost use Rattle.world_model.specs.Mailboxes.{mailbox_in, picked, selected_of};
 ghost use Rattle.world_model.specs.Names as names;
+ghost use Rattle.world_model.specs.Names.{same_term};
 
 use crate::mailbox_map::MailboxMap;
+use crate::same::Same;
 use proc_signals::{Mailbox, Selector};
 use std::alloc::{AllocError, Global};
 use std::marker::Model;
@@ -124,6 +126,18 @@ impl Mailboxes {
         };
         let taken = self.take_at(pid, place)?;
         Ok(taken)
+    }
+
+    /// Takes out the oldest message of a process that is the same as this one, if there is one. `AllocError` if there
+    /// is no memory, and then nothing is changed.
+    pub fn remove(&mut self, alloc: Global, pid: &Pid, message: &Term) -> Result<(), AllocError>
+        ensures picks { OnOk result ((v : Contents) → list_any (same_term (meaning_of message.now)) (mailbox_in v pid.now) ≡ true → AreMailboxes self.old v →
+            AreMailboxes self.new (changed (Picks pid.now (meaning_of message.now)) v)) }
+        ensures err { OnErr result (IsUnchanged self.old self.new) }
+    {
+        let selector = Same { message };
+        let _taken = self.take(alloc, pid, &selector)?;
+        Ok(())
     }
 
     /// Takes out the message of a process at a place.

@@ -142,6 +142,18 @@ impl Mailbox {
         self.messages.find_down(reference).is_some()
     }
 
+    /// The oldest message of a watch, if there is one: a tuple of five with this reference second (OTP, module
+    /// `erlang`, `demonitor/2` with the option `flush`). It takes no memory.
+    #[tactic(auto, using(crate::proofs::Removing::place_selected, crate::proofs::Removing::none_selected))]
+    pub fn down(&self, reference: &RefId) -> Option<&Term>
+        ensures { option_map (λ message. meaning_of message.now) result ≡ selected_of (is_of_watch (ref_of reference.now)) self.now }
+    {
+        let Some(place) = self.messages.find_down(reference) else {
+            return None;
+        };
+        self.get(place)
+    }
+
     /// Takes out the oldest message of a watch, if there is one: a tuple of five with this reference second
     /// (OTP, module `erlang`, `demonitor/2` with the option `flush`). `AllocError` if there is no memory for
     /// it, and then the mailbox is as it was.

@@ -48,7 +48,7 @@ pub(crate) fn on_table(
         let owner = told_owner(records, argument, rule)?;
         return Ok(Reply::Refused(Refusal::ByRule(rule, owner)));
     }
-    let answer = records.apply(alloc, caller, argument, call)?;
+    let answer = records.serve(alloc, caller, argument, call)?;
     Ok(Reply::Served(answer))
 }
 

@@ -1,3 +1,5 @@
+pub mod Allowing
+pub mod Applied
 pub mod Parts
 pub mod Changing
 pub mod Among

@@ -1,2 +1,4 @@
+pub mod Cells
+pub mod Changes
 pub mod Records
 pub mod inside

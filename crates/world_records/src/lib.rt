@@ -2,7 +2,12 @@
 // and what each change of the explored world does to it.
 #![tactic(auto)]
 
+pub mod apply;
+mod apply_processes;
+mod apply_tables;
 pub mod bonds;
+pub mod cell;
+pub mod change;
 pub mod ends;
 pub mod mail;
 pub mod names;
@@ -10,4 +15,6 @@ pub mod records;
 pub mod tables;
 pub mod turns;
 
+pub use cell::{Cell, ChannelPart, NamePart, ProcessPart, ReferencePart};
+pub use change::{Change, RowChange};
 pub use records::Records;

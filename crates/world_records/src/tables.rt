@@ -72,7 +72,7 @@ impl<'m> Records<'m> {
 
     /// A call of a table that no rule refuses, and its answer (the Erlang manual, module `ets`). `AllocError` if there
     /// is no memory.
-    pub fn apply(
+    pub fn serve(
         &mut self,
         alloc: Global,
         caller: &Pid,

@@ -1,10 +1,13 @@
 // Turns of processes, and processes that begin (Erlang reference manual, "Processes").
 ghost use Rattle.std.specs.Prelude.{◌≡◌, ◌∷◌, ◌+◌, [], IfOk, OnOk};
 ghost use Rattle.core_eval.specs.Requests.{answered_of};
+ghost use Rattle.core_tree.specs.Syntax.{ModuleTree};
 ghost use Rattle.proc_machines.specs.Processes.{turns_in};
-ghost use Rattle.world_model.specs.Changes.{Begins, Lives, Turns};
+ghost use Rattle.term_core.specs.Meaning.{Meaning};
+ghost use Rattle.world_model.specs.Cells.{Contents};
+ghost use Rattle.world_model.specs.Changes.{after, Begins, Dies, Halts, Lives, Turns};
 ghost use Rattle.world_model.specs.Requests.{Spawned};
-ghost use Rattle.world_records.specs.Records.{Follows, processes_of};
+ghost use Rattle.world_records.specs.Records.{Agrees, Follows, processes_of};
 
 use crate::records::Records;
 use core_eval::Answer;
@@ -26,6 +29,15 @@ impl<'m> Records<'m> {
         ensures { OnOk result (Follows (λ v. Turns pid.now (answered_of answer ∷ []) ∷ []) self.old self.new) }
     {
         self.processes.turn(alloc, pid, answer)?;
+        Ok(())
+    }
+
+    /// A process takes its last turn, ends, and lives no more; what else its end leaves is not done. `AllocError` if
+    /// there is no memory.
+    pub fn end_turn(&mut self, alloc: Global, pid: &Pid) -> Result<(), AllocError>
+        ensures { OnOk result ((m : ModuleTree) (v : Contents) (reason : Meaning) → Agrees m self.old v → Agrees m self.new (after (Turns pid.now [] ∷ Halts pid.now reason ∷ Dies pid.now ∷ []) v)) }
+    {
+        self.processes.end(alloc, pid)?;
         Ok(())
     }
 

@@ -2,14 +2,14 @@ use Rattle.std.proofs.Common.{ap, sym, subst, is_ok}
 use Rattle.world_model.specs.Changes.{after}
 use Rattle.proc_groups.specs.References.{ref_of}
 use Rattle.ets_tables.specs.Shelves.{AreShelved, changes_destroyed, table_on}
-use Rattle.ets_tables.proofs.Following.{still, same_shelves}
+use Rattle.ets_tables.proofs.Following.{still}
 use Rattle.ets_tables.proofs.registry.Registry.destroy.Goals as goal
 
 pub returns-clause-ok : goal.returns-clause-ok
 returns-clause-ok c =
     let t = ref_of c.args.id.now in
     let old = c.args.self.now.shelves.value in
-    let lent = c.in_ok-shelves.shelves.now in
-    let same = same_shelves old lent c.in_ok-shelves.ensures.value in
-    λ v told. subst (λ s. AreShelved s (after (changes_destroyed t (table_on old t)) v)) (sym (c.make_mut.follows.holds c.destroy.new.self (ap is_ok c.in_ok-shelves.was)))
-    (subst (λ o. AreShelved c.destroy.new.self (after (changes_destroyed t o) v)) (same.tables t) (c.destroy.ensures v (still old lent v same told)))
+    let copied = c.in_ok-shelves.shelves in
+    let same = c.in_ok-shelves.ensures in
+    λ v told. subst (λ s. AreShelved s (after (changes_destroyed t (table_on old t)) v)) (sym (c.make_mut.follows.holds c.destroy.new.self (ap is_ok c.in_ok-place.was)))
+    (subst (λ o. AreShelved c.destroy.new.self (after (changes_destroyed t o) v)) (same.tables t) (c.in_ok-destroy.ensures v (still old copied v same told)))

@@ -21,7 +21,7 @@ returns-clause-ok c =
     let are = all-is lives v p (table_at old) alive told.tables (owned_by old p) ∙ ap (tables_pass v p) (told.owned p) in
     subst (λ s. AreShelved s (after (tables_pass v p (v (cells.Owned p)) ++ (Empties p ∷ [])) v)) (sym c.in_ok-self.ensures.ok)
     (follows_both c.empty.new.self (tables_pass v p (v (cells.Owned p))) (Empties p ∷ []) v
-    (empties c.leave_all.new.shelves c.empty.new.self p (after (tables_pass v p (v (cells.Owned p))) v) c.empty.ensures
+    (empties c.leave_all.new.shelves c.empty.new.self p (after (tables_pass v p (v (cells.Owned p))) v) c.in_ok-empty.ensures.ok
     (subst (λ ks. AreShelved c.leave_all.new.shelves (after ks v)) are (c.in_ok-transfers.ensures.ok v (still old.shelves.value copied v c.in_ok-shelves.ensures told)))))
 
 pub returns-clause-told : goal.returns-clause-told

@@ -13,16 +13,16 @@ returns-in_default c =
     let none = sym c.take.ensures.taken ∙ ap (option_map (λ e. e.value)) c.in_default.is in
     λ v told. subst (λ o. AreShelved c.take.new.self (after (changes_destroyed t (option_map settings_in o)) v)) (sym none) (still c.args.self.now c.take.new.self v (none_went c.args.self.now c.take.new.self t none c.take.ensures.left) told)
 
-pub returns-then-table : goal.returns-then-table
-returns-then-table c =
+pub returns-then-not-table : goal.returns-then-not-table
+returns-then-not-table c =
     let t = ref_of c.args.id.now in
     let table = c.deref-table.result.now in
     let there : table_on c.args.self.now t ≡ Some (settings_in table) = ap (option_map settings_in) (sym c.in-Some.ensures.taken) ∙ ap (λ x. Some (settings_in x)) (sym c.deref-table.ensures) in
-    λ v told. named_went c.args.self.now c.take.new.self c.lose.new.self c.free.new.self t (settings_in table) v there c.if-table.true c.take.ensures.left c.lose.ensures c.free.ensures told
+    λ v told. unnamed_went c.args.self.now c.take.new.self c.lose.new.self t (settings_in table) v there c.if-not-table.true c.take.ensures.left c.in_ok-lose.ensures.ok told
 
 pub returns : goal.returns
 returns c =
     let t = ref_of c.args.id.now in
     let table = c.deref-table.result.now in
     let there : table_on c.args.self.now t ≡ Some (settings_in table) = ap (option_map settings_in) (sym c.in-Some.ensures.taken) ∙ ap (λ x. Some (settings_in x)) (sym c.deref-table.ensures) in
-    λ v told. unnamed_went c.args.self.now c.take.new.self c.lose.new.self t (settings_in table) v there c.if-table.false c.take.ensures.left c.lose.ensures told
+    λ v told. named_went c.args.self.now c.take.new.self c.lose.new.self c.free.new.self t (settings_in table) v there c.if-not-table.false c.take.ensures.left c.in_ok-lose.ensures.ok c.in_ok-free.ensures.ok told

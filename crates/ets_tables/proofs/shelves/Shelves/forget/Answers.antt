@@ -3,8 +3,8 @@ use Rattle.proc_groups.specs.References.{ref_of}
 use Rattle.ets_tables.proofs.Ending.{gone, gone_unnamed}
 use Rattle.ets_tables.proofs.shelves.Shelves.forget.Goals as goal
 
-pub returns-then-table : goal.returns-then-table
-returns-then-table c = λ v told. gone c.args.self.now c.take.new.self c.free.new.self (ref_of c.args.id.now) (settings_in c.args.table.now) v c.if-table.true c.take.ensures.left c.free.ensures told
+pub returns-in_ok-free : goal.returns-in_ok-free
+returns-in_ok-free c = λ v told. gone c.args.self.now c.take.new.self c.free.new.self (ref_of c.args.id.now) (settings_in c.args.table.now) v c.if-table.true c.take.ensures.left c.in_ok-free.ensures.ok told
 
 pub returns-else-table : goal.returns-else-table
 returns-else-table c = λ v told. gone_unnamed c.args.self.now c.take.new.self (ref_of c.args.id.now) (settings_in c.args.table.now) v c.if-table.false c.take.ensures.left told

@@ -1,0 +1,101 @@
+// Single changes of the rows of a table (ets manual, `insert/2`, `delete_object/2`, `delete/2`, `update_element/3`,
+// `delete_all_objects/1`).
+ghost use Rattle.std.specs.Prelude.{◌≡◌, ◌∷◌, [], Some, OnOk};
+ghost use Rattle.ets_rules.specs.Tables.{Hold};
+ghost use Rattle.proc_groups.specs.References.{ref_of};
+ghost use Rattle.term_core.specs.Term.{meaning_of};
+ghost use Rattle.world_model.specs.Cells as cells;
+ghost use Rattle.world_model.specs.Cells.{Contents};
+ghost use Rattle.world_model.specs.Changes.{after, Wipes, Writes};
+ghost use Rattle.world_model.specs.Rows.{Alters, Clears, Removes, Stores};
+ghost use Rattle.world_model.specs.Tables as settings;
+
+use crate::tables::Tables;
+use ets_store::Object;
+use std::alloc::{AllocError, Global};
+use term_core::{RefId, Term};
+
+impl Tables {
+    /// An object is put in under a key of a table, if there is one, as the kind of the table says. `AllocError` if
+    /// there is no memory for it, and then it is dropped.
+    pub fn store(
+        &mut self,
+        alloc: Global,
+        id: &RefId,
+        key: &Term,
+        object: Object,
+    ) -> Result<(), AllocError>
+        ensures { OnOk result ((v : Contents) (table : settings.Table) → v (cells.Table (ref_of id.now)) ≡ Some table → Hold self.old v → Hold self.new (after (Writes (ref_of id.now) (meaning_of key.now) (Stores table.kind object) ∷ []) v)) }
+    {
+        if self.registry.get(id).is_none() {
+            return Ok(());
+        }
+        let table = self.registry.table_mut(id)?;
+        table.rows.store(alloc, key, object)?;
+        Ok(())
+    }
+
+    /// All instances of an object are taken out under a key of a table, if there is one. `AllocError` if there is no
+    /// memory for the others.
+    pub fn erase(
+        &mut self,
+        alloc: Global,
+        id: &RefId,
+        key: &Term,
+        object: &Object,
+    ) -> Result<(), AllocError>
+        ensures { OnOk result ((v : Contents) (table : settings.Table) → v (cells.Table (ref_of id.now)) ≡ Some table → Hold self.old v → Hold self.new (after (Writes (ref_of id.now) (meaning_of key.now) (Removes object.now) ∷ []) v)) }
+    {
+        if self.registry.get(id).is_none() {
+            return Ok(());
+        }
+        let table = self.registry.table_mut(id)?;
+        table.rows.erase(alloc, key, object)?;
+        Ok(())
+    }
+
+    /// All objects are taken out under a key of a table, if there is one. `AllocError` if there is no memory for what
+    /// is shared with a copy.
+    pub fn delete_key(&mut self, id: &RefId, key: &Term) -> Result<(), AllocError>
+        ensures { OnOk result ((v : Contents) (table : settings.Table) → v (cells.Table (ref_of id.now)) ≡ Some table → Hold self.old v → Hold self.new (after (Writes (ref_of id.now) (meaning_of key.now) Clears ∷ []) v)) }
+    {
+        if self.registry.get(id).is_none() {
+            return Ok(());
+        }
+        let table = self.registry.table_mut(id)?;
+        table.rows.delete_key(key)?;
+        Ok(())
+    }
+
+    /// The first object under a key of a table, if there is one, gets another part at a position. `AllocError` if there
+    /// is no memory for it, and then the part is dropped.
+    pub fn alter(
+        &mut self,
+        alloc: Global,
+        id: &RefId,
+        key: &Term,
+        position: usize,
+        value: Term,
+    ) -> Result<(), AllocError>
+        ensures { OnOk result ((v : Contents) (table : settings.Table) → v (cells.Table (ref_of id.now)) ≡ Some table → Hold self.old v → Hold self.new (after (Writes (ref_of id.now) (meaning_of key.now) (Alters position (meaning_of value)) ∷ []) v)) }
+    {
+        if self.registry.get(id).is_none() {
+            return Ok(());
+        }
+        let table = self.registry.table_mut(id)?;
+        table.rows.update_element(alloc, key, position, value)?;
+        Ok(())
+    }
+
+    /// All rows of a table go, if there is one. `AllocError` if there is no memory for what is shared with a copy.
+    pub fn wipe(&mut self, alloc: Global, id: &RefId) -> Result<(), AllocError>
+        ensures { OnOk result ((v : Contents) → Hold self.old v → Hold self.new (after (Wipes (ref_of id.now) ∷ []) v)) }
+    {
+        if self.registry.get(id).is_none() {
+            return Ok(());
+        }
+        let table = self.registry.table_mut(id)?;
+        table.rows.clear(alloc)?;
+        Ok(())
+    }
+}
