@@ -26,10 +26,13 @@ pushed_copy before prefix s t pushed same = pushed ∙ ap (λ (x : Step). before
 abbrev pub IsHeld : Seen → Plan → Agenda → List Shared → Type 0
 IsHeld w p g slept = IsChildOf w p.step × IsAgenda (program_in w) w.history g × IsPlan (program_in w) w.history p × ArePlans (program_in w) (history_below w.history (next_event (program_in w) w.history p.step)) slept
 
--- so of their copies
-pub child_of_copy : (w v : Seen) (p q : Plan) (f g : Agenda) (slept : List Shared) → v ≡ w → q ≡ p → g ≡ f → IsHeld w p f slept → IsHeld v q g slept
-child_of_copy w v p q f g slept world plan agenda hold =
-    subst (λ (x : Seen). IsHeld x q g slept) (sym world) (subst (λ (x : Plan). IsHeld w x g slept) (sym plan) (subst (λ (x : Agenda). IsHeld w p x slept) (sym agenda) hold))
+-- so of copies of the world and the plan
+pub held_by_copy : (w v : Seen) (p q : Plan) (g : Agenda) (slept : List Shared) → v ≡ w → q ≡ p → IsHeld w p g slept → IsHeld v q g slept
+held_by_copy w v p q g slept world plan hold =
+    subst (λ (x : Seen). IsHeld x q g slept) (sym world) (subst (λ (x : Plan). IsHeld w x g slept) (sym plan) hold)
+
+pub child_of_copy : (w v : Seen) (s t : Step) → v ≡ w → t ≡ s → IsChildOf w s → IsChildOf v t
+child_of_copy w v s t world step child = subst (λ (x : Seen). IsChildOf x t) (sym world) (subst (IsChildOf w) (sym step) child)
 
 module _ (w : Seen) (s : Step) (child : IsChildOf w s) where
   goes_there : extended w.history (next_event (program_in w) w.history s) ≡ Some (after w s).history

@@ -11,7 +11,7 @@ use Rattle.world_model.proofs.Opened.{listed_enabled}
 use Rattle.coverage.specs.Jobs.{Node, asleep_below, awake_steps, nodes_after, nodes_along, node_at, nodes_from}
 use Rattle.coverage.proofs.Lists.{kept_passes}
 use Rattle.sleep_jobs.specs.Explorations.{ExplorationSeen}
-use Rattle.sleep_tree.specs.inside.Frames.{NodeSeen, FrameSeen, own_node, nodes_of_node, nodes_of_frame, nodes_of_frames, AreEnabled, IsFrame, IsNodeOf, IsFrameOf, AreFramesOf, frame_after, others_of}
+use Rattle.sleep_tree.specs.inside.Frames.{NodeSeen, FrameSeen, own_node, nodes_of_node, nodes_of_frame, nodes_of_frames, AreEnabled, IsFrame, IsNodeOf, IsFrameOf, AreFramesOf, IsChild, IsFirstOf, frame_after, others_of}
 use Rattle.sleep_tree.specs.inside.Nodes.{IsNode, history_below}
 use Rattle.sleep_jobs.proofs.Lists.{all_append}
 use Rattle.sleep_jobs.proofs.Runs.{not_none}
@@ -80,14 +80,6 @@ opened_frame w slept line n is = record { node = n; enabled = awake_enabled (pro
 
 -- ---- the next child
 
--- the node below a frame by the first step of its line
-pub record IsChild (f : FrameSeen) (s : Step) (rest : List Step) (v : NodeSeen) : Type 0 where
-  pub line : f.line ≡ s ∷ rest
-  pub program : v.program ≡ f.program
-  pub history : extended f.history (next_event (program_of f.program) f.history s) ≡ Some v.history
-  pub slept : (f.left ≡ 0 → ⊥) → v.slept ≡ asleep_below (program_of f.program) f.history f.slept s
-  pub left : v.left ≡ f.left
-
 -- what has happened after an enabled step
 pub history_is : (h : History) (o : Option Event) → (o ≡ None → ⊥) → extended h o ≡ Some (history_below h o)
 history_is h None some = absurd (some refl)
@@ -102,6 +94,21 @@ is_child w v slept asleep line s t rest left is same own enabled sleeps = record
   history = history_is w.history (next_event (program_in w) w.history s) enabled ∙ (λ i. Some (history_below (sym same i).history (next_event (program_in (sym same i)) (sym same i).history (sym own i))));
   slept = sleeps;
   left = refl;
+}
+
+-- so is a node that the step leads to
+pub first_made : (w x : Seen) (slept asleep line : List Step) (s t : Step) (rest : List Step) (left : ℕ) (v : NodeSeen) → line ≡ s ∷ rest → x ≡ w → t ≡ s → v.program ≡ x.program → extended x.history (next_event (program_in x) x.history t) ≡ Some v.history → v.slept ≡ asleep → v.left ≡ left
+    → ((left ≡ 0 → ⊥) → asleep ≡ asleep_below (program_in w) w.history slept s) → IsFirstOf (record { program = w.program; history = w.history; slept = slept; line = line; left = left }) v
+first_made w x slept asleep line s t rest left v is same own program now slept_is left_is sleeps = record {
+  step = s;
+  rest = rest;
+  child = record {
+    line = is;
+    program = program ∙ ap (λ (y : Seen). y.program) same;
+    history = (λ i. extended (sym same i).history (next_event (program_in (sym same i)) (sym same i).history (sym own i))) ∙ now;
+    slept = λ more. slept_is ∙ sleeps more;
+    left = left_is;
+  };
 }
 
 -- at the depth it does not matter what sleeps

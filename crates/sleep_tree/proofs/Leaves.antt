@@ -1,5 +1,5 @@
 -- Leaves: the next child of a frame, where it lies at the depth.
-use Rattle.std.proofs.Common.{◌≡◌, ◌∙◌, false, List, [], ◌∷◌, ◌++◌, Option, Some, None, refl, sym, ap, subst}
+use Rattle.std.proofs.Common.{◌≡◌, ◌∙◌, Bool, true, false, List, [], ◌∷◌, ◌++◌, Option, Some, None, refl, sym, ap, subst}
 use Rattle.core_tree.specs.Syntax.{ModuleTree}
 use Rattle.term_core.specs.declared.step.Step.{Step}
 use Rattle.world_core.specs.Seen.{Seen, program_in}
@@ -18,13 +18,13 @@ use Rattle.coverage.specs.Findings.{Findings}
 use Rattle.findings.specs.Laws.{AddsSchedule}
 use Rattle.findings.proofs.Schedules.{adds_schedule}
 use Rattle.step_agenda.specs.Quiet.{IsQuiet}
-use Rattle.sleep_jobs.specs.Explorations.{ExplorationSeen}
-use Rattle.sleep_tree.specs.inside.Frames.{FrameSeen, IsWorldOf, NodeSeen, VisitsNext, AreFramesOf, IsFrameOf, IsNodeOf, others_of, history_along, leaf_below, nodes_of_frame, nodes_of_frames, nodes_of_node, own_node}
-use Rattle.sleep_tree.specs.inside.Leaves.{IsLedTo, IsLife, IsQuietBelow, LeadsOn, LivesBelow}
+use Rattle.sleep_tree.specs.inside.Frames.{FrameSeen, IsWorldOf, NodeSeen, VisitsNext, IsChild, OnTop, PassesChild, TakesChild, history_along, leaf_below, nodes_of_frames, own_node}
+use Rattle.sleep_tree.specs.inside.Leaves.{IsLife, IsQuietBelow, LeadsOn, LivesBelow}
 use Rattle.sleep_tree.specs.inside.Nodes.{history_below}
-use Rattle.sleep_tree.proofs.Frames.{IsChild, child_and_others, deep_node, history_is, others_are_of}
+use Rattle.sleep_tree.proofs.Frames.{deep_node, history_is}
 use Rattle.sleep_tree.proofs.Pieces.{node_adds}
 use Rattle.sleep_tree.proofs.Runs.{goes_on, next_of}
+use Rattle.sleep_tree.proofs.Stacks.{one_last, taken_are_of, taken_nodes}
 
 -- ---- whether a step is enabled
 
@@ -92,37 +92,46 @@ leaf_is_child f depth leads =
       left = sym depth;
     }
 
-pub leaf_visited : (flags : Flags) (f : FrameSeen) (old new : List FrameSeen) (findings : Findings) → f.left ≡ 0 → LivesBelow f → IsQuietBelow f → new ≡ old ++ others_of f f.line → VisitsNext flags f old findings new findings
-leaf_visited flags f old new findings depth lives quiet now =
+-- a leaf that shows nothing, and of which that is plain
+abbrev pub IsPlain : FrameSeen → Type 0
+IsPlain f = (f.left ≡ 0) × (LivesBelow f × IsQuietBelow f)
+
+plain_takes : (old new : List FrameSeen) → (on : OnTop IsPlain old) → PassesChild old new → TakesChild old (leaf_below on.top) new
+plain_takes old new on passes =
+    let leads = on.holds.1.0.0 in
+    record {
+      first = record { below = on.below; top = on.top; is = on.is; holds = record { step = leads.step; rest = leads.rest; child = leaf_is_child on.top on.holds.0 leads } };
+      passes = passes;
+    }
+
+pub leaf_visited : (flags : Flags) (old new : List FrameSeen) (findings : Findings) → OnTop IsPlain old → PassesChild old new → VisitsNext flags old findings new findings
+leaf_visited flags old new findings on passes =
+    let f = on.top in
     let a = program_of f.program in
-    let leads = lives.0 in
+    let lives = on.holds.1.0 in
     let w : Seen = record { program = f.program; history = (leaf_below f).history; spent = false } in
     let s = schedule_of w.history in
-    let shows : shown a w.history ≡ [] = λ i. quiet i ++ no_deadlock (enabled_steps a w.history) (living w.history) lives.1 i in
+    let shows : shown a w.history ≡ [] = λ i. on.holds.1.1 i ++ no_deadlock (enabled_steps a w.history) (living w.history) lives.1 i in
     let adds : AddsSchedule flags s (shown a w.history) findings findings = subst (λ (is : List Identity). AddsSchedule flags s is findings findings) (sym shows) (adds_schedule flags s [] findings findings refl) in
+    let takes = plain_takes old new on passes in
     record {
       node = own_node (leaf_below f);
-      nodes =
-          child_and_others f leads.step leads.rest (leaf_below f) old new (leaf_is_child f depth leads) (now ∙ ap (λ l. old ++ others_of f l) leads.line)
-          ∙ deep_node (leaf_below f) (nodes_of_frames new) refl;
-      found = λ e done same belongs all before. node_adds e w [] 0 flags findings findings done same belongs.program leads.reached adds before;
-      are_of = λ e belongs all. others_are_of e f f.line old new now belongs all;
+      nodes = taken_nodes old new (leaf_below f) takes ∙ deep_node (leaf_below f) (nodes_of_frames new) refl;
+      found = λ e done same all before. node_adds e w [] 0 flags findings findings done same (taken_are_of e old new (leaf_below f) takes all).0.program lives.0.reached adds before;
+      are_of = λ e all. (taken_are_of e old new (leaf_below f) takes all).1;
     }
 
 -- ---- one that is visited with its world
 
+-- the child that it leads to
+pub record IsLedTo (f : FrameSeen) (v : NodeSeen) : Type 0 where
+  pub program : v.program ≡ f.program
+  pub history : v.history ≡ (leaf_below f).history
+  pub left : v.left ≡ f.left
+
 pub lives_there : (f : FrameSeen) (v : NodeSeen) (w : Seen) → LivesBelow f → IsLedTo f v → IsWorldOf v w → enabled_steps (program_in w) w.history ≡ [] → ⊥
 lives_there f v w lives led of none =
     lives.1 ((λ i. enabled_steps (program_of (sym (of.program ∙ led.program) i)) (sym (of.history ∙ led.history) i)) ∙ none)
-
-pub world_visited : (flags : Flags) (f : FrameSeen) (v : NodeSeen) (w : Seen) (old new : List FrameSeen) (before after : Findings) → f.left ≡ 0 → IsLedTo f v → IsWorldOf v w → nodes_of_frame f ++ nodes_of_frames old ≡ nodes_of_node v ++ nodes_of_frames new
-    → ((e : ExplorationSeen) → IsFrameOf e f → AreFramesOf e old → IsNodeOf e v × AreFramesOf e new) → AddsSchedule flags (schedule_of w.history) (shown (program_in w) w.history) before after → VisitsNext flags f old before new after
-world_visited flags f v w old new before after depth led of nodes are_of adds = record {
-  node = own_node (record { program = w.program; history = w.history; slept = v.slept; left = v.left });
-  nodes = nodes ∙ deep_node v (nodes_of_frames new) (led.left ∙ depth) ∙ (λ i. own_node (record { program = sym of.program i; history = sym of.history i; slept = v.slept; left = v.left }) ∷ nodes_of_frames new);
-  found = λ e done same belongs all old_is. node_adds e w v.slept v.left flags before after done same (ap program_of of.program ∙ (are_of e belongs all).0.program) of.node.reached adds old_is;
-  are_of = λ e belongs all. (are_of e belongs all).1;
-}
 
 -- the child of a frame is the one that it leads to
 pub led_to : (f : FrameSeen) (s : Step) (rest : List Step) (v : NodeSeen) → IsChild f s rest v → IsLedTo f v
@@ -134,3 +143,30 @@ led_to f s rest v child =
       history = next.grown ∙ ap (history_below f.history) (sym next.is_next) ∙ ap (history_along a f.history) (sym child.line);
       left = child.left;
     }
+
+-- a leaf, behind which it may be known that a step is enabled
+abbrev pub IsLeaf : Bool → FrameSeen → Type 0
+IsLeaf lives f = (f.left ≡ 0) × (lives ≡ true → LivesBelow f)
+
+-- what is known of the last frame, and what its child is
+pub record IsLedOnTop (P : FrameSeen → Type 0) (v : NodeSeen) : Type 0 where
+  pub top : FrameSeen
+  pub holds : P top
+  pub led : IsLedTo top v
+
+pub led_on_top : (P : FrameSeen → Type 0) (old new : List FrameSeen) (v : NodeSeen) → OnTop P old → TakesChild old v new → IsLedOnTop P v
+led_on_top P old new v on takes =
+    let first = takes.first.holds in
+    record {
+      top = takes.first.top;
+      holds = subst P (one_last old on.below takes.first.below on.top takes.first.top on.is takes.first.is) on.holds;
+      led = led_to takes.first.top first.step first.rest v first.child;
+    }
+
+pub world_visited : (flags : Flags) (lives : Bool) (v : NodeSeen) (w : Seen) (old new : List FrameSeen) (before after : Findings) → IsLedOnTop (IsLeaf lives) v → IsWorldOf v w → TakesChild old v new → AddsSchedule flags (schedule_of w.history) (shown (program_in w) w.history) before after → VisitsNext flags old before new after
+world_visited flags lives v w old new before after led of takes adds = record {
+  node = own_node (record { program = w.program; history = w.history; slept = v.slept; left = v.left });
+  nodes = taken_nodes old new v takes ∙ deep_node v (nodes_of_frames new) (led.led.left ∙ led.holds.0) ∙ (λ i. own_node (record { program = sym of.program i; history = sym of.history i; slept = v.slept; left = v.left }) ∷ nodes_of_frames new);
+  found = λ e done same all old_is. node_adds e w v.slept v.left flags before after done same (ap program_of of.program ∙ (taken_are_of e old new v takes all).0.program) of.node.reached adds old_is;
+  are_of = λ e all. (taken_are_of e old new v takes all).1;
+}

@@ -5,4 +5,5 @@ pub mod Frames
 pub mod Pieces
 pub mod Children
 pub mod Agendas
+pub mod Stacks
 pub mod Leaves

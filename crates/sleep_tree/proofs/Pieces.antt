@@ -1,5 +1,5 @@
 -- What one more visit does to what was done.
-use Rattle.std.proofs.Common.{◌≡◌, ◌<◌, ◌≤◌, ℕ, zero, suc, ◌+◌, Bool, List, [], ◌∷◌, ◌++◌, length, Some, refl, sym, ap, ◌∙◌, subst, arith, append_assoc, append-nil, length-append}
+use Rattle.std.proofs.Common.{◌≡◌, ◌≤◌, ℕ, zero, suc, ◌+◌, Bool, List, [], ◌∷◌, ◌++◌, length, Some, refl, sym, ap, ◌∙◌, subst, arith, append_assoc, append-nil, length-append}
 use Rattle.term_core.specs.declared.step.Step.{Step}
 use Rattle.findings.specs.Laws.{AddsSchedule}
 use Rattle.world_core.specs.Seen.{Seen}
@@ -15,8 +15,7 @@ use Rattle.coverage.proofs.Lists.{among_left}
 use Rattle.sleep_jobs.specs.Explorations.{ExplorationSeen, JobSeen, program_in, nodes_of, nodes_of_all, findings_of}
 use Rattle.sleep_jobs.specs.Meanings.{AreShown, AreOfJob}
 use Rattle.sleep_jobs.specs.Pieces.{AreOf, IsPiece}
-use Rattle.sleep_tree.specs.inside.Frames.{NodeSeen, FrameSeen, own_node, nodes_of_node, nodes_of_frame, nodes_of_frames, IsFrameOf, AreFramesOf, IsExploring, VisitsNext}
-use Rattle.sleep_tree.proofs.Frames.{frames_push}
+use Rattle.sleep_tree.specs.inside.Frames.{NodeSeen, FrameSeen, own_node, nodes_of_node, nodes_of_frames, IsFrameOf, AreFramesOf, IsExploring, VisitsNext}
 use Rattle.sleep_jobs.proofs.Passing.{found_passes}
 use Rattle.sleep_jobs.proofs.Lists.{all_append, all_front, all_back}
 
@@ -56,20 +55,18 @@ popped e all fs frame belong is =
     ((all_back (IsFrameOf e) fs (frame ∷ []) both).0, all_front (IsFrameOf e) fs (frame ∷ []) both)
 
 -- one more
-pub exploring_more : (e : ExplorationSeen) (name : Job) (flags : Flags) (f g : Findings) (k : ℕ) (all fs hs : List FrameSeen) (frame : FrameSeen) → IsExploring e name f k all → all ≡ fs ++ frame ∷ [] → e.flags ≡ flags → VisitsNext flags frame fs f hs g → IsExploring e name g (k + 1) hs
-exploring_more e name flags f g k all fs hs frame x is same next =
-    let b = popped e all fs frame x.are_of is in
-    record {
-      done = x.done ++ next.node ∷ [];
-      is_done = record { found = next.found e x.done same b.0 b.1 x.is_done.found; counted = omega (arith, x.is_done.counted, length-append x.done (next.node ∷ [])) };
-      made_up = x.made_up ∙ ap (λ vs. x.done ++ vs) (ap nodes_of_frames is ∙ frames_push fs frame ∙ next.nodes) ∙ sym (append_assoc x.done (next.node ∷ []) (nodes_of_frames hs));
-      are_of = next.are_of e b.0 b.1;
-    }
+pub exploring_more : (e : ExplorationSeen) (name : Job) (flags : Flags) (f g : Findings) (k : ℕ) (fs hs : List FrameSeen) → IsExploring e name f k fs → e.flags ≡ flags → VisitsNext flags fs f hs g → IsExploring e name g (k + 1) hs
+exploring_more e name flags f g k fs hs x same next = record {
+  done = x.done ++ next.node ∷ [];
+  is_done = record { found = next.found e x.done same x.are_of x.is_done.found; counted = omega (arith, x.is_done.counted, length-append x.done (next.node ∷ [])) };
+  made_up = x.made_up ∙ ap (λ vs. x.done ++ vs) next.nodes ∙ sym (append_assoc x.done (next.node ∷ []) (nodes_of_frames hs));
+  are_of = next.are_of e x.are_of;
+}
 
 -- ---- the rest
 
 -- a node has at least one
-node_some : (v : NodeSeen) → 1 ≤ length (nodes_of_node v)
+pub node_some : (v : NodeSeen) → 1 ≤ length (nodes_of_node v)
 node_some v = go v.left
   where
     go : (n : ℕ) → 1 ≤ length (nodes_from (program_of v.program) n v.history (schedule_of v.history) v.slept)
@@ -77,17 +74,12 @@ node_some v = go v.left
     go (suc n) = omega arith
 
 -- one more job
-pub rest_more : (e : ExplorationSeen) (rest more : List JobSeen) (all fs gs : List FrameSeen) (frame : FrameSeen) (v : NodeSeen) (job : JobSeen) (total : List Node) → nodes_of_all e rest ++ nodes_of_frames all ≡ total → more ≡ rest ++ job ∷ [] → all ≡ fs ++ frame ∷ [] → nodes_of_frame frame ++ nodes_of_frames fs ≡ nodes_of_node v ++ nodes_of_frames gs → nodes_of e job.name ≡ nodes_of_node v → nodes_of_all e more ++ nodes_of_frames gs ≡ total
-rest_more e rest more all fs gs frame v job total whole pushed is down own =
+pub rest_more : (e : ExplorationSeen) (rest more : List JobSeen) (fs gs : List FrameSeen) (v : NodeSeen) (job : JobSeen) (total : List Node) → nodes_of_all e rest ++ nodes_of_frames fs ≡ total → more ≡ rest ++ job ∷ [] → nodes_of_frames fs ≡ nodes_of_node v ++ nodes_of_frames gs → nodes_of e job.name ≡ nodes_of_node v → nodes_of_all e more ++ nodes_of_frames gs ≡ total
+rest_more e rest more fs gs v job total whole pushed down own =
     ap (λ js. nodes_of_all e js ++ nodes_of_frames gs) pushed
     ∙ ap (λ vs. vs ++ nodes_of_frames gs) (all_join e rest (job ∷ []) ∙ ap (λ vs. nodes_of_all e rest ++ vs) (append-nil (nodes_of e job.name) ∙ own))
     ∙ append_assoc (nodes_of_all e rest) (nodes_of_node v) (nodes_of_frames gs)
-    ∙ ap (λ vs. nodes_of_all e rest ++ vs) (sym (ap nodes_of_frames is ∙ frames_push fs frame ∙ down)) ∙ whole
-
-pub rest_smaller : (all fs gs : List FrameSeen) (frame : FrameSeen) (v : NodeSeen) → all ≡ fs ++ frame ∷ [] → nodes_of_frame frame ++ nodes_of_frames fs ≡ nodes_of_node v ++ nodes_of_frames gs → length (nodes_of_frames gs) < length (nodes_of_frames all)
-rest_smaller all fs gs frame v is down =
-    let same : length (nodes_of_frames all) ≡ length (nodes_of_node v ++ nodes_of_frames gs) = ap length (ap nodes_of_frames is ∙ frames_push fs frame ∙ down) in
-    omega (arith, same, length-append (nodes_of_node v) (nodes_of_frames gs), node_some v)
+    ∙ ap (λ vs. nodes_of_all e rest ++ vs) (sym down) ∙ whole
 
 pub rest_are_of : (e : ExplorationSeen) (rest more : List JobSeen) (job : JobSeen) → more ≡ rest ++ job ∷ [] → AreOf e rest → job.exploration ≡ e → AreOf e more
 rest_are_of e rest more job pushed all own =

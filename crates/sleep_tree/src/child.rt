@@ -1,30 +1,29 @@
-// A child of a node that was visited: it is visited next, or left to a job.
+// A child of a node that was visited: a leaf that is visited next, or one that is left to a job.
 ghost use Rattle.std.specs.Prelude.{◌≡◌, IfOk};
 ghost use Rattle.sleep_jobs.specs.Explorations.{exploration_in, nodes_of};
 ghost use Rattle.sleep_tree.specs.inside.Frames.{IsNodeOf, IsWorldOf, nodes_of_node};
 
-use crate::node::{Node, stepped};
+use crate::node::stepped;
 use crate::sleeping::steps_of;
 use sleep_jobs::{Exploration, Job, JobName};
 use std::alloc::Global;
 use std::marker::Model;
 use std::rc::Rc;
-use step_agenda::{Agenda, Plan};
+use step_agenda::Plan;
 use world_core::{World, WorldFault};
 
-/// A child: the world of the node above it, the plans of the steps that sleep for the child, that of the step to it, how
-/// many steps may follow it, and the agenda of the node above.
+/// A child: the world of the node above it, the plans of the steps that sleep for the child, that of the step to it, and how
+/// many steps may follow it.
 #[derive(Drop)]
 pub(crate) struct Child<'m> {
     pub(crate) above: World<'m>,
     pub(crate) slept: Vec<Rc<Plan>>,
     pub(crate) plan: Rc<Plan>,
     pub(crate) left: u64,
-    pub(crate) agenda: Rc<Agenda>,
 }
 
 impl<'m> Model for Child<'m> {
-    ghost use Rattle.step_agenda.specs.Plans.{ArePlans, IsAgenda, IsPlan, steps_in};
+    ghost use Rattle.step_agenda.specs.Plans.{steps_in};
     ghost use Rattle.world_core.specs.Seen.{program_in};
     ghost use Rattle.world_model.specs.Run.{next_event};
     ghost use Rattle.sleep_tree.specs.inside.Codes.{coded_node};
@@ -37,28 +36,10 @@ impl<'m> Model for Child<'m> {
 
     ghost view = { λ c. record { program = c.above.program; history = history_below c.above.history (next_event (program_in c.above) c.above.history c.plan.value.step); slept = steps_in c.slept.items; left = c.left } };
 
-    ghost invariant = { λ c. IsChildOf c.above c.plan.value.step
-        × IsAgenda (program_in c.above) c.above.history c.agenda.value
-        × IsPlan (program_in c.above) c.above.history c.plan.value
-        × ArePlans (program_in c.above) (history_below c.above.history (next_event (program_in c.above) c.above.history c.plan.value.step)) c.slept.items };
+    ghost invariant = { λ c. IsChildOf c.above c.plan.value.step };
 }
 
 impl<'m> Child<'m> {
-    /// Its node: the step is taken. `Memory` where there is none.
-    pub(crate) fn enter(self, alloc: Global) -> Result<Node<'m>, WorldFault>
-        ensures { IfOk result (λ node. node ≡ self.entry) }
-    {
-        let Child {
-            above,
-            slept,
-            plan,
-            left,
-            agenda,
-        } = self;
-        let node = Node::below(alloc, above, slept, &plan, left, &agenda)?;
-        Ok(node)
-    }
-
     /// Its world: the step is taken. `Memory` where there is none.
     pub(crate) fn into_world(self, alloc: Global) -> Result<World<'m>, WorldFault>
         ensures { IfOk result (λ world. IsWorldOf self.entry world) }
@@ -68,7 +49,6 @@ impl<'m> Child<'m> {
             slept: _,
             plan,
             left: _,
-            agenda: _,
         } = self;
         stepped(alloc, above, &plan.step)
     }
@@ -88,7 +68,6 @@ impl<'m> Child<'m> {
             slept,
             plan,
             left: _,
-            agenda: _,
         } = self;
         let mut prefix = above.schedule(alloc)?;
         prefix.push(plan.step.copy()?)?;

@@ -36,8 +36,8 @@ fn rest_of<'m>(
 {
     let mut frames = frames;
     let mut rest = Vec::new(alloc);
-    while let Some(frame) = frames.pop() {
-        let child = next_child(alloc, frame, &mut frames)?;
+    while !frames.is_empty() {
+        let child = next_child(alloc, &mut frames)?;
         let job = child.leave(alloc, exploration)?;
         rest.push(job)?;
     }
@@ -65,12 +65,9 @@ fn expanded<'m, G: Gate>(
     gate.turn(job.number());
     visit(alloc, exploration.flags, first, &mut findings, &mut frames)?;
     let mut nodes = 1;
-    while nodes < budget {
-        let Some(frame) = frames.pop() else {
-            break;
-        };
+    while nodes < budget && !frames.is_empty() {
         gate.turn(job.number());
-        visit_next(alloc, exploration.flags, frame, &mut findings, &mut frames)?;
+        visit_next(alloc, exploration.flags, &mut findings, &mut frames)?;
         nodes += 1;
     }
     let rest = rest_of(alloc, exploration, frames)?;

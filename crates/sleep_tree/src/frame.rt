@@ -1,14 +1,15 @@
 // A node that was visited, and whose children were not all.
-ghost use Rattle.std.specs.Prelude.{◌≡◌, ◌∷◌, ◌++◌, true, IfOk, OnOk};
+ghost use Rattle.std.specs.Prelude.{◌≡◌, ◌∷◌, ◌++◌, [], true, false, IfOk, OnOk};
 ghost use Rattle.sleep_jobs.specs.Explorations.{ExplorationSeen};
-ghost use Rattle.sleep_tree.specs.inside.Frames.{nodes_of_frame, nodes_of_frames, nodes_of_node, own_node, others_of, AreFramesOf, IsFrameOf, IsNodeOf};
-ghost use Rattle.sleep_tree.specs.inside.Leaves.{IsLedTo, IsQuietBelow, LivesBelow};
+ghost use Rattle.sleep_tree.specs.inside.Frames.{nodes_of_frames, nodes_of_node, own_node, others_of, AreFramesOf, IsNodeOf, PassesChild, TakesChild, IsFirstOf};
+ghost use Rattle.sleep_tree.specs.inside.Leaves.{IsQuietBelow, LivesBelow};
 
 use crate::child::Child;
 use crate::node::Node;
 use crate::sleeping::sleep_below;
 use std::alloc::Global;
 use std::marker::Model;
+use std::mem::replace;
 use std::rc::Rc;
 use step_agenda::{Agenda, Plan, is_quiet};
 use world_core::{World, WorldFault};
@@ -22,7 +23,7 @@ pub(crate) struct Frame<'m> {
     next: Rc<Plan>,
     after: Vec<Rc<Plan>>,
     left: u64,
-    agenda: Rc<Agenda>,
+    agenda: Agenda,
 }
 
 impl<'m> Model for Frame<'m> {
@@ -39,7 +40,7 @@ impl<'m> Model for Frame<'m> {
     ghost view = { λ f. record { program = f.world.program; history = f.world.history; slept = steps_in f.slept.items; line = steps_in (f.next ∷ reverse f.after.items); left = f.left } };
 
     ghost invariant = { λ f. IsFrame f.world (steps_in (f.next ∷ reverse f.after.items))
-        × IsAgenda (program_in f.world) f.world.history f.agenda.value
+        × IsAgenda (program_in f.world) f.world.history f.agenda
         × ArePlans (program_in f.world) f.world.history f.slept.items
         × ArePlans (program_in f.world) f.world.history (f.next ∷ reverse f.after.items) };
 }
@@ -66,7 +67,6 @@ pub(crate) fn open<'m>(
     let Some(next) = after.pop() else {
         return Ok(());
     };
-    let agenda = Rc::new(alloc, agenda)?;
     frames.push(Frame {
         world,
         slept,
@@ -78,54 +78,123 @@ pub(crate) fn open<'m>(
     Ok(())
 }
 
-/// Puts the children of a frame behind its next one back on the stack; the step to that one sleeps for them. `Memory`
-/// where there is none.
-pub(crate) fn put_others<'m>(
-    frame: Frame<'m>,
-    frames: &mut Vec<Frame<'m>>,
-) -> Result<(), WorldFault>
-    ensures { OnOk result (frames.new.items ≡ frames.old.items ++ others_of frame.entry frame.entry.line) }
+/// Goes on to the child behind the next one of the last frame of a stack, which is not visited; a frame without others is
+/// gone. `Memory` where there is none.
+pub(crate) fn pass_child(frames: &mut Vec<Frame<'_>>) -> Result<(), WorldFault>
+    requires { frames.old.items ≡ [] → ⊥ }
+    ensures { OnOk result (PassesChild frames.old.items frames.new.items) }
 {
-    let Frame {
-        world,
-        slept,
-        next,
-        after,
-        left,
-        agenda,
-    } = frame;
-    let mut after = after;
-    let Some(following) = after.pop() else {
-        return Ok(());
+    let Some(frame) = frames.last_mut() else {
+        unreachable!();
     };
-    let mut slept = slept;
-    slept.push(next)?;
-    frames.push(Frame {
-        world,
-        slept,
-        next: following,
-        after,
-        left,
-        agenda,
-    })?;
+    if frame.has_others() {
+        frame.go_on()?;
+        return Ok(());
+    }
+    let Some(frame) = frames.pop() else {
+        unreachable!();
+    };
+    drop(frame);
     Ok(())
 }
 
-/// The next child of a frame, whose other children go back on the stack. The last child takes the world over. `Memory`
-/// where there is none.
+/// The next child of the last frame of a stack, which goes on to the child behind it. The last child takes the world over,
+/// and its frame is gone. `Memory` where there is none.
 pub(crate) fn next_child<'m>(
     alloc: Global,
-    frame: Frame<'m>,
     frames: &mut Vec<Frame<'m>>,
 ) -> Result<Child<'m>, WorldFault>
-    ensures nodes { IfOk result (λ child. nodes_of_frame frame.entry ++ nodes_of_frames frames.old.items ≡ nodes_of_node child ++ nodes_of_frames frames.new.items) }
-    ensures are_of { IfOk result (λ child. (e : ExplorationSeen) → IsFrameOf e frame.entry → AreFramesOf e frames.old.items → IsNodeOf e child × AreFramesOf e frames.new.items) }
-    ensures led_to { IfOk result (IsLedTo frame.entry) }
+    requires { frames.old.items ≡ [] → ⊥ }
+    ensures { IfOk result (λ child. TakesChild frames.old.items child frames.new.items) }
 {
-    let slept = frame.slept.as_slice();
-    let asleep = sleep_below(alloc, slept, &frame.next, frame.left)?;
-    let others = frame.after.len();
-    if others == 0 {
+    let Some(frame) = frames.last_mut() else {
+        unreachable!();
+    };
+    if frame.has_others() {
+        let child = frame.fork(alloc)?;
+        return Ok(child);
+    }
+    let Some(frame) = frames.pop() else {
+        unreachable!();
+    };
+    let child = frame.into_child(alloc)?;
+    Ok(child)
+}
+
+/// The node of the next child of the last frame of a stack, which goes on to the child behind it. `Memory` where there is
+/// none.
+pub(crate) fn descend<'m>(
+    alloc: Global,
+    frames: &mut Vec<Frame<'m>>,
+) -> Result<Node<'m>, WorldFault>
+    requires { frames.old.items ≡ [] → ⊥ }
+    ensures { IfOk result (λ node. TakesChild frames.old.items node frames.new.items) }
+{
+    let Some(frame) = frames.last_mut() else {
+        unreachable!();
+    };
+    if frame.has_others() {
+        let node = frame.fork_node(alloc)?;
+        return Ok(node);
+    }
+    let Some(frame) = frames.pop() else {
+        unreachable!();
+    };
+    let node = frame.into_node(alloc)?;
+    Ok(node)
+}
+
+impl<'m> Frame<'m> {
+    // Whether there are children behind the next one.
+    fn has_others(&self) -> bool
+        ensures some { result ≡ true → others_of self.now self.now.line ≡ [] → ⊥ }
+        ensures none { result ≡ false → others_of self.now self.now.line ≡ [] }
+    {
+        let others = self.after.len();
+        others > 0
+    }
+
+    // Goes on to the child behind the next one, whose step sleeps from now on.
+    fn go_on(&mut self) -> Result<(), WorldFault>
+        requires { others_of self.old self.old.line ≡ [] → ⊥ }
+        ensures { OnOk result (self.new ∷ [] ≡ others_of self.old self.old.line) }
+    {
+        let Some(following) = self.after.pop() else {
+            unreachable!();
+        };
+        let taken = replace(&mut self.next, following);
+        self.slept.push(taken)?;
+        Ok(())
+    }
+
+    // The node of the next child, with a copy of the world.
+    fn copy_node(&self, alloc: Global) -> Result<Node<'m>, WorldFault>
+        ensures { IfOk result (λ node. IsFirstOf self.now node) }
+    {
+        let slept = self.slept.as_slice();
+        let asleep = sleep_below(alloc, slept, &self.next, self.left)?;
+        let world = self.world.copy()?;
+        let node = Node::below(alloc, world, asleep, &self.next, self.left, &self.agenda)?;
+        Ok(node)
+    }
+
+    // The node of the next child, and the frame goes on to the child behind it.
+    fn fork_node(&mut self, alloc: Global) -> Result<Node<'m>, WorldFault>
+        requires { others_of self.old self.old.line ≡ [] → ⊥ }
+        ensures node { IfOk result (λ node. IsFirstOf self.old node) }
+        ensures others { IfOk result (λ _. self.new ∷ [] ≡ others_of self.old self.old.line) }
+    {
+        let node = self.copy_node(alloc)?;
+        self.go_on()?;
+        Ok(node)
+    }
+
+    // The node of the next child, which is the last one.
+    fn into_node(self, alloc: Global) -> Result<Node<'m>, WorldFault>
+        ensures { IfOk result (λ node. IsFirstOf self.entry node) }
+    {
+        let slept = self.slept.as_slice();
+        let asleep = sleep_below(alloc, slept, &self.next, self.left)?;
         let Frame {
             world,
             slept: _,
@@ -133,41 +202,58 @@ pub(crate) fn next_child<'m>(
             after: _,
             left,
             agenda,
-        } = frame;
-        return Ok(Child {
+        } = self;
+        let node = Node::below(alloc, world, asleep, &next, left, &agenda)?;
+        Ok(node)
+    }
+
+    // The next child, with a copy of the world.
+    fn copy_child(&self, alloc: Global) -> Result<Child<'m>, WorldFault>
+        ensures { IfOk result (λ child. IsFirstOf self.now child) }
+    {
+        let slept = self.slept.as_slice();
+        let asleep = sleep_below(alloc, slept, &self.next, self.left)?;
+        Ok(Child {
+            above: self.world.copy()?,
+            slept: asleep,
+            plan: self.next.clone()?,
+            left: self.left,
+        })
+    }
+
+    // The next child, and the frame goes on to the one behind it.
+    fn fork(&mut self, alloc: Global) -> Result<Child<'m>, WorldFault>
+        requires { others_of self.old self.old.line ≡ [] → ⊥ }
+        ensures child { IfOk result (λ child. IsFirstOf self.old child) }
+        ensures others { IfOk result (λ _. self.new ∷ [] ≡ others_of self.old self.old.line) }
+    {
+        let child = self.copy_child(alloc)?;
+        self.go_on()?;
+        Ok(child)
+    }
+
+    // The next child, which is the last one.
+    fn into_child(self, alloc: Global) -> Result<Child<'m>, WorldFault>
+        ensures { IfOk result (λ child. IsFirstOf self.entry child) }
+    {
+        let slept = self.slept.as_slice();
+        let asleep = sleep_below(alloc, slept, &self.next, self.left)?;
+        let Frame {
+            world,
+            slept: _,
+            next,
+            after: _,
+            left,
+            agenda: _,
+        } = self;
+        Ok(Child {
             above: world,
             slept: asleep,
             plan: next,
             left,
-            agenda,
-        });
+        })
     }
-    let child = Child {
-        above: frame.world.copy()?,
-        slept: asleep,
-        plan: frame.next.clone()?,
-        left: frame.left,
-        agenda: frame.agenda.clone()?,
-    };
-    put_others(frame, frames)?;
-    Ok(child)
-}
 
-/// The node of the next child of a frame, whose other children go back on the stack. `Memory` where there is none.
-pub(crate) fn descend<'m>(
-    alloc: Global,
-    frame: Frame<'m>,
-    frames: &mut Vec<Frame<'m>>,
-) -> Result<Node<'m>, WorldFault>
-    ensures nodes { IfOk result (λ node. nodes_of_frame frame.entry ++ nodes_of_frames frames.old.items ≡ nodes_of_node node ++ nodes_of_frames frames.new.items) }
-    ensures are_of { IfOk result (λ node. (e : ExplorationSeen) → IsFrameOf e frame.entry → AreFramesOf e frames.old.items → IsNodeOf e node × AreFramesOf e frames.new.items) }
-{
-    let child = next_child(alloc, frame, frames)?;
-    let node = child.enter(alloc)?;
-    Ok(node)
-}
-
-impl Frame<'_> {
     /// Whether its next child lies at the depth. It takes no memory.
     pub(crate) fn leads_to_a_leaf(&self) -> bool
         ensures { result ≡ true → self.now.left ≡ 0 }

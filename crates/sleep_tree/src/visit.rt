@@ -8,9 +8,9 @@ ghost use Rattle.world_model.specs.Run.{enabled_steps, schedule_of};
 ghost use Rattle.world_model.specs.Shown.{shown as shown_of};
 ghost use Rattle.sleep_jobs.specs.Explorations.{ExplorationSeen, findings_of};
 ghost use Rattle.sleep_tree.specs.inside.Leaves.{IsLife, LivesBelow};
-ghost use Rattle.sleep_tree.specs.inside.Frames.{nodes_of_frames, nodes_of_node, own_node, AreFramesOf, IsNodeOf, VisitsNext};
+ghost use Rattle.sleep_tree.specs.inside.Frames.{nodes_of_frames, nodes_of_node, own_node, AreFramesOf, IsNodeOf, OnTop, VisitsNext};
 
-use crate::frame::{Frame, descend, next_child, open, put_others};
+use crate::frame::{Frame, descend, next_child, open, pass_child};
 use crate::node::Node;
 use findings::{Findings, Flags, Identity};
 use std::alloc::Global;
@@ -78,21 +78,19 @@ pub(crate) fn visit<'m>(
     Ok(())
 }
 
-/// Visits the next child of a frame, which lies at the depth, with its world and without an agenda; the other children go
-/// back on the stack. It may be known that some step is enabled there. `Memory` where there is none.
+/// Visits the next child of the last frame of a stack, which lies at the depth, with its world and without an agenda; the
+/// frame goes on to the child behind it. It may be known that some step is enabled there. `Memory` where there is none.
 fn visit_leaf<'m>(
     alloc: Global,
     flags: Flags,
-    frame: Frame<'m>,
     lives: bool,
     findings: &mut Findings,
     frames: &mut Vec<Frame<'m>>,
 ) -> Result<(), WorldFault>
-    requires at_depth { frame.left ≡ 0 }
-    requires lives { lives ≡ true → LivesBelow frame }
-    ensures { OnOk result (VisitsNext (flags_in flags) frame.entry frames.old.items findings.old frames.new.items findings.new) }
+    requires { OnTop (λ f. (f.left ≡ 0) × (lives ≡ true → LivesBelow f)) frames.old.items }
+    ensures { OnOk result (VisitsNext (flags_in flags) frames.old.items findings.old frames.new.items findings.new) }
 {
-    let child = next_child(alloc, frame, frames)?;
+    let child = next_child(alloc, frames)?;
     let step = child.plan.step.copy()?;
     let world = child.into_world(alloc)?;
     if lives {
@@ -104,26 +102,29 @@ fn visit_leaf<'m>(
     Ok(())
 }
 
-/// Visits the next child of a frame, whose other children go back on the stack. At the depth no agenda is made for it, and
-/// no world where it is plain that it shows nothing. `Memory` where there is none.
+/// Visits the next child of the last frame of a stack, which goes on to the child behind it. At the depth no agenda is made
+/// for it, and no world where it is plain that it shows nothing. `Memory` where there is none.
 pub(crate) fn visit_next<'m>(
     alloc: Global,
     flags: Flags,
-    frame: Frame<'m>,
     findings: &mut Findings,
     frames: &mut Vec<Frame<'m>>,
 ) -> Result<(), WorldFault>
-    ensures { OnOk result (VisitsNext (flags_in flags) frame.entry frames.old.items findings.old frames.new.items findings.new) }
+    requires { frames.old.items ≡ [] → ⊥ }
+    ensures { OnOk result (VisitsNext (flags_in flags) frames.old.items findings.old frames.new.items findings.new) }
 {
+    let Some(frame) = frames.last() else {
+        unreachable!();
+    };
     if frame.leads_to_a_leaf() {
         let lives = frame.lives_below();
         if lives && frame.is_quiet_below(alloc)? {
-            put_others(frame, frames)?;
+            pass_child(frames)?;
             return Ok(());
         }
-        return visit_leaf(alloc, flags, frame, lives, findings, frames);
+        return visit_leaf(alloc, flags, lives, findings, frames);
     }
-    let node = descend(alloc, frame, frames)?;
+    let node = descend(alloc, frames)?;
     visit(alloc, flags, node, findings, frames)?;
     Ok(())
 }

@@ -1,16 +1,16 @@
 -- The stack of an expansion: nodes that were visited, and whose children were not all.
 use Rattle.std.specs.List.{AllByRecursion}
-use Rattle.std.specs.Prelude.{◌≡◌, ◌+◌, ℕ, List, [], ◌∷◌, ◌++◌, None, length}
+use Rattle.std.specs.Prelude.{◌≡◌, ◌+◌, ℕ, List, [], ◌∷◌, ◌++◌, Some, None, length}
 use Rattle.core_tree.specs.Syntax.{ModuleTree}
 use Rattle.term_core.specs.declared.step.Step.{Step}
 use Rattle.world_model.specs.Asking.{program_of}
 use Rattle.world_model.specs.Events.{History}
 use Rattle.world_model.specs.Names.{IsAmong}
 use Rattle.world_model.specs.Requests.{Program}
-use Rattle.world_model.specs.Run.{next_event, schedule_of}
+use Rattle.world_model.specs.Run.{extended, next_event, schedule_of}
 use Rattle.world_model.specs.Shown.{Flags}
 use Rattle.coverage.specs.Findings.{Findings}
-use Rattle.coverage.specs.Jobs.{Job, Node, node_at, nodes_from, nodes_along}
+use Rattle.coverage.specs.Jobs.{Job, Node, asleep_below, node_at, nodes_from, nodes_along}
 use Rattle.sleep_jobs.specs.Explorations as seen
 use Rattle.sleep_jobs.specs.Explorations.{ExplorationSeen, findings_of, nodes_of}
 use Rattle.sleep_jobs.specs.Pieces.{IsDone}
@@ -98,12 +98,41 @@ pub record IsFrameOf (e : ExplorationSeen) (f : FrameSeen) : Type 0 where
 abbrev pub AreFramesOf : ExplorationSeen → List FrameSeen → Type 0
 AreFramesOf e fs = AllByRecursion (IsFrameOf e) fs
 
--- the next child of a frame is visited: what it shows is added, and the others stay on the stack
-pub record VisitsNext (flags : Flags) (f : FrameSeen) (old : List FrameSeen) (before : Findings) (new : List FrameSeen) (after : Findings) : Type 0 where
+-- the node below a frame by the first step of its line
+pub record IsChild (f : FrameSeen) (s : Step) (rest : List Step) (v : NodeSeen) : Type 0 where
+  pub line : f.line ≡ s ∷ rest
+  pub program : v.program ≡ f.program
+  pub history : extended f.history (next_event (program_of f.program) f.history s) ≡ Some v.history
+  pub slept : (f.left ≡ 0 → ⊥) → v.slept ≡ asleep_below (program_of f.program) f.history f.slept s
+  pub left : v.left ≡ f.left
+
+pub record IsFirstOf (f : FrameSeen) (v : NodeSeen) : Type 0 where
+  pub step : Step
+  pub rest : List Step
+  pub child : IsChild f step rest v
+
+-- something holds of the last frame of a stack
+pub record OnTop (P : FrameSeen → Type 0) (fs : List FrameSeen) : Type 0 where
+  pub below : List FrameSeen
+  pub top : FrameSeen
+  pub is : fs ≡ below ++ top ∷ []
+  pub holds : P top
+
+-- the last frame goes on to the child behind the next one, or is gone
+abbrev pub PassesChild : List FrameSeen → List FrameSeen → Type 0
+PassesChild old new = (below : List FrameSeen) (top : FrameSeen) → old ≡ below ++ top ∷ [] → new ≡ below ++ others_of top top.line
+
+-- the next child is taken from a stack
+pub record TakesChild (old : List FrameSeen) (v : NodeSeen) (new : List FrameSeen) : Type 0 where
+  pub first : OnTop (λ f. IsFirstOf f v) old
+  pub passes : PassesChild old new
+
+-- the next child of the last frame is visited: what it shows is added, and the others stay on the stack
+pub record VisitsNext (flags : Flags) (old : List FrameSeen) (before : Findings) (new : List FrameSeen) (after : Findings) : Type 0 where
   pub node : Node
-  pub nodes : nodes_of_frame f ++ nodes_of_frames old ≡ node ∷ nodes_of_frames new
-  pub found : (e : ExplorationSeen) (done : List Node) → e.flags ≡ flags → IsFrameOf e f → AreFramesOf e old → before ≡ findings_of e done → after ≡ findings_of e (done ++ node ∷ [])
-  pub are_of : (e : ExplorationSeen) → IsFrameOf e f → AreFramesOf e old → AreFramesOf e new
+  pub nodes : nodes_of_frames old ≡ node ∷ nodes_of_frames new
+  pub found : (e : ExplorationSeen) (done : List Node) → e.flags ≡ flags → AreFramesOf e old → before ≡ findings_of e done → after ≡ findings_of e (done ++ node ∷ [])
+  pub are_of : (e : ExplorationSeen) → AreFramesOf e old → AreFramesOf e new
 
 -- the nodes of a job are those that were visited, and then those that the stack leaves
 pub record IsExploring (e : ExplorationSeen) (name : Job) (findings : Findings) (nodes : ℕ) (frames : List FrameSeen) : Type 0 where

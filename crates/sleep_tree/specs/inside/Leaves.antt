@@ -4,7 +4,7 @@ use Rattle.term_core.specs.declared.step.Step.{Step}
 use Rattle.world_model.specs.Asking.{program_of}
 use Rattle.world_model.specs.Run.{enabled_steps, next_event, run, schedule_of}
 use Rattle.world_model.specs.Shown.{shown_last}
-use Rattle.sleep_tree.specs.inside.Frames.{FrameSeen, NodeSeen, leaf_below}
+use Rattle.sleep_tree.specs.inside.Frames.{FrameSeen, leaf_below}
 
 -- the first step of its line can be taken
 pub record LeadsOn (f : FrameSeen) : Type 0 where
@@ -21,12 +21,6 @@ LivesBelow f = LeadsOn f × (enabled_steps (program_of f.program) (leaf_below f)
 -- its event shows nothing
 abbrev pub IsQuietBelow : FrameSeen → Type 0
 IsQuietBelow f = shown_last (leaf_below f).history ≡ []
-
--- the child that it leads to
-pub record IsLedTo (f : FrameSeen) (v : NodeSeen) : Type 0 where
-  pub program : v.program ≡ f.program
-  pub history : v.history ≡ (leaf_below f).history
-  pub left : v.left ≡ f.left
 
 -- there is a step exactly where some are enabled
 abbrev pub IsLife : Option Step → List Step → Type 0

@@ -26,8 +26,8 @@ loop-nodes-preserved g c =
     let flags = flags_in c.exploration-exploration.result.flags in
     let same : e.flags ≡ flags = sym (ap (λ (x : ExplorationSeen). x.flags) c.exploration-exploration.ensures) in
     record {
-      exploring = exploring_more e c.args.job.now.name flags c.loop-nodes.findings c.visit_next.new.findings c.loop-nodes.nodes c.loop-nodes.frames.items c.pop.new.self.items c.visit_next.new.frames.items c.in-Some.frame
-          c.loop-nodes.invariant.exploring c.in-Some.ensures.items same c.in_ok-visit_next.ensures;
+      exploring = exploring_more e c.args.job.now.name flags c.loop-nodes.findings c.visit_next.new.findings c.loop-nodes.nodes c.loop-nodes.frames.items c.visit_next.new.frames.items
+          c.loop-nodes.invariant.exploring same c.in_ok-visit_next.ensures;
       some = omega arith;
       within = omega arith;
     }

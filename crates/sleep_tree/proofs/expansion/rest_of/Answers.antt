@@ -1,24 +1,24 @@
 use Rattle.sleep_jobs.specs.Explorations.{exploration_in}
 use Rattle.sleep_tree.specs.inside.Frames.{nodes_of_frames}
-use Rattle.sleep_tree.proofs.Pieces.{popped, rest_more, rest_smaller, rest_are_of}
+use Rattle.sleep_tree.proofs.Pieces.{rest_more, rest_are_of}
+use Rattle.sleep_tree.proofs.Stacks.{taken_are_of, taken_nodes, taken_smaller}
 use Rattle.sleep_tree.proofs.expansion.rest_of.Goals as goal
 
 pub leave-requires : goal.leave-requires
 leave-requires c =
-    let e = exploration_in c.args.exploration in
-    let b = popped e c.loop-frame.frames.items c.pop.new.self.items c.in-Some.frame c.loop-frame.invariant.frames_are_of c.in-Some.ensures.items in
-    (c.in_ok-child.ensures.are_of e b.0 b.1).0
+    (taken_are_of (exploration_in c.args.exploration) c.loop-alloc.frames.items c.next_child.new.frames.items c.in_ok-child.child c.in_ok-child.ensures c.loop-alloc.invariant.frames_are_of).0
 
-pub loop-frame-smaller : goal.loop-frame-smaller
-loop-frame-smaller c =
-    rest_smaller c.loop-frame.frames.items c.pop.new.self.items c.next_child.new.frames.items c.in-Some.frame c.in_ok-child.child c.in-Some.ensures.items c.in_ok-child.ensures.nodes
+pub loop-alloc-smaller : goal.loop-alloc-smaller
+loop-alloc-smaller c = taken_smaller c.loop-alloc.frames.items c.next_child.new.frames.items c.in_ok-child.child c.in_ok-child.ensures
 
-pub loop-frame-preserved : goal.loop-frame-preserved
-loop-frame-preserved c =
+pub loop-alloc-preserved : goal.loop-alloc-preserved
+loop-alloc-preserved c =
     let e = exploration_in c.args.exploration in
-    let b = popped e c.loop-frame.frames.items c.pop.new.self.items c.in-Some.frame c.loop-frame.invariant.frames_are_of c.in-Some.ensures.items in
+    let old = c.loop-alloc.frames.items in
+    let new = c.next_child.new.frames.items in
+    let child = c.in_ok-child.child in
     record {
-      nodes = rest_more e c.loop-frame.rest.items c.push.new.self.items c.loop-frame.frames.items c.pop.new.self.items c.next_child.new.frames.items c.in-Some.frame c.in_ok-child.child c.in_ok-job.job (nodes_of_frames c.args.frames.items) c.loop-frame.invariant.nodes c.in_ok-push.ensures.items c.in-Some.ensures.items c.in_ok-child.ensures.nodes c.in_ok-job.ensures.nodes;
-      are_of = rest_are_of e c.loop-frame.rest.items c.push.new.self.items c.in_ok-job.job c.in_ok-push.ensures.items c.loop-frame.invariant.are_of c.in_ok-job.ensures.exploration;
-      frames_are_of = (c.in_ok-child.ensures.are_of e b.0 b.1).1;
+      nodes = rest_more e c.loop-alloc.rest.items c.push.new.self.items old new child c.in_ok-job.job (nodes_of_frames c.args.frames.items) c.loop-alloc.invariant.nodes c.in_ok-push.ensures.items (taken_nodes old new child c.in_ok-child.ensures) c.in_ok-job.ensures.nodes;
+      are_of = rest_are_of e c.loop-alloc.rest.items c.push.new.self.items c.in_ok-job.job c.in_ok-push.ensures.items c.loop-alloc.invariant.are_of c.in_ok-job.ensures.exploration;
+      frames_are_of = (taken_are_of e old new child c.in_ok-child.ensures c.loop-alloc.invariant.frames_are_of).1;
     }

@@ -1,7 +1,7 @@
 use Rattle.std.proofs.Common.{◌≡◌, ◌∙◌, ◌∷◌, [], ap, sym, subst, arith, reverse}
 use Rattle.world_core.specs.Seen.{program_in}
 use Rattle.coverage.specs.Jobs.{awake_steps}
-use Rattle.step_agenda.specs.Plans.{ArePlans, IsAgenda, steps_in}
+use Rattle.step_agenda.specs.Plans.{ArePlans, steps_in}
 use Rattle.sleep_jobs.proofs.Lists.{reverse_last, reverse_none}
 use Rattle.sleep_tree.specs.inside.Frames.{NodeSeen, IsNodeOf, nodes_of_frames}
 use Rattle.sleep_tree.proofs.Agendas.{awake_given}
@@ -18,7 +18,7 @@ invariant_of-push c =
     let is : steps_in plans ≡ awake_steps (program_in w) w.history (steps_in slept) =
     ap steps_in (sym whole) ∙ awake.steps ∙ awake_given (program_in w) w.history c.as_slice.result.now slept c.as_slice.ensures.value in (
       opened_frame w (steps_in slept) (steps_in plans) c.node.invariant.0 is,
-      subst (IsAgenda (program_in w) w.history) (sym c.in_ok-agenda.ensures.ok) c.node.invariant.1,
+      c.node.invariant.1,
       c.node.invariant.2,
       subst (ArePlans (program_in w) w.history) whole awake.plans,
     )

@@ -1,20 +1,40 @@
-use Rattle.std.proofs.Common.{◌∙◌}
+use Rattle.std.proofs.Common.{◌≡◌, ◌∙◌, ◌-◌, Some, length, slice_index_or, sym}
+use Rattle.std.proofs.lemmas.Option.{get_or_from_slice_get}
+use Rattle.std.specs.List.{slice_get}
 use Rattle.findings.specs.Identities.{flags_in}
 use Rattle.sleep_tree.specs.inside.Frames.{own_node}
-use Rattle.sleep_tree.proofs.Leaves.{leaf_visited}
+use Rattle.sleep_tree.proofs.Leaves.{IsLeaf, IsPlain, leaf_visited}
+use Rattle.sleep_tree.proofs.Stacks.{on_top, taken_are_of, taken_nodes}
 use Rattle.sleep_tree.proofs.visit.visit_next.Goals as goal
+
+pub visit_leaf-requires : goal.visit_leaf-requires
+visit_leaf-requires c =
+    let old = c.args.frames.now.items in
+    let frame = c.in-Some.frame.now in
+    let found : Some frame ≡ slice_get old (length old - 1) = c.in-Some.ensures.value ∙ (λ i. slice_get (c.deref.ensures.value i) (length (c.deref.ensures.value i) - 1)) in
+    let looked : frame ≡ slice_index_or old (length old - 1) frame = sym (get_or_from_slice_get old (length old - 1) frame frame (sym found)) in
+    on_top (IsLeaf c.lives_below-lives.result) old frame c.requires looked (c.leads_to_a_leaf.ensures c.if-leads_to_a_leaf.true, c.lives_below-lives.ensures)
 
 pub returns-then-branch : goal.returns-then-branch
 returns-then-branch c =
-    leaf_visited (flags_in c.args.flags) c.args.frame c.args.frames.now.items c.put_others.new.frames.items c.args.findings.now
-    (c.leads_to_a_leaf.ensures c.if-leads_to_a_leaf.true) (c.lives_below-lives.ensures c.if-lives.true) (c.in_ok-is_quiet_below.ensures c.if-branch.true) c.in_ok-put_others.ensures
+    let old = c.args.frames.now.items in
+    let frame = c.in-Some.frame.now in
+    let found : Some frame ≡ slice_get old (length old - 1) = c.in-Some.ensures.value ∙ (λ i. slice_get (c.deref.ensures.value i) (length (c.deref.ensures.value i) - 1)) in
+    let looked : frame ≡ slice_index_or old (length old - 1) frame = sym (get_or_from_slice_get old (length old - 1) frame frame (sym found)) in
+    let plain : IsPlain frame = (c.leads_to_a_leaf.ensures c.if-leads_to_a_leaf.true, (c.lives_below-lives.ensures c.if-lives.true, c.in_ok-is_quiet_below.ensures c.if-branch.true)) in
+    leaf_visited (flags_in c.args.flags) old c.pass_child.new.frames.items c.args.findings.now
+    (on_top IsPlain old frame c.requires looked plain) c.in_ok-pass_child.ensures
 
 pub returns : goal.returns
-returns c = record {
-  node = own_node c.in_ok-node.node;
-  nodes = c.in_ok-node.ensures.nodes ∙ c.in_ok-visit.ensures.nodes;
-  found = λ e done same belongs all before. c.in_ok-visit.ensures.found e done same (c.in_ok-node.ensures.are_of e belongs all).0 before;
-  are_of = λ e belongs all.
-      let below = c.in_ok-node.ensures.are_of e belongs all in
-      c.in_ok-visit.ensures.are_of e below.0 below.1;
-}
+returns c =
+    let old = c.args.frames.now.items in
+    let frames = c.descend.new.frames.items in
+    let node = c.in_ok-node.node in
+    record {
+      node = own_node node;
+      nodes = taken_nodes old frames node c.in_ok-node.ensures ∙ c.in_ok-visit.ensures.nodes;
+      found = λ e done same all before. c.in_ok-visit.ensures.found e done same (taken_are_of e old frames node c.in_ok-node.ensures all).0 before;
+      are_of = λ e all.
+          let below = taken_are_of e old frames node c.in_ok-node.ensures all in
+          c.in_ok-visit.ensures.are_of e below.0 below.1;
+    }

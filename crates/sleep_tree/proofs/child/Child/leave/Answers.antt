@@ -16,7 +16,7 @@ of_node-requires c =
     let pushed = pushed_copy c.in_ok-prefix.prefix.items prefix c.self.inside.plan.value.step c.in_ok-copy.field-0 c.in_ok-push.ensures.items (c.in_ok-copy.ensures ∙ ap (λ (p : Plan). p.step) c.deref.ensures) in
     let same : c.in_ok-slept.slept.items ≡ slept = c.in_ok-slept.ensures ∙ ap steps_in c.as_slice.ensures.value in
     subst (λ (steps : List Step). IsJob e (record { prefix = prefix; slept = steps })) (sym same)
-    (child_is_job c.self.inside.above c.self.inside.plan.value.step c.self.invariant.0
+    (child_is_job c.self.inside.above c.self.inside.plan.value.step c.self.invariant
     e c.self.inside.left slept c.in_ok-prefix.prefix.items prefix (subst (IsNodeOf e) (sym c.self.view_is) c.requires) c.in_ok-prefix.ensures.taken pushed)
 
 pub returns-clause-nodes : goal.returns-clause-nodes
@@ -29,5 +29,5 @@ returns-clause-nodes c =
     rw (← c.self.view_is)
     (ap (λ (j : JobSeen). nodes_of e j.name) c.of_node.ensures
     ∙ ap (λ (steps : List Step). nodes_of e (record { prefix = prefix; slept = steps })) same
-    ∙ child_has_nodes c.self.inside.above c.self.inside.plan.value.step c.self.invariant.0
+    ∙ child_has_nodes c.self.inside.above c.self.inside.plan.value.step c.self.invariant
     e c.self.inside.left slept c.in_ok-prefix.prefix.items prefix (subst (IsNodeOf e) (sym c.self.view_is) c.requires) c.in_ok-prefix.ensures.taken pushed)
