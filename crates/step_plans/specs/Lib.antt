@@ -1,0 +1,9 @@
+pub mod Deeds
+pub mod Independence
+pub mod Planned
+pub mod Plans
+pub mod Replies
+pub mod Stepping
+pub mod Turns
+pub mod Views
+pub mod inside
