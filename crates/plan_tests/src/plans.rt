@@ -51,7 +51,7 @@ const TO_ITSELF: [Line; 7] = [
     (
         "call 'erlang':'is_process_alive'(call 'erlang':'self'())",
         "'true'",
-        "Machine Alive Alive",
+        "Machine Alive Alive Front Tail",
         "",
     ),
     (
