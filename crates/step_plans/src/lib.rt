@@ -26,7 +26,7 @@ mod spawning;
 mod step;
 mod tables;
 mod turn;
-mod view;
+pub mod view;
 mod waiting;
 
 pub use acting::act;

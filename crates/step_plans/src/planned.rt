@@ -24,7 +24,7 @@ pub struct Planned {
 
 impl Planned {
     /// Nothing is planned yet. It takes no memory.
-    pub(crate) fn new(alloc: Global) -> Planned
+    pub fn new(alloc: Global) -> Planned
         ensures reads { cells_in result.reads.items ≡ [] }
         ensures changes { all_changes_in result.changes.items ≡ [] }
     {
@@ -36,7 +36,7 @@ impl Planned {
 
     /// A cell is read. `AllocError` if there is no memory.
     #[tactic(auto, using(crate::proofs::Adding::one_cell, crate::proofs::Adding::end_nil))]
-    pub(crate) fn read(&mut self, cell: Cell) -> Result<(), AllocError>
+    pub fn read(&mut self, cell: Cell) -> Result<(), AllocError>
         ensures { OnOk result (Adds (cell_in cell ∷ []) [] self.old self.new) }
     {
         self.reads.push(cell)?;
@@ -45,7 +45,7 @@ impl Planned {
 
     /// Something changes. `AllocError` if there is no memory.
     #[tactic(auto, using(crate::proofs::Adding::one_change, crate::proofs::Adding::end_nil))]
-    pub(crate) fn change(&mut self, change: Change) -> Result<(), AllocError>
+    pub fn change(&mut self, change: Change) -> Result<(), AllocError>
         ensures { OnOk result (Adds [] (changes_in change) self.old self.new) }
     {
         self.changes.push(change)?;

@@ -17,7 +17,7 @@ use world_records::{Cell, Change, ChannelPart, NamePart, ProcessPart, ReferenceP
 
 /// A cell of the explored world.
 #[derive(Clone, Copy)]
-pub(crate) enum View<'a> {
+pub enum View<'a> {
     /// Of a process.
     OfProcess(ProcessPart, &'a Pid),
     /// Of the channel from the first process to the second.
@@ -36,7 +36,7 @@ pub(crate) enum View<'a> {
 pub(crate) type Views<'a> = (View<'a>, Option<View<'a>>);
 
 /// A cell as it is looked at.
-pub(crate) fn view_of(cell: &Cell) -> View<'_>
+pub fn view_of(cell: &Cell) -> View<'_>
     ensures { view_in result ≡ cell_in cell.now }
 {
     match cell {
