@@ -2,5 +2,5 @@ pub mod Removing
 pub mod Beside
 pub mod Downs
 pub mod Cells
-pub mod Queues
 pub mod Pairs
+pub mod Places

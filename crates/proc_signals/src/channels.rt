@@ -31,13 +31,13 @@ impl Drop for Channels {
 
 impl Model for Channels {
     ghost use Rattle.std.specs.Prelude.{ℕ, List};
-    ghost use Rattle.std.specs.Coded.{coded_list, coded×, coded_ℕ};
+    ghost use Rattle.std.specs.Coded.{coded_list};
     ghost use Rattle.proc_signals.specs.Channels as seen;
-    ghost use Rattle.proc_signals.specs.inside.SignalCodes.{coded_channels};
+    ghost use Rattle.proc_signals.specs.inside.SignalCodes.{coded_channel};
 
-    ghost Value = { List (List ℕ × seen.Receivers) };
+    ghost Value = { List ((List ℕ × List ℕ) × seen.Queue) };
 
-    ghost coded = { coded_list (coded× (coded_list coded_ℕ) coded_channels) };
+    ghost coded = { coded_list coded_channel };
 
     ghost view = { λ c. c.senders.value };
 }
@@ -110,7 +110,7 @@ impl Channels {
 
     /// The pairs of processes whose channel is not empty, each once, in the order of senders and then of
     /// receivers. `AllocError` if there is no memory for them.
-    #[tactic(auto, using(crate::proofs::Pairs::pairs_sorted, crate::proofs::Pairs::listed_have, crate::proofs::Pairs::have_listed))]
+    #[tactic(auto, using(crate::proofs::Pairs::listed_have, crate::proofs::Pairs::have_listed))]
     pub fn pairs(&self, alloc: Global) -> Result<Vec<(Pid, Pid)>, AllocError>
         ensures listed { IfOk result (λ pairs. (s r : PidSeen) →
             IsAmong (s, r) pairs.items ↔ (between self.now s r ≢ [])) }

@@ -1,11 +1,11 @@
 // What processes send to one another: the signals on their way, and the mailboxes in which messages wait.
 #![tactic(auto)]
 
+mod channel;
 pub mod channels;
 pub mod mailbox;
 mod messages;
 mod queue;
-mod receivers;
 mod senders;
 pub mod signal;
 

@@ -1,50 +1,82 @@
 // The channels of all senders.
-ghost use Rattle.std.specs.Prelude.{◌≡◌, [], ◌∷◌, ◌++◌, drop, IfOk, OnOk, OnErr, option_map, IsTrue, None};
-ghost use Rattle.world_model.specs.Names.{Pid as PidSeen};
-ghost use Rattle.world_model.specs.Signals.{first_of};
-ghost use Rattle.proc_signals.specs.Channels.{beside, between, IsChangedBetween, pairs_in, HaveOrder};
+ghost use Rattle.std.specs.Prelude.{◌≡◌, ◌≢◌, ◌<◌, ◌≤◌, [], ◌∷◌, ◌++◌, None, drop, length, map, IfOk, IfSome, OnOk, OnErr, option_map};
+ghost use Rattle.std.specs.List.{AllWithin, HoldsAt};
 ghost use Rattle.std.specs.List.Sorted.{IsStrictlySortedBy};
 ghost use Rattle.std.specs.Map.{keys_of};
-ghost use Rattle.term_core.specs.Order.{order_of_lists};
+ghost use Rattle.world_model.specs.Signals.{first_of};
+ghost use Rattle.proc_signals.specs.Channels.{between, IsChangedBetween, order_of_pairs};
 ghost use Rattle.proc_signals.specs.Signal.{signal_of};
 
-use crate::receivers::Receivers;
+use crate::channel::Channel;
 use crate::signal::Signal;
 use std::alloc::{AllocError, Global};
-use std::collections::BTreeMap;
+use std::cmp::Ordering;
 use std::marker::Model;
-use std::sync::Arc;
 use term_core::Pid;
 
-/// The channels that are not empty, by their senders. Contracts see the senders in their order, each with
-/// its receivers.
+/// The channels that are not empty, by sender and then by receiver. Contracts see each under its sender and
+/// its receiver.
 #[derive(Drop)]
 pub(crate) struct Senders {
-    receivers: BTreeMap<Pid, Arc<Receivers>>,
+    channels: Vec<Channel>,
 }
 
 impl Model for Senders {
-    ghost use Rattle.std.specs.Prelude.{ℕ, List, map};
-    ghost use Rattle.std.specs.Coded.{coded_list, coded×, coded_ℕ};
+    ghost use Rattle.std.specs.Prelude.{ℕ, List};
+    ghost use Rattle.std.specs.Coded.{coded_list};
+    ghost use Rattle.std.specs.List.Sorted.{IsStrictlySortedBy};
+    ghost use Rattle.std.specs.Map.{keys_of};
     ghost use Rattle.proc_signals.specs.Channels as seen;
-    ghost use Rattle.proc_signals.specs.inside.SignalCodes.{coded_channels};
+    ghost use Rattle.proc_signals.specs.inside.SignalCodes.{coded_channel};
 
-    ghost Value = { List (List ℕ × seen.Receivers) };
+    ghost Value = { List ((List ℕ × List ℕ) × seen.Queue) };
 
-    ghost coded = { coded_list (coded× (coded_list coded_ℕ) coded_channels) };
+    ghost coded = { coded_list coded_channel };
 
-    ghost view = { λ s. map (λ e. (e.0, e.1.value)) s.receivers.entries };
+    ghost view = { λ s. s.channels.items };
+
+    ghost invariant = { λ s. IsStrictlySortedBy seen.order_of_pairs (keys_of s.channels.items) };
 }
 
 impl Clone for Senders {
     ghost is_clone = { λ a b. b ≡ a };
 
-    /// The same channels, shared, or `AllocError` if there is no memory for it.
+    /// The same channels, shared, with room for one more, or `AllocError` if there is no memory for it.
     fn clone(&self) -> Result<Senders, AllocError> {
-        Ok(Senders {
-            receivers: self.receivers.clone()?,
-        })
+        let mut channels = Vec::with_capacity(*self.channels.allocator(), self.channels.len() + 1)?;
+        for channel in self.channels.as_slice() {
+            channels.push(channel.copy()?)?;
+        }
+        Ok(Senders { channels })
     }
+}
+
+/// Where the channel from one process to another stands, if it is not empty.
+fn place_of(channels: &[Channel], from: &Pid, to: &Pid) -> Option<usize>
+    ensures within { IfSome result (λ at. at < length channels.now) }
+    ensures there { IfSome result (HoldsAt (λ channel. channel.0 ≡ (from.now, to.now)) channels.now) }
+    ensures none { result ≡ None → between channels.now from.now to.now ≡ [] }
+{
+    for at in 0..channels.len() {
+        if channels[at].is_between(from, to) {
+            return Some(at);
+        }
+    }
+    None
+}
+
+/// Where the channel from one process to another is put in.
+fn room_of(channels: &[Channel], from: &Pid, to: &Pid) -> usize
+    ensures within { result ≤ length channels.now }
+    ensures before { AllWithin (λ channel. order_of_pairs channel.0 (from.now, to.now) ≡ Ordering.Less) channels.now 0 result }
+    ensures behind { result < length channels.now → HoldsAt (λ channel. order_of_pairs channel.0 (from.now, to.now) ≢ Ordering.Less) channels.now result }
+{
+    for at in 0..channels.len() {
+        if !channels[at].is_before(from, to) {
+            return at;
+        }
+    }
+    channels.len()
 }
 
 impl Senders {
@@ -53,7 +85,7 @@ impl Senders {
         ensures { result ≡ [] }
     {
         Senders {
-            receivers: BTreeMap::new(alloc),
+            channels: Vec::new(alloc),
         }
     }
 
@@ -61,8 +93,9 @@ impl Senders {
     pub(crate) fn front(&self, from: &Pid, to: &Pid) -> Option<&Signal>
         ensures { option_map (λ signal. signal_of signal.now) result ≡ first_of (between self.now from.now to.now) }
     {
-        match self.receivers.get(from) {
-            Some(receivers) => receivers.front(to),
+        let channels = self.channels.as_slice();
+        match place_of(channels, from, to) {
+            Some(at) => Some(channels[at].oldest()),
             None => None,
         }
     }
@@ -79,16 +112,15 @@ impl Senders {
         ensures ok { OnOk result (IsChangedBetween from.now to.now (λ signals. signals ++ signal_of signal ∷ []) self.old self.new) }
         ensures err { OnErr result (self.new ≡ self.old) }
     {
-        if let Some(receivers) = self.receivers.get_mut(from) {
-            let receivers = Arc::make_mut(receivers)?;
-            receivers.send(alloc, to, signal)?;
+        if let Some(at) = place_of(self.channels.as_slice(), from, to) {
+            self.channels[at].push(signal)?;
             return Ok(());
         }
         self.open(alloc, from, to, signal)?;
         Ok(())
     }
 
-    /// Begins the channels of a sender with a signal.
+    /// Begins the channel from one process to another with a signal.
     fn open(
         &mut self,
         alloc: Global,
@@ -96,14 +128,13 @@ impl Senders {
         to: &Pid,
         signal: Signal,
     ) -> Result<(), AllocError>
-        requires { beside self.old from.now ≡ None }
+        requires { between self.old from.now to.now ≡ [] }
         ensures ok { OnOk result (IsChangedBetween from.now to.now (λ signals. signals ++ signal_of signal ∷ []) self.old self.new) }
         ensures err { OnErr result (self.new ≡ self.old) }
     {
-        let mut receivers = Receivers::new(alloc);
-        receivers.send(alloc, to, signal)?;
-        let shared = Arc::new(alloc, receivers)?;
-        self.receivers.insert(from.copy()?, shared)?;
+        let channel = Channel::of(alloc, from, to, signal)?;
+        let at = room_of(self.channels.as_slice(), from, to);
+        self.channels.insert(at, channel)?;
         Ok(())
     }
 
@@ -114,53 +145,26 @@ impl Senders {
         ensures ok { OnOk result (IsChangedBetween from.now to.now (drop 1) self.old self.new) }
         ensures err { OnErr result (self.new ≡ self.old) }
     {
-        let taken = self.fetch(from, to)?;
-        self.leave_out_idle(from);
-        Ok(taken)
-    }
-
-    /// Takes out the oldest signal, and leaves a sender that may have none any more.
-    fn fetch(&mut self, from: &Pid, to: &Pid) -> Result<Option<Signal>, AllocError>
-        ensures taken { IfOk result (λ taken. option_map signal_of taken ≡ first_of (between self.old from.now to.now)) }
-        ensures ok { OnOk result (IsChangedBetween from.now to.now (drop 1) self.old self.new) }
-        ensures err { OnErr result (self.new ≡ self.old) }
-    {
-        let Some(receivers) = self.receivers.get_mut(from) else {
+        let Some(at) = place_of(self.channels.as_slice(), from, to) else {
             return Ok(None);
         };
-        let receivers = Arc::make_mut(receivers)?;
-        let taken = receivers.take_front(to)?;
-        Ok(taken)
-    }
-
-    /// Leaves out a sender that has no signals on their way.
-    fn leave_out_idle(&mut self, from: &Pid)
-        ensures { (s r : PidSeen) → between self.new s r ≡ between self.old s r }
-    {
-        if self.is_idle(from) {
-            drop(self.receivers.remove(from));
+        if self.channels[at].is_single() {
+            let signal = self.channels[at].oldest().copy()?;
+            drop(self.channels.remove(at));
+            return Ok(Some(signal));
         }
-    }
-
-    /// Whether a sender is there with no signals on their way.
-    fn is_idle(&self, from: &Pid) -> bool
-        ensures { IsTrue result → (r : PidSeen) → between self.now from.now r ≡ [] }
-    {
-        match self.receivers.get(from) {
-            Some(receivers) => receivers.is_empty(),
-            None => false,
-        }
+        let signal = self.channels[at].take_oldest()?;
+        Ok(Some(signal))
     }
 
     /// The pairs whose channel is not empty, by sender and then by receiver.
     pub(crate) fn pairs(&self, alloc: Global) -> Result<Vec<(Pid, Pid)>, AllocError>
-        ensures listed { IfOk result (λ pairs. pairs.items ≡ pairs_in self.now) }
-        ensures ordered { OnOk result (IsStrictlySortedBy order_of_lists (keys_of self.now)) }
-        ensures inside_ordered { OnOk result (HaveOrder self.now) }
+        ensures listed { IfOk result (λ pairs. pairs.items ≡ keys_of self.now) }
+        ensures ordered { OnOk result (IsStrictlySortedBy order_of_pairs (keys_of self.now)) }
     {
         let mut pairs = Vec::new(alloc);
-        for (from, receivers) in self.receivers.iter() {
-            receivers.list_onto(from, &mut pairs)?;
+        for channel in self.channels.as_slice() {
+            pairs.push((channel.from().copy()?, channel.to().copy()?))?;
         }
         Ok(pairs)
     }

@@ -30,6 +30,6 @@ signal_in-parts_of (Down ref reason) = refl
 abbrev pub coded_signal : Coded Signal
 coded_signal = code_by Parts (coded⊎ coded_meaning (coded⊎ coded_meaning (coded⊎ coded_meaning (coded× (coded× (coded_list coded_ℕ) coded_ℕ) coded_meaning)))) parts_of signal_in signal_in-parts_of
 
--- and of the channels of one sender
-abbrev pub coded_channels : Coded (List (List ℕ × (Signal × List Signal)))
-coded_channels = coded_list (coded× (coded_list coded_ℕ) (coded× coded_signal (coded_list coded_signal)))
+-- and of a channel under its sender and its receiver
+abbrev pub coded_channel : Coded ((List ℕ × List ℕ) × (Signal × List Signal))
+coded_channel = coded× (coded× (coded_list coded_ℕ) (coded_list coded_ℕ)) (coded× coded_signal (coded_list coded_signal))

@@ -1,9 +1,6 @@
-use Rattle.std.proofs.Common.{◌≡◌, ◌++◌}
-use Rattle.proc_signals.specs.Channels.{pairs_in, HaveOrder}
-use Rattle.proc_signals.proofs.Beside.{seen}
+use Rattle.std.proofs.Common.{◌≡◌, take}
+use Rattle.std.specs.Map.{keys_of}
 use Rattle.proc_signals.proofs.senders.Senders.pairs.Given as goal
 
-abbrev pub invariant-loop-from : goal.invariant-loop-from
-invariant-loop-from l =
-    (l.pairs.items ++ pairs_in (seen (λ a. a.value) l.from-iterator) ≡ pairs_in l.self) ×
-    (HaveOrder (seen (λ a. a.value) l.from-iterator) → HaveOrder l.self)
+abbrev pub invariant-loop-channel : goal.invariant-loop-channel
+invariant-loop-channel l = l.pairs.items ≡ keys_of (take l.channel-index l.channel-items)
