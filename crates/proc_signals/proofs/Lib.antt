@@ -4,3 +4,4 @@ pub mod Downs
 pub mod Cells
 pub mod Pairs
 pub mod Places
+pub mod Changing

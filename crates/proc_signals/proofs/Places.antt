@@ -186,11 +186,8 @@ pub set_sorted : (cs : Senders) (at : ℕ) (x y : Channel) → x ≡ get_or cs a
 set_sorted cs at x y is same sorted = subst (IsStrictlySortedBy order_of_pairs) (sym (keys_set cs at x y is same)) sorted
 
 all_removed : (P : Pid × Pid → Type 0) (cs : Senders) (at : ℕ) → AllByRecursion P (keys_of cs) → AllByRecursion P (keys_of (remove cs at))
-all_removed P [] at all = all_none at
-  where
-    all_none : (at : ℕ) → AllByRecursion P (keys_of (remove [] at))
-    all_none zero = tt
-    all_none (suc at) = tt
+all_removed P [] zero all = tt
+all_removed P [] (suc at) all = tt
 all_removed P (c ∷ cs) zero all = all.1
 all_removed P (c ∷ cs) (suc at) all = (all.0, all_removed P cs at all.1)
 
