@@ -1,5 +1,5 @@
 -- The pairs of processes that have a channel are those whose channel is not empty.
-use Rattle.std.proofs.Common.{◌≡◌, ◌&&◌, inl, inr, Bool, true, false, List, [], ◌∷◌, refl, sym, ap, ◌∙◌, if◌then◌else◌}
+use Rattle.std.proofs.Common.{◌≡◌, ◌&&◌, inl, inr, Bool, true, false, List, [], ◌∷◌, refl, ap, ◌∙◌, if◌then◌else◌}
 use Rattle.std.specs.Map.{keys_of}
 use Rattle.world_model.specs.Events.{Signal}
 use Rattle.world_model.specs.Names.{Pid, IsAmong, same_pid}

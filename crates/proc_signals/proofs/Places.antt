@@ -1,19 +1,16 @@
 -- Lists of channels in order, before and after a change at one place.
-use Rattle.std.proofs.Common.{◌≡◌, ◌≢◌, ◌&&◌, ◌<◌, ◌≤◌, ◌+◌, ℕ, zero, suc, Bool, true, false, if◌then◌else◌, List, [], ◌∷◌, ◌++◌, Option, Some, None, length, get_or, drop, slice_set, insert, refl, sym, ap, ◌∙◌, subst, arith, true≢false}
-use Rattle.std.proofs.lemmas.Map.Text.{is_eq-slice_cmp}
+use Rattle.std.proofs.Common.{◌≡◌, ◌≢◌, ◌&&◌, ◌<◌, ◌≤◌, ℕ, zero, suc, Bool, true, false, if◌then◌else◌, List, [], ◌∷◌, length, get_or, slice_set, insert, refl, sym, ap, ◌∙◌, subst, arith, true≢false}
 use Rattle.std.specs.Cmp.{IsTotalOrder, on_total, then_total}
 use Rattle.std.specs.Cmp.Lexicographic.{nat_list_cmp_total}
 use Rattle.std.specs.List.{AllByRecursion, AllWithin, HoldsAt, remove}
 use Rattle.std.specs.List.Sorted.{IsStrictlySortedBy}
 use Rattle.std.specs.Map.{keys_of}
-use Rattle.std.specs.Ordering.{ordering_reverse, ordering_then}
+use Rattle.std.specs.Ordering.{ordering_reverse}
 use Rattle.std.specs.declared.cmp.Ordering.{Ordering}
 use Rattle.std.specs.declared.cmp.Ordering.TheVariants.{Less, Equal, Greater}
-use Rattle.term_core.specs.Order.{order_of_lists}
 use Rattle.term_core.specs.inside.OrderLaws.{same_list, first_Equal, second_Equal}
 use Rattle.world_model.specs.Events.{Signal}
 use Rattle.world_model.specs.Names.{Pid, same_pid}
-use Rattle.world_model.specs.Signals.{first_of}
 use Rattle.proc_signals.specs.Channels.{Queue, Senders, between, signals_in, IsChangedBetween, order_of_pairs}
 use Rattle.proc_signals.proofs.Pairs.{never_empty, pair_itself, pairs_same}
 
@@ -167,15 +164,11 @@ module _ (f : List Signal → List Signal) (s r : Pid) where
       let parts = not_first c cs s r none in
       before p q c (between (insert cs at x) p q) (between cs p q) parts.0 (insert_changed cs at x (omega arith) pair new parts.1 p q)
 
--- nothing changes where f makes nothing of nothing
-pub none_changed : (f : List Signal → List Signal) (s r : Pid) (cs : Senders) → between cs s r ≡ [] → f [] ≡ [] → IsChangedBetween s r f cs cs
-none_changed f s r cs none empty p q =
-    elim (is_pair (s, r) p q) as (λ b. is_pair (s, r) p q ≡ b → between cs p q ≡ (if b then f (between cs p q) else between cs p q)) [
-      | true ↦ λ e. let there : between cs p q ≡ [] = ap (λ k. between cs k.0 k.1) (sym (pairs_same (s, r) p q e)) ∙ none in there ∙ sym empty ∙ ap f (sym there)
-      | false ↦ λ e. refl
-    ] refl
-
 -- ---- channels stay in order
+
+pub none_sorted : AreInOrder []
+unfolding IsStrictlySortedBy
+none_sorted = tt
 
 pub keys_set : (cs : Senders) (at : ℕ) (x y : Channel) → x ≡ get_or cs at x → y.0 ≡ x.0 → keys_of (slice_set cs at y) ≡ keys_of cs
 keys_set [] at x y is same = refl
@@ -223,10 +216,6 @@ insert_sorted (c ∷ cs) zero x within below above none sorted =
     let less : order_of_pairs x.0 c.0 ≡ Less = comes_after c.0 x.0 (above (omega arith) c) (not_first c cs x.0.0 x.0.1 none).0 in
     ((less, all_above x.0 c.0 (keys_of cs) less sorted.0), sorted)
 insert_sorted (c ∷ cs) (suc at) x within below above none sorted = (
-      all_inserted (λ j. order_of_pairs c.0 j ≡ Less) cs at x (omega arith) (below 0 c (omega arith) (omega arith)) sorted.0,
-      insert_sorted cs at x (omega arith) (λ k d low high. below (suc k) d (omega arith) (omega arith)) (λ h. above (omega arith)) (not_first c cs x.0.0 x.0.1 none).1 sorted.1,
-    )
-
-pub none_sorted : AreInOrder []
-unfolding IsStrictlySortedBy
-none_sorted = tt
+  all_inserted (λ j. order_of_pairs c.0 j ≡ Less) cs at x (omega arith) (below 0 c (omega arith) (omega arith)) sorted.0,
+  insert_sorted cs at x (omega arith) (λ k d low high. below (suc k) d (omega arith) (omega arith)) (λ h. above (omega arith)) (not_first c cs x.0.0 x.0.1 none).1 sorted.1,
+)

@@ -1,4 +1,4 @@
-use Rattle.std.proofs.Common.{[], List, sym, subst}
+use Rattle.std.proofs.Common.{sym, subst}
 use Rattle.std.specs.List.Sorted.{IsStrictlySortedBy}
 use Rattle.std.specs.Map.{keys_of}
 use Rattle.proc_signals.specs.Channels.{Senders, order_of_pairs}
