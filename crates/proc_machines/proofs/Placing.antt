@@ -30,47 +30,6 @@ now_in old new b n p k there same has is same_key q =
     ap (λ s. contains order_of_lists s q) is ∙ has q ∙ ap (λ t. cond t there (contains order_of_lists b q)) (is_eq-slice_cmp k q ∙ ap (λ r. bytes_eq r q) same_key)
     ∙ ap (λ z. if bytes_eq p q then there else z) (same_set old.pids.value b same q)
 
-abbrev pub Entries : Type 0
-Entries = BTreeMap Pid (Arc Course Global)
-
-both_show : {X Y : Type 0} (shown : X → Y) (b : Bool) (x y : X) (o u : Option X) → shown x ≡ shown y → option_map shown o ≡ option_map shown u → option_map shown (cond b (Some x) o) ≡ option_map shown (cond b (Some y) u)
-both_show shown true x y o u here there = ap Some here
-both_show shown false x y o u here there = there
-
-clones_show : {K X Y : Type 0} (shown : X → Y) (C : X → X → Type 0) → ((x y : X) → C x y → shown y ≡ shown x) → (es fs : List (K × X)) → AllZip (λ e f. (f.0 ≡ e.0) × C e.1 f.1) es fs
-    → (test : K → Bool) → option_map shown (lookup test fs) ≡ option_map shown (lookup test es)
-clones_show shown C same [] [] all test = refl
-clones_show shown C same [] (f ∷ fs) all test = absurd all
-clones_show shown C same (e ∷ es) [] all test = absurd all
-clones_show shown C same (e ∷ es) (f ∷ fs) all test =
-    ap (λ k. option_map shown (cond (test k) (Some f.1) (lookup test fs))) all.0.0 ∙ both_show shown (test e.0) f.1 e.1 _ _ (same e.1 f.1 all.0.1) (clones_show shown C same es fs all.1 test)
-
--- what is shown of the course of a process
-abbrev pub shown_in : Entries → Pid → Option Course
-shown_in entries q = option_map (λ course. course.value) (get order_of_lists entries q)
-
--- a map that is lent is what it was, or a clone of it
-pub same_map : (old now : Entries) → (now ≡ old) ⊎ AllZip (λ e f. (f.0 ≡ e.0) × (f.1.value ≡ e.1.value)) old.entries now.entries → (q : Pid) → shown_in now q ≡ shown_in old q
-same_map old now (inl e) q = ap (λ m. shown_in m q) e
-same_map old now (inr all) q = clones_show (λ course. course.value) (λ a b. b.value ≡ a.value) (λ _ _ e. e) old.entries now.entries all (is_at (order_of_lists q))
-
-over_if : {A B : Type 0} (f : A → B) (b : Bool) (x y : Option A) → option_map f (cond b x y) ≡ (if b then option_map f x else option_map f y)
-over_if f true x y = refl
-over_if f false x y = refl
-
-pub now_at : (old new : Courses) (b n : Entries) (p k : Pid) (x : Arc Course Global) (course : Course) → (b ≡ old.courses.value) ⊎ AllZip (λ e f. (f.0 ≡ e.0) × (f.1.value ≡ e.1.value)) old.courses.value.entries b.entries
-    → ((q : Pid) → get order_of_lists n q ≡ cond (is_at (order_of_lists k) q) (Some x) (get order_of_lists b q)) → new.courses.value ≡ n → k ≡ p → x.value ≡ course → courses.HasAt p course old new
-now_at old new b n p k x course same has is same_key holds q =
-    ap (λ m. shown_in m q) is ∙ ap (option_map (λ c. c.value)) (has q ∙ ap (λ t. cond t (Some x) (get order_of_lists b q)) (is_eq-slice_cmp k q ∙ ap (λ r. bytes_eq r q) same_key))
-    ∙ over_if (λ c. c.value) (bytes_eq p q) (Some x) (get order_of_lists b q)
-    ∙ ap (λ c. if bytes_eq p q then Some c else shown_in b q) holds
-    ∙ ap (λ z. if bytes_eq p q then Some course else z) (same_map old.courses.value b same q)
-
--- nothing is written
-pub still_at : (old new : Courses) (b : Entries) → (b ≡ old.courses.value) ⊎ AllZip (λ e f. (f.0 ≡ e.0) × (f.1.value ≡ e.1.value)) old.courses.value.entries b.entries → (n : Entries) → n.entries ≡ b.entries → new.courses.value ≡ n → courses.AreSame old new
-still_at old new b same n unchanged is q =
-    ap (λ m. shown_in m q) is ∙ ap (λ es. option_map (λ c. c.value) (lookup (is_at (order_of_lists q)) es)) unchanged ∙ same_map old.courses.value b same q
-
 pub on_err : {T E P : Type 0} (r : Result T E) → P → OnErr r P
 on_err (Ok x) p = tt
 on_err (Err e) p = p

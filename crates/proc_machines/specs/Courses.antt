@@ -1,7 +1,6 @@
 -- How far processes have come.
-use Rattle.std.specs.BTreeMap.{get}
-use Rattle.std.specs.Prelude.{◌≡◌, ◌+◌, ◌++◌, ℕ, List, Option, Some, None, option_map, if◌then◌else◌}
-use Rattle.term_core.specs.Order.{order_of_lists}
+use Rattle.std.specs.Map.{lookup}
+use Rattle.std.specs.Prelude.{◌≡◌, ◌+◌, ◌++◌, ℕ, List, Option, Some, None, map, if◌then◌else◌}
 use Rattle.core_tree.specs.Syntax.{ModuleTree}
 use Rattle.eval_rules.specs.Ask.{ask}
 use Rattle.eval_rules.specs.Asked.{Answered}
@@ -10,6 +9,7 @@ use Rattle.world_model.specs.Asking.{entry_of}
 use Rattle.world_model.specs.Cells as cells
 use Rattle.world_model.specs.Names.{Pid, same_pid}
 use Rattle.proc_machines.specs.declared.course.Course.{Course}
+use Rattle.proc_machines.specs.declared.courses.CourseList.{CourseList}
 use Rattle.proc_machines.specs.declared.courses.Courses.{Courses}
 
 -- how many turns a process took; none where it was never begun
@@ -31,9 +31,17 @@ StandsAs m p course (Some machine) = StandsAt machine (λ later. ask m p (entry_
 abbrev pub turned : List Answered → cells.Course → cells.Course
 turned answer course = record { origin = course.origin; turns = course.turns + 1; answers = course.answers ++ answer; ended = course.ended }
 
+-- the processes that were begun, each with its course
+abbrev pub listed : CourseList → List (Pid × Course)
+listed list = map (λ entry. (entry.0, entry.1.value)) list.entries.items
+
 -- the course of a process, if it was begun
 abbrev pub course_at : Courses → Pid → Option Course
-course_at courses p = option_map (λ course. course.value) (get order_of_lists courses.courses.value p)
+course_at courses p = lookup (same_pid p) (listed courses.courses.value)
+
+-- one process has this course in a list, and the others those that they had
+abbrev pub IsPut : Pid → Course → List (Pid × Course) → List (Pid × Course) → Type 0
+IsPut p course old new = (q : Pid) → lookup (same_pid q) new ≡ (if same_pid p q then Some course else lookup (same_pid q) old)
 
 -- one process has this course, and the others those that they had
 abbrev pub HasAt : Pid → Course → Courses → Courses → Type 0

@@ -1,17 +1,69 @@
 // How far each process has come: copies share it until one of them is changed.
-ghost use Rattle.std.specs.Prelude.{◌≡◌, IfOk, OnOk, OnErr, None, option_copied};
+ghost use Rattle.std.specs.Prelude.{◌≡◌, IfOk, OnOk, OnErr, None, option_copied, position};
 ghost use Rattle.world_model.specs.Names as names;
+ghost use Rattle.world_model.specs.Names.{same_pid};
 
 use crate::course::Course;
 use std::alloc::{AllocError, Global};
-use std::collections::BTreeMap;
 use std::sync::Arc;
 use term_core::Pid;
+
+/// The processes that were begun, each with its course, in no order: there are few, and a copy of a list is cheap.
+#[derive(Drop)]
+pub(crate) struct CourseList<'m> {
+    entries: Vec<(Pid, Arc<Course<'m>>)>,
+}
+
+impl<'m> Clone for CourseList<'m> {
+    ghost use Rattle.proc_machines.specs.Courses.{listed};
+
+    ghost is_clone = { λ a b. listed b ≡ listed a };
+
+    /// The same list, which shares the courses with this one, with room for one more, or `AllocError` if there is no
+    /// memory for it.
+    fn clone(&self) -> Result<CourseList<'m>, AllocError> {
+        let mut entries = Vec::with_capacity(*self.entries.allocator(), self.entries.len() + 1)?;
+        for (pid, course) in self.entries.as_slice() {
+            entries.push((pid.copy()?, Arc::try_clone(course)?))?;
+        }
+        Ok(CourseList { entries })
+    }
+}
+
+impl<'m> CourseList<'m> {
+    ghost use Rattle.proc_machines.specs.Courses.{IsPut, listed};
+
+    /// The place of a process, if it was begun.
+    fn place(&self, pid: &Pid) -> Option<usize>
+        ensures { result ≡ position (λ entry. same_pid pid.now entry.0) self.now.entries.items }
+    {
+        for (place, entry) in self.entries.as_slice().iter().enumerate() {
+            if *pid == entry.0 {
+                return Some(place);
+            }
+        }
+        None
+    }
+
+    /// Gives a process a course in place of the one that it had. `AllocError` if there is no memory: then the list
+    /// stays as it was.
+    fn put(&mut self, pid: &Pid, course: Arc<Course<'m>>) -> Result<(), AllocError>
+        ensures ok { OnOk result (IsPut pid.now course.entry.value (listed self.old) (listed self.new)) }
+        ensures err { OnErr result (listed self.new ≡ listed self.old) }
+    {
+        let Some(place) = self.place(pid) else {
+            self.entries.push((pid.copy()?, course))?;
+            return Ok(());
+        };
+        self.entries[place].1 = course;
+        Ok(())
+    }
+}
 
 /// The course of each process that was begun.
 #[derive(Drop)]
 pub(crate) struct Courses<'m> {
-    courses: Arc<BTreeMap<Pid, Arc<Course<'m>>>>,
+    courses: Arc<CourseList<'m>>,
 }
 
 impl<'m> Courses<'m> {
@@ -22,7 +74,12 @@ impl<'m> Courses<'m> {
         ensures { IfOk result (λ begun. (p : names.Pid) → course_at begun p ≡ None) }
     {
         Ok(Courses {
-            courses: Arc::new(alloc, BTreeMap::new(alloc))?,
+            courses: Arc::new(
+                alloc,
+                CourseList {
+                    entries: Vec::new(alloc),
+                },
+            )?,
         })
     }
 
@@ -39,10 +96,8 @@ impl<'m> Courses<'m> {
     pub(crate) fn of(&self, pid: &Pid) -> Option<&Course<'m>>
         ensures { option_copied result ≡ course_at self.now pid.now }
     {
-        match self.courses.get(pid) {
-            Some(course) => Some(course),
-            None => None,
-        }
+        let place = self.courses.place(pid)?;
+        Some(&self.courses.entries[place].1)
     }
 
     /// Gives a process a course in place of the one that it had. `AllocError` if there is no memory: then nothing
@@ -56,10 +111,9 @@ impl<'m> Courses<'m> {
         ensures ok { OnOk result (HasAt pid.now course.entry self.old self.new) }
         ensures err { OnErr result (AreSame self.old self.new) }
     {
-        let pid = pid.copy()?;
         let course = Arc::new(alloc, course)?;
         let courses = Arc::make_mut(&mut self.courses)?;
-        courses.insert(pid, course)?;
+        courses.put(pid, course)?;
         Ok(())
     }
 }

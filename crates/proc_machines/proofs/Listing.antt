@@ -1,0 +1,133 @@
+-- Lists of courses: the place of a process, and what is found after a write.
+use Rattle.std.proofs.Common.{◌≡◌, ◌<◌, ◌≤◌, ◌+◌, ◌∷◌, ◌++◌, [], ℕ, Bool, true, false, not, List, Option, Some, None, IsSome, cond, if◌then◌else◌, refl, sym, ap, subst, ◌∙◌, arith, length, get_or, map, position, option_map, bytes_eq}
+use Prim.Native.Nat.{suc}
+use Rattle.std.proofs.Math.ListN.{set}
+use Rattle.std.proofs.lemmas.Cmp.{nat_list_eq_equiv}
+use Rattle.std.proofs.lemmas.Grind.{common_steps}
+use Rattle.std.proofs.lemmas.List.Sums.{position_or_len_is}
+use Rattle.std.proofs.lemmas.Map.{lookup-set_value}
+use Rattle.std.proofs.lemmas.Map.Made.{lookup-map_values}
+use Rattle.std.proofs.lemmas.Slice.Eq.{bytes_eq-Decides}
+use Rattle.std.specs.List.{position_or_len}
+use Rattle.std.specs.Map.{lookup, set_value}
+use Rattle.std.specs.Option.{option_or}
+use Rattle.world_model.specs.Names.{Pid, same_pid}
+
+-- ---- the first place that passes a test
+
+pub first_place : {X : Type 0} (test : X → Bool) (xs : List X) (n : ℕ) (any : X) → n < length xs → ((k : ℕ) → k < n → test (get_or xs k any) ≡ false) → test (get_or xs n any) ≡ true → Some n ≡ position test xs
+first_place test xs n any inside before here =
+    let at : position_or_len test xs ≡ n = position_or_len_is test xs n any (omega arith) before (λ _. here) in
+    grind (arith, common_steps)
+
+pub no_place : {X : Type 0} (test : X → Bool) (xs : List X) (n : ℕ) → length xs ≤ n → ((any : X) (k : ℕ) → k < n → test (get_or xs k any) ≡ false) → None ≡ position test xs
+no_place test [] n all none = refl
+no_place test (x ∷ xs) n all none =
+    let at : position_or_len test (x ∷ xs) ≡ length (x ∷ xs) = position_or_len_is test (x ∷ xs) (length (x ∷ xs)) x (omega arith) (λ k within. none x k (omega arith)) (λ within. absurd (omega arith)) in
+    grind (arith, common_steps)
+
+placed : {X : Type 0} (test : X → Bool) (xs : List X) (n : ℕ) → position test xs ≡ Some n → (position_or_len test xs ≡ n) × (n < length xs)
+placed test xs n is = let at : position_or_len test xs ≡ n = grind (arith, common_steps) in (at, grind (arith, common_steps))
+
+unplaced : {X : Type 0} (test : X → Bool) (xs : List X) → position test xs ≡ None → length xs ≤ position_or_len test xs
+unplaced test xs is = grind (arith, common_steps)
+
+-- ---- what is found there
+
+one_more : (n : ℕ) → suc n ≡ 1 + n
+one_more n = omega arith
+
+there_if : {K X : Type 0} (b : Bool) (e : K × X) (es : List (K × X)) (n : ℕ) (any : K × X) (o : Option X) → cond (not b) (1 + n) 0 < length (e ∷ es) → (n < length es → o ≡ Some (get_or es n any).1)
+    → cond b (Some e.1) o ≡ Some (get_or (e ∷ es) (cond (not b) (1 + n) 0) any).1
+there_if true e es n any o inside behind = refl
+there_if false e es n any o inside behind = behind (omega arith) ∙ ap (λ k. Some (get_or (e ∷ es) k any).1) (one_more n)
+
+there : {K X : Type 0} (test : K → Bool) (es : List (K × X)) (any : K × X) → position_or_len (λ e. test e.0) es < length es → lookup test es ≡ Some (get_or es (position_or_len (λ e. test e.0) es) any).1
+there test [] any inside = absurd (omega arith)
+there test (e ∷ es) any inside = there_if (test e.0) e es (position_or_len (λ e. test e.0) es) any (lookup test es) inside (there test es any)
+
+absent_if : {K X : Type 0} (b : Bool) (e : K × X) (es : List (K × X)) (n : ℕ) (o : Option X) → length (e ∷ es) ≤ cond (not b) (1 + n) 0 → (length es ≤ n → o ≡ None) → cond b (Some e.1) o ≡ None
+absent_if true e es n o outside behind = absurd (omega arith)
+absent_if false e es n o outside behind = behind (omega arith)
+
+absent : {K X : Type 0} (test : K → Bool) (es : List (K × X)) → length es ≤ position_or_len (λ e. test e.0) es → lookup test es ≡ None
+absent test [] outside = refl
+absent test (e ∷ es) outside = absent_if (test e.0) e es (position_or_len (λ e. test e.0) es) (lookup test es) outside (absent test es)
+
+-- ---- what is found after a write there
+
+written_if : {K X : Type 0} (b : Bool) (e : K × X) (es fs : List (K × X)) (n : ℕ) (any : K × X) (w : X) → set es n ((get_or es n any).0, w) ≡ fs
+    → set (e ∷ es) (cond (not b) (1 + n) 0) ((get_or (e ∷ es) (cond (not b) (1 + n) 0) any).0, w) ≡ cond b ((e.0, w) ∷ es) (e ∷ fs)
+written_if true e es fs n any w behind = refl
+written_if false e es fs n any w behind = ap (λ k. set (e ∷ es) k ((get_or (e ∷ es) k any).0, w)) (sym (one_more n)) ∙ ap (λ xs. e ∷ xs) behind
+
+written : {K X : Type 0} (test : K → Bool) (es : List (K × X)) (any : K × X) (w : X)
+    → set es (position_or_len (λ e. test e.0) es) ((get_or es (position_or_len (λ e. test e.0) es) any).0, w) ≡ set_value test es w
+written test [] any w = refl
+written test (e ∷ es) any w = written_if (test e.0) e es (set_value test es w) (position_or_len (λ e. test e.0) es) any w (written test es any w)
+
+is_some_from : {X : Type 0} (o : Option X) (x : X) → o ≡ Some x → IsSome o
+is_some_from o x is = subst IsSome (sym is) refl
+
+same_test : (p x y : Pid) → same_pid p x ≡ true → same_pid p y ≡ same_pid x y
+same_test p x y same = ap (λ r. same_pid r y) ((bytes_eq-Decides p x).0 same)
+
+over_if : {X Y : Type 0} (f : X → Y) (b : Bool) (x : X) (o : Option X) → option_map f (cond b (Some x) o) ≡ (if b then Some (f x) else option_map f o)
+over_if f true x o = refl
+over_if f false x o = refl
+
+-- what is shown of a list: each process, with what is shown of its course
+abbrev pub shown : {X Y : Type 0} → (X → Y) → List (Pid × X) → List (Pid × Y)
+shown show es = map (λ e. (e.0, show e.1)) es
+
+pub put_there : {X Y : Type 0} (show : X → Y) (p : Pid) (es fs : List (Pid × X)) (n : ℕ) (any : Pid × X) (w : X) → Some n ≡ position (λ e. same_pid p e.0) es → fs ≡ set es n ((get_or es n any).0, w)
+    → (q : Pid) → lookup (same_pid q) (shown show fs) ≡ (if same_pid p q then Some (show w) else lookup (same_pid q) (shown show es))
+put_there show p es fs n any w place is q =
+    let at = placed (λ e. same_pid p e.0) es n (sym place) in
+    let inside : position_or_len (λ e. same_pid p e.0) es < length es = omega arith in
+    let now : fs ≡ set_value (same_pid p) es w = is ∙ ap (λ k. set es k ((get_or es k any).0, w)) (sym at.0) ∙ written (same_pid p) es any w in
+    lookup-map_values show (same_pid q) fs ∙ ap (λ xs. option_map show (lookup (same_pid q) xs)) now
+    ∙ ap (option_map show) (lookup-set_value nat_list_eq_equiv (same_pid p) (same_test p) q w es (is_some_from (lookup (same_pid p) es) _ (there (same_pid p) es any inside)))
+    ∙ over_if show (same_pid p q) w (lookup (same_pid q) es)
+    ∙ ap (λ o. if same_pid p q then Some (show w) else o) (sym (lookup-map_values show (same_pid q) es))
+
+-- ---- what is found after one is put behind the others
+
+behind_all : {K X : Type 0} (test : K → Bool) (es : List (K × X)) (e : K × X) → lookup test (es ++ (e ∷ [])) ≡ option_or (lookup test es) (cond (test e.0) (Some e.1) None)
+behind_all test [] e = refl
+behind_all test (f ∷ es) e = behind_if (test f.0) f.1 (lookup test (es ++ (e ∷ []))) (lookup test es) (cond (test e.0) (Some e.1) None) (behind_all test es e)
+  where
+    behind_if : {X : Type 0} (b : Bool) (x : X) (o u v : Option X) → o ≡ option_or u v → cond b (Some x) o ≡ option_or (cond b (Some x) u) v
+    behind_if true x o u v is = refl
+    behind_if false x o u v is = is
+
+or_none : {X : Type 0} (o : Option X) → option_or o None ≡ o
+or_none None = refl
+or_none (Some x) = refl
+
+pub put_behind : {X Y : Type 0} (show : X → Y) (p : Pid) (es fs : List (Pid × X)) (w : X) → None ≡ position (λ e. same_pid p e.0) es → fs ≡ es ++ ((p, w) ∷ [])
+    → (q : Pid) → lookup (same_pid q) (shown show fs) ≡ (if same_pid p q then Some (show w) else lookup (same_pid q) (shown show es))
+put_behind show p es fs w place is q =
+    let none : lookup (same_pid p) es ≡ None = absent (same_pid p) es (unplaced (λ e. same_pid p e.0) es (sym place)) in
+    lookup-map_values show (same_pid q) fs ∙ ap (λ xs. option_map show (lookup (same_pid q) xs)) is ∙ ap (option_map show) (behind_all (same_pid q) es (p, w))
+    ∙ (elim (bytes_eq p q) as (λ b. bytes_eq p q ≡ b → option_map show (option_or (lookup (same_pid q) es) (cond (same_pid q p) (Some w) None)) ≡ (if b then Some (show w) else lookup (same_pid q) (shown show es))) [
+      | true ↦ λ e.
+            let same : p ≡ q = (bytes_eq-Decides p q).0 e in
+            let gone : lookup (same_pid q) es ≡ None = ap (λ r. lookup (same_pid r) es) (sym same) ∙ none in
+            let itself : same_pid q p ≡ true = (bytes_eq-Decides q p).1 (sym same) in
+            ap (λ o. option_map show (option_or o (cond (same_pid q p) (Some w) None))) gone ∙ ap (λ b. option_map show (cond b (Some w) None)) itself
+      | false ↦ λ e.
+            let apart : same_pid q p ≡ false = nat_list_eq_equiv.symm q p ∙ e in
+            ap (λ b. option_map show (option_or (lookup (same_pid q) es) (cond b (Some w) None))) apart ∙ ap (option_map show) (or_none (lookup (same_pid q) es)) ∙ sym (lookup-map_values show (same_pid q) es)
+    ] refl)
+
+-- ---- what is found at a place
+
+pub found_there : {X Y : Type 0} (show : X → Y) (p : Pid) (es : List (Pid × X)) (n : ℕ) (any : Pid × X) → Some n ≡ position (λ e. same_pid p e.0) es → Some (show (get_or es n any).1) ≡ lookup (same_pid p) (shown show es)
+found_there show p es n any place =
+    let at = placed (λ e. same_pid p e.0) es n (sym place) in
+    let inside : position_or_len (λ e. same_pid p e.0) es < length es = omega arith in
+    sym (lookup-map_values show (same_pid p) es ∙ ap (option_map show) (there (same_pid p) es any inside) ∙ ap (λ k. Some (show (get_or es k any).1)) at.0)
+
+pub found_nowhere : {X Y : Type 0} (show : X → Y) (p : Pid) (es : List (Pid × X)) → None ≡ position (λ e. same_pid p e.0) es → None ≡ lookup (same_pid p) (shown show es)
+found_nowhere show p es place = sym (lookup-map_values show (same_pid p) es ∙ ap (option_map show) (absent (same_pid p) es (unplaced (λ e. same_pid p e.0) es (sym place))))
