@@ -112,13 +112,13 @@ put_behind show p es fs w place is q =
     lookup-map_values show (same_pid q) fs ∙ ap (λ xs. option_map show (lookup (same_pid q) xs)) is ∙ ap (option_map show) (behind_all (same_pid q) es (p, w))
     ∙ (elim (bytes_eq p q) as (λ b. bytes_eq p q ≡ b → option_map show (option_or (lookup (same_pid q) es) (cond (same_pid q p) (Some w) None)) ≡ (if b then Some (show w) else lookup (same_pid q) (shown show es))) [
       | true ↦ λ e.
-            let same : p ≡ q = (bytes_eq-Decides p q).0 e in
-            let gone : lookup (same_pid q) es ≡ None = ap (λ r. lookup (same_pid r) es) (sym same) ∙ none in
-            let itself : same_pid q p ≡ true = (bytes_eq-Decides q p).1 (sym same) in
-            ap (λ o. option_map show (option_or o (cond (same_pid q p) (Some w) None))) gone ∙ ap (λ b. option_map show (cond b (Some w) None)) itself
+          let same : p ≡ q = (bytes_eq-Decides p q).0 e in
+          let gone : lookup (same_pid q) es ≡ None = ap (λ r. lookup (same_pid r) es) (sym same) ∙ none in
+          let itself : same_pid q p ≡ true = (bytes_eq-Decides q p).1 (sym same) in
+          ap (λ o. option_map show (option_or o (cond (same_pid q p) (Some w) None))) gone ∙ ap (λ b. option_map show (cond b (Some w) None)) itself
       | false ↦ λ e.
-            let apart : same_pid q p ≡ false = nat_list_eq_equiv.symm q p ∙ e in
-            ap (λ b. option_map show (option_or (lookup (same_pid q) es) (cond b (Some w) None))) apart ∙ ap (option_map show) (or_none (lookup (same_pid q) es)) ∙ sym (lookup-map_values show (same_pid q) es)
+          let apart : same_pid q p ≡ false = nat_list_eq_equiv.symm q p ∙ e in
+          ap (λ b. option_map show (option_or (lookup (same_pid q) es) (cond b (Some w) None))) apart ∙ ap (option_map show) (or_none (lookup (same_pid q) es)) ∙ sym (lookup-map_values show (same_pid q) es)
     ] refl)
 
 -- ---- what is found at a place

@@ -1,22 +1,15 @@
--- What sets and maps of processes have after a change at one.
-use Rattle.std.proofs.Common.{◌≡◌, ◌⊎◌, inl, inr, Bool, true, false, cond, Global, List, [], ◌∷◌, Option, Some, Ok, Err, Result, OnErr, bytes_eq, if◌then◌else◌, refl, ap, subst, ◌∙◌}
-use Rattle.std.specs.Prelude.{option_map}
+-- What sets of processes have after a change at one.
+use Rattle.std.proofs.Common.{◌≡◌, ◌⊎◌, inl, inr, Bool, cond, bytes_eq, if◌then◌else◌, ap, ◌∙◌}
 use Rattle.std.specs.List.{AllZip}
-use Rattle.std.specs.Map.{lookup}
-use Rattle.std.specs.BTreeMap.{BTreeMap, get, is_at}
+use Rattle.std.specs.BTreeMap.{is_at}
 use Rattle.std.specs.BTreeSet.{BTreeSet, contains}
-use Rattle.std.specs.declared.sync.Arc.{Arc}
 use Rattle.std.proofs.lemmas.Map.Text.{is_eq-slice_cmp}
 use Rattle.std.proofs.lemmas.List.Elements.{same_from_all_zip}
 use Rattle.std.specs.List.{list_any}
 use Rattle.term_core.specs.Order.{order_of_lists}
 use Rattle.world_model.specs.Names.{Pid}
-use Rattle.proc_machines.specs.Courses as courses
-use Rattle.proc_machines.specs.Courses.{course_at}
 use Rattle.proc_machines.specs.Pids as pids
 use Rattle.proc_machines.specs.Pids.{is_in}
-use Rattle.proc_machines.specs.declared.course.Course.{Course}
-use Rattle.proc_machines.specs.declared.courses.Courses.{Courses}
 use Rattle.proc_machines.specs.declared.pids.Pids.{Pids}
 
 -- a set that is lent is what it was, or a clone of it
@@ -29,10 +22,3 @@ pub now_in : (old new : Pids) (b n : BTreeSet Pid) (p k : Pid) (there : Bool) �
 now_in old new b n p k there same has is same_key q =
     ap (λ s. contains order_of_lists s q) is ∙ has q ∙ ap (λ t. cond t there (contains order_of_lists b q)) (is_eq-slice_cmp k q ∙ ap (λ r. bytes_eq r q) same_key)
     ∙ ap (λ z. if bytes_eq p q then there else z) (same_set old.pids.value b same q)
-
-pub on_err : {T E P : Type 0} (r : Result T E) → P → OnErr r P
-on_err (Ok x) p = tt
-on_err (Err e) p = p
-
-pub was_err : {T E P : Type 0} (r : Result T E) (e : E) → r ≡ Err e → OnErr r P → P
-was_err {P = P} r e was p = subst (λ r. OnErr r P) was p

@@ -35,7 +35,7 @@ turned answer course = record { origin = course.origin; turns = course.turns + 1
 abbrev pub listed : CourseList → List (Pid × Course)
 listed list = map (λ entry. (entry.0, entry.1.value)) list.entries.items
 
--- the course of a process, if it was begun
+-- the course of a process, if it was begun: the first that the list has for it
 abbrev pub course_at : Courses → Pid → Option Course
 course_at courses p = lookup (same_pid p) (listed courses.courses.value)
 

@@ -8,7 +8,8 @@ use std::alloc::{AllocError, Global};
 use std::sync::Arc;
 use term_core::Pid;
 
-/// The processes that were begun, each with its course, in no order: there are few, and a copy of a list is cheap.
+/// The processes that were begun, each with its course. They are few, so a list is copied and dropped sooner than a
+/// map, and looked through as soon.
 #[derive(Drop)]
 pub(crate) struct CourseList<'m> {
     entries: Vec<(Pid, Arc<Course<'m>>)>,

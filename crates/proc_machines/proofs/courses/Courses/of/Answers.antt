@@ -1,4 +1,4 @@
-use Rattle.std.proofs.Common.{◌≡◌, Some, None, ap, get_or, option_copied, position, ◌∙◌}
+use Rattle.std.proofs.Common.{Some, ap, get_or, option_copied, position, ◌∙◌}
 use Rattle.std.specs.Map.{lookup}
 use Rattle.world_model.specs.Names.{same_pid}
 use Rattle.proc_machines.specs.Courses.{listed}
