@@ -7,8 +7,8 @@ ghost use Rattle.cover_check.specs.inside.Frames.{IsReached};
 ghost use Rattle.world_core.specs.Seen.{program_in};
 
 use std::alloc::{AllocError, Global};
-use step_indep::asleep_below;
-use step_indep::laws::{footprints_are_of_histories, names_mean_tables};
+use step_plans::asleep_below;
+use step_plans::laws::{footprints_are_of_histories, names_mean_tables};
 use term_core::Step;
 use world_core::World;
 

@@ -5,8 +5,7 @@ use core_reader::{Module, ReadFault, read_module};
 use std::alloc::{AllocError, Global};
 use std::test::Fail;
 use step_plans::{
-    Deed, Plan, Planned, Refusal, act, are_independent, asleep_below, is_enabled, perform,
-    plan_step,
+    Deed, Plan, Planned, Refusal, are_independent, asleep_below, is_enabled, perform, plan_step,
 };
 use term_core::{
     Output, Pid, Step, Term, WriteFault, write_all, write_number, write_pid, write_term,
@@ -425,8 +424,7 @@ fn steps_are_done_as_planned(rt: HostRuntime) -> Result<(), Fail> {
         plan_step(&records, alloc, turn_of(alloc, 0)?)?.is_none(),
         "a dead process has a plan",
     )?;
-    let delivered = act(&mut records, alloc, &delivery_to(alloc, 1)?)?;
-    holds(delivered.is_some(), "nothing was delivered")?;
+    go(alloc, &mut records, delivery_to(alloc, 1)?)?;
     holds(
         !is_enabled(&records, alloc, &delivery_to(alloc, 1)?)?,
         "it is delivered twice",

@@ -6,11 +6,10 @@ use report_text::write_event;
 use std::alloc::{AllocError, Global};
 use std::sync::Arc;
 use std::test::Fail;
+use step_plans::{Deed, Event, Refusal};
 use term_core::{Pid, RefId, Step, Term, Terms, list_onto};
 use test_support::{MemorySink, same};
-use world_calls::Refusal;
 use world_model::rule::Rule;
-use world_steps::{Deed, Event};
 
 // How many bytes a sink takes at a time.
 const PIECES: [usize; 2] = [1, 1000];

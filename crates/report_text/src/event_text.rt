@@ -4,20 +4,19 @@ ghost use Rattle.term_core.specs.Stream.{Writes};
 ghost use Rattle.term_core.specs.Term.{meaning_of};
 ghost use Rattle.proc_links.specs.Effects.{fate_in};
 ghost use Rattle.proc_signals.specs.Signal.{signal_of, ref_of};
-ghost use Rattle.world_calls.specs.Replies.{refusal_in};
-ghost use Rattle.world_steps.specs.Deeds.{deed_in, event_in};
+ghost use Rattle.step_plans.specs.Replies.{refusal_in};
+ghost use Rattle.step_plans.specs.Deeds.{deed_in, event_in};
 ghost use Rattle.report_text.specs.EventText.{text_of_end, text_of_answer, text_of_refusal, text_of_refused, text_of_last_call, text_of_received, text_of_fate, text_of_message, text_of_exit, text_of_down, text_of_delivered, text_of_deed, text_of_event};
 
 use crate::call_text::{write_broken_rule, write_call};
 use core_tree::CallKind;
 use proc_links::Effect;
 use proc_signals::Signal;
+use step_plans::{Deed, Event, Refusal};
 use term_core::{
     RefId, Sink, Term, Terms, WriteFault, write_all, write_number, write_reference, write_step,
     write_term,
 };
-use world_calls::Refusal;
-use world_steps::{Deed, Event};
 
 /// Writes the line of the event of this number: the number, the step (of a turn the process whose turn it
 /// was), and what it did. `WriteFault` comes only where the sink has failed, and then a beginning of the

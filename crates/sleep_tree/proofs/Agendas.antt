@@ -16,7 +16,7 @@ use Rattle.coverage.specs.Jobs.{asleep_below, awake_steps}
 use Rattle.sleep_sets.specs.Search.{is_among}
 use Rattle.step_agenda.specs.Plans.{ArePlans, IsAgenda, IsPlan, IsWorld, Shared, steps_in}
 use Rattle.step_agenda.specs.declared.agenda.Agenda.{Agenda}
-use Rattle.step_agenda.specs.declared.plan.Plan.{Plan}
+use Rattle.step_plans.specs.declared.plan.Plan.{Plan}
 use Rattle.sleep_tree.specs.inside.Nodes.{history_below}
 use Rattle.sleep_tree.proofs.Runs.{next_of}
 

@@ -5,7 +5,7 @@ use Rattle.world_core.specs.Seen.{Seen, program_in}
 use Rattle.world_model.specs.Run.{extended, next_event, schedule_of}
 use Rattle.step_agenda.specs.Plans.{ArePlans, IsAgenda, IsPlan, Shared}
 use Rattle.step_agenda.specs.declared.agenda.Agenda.{Agenda}
-use Rattle.step_agenda.specs.declared.plan.Plan.{Plan}
+use Rattle.step_plans.specs.declared.plan.Plan.{Plan}
 use Rattle.sleep_jobs.specs.Explorations.{ExplorationSeen, nodes_of}
 use Rattle.sleep_jobs.specs.Reached.{IsJob}
 use Rattle.sleep_tree.specs.inside.Frames.{IsChildOf, IsNodeOf, IsWorldOf, nodes_of_node}
@@ -31,8 +31,11 @@ pub held_by_copy : (w v : Seen) (p q : Plan) (g : Agenda) (slept : List Shared) 
 held_by_copy w v p q g slept world plan hold =
     subst (λ (x : Seen). IsHeld x q g slept) (sym world) (subst (λ (x : Plan). IsHeld w x g slept) (sym plan) hold)
 
-pub child_of_copy : (w v : Seen) (s t : Step) → v ≡ w → t ≡ s → IsChildOf w s → IsChildOf v t
-child_of_copy w v s t world step child = subst (λ (x : Seen). IsChildOf x t) (sym world) (subst (IsChildOf w) (sym step) child)
+abbrev pub IsPlannedChild : Seen → Plan → Type 0
+IsPlannedChild w p = IsChildOf w p.step × IsPlan (program_in w) w.history p
+
+pub child_of_copy : (w v : Seen) (p q : Plan) → v ≡ w → q ≡ p → IsPlannedChild w p → IsPlannedChild v q
+child_of_copy w v p q world plan child = subst (λ (x : Seen). IsPlannedChild x q) (sym world) (subst (IsPlannedChild w) (sym plan) child)
 
 module _ (w : Seen) (s : Step) (child : IsChildOf w s) where
   goes_there : extended w.history (next_event (program_in w) w.history s) ≡ Some (after w s).history
@@ -49,19 +52,20 @@ module _ (w : Seen) (s : Step) (child : IsChildOf w s) where
   is_node : IsNode (after w s)
   is_node = node_below w (after w s) s child.node (record { program = refl; lives = refl; history = goes_there })
 
-  module _ (e : ExplorationSeen) (left : ℕ) (slept before prefix : List Step) (belongs : IsNodeOf e (record { program = w.program; history = (after w s).history; slept = slept; left = left })) (schedule : before ≡ schedule_of w.history) (pushed : prefix ≡ before ++ s ∷ []) where
-    prefix_is : prefix ≡ schedule_of (after w s).history
-    prefix_is =
-        pushed ∙ ap (λ (xs : List Step). xs ++ s ∷ []) schedule
-        ∙ sym (longer (program_in w) w.history s (after w s).history (next_of (program_in w) w.history s (after w s).history goes_there))
+  -- the schedule that leads there
+  pub prefix_is : (before prefix : List Step) → before ≡ schedule_of w.history → prefix ≡ before ++ s ∷ [] → prefix ≡ schedule_of (after w s).history
+  prefix_is before prefix schedule pushed =
+      pushed ∙ ap (λ (xs : List Step). xs ++ s ∷ []) schedule
+      ∙ sym (longer (program_in w) w.history s (after w s).history (next_of (program_in w) w.history s (after w s).history goes_there))
 
+  module _ (e : ExplorationSeen) (left : ℕ) (slept before prefix : List Step) (belongs : IsNodeOf e (record { program = w.program; history = (after w s).history; slept = slept; left = left })) (schedule : before ≡ schedule_of w.history) (pushed : prefix ≡ before ++ s ∷ []) where
     -- the job of a child, and its nodes
     pub child_is_job : IsJob e (record { prefix = prefix; slept = slept })
     child_is_job =
-        subst (λ (xs : List Step). IsJob e (record { prefix = xs; slept = slept })) (sym prefix_is)
+        subst (λ (xs : List Step). IsJob e (record { prefix = xs; slept = slept })) (sym (prefix_is before prefix schedule pushed))
         (job_of_node e (after w s) left slept is_node belongs)
 
     pub child_has_nodes : nodes_of e (record { prefix = prefix; slept = slept }) ≡ nodes_of_node (record { program = w.program; history = (after w s).history; slept = slept; left = left })
     child_has_nodes =
-        ap (λ (xs : List Step). nodes_of e (record { prefix = xs; slept = slept })) prefix_is
+        ap (λ (xs : List Step). nodes_of e (record { prefix = xs; slept = slept })) (prefix_is before prefix schedule pushed)
         ∙ job_has_nodes e (after w s) left slept is_node.reached belongs

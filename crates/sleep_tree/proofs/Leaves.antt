@@ -1,25 +1,19 @@
 -- Leaves: the next child of a frame, where it lies at the depth.
-use Rattle.std.proofs.Common.{◌≡◌, ◌∙◌, Bool, true, false, List, [], ◌∷◌, ◌++◌, Option, Some, None, refl, sym, ap, subst}
-use Rattle.core_tree.specs.Syntax.{ModuleTree}
+use Rattle.std.proofs.Common.{◌≡◌, ◌∙◌, false, List, [], ◌∷◌, ◌++◌, Option, Some, None, refl, sym, ap, subst}
+use Rattle.std.proofs.lemmas.List.{append-nil}
 use Rattle.term_core.specs.declared.step.Step.{Step}
 use Rattle.world_core.specs.Seen.{Seen, program_in}
 use Rattle.world_model.specs.Asking.{program_of}
 use Rattle.world_model.specs.Events.{Event, History}
 use Rattle.world_model.specs.Names.{Pid}
+use Rattle.world_model.specs.Requests.{Program}
 use Rattle.world_model.specs.Run.{enabled_steps, living, next_event, run, schedule_of}
-use Rattle.world_model.specs.Shown.{Flags, Identity, deadlock_of, request_in, shown, shown_by, shown_last}
+use Rattle.world_model.specs.Shown.{Flags, Identity, deadlock_of, shown, shown_last}
 use Rattle.world_model.specs.Signals.{first_of}
-use Rattle.world_model.specs.Steps.{next_deed}
-use Rattle.world_model.specs.World.{contents}
-use Rattle.world_model.proofs.Histories.{deed_is, step_is}
-use Rattle.world_records.specs.Records.{Agrees}
-use Rattle.world_records.specs.declared.records.Records.{Records}
 use Rattle.coverage.specs.Findings.{Findings}
 use Rattle.findings.specs.Laws.{AddsSchedule}
-use Rattle.findings.proofs.Schedules.{adds_schedule}
-use Rattle.step_agenda.specs.Quiet.{IsQuiet}
 use Rattle.sleep_tree.specs.inside.Frames.{FrameSeen, IsWorldOf, NodeSeen, VisitsNext, IsChild, OnTop, PassesChild, TakesChild, history_along, leaf_below, nodes_of_frames, own_node}
-use Rattle.sleep_tree.specs.inside.Leaves.{IsLife, IsQuietBelow, LeadsOn, LivesBelow}
+use Rattle.sleep_tree.specs.inside.Leaves.{AddsLeaf, IsLife, LeadsOn, LivesBelow}
 use Rattle.sleep_tree.specs.inside.Nodes.{history_below}
 use Rattle.sleep_tree.proofs.Frames.{deep_node, history_is}
 use Rattle.sleep_tree.proofs.Pieces.{node_adds}
@@ -67,17 +61,18 @@ lives_below f s rest line reached some lives =
     let a = program_of f.program in
     (leads_if f s rest line reached some, subst (λ l. enabled_steps a (history_along a f.history l) ≡ [] → ⊥) (sym line) (lives_if f s (next_event a f.history s) refl some lives))
 
-quiet_if : (m : ModuleTree) (h : History) (s : Step) (records : Records) (o : Option Event) → next_event (program_of m) h s ≡ o → Agrees m records (contents h) → (o ≡ None → ⊥) → IsQuiet records s → shown_last (history_below h o) ≡ []
-quiet_if m h s records None is told some quiet = absurd (some refl)
-quiet_if m h s records (Some e) is told some quiet =
-    let deed = deed_is s (next_deed (program_of m) (contents h) s) e is in
-    subst (λ t. shown_by t (request_in e.step (e ∷ h)) e.deed ≡ []) (step_is s (next_deed (program_of m) (contents h) s) e is) (quiet m (contents h) told e.deed deed (request_in e.step (e ∷ h)))
+told_if : (a : Program) (h : History) (s : Step) (is : List Identity) (o : Option Event) → next_event a h s ≡ o → (o ≡ None → ⊥) → ((e : Event) → next_event a h s ≡ Some e → is ≡ shown_last (e ∷ h)) → is ≡ shown_last (history_below h o)
+told_if a h s is None now some told = absurd (some refl)
+told_if a h s is (Some e) now some told = told e now
 
--- its event shows nothing
-pub quiet_below : (f : FrameSeen) (s : Step) (rest : List Step) (records : Records) → f.line ≡ s ∷ rest → Agrees f.program records (contents f.history) → (next_event (program_of f.program) f.history s ≡ None → ⊥) → IsQuiet records s → IsQuietBelow f
-quiet_below f s rest records line told some quiet =
+-- what its event shows is all that is shown there, where some step is enabled
+pub leaf_shows : (f : FrameSeen) (s : Step) (rest : List Step) (is : List Identity) → f.line ≡ s ∷ rest → (next_event (program_of f.program) f.history s ≡ None → ⊥) → LivesBelow f → ((e : Event) → next_event (program_of f.program) f.history s ≡ Some e → is ≡ shown_last (e ∷ f.history)) → is ≡ shown (program_of f.program) (leaf_below f).history
+leaf_shows f s rest is line some lives told =
     let a = program_of f.program in
-    subst (λ l. shown_last (history_along a f.history l) ≡ []) (sym line) (quiet_if f.program f.history s records (next_event a f.history s) refl told some quiet)
+    let h = (leaf_below f).history in
+    subst (λ l. is ≡ shown_last (history_along a f.history l)) (sym line) (told_if a f.history s is (next_event a f.history s) refl some told)
+    ∙ sym (append-nil (shown_last h))
+    ∙ ap (λ more. shown_last h ++ more) (sym (no_deadlock (enabled_steps a h) (living h) lives.1))
 
 -- ---- a leaf that is visited without its world
 
@@ -92,32 +87,27 @@ leaf_is_child f depth leads =
       left = sym depth;
     }
 
--- a leaf that shows nothing, and of which that is plain
-abbrev pub IsPlain : FrameSeen → Type 0
-IsPlain f = (f.left ≡ 0) × (LivesBelow f × IsQuietBelow f)
+-- a leaf of which what it shows is added
+abbrev pub IsTold : Flags → Findings → Findings → FrameSeen → Type 0
+IsTold flags before after f = (f.left ≡ 0) × (LivesBelow f × AddsLeaf flags f before after)
 
-plain_takes : (old new : List FrameSeen) → (on : OnTop IsPlain old) → PassesChild old new → TakesChild old (leaf_below on.top) new
-plain_takes old new on passes =
+told_takes : (flags : Flags) (before after : Findings) (old new : List FrameSeen) → (on : OnTop (IsTold flags before after) old) → PassesChild old new → TakesChild old (leaf_below on.top) new
+told_takes flags before after old new on passes =
     let leads = on.holds.1.0.0 in
     record {
       first = record { below = on.below; top = on.top; is = on.is; holds = record { step = leads.step; rest = leads.rest; child = leaf_is_child on.top on.holds.0 leads } };
       passes = passes;
     }
 
-pub leaf_visited : (flags : Flags) (old new : List FrameSeen) (findings : Findings) → OnTop IsPlain old → PassesChild old new → VisitsNext flags old findings new findings
-leaf_visited flags old new findings on passes =
+pub leaf_visited : (flags : Flags) (old new : List FrameSeen) (before after : Findings) → OnTop (IsTold flags before after) old → PassesChild old new → VisitsNext flags old before new after
+leaf_visited flags old new before after on passes =
     let f = on.top in
-    let a = program_of f.program in
-    let lives = on.holds.1.0 in
     let w : Seen = record { program = f.program; history = (leaf_below f).history; spent = false } in
-    let s = schedule_of w.history in
-    let shows : shown a w.history ≡ [] = λ i. on.holds.1.1 i ++ no_deadlock (enabled_steps a w.history) (living w.history) lives.1 i in
-    let adds : AddsSchedule flags s (shown a w.history) findings findings = subst (λ (is : List Identity). AddsSchedule flags s is findings findings) (sym shows) (adds_schedule flags s [] findings findings refl) in
-    let takes = plain_takes old new on passes in
+    let takes = told_takes flags before after old new on passes in
     record {
       node = own_node (leaf_below f);
       nodes = taken_nodes old new (leaf_below f) takes ∙ deep_node (leaf_below f) (nodes_of_frames new) refl;
-      found = λ e done same all before. node_adds e w [] 0 flags findings findings done same (taken_are_of e old new (leaf_below f) takes all).0.program lives.0.reached adds before;
+      found = λ e done same all old_is. node_adds e w [] 0 flags before after done same (taken_are_of e old new (leaf_below f) takes all).0.program on.holds.1.0.0.reached on.holds.1.1 old_is;
       are_of = λ e all. (taken_are_of e old new (leaf_below f) takes all).1;
     }
 
@@ -128,10 +118,6 @@ pub record IsLedTo (f : FrameSeen) (v : NodeSeen) : Type 0 where
   pub program : v.program ≡ f.program
   pub history : v.history ≡ (leaf_below f).history
   pub left : v.left ≡ f.left
-
-pub lives_there : (f : FrameSeen) (v : NodeSeen) (w : Seen) → LivesBelow f → IsLedTo f v → IsWorldOf v w → enabled_steps (program_in w) w.history ≡ [] → ⊥
-lives_there f v w lives led of none =
-    lives.1 ((λ i. enabled_steps (program_of (sym (of.program ∙ led.program) i)) (sym (of.history ∙ led.history) i)) ∙ none)
 
 -- the child of a frame is the one that it leads to
 pub led_to : (f : FrameSeen) (s : Step) (rest : List Step) (v : NodeSeen) → IsChild f s rest v → IsLedTo f v
@@ -144,9 +130,8 @@ led_to f s rest v child =
       left = child.left;
     }
 
--- a leaf, behind which it may be known that a step is enabled
-abbrev pub IsLeaf : Bool → FrameSeen → Type 0
-IsLeaf lives f = (f.left ≡ 0) × (lives ≡ true → LivesBelow f)
+abbrev pub IsLeaf : FrameSeen → Type 0
+IsLeaf f = f.left ≡ 0
 
 -- what is known of the last frame, and what its child is
 pub record IsLedOnTop (P : FrameSeen → Type 0) (v : NodeSeen) : Type 0 where
@@ -163,10 +148,10 @@ led_on_top P old new v on takes =
       led = led_to takes.first.top first.step first.rest v first.child;
     }
 
-pub world_visited : (flags : Flags) (lives : Bool) (v : NodeSeen) (w : Seen) (old new : List FrameSeen) (before after : Findings) → IsLedOnTop (IsLeaf lives) v → IsWorldOf v w → TakesChild old v new → AddsSchedule flags (schedule_of w.history) (shown (program_in w) w.history) before after → VisitsNext flags old before new after
-world_visited flags lives v w old new before after led of takes adds = record {
+pub world_visited : (flags : Flags) (v : NodeSeen) (w : Seen) (old new : List FrameSeen) (before after : Findings) → IsLedOnTop IsLeaf v → IsWorldOf v w → TakesChild old v new → AddsSchedule flags (schedule_of w.history) (shown (program_in w) w.history) before after → VisitsNext flags old before new after
+world_visited flags v w old new before after led of takes adds = record {
   node = own_node (record { program = w.program; history = w.history; slept = v.slept; left = v.left });
-  nodes = taken_nodes old new v takes ∙ deep_node v (nodes_of_frames new) (led.led.left ∙ led.holds.0) ∙ (λ i. own_node (record { program = sym of.program i; history = sym of.history i; slept = v.slept; left = v.left }) ∷ nodes_of_frames new);
+  nodes = taken_nodes old new v takes ∙ deep_node v (nodes_of_frames new) (led.led.left ∙ led.holds) ∙ (λ i. own_node (record { program = sym of.program i; history = sym of.history i; slept = v.slept; left = v.left }) ∷ nodes_of_frames new);
   found = λ e done same all old_is. node_adds e w v.slept v.left flags before after done same (ap program_of of.program ∙ (taken_are_of e old new v takes all).0.program) of.node.reached adds old_is;
   are_of = λ e all. (taken_are_of e old new v takes all).1;
 }

@@ -23,7 +23,7 @@ pub(crate) struct Child<'m> {
 }
 
 impl<'m> Model for Child<'m> {
-    ghost use Rattle.step_agenda.specs.Plans.{steps_in};
+    ghost use Rattle.step_agenda.specs.Plans.{IsPlan, steps_in};
     ghost use Rattle.world_core.specs.Seen.{program_in};
     ghost use Rattle.world_model.specs.Run.{next_event};
     ghost use Rattle.sleep_tree.specs.inside.Codes.{coded_node};
@@ -36,7 +36,7 @@ impl<'m> Model for Child<'m> {
 
     ghost view = { λ c. record { program = c.above.program; history = history_below c.above.history (next_event (program_in c.above) c.above.history c.plan.value.step); slept = steps_in c.slept.items; left = c.left } };
 
-    ghost invariant = { λ c. IsChildOf c.above c.plan.value.step };
+    ghost invariant = { λ c. IsChildOf c.above c.plan.value.step × IsPlan (program_in c.above) c.above.history c.plan.value };
 }
 
 impl<'m> Child<'m> {
@@ -50,7 +50,7 @@ impl<'m> Child<'m> {
             plan,
             left: _,
         } = self;
-        stepped(alloc, above, &plan.step)
+        stepped(alloc, above, &plan)
     }
 
     /// The job of it, which is not visited. `Memory` where there is none.

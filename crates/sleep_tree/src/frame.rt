@@ -2,16 +2,18 @@
 ghost use Rattle.std.specs.Prelude.{◌≡◌, ◌∷◌, ◌++◌, [], true, false, IfOk, OnOk};
 ghost use Rattle.sleep_jobs.specs.Explorations.{ExplorationSeen};
 ghost use Rattle.sleep_tree.specs.inside.Frames.{nodes_of_frames, nodes_of_node, own_node, others_of, AreFramesOf, IsNodeOf, PassesChild, TakesChild, IsFirstOf};
-ghost use Rattle.sleep_tree.specs.inside.Leaves.{IsQuietBelow, LivesBelow};
+ghost use Rattle.findings.specs.Identities.{flags_in};
+ghost use Rattle.sleep_tree.specs.inside.Leaves.{AddsLeaf, LivesBelow};
 
 use crate::child::Child;
 use crate::node::Node;
 use crate::sleeping::sleep_below;
+use findings::{Findings, Flags};
 use std::alloc::Global;
 use std::marker::Model;
 use std::mem::replace;
 use std::rc::Rc;
-use step_agenda::{Agenda, Plan, is_quiet};
+use step_agenda::{Agenda, Plan};
 use world_core::{World, WorldFault};
 
 /// A node that was visited: its world, the steps that sleep for its next child, the step to that child, the steps to the
@@ -268,11 +270,25 @@ impl<'m> Frame<'m> {
         self.agenda.lives_below(&self.next)
     }
 
-    /// Whether it is plain without the world of the next child that its event shows nothing. `Memory` where there is none
-    /// to tell.
-    pub(crate) fn is_quiet_below(&self, alloc: Global) -> Result<bool, WorldFault>
-        ensures { IfOk result (λ quiet. quiet ≡ true → IsQuietBelow self.now) }
+    /// Adds what the next child shows, where it lies at the depth and some step is enabled there: what its step shows, by
+    /// its plan. No world is made. `Memory` where there is none.
+    pub(crate) fn report_leaf(
+        &self,
+        alloc: Global,
+        flags: Flags,
+        findings: &mut Findings,
+    ) -> Result<(), WorldFault>
+        requires { LivesBelow self.now }
+        ensures { OnOk result (AddsLeaf (flags_in flags) self.now findings.old findings.new) }
     {
-        Ok(is_quiet(self.world.records(), alloc, &self.next.step)?)
+        let identities = self.world.shown_by(alloc, &self.next)?;
+        let shown = identities.as_slice();
+        if shown.len() == 0 {
+            return Ok(());
+        }
+        let mut schedule = self.world.schedule(alloc)?;
+        schedule.push(self.next.step.copy()?)?;
+        findings.note(alloc, flags, shown, schedule.as_slice())?;
+        Ok(())
     }
 }

@@ -15,7 +15,6 @@ use std::alloc::Global;
 use std::marker::Model;
 use std::rc::Rc;
 use step_agenda::{Agenda, Plan};
-use term_core::Step;
 use world_core::{World, WorldFault};
 
 /// A node: its world, the steps that sleep there, how many steps may follow, and its agenda.
@@ -43,18 +42,19 @@ impl<'m> Model for Node<'m> {
     ghost invariant = { λ n. IsNode n.world × IsAgenda (program_in n.world) n.world.history n.agenda × ArePlans (program_in n.world) n.world.history n.slept.items };
 }
 
-/// The world that an enabled step leads to, from one that is taken over. `Memory` where there is none.
+/// The world that the enabled step of a plan leads to, from one that is taken over. `Memory` where there is none.
 pub(crate) fn stepped<'m>(
     alloc: Global,
     world: World<'m>,
-    step: &Step,
+    plan: &Plan,
 ) -> Result<World<'m>, WorldFault>
     requires lives { world.spent ≡ false }
-    requires enabled { next_event (program_in world) world.history step.now ≡ None → ⊥ }
-    ensures { IfOk result (λ after. IsAfter world.entry step.now after) }
+    requires plan { IsPlan (program_in world) world.history plan.now }
+    requires enabled { next_event (program_in world) world.history plan.now.step ≡ None → ⊥ }
+    ensures { IfOk result (λ after. IsAfter world.entry plan.now.step after) }
 {
     let mut world = world;
-    match world.step(alloc, step) {
+    match world.perform(alloc, plan) {
         Ok(()) => Ok(world),
         Err(WorldFault::Memory) => Err(WorldFault::Memory),
         Err(WorldFault::NotEnabled) => unreachable!(),
@@ -106,7 +106,7 @@ impl<'m> Node<'m> {
         ensures slept { IfOk result (λ node. node.slept ≡ steps_in slept.items) }
         ensures left { IfOk result (λ node. node.left ≡ left) }
     {
-        let world = stepped(alloc, world, &plan.step)?;
+        let world = stepped(alloc, world, plan)?;
         let agenda = agenda.below(world.records(), alloc, plan)?;
         Ok(Node {
             world,

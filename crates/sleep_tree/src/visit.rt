@@ -7,7 +7,7 @@ ghost use Rattle.world_core.specs.Seen.{program_in};
 ghost use Rattle.world_model.specs.Run.{enabled_steps, schedule_of};
 ghost use Rattle.world_model.specs.Shown.{shown as shown_of};
 ghost use Rattle.sleep_jobs.specs.Explorations.{ExplorationSeen, findings_of};
-ghost use Rattle.sleep_tree.specs.inside.Leaves.{IsLife, LivesBelow};
+ghost use Rattle.sleep_tree.specs.inside.Leaves.{IsLife};
 ghost use Rattle.sleep_tree.specs.inside.Frames.{nodes_of_frames, nodes_of_node, own_node, AreFramesOf, IsNodeOf, OnTop, VisitsNext};
 
 use crate::frame::{Frame, descend, next_child, open, pass_child};
@@ -79,31 +79,25 @@ pub(crate) fn visit<'m>(
 }
 
 /// Visits the next child of the last frame of a stack, which lies at the depth, with its world and without an agenda; the
-/// frame goes on to the child behind it. It may be known that some step is enabled there. `Memory` where there is none.
+/// frame goes on to the child behind it. `Memory` where there is none.
 fn visit_leaf<'m>(
     alloc: Global,
     flags: Flags,
-    lives: bool,
     findings: &mut Findings,
     frames: &mut Vec<Frame<'m>>,
 ) -> Result<(), WorldFault>
-    requires { OnTop (λ f. (f.left ≡ 0) × (lives ≡ true → LivesBelow f)) frames.old.items }
+    requires { OnTop (λ f. f.left ≡ 0) frames.old.items }
     ensures { OnOk result (VisitsNext (flags_in flags) frames.old.items findings.old frames.new.items findings.new) }
 {
     let child = next_child(alloc, frames)?;
-    let step = child.plan.step.copy()?;
     let world = child.into_world(alloc)?;
-    if lives {
-        report(alloc, flags, &world, Some(&step), findings)?;
-        return Ok(());
-    }
     let enabled = world.enabled(alloc)?;
     report(alloc, flags, &world, enabled.as_slice().first(), findings)?;
     Ok(())
 }
 
 /// Visits the next child of the last frame of a stack, which goes on to the child behind it. At the depth no agenda is made
-/// for it, and no world where it is plain that it shows nothing. `Memory` where there is none.
+/// for it, and no world where it is plain that some step is enabled there. `Memory` where there is none.
 pub(crate) fn visit_next<'m>(
     alloc: Global,
     flags: Flags,
@@ -117,12 +111,12 @@ pub(crate) fn visit_next<'m>(
         unreachable!();
     };
     if frame.leads_to_a_leaf() {
-        let lives = frame.lives_below();
-        if lives && frame.is_quiet_below(alloc)? {
+        if frame.lives_below() {
+            frame.report_leaf(alloc, flags, findings)?;
             pass_child(frames)?;
             return Ok(());
         }
-        return visit_leaf(alloc, flags, lives, findings, frames);
+        return visit_leaf(alloc, flags, findings, frames);
     }
     let node = descend(alloc, frames)?;
     visit(alloc, flags, node, findings, frames)?;

@@ -1,8 +1,5 @@
 pub mod Seen
 pub mod Settling
 pub mod Putting
-pub mod Masks
 pub mod Looking
 pub mod Staying
-pub mod Unshown
-pub mod Refusals

@@ -10,7 +10,7 @@ use Rattle.term_core.specs.declared.step.Step.TheVariants.{Turn, Deliver}
 use Rattle.core_tree.specs.Syntax.{ModuleTree}
 use Rattle.proc_signals.specs.Channels.{order_of_pairs}
 use Rattle.world_model.specs.Asking.{program_of}
-use Rattle.world_model.specs.Cells.{Alive}
+use Rattle.world_model.specs.Cells.{Alive, Contents}
 use Rattle.world_model.specs.Events.{event, History}
 use Rattle.world_model.specs.Names.{Pid, IsAmong}
 use Rattle.world_model.specs.Requests.{Program}
@@ -19,13 +19,21 @@ use Rattle.world_model.specs.Signals.{waiting_in}
 use Rattle.world_model.specs.Steps.{next_deed}
 use Rattle.world_model.specs.World.{contents}
 use Rattle.world_core.proofs.Listed.{listed}
+use Rattle.world_core.proofs.Worlds.{names_mean}
 use Rattle.world_core.specs.inside.Enabling.{turns_of, deliveries_of, is_enabled_at}
+use Rattle.world_records.specs.Records.{Agrees}
 use Rattle.world_records.specs.declared.records.Records.{Records}
-use Rattle.step_indep.specs.Cells.{cells_in}
+use Rattle.step_plans.specs.Plans.{NamesMeanTables, actor_of}
+use Rattle.step_plans.specs.Turns as turns
+use Rattle.step_plans.specs.declared.plan.Plan.{Plan}
+use Rattle.step_plans.proofs.Apart.{dead_off}
+use Rattle.world_records.specs.Cells.{cells_in}
+use Rattle.step_plans.specs.Turns.{written_in}
 use Rattle.world_model.specs.Independence.{some_meet}
 use Rattle.step_agenda.specs.Plans.{ArePlans, IsPlan, IsWorld, Shared, enabled_in}
 use Rattle.step_agenda.specs.declared.above.Above.{Above}
 use Rattle.step_agenda.specs.inside.Planning.{HasPlans, IsHeldIn, IsMetIn, PutsPlans}
+use Rattle.step_agenda.proofs.Settling.{enabled_as, enabled_here}
 
 -- ---- elements
 
@@ -58,8 +66,8 @@ at_same (z ∷ zs) (suc i) x y within one other = at_same zs i x y (omega (arith
 
 pub enabled_append : (ps qs : List Shared) → enabled_in (ps ++ qs) ≡ enabled_in ps ++ enabled_in qs
 enabled_append ps qs =
-    ap (map (λ (p : Shared). p.value.step)) (filter-append (λ (p : Shared). p.value.enabled) ps qs)
-    ∙ map-append (λ (p : Shared). p.value.step) (filter (λ (p : Shared). p.value.enabled) ps) (filter (λ (p : Shared). p.value.enabled) qs)
+    ap (map (λ (p : Shared). p.value.step)) (filter-append (λ (p : Shared). is_some p.value.deed) ps qs)
+    ∙ map-append (λ (p : Shared). p.value.step) (filter (λ (p : Shared). is_some p.value.deed) ps) (filter (λ (p : Shared). is_some p.value.deed) qs)
 
 same_if : (b c : Bool) (s t : Step) → b ≡ c → s ≡ t → cond b (s ∷ []) [] ≡ cond c (t ∷ []) []
 same_if b c s t test same = λ i. cond (test i) (same i ∷ []) []
@@ -70,7 +78,7 @@ mapped_if false p = refl
 
 one_enabled : (a : Program) (h : History) (p : Shared) (s : Step) → IsPlan a h p.value → p.value.step ≡ s → enabled_in (p ∷ []) ≡ filter (is_enabled a h) (s ∷ [])
 one_enabled a h p s is same =
-    mapped_if p.value.enabled p ∙ same_if p.value.enabled (is_enabled a h s) p.value.step s (is.enabled ∙ ap (is_enabled a h) same) same
+    mapped_if (is_some p.value.deed) p ∙ same_if (is_some p.value.deed) (is_enabled a h s) p.value.step s (enabled_here a h p.value is ∙ ap (is_enabled a h) same) same
 
 -- ---- plans that are put behind others
 
@@ -89,24 +97,27 @@ has_none a h s old off all = record {
 }
 
 -- a plan that is taken over
-pub puts_kept : (records : Records) (above : Above) (s : Step) (p q : Shared) (old new : List Shared) → IsHeldIn p above.plans.now → p.value.step ≡ s → some_meet (cells_in above.taken.now.footprint.writes.items) (cells_in p.value.footprint.reads.items) ≡ false → q.value ≡ p.value → new ≡ old ++ q ∷ [] → PutsPlans records (Some above) (s ∷ []) old new
+pub puts_kept : (records : Records) (above : Above) (s : Step) (p q : Shared) (old new : List Shared) → IsHeldIn p above.plans.now → p.value.step ≡ s → some_meet (written_in above.taken.now) (cells_in p.value.planned.reads.items) ≡ false → q.value ≡ p.value → new ≡ old ++ q ∷ [] → PutsPlans records (Some above) (s ∷ []) old new
 puts_kept records above s p q old new there is apart same now =
     λ m h world takes all.
-    let holds = all_held (λ (r : Shared). some_meet (cells_in above.taken.now.footprint.writes.items) (cells_in r.value.footprint.reads.items) ≡ false → IsPlan (program_of m) h r.value) p above.plans.now takes there apart in
+    let holds = all_held (λ (r : Shared). some_meet (written_in above.taken.now) (cells_in r.value.planned.reads.items) ≡ false → IsPlan (program_of m) h r.value) p above.plans.now takes there apart in
     has_one (program_of m) h s q old new now (subst (IsPlan (program_of m) h) (sym same) holds) (ap (λ r. r.step) same ∙ is) all
 
 -- one that is not, since it is met
-pub met_at : (above : Above) (place : ℕ) (s : Step) → place < length above.plans.now → ((p : Shared) → p ≡ get_or above.plans.now place p → p.value.step ≡ s) → ((p : Shared) → p ≡ get_or above.plans.now place p → some_meet (cells_in above.taken.now.footprint.writes.items) (cells_in p.value.footprint.reads.items) ≡ true) → IsMetIn above s
+pub met_at : (above : Above) (place : ℕ) (s : Step) → place < length above.plans.now → ((p : Shared) → p ≡ get_or above.plans.now place p → p.value.step ≡ s) → ((p : Shared) → p ≡ get_or above.plans.now place p → some_meet (written_in above.taken.now) (cells_in p.value.planned.reads.items) ≡ true) → IsMetIn above s
 met_at above place s within same met =
     let here = element_at above.plans.now place within in
     record { plan = here.0; held = held_at above.plans.now place here.0 within here.1; same = same here.0 here.1; met = met here.0 here.1 }
 
 -- one that is made
-pub puts_new : (records : Records) (above : Option Above) (s : Step) (p : Shared) (old new : List Shared) → p.value.step ≡ s → ((m : ModuleTree) (h : History) → IsWorld m h records → IsPlan (program_of m) h p.value) → new ≡ old ++ p ∷ [] → PutsPlans records above (s ∷ []) old new
-puts_new records above s p old new is holds now = λ m h world takes all. has_one (program_of m) h s p old new now (holds m h world) is all
+pub puts_new : (records : Records) (above : Option Above) (s : Step) (made : Plan) (p : Shared) (old new : List Shared) → made.step ≡ s → ((m : ModuleTree) (v : Contents) → Agrees m records v → NamesMeanTables v → turns.IsPlan (program_of m) v made) → p.value ≡ made → new ≡ old ++ p ∷ [] → PutsPlans records above (s ∷ []) old new
+puts_new records above s made p old new is holds same now = λ m h world takes all.
+    let plan : IsPlan (program_of m) h made = holds m (contents h) world.agrees (names_mean (program_of m) h world.is_run) in
+    has_one (program_of m) h s p old new now (subst (IsPlan (program_of m) h) (sym same) plan) (ap (λ (q : Plan). q.step) same ∙ is) all
 
-pub puts_no_plan : (records : Records) (above : Option Above) (s : Step) (old : List Shared) → ((m : ModuleTree) (h : History) → IsWorld m h records → is_enabled (program_of m) h s ≡ false) → PutsPlans records above (s ∷ []) old old
-puts_no_plan records above s old off = λ m h world takes all. has_none (program_of m) h s old (off m h world) all
+pub puts_no_plan : (records : Records) (above : Option Above) (s : Step) (old : List Shared) → ((m : ModuleTree) (v : Contents) → Agrees m records v → v (Alive (actor_of s)) ≡ false) → PutsPlans records above (s ∷ []) old old
+puts_no_plan records above s old dead = λ m h world takes all.
+    has_none (program_of m) h s old (sym (enabled_as (program_of m) h s) ∙ dead_off (program_of m) (contents h) s (dead m (contents h) world.agrees)) all
 
 -- those of more steps
 pub puts_none : (records : Records) (above : Option Above) (old : List Shared) → PutsPlans records above [] old old

@@ -6,11 +6,11 @@ use Rattle.std.proofs.lemmas.List.{map-append, take_more}
 use Rattle.std.proofs.lemmas.List.Elements.{filter-append}
 use Rattle.term_core.specs.declared.step.Step.{Step}
 use Rattle.world_model.specs.Events.{Event, History}
-use Rattle.world_model.specs.Independence.{Footprint, are_independent, footprint, some_meet, written}
+use Rattle.world_model.specs.Independence.{are_independent, footprint, some_meet, written}
 use Rattle.world_model.specs.Requests.{Program}
 use Rattle.world_model.specs.Run.{is_enabled, next_event}
 use Rattle.step_agenda.specs.Plans.{ArePlans, IsPlan, Shared, steps_in}
-use Rattle.step_agenda.specs.declared.plan.Plan.{Plan}
+use Rattle.step_plans.specs.declared.plan.Plan.{Plan}
 use Rattle.step_agenda.proofs.Putting.{all_append, all_held, held_at}
 use Rattle.step_agenda.proofs.Settling.{plan_stays}
 
@@ -37,7 +37,7 @@ unmet a h s t e = third (is_enabled a h s) (is_enabled a h t) (some_meet (footpr
 pub stays_asleep : (a : Program) (h : History) (e : Event) (taken p : Plan) → IsPlan a h p → are_independent a h taken.step p.step ≡ true → next_event a h taken.step ≡ Some e → IsPlan a (e ∷ h) p
 stays_asleep a h e taken p is apart now =
     plan_stays a h e p is
-    ((λ i. some_meet (written h (sym now i)) (ap (λ (f : Footprint). f.reads) is.footprint i)) ∙ unmet a h taken.step p.step apart)
+    ((λ i. some_meet (written h (sym now i)) (is.reads i)) ∙ unmet a h taken.step p.step apart)
 
 pub plan_among : (a : Program) (h : History) (plans : List Shared) (i : ℕ) (p : Shared) → i < length plans → p ≡ get_or plans i p → ArePlans a h plans → IsPlan a h p.value
 plan_among a h plans i p within at all = all_held (λ (q : Shared). IsPlan a h q.value) p plans all (held_at plans i p within at)

@@ -1,6 +1,6 @@
 // The agenda of a node.
 ghost use Rattle.std.specs.List.{filter};
-ghost use Rattle.std.specs.Prelude.{◌≡◌, ◌∷◌, [], true, false, not, reverse, None, Some, IfOk, IfSome, option_map};
+ghost use Rattle.std.specs.Prelude.{◌≡◌, ◌∷◌, [], true, false, not, reverse, None, Some, IfOk, IfSome, is_some, option_map};
 ghost use Rattle.core_tree.specs.Syntax.{ModuleTree};
 ghost use Rattle.coverage.specs.Explored.{same_step};
 ghost use Rattle.sleep_sets.specs.Search.{is_among};
@@ -16,11 +16,12 @@ ghost use Rattle.world_model.specs.Run.{enabled_steps, is_enabled, next_event};
 ghost use Rattle.world_model.specs.Signals.{first_of};
 
 use crate::above::Above;
-use crate::plan::{Plan, is_enabled_at, outlives, share};
+use crate::plan::{is_enabled_at, outlives, share};
 use crate::planning::{put_deliveries, put_turns};
 use crate::sleeping::is_awake;
 use std::alloc::{AllocError, Global};
 use std::rc::Rc;
+use step_plans::Plan;
 use term_core::Step;
 use world_records::Records;
 
@@ -90,7 +91,7 @@ impl Agenda {
     {
         let plans = self.plans.as_slice();
         for plan in plans {
-            if plan.enabled {
+            if plan.deed.is_some() {
                 return Some(&plan.step);
             }
         }
@@ -123,7 +124,7 @@ impl Agenda {
     fn enabled_plan(&self, step: &Step) -> Option<&Rc<Plan>>
         ensures plan { IfSome result (λ plan. (a : Program) (h : History) → IsAgenda a h self.now → IsPlan a h plan.now.value) }
         ensures step { IfSome result (λ plan. plan.now.value.step ≡ step.now) }
-        ensures enabled { IfSome result (λ plan. plan.now.value.enabled ≡ true) }
+        ensures enabled { IfSome result (λ plan. is_some plan.now.value.deed ≡ true) }
         ensures none { result ≡ None → (a : Program) (h : History) → IsAgenda a h self.now → is_enabled a h step.now ≡ false }
     {
         let plans = self.plans.as_slice();

@@ -3,17 +3,13 @@
 
 mod above;
 pub mod agenda;
-pub mod independence;
 pub mod laws;
-mod mask;
+mod lent;
 pub mod plan;
-mod planned;
 mod planning;
-pub mod quiet;
 pub mod sleeping;
 
 pub use agenda::Agenda;
-pub use independence::are_independent;
-pub use plan::{Plan, share};
-pub use quiet::is_quiet;
+pub use plan::share;
 pub use sleeping::asleep_below;
+pub use step_plans::Plan;

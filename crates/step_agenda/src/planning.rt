@@ -2,16 +2,17 @@
 ghost use Rattle.std.specs.Prelude.{◌≡◌, ◌∷◌, [], OnOk};
 ghost use Rattle.std.specs.List.Sorted.{IsStrictlySortedBy};
 ghost use Rattle.term_core.specs.Order.{order_of_lists};
-ghost use Rattle.step_agenda.specs.inside.Planning.{PutsPlans};
+ghost use Rattle.step_agenda.specs.inside.Planning.{PutsPlans, step_in};
 ghost use Rattle.world_core.specs.inside.Enabling.{turns_of, deliveries_of};
 
 use crate::above::Above;
-use crate::plan::{Plan, share};
-use crate::planned::planned;
+use crate::lent::{LentStep, step_of};
+use crate::plan::share;
 use std::alloc::{AllocError, Global};
 use std::collections::BTreeSet;
 use std::rc::Rc;
-use term_core::{Pid, Step};
+use step_plans::{Plan, plan_step};
+use term_core::Pid;
 use world_records::Records;
 
 // Puts the plan of a step behind others: the one of the node above, if there is one, where that still holds, and else a
@@ -19,21 +20,21 @@ use world_records::Records;
 fn put_plan(
     records: &Records<'_>,
     alloc: Global,
-    step: Step,
+    step: LentStep<'_>,
     above: Option<Above<'_>>,
     place: &mut usize,
     plans: &mut Vec<Rc<Plan>>,
 ) -> Result<(), AllocError>
-    ensures { OnOk result (PutsPlans records.now above.entry (step ∷ []) plans.old.items plans.new.items) }
+    ensures { OnOk result (PutsPlans records.now above.entry (step_in step.entry ∷ []) plans.old.items plans.new.items) }
 {
     if let Some(above) = above {
-        if let Some(plan) = above.kept(place, &step) {
+        if let Some(plan) = above.kept(place, step) {
             plans.push(share(plan)?)?;
             return Ok(());
         }
     }
-    if let Some(plan) = planned(records, alloc, step)? {
-        plans.push(plan)?;
+    if let Some(plan) = plan_step(records, alloc, step_of(step)?)? {
+        plans.push(Rc::new(alloc, plan)?)?;
     }
     Ok(())
 }
@@ -51,7 +52,7 @@ pub(crate) fn put_turns(
     ensures in_order { OnOk result (IsStrictlySortedBy order_of_lists pids.now.keys) }
 {
     for pid in pids.iter() {
-        put_plan(records, alloc, Step::Turn(pid.copy()?), above, place, plans)?;
+        put_plan(records, alloc, LentStep::Turn(pid), above, place, plans)?;
     }
     Ok(())
 }
@@ -68,7 +69,8 @@ pub(crate) fn put_deliveries(
     ensures { OnOk result (PutsPlans records.now above.entry (deliveries_of pairs.items) plans.old.items plans.new.items) }
 {
     for (from, to) in pairs {
-        put_plan(records, alloc, Step::Deliver(from, to), above, place, plans)?;
+        let step = LentStep::Deliver(&from, &to);
+        put_plan(records, alloc, step, above, place, plans)?;
     }
     Ok(())
 }

@@ -1,6 +1,6 @@
 // The plans of steps that sleep.
 ghost use Rattle.std.specs.List.{filter};
-ghost use Rattle.std.specs.Prelude.{◌≡◌, ◌∷◌, ◌&&◌, not, Some, IfOk};
+ghost use Rattle.std.specs.Prelude.{◌≡◌, ◌∷◌, ◌&&◌, not, Some, IfOk, is_some};
 ghost use Rattle.coverage.specs.Explored.{same_step};
 ghost use Rattle.sleep_sets.specs.Search.{is_among};
 ghost use Rattle.step_agenda.specs.Plans.{ArePlans, IsPlan, steps_in};
@@ -9,10 +9,10 @@ ghost use Rattle.world_model.specs.Independence.{are_independent};
 ghost use Rattle.world_model.specs.Requests.{Program};
 ghost use Rattle.world_model.specs.Run.{next_event};
 
-use crate::independence::are_independent;
-use crate::plan::{Plan, share};
+use crate::plan::share;
 use std::alloc::{AllocError, Global};
 use std::rc::Rc;
+use step_plans::{Plan, are_independent};
 use term_core::Step;
 
 // Whether a step is that of one of these plans.
@@ -29,9 +29,9 @@ fn is_asleep(slept: &[Rc<Plan>], step: &Step) -> bool
 
 /// Whether the step of a plan is enabled, and is not that of one of the plans that sleep. It takes no memory.
 pub(crate) fn is_awake(plan: &Plan, slept: &[Rc<Plan>]) -> bool
-    ensures { result ≡ plan.now.enabled && not (is_among same_step (steps_in slept.now) plan.now.step) }
+    ensures { result ≡ is_some plan.now.deed && not (is_among same_step (steps_in slept.now) plan.now.step) }
 {
-    plan.enabled && !is_asleep(slept, &plan.step)
+    plan.deed.is_some() && !is_asleep(slept, &plan.step)
 }
 
 /// Of the steps that sleep, those that stay asleep below a step: those that are independent of it, in their order

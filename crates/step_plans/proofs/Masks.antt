@@ -32,7 +32,8 @@ meet_off : (n m : ℕ) (d c : Cell) (b : Bool) → meet d c ≡ b → bit_at n (
 meet_off n m d c true is one other none = absurd (common_bit n m (place_in_mask d) one (ap (bit_at m) (one_place d c is) ∙ other) none)
 meet_off n m d c false is one other none = is
 
-one_off : (n m : ℕ) (ds : List Cell) (c : Cell) → Covers n ds → bit_at m (place_in_mask c) ≡ 1 → bit_and n m ≡ 0 → one_meets ds c ≡ false
+-- a cell that has another place than those is met by none of them
+pub one_off : (n m : ℕ) (ds : List Cell) (c : Cell) → Covers n ds → bit_at m (place_in_mask c) ≡ 1 → bit_and n m ≡ 0 → one_meets ds c ≡ false
 one_off n m [] c covered other none = refl
 one_off n m (d ∷ ds) c covered other none = λ i. meet_off n m d c (meet d c) refl (covered d (inl refl)) other none i || one_off n m ds c (λ e there. covered e (inr there)) other none i
 

@@ -3,7 +3,6 @@ pub mod Independence
 pub mod Planned
 pub mod Plans
 pub mod Replies
-pub mod Stepping
 pub mod Turns
 pub mod Views
 pub mod inside

@@ -18,31 +18,19 @@ pub fn meets(writer: &Plan, reader: &Plan) -> bool
     if writer.write_mask & reader.read_mask == 0 {
         return false;
     }
-    let changes = writer.planned.changes.as_slice();
-    writes_meet_some(
-        &writer.step,
-        &writer.deed,
-        changes,
-        reader.planned.reads.as_slice(),
-    )
+    writes_meet_some(writer, reader.planned.reads.as_slice())
 }
 
 // Whether a step writes a cell that meets one that another step writes that does this.
 fn writes_meet_writes(one: &Plan, other: &Plan, deed: &Deed) -> bool
     ensures { result ≡ some_meet (written_in one.now) (written_by other.now.step (Some (deed_in deed.now)) (all_changes_in other.now.planned.changes.items)) }
 {
-    let changes = one.planned.changes.as_slice();
-    writes_meet_deed(&one.step, &one.deed, changes, &other.step, deed)
-        || writes_meet_changes(
-            &one.step,
-            &one.deed,
-            changes,
-            other.planned.changes.as_slice(),
-        )
+    let changes = other.planned.changes.as_slice();
+    writes_meet_deed(one, &other.step, deed) || writes_meet_changes(one, changes)
 }
 
 /// Whether two steps write cells that meet. It takes no memory.
-pub fn both_write(one: &Plan, other: &Plan) -> bool
+pub(crate) fn both_write(one: &Plan, other: &Plan) -> bool
     ensures { result ≡ some_meet (written_in one.now) (written_in other.now) }
 {
     if one.write_mask & other.write_mask == 0 {

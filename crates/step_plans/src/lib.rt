@@ -1,9 +1,9 @@
 // What each step of a world would do: its deed, the cells that it reads, and what it changes, as values.
 #![tactic(auto)]
 
-mod acting;
 mod binding;
 mod comparing;
+mod copying;
 pub mod deed;
 mod delivery;
 mod enabled;
@@ -29,8 +29,8 @@ mod turn;
 pub mod view;
 mod waiting;
 
-pub use acting::act;
-pub use comparing::{both_write, meets};
+pub use comparing::meets;
+pub use copying::{copy_deed, copy_owner};
 pub use deed::{Deed, Event};
 pub use enabled::is_enabled;
 pub use independence::{are_independent, asleep_below};

@@ -103,8 +103,8 @@ fn place_of(kind: u64, class: u64) -> u64
     kind + 16 * class
 }
 
-// The place of a cell in a mask, from 0 to 63. A row and all rows of its table have one place.
-fn place_in_mask(cell: View<'_>) -> u64
+/// The place of a cell in a mask, from 0 to 63. A row and all rows of its table have one place. It takes no memory.
+pub(crate) fn place_in_mask(cell: View<'_>) -> u64
     ensures value { result ≡ place_in_mask (view_in cell.entry) }
     ensures small { result < 64 }
 {
@@ -120,8 +120,8 @@ fn place_in_mask(cell: View<'_>) -> u64
     }
 }
 
-// A mask with the bit at a place set.
-fn with_bit(mask: u64, place: u64) -> u64
+/// A mask with the bit at a place set. It takes no memory.
+pub(crate) fn with_bit(mask: u64, place: u64) -> u64
     requires { place < 64 }
     ensures set { bit_at result place ≡ 1 }
     ensures kept { (i : ℕ) → bit_at mask i ≡ 1 → bit_at result i ≡ 1 }

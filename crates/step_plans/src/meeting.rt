@@ -1,10 +1,11 @@
 // When cells meet: they are the same, or one is a part of the other; and what a planned step writes. None of this takes
 // memory.
-ghost use Rattle.std.specs.Prelude.{◌≡◌, map, option_map};
+ghost use Rattle.std.specs.Prelude.{◌≡◌, map};
 ghost use Rattle.proc_links.specs.Process.{ref_of};
 ghost use Rattle.step_plans.specs.Deeds.{deed_in};
-ghost use Rattle.step_plans.specs.Plans.{first_changes, written_by};
-ghost use Rattle.step_plans.specs.Views.{view_in};
+ghost use Rattle.step_plans.specs.Plans.{first_changes};
+ghost use Rattle.step_plans.specs.Turns.{written_in};
+ghost use Rattle.step_plans.specs.Views.{view_in, views_in};
 ghost use Rattle.step_plans.specs.inside.Places.{place_of_channel, place_of_name, place_of_process, place_of_reference};
 ghost use Rattle.term_core.specs.Term.{meaning_of};
 ghost use Rattle.world_model.specs.Cells as cells;
@@ -16,7 +17,9 @@ ghost use Rattle.world_records.specs.Cells.{cells_in, channel_cell, name_cell, p
 ghost use Rattle.world_records.specs.Changes.{all_changes_in, changes_in};
 
 use crate::deed::Deed;
-use crate::view::{View, changed_cells, first_cells, view_of};
+use crate::mask::{place_in_mask, with_bit};
+use crate::plan::Plan;
+use crate::view::{View, Views, changed_cells, first_cells, view_of};
 use term_core::{Atom, Pid, RefId, Step, Term};
 use world_records::{Cell, Change, ChannelPart, NamePart, ProcessPart, ReferencePart};
 
@@ -203,87 +206,73 @@ fn deed_meets(step: &Step, deed: &Deed, cell: View<'_>) -> bool
     }
 }
 
-/// Whether a step that does this, and changes these besides, writes a cell that meets another one. It takes no memory.
-pub(crate) fn writes_meet(
-    step: &Step,
-    deed: &Option<Deed>,
-    changes: &[Change],
-    cell: View<'_>,
-) -> bool
-    ensures { result ≡ one_meets (written_by step.now (option_map deed_in deed.now) (all_changes_in changes.now)) (view_in cell.entry) }
+// Whether what a planned step does writes a cell that meets another one.
+fn deed_or_changes_meet(writer: &Plan, cell: View<'_>) -> bool
+    ensures { result ≡ one_meets (written_in writer.now) (view_in cell.entry) }
 {
-    match deed {
-        Some(deed) => deed_meets(step, deed, cell) || changes_meet(changes, cell),
+    let changes = writer.planned.changes.as_slice();
+    match &writer.deed {
+        Some(deed) => deed_meets(&writer.step, deed, cell) || changes_meet(changes, cell),
         None => false,
     }
 }
 
-/// Whether such a step writes a cell that meets one of these. It takes no memory.
-pub(crate) fn writes_meet_some(
-    step: &Step,
-    deed: &Option<Deed>,
-    changes: &[Change],
-    cells: &[Cell],
-) -> bool
-    ensures { result ≡ some_meet (written_by step.now (option_map deed_in deed.now) (all_changes_in changes.now)) (cells_in cells.now) }
+// Whether a planned step writes a cell that meets another one. Where no cell that it writes has the place of that one in
+// the masks, none is looked at.
+fn writes_meet(writer: &Plan, cell: View<'_>) -> bool
+    ensures { result ≡ one_meets (written_in writer.now) (view_in cell.entry) }
+{
+    let bit = with_bit(0, place_in_mask(cell));
+    if writer.write_mask & bit == 0 {
+        return false;
+    }
+    deed_or_changes_meet(writer, cell)
+}
+
+/// Whether a planned step writes a cell that meets one of these. It takes no memory.
+pub(crate) fn writes_meet_some(writer: &Plan, cells: &[Cell]) -> bool
+    ensures { result ≡ some_meet (written_in writer.now) (cells_in cells.now) }
 {
     for cell in cells {
-        if writes_meet(step, deed, changes, view_of(cell)) {
+        if writes_meet(writer, view_of(cell)) {
             return true;
         }
     }
     false
 }
 
-// Whether such a step writes a cell that meets one that a change is of.
-fn writes_meet_change(step: &Step, deed: &Option<Deed>, changes: &[Change], change: &Change) -> bool
-    ensures { result ≡ some_meet (written_by step.now (option_map deed_in deed.now) (all_changes_in changes.now)) (map cell_of (changes_in change.now)) }
+// Whether a planned step writes a cell that meets one of these, one or two.
+fn writes_meet_views(writer: &Plan, views: Views<'_>) -> bool
+    ensures { result ≡ some_meet (written_in writer.now) (views_in views.entry) }
 {
-    let (one, other) = changed_cells(change);
-    if writes_meet(step, deed, changes, one) {
+    let (one, other) = views;
+    if writes_meet(writer, one) {
         return true;
     }
     match other {
-        Some(other) => writes_meet(step, deed, changes, other),
+        Some(other) => writes_meet(writer, other),
         None => false,
     }
 }
 
-/// Whether such a step writes a cell that meets one of those of other changes. It takes no memory.
-pub(crate) fn writes_meet_changes(
-    step: &Step,
-    deed: &Option<Deed>,
-    changes: &[Change],
-    others: &[Change],
-) -> bool
-    ensures { result ≡ some_meet (written_by step.now (option_map deed_in deed.now) (all_changes_in changes.now)) (map cell_of (all_changes_in others.now)) }
+/// Whether a planned step writes a cell that meets one of those of changes. It takes no memory.
+pub(crate) fn writes_meet_changes(writer: &Plan, changes: &[Change]) -> bool
+    ensures { result ≡ some_meet (written_in writer.now) (map cell_of (all_changes_in changes.now)) }
 {
-    for other in others {
-        if writes_meet_change(step, deed, changes, other) {
+    for change in changes {
+        if writes_meet_views(writer, changed_cells(change)) {
             return true;
         }
     }
     false
 }
 
-/// Whether such a step writes a cell that meets what another deed changes first. It takes no memory.
-pub(crate) fn writes_meet_deed(
-    step: &Step,
-    deed: &Option<Deed>,
-    changes: &[Change],
-    other_step: &Step,
-    other_deed: &Deed,
-) -> bool
-    ensures { result ≡ some_meet (written_by step.now (option_map deed_in deed.now) (all_changes_in changes.now)) (map cell_of (first_changes other_step.now (deed_in other_deed.now))) }
+/// Whether a planned step writes a cell that meets what a deed changes first. It takes no memory.
+pub(crate) fn writes_meet_deed(writer: &Plan, step: &Step, deed: &Deed) -> bool
+    ensures { result ≡ some_meet (written_in writer.now) (map cell_of (first_changes step.now (deed_in deed.now))) }
 {
-    let Some((one, other)) = first_cells(other_step, other_deed) else {
-        return false;
-    };
-    if writes_meet(step, deed, changes, one) {
-        return true;
-    }
-    match other {
-        Some(other) => writes_meet(step, deed, changes, other),
+    match first_cells(step, deed) {
+        Some(views) => writes_meet_views(writer, views),
         None => false,
     }
 }

@@ -1,5 +1,5 @@
 // What is planned of a step so far: the cells that it reads, and what it changes.
-ghost use Rattle.std.specs.Prelude.{◌≡◌, ◌∷◌, [], OnOk};
+ghost use Rattle.std.specs.Prelude.{◌≡◌, ◌∷◌, [], IfOk, OnOk};
 ghost use Rattle.proc_links.specs.Process.{ref_of};
 ghost use Rattle.step_plans.specs.Planned.{Adds};
 ghost use Rattle.term_core.specs.Term.{meaning_of};
@@ -12,6 +12,9 @@ use std::alloc::{AllocError, Global};
 use term_core::{Atom, Pid, RefId, Term};
 use world_records::{Cell, Change, ChannelPart, NamePart, ProcessPart, ReferencePart};
 
+// How many cells there is room for at first.
+const ROOM: usize = 8;
+
 /// The cells that a step reads, and what it changes besides that its turn counts or its signal leaves the channel, both
 /// in the order of the definitions of the explored world.
 #[derive(Drop)]
@@ -23,15 +26,15 @@ pub struct Planned {
 }
 
 impl Planned {
-    /// Nothing is planned yet. It takes no memory.
-    pub fn new(alloc: Global) -> Planned
-        ensures reads { cells_in result.reads.items ≡ [] }
-        ensures changes { all_changes_in result.changes.items ≡ [] }
+    /// Nothing is planned yet; there is room for the cells that most steps read. `AllocError` if there is no memory.
+    pub fn new(alloc: Global) -> Result<Planned, AllocError>
+        ensures reads { IfOk result (λ planned. cells_in planned.reads.items ≡ []) }
+        ensures changes { IfOk result (λ planned. all_changes_in planned.changes.items ≡ []) }
     {
-        Planned {
-            reads: Vec::new(alloc),
+        Ok(Planned {
+            reads: Vec::with_capacity(alloc, ROOM)?,
             changes: Vec::new(alloc),
-        }
+        })
     }
 
     /// A cell is read. `AllocError` if there is no memory.

@@ -88,7 +88,7 @@ pub fn plan_step(
     if !lives(records, actor_of(&step)) {
         return Ok(None);
     }
-    let mut planned = Planned::new(alloc);
+    let mut planned = Planned::new(alloc)?;
     let deed = add_step(records, alloc, &step, &mut planned)?;
     Ok(Some(Plan::new(step, deed, planned)))
 }

@@ -1,26 +1,34 @@
 -- What a world shows is what its records, its last event and its enabled steps tell.
-use Rattle.std.proofs.Common.{◌≡◌, ◌∙◌, ◌++◌, ℕ, List, [], ◌∷◌, Option, Some, None, refl, sym, ap, option_map, map, Bor, length, ◌==◌, false, true}
+use Rattle.std.proofs.Common.{◌≡◌, ◌∙◌, ◌++◌, ◌+◌, if◌then◌else◌, ℕ, List, [], ◌∷◌, Option, Some, None, refl, sym, ap, option_map, map, Bor, length, ◌==◌, false, true}
 use Rattle.std.proofs.lemmas.Bool.{false≢true}
 use Rattle.std.specs.BTreeMap.{is_at}
 use Rattle.std.specs.List.{list_any}
 use Rattle.std.specs.List.Sorted.{IsStrictlySortedBy}
-use Rattle.std.specs.Prelude.{option_copied}
+use Rattle.std.specs.Prelude.{◌&&◌, option_copied}
 use Rattle.term_core.specs.Order.{order_of_lists}
 use Rattle.term_core.specs.declared.step.Step.{Step}
 use Rattle.term_core.specs.declared.step.Step.TheVariants.{Turn, Deliver}
+use Rattle.term_core.specs.Meaning.{Meaning}
+use Rattle.core_calls.specs.declared.call.CallKind.{CallKind}
 use Rattle.core_tree.specs.Syntax.{ModuleTree}
 use Rattle.proc_machines.specs.Processes.{lives_in, turns_in}
+use Rattle.world_model.specs.Asking.{program_of}
 use Rattle.world_model.specs.Events as events
-use Rattle.world_model.specs.Events.{History}
+use Rattle.world_model.specs.Events.{event, History, Refusal, Served, Refused, EndedItself, Received, TimedOut, Ended, RanAway, Delivered}
 use Rattle.world_model.specs.Names.{Pid}
-use Rattle.world_model.specs.Run.{latest, living}
+use Rattle.world_model.specs.Run.{latest, living, next_event}
 use Rattle.world_model.specs.Shown.{deadlock_of, request_in, shown_by, shown_last}
 use Rattle.world_model.specs.World.{contents, turns}
 use Rattle.world_records.specs.Records.{Agrees, processes_of}
 use Rattle.world_records.specs.declared.records.Records.{Records}
-use Rattle.world_steps.specs.Deeds.{deed_in, event_in}
-use Rattle.world_steps.specs.declared.deed.Event.{Event}
-use Rattle.world_core.specs.inside.Showing.{last_shown, request_by}
+use Rattle.step_plans.specs.Deeds.{deed_in, event_in}
+use Rattle.step_plans.specs.Turns.{IsPlan}
+use Rattle.step_plans.specs.declared.deed.Deed.{Deed}
+use Rattle.step_plans.specs.declared.deed.Event.{Event}
+use Rattle.step_plans.specs.declared.plan.Plan.{Plan}
+use Rattle.world_core.specs.inside.Showing.{last_shown, next_request, request_by}
+use Rattle.world_model.proofs.Lives.{turns_told}
+use Rattle.world_model.proofs.Meeting.{pid_itself}
 use Rattle.world_core.proofs.Living.{living_are}
 
 event_is : (x y : events.Event) → Some x ≡ Some y → x ≡ y
@@ -59,3 +67,37 @@ pub shows_all : (m : ModuleTree) (h : History) (records : Records) (last : Optio
 shows_all m h records last enabled ps told is sorted lives = λ i.
     last_is h (turns_in (processes_of records)) (option_copied last) (λ p. told.processes_are.turns p) (told_copied last ∙ is) i
     ++ same_dead enabled ps (living h) (λ none. living_are h ps (sorted none) (λ p. lives p ∙ told.processes_are.alive p)) i
+
+-- ---- what a plan shows
+
+refused_counts : (h : History) (p : Pid) (kind : CallKind) (arguments : List Meaning) (refusal : Refusal) → turns (event (Turn p) (Refused kind arguments refusal) ∷ h) p ≡ turns h p + 1
+refused_counts h p kind arguments refusal =
+    turns_told h (event (Turn p) (Refused kind arguments refusal)) p ∙ ap (λ b. if b && true then turns h p + 1 else turns h p) (pid_itself p)
+
+-- the request of a step is that which its process serves next; only of a refused call it is shown
+same_shown : (h : History) (step : Step) (deed : events.Deed) → shown_by step (next_request (turns h) step) deed ≡ shown_by step (request_in step (event step deed ∷ h)) deed
+same_shown h (Turn p) (Served kind arguments answer) = refl
+same_shown h (Turn p) (Refused kind arguments refusal) = ap (λ n. shown_by (Turn p) n (Refused kind arguments refusal)) (sym (refused_counts h p kind arguments refusal))
+same_shown h (Turn p) (EndedItself kind arguments reason) = refl
+same_shown h (Turn p) (Received message) = refl
+same_shown h (Turn p) TimedOut = refl
+same_shown h (Turn p) (Ended reason) = refl
+same_shown h (Turn p) RanAway = refl
+same_shown h (Turn p) (Delivered signal fate) = refl
+same_shown h (Deliver s r) deed = refl
+
+next_same : (taken : Pid → ℕ) (h : History) → ((p : Pid) → taken p ≡ turns h p) → (step : Step) → next_request taken step ≡ next_request (turns h) step
+next_same taken h same (Turn p) = ap (λ n. n + 1) (same p)
+next_same taken h same (Deliver s r) = refl
+
+pub plan_shows : (m : ModuleTree) (h : History) (e : events.Event) (records : Records) (plan : Plan) (deed : Deed) → Agrees m records (contents h) → IsPlan (program_of m) (contents h) plan → next_event (program_of m) h plan.step ≡ Some e → plan.deed ≡ Some deed
+    → shown_by plan.step (next_request (turns_in (processes_of records)) plan.step) (deed_in deed) ≡ shown_last (e ∷ h)
+plan_shows m h e records plan deed told is now here =
+    let event_now : event plan.step (deed_in deed) ≡ e = event_is _ _ (ap (option_map (event plan.step)) (sym (ap (option_map deed_in) here) ∙ is.deed) ∙ now) in
+    ap (λ n. shown_by plan.step n (deed_in deed)) (next_same (turns_in (processes_of records)) h (λ p. told.processes_are.turns p) plan.step)
+    ∙ same_shown h plan.step (deed_in deed)
+    ∙ ap (λ (f : events.Event). shown_by f.step (request_in f.step (f ∷ h)) f.deed) event_now
+
+-- and without a deed there is no event
+pub plan_shows_none : (m : ModuleTree) (h : History) (e : events.Event) (plan : Plan) → IsPlan (program_of m) (contents h) plan → next_event (program_of m) h plan.step ≡ Some e → plan.deed ≡ None → ⊥
+plan_shows_none m h e plan is now none = none_is_not e (sym now ∙ ap (option_map (event plan.step)) (sym is.deed ∙ ap (option_map deed_in) none))

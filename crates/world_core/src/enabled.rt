@@ -12,7 +12,7 @@ ghost use Rattle.world_records.specs.Records.{Agrees};
 
 use std::alloc::{AllocError, Global};
 use std::collections::BTreeSet;
-use step_enabled::is_enabled;
+use step_plans::is_enabled;
 use term_core::{Pid, Step};
 use world_records::Records;
 

@@ -3,13 +3,13 @@ ghost use Rattle.std.specs.Prelude.{◌≡◌, ◌∷◌, Some, IfOk, option_map
 ghost use Rattle.world_core.specs.Shared.{events_in};
 ghost use Rattle.world_model.specs.Run.{latest};
 ghost use Rattle.world_model.specs.Events.{Event as Happening};
-ghost use Rattle.world_steps.specs.Deeds.{event_in};
+ghost use Rattle.step_plans.specs.Deeds.{event_in};
 
 use std::alloc::{AllocError, Global};
 use std::marker::Model;
 use std::sync::Arc;
+use step_plans::Event;
 use term_core::Step;
-use world_steps::Event;
 
 /// The events of a world, the latest first. Copies share them.
 #[derive(Drop)]
@@ -37,7 +37,7 @@ impl Model for Link {
 
     ghost coded = { coded_history };
 
-    ghost use Rattle.world_steps.specs.Deeds.{event_in};
+    ghost use Rattle.step_plans.specs.Deeds.{event_in};
     ghost use Rattle.world_core.specs.Shared.{events_in};
 
     ghost view = { λ l. event_in l.event ∷ events_in l.before };

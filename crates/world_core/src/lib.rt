@@ -9,5 +9,5 @@ mod shows;
 pub mod world;
 
 pub use fault::WorldFault;
+pub use step_plans::{Deed, Event};
 pub use world::World;
-pub use world_steps::{Deed, Event};

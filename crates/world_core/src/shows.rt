@@ -1,5 +1,5 @@
 // What a world shows: what its last event is, and whether no step is enabled.
-ghost use Rattle.std.specs.Prelude.{◌≡◌, ◌++◌, [], IfOk, OnOk, map, option_copied, option_map};
+ghost use Rattle.std.specs.Prelude.{◌≡◌, ◌∷◌, ◌+◌, ◌++◌, [], Some, IfOk, OnOk, map, option_copied, option_map};
 ghost use Rattle.core_tree.specs.Syntax.{ModuleTree};
 ghost use Rattle.findings.specs.Identities.{identity_in};
 ghost use Rattle.proc_links.specs.Effects.{fate_in};
@@ -8,14 +8,16 @@ ghost use Rattle.std.specs.List.Sorted.{IsStrictlySortedBy};
 ghost use Rattle.term_core.specs.Order.{order_of_lists};
 ghost use Rattle.term_core.specs.Term.{meaning_of};
 ghost use Rattle.term_core.specs.declared.step.Step.TheVariants.{Turn, Deliver};
-ghost use Rattle.world_calls.specs.Replies.{refusal_in};
-ghost use Rattle.world_core.specs.inside.Showing.{told_by, last_shown};
-ghost use Rattle.world_model.specs.Events.{History};
-ghost use Rattle.world_model.specs.Run.{latest, living};
+ghost use Rattle.step_plans.specs.Replies.{refusal_in};
+ghost use Rattle.step_plans.specs.Turns.{IsPlan};
+ghost use Rattle.world_core.specs.inside.Showing.{told_by, last_shown, next_request};
+ghost use Rattle.world_model.specs.Asking.{program_of};
+ghost use Rattle.world_model.specs.Events.{Event as Happening, History};
+ghost use Rattle.world_model.specs.Run.{latest, living, next_event};
 ghost use Rattle.world_model.specs.Shown.{deadlock_of, shown_by, shown_by_fate, shown_by_refusal, shown_last, unless_normal};
 ghost use Rattle.world_model.specs.World.{contents};
 ghost use Rattle.world_records.specs.Records.{Agrees, processes_of};
-ghost use Rattle.world_steps.specs.Deeds.{deed_in, event_in};
+ghost use Rattle.step_plans.specs.Deeds.{deed_in, event_in};
 
 use core_tree::CallKind;
 use findings::Identity;
@@ -23,10 +25,9 @@ use proc_links::Effect;
 use std::alloc::{AllocError, Global};
 use std::collections::BTreeSet;
 use std::sync::Arc;
+use step_plans::{Deed, Event, Plan, Refusal, copy_owner};
 use term_core::{Pid, Step, Term, Terms};
-use world_calls::Refusal;
 use world_records::Records;
-use world_steps::{Deed, Event};
 
 // The end of a process, unless its reason is `normal`.
 fn end_of(pid: &Pid, reason: &Term) -> Result<Option<Identity>, AllocError>
@@ -39,16 +40,6 @@ fn end_of(pid: &Pid, reason: &Term) -> Result<Option<Identity>, AllocError>
         pid: pid.copy()?,
         reason: reason.copy()?,
     }))
-}
-
-// A copy of an owner, if there is one.
-fn copy_owner(owner: &Option<Pid>) -> Result<Option<Pid>, AllocError>
-    ensures { IfOk result (λ copied. copied ≡ owner.now) }
-{
-    match owner {
-        Some(pid) => Ok(Some(pid.copy()?)),
-        None => Ok(None),
-    }
 }
 
 // A call that was refused, if it is one of tables, in the request of this number.
@@ -129,6 +120,44 @@ fn by_last_event(
         Step::Turn(pid) => Ok(by_turn(pid, records.processes().turns(pid), &event.deed)?),
         Step::Deliver(from, to) => Ok(by_delivery(from, to, &event.deed)?),
     }
+}
+
+// The number of the request that the next turn of a process serves.
+fn next_request(records: &Records<'_>, pid: &Pid) -> Result<u64, AllocError>
+    ensures { IfOk result (λ request. request ≡ turns_in (processes_of records.now) pid.now + 1) }
+{
+    match records.processes().turns(pid).checked_add(1) {
+        Some(request) => Ok(request),
+        // No process takes more turns than a number counts.
+        None => Err(AllocError),
+    }
+}
+
+// What a step shows next that does this.
+fn by_plan(records: &Records<'_>, step: &Step, deed: &Deed) -> Result<Option<Identity>, AllocError>
+    ensures { IfOk result (λ shown. told_by shown ≡ shown_by step.now (next_request (turns_in (processes_of records.now)) step.now) (deed_in deed.now)) }
+{
+    match step {
+        Step::Turn(pid) => Ok(by_turn(pid, next_request(records, pid)?, deed)?),
+        Step::Deliver(from, to) => Ok(by_delivery(from, to, deed)?),
+    }
+}
+
+/// What the event of a planned step shows where the records are those that it is planned for; nothing where the step is
+/// not enabled. `AllocError` if there is no memory for it.
+pub(crate) fn shown_by_plan(
+    records: &Records<'_>,
+    alloc: Global,
+    plan: &Plan,
+) -> Result<Vec<Identity>, AllocError>
+    ensures { IfOk result (λ found. (m : ModuleTree) (h : History) (e : Happening) → Agrees m records.now (contents h) → IsPlan (program_of m) (contents h) plan.now → next_event (program_of m) h plan.now.step ≡ Some e → map identity_in found.items ≡ shown_last (e ∷ h)) }
+{
+    let mut found = Vec::new(alloc);
+    let Some(deed) = &plan.deed else {
+        return Ok(found);
+    };
+    push_if_any(&mut found, by_plan(records, &plan.step, deed)?)?;
+    Ok(found)
 }
 
 // All processes of a set, in their order.

@@ -1,5 +1,5 @@
 // The world of one schedule.
-ghost use Rattle.std.specs.Prelude.{◌≡◌, ◌↔◌, ◌++◌, [], true, false, Some, None, IfOk, OnOk, OnErr, IfErr, IsErr, IsSome, MatchResult, Contains, option_map, map};
+ghost use Rattle.std.specs.Prelude.{◌≡◌, ◌↔◌, ◌∷◌, ◌++◌, [], true, false, Some, None, IfOk, OnOk, OnErr, IfErr, IsErr, IfNone, IfSome, IsSome, MatchResult, Contains, option_map, map};
 ghost use Rattle.findings.specs.Identities.{identity_in};
 ghost use Rattle.term_core.specs.declared.step.Step.{Step};
 ghost use Rattle.world_core.specs.Advanced.{Advances};
@@ -10,19 +10,21 @@ ghost use Rattle.world_model.specs.Shown.{deadlock_of, shown, shown_last};
 ghost use Rattle.world_model.specs.StepLaws.{AreInOrder};
 ghost use Rattle.world_model.specs.World.{alive, contents};
 ghost use Rattle.world_records.specs.Records.{Agrees};
-ghost use Rattle.world_steps.specs.Deeds.{event_in};
+ghost use Rattle.step_plans.specs.Deeds.{event_in};
+ghost use Rattle.step_plans.specs.Turns.{IsPlan};
+ghost use Rattle.world_model.specs.Events.{Event as Happening};
 
 use crate::enabled::enabled_steps;
 use crate::events::Events;
 use crate::fault::WorldFault;
-use crate::shows::shown_by_world;
+use crate::shows::{shown_by_plan, shown_by_world};
 use core_tree::Module;
 use findings::Identity;
-use std::alloc::Global;
+use std::alloc::{AllocError, Global};
 use std::marker::Model;
+use step_plans::{Event, Plan, copy_deed, perform, plan_step};
 use term_core::{Pid, Step};
 use world_records::Records;
-use world_steps::{Event, act};
 
 /// A world: what the processes of a module, their signals and their tables are after what happened so far, and what
 /// happened. Contracts see the module, the events, the latest first, and whether memory was wanting once; all else is
@@ -142,14 +144,59 @@ impl<'m> World<'m> {
             // A spent world stays spent.
             return Err(WorldFault::Memory);
         }
-        self.is_spent = true;
-        let Some(deed) = act(&mut self.records, alloc, step)? else {
-            self.is_spent = false;
+        match self.plan(alloc, step) {
+            Ok(Some(plan)) => self.perform(alloc, &plan),
+            Ok(None) => Err(WorldFault::NotEnabled),
+            Err(error) => {
+                self.is_spent = true;
+                Err(WorldFault::from(error))
+            }
+        }
+    }
+
+    // The plan of a step; none where its process does not live, and then the step is not enabled.
+    fn plan(&self, alloc: Global, step: &Step) -> Result<Option<Plan>, AllocError>
+        requires lives { self.now.spent ≡ false }
+        ensures step { IfOk result (λ planned. IfSome planned (λ plan. plan.step ≡ step.now)) }
+        ensures plan { IfOk result (λ planned. IfSome planned (λ plan. IsPlan (program_in self.now) (contents self.now.history) plan)) }
+        ensures none { IfOk result (λ planned. IfNone planned (next_event (program_in self.now) self.now.history step.now ≡ None)) }
+    {
+        plan_step(&self.records, alloc, step.copy()?)
+    }
+
+    /// Takes the step of a plan that was made of a world with this history: what is planned is done, and the one event that
+    /// it adds is the last one then.
+    ///
+    /// # Errors
+    ///
+    /// As `step` has them.
+    pub fn perform(&mut self, alloc: Global, plan: &Plan) -> Result<(), WorldFault>
+        requires plan { IsPlan (program_in self.old) (contents self.old.history) plan.now }
+        ensures ok { OnOk result (extended self.old.history (next_event (program_in self.old) self.old.history plan.now.step) ≡ Some self.new.history) }
+        ensures lives { OnOk result (self.new.spent ≡ false) }
+        ensures program { self.new.program ≡ self.old.program }
+        ensures not_enabled { result ≡ Err NotEnabled → next_event (program_in self.old) self.old.history plan.now.step ≡ None }
+        ensures unchanged { result ≡ Err NotEnabled → self.new ≡ self.old }
+        ensures only { self.old.spent ≡ false → next_event (program_in self.old) self.old.history plan.now.step ≡ None → IsErr result }
+        ensures spent { result ≡ Err Memory → self.new.spent ≡ true }
+        ensures kept { OnErr result (self.new.history ≡ self.old.history) }
+        ensures stays_spent { self.old.spent ≡ true → result ≡ Err Memory }
+    {
+        if self.is_spent {
+            // A spent world stays spent.
+            return Err(WorldFault::Memory);
+        }
+        let Some(deed) = &plan.deed else {
             return Err(WorldFault::NotEnabled);
         };
-        let step = step.copy()?;
+        self.is_spent = true;
+        perform(&mut self.records, alloc, plan)?;
+        let event = Event {
+            step: plan.step.copy()?,
+            deed: copy_deed(deed)?,
+        };
         let before = self.events.copy()?;
-        self.events = before.with(alloc, Event { step, deed })?;
+        self.events = before.with(alloc, event)?;
         self.is_spent = false;
         Ok(())
     }
@@ -223,6 +270,27 @@ impl<'m> World<'m> {
             return Err(WorldFault::Memory);
         }
         let found = shown_by_world(&self.records, alloc, self.events.latest(), enabled)?;
+        Ok(found)
+    }
+
+    /// What the event of a planned step will show, before the step is taken: the end of a process with another reason than
+    /// `normal`, a process that made too many applications without a request, or a refused call of a table, if it is one of
+    /// these. Of a deadlock behind it nothing is said.
+    ///
+    /// # Errors
+    ///
+    /// `Memory` where memory ran out, now or in an earlier step.
+    pub fn shown_by(&self, alloc: Global, plan: &Plan) -> Result<Vec<Identity>, WorldFault>
+        requires plan { IsPlan (program_in self.now) (contents self.now.history) plan.now }
+        ensures shown { IfOk result (λ found. (e : Happening) → next_event (program_in self.now) self.now.history plan.now.step ≡ Some e → map identity_in found.items ≡ shown_last (e ∷ self.now.history)) }
+        ensures memory { IfErr result (λ fault. fault ≡ Memory) }
+        ensures spent { self.now.spent ≡ true → IsErr result }
+    {
+        if self.is_spent {
+            // What a spent world shows is not known.
+            return Err(WorldFault::Memory);
+        }
+        let found = shown_by_plan(&self.records, alloc, plan)?;
         Ok(found)
     }
 

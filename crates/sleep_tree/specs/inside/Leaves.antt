@@ -3,7 +3,9 @@ use Rattle.std.specs.Prelude.{◌≡◌, List, [], ◌∷◌, Option, Some, None
 use Rattle.term_core.specs.declared.step.Step.{Step}
 use Rattle.world_model.specs.Asking.{program_of}
 use Rattle.world_model.specs.Run.{enabled_steps, next_event, run, schedule_of}
-use Rattle.world_model.specs.Shown.{shown_last}
+use Rattle.world_model.specs.Shown.{Flags, shown}
+use Rattle.coverage.specs.Findings.{Findings}
+use Rattle.findings.specs.Laws.{AddsSchedule}
 use Rattle.sleep_tree.specs.inside.Frames.{FrameSeen, leaf_below}
 
 -- the first step of its line can be taken
@@ -18,9 +20,9 @@ pub record LeadsOn (f : FrameSeen) : Type 0 where
 abbrev pub LivesBelow : FrameSeen → Type 0
 LivesBelow f = LeadsOn f × (enabled_steps (program_of f.program) (leaf_below f).history ≡ [] → ⊥)
 
--- its event shows nothing
-abbrev pub IsQuietBelow : FrameSeen → Type 0
-IsQuietBelow f = shown_last (leaf_below f).history ≡ []
+-- what the node there shows is added
+abbrev pub AddsLeaf : Flags → FrameSeen → Findings → Findings → Type 0
+AddsLeaf flags f before after = AddsSchedule flags (schedule_of (leaf_below f).history) (shown (program_of f.program) (leaf_below f).history) before after
 
 -- there is a step exactly where some are enabled
 abbrev pub IsLife : Option Step → List Step → Type 0

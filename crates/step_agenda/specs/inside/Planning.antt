@@ -5,6 +5,7 @@ use Rattle.core_tree.specs.Syntax.{ModuleTree}
 use Rattle.std.specs.declared.cmp.Ordering.TheVariants.{Greater}
 use Rattle.term_core.specs.StepOrder.{order_of_steps}
 use Rattle.term_core.specs.declared.step.Step.{Step}
+use Rattle.term_core.specs.declared.step.Step.TheVariants as step
 use Rattle.world_model.specs.Asking.{program_of}
 use Rattle.world_model.specs.Events.{History}
 use Rattle.world_model.specs.Independence.{some_meet}
@@ -12,9 +13,17 @@ use Rattle.world_model.specs.Names.{IsAmong}
 use Rattle.world_model.specs.Requests.{Program}
 use Rattle.world_model.specs.Run.{is_enabled}
 use Rattle.world_records.specs.declared.records.Records.{Records}
-use Rattle.step_indep.specs.Cells.{cells_in}
+use Rattle.world_records.specs.Cells.{cells_in}
+use Rattle.step_plans.specs.Turns.{written_in}
 use Rattle.step_agenda.specs.Plans.{ArePlans, IsWorld, Shared, TakesOver, enabled_in}
 use Rattle.step_agenda.specs.declared.above.Above.{Above}
+use Rattle.step_agenda.specs.declared.lent.LentStep.{LentStep}
+use Rattle.step_agenda.specs.declared.lent.LentStep.TheVariants.{Turn, Deliver}
+
+-- the step that is lent
+abbrev pub step_in : LentStep → Step
+step_in (Turn p) = step.Turn p.now
+step_in (Deliver s r) = step.Deliver s.now r.now
 
 -- a plan stands in a list
 abbrev pub IsHeldIn : Shared → List Shared → Type 0
@@ -29,12 +38,12 @@ pub record IsMetIn (above : Above) (step : Step) : Type 0 where
   pub plan : Shared
   pub held : IsHeldIn plan above.plans.now
   pub same : plan.value.step ≡ step
-  pub met : some_meet (cells_in above.taken.now.footprint.writes.items) (cells_in plan.value.footprint.reads.items) ≡ true
+  pub met : some_meet (written_in above.taken.now) (cells_in plan.value.planned.reads.items) ≡ true
 
 -- what holds of the plans of the node above, if there is one, that are taken over
 abbrev pub TakesOverFrom : Program → History → Option Above → Type 0
 TakesOverFrom a h None = ⊤
-TakesOverFrom a h (Some above) = TakesOver a h above.plans.now above.taken.now.footprint.writes.items
+TakesOverFrom a h (Some above) = TakesOver a h above.plans.now (written_in above.taken.now)
 
 -- plans with those of more steps behind them
 pub record HasPlans (a : Program) (h : History) (steps : List Step) (old new : List Shared) : Type 0 where

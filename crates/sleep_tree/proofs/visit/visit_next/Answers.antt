@@ -3,7 +3,7 @@ use Rattle.std.proofs.lemmas.Option.{get_or_from_slice_get}
 use Rattle.std.specs.List.{slice_get}
 use Rattle.findings.specs.Identities.{flags_in}
 use Rattle.sleep_tree.specs.inside.Frames.{own_node}
-use Rattle.sleep_tree.proofs.Leaves.{IsLeaf, IsPlain, leaf_visited}
+use Rattle.sleep_tree.proofs.Leaves.{IsLeaf, IsTold, leaf_visited}
 use Rattle.sleep_tree.proofs.Stacks.{on_top, taken_are_of, taken_nodes}
 use Rattle.sleep_tree.proofs.visit.visit_next.Goals as goal
 
@@ -13,17 +13,19 @@ visit_leaf-requires c =
     let frame = c.in-Some.frame.now in
     let found : Some frame ≡ slice_get old (length old - 1) = c.in-Some.ensures.value ∙ (λ i. slice_get (c.deref.ensures.value i) (length (c.deref.ensures.value i) - 1)) in
     let looked : frame ≡ slice_index_or old (length old - 1) frame = sym (get_or_from_slice_get old (length old - 1) frame frame (sym found)) in
-    on_top (IsLeaf c.lives_below-lives.result) old frame c.requires looked (c.leads_to_a_leaf.ensures c.if-leads_to_a_leaf.true, c.lives_below-lives.ensures)
+    on_top IsLeaf old frame c.requires looked (c.leads_to_a_leaf.ensures c.if-leads_to_a_leaf.true)
 
-pub returns-then-branch : goal.returns-then-branch
-returns-then-branch c =
+pub returns-then-lives_below : goal.returns-then-lives_below
+returns-then-lives_below c =
     let old = c.args.frames.now.items in
     let frame = c.in-Some.frame.now in
     let found : Some frame ≡ slice_get old (length old - 1) = c.in-Some.ensures.value ∙ (λ i. slice_get (c.deref.ensures.value i) (length (c.deref.ensures.value i) - 1)) in
     let looked : frame ≡ slice_index_or old (length old - 1) frame = sym (get_or_from_slice_get old (length old - 1) frame frame (sym found)) in
-    let plain : IsPlain frame = (c.leads_to_a_leaf.ensures c.if-leads_to_a_leaf.true, (c.lives_below-lives.ensures c.if-lives.true, c.in_ok-is_quiet_below.ensures c.if-branch.true)) in
-    leaf_visited (flags_in c.args.flags) old c.pass_child.new.frames.items c.args.findings.now
-    (on_top IsPlain old frame c.requires looked plain) c.in_ok-pass_child.ensures
+    let flags = flags_in c.args.flags in
+    let before = c.args.findings.now in
+    let after = c.report_leaf.new.findings in
+    let told : IsTold flags before after frame = (c.leads_to_a_leaf.ensures c.if-leads_to_a_leaf.true, (c.lives_below.ensures c.if-lives_below.true, c.in_ok-report_leaf.ensures)) in
+    leaf_visited flags old c.pass_child.new.frames.items before after (on_top (IsTold flags before after) old frame c.requires looked told) c.in_ok-pass_child.ensures
 
 pub returns : goal.returns
 returns c =

@@ -2,7 +2,8 @@ use Rattle.std.proofs.Common.{◌∙◌, ap, sym}
 use Rattle.term_core.specs.StepOrder.{order_of_steps}
 use Rattle.term_core.specs.inside.StepOrderLaws.{same_step}
 use Rattle.step_agenda.specs.Plans.{Shared}
-use Rattle.step_agenda.specs.declared.plan.Plan.{Plan}
+use Rattle.step_agenda.specs.inside.Planning.{step_in}
+use Rattle.step_plans.specs.declared.plan.Plan.{Plan}
 use Rattle.step_agenda.proofs.Putting.{at_same}
 use Rattle.step_agenda.proofs.above.place_from.Goals as goal
 
@@ -16,5 +17,5 @@ returns-in-Equal-clause-found c = (
 
 pub returns-in-Greater-clause-passed : goal.returns-in-Greater-clause-passed
 returns-in-Greater-clause-passed c = λ none within p is.
-    ap (λ (q : Shared). order_of_steps q.value.step c.args.step.now) (at_same c.args.plans.now c.loop-place.place p c.index-plans-place.result c.loop-place-test.true is c.index-plans-place.is)
-    ∙ ap (λ (q : Plan). order_of_steps q.step c.args.step.now) (sym c.deref.ensures) ∙ sym c.in-Greater.ensures
+    ap (λ (q : Shared). order_of_steps q.value.step (step_in c.args.step)) (at_same c.args.plans.now c.loop-place.place p c.index-plans-place.result c.loop-place-test.true is c.index-plans-place.is)
+    ∙ ap (λ (q : Plan). order_of_steps q.step (step_in c.args.step)) (sym c.deref.ensures) ∙ sym c.in-Greater.ensures

@@ -1,3 +1,4 @@
+use Rattle.std.proofs.Common.{refl}
 use Rattle.step_agenda.proofs.Putting.{puts_none, puts_turn}
 use Rattle.step_agenda.proofs.planning.put_turns.Goals as goal
 
@@ -5,4 +6,4 @@ pub loop-pid-init : goal.loop-pid-init
 loop-pid-init c = puts_none _ _ _
 
 pub loop-pid-preserved : goal.loop-pid-preserved
-loop-pid-preserved c = puts_turn _ _ _ _ _ _ _ _ c.in_ok-copy.ensures c.loop-pid.invariant c.in_ok-put_plan.ensures
+loop-pid-preserved c = puts_turn _ _ _ _ _ _ _ _ refl c.loop-pid.invariant c.in_ok-put_plan.ensures

@@ -4,7 +4,9 @@ use Rattle.world_model.specs.Events.{History}
 use Rattle.world_model.specs.Independence.{are_independent}
 use Rattle.world_model.specs.Requests.{Program}
 use Rattle.step_agenda.specs.Plans.{ArePlans, IsPlan, Shared, steps_in}
-use Rattle.step_agenda.specs.declared.plan.Plan.{Plan}
+use Rattle.step_plans.specs.declared.plan.Plan.{Plan}
+use Rattle.world_model.specs.World.{contents}
+use Rattle.step_agenda.proofs.Settling.{independent_as}
 use Rattle.step_agenda.proofs.Staying.{one_more, one_plan_more, plan_among, stays_asleep}
 use Rattle.step_agenda.proofs.sleeping.asleep_below.Goals as goal
 use Rattle.step_agenda.proofs.sleeping.asleep_below.Goals.{then-are_independent+in_ok-share+in_ok-push, else-are_independent}
@@ -18,7 +20,8 @@ loop-other-preserved c =
     let old = c.loop-other.asleep.items in
     let new = c.if-are_independent.asleep.items in
     let told = λ (a : Program) (h : History) (all : ArePlans a h slept) (of : IsPlan a h taken).
-    c.are_independent.ensures a h of (subst (IsPlan a h) (sym c.deref.ensures) (plan_among a h slept i p c.loop-other-test.true c.other-item.is all))
+    c.are_independent.ensures a (contents h) of (subst (IsPlan a h) (sym c.deref.ensures) (plan_among a h slept i p c.loop-other-test.true c.other-item.is all))
+    ∙ independent_as a h taken.step _
     ∙ ap (λ (q : Plan). are_independent a h taken.step q.step) c.deref.ensures in
     elim c.if-are_independent.branch [
       | then-are_independent+in_ok-share+in_ok-push w ↦

@@ -2,7 +2,7 @@ use Rattle.std.proofs.Common.{◌∷◌, ap, refl, subst, reverse}
 use Rattle.world_core.specs.Seen.{program_in}
 use Rattle.world_model.specs.Run.{next_event}
 use Rattle.step_agenda.specs.Plans.{steps_in}
-use Rattle.step_agenda.specs.declared.plan.Plan.{Plan}
+use Rattle.step_plans.specs.declared.plan.Plan.{Plan}
 use Rattle.sleep_tree.specs.inside.Frames.{FrameSeen, IsFirstOf, NodeSeen}
 use Rattle.sleep_tree.specs.inside.Nodes.{history_below}
 use Rattle.sleep_tree.proofs.Agendas.{sleeping}
@@ -15,7 +15,7 @@ invariant_of-result c =
     let w = c.self.inside.world in
     let s = c.self.inside.next.value.step in
     let enabled = first_enabled w s (steps_in (reverse c.self.inside.after.items)) c.self.invariant.0 in
-    child_of_copy w c.in_ok-copy.field-0 s c.in_ok-clone.field-0.value.step c.in_ok-copy.ensures.copied (ap (λ (p : Plan). p.step) c.in_ok-clone.ensures.cases) (record { node = c.self.invariant.0.node; enabled = enabled })
+    child_of_copy w c.in_ok-copy.field-0 c.self.inside.next.value c.in_ok-clone.field-0.value c.in_ok-copy.ensures.copied c.in_ok-clone.ensures.cases (record { node = c.self.invariant.0.node; enabled = enabled }, c.self.invariant.3.0)
 
 pub returns : goal.returns
 returns c =

@@ -12,7 +12,7 @@ pub invariant_of-result : goal.invariant_of-result
 invariant_of-result c =
     let w = c.self.inside.world in
     let s = c.self.inside.next.value.step in
-    record { node = c.self.invariant.0.node; enabled = first_enabled w s (steps_in (reverse c.self.inside.after.items)) c.self.invariant.0 }
+    (record { node = c.self.invariant.0.node; enabled = first_enabled w s (steps_in (reverse c.self.inside.after.items)) c.self.invariant.0 }, c.self.invariant.3.0)
 
 pub returns : goal.returns
 returns c =

@@ -1,7 +1,7 @@
 use Rattle.std.proofs.Common.{◌∷◌, ap, refl, subst, reverse}
 use Rattle.world_core.specs.Seen.{program_in}
 use Rattle.step_agenda.specs.Plans.{steps_in}
-use Rattle.step_agenda.specs.declared.plan.Plan.{Plan}
+use Rattle.step_plans.specs.declared.plan.Plan.{Plan}
 use Rattle.sleep_tree.specs.inside.Frames.{FrameSeen, IsFirstOf}
 use Rattle.sleep_tree.proofs.Agendas.{sleeping, sleeping_below}
 use Rattle.sleep_tree.proofs.Children.{held_by_copy}

@@ -2,7 +2,7 @@ use Rattle.std.proofs.Common.{◌∷◌, ◌∙◌, reverse, refl, sym, ap, subs
 use Rattle.world_core.specs.Seen.{program_in}
 use Rattle.world_model.specs.Run.{next_event}
 use Rattle.step_agenda.specs.Plans.{IsPlan, steps_in}
-use Rattle.step_agenda.specs.declared.plan.Plan.{Plan}
+use Rattle.step_plans.specs.declared.plan.Plan.{Plan}
 use Rattle.sleep_tree.specs.inside.Frames.{FrameSeen}
 use Rattle.sleep_tree.specs.inside.Leaves.{LivesBelow}
 use Rattle.sleep_tree.proofs.Frames.{first_enabled}

@@ -1,5 +1,6 @@
 use Rattle.std.proofs.Common.{◌∷◌, sym, subst}
-use Rattle.step_indep.proofs.Sleeping.{if_ok}
+use Rattle.step_plans.proofs.Calling.{if_ok}
+use Rattle.step_plans.specs.Turns.{written_in}
 use Rattle.world_model.specs.Asking.{program_of}
 use Rattle.step_agenda.specs.Plans.{ArePlans}
 use Rattle.step_agenda.proofs.Settling.{taken_over, writes_are}
@@ -10,4 +11,4 @@ returns c = if_ok c.agenda_below.result _ _ (λ agenda made m h e is of now worl
     let a = program_of m in
     let taken = c.args.taken.now in
     made m (e ∷ h) world
-    (taken_over a h e taken.footprint.writes.items c.as_slice.result.now (writes_are a h e taken.step taken.footprint of.footprint now) (subst (ArePlans a h) (sym c.as_slice.ensures.value) is.plans))) c.agenda_below.ensures
+    (taken_over a h e (written_in taken) c.as_slice.result.now (writes_are a h e taken of now) (subst (ArePlans a h) (sym c.as_slice.ensures.value) is.plans))) c.agenda_below.ensures

@@ -3,7 +3,7 @@ use Rattle.std.proofs.lemmas.List.{drop_all, drop_more}
 use Rattle.coverage.specs.Explored.{same_step}
 use Rattle.sleep_sets.specs.Search.{is_among}
 use Rattle.step_agenda.specs.Plans.{Shared, enabled_in}
-use Rattle.step_agenda.specs.declared.plan.Plan.{Plan}
+use Rattle.step_plans.specs.declared.plan.Plan.{Plan}
 use Rattle.step_agenda.proofs.Looking.{is_of, not_enabled, skipped}
 use Rattle.step_agenda.proofs.agenda.Agenda.enabled_plan.Goals as goal
 

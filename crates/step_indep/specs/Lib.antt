@@ -1,4 +1,0 @@
-pub mod Cells
-pub mod Footprints
-pub mod Independence
-pub mod inside
