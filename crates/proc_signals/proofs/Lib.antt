@@ -5,3 +5,4 @@ pub mod Cells
 pub mod Pairs
 pub mod Places
 pub mod Changing
+pub mod Halves

@@ -23,7 +23,7 @@ AreInOrder cs = IsStrictlySortedBy order_of_pairs (keys_of cs)
 
 -- ---- the order of pairs
 
-pairs_total : IsTotalOrder order_of_pairs
+pub pairs_total : IsTotalOrder order_of_pairs
 pairs_total = then_total (on_total (λ a. a.0) nat_list_cmp_total) (on_total (λ a. a.1) nat_list_cmp_total)
 
 same_pair : (a b : Pid × Pid) → order_of_pairs a b ≡ Equal → a ≡ b
@@ -219,3 +219,18 @@ insert_sorted (c ∷ cs) (suc at) x within below above none sorted = (
   all_inserted (λ j. order_of_pairs c.0 j ≡ Less) cs at x (omega arith) (below 0 c (omega arith) (omega arith)) sorted.0,
   insert_sorted cs at x (omega arith) (λ k d low high. below (suc k) d (omega arith) (omega arith)) (λ h. above (omega arith)) (not_first c cs x.0.0 x.0.1 none).1 sorted.1,
 )
+
+-- ---- where a pair has no channel
+
+-- between a pair is nothing where its channel does not stand at the place that is found
+pub none_found : (s r : Pid) (cs : Senders) (at : ℕ) → at ≤ length cs → AllWithin (λ c. order_of_pairs c.0 (s, r) ≡ Less) cs 0 at → (at < length cs → HoldsAt (λ c. order_of_pairs c.0 (s, r) ≢ Less) cs at) → (at < length cs → HoldsAt (λ c. is_pair c.0 s r ≡ false) cs at) → AreInOrder cs → between cs s r ≡ []
+unfolding IsStrictlySortedBy
+none_found s r [] zero within before behind other sorted = refl
+none_found s r [] (suc at) within before behind other sorted = absurd (omega arith)
+none_found s r (c ∷ cs) zero within before behind other sorted =
+    let differs : is_pair c.0 s r ≡ false = other (omega arith) c in
+    let after : order_of_pairs (s, r) c.0 ≡ Less = comes_after c.0 (s, r) (behind (omega arith) c) (λ same. true≢false (sym (passes c.0 s r same) ∙ differs)) in
+    if_not (is_pair c.0 s r) (signals_in c.1) (between cs s r) differs ∙ none_behind (s, r) cs (all_above (s, r) c.0 (keys_of cs) after sorted.0)
+none_found s r (c ∷ cs) (suc at) within before behind other sorted =
+    if_not (is_pair c.0 s r) (signals_in c.1) (between cs s r) (fails c.0 s r (never_before c.0 (s, r) (before 0 c (omega arith) (omega arith))))
+    ∙ none_found s r cs at (omega arith) (λ k d low high. before (suc k) d (omega arith) (omega arith)) (λ h. behind (omega arith)) (λ h. other (omega arith)) sorted.1

@@ -14,6 +14,9 @@ use std::cmp::Ordering;
 use std::marker::Model;
 use term_core::Pid;
 
+/// How many channels are looked through from the front; where there are more, one is found by halves.
+const FEW: usize = 8;
+
 /// The channels that are not empty, by sender and then by receiver. Contracts see each under its sender and
 /// its receiver.
 #[derive(Drop)]
@@ -51,32 +54,46 @@ impl Clone for Senders {
     }
 }
 
-/// Where the channel from one process to another stands, if it is not empty.
-fn place_of(channels: &[Channel], from: &Pid, to: &Pid) -> Option<usize>
+/// Where the channel from one process to another stands or is put in: behind those that come before it.
+fn room_of(channels: &[Channel], from: &Pid, to: &Pid) -> usize
+    requires { IsStrictlySortedBy order_of_pairs (keys_of channels.now) }
+    ensures within { result ≤ length channels.now }
+    ensures before { AllWithin (λ channel. order_of_pairs channel.0 (from.now, to.now) ≡ Ordering.Less) channels.now 0 result }
+    ensures behind { result < length channels.now → HoldsAt (λ channel. order_of_pairs channel.0 (from.now, to.now) ≢ Ordering.Less) channels.now result }
+{
+    channels.partition_point(|channel| channel.is_before(from, to))
+}
+
+/// Where the channel from one process to another stands, if it is not empty, found by halves.
+fn place_by_halves(channels: &[Channel], from: &Pid, to: &Pid) -> Option<usize>
+    requires { IsStrictlySortedBy order_of_pairs (keys_of channels.now) }
     ensures within { IfSome result (λ at. at < length channels.now) }
     ensures there { IfSome result (HoldsAt (λ channel. channel.0 ≡ (from.now, to.now)) channels.now) }
     ensures none { result ≡ None → between channels.now from.now to.now ≡ [] }
 {
+    let at = room_of(channels, from, to);
+    if at < channels.len() && channels[at].is_between(from, to) {
+        return Some(at);
+    }
+    None
+}
+
+/// Where the channel from one process to another stands, if it is not empty.
+fn place_of(channels: &[Channel], from: &Pid, to: &Pid) -> Option<usize>
+    requires { IsStrictlySortedBy order_of_pairs (keys_of channels.now) }
+    ensures within { IfSome result (λ at. at < length channels.now) }
+    ensures there { IfSome result (HoldsAt (λ channel. channel.0 ≡ (from.now, to.now)) channels.now) }
+    ensures none { result ≡ None → between channels.now from.now to.now ≡ [] }
+{
+    if channels.len() > FEW {
+        return place_by_halves(channels, from, to);
+    }
     for at in 0..channels.len() {
         if channels[at].is_between(from, to) {
             return Some(at);
         }
     }
     None
-}
-
-/// Where the channel from one process to another is put in.
-fn room_of(channels: &[Channel], from: &Pid, to: &Pid) -> usize
-    ensures within { result ≤ length channels.now }
-    ensures before { AllWithin (λ channel. order_of_pairs channel.0 (from.now, to.now) ≡ Ordering.Less) channels.now 0 result }
-    ensures behind { result < length channels.now → HoldsAt (λ channel. order_of_pairs channel.0 (from.now, to.now) ≢ Ordering.Less) channels.now result }
-{
-    for at in 0..channels.len() {
-        if !channels[at].is_before(from, to) {
-            return at;
-        }
-    }
-    channels.len()
 }
 
 impl Senders {
