@@ -1,3 +1,4 @@
 pub mod Agreeing
 pub mod Placing
 pub mod Listing
+pub mod Ordered

@@ -1,16 +1,15 @@
 -- Lists of courses: the place of a process, and what is found after a write.
-use Rattle.std.proofs.Common.{◌≡◌, ◌<◌, ◌≤◌, ◌+◌, ◌∷◌, ◌++◌, [], ℕ, Bool, true, false, not, List, Option, Some, None, IsSome, cond, if◌then◌else◌, refl, sym, ap, subst, ◌∙◌, arith, length, get_or, map, position, option_map, bytes_eq}
+use Rattle.std.proofs.Common.{◌≡◌, ◌<◌, ◌≤◌, ◌+◌, ◌∷◌, [], ℕ, Bool, true, false, not, List, Option, Some, None, IsSome, cond, if◌then◌else◌, refl, sym, ap, subst, ◌∙◌, arith, length, get_or, insert, map, position, option_map}
 use Prim.Native.Nat.{suc}
 use Rattle.std.proofs.Math.ListN.{set}
 use Rattle.std.proofs.lemmas.Cmp.{nat_list_eq_equiv}
 use Rattle.std.proofs.lemmas.Grind.{common_steps}
 use Rattle.std.proofs.lemmas.List.Sums.{position_or_len_is}
-use Rattle.std.proofs.lemmas.Map.{lookup-set_value}
+use Rattle.std.proofs.lemmas.Map.{NonePasses, none_passes_from_lookup, lookup-insert, lookup-set_value}
 use Rattle.std.proofs.lemmas.Map.Made.{lookup-map_values}
 use Rattle.std.proofs.lemmas.Slice.Eq.{bytes_eq-Decides}
 use Rattle.std.specs.List.{position_or_len}
 use Rattle.std.specs.Map.{lookup, set_value}
-use Rattle.std.specs.Option.{option_or}
 use Rattle.world_model.specs.Names.{Pid, same_pid}
 
 -- ---- the first place that passes a test
@@ -91,35 +90,18 @@ put_there show p es fs n any w place is q =
     ∙ over_if show (same_pid p q) w (lookup (same_pid q) es)
     ∙ ap (λ o. if same_pid p q then Some (show w) else o) (sym (lookup-map_values show (same_pid q) es))
 
--- ---- what is found after one is put behind the others
+-- ---- what is found after one is put in
 
-behind_all : {K X : Type 0} (test : K → Bool) (es : List (K × X)) (e : K × X) → lookup test (es ++ (e ∷ [])) ≡ option_or (lookup test es) (cond (test e.0) (Some e.1) None)
-behind_all test [] e = refl
-behind_all test (f ∷ es) e = behind_if (test f.0) f.1 (lookup test (es ++ (e ∷ []))) (lookup test es) (cond (test e.0) (Some e.1) None) (behind_all test es e)
-  where
-    behind_if : {X : Type 0} (b : Bool) (x : X) (o u v : Option X) → o ≡ option_or u v → cond b (Some x) o ≡ option_or (cond b (Some x) u) v
-    behind_if true x o u v is = refl
-    behind_if false x o u v is = is
+pub none_passes : {X : Type 0} (p : Pid) (es : List (Pid × X)) → None ≡ position (λ e. same_pid p e.0) es → NonePasses (same_pid p) es
+none_passes p es place = none_passes_from_lookup (same_pid p) es (absent (same_pid p) es (unplaced (λ e. same_pid p e.0) es (sym place)))
 
-or_none : {X : Type 0} (o : Option X) → option_or o None ≡ o
-or_none None = refl
-or_none (Some x) = refl
-
-pub put_behind : {X Y : Type 0} (show : X → Y) (p : Pid) (es fs : List (Pid × X)) (w : X) → None ≡ position (λ e. same_pid p e.0) es → fs ≡ es ++ ((p, w) ∷ [])
+pub put_in : {X Y : Type 0} (show : X → Y) (p : Pid) (es fs : List (Pid × X)) (n : ℕ) (w : X) → None ≡ position (λ e. same_pid p e.0) es → fs ≡ insert es n (p, w)
     → (q : Pid) → lookup (same_pid q) (shown show fs) ≡ (if same_pid p q then Some (show w) else lookup (same_pid q) (shown show es))
-put_behind show p es fs w place is q =
-    let none : lookup (same_pid p) es ≡ None = absent (same_pid p) es (unplaced (λ e. same_pid p e.0) es (sym place)) in
-    lookup-map_values show (same_pid q) fs ∙ ap (λ xs. option_map show (lookup (same_pid q) xs)) is ∙ ap (option_map show) (behind_all (same_pid q) es (p, w))
-    ∙ (elim (bytes_eq p q) as (λ b. bytes_eq p q ≡ b → option_map show (option_or (lookup (same_pid q) es) (cond (same_pid q p) (Some w) None)) ≡ (if b then Some (show w) else lookup (same_pid q) (shown show es))) [
-      | true ↦ λ e.
-          let same : p ≡ q = (bytes_eq-Decides p q).0 e in
-          let gone : lookup (same_pid q) es ≡ None = ap (λ r. lookup (same_pid r) es) (sym same) ∙ none in
-          let itself : same_pid q p ≡ true = (bytes_eq-Decides q p).1 (sym same) in
-          ap (λ o. option_map show (option_or o (cond (same_pid q p) (Some w) None))) gone ∙ ap (λ b. option_map show (cond b (Some w) None)) itself
-      | false ↦ λ e.
-          let apart : same_pid q p ≡ false = nat_list_eq_equiv.symm q p ∙ e in
-          ap (λ b. option_map show (option_or (lookup (same_pid q) es) (cond b (Some w) None))) apart ∙ ap (option_map show) (or_none (lookup (same_pid q) es)) ∙ sym (lookup-map_values show (same_pid q) es)
-    ] refl)
+put_in show p es fs n w place is q =
+    lookup-map_values show (same_pid q) fs ∙ ap (λ xs. option_map show (lookup (same_pid q) xs)) is
+    ∙ ap (option_map show) (lookup-insert nat_list_eq_equiv p w q es n (none_passes p es place))
+    ∙ over_if show (same_pid p q) w (lookup (same_pid q) es)
+    ∙ ap (λ o. if same_pid p q then Some (show w) else o) (sym (lookup-map_values show (same_pid q) es))
 
 -- ---- what is found at a place
 

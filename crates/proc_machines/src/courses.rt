@@ -1,18 +1,27 @@
 // How far each process has come: copies share it until one of them is changed.
-ghost use Rattle.std.specs.Prelude.{◌≡◌, IfOk, OnOk, OnErr, None, option_copied, position};
+ghost use Rattle.std.specs.Prelude.{◌≡◌, ◌≢◌, ◌<◌, ◌≤◌, length, IfOk, OnOk, OnErr, None, option_copied, position};
+ghost use Rattle.std.specs.List.{AllWithin, HoldsAt};
+ghost use Rattle.std.specs.List.Sorted.{IsStrictlySortedBy, IsStrictlySortedBy-prop};
+ghost use Rattle.std.specs.Map.{keys_of};
+ghost use Rattle.term_core.specs.Order.{order_of_lists};
 ghost use Rattle.world_model.specs.Names as names;
 ghost use Rattle.world_model.specs.Names.{same_pid};
 
 use crate::course::Course;
 use std::alloc::{AllocError, Global};
+use std::cmp::Ordering;
 use std::sync::Arc;
 use term_core::Pid;
 
-/// The processes that were begun, each with its course. They are few, so a list is copied and dropped sooner than a
-/// map, and looked through as soon.
+/// How many processes are looked through from the front; where there are more, one is found by halves.
+const FEW: usize = 8;
+
+/// The processes that were begun, each with its course, in the order of processes. They are few most often, so a list is
+/// copied and dropped sooner than a map, and looked through as soon.
 #[derive(Drop)]
 pub(crate) struct CourseList<'m> {
     entries: Vec<(Pid, Arc<Course<'m>>)>,
+    ghost in_order: { IsStrictlySortedBy order_of_lists (keys_of entries.items) } by { IsStrictlySortedBy-prop order_of_lists (keys_of entries.items) },
 }
 
 impl<'m> Clone for CourseList<'m> {
@@ -34,10 +43,34 @@ impl<'m> Clone for CourseList<'m> {
 impl<'m> CourseList<'m> {
     ghost use Rattle.proc_machines.specs.Courses.{IsPut, listed};
 
+    /// Where a process stands or is put in: behind those that come before it.
+    fn room(&self, pid: &Pid) -> usize
+        ensures within { result ≤ length self.now.entries.items }
+        ensures before { AllWithin (λ entry. order_of_lists entry.0 pid.now ≡ Ordering.Less) self.now.entries.items 0 result }
+        ensures behind { result < length self.now.entries.items → HoldsAt (λ entry. order_of_lists entry.0 pid.now ≢ Ordering.Less) self.now.entries.items result }
+    {
+        let entries = self.entries.as_slice();
+        entries.partition_point(|entry| entry.0.cmp(pid).is_lt())
+    }
+
+    /// The place of a process, if it was begun, found by halves.
+    fn place_by_halves(&self, pid: &Pid) -> Option<usize>
+        ensures { result ≡ position (λ entry. same_pid pid.now entry.0) self.now.entries.items }
+    {
+        let place = self.room(pid);
+        if place < self.entries.len() && *pid == self.entries[place].0 {
+            return Some(place);
+        }
+        None
+    }
+
     /// The place of a process, if it was begun.
     fn place(&self, pid: &Pid) -> Option<usize>
         ensures { result ≡ position (λ entry. same_pid pid.now entry.0) self.now.entries.items }
     {
+        if self.entries.len() > FEW {
+            return self.place_by_halves(pid);
+        }
         for (place, entry) in self.entries.as_slice().iter().enumerate() {
             if *pid == entry.0 {
                 return Some(place);
@@ -53,7 +86,8 @@ impl<'m> CourseList<'m> {
         ensures err { OnErr result (listed self.new ≡ listed self.old) }
     {
         let Some(place) = self.place(pid) else {
-            self.entries.push((pid.copy()?, course))?;
+            let place = self.room(pid);
+            self.entries.insert(place, (pid.copy()?, course))?;
             return Ok(());
         };
         self.entries[place].1 = course;
