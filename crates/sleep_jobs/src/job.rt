@@ -150,6 +150,7 @@ impl<'m> Job<'m> {
     pub fn world<'w>(&self, alloc: Global, program: &'w Module) -> Result<World<'w>, WorldFault>
         requires { program_of program.now ≡ program_in self.now.exploration }
         ensures at { IfOk result (λ world. IsAt (program_in self.now.exploration) self.now.name.prefix world) }
+        ensures module { IfOk result (λ world. world.program ≡ program.now) }
         ensures short { IfOk result (λ _. length self.now.name.prefix ≤ self.now.exploration.depth) }
         ensures memory { IfErr result (λ fault. fault ≡ Memory) }
     {

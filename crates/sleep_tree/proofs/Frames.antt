@@ -1,18 +1,15 @@
 -- What a stack of frames leaves to be visited.
-use Rattle.std.proofs.Common.{◌≡◌, inl, inr, ℕ, zero, suc, ◌+◌, ◌-◌, true, List, [], ◌∷◌, ◌++◌, length, Option, Some, None, is_some, refl, sym, ap, ◌∙◌, subst, arith, append_assoc, append-nil}
+use Rattle.std.proofs.Common.{◌≡◌, ℕ, zero, suc, ◌+◌, ◌-◌, true, List, [], ◌∷◌, ◌++◌, length, Option, Some, None, is_some, refl, sym, ap, ◌∙◌, subst, arith, append_assoc, append-nil}
 use Rattle.term_core.specs.declared.step.Step.{Step}
-use Rattle.world_core.specs.Seen.{Seen, program_in}
-use Rattle.world_model.specs.Asking.{program_of}
 use Rattle.world_model.specs.Events.{Event, History}
 use Rattle.world_model.specs.Names.{IsAmong}
 use Rattle.world_model.specs.Requests.{Program}
-use Rattle.world_model.specs.Run.{next_event, extended, enabled_steps, schedule_of}
+use Rattle.world_model.specs.Run.{next_event, enabled_steps, schedule_of}
 use Rattle.world_model.proofs.Opened.{listed_enabled}
 use Rattle.coverage.specs.Jobs.{Node, asleep_below, awake_steps, nodes_after, nodes_along, node_at, nodes_from}
 use Rattle.coverage.proofs.Lists.{kept_passes}
 use Rattle.sleep_jobs.specs.Explorations.{ExplorationSeen}
-use Rattle.sleep_tree.specs.inside.Frames.{NodeSeen, FrameSeen, own_node, nodes_of_node, nodes_of_frame, nodes_of_frames, AreEnabled, IsFrame, IsNodeOf, IsFrameOf, AreFramesOf, IsChild, IsFirstOf, frame_after, others_of}
-use Rattle.sleep_tree.specs.inside.Nodes.{IsNode, history_below}
+use Rattle.sleep_tree.specs.inside.Frames.{NodeSeen, FrameSeen, own_node, nodes_of_node, nodes_of_frame, nodes_of_frames, AreEnabled, IsNodeOf, IsFrameOf, AreFramesOf, IsChild, frame_after, others_of}
 use Rattle.sleep_jobs.proofs.Lists.{all_append}
 use Rattle.sleep_jobs.proofs.Runs.{not_none}
 use Rattle.sleep_tree.proofs.Runs.{next_of, longer, one_longer}
@@ -42,19 +39,19 @@ module _ (a : Program) (h : History) (schedule slept : List Step) where
 
 -- one that has no children
 pub deep_node : (v : NodeSeen) (vs : List Node) → v.left ≡ 0 → nodes_of_node v ++ vs ≡ own_node v ∷ vs
-deep_node v vs none = ap (λ us. us ++ vs) (at_depth (program_of v.program) v.history (schedule_of v.history) v.slept v.left none)
+deep_node v vs none = ap (λ us. us ++ vs) (at_depth v.program v.history (schedule_of v.history) v.slept v.left none)
 
-pub sleeping_node : (v : NodeSeen) (vs : List Node) → awake_steps (program_of v.program) v.history v.slept ≡ [] → nodes_of_node v ++ vs ≡ own_node v ∷ vs
-sleeping_node v vs none = ap (λ us. us ++ vs) (all_asleep (program_of v.program) v.history (schedule_of v.history) v.slept v.left none)
+pub sleeping_node : (v : NodeSeen) (vs : List Node) → awake_steps v.program v.history v.slept ≡ [] → nodes_of_node v ++ vs ≡ own_node v ∷ vs
+sleeping_node v vs none = ap (λ us. us ++ vs) (all_asleep v.program v.history (schedule_of v.history) v.slept v.left none)
 
 -- one whose frame is put on the stack
 abbrev pub frame_of : NodeSeen → List Step → FrameSeen
 frame_of v line = record { program = v.program; history = v.history; slept = v.slept; line = line; left = v.left - 1 }
 
-pub opened_node : (v : NodeSeen) (line : List Step) (fs gs : List FrameSeen) → (v.left ≡ 0 → ⊥) → line ≡ awake_steps (program_of v.program) v.history v.slept → gs ≡ fs ++ frame_of v line ∷ [] → nodes_of_node v ++ nodes_of_frames fs ≡ own_node v ∷ nodes_of_frames gs
+pub opened_node : (v : NodeSeen) (line : List Step) (fs gs : List FrameSeen) → (v.left ≡ 0 → ⊥) → line ≡ awake_steps v.program v.history v.slept → gs ≡ fs ++ frame_of v line ∷ [] → nodes_of_node v ++ nodes_of_frames fs ≡ own_node v ∷ nodes_of_frames gs
 opened_node v line fs gs some is now =
-    ap (λ vs. vs ++ nodes_of_frames fs) (with_more (program_of v.program) v.history (schedule_of v.history) v.slept v.left some)
-    ∙ ap (λ xs. own_node v ∷ (nodes_along (nodes_from (program_of v.program) (v.left - 1)) (program_of v.program) v.history (schedule_of v.history) v.slept xs ++ nodes_of_frames fs)) (sym is)
+    ap (λ vs. vs ++ nodes_of_frames fs) (with_more v.program v.history (schedule_of v.history) v.slept v.left some)
+    ∙ ap (λ xs. own_node v ∷ (nodes_along (nodes_from v.program (v.left - 1)) v.program v.history (schedule_of v.history) v.slept xs ++ nodes_of_frames fs)) (sym is)
     ∙ sym (ap (λ vs. own_node v ∷ vs) (ap nodes_of_frames now ∙ frames_push fs (frame_of v line)))
 
 pub opened_is_of : (e : ExplorationSeen) (v : NodeSeen) (line : List Step) (fs gs : List FrameSeen) → (v.left ≡ 0 → ⊥) → gs ≡ fs ++ frame_of v line ∷ [] → IsNodeOf e v → AreFramesOf e fs → AreFramesOf e gs
@@ -75,41 +72,7 @@ awake_enabled a h slept line is s there none =
     some_event None is = absurd cc
     some_event (Some e) is = (e, refl)
 
-pub opened_frame : (w : Seen) (slept line : List Step) → IsNode w → line ≡ awake_steps (program_in w) w.history slept → IsFrame w line
-opened_frame w slept line n is = record { node = n; enabled = awake_enabled (program_in w) w.history slept line is }
-
 -- ---- the next child
-
--- what has happened after an enabled step
-pub history_is : (h : History) (o : Option Event) → (o ≡ None → ⊥) → extended h o ≡ Some (history_below h o)
-history_is h None some = absurd (some refl)
-history_is h (Some e) some = refl
-
--- the child of a frame, from a copy of the world of the frame and of the step
-pub is_child : (w v : Seen) (slept asleep line : List Step) (s t : Step) (rest : List Step) (left : ℕ) → line ≡ s ∷ rest → v ≡ w → t ≡ s → (next_event (program_in w) w.history s ≡ None → ⊥) → ((left ≡ 0 → ⊥) → asleep ≡ asleep_below (program_in w) w.history slept s)
-    → IsChild (record { program = w.program; history = w.history; slept = slept; line = line; left = left }) s rest (record { program = v.program; history = history_below v.history (next_event (program_in v) v.history t); slept = asleep; left = left })
-is_child w v slept asleep line s t rest left is same own enabled sleeps = record {
-  line = is;
-  program = ap (λ (x : Seen). x.program) same;
-  history = history_is w.history (next_event (program_in w) w.history s) enabled ∙ (λ i. Some (history_below (sym same i).history (next_event (program_in (sym same i)) (sym same i).history (sym own i))));
-  slept = sleeps;
-  left = refl;
-}
-
--- so is a node that the step leads to
-pub first_made : (w x : Seen) (slept asleep line : List Step) (s t : Step) (rest : List Step) (left : ℕ) (v : NodeSeen) → line ≡ s ∷ rest → x ≡ w → t ≡ s → v.program ≡ x.program → extended x.history (next_event (program_in x) x.history t) ≡ Some v.history → v.slept ≡ asleep → v.left ≡ left
-    → ((left ≡ 0 → ⊥) → asleep ≡ asleep_below (program_in w) w.history slept s) → IsFirstOf (record { program = w.program; history = w.history; slept = slept; line = line; left = left }) v
-first_made w x slept asleep line s t rest left v is same own program now slept_is left_is sleeps = record {
-  step = s;
-  rest = rest;
-  child = record {
-    line = is;
-    program = program ∙ ap (λ (y : Seen). y.program) same;
-    history = (λ i. extended (sym same i).history (next_event (program_in (sym same i)) (sym same i).history (sym own i))) ∙ now;
-    slept = λ more. slept_is ∙ sleeps more;
-    left = left_is;
-  };
-}
 
 -- at the depth it does not matter what sleeps
 any_sleep : (a : Program) (n : ℕ) (h : History) (schedule one other : List Step) → ((n ≡ 0 → ⊥) → one ≡ other) → nodes_from a n h schedule one ≡ nodes_from a n h schedule other
@@ -119,22 +82,22 @@ any_sleep a (suc n) h schedule one other same = ap (λ z. nodes_from a (suc n) h
 -- the nodes that are left behind it
 abbrev pub others : FrameSeen → Step → List Step → List Node
 others f s rest =
-    nodes_along (nodes_from (program_of f.program) f.left) (program_of f.program) f.history (schedule_of f.history) (f.slept ++ s ∷ []) rest
+    nodes_along (nodes_from f.program f.left) f.program f.history (schedule_of f.history) (f.slept ++ s ∷ []) rest
 
-child_nodes : (f : FrameSeen) (s : Step) (rest : List Step) (v : NodeSeen) → IsChild f s rest v → nodes_after (λ g. nodes_from (program_of f.program) f.left g (schedule_of f.history ++ s ∷ []) (asleep_below (program_of f.program) f.history f.slept s)) f.history (next_event (program_of f.program) f.history s) ≡ nodes_of_node v
+child_nodes : (f : FrameSeen) (s : Step) (rest : List Step) (v : NodeSeen) → IsChild f s rest v → nodes_after (λ g. nodes_from f.program f.left g (schedule_of f.history ++ s ∷ []) (asleep_below f.program f.history f.slept s)) f.history (next_event f.program f.history s) ≡ nodes_of_node v
 child_nodes f s rest v c =
-    let a = program_of f.program in
+    let a = f.program in
     let asleep = asleep_below a f.history f.slept s in
     let next = next_of a f.history s v.history c.history in
     ap (nodes_after (λ g. nodes_from a f.left g (schedule_of f.history ++ s ∷ []) asleep) f.history) next.is_next
     ∙ ap (λ g. nodes_from a f.left g (schedule_of f.history ++ s ∷ []) asleep) (sym next.grown)
     ∙ ap (λ t. nodes_from a f.left v.history t asleep) (sym (longer a f.history s v.history next))
     ∙ any_sleep a f.left v.history (schedule_of v.history) asleep v.slept (λ some. sym (c.slept some))
-    ∙ (λ i. nodes_from (program_of (sym c.program i)) (sym c.left i) v.history (schedule_of v.history) v.slept)
+    ∙ (λ i. nodes_from (sym c.program i) (sym c.left i) v.history (schedule_of v.history) v.slept)
 
 child_first : (f : FrameSeen) (s : Step) (rest : List Step) (v : NodeSeen) → IsChild f s rest v → nodes_of_frame f ≡ nodes_of_node v ++ others f s rest
 child_first f s rest v c =
-    ap (nodes_along (nodes_from (program_of f.program) f.left) (program_of f.program) f.history (schedule_of f.history) f.slept) c.line
+    ap (nodes_along (nodes_from f.program f.left) f.program f.history (schedule_of f.history) f.slept) c.line
     ∙ ap (λ vs. vs ++ others f s rest) (child_nodes f s rest v c)
 
 last_child : (f : FrameSeen) (s : Step) (v : NodeSeen) (vs : List Node) → IsChild f s [] v → nodes_of_frame f ++ vs ≡ nodes_of_node v ++ vs
@@ -149,10 +112,10 @@ more_children f s rest v fs gs c now =
 -- it is a node of the exploration
 pub child_is_of : (e : ExplorationSeen) (f : FrameSeen) (s : Step) (rest : List Step) (v : NodeSeen) → IsChild f s rest v → IsFrameOf e f → IsNodeOf e v
 child_is_of e f s rest v c belongs =
-    let next = next_of (program_of f.program) f.history s v.history c.history in
+    let next = next_of f.program f.history s v.history c.history in
     record {
-      program = ap program_of c.program ∙ belongs.program;
-      deep = omega (arith, one_longer (program_of f.program) f.history s v.history next, belongs.deep, c.left);
+      program = c.program ∙ belongs.program;
+      deep = omega (arith, one_longer f.program f.history s v.history next, belongs.deep, c.left);
     }
 
 -- so is the frame with one step less
@@ -169,11 +132,3 @@ pub others_are_of : (e : ExplorationSeen) (f : FrameSeen) (line : List Step) (fs
 others_are_of e f [] fs gs now belongs all = subst (AreFramesOf e) (sym (now ∙ append-nil fs)) all
 others_are_of e f (s ∷ []) fs gs now belongs all = subst (AreFramesOf e) (sym (now ∙ append-nil fs)) all
 others_are_of e f (s ∷ t ∷ rest) fs gs now belongs all = more_are_of e f s (t ∷ rest) fs gs now belongs all
-
--- its line can be taken
-pub frame_goes_on : (w : Seen) (s : Step) (line rest : List Step) → line ≡ rest → IsFrame w (s ∷ line) → IsFrame w rest
-frame_goes_on w s line rest is f =
-    record { node = f.node; enabled = λ t there. f.enabled t (inr (subst (IsAmong t) (sym is) there)) }
-
-pub first_enabled : (w : Seen) (s : Step) (line : List Step) → IsFrame w (s ∷ line) → next_event (program_in w) w.history s ≡ None → ⊥
-first_enabled w s line f = f.enabled s (inl refl)

@@ -3,7 +3,9 @@ pub mod Nodes
 pub mod Asleep
 pub mod Frames
 pub mod Pieces
-pub mod Children
 pub mod Agendas
 pub mod Stacks
-pub mod Leaves
+pub mod Stepping
+pub mod Walking
+pub mod Visiting
+pub mod Beginning

@@ -1,9 +1,6 @@
 -- What one more visit does to what was done.
 use Rattle.std.proofs.Common.{◌≡◌, ◌≤◌, ℕ, zero, suc, ◌+◌, Bool, List, [], ◌∷◌, ◌++◌, length, Some, refl, sym, ap, ◌∙◌, subst, arith, append_assoc, append-nil, length-append}
-use Rattle.term_core.specs.declared.step.Step.{Step}
 use Rattle.findings.specs.Laws.{AddsSchedule}
-use Rattle.world_core.specs.Seen.{Seen}
-use Rattle.world_model.specs.Asking.{program_of}
 use Rattle.world_model.specs.Names.{IsAmong}
 use Rattle.world_model.specs.Run.{run, schedule_of}
 use Rattle.world_model.specs.Shown.{Identity, Flags, is_error, is_refusal, shown}
@@ -16,6 +13,8 @@ use Rattle.sleep_jobs.specs.Explorations.{ExplorationSeen, JobSeen, program_in, 
 use Rattle.sleep_jobs.specs.Meanings.{AreShown, AreOfJob}
 use Rattle.sleep_jobs.specs.Pieces.{AreOf, IsPiece}
 use Rattle.sleep_tree.specs.inside.Frames.{NodeSeen, FrameSeen, own_node, nodes_of_node, nodes_of_frames, IsFrameOf, AreFramesOf, IsExploring, VisitsNext}
+use Rattle.sleep_tree.specs.inside.Walks.{BeginsWalk, frames_in}
+use Rattle.sleep_tree.specs.declared.walk.Walk.{Walk}
 use Rattle.sleep_jobs.proofs.Passing.{found_passes}
 use Rattle.sleep_jobs.proofs.Lists.{all_append, all_front, all_back}
 
@@ -26,26 +25,21 @@ all_join e (j ∷ js) ks =
 
 -- ---- visits
 
--- how one more visit adds what its node shows
-abbrev pub Adds : ExplorationSeen → NodeSeen → Findings → Findings → Type 0
-Adds e v old new = (done : List Node) → old ≡ findings_of e done → new ≡ findings_of e (done ++ own_node v ∷ [])
-
--- a visit that adds what the world shows does so
-pub node_adds : (e : ExplorationSeen) (w : Seen) (slept : List Step) (left : ℕ) (flags : Flags) (f g : Findings) (done : List Node) → e.flags ≡ flags → program_of w.program ≡ program_in e → run (program_of w.program) (schedule_of w.history) ≡ Some w.history → AddsSchedule flags (schedule_of w.history) (shown (program_of w.program) w.history) f g → f ≡ findings_of e done → g ≡ findings_of e (done ++ own_node (record { program = w.program; history = w.history; slept = slept; left = left }) ∷ [])
-node_adds e w slept left flags f g done same belongs runs adds old =
-    let own : NodeSeen = record { program = w.program; history = w.history; slept = slept; left = left } in
-    let s = schedule_of w.history in
-    adds (program_of w.program) (schedules_of done) w.history runs refl (old ∙ (λ i. findings_among (same i) (sym belongs i) (schedules_of done)))
+-- a visit that adds what the node shows does so
+pub node_adds : (e : ExplorationSeen) (v : NodeSeen) (flags : Flags) (f g : Findings) (done : List Node) → e.flags ≡ flags → v.program ≡ program_in e → run v.program (schedule_of v.history) ≡ Some v.history → AddsSchedule flags (schedule_of v.history) (shown v.program v.history) f g → f ≡ findings_of e done → g ≡ findings_of e (done ++ own_node v ∷ [])
+node_adds e v flags f g done same belongs runs adds old =
+    let s = schedule_of v.history in
+    adds v.program (schedules_of done) v.history runs refl (old ∙ (λ i. findings_among (same i) (sym belongs i) (schedules_of done)))
     ∙ (λ i. findings_among (sym same i) (belongs i) (schedules_of done ++ s ∷ []))
-    ∙ ap (findings_among e.flags (program_in e)) (sym (map_join (λ (v : Node). v.schedule) done (own_node own ∷ [])))
+    ∙ ap (findings_among e.flags (program_in e)) (sym (map_join (λ (v : Node). v.schedule) done (own_node v ∷ [])))
 
 -- the first visit
-pub exploring_first : (e : ExplorationSeen) (name : Job) (v : NodeSeen) (f g : Findings) (fs gs : List FrameSeen) → nodes_of_node v ≡ nodes_of e name → fs ≡ [] → f ≡ findings_of e [] → nodes_of_node v ++ nodes_of_frames fs ≡ own_node v ∷ nodes_of_frames gs → Adds e v f g → AreFramesOf e gs → IsExploring e name g 1 gs
-exploring_first e name v f g fs gs own none nothing now adds belong = record {
-  done = own_node v ∷ [];
-  is_done = record { found = adds [] nothing; counted = refl };
-  made_up = sym own ∙ sym (append-nil (nodes_of_node v)) ∙ ap (λ xs. nodes_of_node v ++ nodes_of_frames xs) (sym none) ∙ now;
-  are_of = belong;
+pub exploring_first : (e : ExplorationSeen) (name : Job) (f g : Findings) (w : Walk) → BeginsWalk e name f g w → f ≡ findings_of e [] → IsExploring e name g 1 (frames_in w)
+exploring_first e name f g w begins nothing = record {
+  done = begins.node ∷ [];
+  is_done = record { found = begins.found nothing; counted = refl };
+  made_up = begins.nodes;
+  are_of = begins.are_of;
 }
 
 -- the frame on top, and those below it
@@ -69,26 +63,21 @@ exploring_more e name flags f g k fs hs x same next = record {
 pub node_some : (v : NodeSeen) → 1 ≤ length (nodes_of_node v)
 node_some v = go v.left
   where
-    go : (n : ℕ) → 1 ≤ length (nodes_from (program_of v.program) n v.history (schedule_of v.history) v.slept)
+    go : (n : ℕ) → 1 ≤ length (nodes_from v.program n v.history (schedule_of v.history) v.slept)
     go zero = omega arith
     go (suc n) = omega arith
 
 -- one more job
-pub rest_more : (e : ExplorationSeen) (rest more : List JobSeen) (fs gs : List FrameSeen) (v : NodeSeen) (job : JobSeen) (total : List Node) → nodes_of_all e rest ++ nodes_of_frames fs ≡ total → more ≡ rest ++ job ∷ [] → nodes_of_frames fs ≡ nodes_of_node v ++ nodes_of_frames gs → nodes_of e job.name ≡ nodes_of_node v → nodes_of_all e more ++ nodes_of_frames gs ≡ total
-rest_more e rest more fs gs v job total whole pushed down own =
+pub rest_more : (e : ExplorationSeen) (rest more : List JobSeen) (fs gs : List FrameSeen) (job : JobSeen) (total : List Node) → nodes_of_all e rest ++ nodes_of_frames fs ≡ total → more ≡ rest ++ job ∷ [] → nodes_of_frames fs ≡ nodes_of e job.name ++ nodes_of_frames gs → nodes_of_all e more ++ nodes_of_frames gs ≡ total
+rest_more e rest more fs gs job total whole pushed down =
     ap (λ js. nodes_of_all e js ++ nodes_of_frames gs) pushed
-    ∙ ap (λ vs. vs ++ nodes_of_frames gs) (all_join e rest (job ∷ []) ∙ ap (λ vs. nodes_of_all e rest ++ vs) (append-nil (nodes_of e job.name) ∙ own))
-    ∙ append_assoc (nodes_of_all e rest) (nodes_of_node v) (nodes_of_frames gs)
+    ∙ ap (λ vs. vs ++ nodes_of_frames gs) (all_join e rest (job ∷ []) ∙ ap (λ vs. nodes_of_all e rest ++ vs) (append-nil (nodes_of e job.name)))
+    ∙ append_assoc (nodes_of_all e rest) (nodes_of e job.name) (nodes_of_frames gs)
     ∙ ap (λ vs. nodes_of_all e rest ++ vs) (sym down) ∙ whole
 
 pub rest_are_of : (e : ExplorationSeen) (rest more : List JobSeen) (job : JobSeen) → more ≡ rest ++ job ∷ [] → AreOf e rest → job.exploration ≡ e → AreOf e more
 rest_are_of e rest more job pushed all own =
     subst (AreOf e) (sym pushed) (all_append (λ (j : JobSeen). j.exploration ≡ e) rest (job ∷ []) all (own, tt))
-
--- what is left at the end
-pub piece_made : (e : ExplorationSeen) (name : Job) (f : Findings) (k : ℕ) (fs : List FrameSeen) (rest : List JobSeen) → IsExploring e name f k fs → nodes_of_all e rest ≡ nodes_of_frames fs → AreOf e rest → IsPiece e name f k rest
-piece_made e name f k fs rest x same belong =
-    record { done = x.done; is_done = x.is_done; made_up = x.made_up ∙ ap (λ vs. x.done ++ vs) (sym same); are_of = belong }
 
 -- ---- what its findings are
 

@@ -1,11 +1,9 @@
 -- The last frame of a stack.
-use Rattle.std.proofs.Common.{◌≡◌, ◌∙◌, ℕ, ◌+◌, ◌-◌, ◌<◌, List, [], ◌∷◌, ◌++◌, length, reverse, refl, sym, ap, subst, arith, slice_index_or, slice_set, take, length-append, append-nil}
+use Rattle.std.proofs.Common.{◌≡◌, inl, inr, ◌∙◌, ℕ, ◌-◌, List, [], ◌∷◌, ◌++◌, length, reverse, refl, sym, ap, subst, arith, slice_index_or, slice_set, take, length-append}
 use Rattle.std.proofs.lemmas.List.{reverse-append, set_at}
 use Rattle.std.proofs.Math.Seq.{get_or-append_seam, take-append_seam}
-use Rattle.sleep_jobs.specs.Explorations.{ExplorationSeen}
-use Rattle.sleep_tree.specs.inside.Frames.{AreFramesOf, FrameSeen, IsNodeOf, NodeSeen, OnTop, TakesChild, nodes_of_frames, nodes_of_node, others_of}
-use Rattle.sleep_tree.proofs.Frames.{child_and_others, child_is_of, frames_push, others_are_of}
-use Rattle.sleep_tree.proofs.Pieces.{node_some, popped}
+use Rattle.sleep_tree.specs.inside.Walks.{GoesOn, Passes}
+use Rattle.sleep_tree.specs.declared.frame.Frame.{Frame}
 
 one_less : {X : Type 0} (xs : List X) (x : X) → length (xs ++ x ∷ []) - 1 ≡ length xs
 one_less xs x = omega (arith, length-append xs (x ∷ []))
@@ -57,46 +55,19 @@ taken_last all xs zs x y z is looked taken =
 -- ---- frames
 
 -- the last frame goes on
-pub gone_on : (all fs : List FrameSeen) (f g new : FrameSeen) → all ≡ fs ++ f ∷ [] → g ≡ slice_index_or all (length all - 1) g → new ∷ [] ≡ others_of g g.line → slice_set all (length all - 1) new ≡ fs ++ others_of f f.line
-gone_on all fs f g new is looked others =
-    last_set all fs f new is ∙ ap (λ gs. fs ++ gs) (others ∙ ap (λ (x : FrameSeen). others_of x x.line) (last_is all fs f g is looked))
+pub gone_on : (all below : List Frame) (top frame new : Frame) → all ≡ below ++ top ∷ [] → frame ≡ slice_index_or all (length all - 1) frame → GoesOn frame new → Passes below top (slice_set all (length all - 1) new)
+gone_on all below top frame new is looked goes =
+    inr (record { frame = new; goes = subst (λ x. GoesOn x new) (last_is all below top frame is looked) goes; is = last_set all below top new is })
 
 -- or is gone
-pub popped_off : (all fs hs : List FrameSeen) (f g h : FrameSeen) → all ≡ fs ++ f ∷ [] → g ≡ slice_index_or all (length all - 1) g → slice_set all (length all - 1) g ≡ hs ++ h ∷ [] → others_of g g.line ≡ [] → hs ≡ fs ++ others_of f f.line
-popped_off all fs hs f g h is looked taken none =
-    (taken_last all fs hs f g h is looked taken).0 ∙ sym (append-nil fs)
-    ∙ ap (λ gs. fs ++ gs) (sym none ∙ ap (λ (x : FrameSeen). others_of x x.line) (last_is all fs f g is looked))
+pub popped_off : (all below left : List Frame) (top frame taken : Frame) → all ≡ below ++ top ∷ [] → frame ≡ slice_index_or all (length all - 1) frame → slice_set all (length all - 1) frame ≡ left ++ taken ∷ [] → frame.after.items ≡ [] → Passes below top left
+popped_off all below left top frame taken is looked popped none =
+    inl (subst (λ (x : Frame). x.after.items ≡ []) (last_is all below top frame is looked) none, (taken_last all below left top frame taken is looked popped).0)
 
--- what holds of the frame that is looked at holds on top
-pub on_top : (P : FrameSeen → Type 0) (all : List FrameSeen) (g : FrameSeen) → (all ≡ [] → ⊥) → g ≡ slice_index_or all (length all - 1) g → P g → OnTop P all
-on_top P all g some looked holds =
-    let l = has_last all some in
-    record { below = l.below; top = l.last; is = l.is; holds = subst P (last_is all l.below l.last g l.is looked) holds }
+-- what holds of the frame that is looked at holds of the last one
+pub of_last : (P : Frame → Type 0) (all below : List Frame) (top frame : Frame) → all ≡ below ++ top ∷ [] → frame ≡ slice_index_or all (length all - 1) frame → P frame → P top
+of_last P all below top frame is looked holds = subst P (last_is all below top frame is looked) holds
 
 -- and so does what holds of the frame that is taken
-pub on_top_taken : (P : FrameSeen → Type 0) (all hs : List FrameSeen) (g h : FrameSeen) → (all ≡ [] → ⊥) → g ≡ slice_index_or all (length all - 1) g → slice_set all (length all - 1) g ≡ hs ++ h ∷ [] → P h → OnTop P all
-on_top_taken P all hs g h some looked taken holds =
-    let l = has_last all some in
-    record { below = l.below; top = l.last; is = l.is; holds = subst P (taken_last all l.below hs l.last g h l.is looked taken).1 holds }
-
--- ---- what a stack leaves, where the next child of its last frame is taken
-
--- the nodes of the child come first
-pub taken_nodes : (old new : List FrameSeen) (v : NodeSeen) → TakesChild old v new → nodes_of_frames old ≡ nodes_of_node v ++ nodes_of_frames new
-taken_nodes old new v takes =
-    let on = takes.first in
-    let first = on.holds in
-    let now = takes.passes on.below on.top on.is ∙ ap (λ line. on.below ++ others_of on.top line) first.child.line in
-    ap nodes_of_frames on.is ∙ frames_push on.below on.top ∙ child_and_others on.top first.step first.rest v on.below new first.child now
-
-pub taken_are_of : (e : ExplorationSeen) (old new : List FrameSeen) (v : NodeSeen) → TakesChild old v new → AreFramesOf e old → IsNodeOf e v × AreFramesOf e new
-taken_are_of e old new v takes all =
-    let on = takes.first in
-    let first = on.holds in
-    let b = popped e old on.below on.top all on.is in
-    (child_is_of e on.top first.step first.rest v first.child b.0, others_are_of e on.top on.top.line on.below new (takes.passes on.below on.top on.is) b.0 b.1)
-
--- some node is left by a stack that is not empty
-pub taken_smaller : (old new : List FrameSeen) (v : NodeSeen) → TakesChild old v new → length (nodes_of_frames new) < length (nodes_of_frames old)
-taken_smaller old new v takes =
-    omega (arith, ap length (taken_nodes old new v takes), length-append (nodes_of_node v) (nodes_of_frames new), node_some v)
+pub of_taken : (P : Frame → Type 0) (all below left : List Frame) (top frame taken : Frame) → all ≡ below ++ top ∷ [] → frame ≡ slice_index_or all (length all - 1) frame → slice_set all (length all - 1) frame ≡ left ++ taken ∷ [] → P taken → P top
+of_taken P all below left top frame taken is looked popped holds = subst P (taken_last all below left top frame taken is looked popped).1 holds

@@ -1,4 +1,3 @@
-pub mod Codes
 pub mod Nodes
 pub mod Frames
-pub mod Leaves
+pub mod Walks

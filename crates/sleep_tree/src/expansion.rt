@@ -1,15 +1,12 @@
 // The expansion of a job.
 ghost use Rattle.std.specs.Prelude.{◌≡◌, ◌≤◌, IfOk, IfErr};
-ghost use Rattle.sleep_jobs.specs.Explorations.{exploration_in, nodes_of_all, program_in};
+ghost use Rattle.sleep_jobs.specs.Explorations.{program_in};
 ghost use Rattle.sleep_jobs.specs.Meanings.{AreOfJob};
-ghost use Rattle.sleep_jobs.specs.Pieces.{AreOf, IsPiece};
-ghost use Rattle.sleep_tree.specs.inside.Frames.{AreFramesOf, nodes_of_frames};
+ghost use Rattle.sleep_jobs.specs.Pieces.{IsPiece};
 ghost use Rattle.world_model.specs.Asking.{program_of};
 
-use crate::frame::{Frame, next_child};
 use crate::gate::Gate;
-use crate::node::Node;
-use crate::visit::{visit, visit_next};
+use crate::walk::Walk;
 use core_tree::Module;
 use findings::Findings;
 use sleep_jobs::{Exploration, Job, JobName, Piece, Ticket};
@@ -22,26 +19,6 @@ struct Done<'m> {
     findings: Findings,
     nodes: u64,
     rest: Vec<Job<'m>>,
-}
-
-/// The jobs of the nodes that a stack leaves, in the order in which the search visits them. `Memory` where there is none.
-fn rest_of<'m>(
-    alloc: Global,
-    exploration: Exploration<'m>,
-    frames: Vec<Frame<'_>>,
-) -> Result<Vec<Job<'m>>, WorldFault>
-    requires { AreFramesOf (exploration_in exploration) frames.items }
-    ensures nodes { IfOk result (λ rest. nodes_of_all (exploration_in exploration.entry) rest.items ≡ nodes_of_frames frames.entry.items) }
-    ensures are_of { IfOk result (λ rest. AreOf (exploration_in exploration.entry) rest.items) }
-{
-    let mut frames = frames;
-    let mut rest = Vec::new(alloc);
-    while !frames.is_empty() {
-        let child = next_child(alloc, &mut frames)?;
-        let job = child.leave(alloc, exploration)?;
-        rest.push(job)?;
-    }
-    Ok(rest)
 }
 
 /// Visits at most so many nodes of a job, depth first, at least one. `Memory` where there is none.
@@ -59,18 +36,17 @@ fn expanded<'m, G: Gate>(
 {
     let exploration = job.exploration();
     let mut findings = Findings::new(alloc);
-    let mut frames = Vec::new(alloc);
     let own = job.own(alloc)?;
-    let first = Node::of_job(alloc, program, &own)?;
+    let mut walk = Walk::new(alloc, program);
     gate.turn(job.number());
-    visit(alloc, exploration.flags, first, &mut findings, &mut frames)?;
+    walk.visit_first(alloc, &own, &mut findings)?;
     let mut nodes = 1;
-    while nodes < budget && !frames.is_empty() {
+    while nodes < budget && !walk.is_over() {
         gate.turn(job.number());
-        visit_next(alloc, exploration.flags, &mut findings, &mut frames)?;
+        walk.visit_next(alloc, exploration.flags, &mut findings)?;
         nodes += 1;
     }
-    let rest = rest_of(alloc, exploration, frames)?;
+    let rest = walk.into_rest(alloc, exploration)?;
     Ok(Done {
         findings,
         nodes,

@@ -1,63 +1,54 @@
 // A node that was visited, and whose children were not all.
-ghost use Rattle.std.specs.Prelude.{◌≡◌, ◌∷◌, ◌++◌, [], true, false, IfOk, OnOk};
-ghost use Rattle.sleep_jobs.specs.Explorations.{ExplorationSeen};
-ghost use Rattle.sleep_tree.specs.inside.Frames.{nodes_of_frames, nodes_of_node, own_node, others_of, AreFramesOf, IsNodeOf, PassesChild, TakesChild, IsFirstOf};
-ghost use Rattle.findings.specs.Identities.{flags_in};
-ghost use Rattle.sleep_tree.specs.inside.Leaves.{AddsLeaf, LivesBelow};
+ghost use Rattle.std.specs.Prelude.{◌≡◌, ◌∷◌, ◌++◌, [], List, true, false, Some, IfOk, OnOk, map, take};
+ghost use Rattle.core_tree.specs.Syntax.{ModuleTree};
+ghost use Rattle.coverage.specs.Jobs.{asleep_below};
+ghost use Rattle.findings.specs.Identities.{identity_in};
+ghost use Rattle.sleep_tree.specs.declared.frame.Frame.{Frame as FrameOf};
+ghost use Rattle.sleep_tree.specs.inside.Nodes.{AddsDeadlock, IsNode};
+ghost use Rattle.sleep_tree.specs.inside.Walks.{GoesOn, IsFrame, IsNextNode, Opens, Passes, node_seen};
+ghost use Rattle.step_agenda.specs.Plans.{ArePlans, steps_in};
+ghost use Rattle.world_model.specs.Asking.{program_of};
+ghost use Rattle.world_model.specs.Events.{Event, History};
+ghost use Rattle.world_model.specs.Run.{next_event};
+ghost use Rattle.world_model.specs.Shown.{shown_last};
 
-use crate::child::Child;
-use crate::node::Node;
+use crate::node::{Node, stepped};
 use crate::sleeping::sleep_below;
-use findings::{Findings, Flags};
-use std::alloc::Global;
-use std::marker::Model;
+use findings::Identity;
+use std::alloc::{AllocError, Global};
 use std::mem::replace;
 use std::rc::Rc;
 use step_agenda::{Agenda, Plan};
-use world_core::{World, WorldFault};
+use term_core::Step;
+use world_core::{enabled_steps, push_deadlock, shown_by_plan};
+use world_records::Records;
 
-/// A node that was visited: its world, the steps that sleep for its next child, the step to that child, the steps to the
-/// children after it, the last one first, how many steps may follow a child, and its agenda.
+/// A node that was visited: its records, how many steps lead to it, the plans of the steps that sleep for its next child,
+/// that of the step to this child, those of the steps to the children after it, the last one first, how many steps may
+/// follow a child, and its agenda.
 #[derive(Drop)]
 pub(crate) struct Frame<'m> {
-    world: World<'m>,
-    slept: Vec<Rc<Plan>>,
-    next: Rc<Plan>,
-    after: Vec<Rc<Plan>>,
-    left: u64,
-    agenda: Agenda,
+    pub(crate) records: Records<'m>,
+    pub(crate) taken: usize,
+    pub(crate) slept: Vec<Rc<Plan>>,
+    pub(crate) next: Rc<Plan>,
+    pub(crate) after: Vec<Rc<Plan>>,
+    pub(crate) left: u64,
+    pub(crate) agenda: Agenda,
 }
 
-impl<'m> Model for Frame<'m> {
-    ghost use Rattle.std.specs.Prelude.{◌∷◌, reverse};
-    ghost use Rattle.sleep_tree.specs.inside.Codes.{coded_frame};
-    ghost use Rattle.sleep_tree.specs.inside.Frames.{FrameSeen, IsFrame};
-    ghost use Rattle.step_agenda.specs.Plans.{ArePlans, IsAgenda, steps_in};
-    ghost use Rattle.world_core.specs.Seen.{program_in};
-
-    ghost Value = { FrameSeen };
-
-    ghost coded = { coded_frame };
-
-    ghost view = { λ f. record { program = f.world.program; history = f.world.history; slept = steps_in f.slept.items; line = steps_in (f.next ∷ reverse f.after.items); left = f.left } };
-
-    ghost invariant = { λ f. IsFrame f.world (steps_in (f.next ∷ reverse f.after.items))
-        × IsAgenda (program_in f.world) f.world.history f.agenda
-        × ArePlans (program_in f.world) f.world.history f.slept.items
-        × ArePlans (program_in f.world) f.world.history (f.next ∷ reverse f.after.items) };
-}
-
-/// Puts the node's frame on the stack, where it has children. `Memory` where there is none.
+/// Puts the frame of a node on the stack, to which so many steps lead, where it has children. `AllocError` if there is no
+/// memory for it.
 pub(crate) fn open<'m>(
     alloc: Global,
     node: Node<'m>,
+    taken: usize,
     frames: &mut Vec<Frame<'m>>,
-) -> Result<(), WorldFault>
-    ensures nodes { OnOk result (nodes_of_node node.entry ++ nodes_of_frames frames.old.items ≡ own_node node.entry ∷ nodes_of_frames frames.new.items) }
-    ensures are_of { OnOk result ((e : ExplorationSeen) → IsNodeOf e node.entry → AreFramesOf e frames.old.items → AreFramesOf e frames.new.items) }
+) -> Result<(), AllocError>
+    ensures { OnOk result ((m : ModuleTree) (h : History) → IsNode m h node.entry → Opens m (node_seen m h node.entry) taken frames.old.items frames.new.items) }
 {
     let Node {
-        world,
+        records,
         slept,
         left,
         agenda,
@@ -70,7 +61,8 @@ pub(crate) fn open<'m>(
         return Ok(());
     };
     frames.push(Frame {
-        world,
+        records,
+        taken,
         slept,
         next,
         after,
@@ -81,10 +73,10 @@ pub(crate) fn open<'m>(
 }
 
 /// Goes on to the child behind the next one of the last frame of a stack, which is not visited; a frame without others is
-/// gone. `Memory` where there is none.
-pub(crate) fn pass_child(frames: &mut Vec<Frame<'_>>) -> Result<(), WorldFault>
+/// gone. `AllocError` if there is no memory for it.
+pub(crate) fn pass_child(frames: &mut Vec<Frame<'_>>) -> Result<(), AllocError>
     requires { frames.old.items ≡ [] → ⊥ }
-    ensures { OnOk result (PassesChild frames.old.items frames.new.items) }
+    ensures { OnOk result ((below : List FrameOf) (top : FrameOf) → frames.old.items ≡ below ++ top ∷ [] → Passes below top frames.new.items) }
 {
     let Some(frame) = frames.last_mut() else {
         unreachable!();
@@ -100,37 +92,15 @@ pub(crate) fn pass_child(frames: &mut Vec<Frame<'_>>) -> Result<(), WorldFault>
     Ok(())
 }
 
-/// The next child of the last frame of a stack, which goes on to the child behind it. The last child takes the world over,
-/// and its frame is gone. `Memory` where there is none.
-pub(crate) fn next_child<'m>(
-    alloc: Global,
-    frames: &mut Vec<Frame<'m>>,
-) -> Result<Child<'m>, WorldFault>
-    requires { frames.old.items ≡ [] → ⊥ }
-    ensures { IfOk result (λ child. TakesChild frames.old.items child frames.new.items) }
-{
-    let Some(frame) = frames.last_mut() else {
-        unreachable!();
-    };
-    if frame.has_others() {
-        let child = frame.fork(alloc)?;
-        return Ok(child);
-    }
-    let Some(frame) = frames.pop() else {
-        unreachable!();
-    };
-    let child = frame.into_child(alloc)?;
-    Ok(child)
-}
-
-/// The node of the next child of the last frame of a stack, which goes on to the child behind it. `Memory` where there is
-/// none.
+/// The node of the next child of the last frame of a stack, which goes on to the child behind it. The last child takes
+/// the records over, and its frame is gone. `AllocError` if there is no memory for it.
 pub(crate) fn descend<'m>(
     alloc: Global,
     frames: &mut Vec<Frame<'m>>,
-) -> Result<Node<'m>, WorldFault>
+) -> Result<Node<'m>, AllocError>
     requires { frames.old.items ≡ [] → ⊥ }
-    ensures { IfOk result (λ node. TakesChild frames.old.items node frames.new.items) }
+    ensures passes { IfOk result (λ _. (below : List FrameOf) (top : FrameOf) → frames.old.items ≡ below ++ top ∷ [] → Passes below top frames.new.items) }
+    ensures node { IfOk result (λ node. (below : List FrameOf) (top : FrameOf) → frames.old.items ≡ below ++ top ∷ [] → (m : ModuleTree) (h : History) → IsFrame m h top → IsNextNode m h top node) }
 {
     let Some(frame) = frames.last_mut() else {
         unreachable!();
@@ -149,17 +119,17 @@ pub(crate) fn descend<'m>(
 impl<'m> Frame<'m> {
     // Whether there are children behind the next one.
     fn has_others(&self) -> bool
-        ensures some { result ≡ true → others_of self.now self.now.line ≡ [] → ⊥ }
-        ensures none { result ≡ false → others_of self.now self.now.line ≡ [] }
+        ensures some { result ≡ true → self.now.after.items ≡ [] → ⊥ }
+        ensures none { result ≡ false → self.now.after.items ≡ [] }
     {
         let others = self.after.len();
         others > 0
     }
 
     // Goes on to the child behind the next one, whose step sleeps from now on.
-    fn go_on(&mut self) -> Result<(), WorldFault>
-        requires { others_of self.old self.old.line ≡ [] → ⊥ }
-        ensures { OnOk result (self.new ∷ [] ≡ others_of self.old self.old.line) }
+    fn go_on(&mut self) -> Result<(), AllocError>
+        requires { self.old.after.items ≡ [] → ⊥ }
+        ensures { OnOk result (GoesOn self.old self.new) }
     {
         let Some(following) = self.after.pop() else {
             unreachable!();
@@ -169,22 +139,21 @@ impl<'m> Frame<'m> {
         Ok(())
     }
 
-    // The node of the next child, with a copy of the world.
-    fn copy_node(&self, alloc: Global) -> Result<Node<'m>, WorldFault>
-        ensures { IfOk result (λ node. IsFirstOf self.now node) }
+    // The node of the next child, with a copy of the records.
+    fn copy_node(&self, alloc: Global) -> Result<Node<'m>, AllocError>
+        ensures { IfOk result (λ node. (m : ModuleTree) (h : History) → IsFrame m h self.now → IsNextNode m h self.now node) }
     {
-        let slept = self.slept.as_slice();
-        let asleep = sleep_below(alloc, slept, &self.next, self.left)?;
-        let world = self.world.copy()?;
-        let node = Node::below(alloc, world, asleep, &self.next, self.left, &self.agenda)?;
+        let asleep = self.asleep(alloc)?;
+        let records = self.records.copy()?;
+        let node = Node::below(alloc, records, asleep, &self.next, self.left, &self.agenda)?;
         Ok(node)
     }
 
     // The node of the next child, and the frame goes on to the child behind it.
-    fn fork_node(&mut self, alloc: Global) -> Result<Node<'m>, WorldFault>
-        requires { others_of self.old self.old.line ≡ [] → ⊥ }
-        ensures node { IfOk result (λ node. IsFirstOf self.old node) }
-        ensures others { IfOk result (λ _. self.new ∷ [] ≡ others_of self.old self.old.line) }
+    fn fork_node(&mut self, alloc: Global) -> Result<Node<'m>, AllocError>
+        requires { self.old.after.items ≡ [] → ⊥ }
+        ensures node { IfOk result (λ node. (m : ModuleTree) (h : History) → IsFrame m h self.old → IsNextNode m h self.old node) }
+        ensures others { IfOk result (λ _. GoesOn self.old self.new) }
     {
         let node = self.copy_node(alloc)?;
         self.go_on()?;
@@ -192,68 +161,32 @@ impl<'m> Frame<'m> {
     }
 
     // The node of the next child, which is the last one.
-    fn into_node(self, alloc: Global) -> Result<Node<'m>, WorldFault>
-        ensures { IfOk result (λ node. IsFirstOf self.entry node) }
+    fn into_node(self, alloc: Global) -> Result<Node<'m>, AllocError>
+        ensures { IfOk result (λ node. (m : ModuleTree) (h : History) → IsFrame m h self.entry → IsNextNode m h self.entry node) }
     {
-        let slept = self.slept.as_slice();
-        let asleep = sleep_below(alloc, slept, &self.next, self.left)?;
+        let asleep = self.asleep(alloc)?;
         let Frame {
-            world,
+            records,
+            taken: _,
             slept: _,
             next,
             after: _,
             left,
             agenda,
         } = self;
-        let node = Node::below(alloc, world, asleep, &next, left, &agenda)?;
+        let node = Node::below(alloc, records, asleep, &next, left, &agenda)?;
         Ok(node)
     }
 
-    // The next child, with a copy of the world.
-    fn copy_child(&self, alloc: Global) -> Result<Child<'m>, WorldFault>
-        ensures { IfOk result (λ child. IsFirstOf self.now child) }
+    /// The plans of the steps that sleep at the next child; at the depth none is asked for. `AllocError` if there is no
+    /// memory for them.
+    pub(crate) fn asleep(&self, alloc: Global) -> Result<Vec<Rc<Plan>>, AllocError>
+        ensures steps { IfOk result (λ asleep. (m : ModuleTree) (h : History) → IsFrame m h self.now → (self.now.left ≡ 0 → ⊥) → steps_in asleep.items ≡ asleep_below (program_of m) h (steps_in self.now.slept.items) self.now.next.value.step) }
+        ensures below { IfOk result (λ asleep. (m : ModuleTree) (h : History) (e : Event) → IsFrame m h self.now → next_event (program_of m) h self.now.next.value.step ≡ Some e → ArePlans (program_of m) (e ∷ h) asleep.items) }
     {
         let slept = self.slept.as_slice();
         let asleep = sleep_below(alloc, slept, &self.next, self.left)?;
-        Ok(Child {
-            above: self.world.copy()?,
-            slept: asleep,
-            plan: self.next.clone()?,
-            left: self.left,
-        })
-    }
-
-    // The next child, and the frame goes on to the one behind it.
-    fn fork(&mut self, alloc: Global) -> Result<Child<'m>, WorldFault>
-        requires { others_of self.old self.old.line ≡ [] → ⊥ }
-        ensures child { IfOk result (λ child. IsFirstOf self.old child) }
-        ensures others { IfOk result (λ _. self.new ∷ [] ≡ others_of self.old self.old.line) }
-    {
-        let child = self.copy_child(alloc)?;
-        self.go_on()?;
-        Ok(child)
-    }
-
-    // The next child, which is the last one.
-    fn into_child(self, alloc: Global) -> Result<Child<'m>, WorldFault>
-        ensures { IfOk result (λ child. IsFirstOf self.entry child) }
-    {
-        let slept = self.slept.as_slice();
-        let asleep = sleep_below(alloc, slept, &self.next, self.left)?;
-        let Frame {
-            world,
-            slept: _,
-            next,
-            after: _,
-            left,
-            agenda: _,
-        } = self;
-        Ok(Child {
-            above: world,
-            slept: asleep,
-            plan: next,
-            left,
-        })
+        Ok(asleep)
     }
 
     /// Whether its next child lies at the depth. It takes no memory.
@@ -263,32 +196,42 @@ impl<'m> Frame<'m> {
         self.left == 0
     }
 
-    /// Whether it is plain without the world of the next child that some step is enabled there. It takes no memory.
-    pub(crate) fn lives_below(&self) -> bool
-        ensures { result ≡ true → LivesBelow self.now }
+    /// Makes a path that of the next child: the steps that lead to this node stand at its front. `AllocError` if there is
+    /// no memory for it.
+    pub(crate) fn follow(&self, path: &mut Vec<Step>) -> Result<(), AllocError>
+        ensures { OnOk result (path.new.items ≡ take self.now.taken path.old.items ++ self.now.next.value.step ∷ []) }
     {
-        self.agenda.lives_below(&self.next)
+        path.truncate(self.taken);
+        path.push(self.next.step.copy()?)?;
+        Ok(())
     }
 
-    /// Adds what the next child shows, where it lies at the depth and some step is enabled there: what its step shows, by
-    /// its plan. No world is made. `Memory` where there is none.
-    pub(crate) fn report_leaf(
+    /// What the last event of the next child shows, by its plan. `AllocError` if there is no memory for it.
+    pub(crate) fn shown_next(&self, alloc: Global) -> Result<Vec<Identity>, AllocError>
+        ensures { IfOk result (λ found. (m : ModuleTree) (h : History) (e : Event) → IsFrame m h self.now → next_event (program_of m) h self.now.next.value.step ≡ Some e → map identity_in found.items ≡ shown_last (e ∷ h)) }
+    {
+        let shown = shown_by_plan(&self.records, alloc, &self.next)?;
+        Ok(shown)
+    }
+
+    /// Puts the deadlock of the next child behind other identities, where no step is enabled there and some process
+    /// lives. No records are made where it is plain that a step is. `AllocError` if there is no memory for it.
+    pub(crate) fn add_deadlock(
         &self,
         alloc: Global,
-        flags: Flags,
-        findings: &mut Findings,
-    ) -> Result<(), WorldFault>
-        requires { LivesBelow self.now }
-        ensures { OnOk result (AddsLeaf (flags_in flags) self.now findings.old findings.new) }
+        shown: &mut Vec<Identity>,
+    ) -> Result<(), AllocError>
+        ensures { OnOk result ((m : ModuleTree) (h : History) (e : Event) → IsFrame m h self.now → next_event (program_of m) h self.now.next.value.step ≡ Some e → AddsDeadlock (program_of m) (e ∷ h) shown.old.items shown.new.items) }
     {
-        let identities = self.world.shown_by(alloc, &self.next)?;
-        let shown = identities.as_slice();
-        if shown.len() == 0 {
+        if self.agenda.lives_below(&self.next) {
             return Ok(());
         }
-        let mut schedule = self.world.schedule(alloc)?;
-        schedule.push(self.next.step.copy()?)?;
-        findings.note(alloc, flags, shown, schedule.as_slice())?;
+        let records = stepped(alloc, self.records.copy()?, &self.next)?;
+        let enabled = enabled_steps(&records, alloc)?;
+        if !enabled.is_empty() {
+            return Ok(());
+        }
+        push_deadlock(&records, alloc, shown)?;
         Ok(())
     }
 }

@@ -1,13 +1,12 @@
 // The tree of schedules with sleep sets: how a job is expanded.
 #![tactic(auto)]
 
-mod child;
 pub mod expansion;
 mod frame;
 pub mod gate;
 mod node;
 mod sleeping;
-mod visit;
+mod walk;
 
 pub use expansion::expand;
 pub use gate::{Gate, Unwatched};

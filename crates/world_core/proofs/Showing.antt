@@ -68,6 +68,11 @@ shows_all m h records last enabled ps told is sorted lives = λ i.
     last_is h (turns_in (processes_of records)) (option_copied last) (λ p. told.processes_are.turns p) (told_copied last ∙ is) i
     ++ same_dead enabled ps (living h) (λ none. living_are h ps (sorted none) (λ p. lives p ∙ told.processes_are.alive p)) i
 
+-- where no step is enabled, all that live are dead-locked
+pub all_dead : (m : ModuleTree) (h : History) (records : Records) (ps : List Pid) → Agrees m records (contents h) → IsStrictlySortedBy order_of_lists ps → ((p : Pid) → list_any (is_at (order_of_lists p)) ps ≡ lives_in (processes_of records) p)
+    → deadlock_of [] ps ≡ deadlock_of [] (living h)
+all_dead m h records ps told sorted lives = ap (deadlock_of []) (living_are h ps sorted (λ p. lives p ∙ told.processes_are.alive p))
+
 -- ---- what a plan shows
 
 refused_counts : (h : History) (p : Pid) (kind : CallKind) (arguments : List Meaning) (refusal : Refusal) → turns (event (Turn p) (Refused kind arguments refusal) ∷ h) p ≡ turns h p + 1

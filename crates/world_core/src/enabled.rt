@@ -64,7 +64,7 @@ fn push_deliveries(
 
 /// The enabled steps of the records of a world, in their order: turns of processes that live and need not wait, and
 /// deliveries of signals to processes that live. `AllocError` if there is no memory for them.
-pub(crate) fn enabled_steps(records: &Records<'_>, alloc: Global) -> Result<Vec<Step>, AllocError>
+pub fn enabled_steps(records: &Records<'_>, alloc: Global) -> Result<Vec<Step>, AllocError>
     ensures { IfOk result (λ steps. (m : ModuleTree) (h : History) → Agrees m records.now (contents h) → steps.items ≡ enabled_steps (program_of m) h) }
 {
     let mut steps = Vec::new(alloc);

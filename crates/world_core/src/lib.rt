@@ -1,13 +1,15 @@
 // The explored world: what its processes, signals and tables are after a schedule, and what happened under it.
 #![tactic(auto)]
 
-mod enabled;
+pub mod enabled;
 mod events;
 pub mod fault;
 pub mod laws;
-mod shows;
+pub mod shows;
 pub mod world;
 
+pub use enabled::enabled_steps;
 pub use fault::WorldFault;
+pub use shows::{push_deadlock, shown_by_plan};
 pub use step_plans::{Deed, Event};
 pub use world::World;

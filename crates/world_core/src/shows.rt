@@ -1,5 +1,5 @@
 // What a world shows: what its last event is, and whether no step is enabled.
-ghost use Rattle.std.specs.Prelude.{◌≡◌, ◌∷◌, ◌+◌, ◌++◌, [], Some, IfOk, OnOk, map, option_copied, option_map};
+ghost use Rattle.std.specs.Prelude.{◌≡◌, ◌∷◌, ◌+◌, ◌++◌, [], None, Some, IfOk, OnOk, map, option_copied, option_map};
 ghost use Rattle.core_tree.specs.Syntax.{ModuleTree};
 ghost use Rattle.findings.specs.Identities.{identity_in};
 ghost use Rattle.proc_links.specs.Effects.{fate_in};
@@ -143,14 +143,17 @@ fn by_plan(records: &Records<'_>, step: &Step, deed: &Deed) -> Result<Option<Ide
     }
 }
 
-/// What the event of a planned step shows where the records are those that it is planned for; nothing where the step is
-/// not enabled. `AllocError` if there is no memory for it.
-pub(crate) fn shown_by_plan(
+/// What the event of a planned step will show, before the step is taken, where the records are those that it is planned
+/// for: the end of a process with another reason than `normal`, a process that made too many applications without a
+/// request, or a refused call of a table, if it is one of these; nothing where the step is not enabled. Of a deadlock behind
+/// it nothing is said. `AllocError` if there is no memory for it.
+pub fn shown_by_plan(
     records: &Records<'_>,
     alloc: Global,
     plan: &Plan,
 ) -> Result<Vec<Identity>, AllocError>
-    ensures { IfOk result (λ found. (m : ModuleTree) (h : History) (e : Happening) → Agrees m records.now (contents h) → IsPlan (program_of m) (contents h) plan.now → next_event (program_of m) h plan.now.step ≡ Some e → map identity_in found.items ≡ shown_last (e ∷ h)) }
+    ensures shown { IfOk result (λ found. (m : ModuleTree) (h : History) (e : Happening) → Agrees m records.now (contents h) → IsPlan (program_of m) (contents h) plan.now → next_event (program_of m) h plan.now.step ≡ Some e → map identity_in found.items ≡ shown_last (e ∷ h)) }
+    ensures none { IfOk result (λ found. (m : ModuleTree) (h : History) → IsPlan (program_of m) (contents h) plan.now → next_event (program_of m) h plan.now.step ≡ None → map identity_in found.items ≡ []) }
 {
     let mut found = Vec::new(alloc);
     let Some(deed) = &plan.deed else {
@@ -220,4 +223,18 @@ pub(crate) fn shown_by_world(
         deadlock(alloc, enabled, records.processes().living())?,
     )?;
     Ok(found)
+}
+
+/// Puts the deadlock of all processes that live behind other identities, where any lives: it is for records of which the
+/// caller knows that no step is enabled. `AllocError` if there is no memory for it.
+pub fn push_deadlock(
+    records: &Records<'_>,
+    alloc: Global,
+    shown: &mut Vec<Identity>,
+) -> Result<(), AllocError>
+    ensures { OnOk result ((m : ModuleTree) (h : History) → Agrees m records.now (contents h) → map identity_in shown.new.items ≡ map identity_in shown.old.items ++ deadlock_of [] (living h)) }
+{
+    let dead = deadlock(alloc, &[], records.processes().living())?;
+    push_if_any(shown, dead)?;
+    Ok(())
 }

@@ -17,7 +17,7 @@ ghost use Rattle.world_model.specs.Events.{Event as Happening};
 use crate::enabled::enabled_steps;
 use crate::events::Events;
 use crate::fault::WorldFault;
-use crate::shows::{shown_by_plan, shown_by_world};
+use crate::shows::shown_by_world;
 use core_tree::Module;
 use findings::Identity;
 use std::alloc::{AllocError, Global};
@@ -270,27 +270,6 @@ impl<'m> World<'m> {
             return Err(WorldFault::Memory);
         }
         let found = shown_by_world(&self.records, alloc, self.events.latest(), enabled)?;
-        Ok(found)
-    }
-
-    /// What the event of a planned step will show, before the step is taken: the end of a process with another reason than
-    /// `normal`, a process that made too many applications without a request, or a refused call of a table, if it is one of
-    /// these. Of a deadlock behind it nothing is said.
-    ///
-    /// # Errors
-    ///
-    /// `Memory` where memory ran out, now or in an earlier step.
-    pub fn shown_by(&self, alloc: Global, plan: &Plan) -> Result<Vec<Identity>, WorldFault>
-        requires plan { IsPlan (program_in self.now) (contents self.now.history) plan.now }
-        ensures shown { IfOk result (λ found. (e : Happening) → next_event (program_in self.now) self.now.history plan.now.step ≡ Some e → map identity_in found.items ≡ shown_last (e ∷ self.now.history)) }
-        ensures memory { IfErr result (λ fault. fault ≡ Memory) }
-        ensures spent { self.now.spent ≡ true → IsErr result }
-    {
-        if self.is_spent {
-            // What a spent world shows is not known.
-            return Err(WorldFault::Memory);
-        }
-        let found = shown_by_plan(&self.records, alloc, plan)?;
         Ok(found)
     }
 

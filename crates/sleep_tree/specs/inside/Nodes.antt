@@ -1,22 +1,33 @@
--- Nodes of the tree, and what a step makes of one.
-use Rattle.std.specs.Prelude.{◌≡◌, ◌∷◌, Option, Some, None, false}
-use Rattle.term_core.specs.declared.step.Step.{Step}
-use Rattle.world_core.specs.Seen.{Seen, program_in}
+-- Nodes of the tree: what their parts hold of a history.
+use Rattle.std.specs.Prelude.{◌≡◌, ◌∷◌, ◌++◌, List, Some, map}
+use Rattle.core_tree.specs.Syntax.{ModuleTree}
+use Rattle.findings.specs.Identities.{identity_in}
+use Rattle.findings.specs.declared.identity.Identity.{Identity}
+use Rattle.step_agenda.specs.Plans.{ArePlans, IsAgenda, IsPlan, IsWorld, Shared}
+use Rattle.step_agenda.specs.declared.agenda.Agenda.{Agenda}
+use Rattle.step_plans.specs.declared.plan.Plan.{Plan}
+use Rattle.world_model.specs.Asking.{program_of}
 use Rattle.world_model.specs.Events.{Event, History}
-use Rattle.world_model.specs.Run.{extended, next_event, run, schedule_of}
+use Rattle.world_model.specs.Requests.{Program}
+use Rattle.world_model.specs.Run.{enabled_steps, living, next_event}
+use Rattle.world_model.specs.Shown.{deadlock_of}
+use Rattle.world_records.specs.declared.records.Records.{Records}
+use Rattle.sleep_tree.specs.declared.node.Node.{Node}
 
--- the live world that a step leads to
-pub record IsAfter (w : Seen) (step : Step) (v : Seen) : Type 0 where
-  pub program : v.program ≡ w.program
-  pub lives : v.spent ≡ false
-  pub history : extended w.history (next_event (program_in w) w.history step) ≡ Some v.history
+-- the records are what the history leaves, the agenda is that of it, and the plans of what sleeps hold
+pub record IsNode (m : ModuleTree) (h : History) (n : Node) : Type 0 where
+  pub world : IsWorld m h n.records
+  pub agenda : IsAgenda (program_of m) h n.agenda
+  pub slept : ArePlans (program_of m) h n.slept.items
 
--- a live world whose events are those of its schedule
-pub record IsNode (w : Seen) : Type 0 where
-  pub lives : w.spent ≡ false
-  pub reached : run (program_in w) (schedule_of w.history) ≡ Some w.history
+-- the records behind the event of a planned step, from those before it
+abbrev pub IsStepped : Records → Plan → Records → Type 0
+IsStepped old p new = (m : ModuleTree) (h : History) (e : Event) → IsWorld m h old → IsPlan (program_of m) h p → next_event (program_of m) h p.step ≡ Some e → IsWorld m (e ∷ h) new
 
--- what has happened after a step that is enabled
-abbrev pub history_below : History → Option Event → History
-history_below h None = h
-history_below h (Some e) = e ∷ h
+-- the node there, where these plans hold there
+abbrev pub IsBelow : Records → Agenda → Plan → List Shared → Node → Type 0
+IsBelow records agenda p slept n = (m : ModuleTree) (h : History) (e : Event) → IsWorld m h records → IsAgenda (program_of m) h agenda → IsPlan (program_of m) h p → next_event (program_of m) h p.step ≡ Some e → ArePlans (program_of m) (e ∷ h) slept → IsNode m (e ∷ h) n
+
+-- the deadlock that is shown after a history, if one is, is put behind others
+abbrev pub AddsDeadlock : Program → History → List Identity → List Identity → Type 0
+AddsDeadlock a h old new = map identity_in new ≡ map identity_in old ++ deadlock_of (enabled_steps a h) (living h)

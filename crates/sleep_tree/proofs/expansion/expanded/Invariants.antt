@@ -1,11 +1,14 @@
-use Rattle.std.proofs.Common.{◌≤◌, ◌-◌}
+use Rattle.std.proofs.Common.{◌≤◌, ◌≡◌, ◌-◌}
 use Rattle.sleep_tree.specs.inside.Frames.{IsExploring}
+use Rattle.sleep_tree.specs.inside.Walks.{IsWalk, frames_in}
 use Rattle.sleep_tree.proofs.expansion.expanded.Given as goal
 
--- the nodes so far were visited, and the stack leaves the others
+-- the nodes so far were visited, and the walk leaves the others
 abbrev pub invariant-loop-nodes : goal.invariant-loop-nodes
 invariant-loop-nodes g l = record {
-  exploring : IsExploring l.job.exploration l.job.name l.findings l.nodes l.frames.items;
+  exploring : IsExploring l.job.exploration l.job.name l.findings l.nodes (frames_in l.walk);
+  walk_is : IsWalk l.walk;
+  program_is : l.walk.program.now ≡ l.program;
   some : 1 ≤ l.nodes;
   within : l.nodes ≤ l.budget;
 }

@@ -1,0 +1,191 @@
+// A walk over the nodes of a job, depth first.
+ghost use Rattle.std.specs.Prelude.{◌≡◌, ◌==◌, ◌<◌, ◌∷◌, ◌++◌, [], List, Some, IfOk, OnOk, length, map};
+ghost use Rattle.core_tree.specs.Syntax.{ModuleTree};
+ghost use Rattle.findings.specs.Identities.{flags_in, identity_in};
+ghost use Rattle.findings.specs.Laws.{AddsSchedule};
+ghost use Rattle.sleep_jobs.specs.Explorations.{exploration_in, nodes_of, nodes_of_all, program_in};
+ghost use Rattle.sleep_jobs.specs.Pieces.{AreOf};
+ghost use Rattle.sleep_tree.specs.declared.frame.Frame.{Frame as FrameOf};
+ghost use Rattle.sleep_tree.specs.inside.Frames.{VisitsNext, nodes_of_frames};
+ghost use Rattle.sleep_tree.specs.inside.Walks.{BeginsWalk, IsFrame, IsWalk, IsWalkOf, VisitsChild, frames_in};
+ghost use Rattle.world_model.specs.Asking.{program_of};
+ghost use Rattle.world_model.specs.Events.{Event, History};
+ghost use Rattle.world_model.specs.Run.{next_event};
+
+use crate::frame::{Frame, descend, open, pass_child};
+use crate::node::Node;
+use crate::sleeping::steps_of;
+use core_tree::Module;
+use findings::{Findings, Flags, Identity, copy_schedule};
+use sleep_jobs::{Exploration, Job, JobName};
+use std::alloc::{AllocError, Global};
+use step_agenda::Agenda;
+use term_core::Step;
+use world_core::WorldFault;
+
+/// A walk over the nodes of a job: the module, the steps that lead to the node that was visited last, and the nodes that
+/// were visited and whose children were not all, the deepest one last. A node's history is the run of the first steps of
+/// the path; no event is kept.
+#[derive(Drop)]
+pub(crate) struct Walk<'m> {
+    pub(crate) program: &'m Module,
+    pub(crate) path: Vec<Step>,
+    pub(crate) frames: Vec<Frame<'m>>,
+}
+
+// Adds what a node shows, to which these steps lead. `AllocError` if there is no memory for it.
+fn note(
+    alloc: Global,
+    flags: Flags,
+    shown: &[Identity],
+    path: &[Step],
+    findings: &mut Findings,
+) -> Result<(), AllocError>
+    ensures { OnOk result (AddsSchedule (flags_in flags) path.now (map identity_in shown.now) findings.old findings.new) }
+{
+    if shown.len() == 0 {
+        return Ok(());
+    }
+    findings.note(alloc, flags, shown, path)?;
+    Ok(())
+}
+
+// Visits the next child of the last frame of a stack, to which so many steps lead: puts its deadlock behind what it shows,
+// and its frame on the stack. At the depth no agenda is made for it. `AllocError` if there is no memory for it.
+fn visit_child(
+    alloc: Global,
+    taken: usize,
+    frames: &mut Vec<Frame<'_>>,
+    shown: &mut Vec<Identity>,
+) -> Result<(), AllocError>
+    requires { frames.old.items ≡ [] → ⊥ }
+    ensures { OnOk result ((below : List FrameOf) (top : FrameOf) → frames.old.items ≡ below ++ top ∷ [] → (m : ModuleTree) (h : History) (e : Event) → IsFrame m h top → next_event (program_of m) h top.next.value.step ≡ Some e → VisitsChild m h e below top taken frames.new.items shown.old.items shown.new.items) }
+{
+    let Some(frame) = frames.last() else {
+        unreachable!();
+    };
+    if frame.leads_to_a_leaf() {
+        frame.add_deadlock(alloc, shown)?;
+        pass_child(frames)?;
+        return Ok(());
+    }
+    let node = descend(alloc, frames)?;
+    node.add_deadlock(alloc, shown)?;
+    open(alloc, node, taken, frames)?;
+    Ok(())
+}
+
+impl<'m> Walk<'m> {
+    /// A walk that has visited no node. It takes no memory.
+    pub(crate) fn new(alloc: Global, program: &'m Module) -> Walk<'m>
+        ensures program { result.program.now ≡ program.now }
+    {
+        Walk {
+            program,
+            path: Vec::new(alloc),
+            frames: Vec::new(alloc),
+        }
+    }
+
+    /// Visits the node of a job, and forgets all others. `Memory` where there is none.
+    pub(crate) fn visit_first(
+        &mut self,
+        alloc: Global,
+        job: &Job<'_>,
+        findings: &mut Findings,
+    ) -> Result<(), WorldFault>
+        requires { program_of self.old.program.now ≡ program_in job.now.exploration }
+        ensures program { self.new.program ≡ self.old.program }
+        ensures begins { OnOk result (BeginsWalk job.now.exploration job.now.name findings.old findings.new self.new) }
+    {
+        let exploration = job.exploration();
+        let name = job.name();
+        let world = job.world(alloc, self.program)?;
+        let records = world.records().copy()?;
+        let agenda = Agenda::of(&records, alloc)?;
+        let slept = agenda.plans_of(alloc, name.slept.as_slice())?;
+        let path = copy_schedule(alloc, name.prefix.as_slice())?;
+        let shown = world.errors_here(alloc)?;
+        note(alloc, exploration.flags, shown.as_slice(), path.as_slice(), findings)?;
+        let left = exploration.depth - path.len() as u64;
+        let node = Node { records, slept, left, agenda };
+        let mut frames = Vec::new(alloc);
+        open(alloc, node, path.len(), &mut frames)?;
+        self.path = path;
+        self.frames = frames;
+        Ok(())
+    }
+
+    /// Whether all nodes of the job were visited. It takes no memory.
+    pub(crate) fn is_over(&self) -> bool
+        ensures { result ≡ (length self.now.frames.items == 0) }
+    {
+        self.frames.is_empty()
+    }
+
+    /// Visits the next node: adds what it shows. `AllocError` if there is no memory for it.
+    pub(crate) fn visit_next(
+        &mut self,
+        alloc: Global,
+        flags: Flags,
+        findings: &mut Findings,
+    ) -> Result<(), AllocError>
+        requires walk { IsWalk self.old }
+        requires more { self.old.frames.items ≡ [] → ⊥ }
+        ensures program { self.new.program ≡ self.old.program }
+        ensures walk { OnOk result (IsWalk self.new) }
+        ensures visits { OnOk result (VisitsNext (flags_in flags) (frames_in self.old) findings.old (frames_in self.new) findings.new) }
+    {
+        let Some(frame) = self.frames.last() else {
+            unreachable!();
+        };
+        let mut shown = frame.shown_next(alloc)?;
+        frame.follow(&mut self.path)?;
+        visit_child(alloc, self.path.len(), &mut self.frames, &mut shown)?;
+        note(alloc, flags, shown.as_slice(), self.path.as_slice(), findings)?;
+        Ok(())
+    }
+
+    // The job of the next node, which is not visited. `AllocError` if there is no memory for it.
+    fn leave_next<'e>(
+        &mut self,
+        alloc: Global,
+        exploration: Exploration<'e>,
+    ) -> Result<Job<'e>, AllocError>
+        requires of { IsWalkOf (exploration_in exploration) self.old }
+        requires more { self.old.frames.items ≡ [] → ⊥ }
+        ensures of { IfOk result (λ _. IsWalkOf (exploration_in exploration.entry) self.new) }
+        ensures exploration { IfOk result (λ job. job.exploration ≡ exploration_in exploration.entry) }
+        ensures nodes { IfOk result (λ job. nodes_of_frames (frames_in self.old) ≡ nodes_of (exploration_in exploration.entry) job.name ++ nodes_of_frames (frames_in self.new)) }
+        ensures fewer { IfOk result (λ _. length (nodes_of_frames (frames_in self.new)) < length (nodes_of_frames (frames_in self.old))) }
+    {
+        let Some(frame) = self.frames.last() else {
+            unreachable!();
+        };
+        frame.follow(&mut self.path)?;
+        let asleep = frame.asleep(alloc)?;
+        let slept = steps_of(alloc, asleep.as_slice())?;
+        pass_child(&mut self.frames)?;
+        let prefix = copy_schedule(alloc, self.path.as_slice())?;
+        Ok(Job::of_node(exploration, JobName { prefix, slept }))
+    }
+
+    /// The jobs of the nodes that were not visited, in the order in which the search visits them. `AllocError` if there is
+    /// no memory for them.
+    pub(crate) fn into_rest<'e>(
+        self,
+        alloc: Global,
+        exploration: Exploration<'e>,
+    ) -> Result<Vec<Job<'e>>, AllocError>
+        requires { IsWalkOf (exploration_in exploration) self }
+        ensures nodes { IfOk result (λ rest. nodes_of_all (exploration_in exploration.entry) rest.items ≡ nodes_of_frames (frames_in self.entry)) }
+        ensures are_of { IfOk result (λ rest. AreOf (exploration_in exploration.entry) rest.items) }
+    {
+        let mut walk = self;
+        let mut rest = Vec::new(alloc);
+        while !walk.is_over() {
+            rest.push(walk.leave_next(alloc, exploration)?)?;
+        }
+        Ok(rest)
+    }
+}
