@@ -22,7 +22,7 @@ use Rattle.sleep_tree.proofs.Pieces.{node_adds}
 use Rattle.sleep_tree.proofs.Visiting.{opened, opened_of, opened_on}
 
 module _ (e : ExplorationSeen) (name : Job) (w : Seen) (m : ModuleTree) (path slept : List Step) (taken left : ℕ) (at : IsAt (seen.program_in e) name.prefix w) (short : length name.prefix ≤ e.depth) (module_is : w.program ≡ m) (path_is : path ≡ name.prefix)
-  (sleeps : slept ≡ filter (is_enabled (program_of m) w.history) name.slept) (count : taken ≡ length path) (left_is : left ≡ e.depth - taken) where
+    (sleeps : slept ≡ filter (is_enabled (program_of m) w.history) name.slept) (count : taken ≡ length path) (left_is : left ≡ e.depth - taken) where
   abbrev first : NodeSeen
   first = record { program = program_of m; history = w.history; slept = slept; left = left }
 

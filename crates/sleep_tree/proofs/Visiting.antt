@@ -55,10 +55,10 @@ module _ (m : ModuleTree) (path : List Step) (child : NodeSeen) (taken : ℕ) (r
   opened_on (inr o) on low =
       let all : o.frame.taken ≡ length path = o.taken_is ∙ count in
       let own : StandsOn m path o.frame = record {
-            within = omega (arith, all);
-            reached = whole_runs m path child.history o.frame.taken all runs;
-            frame = subst (λ h. IsFrame m h o.frame) (sym (history_whole m path child.history o.frame.taken all runs)) o.holds;
-          } in
+        within = omega (arith, all);
+        reached = whole_runs m path child.history o.frame.taken all runs;
+        frame = subst (λ h. IsFrame m h o.frame) (sym (history_whole m path child.history o.frame.taken all runs)) o.holds;
+      } in
       subst (AreOnPath m path) (sym o.is) (record {
         stand = all_append (StandsOn m path) rest (o.frame ∷ []) on.stand (own, tt);
         ascend = ascends_more rest o.frame on.ascend (all_lower rest (length path) o.frame.taken (omega (arith, all)) low);
@@ -93,7 +93,7 @@ module _ (m : ModuleTree) (path : List Step) (below : List Frame) (top : Frame) 
   -- ---- it is visited
 
   module _ (taken : ℕ) (count : taken ≡ length there) (new : List Frame) (before after : List Identity) (child : NodeSeen) (program : child.program ≡ program_of m) (history : child.history ≡ e ∷ history_at m path top.taken)
-    (slept : (top.left ≡ 0 → ⊥) → child.slept ≡ asleep_below (program_of m) (history_at m path top.taken) (steps_in top.slept.items) top.next.value.step) (left : child.left ≡ top.left) (opens : Opens m child taken rest new) where
+      (slept : (top.left ≡ 0 → ⊥) → child.slept ≡ asleep_below (program_of m) (history_at m path top.taken) (steps_in top.slept.items) top.next.value.step) (left : child.left ≡ top.left) (opens : Opens m child taken rest new) where
     is_child : IsChild (seen_on m path top) top.next.value.step (steps_in (reverse top.after.items)) child
     is_child = record {
       line = refl;
@@ -189,8 +189,8 @@ module _ (m : ModuleTree) (path moved : List Step) (fs new : List Frame) (some :
 
   -- it visits the child
   module _ (taken : ℕ) (count : taken ≡ length moved) (before after : List Identity)
-    (told : (h : History) (e : Event) → IsFrame m h frame → next_event (program_of m) h frame.next.value.step ≡ Some e → map identity_in before ≡ shown_last (e ∷ h))
-    (visits : (below : List Frame) (top : Frame) → fs ≡ below ++ top ∷ [] → (k : ModuleTree) (h : History) (e : Event) → IsFrame k h top → next_event (program_of k) h top.next.value.step ≡ Some e → VisitsChild k h e below top taken new before after) where
+      (told : (h : History) (e : Event) → IsFrame m h frame → next_event (program_of m) h frame.next.value.step ≡ Some e → map identity_in before ≡ shown_last (e ∷ h))
+      (visits : (below : List Frame) (top : Frame) → fs ≡ below ++ top ∷ [] → (k : ModuleTree) (h : History) (e : Event) → IsFrame k h top → next_event (program_of k) h top.next.value.step ≡ Some e → VisitsChild k h e below top taken new before after) where
     child : VisitsChild m after_last next_step.0 last.below last.last taken new before after
     child = visits last.below last.last last.is m after_last next_step.0 stands.frame next_step.1
 
@@ -213,7 +213,7 @@ module _ (m : ModuleTree) (path moved : List Step) (fs new : List Frame) (some :
 
   -- it leaves the child to a job
   module _ (passes : (below : List Frame) (top : Frame) → fs ≡ below ++ top ∷ [] → Passes below top new) (ex : ExplorationSeen) (program : program_of m ≡ program_in ex) (frames : AreFramesOf ex (all_seen_on m path fs)) (asleep : List Step)
-    (sleeps : (h : History) → IsFrame m h frame → (frame.left ≡ 0 → ⊥) → asleep ≡ asleep_below (program_of m) h (steps_in frame.slept.items) frame.next.value.step) where
+      (sleeps : (h : History) → IsFrame m h frame → (frame.left ≡ 0 → ⊥) → asleep ≡ asleep_below (program_of m) h (steps_in frame.slept.items) frame.next.value.step) where
     own_passes : Passes last.below last.last new
     own_passes = passes last.below last.last last.is
 

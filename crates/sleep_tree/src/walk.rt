@@ -106,9 +106,20 @@ impl<'m> Walk<'m> {
         let slept = agenda.plans_of(alloc, name.slept.as_slice())?;
         let path = copy_schedule(alloc, name.prefix.as_slice())?;
         let shown = world.errors_here(alloc)?;
-        note(alloc, exploration.flags, shown.as_slice(), path.as_slice(), findings)?;
+        note(
+            alloc,
+            exploration.flags,
+            shown.as_slice(),
+            path.as_slice(),
+            findings,
+        )?;
         let left = exploration.depth - path.len() as u64;
-        let node = Node { records, slept, left, agenda };
+        let node = Node {
+            records,
+            slept,
+            left,
+            agenda,
+        };
         let mut frames = Vec::new(alloc);
         open(alloc, node, path.len(), &mut frames)?;
         self.path = path;
@@ -142,7 +153,13 @@ impl<'m> Walk<'m> {
         let mut shown = frame.shown_next(alloc)?;
         frame.follow(&mut self.path)?;
         visit_child(alloc, self.path.len(), &mut self.frames, &mut shown)?;
-        note(alloc, flags, shown.as_slice(), self.path.as_slice(), findings)?;
+        note(
+            alloc,
+            flags,
+            shown.as_slice(),
+            self.path.as_slice(),
+            findings,
+        )?;
         Ok(())
     }
 

@@ -13,7 +13,6 @@ use term_core::Step;
 
 /// What a step would do: its deed, or none where it is not enabled; the cells that it reads; and what it changes. Beside
 /// them stand the masks of the cells that it reads and writes, which tell most plans apart without a look at the cells.
-#[derive(Drop)]
 pub struct Plan {
     /// The step.
     pub step: Step,
@@ -25,6 +24,19 @@ pub struct Plan {
     pub(crate) write_mask: u64,
     ghost reads_covered: { Covers read_mask (cells_in planned.reads.items) },
     ghost writes_covered: { Covers write_mask (written_by step (option_map deed_in deed) (all_changes_in planned.changes.items)) },
+}
+
+// Dropped by a call, so that no crate above proves again how.
+impl Drop for Plan {
+    fn drop(self) {
+        let Plan {
+            step: _,
+            deed: _,
+            planned: _,
+            read_mask: _,
+            write_mask: _,
+        } = self;
+    }
 }
 
 impl Plan {
