@@ -1,0 +1,2 @@
+pub mod DottedTexts
+pub mod Marks

@@ -1,0 +1,505 @@
+-- What each mark does to what is open.
+use Rattle.std.proofs.Common.{◌≡◌, ◌≢◌, ◌==◌, ◌||◌, ◌⊎◌, inl, inr, ℕ, zero, suc, ◌+◌, ◌≤◌, ◌<◌, ◌^◌, true, false, List, [], ◌∷◌, ◌++◌, length, get_or, ap, ap₂, sym, refl, ◌∙◌, subst, arith, append_assoc, append-nil, Result, Ok, Err, ℤ, pos, negsuc, length-append}
+use Rattle.std.proofs.lemmas.Bool.Decides.{nat_tests}
+use Rattle.std.proofs.lemmas.Fmt.{decimal_nonempty}
+use Rattle.std.specs.Fmt.{decimal, signed_decimal}
+use Rattle.std.specs.List.{AllByRecursion}
+use Rattle.term_core.proofs.NumberTexts.{IsDigit, all_digits-decimal}
+use Rattle.term_core.specs.Integers.{has_64_bits}
+use Rattle.term_core.specs.Meaning.{Meaning, Meanings, Int, Atom, Ref, Pid, Tuple, Nil, Cons, NoMore, Also, meanings_of, node_count, node_counts}
+use Rattle.term_core.specs.Term.{list_onto}
+use Rattle.term_core.specs.TermText.{text_of_term, text_of_tail, text_of_tuple, text_of_others}
+use Rattle.term_reader.specs.Lawful.{IsLawful, AreLawful, MayRefuse, IsPlace}
+use Rattle.term_reader.specs.inside.Leaves.{Ends, IsLeaf, Reads, NoLeaf}
+use Rattle.term_reader.specs.inside.Marks.{Opened, InTuple, InList, InTail, opened_in, open_in, parts_onto, Continues, AtEnd, AmongParts, AmongHeads, AsTail, Begins, IsSame, Means, rest_of, GoesOn, Refuses, Follows, IsTooMuch, GoesIn}
+use Rattle.term_reader.specs.declared.brackets.Open.{Open}
+use Rattle.term_reader.specs.declared.brackets.State.{State}
+use Rattle.term_reader.specs.declared.fault.TermFault.{TermFault}
+use Rattle.term_reader.specs.declared.fault.TermFault.TheVariants.{BadTerm, TooDeep, Memory}
+
+-- the lawful terms whose text this is
+abbrev pub HasText : List ℕ → Meaning → Type 0
+HasText text m = IsLawful m × (text ≡ text_of_term m)
+
+-- what reading keeps: the whole can be the terms whose text this is
+pub record Holds (text : List ℕ) (state : State) : Type 0 where
+  pub same : IsSame (HasText text) (Means state)
+  pub within : length (rest_of state) ≤ length text
+
+pub same_then : (P Q R : Meaning → Type 0) → IsSame P Q → IsSame Q R → IsSame P R
+same_then P Q R a b = record { to = λ m p. b.to m (a.to m p); from = λ m r. a.from m (b.from m r) }
+
+-- FIRST BYTES
+
+-- two texts that begin with different bytes
+pub clash : (a b : ℕ) (r s : List ℕ) → a ≢ b → a ∷ r ≡ b ∷ s → ⊥
+clash a b r s other e = other (ap (λ bs. get_or bs 0 0) e)
+
+digit_first : (ds : List ℕ) → AllByRecursion IsDigit ds → 0 < length ds → get_or ds 0 0 ≤ 57
+digit_first [] all some = absurd (omega arith)
+digit_first (d ∷ ds) all some = all.0.1
+
+bits_below : (n : ℕ) → has_64_bits (pos n) ≡ true → n < 2 ^ 63
+bits_below n h = grind (arith, nat_tests)
+
+bits_below_negative : (n : ℕ) → has_64_bits (negsuc n) ≡ true → n < 2 ^ 63
+bits_below_negative n h = grind (arith, nat_tests)
+
+-- an integer begins with a digit or a sign
+integer_first : (n : ℤ) → has_64_bits n ≡ true → (0 < length (signed_decimal n)) × (get_or (signed_decimal n) 0 0 ≤ 57)
+integer_first (pos n) h =
+    let low : n < 2 ^ 64 = omega (arith, bits_below n h) in
+    (decimal_nonempty n low, digit_first (decimal n) (all_digits-decimal n low) (decimal_nonempty n low))
+integer_first (negsuc n) h = (omega arith, omega arith)
+
+begins_low : (ds behind r : List ℕ) (a : ℕ) → 0 < length ds → get_or ds 0 0 ≤ 57 → 57 < a → a ∷ r ≡ ds ++ behind → ⊥
+begins_low [] behind r a some low high e = omega arith
+begins_low (d ∷ ds) behind r a some low high e = omega (arith, low, ap (λ bs. get_or bs 0 0) e)
+
+no_integer : (n : ℤ) (behind r : List ℕ) (a : ℕ) → has_64_bits n ≡ true → 57 < a → a ∷ r ≡ signed_decimal n ++ behind → ⊥
+no_integer n behind r a h high e = let f = integer_first n h in begins_low (signed_decimal n) behind r a f.0 f.1 high e
+
+-- no term begins with a byte above `P` that is neither a bracket nor a brace that opens
+pub never_first : (x : Meaning) (a : ℕ) (r behind : List ℕ) → IsLawful x → 80 < a → a ≢ 91 → a ≢ 123 → a ∷ r ≡ text_of_term x ++ behind → ⊥
+never_first (Int n) a r behind l high h k e = no_integer n behind r a l (omega arith) e
+never_first (Atom t) a r behind l high h k e = omega (arith, ap (λ bs. get_or bs 0 0) e)
+never_first (Ref p n) a r behind l high h k e = omega (arith, ap (λ bs. get_or bs 0 0) e)
+never_first (Pid p) a r behind l high h k e = omega (arith, ap (λ bs. get_or bs 0 0) e)
+never_first (Tuple NoMore) a r behind l high h k e = k (ap (λ bs. get_or bs 0 0) e)
+never_first (Tuple (Also m ms)) a r behind l high h k e = k (ap (λ bs. get_or bs 0 0) e)
+never_first Nil a r behind l high h k e = h (ap (λ bs. get_or bs 0 0) e)
+never_first (Cons m n) a r behind l high h k e = h (ap (λ bs. get_or bs 0 0) e)
+
+-- a term that begins with a brace is a tuple
+tuple_first : (x : Meaning) (r behind : List ℕ) → IsLawful x → 123 ∷ r ≡ text_of_term x ++ behind → (parts : Meanings) × (x ≡ Tuple parts)
+tuple_first (Int n) r behind l e = absurd (no_integer n behind r 123 l (omega arith) e)
+tuple_first (Atom t) r behind l e = absurd (omega (arith, ap (λ bs. get_or bs 0 0) e))
+tuple_first (Ref p n) r behind l e = absurd (omega (arith, ap (λ bs. get_or bs 0 0) e))
+tuple_first (Pid p) r behind l e = absurd (omega (arith, ap (λ bs. get_or bs 0 0) e))
+tuple_first (Tuple parts) r behind l e = (parts, refl)
+tuple_first Nil r behind l e = absurd (omega (arith, ap (λ bs. get_or bs 0 0) e))
+tuple_first (Cons m n) r behind l e = absurd (omega (arith, ap (λ bs. get_or bs 0 0) e))
+
+-- neither nil nor a cell
+abbrev pub IsLast : Meaning → Type 0
+IsLast Nil = ⊥
+IsLast (Cons m n) = ⊥
+IsLast (Int n) = Unit {0}
+IsLast (Atom t) = Unit {0}
+IsLast (Ref p n) = Unit {0}
+IsLast (Pid p) = Unit {0}
+IsLast (Tuple parts) = Unit {0}
+
+-- a term that begins with a bracket is a list
+list_first : (x : Meaning) (r behind : List ℕ) → IsLawful x → 91 ∷ r ≡ text_of_term x ++ behind → IsLast x → ⊥
+list_first (Int n) r behind l e k = no_integer n behind r 91 l (omega arith) e
+list_first (Atom t) r behind l e k = omega (arith, ap (λ bs. get_or bs 0 0) e)
+list_first (Ref p n) r behind l e k = omega (arith, ap (λ bs. get_or bs 0 0) e)
+list_first (Pid p) r behind l e k = omega (arith, ap (λ bs. get_or bs 0 0) e)
+list_first (Tuple NoMore) r behind l e k = omega (arith, ap (λ bs. get_or bs 0 0) e)
+list_first (Tuple (Also m ms)) r behind l e k = omega (arith, ap (λ bs. get_or bs 0 0) e)
+list_first Nil r behind l e k = k
+list_first (Cons m n) r behind l e k = k
+
+-- and one that does not is none
+last_first : (x : Meaning) (r behind : List ℕ) → get_or r 0 0 ≢ 91 → r ≡ text_of_term x ++ behind → IsLast x
+last_first (Int n) r behind other e = tt
+last_first (Atom t) r behind other e = tt
+last_first (Ref p n) r behind other e = tt
+last_first (Pid p) r behind other e = tt
+last_first (Tuple parts) r behind other e = tt
+last_first Nil r behind other e = absurd (other (ap (λ bs. get_or bs 0 0) e))
+last_first (Cons m n) r behind other e = absurd (other (ap (λ bs. get_or bs 0 0) e))
+
+-- a term that begins neither with a bracket nor with a brace is a leaf
+leaf_first : (x : Meaning) (r behind : List ℕ) → get_or r 0 0 ≢ 123 → get_or r 0 0 ≢ 91 → r ≡ text_of_term x ++ behind → IsLeaf x
+leaf_first (Int n) r behind h k e = tt
+leaf_first (Atom t) r behind h k e = tt
+leaf_first (Ref p n) r behind h k e = tt
+leaf_first (Pid p) r behind h k e = tt
+leaf_first (Tuple NoMore) r behind h k e = absurd (h (ap (λ bs. get_or bs 0 0) e))
+leaf_first (Tuple (Also m ms)) r behind h k e = absurd (h (ap (λ bs. get_or bs 0 0) e))
+leaf_first Nil r behind h k e = absurd (k (ap (λ bs. get_or bs 0 0) e))
+leaf_first (Cons m n) r behind h k e = absurd (k (ap (λ bs. get_or bs 0 0) e))
+
+-- WHAT STANDS BEHIND A TERM
+
+others_ends : (ms : Meanings) (behind : List ℕ) → Ends (text_of_others ms ++ behind)
+others_ends NoMore behind = refl
+others_ends (Also m ms) behind = refl
+
+tail_ends : (t : Meaning) (behind : List ℕ) → Ends (text_of_tail t ++ behind)
+tail_ends (Int n) behind = refl
+tail_ends (Atom t) behind = refl
+tail_ends (Ref p n) behind = refl
+tail_ends (Pid p) behind = refl
+tail_ends (Tuple parts) behind = refl
+tail_ends Nil behind = refl
+tail_ends (Cons m n) behind = refl
+
+-- behind a term there is nothing or a mark
+ends_of : {outer : List Opened} {x : Meaning} {rest : List ℕ} {m : Meaning} → Continues outer x rest m → Ends rest
+ends_of (AtEnd w e) = subst Ends (sym e) tt
+ends_of (AmongParts o b l e n) = subst Ends (sym e) (others_ends o b)
+ends_of (AmongHeads t b l e n) = subst Ends (sym e) (tail_ends t b)
+ends_of (AsTail b e n) = subst Ends (sym e) refl
+
+-- in a tuple or a list there is something
+pub no_end : (o : Opened) (outer : List Opened) (x m : Meaning) → Continues (o ∷ outer) x [] m → ⊥
+no_end (InTuple ps) outer x m (AmongParts NoMore b l e n) = cc
+no_end (InTuple ps) outer x m (AmongParts (Also f o) b l e n) = cc
+no_end (InList hs) outer x m (AmongHeads (Int n) b l e k) = cc
+no_end (InList hs) outer x m (AmongHeads (Atom t) b l e k) = cc
+no_end (InList hs) outer x m (AmongHeads (Ref p n) b l e k) = cc
+no_end (InList hs) outer x m (AmongHeads (Pid p) b l e k) = cc
+no_end (InList hs) outer x m (AmongHeads (Tuple parts) b l e k) = cc
+no_end (InList hs) outer x m (AmongHeads Nil b l e k) = cc
+no_end (InList hs) outer x m (AmongHeads (Cons h t) b l e k) = cc
+no_end (InTail hs h) outer x m (AsTail b e n) = cc
+
+moved : (outer : List Opened) (x m : Meaning) (r s : List ℕ) → r ≡ s → Continues outer x s m → Continues outer x r m
+moved outer x m r s e k = subst (λ (w : List ℕ). Continues outer x w m) (sym e) k
+
+renamed : (outer : List Opened) (x y m : Meaning) (r : List ℕ) → x ≡ y → Continues outer x r m → Continues outer y r m
+renamed outer x y m r e k = subst (λ (w : Meaning). Continues outer w r m) e k
+
+-- TUPLES
+
+opens_tuple : (outer : List Opened) (r behind : List ℕ) (m : Meaning) (parts : Meanings) → get_or r 0 0 ≢ 125 → AreLawful parts → 123 ∷ r ≡ text_of_tuple parts ++ behind → Continues outer (Tuple parts) behind m → Begins (InTuple [] ∷ outer) r m
+opens_tuple outer r behind m NoMore other l e k = let same : r ≡ 125 ∷ behind = cc in absurd (other (ap (λ bs. get_or bs 0 0) same))
+opens_tuple outer r behind m (Also f o) other l e k =
+    let same : r ≡ (text_of_term f ++ text_of_others o) ++ behind = cc in
+    record { term = f; behind = text_of_others o ++ behind; lawful = l.0; text = same ∙ append_assoc (text_of_term f) (text_of_others o) behind; next = AmongParts o behind l.1 refl k }
+
+goes_into_tuple : (outer : List Opened) (r : List ℕ) (m : Meaning) → get_or r 0 0 ≢ 125 → (x : Meaning) (behind : List ℕ) → IsLawful x → 123 ∷ r ≡ text_of_term x ++ behind → Continues outer x behind m → Begins (InTuple [] ∷ outer) r m
+goes_into_tuple outer r m other (Int n) behind l e k = absurd (no_integer n behind r 123 l (omega arith) e)
+goes_into_tuple outer r m other (Atom t) behind l e k = absurd (omega (arith, ap (λ bs. get_or bs 0 0) e))
+goes_into_tuple outer r m other (Ref p n) behind l e k = absurd (omega (arith, ap (λ bs. get_or bs 0 0) e))
+goes_into_tuple outer r m other (Pid p) behind l e k = absurd (omega (arith, ap (λ bs. get_or bs 0 0) e))
+goes_into_tuple outer r m other (Tuple parts) behind l e k = opens_tuple outer r behind m parts other l e k
+goes_into_tuple outer r m other Nil behind l e k = absurd (omega (arith, ap (λ bs. get_or bs 0 0) e))
+goes_into_tuple outer r m other (Cons a b) behind l e k = absurd (omega (arith, ap (λ bs. get_or bs 0 0) e))
+
+goes_out_of_tuple : (outer : List Opened) (r : List ℕ) (m x : Meaning) (behind : List ℕ) → IsLawful x → r ≡ text_of_term x ++ behind → Continues (InTuple [] ∷ outer) x behind m → Begins outer (123 ∷ r) m
+goes_out_of_tuple outer r m x behind l e (AmongParts o b lo f k) =
+    record { term = Tuple (Also x o); behind = b; lawful = (l, lo); text = ap (λ w. 123 ∷ w) (e ∙ ap (λ w. text_of_term x ++ w) f ∙ sym (append_assoc (text_of_term x) (text_of_others o) b)); next = k }
+
+-- an opening brace, where the tuple has parts
+pub into_tuple : (outer : List Opened) (r : List ℕ) → get_or r 0 0 ≢ 125 → IsSame (Begins outer (123 ∷ r)) (Begins (InTuple [] ∷ outer) r)
+into_tuple outer r other = record {
+  to = λ m p. goes_into_tuple outer r m other p.term p.behind p.lawful p.text p.next;
+  from = λ m p. goes_out_of_tuple outer r m p.term p.behind p.lawful p.text p.next;
+}
+
+empty_tuple_to : (outer : List Opened) (r : List ℕ) (m : Meaning) (x : Meaning) (behind : List ℕ) → IsLawful x → 123 ∷ 125 ∷ r ≡ text_of_term x ++ behind → Continues outer x behind m → Continues outer (Tuple NoMore) r m
+empty_tuple_to outer r m (Int n) behind l e k = absurd (no_integer n behind (125 ∷ r) 123 l (omega arith) e)
+empty_tuple_to outer r m (Atom t) behind l e k = absurd (omega (arith, ap (λ bs. get_or bs 0 0) e))
+empty_tuple_to outer r m (Ref p n) behind l e k = absurd (omega (arith, ap (λ bs. get_or bs 0 0) e))
+empty_tuple_to outer r m (Pid p) behind l e k = absurd (omega (arith, ap (λ bs. get_or bs 0 0) e))
+empty_tuple_to outer r m (Tuple NoMore) behind l e k = moved outer (Tuple NoMore) m r behind (cc) k
+empty_tuple_to outer r m (Tuple (Also f o)) behind l e k =
+    let same : 125 ∷ r ≡ (text_of_term f ++ text_of_others o) ++ behind = cc in
+    absurd (never_first f 125 r (text_of_others o ++ behind) l.0 (omega arith) (omega arith) (omega arith) (same ∙ append_assoc (text_of_term f) (text_of_others o) behind))
+empty_tuple_to outer r m Nil behind l e k = absurd (omega (arith, ap (λ bs. get_or bs 0 0) e))
+empty_tuple_to outer r m (Cons a b) behind l e k = absurd (omega (arith, ap (λ bs. get_or bs 0 0) e))
+
+-- a tuple without parts
+pub empty_tuple : (outer : List Opened) (r : List ℕ) → IsSame (Begins outer (123 ∷ 125 ∷ r)) (Continues outer (Tuple NoMore) r)
+empty_tuple outer r = record {
+  to = λ m p. empty_tuple_to outer r m p.term p.behind p.lawful p.text p.next;
+  from = λ m k. record { term = Tuple NoMore; behind = r; lawful = tt; text = refl; next = k };
+}
+
+parts_onto-append : (ps : List Meaning) (x : Meaning) (ms : Meanings) → parts_onto (ps ++ x ∷ []) ms ≡ parts_onto ps (Also x ms)
+parts_onto-append [] x ms = refl
+parts_onto-append (p ∷ ps) x ms = ap (λ w. Also p w) (parts_onto-append ps x ms)
+
+parts_onto-none : (ps : List Meaning) (x : Meaning) → parts_onto ps (Also x NoMore) ≡ meanings_of (ps ++ x ∷ [])
+parts_onto-none [] x = refl
+parts_onto-none (p ∷ ps) x = ap (λ w. Also p w) (parts_onto-none ps x)
+
+comma_in_tuple_to : (ps : List Meaning) (outer : List Opened) (x : Meaning) (r : List ℕ) (m : Meaning) → Continues (InTuple ps ∷ outer) x (44 ∷ r) m → Begins (InTuple (ps ++ x ∷ []) ∷ outer) r m
+comma_in_tuple_to ps outer x r m (AmongParts NoMore b l e k) = absurd (omega (arith, ap (λ bs. get_or bs 0 0) e))
+comma_in_tuple_to ps outer x r m (AmongParts (Also f o) b l e k) =
+    let same : r ≡ (text_of_term f ++ text_of_others o) ++ b = cc in
+    record {
+      term = f; behind = text_of_others o ++ b; lawful = l.0;
+      text = same ∙ append_assoc (text_of_term f) (text_of_others o) b;
+      next = AmongParts o b l.1 refl (renamed outer _ _ m b (ap Tuple (sym (parts_onto-append ps x (Also f o)))) k);
+    }
+
+comma_in_tuple_from : (ps : List Meaning) (outer : List Opened) (x : Meaning) (r : List ℕ) (m f : Meaning) (behind : List ℕ) → IsLawful f → r ≡ text_of_term f ++ behind → Continues (InTuple (ps ++ x ∷ []) ∷ outer) f behind m → Continues (InTuple ps ∷ outer) x (44 ∷ r) m
+comma_in_tuple_from ps outer x r m f behind l e (AmongParts o b lo g k) =
+    AmongParts (Also f o) b (l, lo) (ap (λ w. 44 ∷ w) (e ∙ ap (λ w. text_of_term f ++ w) g ∙ sym (append_assoc (text_of_term f) (text_of_others o) b)))
+      (renamed outer _ _ m b (ap Tuple (parts_onto-append ps x (Also f o))) k)
+
+-- a comma behind a part
+pub comma_in_tuple : (ps : List Meaning) (outer : List Opened) (x : Meaning) (r : List ℕ) → IsSame (Continues (InTuple ps ∷ outer) x (44 ∷ r)) (Begins (InTuple (ps ++ x ∷ []) ∷ outer) r)
+comma_in_tuple ps outer x r = record {
+  to = λ m k. comma_in_tuple_to ps outer x r m k;
+  from = λ m p. comma_in_tuple_from ps outer x r m p.term p.behind p.lawful p.text p.next;
+}
+
+tuple_ends_to : (ps : List Meaning) (outer : List Opened) (x : Meaning) (r : List ℕ) (m : Meaning) → Continues (InTuple ps ∷ outer) x (125 ∷ r) m → Continues outer (Tuple (meanings_of (ps ++ x ∷ []))) r m
+tuple_ends_to ps outer x r m (AmongParts NoMore b l e k) = moved outer _ m r b (cc) (renamed outer _ _ m b (ap Tuple (parts_onto-none ps x)) k)
+tuple_ends_to ps outer x r m (AmongParts (Also f o) b l e k) = absurd (omega (arith, ap (λ bs. get_or bs 0 0) e))
+
+-- a closing brace behind a part
+pub tuple_ends : (ps : List Meaning) (outer : List Opened) (x : Meaning) (r : List ℕ) → IsSame (Continues (InTuple ps ∷ outer) x (125 ∷ r)) (Continues outer (Tuple (meanings_of (ps ++ x ∷ []))) r)
+tuple_ends ps outer x r = record {
+  to = λ m k. tuple_ends_to ps outer x r m k;
+  from = λ m k. AmongParts NoMore r tt refl (renamed outer _ _ m r (ap Tuple (sym (parts_onto-none ps x))) k);
+}
+
+-- no other mark stands behind a part
+pub no_mark_in_tuple : (ps : List Meaning) (outer : List Opened) (x : Meaning) (a : ℕ) (r : List ℕ) → a ≢ 44 → a ≢ 125 → (m : Meaning) → Continues (InTuple ps ∷ outer) x (a ∷ r) m → ⊥
+no_mark_in_tuple ps outer x a r h k m (AmongParts NoMore b l e n) = k (ap (λ bs. get_or bs 0 0) e)
+no_mark_in_tuple ps outer x a r h k m (AmongParts (Also f o) b l e n) = h (ap (λ bs. get_or bs 0 0) e)
+
+-- LISTS
+
+list_onto-append : (hs : List Meaning) (x t : Meaning) → list_onto (hs ++ x ∷ []) t ≡ list_onto hs (Cons x t)
+list_onto-append [] x t = refl
+list_onto-append (h ∷ hs) x t = ap (λ w. Cons h w) (list_onto-append hs x t)
+
+goes_into_list : (outer : List Opened) (r : List ℕ) (m : Meaning) → get_or r 0 0 ≢ 93 → (x : Meaning) (behind : List ℕ) → IsLawful x → 91 ∷ r ≡ text_of_term x ++ behind → Continues outer x behind m → Begins (InList [] ∷ outer) r m
+goes_into_list outer r m other (Int n) behind l e k = absurd (list_first (Int n) r behind l e tt)
+goes_into_list outer r m other (Atom t) behind l e k = absurd (list_first (Atom t) r behind l e tt)
+goes_into_list outer r m other (Ref p n) behind l e k = absurd (list_first (Ref p n) r behind l e tt)
+goes_into_list outer r m other (Pid p) behind l e k = absurd (list_first (Pid p) r behind l e tt)
+goes_into_list outer r m other (Tuple parts) behind l e k = absurd (list_first (Tuple parts) r behind l e tt)
+goes_into_list outer r m other Nil behind l e k = let same : r ≡ 93 ∷ behind = cc in absurd (other (ap (λ bs. get_or bs 0 0) same))
+goes_into_list outer r m other (Cons h t) behind l e k =
+    let same : r ≡ (text_of_term h ++ text_of_tail t) ++ behind = cc in
+    record { term = h; behind = text_of_tail t ++ behind; lawful = l.0; text = same ∙ append_assoc (text_of_term h) (text_of_tail t) behind; next = AmongHeads t behind l.1 refl k }
+
+goes_out_of_list : (outer : List Opened) (r : List ℕ) (m x : Meaning) (behind : List ℕ) → IsLawful x → r ≡ text_of_term x ++ behind → Continues (InList [] ∷ outer) x behind m → Begins outer (91 ∷ r) m
+goes_out_of_list outer r m x behind l e (AmongHeads t b lt f k) =
+    record { term = Cons x t; behind = b; lawful = (l, lt); text = ap (λ w. 91 ∷ w) (e ∙ ap (λ w. text_of_term x ++ w) f ∙ sym (append_assoc (text_of_term x) (text_of_tail t) b)); next = k }
+
+-- an opening bracket, where the list has heads
+pub into_list : (outer : List Opened) (r : List ℕ) → get_or r 0 0 ≢ 93 → IsSame (Begins outer (91 ∷ r)) (Begins (InList [] ∷ outer) r)
+into_list outer r other = record {
+  to = λ m p. goes_into_list outer r m other p.term p.behind p.lawful p.text p.next;
+  from = λ m p. goes_out_of_list outer r m p.term p.behind p.lawful p.text p.next;
+}
+
+nil_to : (outer : List Opened) (r : List ℕ) (m : Meaning) (x : Meaning) (behind : List ℕ) → IsLawful x → 91 ∷ 93 ∷ r ≡ text_of_term x ++ behind → Continues outer x behind m → Continues outer Nil r m
+nil_to outer r m (Int n) behind l e k = absurd (list_first (Int n) (93 ∷ r) behind l e tt)
+nil_to outer r m (Atom t) behind l e k = absurd (list_first (Atom t) (93 ∷ r) behind l e tt)
+nil_to outer r m (Ref p n) behind l e k = absurd (list_first (Ref p n) (93 ∷ r) behind l e tt)
+nil_to outer r m (Pid p) behind l e k = absurd (list_first (Pid p) (93 ∷ r) behind l e tt)
+nil_to outer r m (Tuple parts) behind l e k = absurd (list_first (Tuple parts) (93 ∷ r) behind l e tt)
+nil_to outer r m Nil behind l e k = moved outer Nil m r behind (cc) k
+nil_to outer r m (Cons h t) behind l e k =
+    let same : 93 ∷ r ≡ (text_of_term h ++ text_of_tail t) ++ behind = cc in
+    absurd (never_first h 93 r (text_of_tail t ++ behind) l.0 (omega arith) (omega arith) (omega arith) (same ∙ append_assoc (text_of_term h) (text_of_tail t) behind))
+
+-- nil
+pub nil_begins : (outer : List Opened) (r : List ℕ) → IsSame (Begins outer (91 ∷ 93 ∷ r)) (Continues outer Nil r)
+nil_begins outer r = record {
+  to = λ m p. nil_to outer r m p.term p.behind p.lawful p.text p.next;
+  from = λ m k. record { term = Nil; behind = r; lawful = tt; text = refl; next = k };
+}
+
+comma_in_list_to : (hs : List Meaning) (outer : List Opened) (x : Meaning) (r : List ℕ) (m : Meaning) → Continues (InList hs ∷ outer) x (44 ∷ r) m → Begins (InList (hs ++ x ∷ []) ∷ outer) r m
+comma_in_list_to hs outer x r m (AmongHeads (Int n) b l e k) = absurd (omega (arith, ap (λ bs. get_or bs 0 0) e))
+comma_in_list_to hs outer x r m (AmongHeads (Atom t) b l e k) = absurd (omega (arith, ap (λ bs. get_or bs 0 0) e))
+comma_in_list_to hs outer x r m (AmongHeads (Ref p n) b l e k) = absurd (omega (arith, ap (λ bs. get_or bs 0 0) e))
+comma_in_list_to hs outer x r m (AmongHeads (Pid p) b l e k) = absurd (omega (arith, ap (λ bs. get_or bs 0 0) e))
+comma_in_list_to hs outer x r m (AmongHeads (Tuple parts) b l e k) = absurd (omega (arith, ap (λ bs. get_or bs 0 0) e))
+comma_in_list_to hs outer x r m (AmongHeads Nil b l e k) = absurd (omega (arith, ap (λ bs. get_or bs 0 0) e))
+comma_in_list_to hs outer x r m (AmongHeads (Cons h t) b l e k) =
+    let same : r ≡ (text_of_term h ++ text_of_tail t) ++ b = cc in
+    record {
+      term = h; behind = text_of_tail t ++ b; lawful = l.0;
+      text = same ∙ append_assoc (text_of_term h) (text_of_tail t) b;
+      next = AmongHeads t b l.1 refl (renamed outer _ _ m b (sym (list_onto-append hs x (Cons h t))) k);
+    }
+
+comma_in_list_from : (hs : List Meaning) (outer : List Opened) (x : Meaning) (r : List ℕ) (m h : Meaning) (behind : List ℕ) → IsLawful h → r ≡ text_of_term h ++ behind → Continues (InList (hs ++ x ∷ []) ∷ outer) h behind m → Continues (InList hs ∷ outer) x (44 ∷ r) m
+comma_in_list_from hs outer x r m h behind l e (AmongHeads t b lt g k) =
+    AmongHeads (Cons h t) b (l, lt) (ap (λ w. 44 ∷ w) (e ∙ ap (λ w. text_of_term h ++ w) g ∙ sym (append_assoc (text_of_term h) (text_of_tail t) b)))
+      (renamed outer _ _ m b (list_onto-append hs x (Cons h t)) k)
+
+-- a comma behind a head
+pub comma_in_list : (hs : List Meaning) (outer : List Opened) (x : Meaning) (r : List ℕ) → IsSame (Continues (InList hs ∷ outer) x (44 ∷ r)) (Begins (InList (hs ++ x ∷ []) ∷ outer) r)
+comma_in_list hs outer x r = record {
+  to = λ m k. comma_in_list_to hs outer x r m k;
+  from = λ m p. comma_in_list_from hs outer x r m p.term p.behind p.lawful p.text p.next;
+}
+
+list_ends_to : (hs : List Meaning) (outer : List Opened) (x : Meaning) (r : List ℕ) (m : Meaning) → Continues (InList hs ∷ outer) x (93 ∷ r) m → Continues outer (list_onto hs (Cons x Nil)) r m
+list_ends_to hs outer x r m (AmongHeads (Int n) b l e k) = absurd (omega (arith, ap (λ bs. get_or bs 0 0) e))
+list_ends_to hs outer x r m (AmongHeads (Atom t) b l e k) = absurd (omega (arith, ap (λ bs. get_or bs 0 0) e))
+list_ends_to hs outer x r m (AmongHeads (Ref p n) b l e k) = absurd (omega (arith, ap (λ bs. get_or bs 0 0) e))
+list_ends_to hs outer x r m (AmongHeads (Pid p) b l e k) = absurd (omega (arith, ap (λ bs. get_or bs 0 0) e))
+list_ends_to hs outer x r m (AmongHeads (Tuple parts) b l e k) = absurd (omega (arith, ap (λ bs. get_or bs 0 0) e))
+list_ends_to hs outer x r m (AmongHeads Nil b l e k) = moved outer _ m r b (cc) k
+list_ends_to hs outer x r m (AmongHeads (Cons h t) b l e k) = absurd (omega (arith, ap (λ bs. get_or bs 0 0) e))
+
+-- a closing bracket behind a head
+pub list_ends : (hs : List Meaning) (outer : List Opened) (x : Meaning) (r : List ℕ) → IsSame (Continues (InList hs ∷ outer) x (93 ∷ r)) (Continues outer (list_onto hs (Cons x Nil)) r)
+list_ends hs outer x r = record {
+  to = λ m k. list_ends_to hs outer x r m k;
+  from = λ m k. AmongHeads Nil r tt refl k;
+}
+
+-- a last tail stands behind a bar
+bar_text : (t : Meaning) (behind : List ℕ) → IsLast t → text_of_tail t ++ behind ≡ 124 ∷ (text_of_term t ++ 93 ∷ behind)
+bar_text (Int n) behind k = ap (λ w. 124 ∷ w) (append_assoc (text_of_term (Int n)) (93 ∷ []) behind)
+bar_text (Atom t) behind k = ap (λ w. 124 ∷ w) (append_assoc (text_of_term (Atom t)) (93 ∷ []) behind)
+bar_text (Ref p n) behind k = ap (λ w. 124 ∷ w) (append_assoc (text_of_term (Ref p n)) (93 ∷ []) behind)
+bar_text (Pid p) behind k = ap (λ w. 124 ∷ w) (append_assoc (text_of_term (Pid p)) (93 ∷ []) behind)
+bar_text (Tuple parts) behind k = ap (λ w. 124 ∷ w) (append_assoc (text_of_term (Tuple parts)) (93 ∷ []) behind)
+bar_text Nil behind k = absurd k
+bar_text (Cons h t) behind k = absurd k
+
+-- behind a bar is a last tail
+bar_last : (t : Meaning) (r behind : List ℕ) → 124 ∷ r ≡ text_of_tail t ++ behind → IsLast t
+bar_last (Int n) r behind e = tt
+bar_last (Atom t) r behind e = tt
+bar_last (Ref p n) r behind e = tt
+bar_last (Pid p) r behind e = tt
+bar_last (Tuple parts) r behind e = tt
+bar_last Nil r behind e = absurd (omega (arith, ap (λ bs. get_or bs 0 0) e))
+bar_last (Cons h t) r behind e = absurd (omega (arith, ap (λ bs. get_or bs 0 0) e))
+
+behind_bar_is : (t : Meaning) (r behind : List ℕ) → 124 ∷ r ≡ text_of_tail t ++ behind → r ≡ text_of_term t ++ 93 ∷ behind
+behind_bar_is t r behind e = let k = e ∙ bar_text t behind (bar_last t r behind e) in cc
+
+bar_to : (hs : List Meaning) (outer : List Opened) (x : Meaning) (r : List ℕ) (m : Meaning) → Continues (InList hs ∷ outer) x (124 ∷ r) m → Begins (InTail hs x ∷ outer) r m
+bar_to hs outer x r m (AmongHeads t b l e k) = record { term = t; behind = 93 ∷ b; lawful = l; text = behind_bar_is t r b e; next = AsTail b refl k }
+
+bar_from : (hs : List Meaning) (outer : List Opened) (x : Meaning) (r : List ℕ) (m t : Meaning) (behind : List ℕ) → get_or r 0 0 ≢ 91 → IsLawful t → r ≡ text_of_term t ++ behind → Continues (InTail hs x ∷ outer) t behind m → Continues (InList hs ∷ outer) x (124 ∷ r) m
+bar_from hs outer x r m t behind other l e (AsTail b f k) =
+    let last = last_first t r behind other e in
+    AmongHeads t b l (ap (λ w. 124 ∷ w) (e ∙ ap (λ w. text_of_term t ++ w) f) ∙ sym (bar_text t b last)) k
+
+-- a bar behind a head
+pub bar_in_list : (hs : List Meaning) (outer : List Opened) (x : Meaning) (r : List ℕ) → get_or r 0 0 ≢ 91 → IsSame (Continues (InList hs ∷ outer) x (124 ∷ r)) (Begins (InTail hs x ∷ outer) r)
+bar_in_list hs outer x r other = record {
+  to = λ m k. bar_to hs outer x r m k;
+  from = λ m p. bar_from hs outer x r m p.term p.behind other p.lawful p.text p.next;
+}
+
+-- no list stands behind a bar
+pub no_list_behind_bar : (hs : List Meaning) (outer : List Opened) (x : Meaning) (r : List ℕ) (m : Meaning) → Continues (InList hs ∷ outer) x (124 ∷ 91 ∷ r) m → ⊥
+no_list_behind_bar hs outer x r m (AmongHeads t b l e k) = list_first t r (93 ∷ b) l (behind_bar_is t (91 ∷ r) b e) (bar_last t (91 ∷ r) b e)
+
+-- no other mark stands behind a head
+pub no_mark_in_list : (hs : List Meaning) (outer : List Opened) (x : Meaning) (a : ℕ) (r : List ℕ) → a ≢ 44 → a ≢ 93 → a ≢ 124 → (m : Meaning) → Continues (InList hs ∷ outer) x (a ∷ r) m → ⊥
+no_mark_in_list hs outer x a r h k j m (AmongHeads (Int n) b l e q) = j (ap (λ bs. get_or bs 0 0) e)
+no_mark_in_list hs outer x a r h k j m (AmongHeads (Atom t) b l e q) = j (ap (λ bs. get_or bs 0 0) e)
+no_mark_in_list hs outer x a r h k j m (AmongHeads (Ref p n) b l e q) = j (ap (λ bs. get_or bs 0 0) e)
+no_mark_in_list hs outer x a r h k j m (AmongHeads (Pid p) b l e q) = j (ap (λ bs. get_or bs 0 0) e)
+no_mark_in_list hs outer x a r h k j m (AmongHeads (Tuple parts) b l e q) = j (ap (λ bs. get_or bs 0 0) e)
+no_mark_in_list hs outer x a r h k j m (AmongHeads Nil b l e q) = k (ap (λ bs. get_or bs 0 0) e)
+no_mark_in_list hs outer x a r h k j m (AmongHeads (Cons c t) b l e q) = h (ap (λ bs. get_or bs 0 0) e)
+
+tail_ends_to : (hs : List Meaning) (h : Meaning) (outer : List Opened) (x : Meaning) (r : List ℕ) (m : Meaning) → Continues (InTail hs h ∷ outer) x (93 ∷ r) m → Continues outer (list_onto hs (Cons h x)) r m
+tail_ends_to hs h outer x r m (AsTail b e k) = moved outer _ m r b (cc) k
+
+-- a closing bracket behind a last tail
+pub tail_closes : (hs : List Meaning) (h : Meaning) (outer : List Opened) (x : Meaning) (r : List ℕ) → IsSame (Continues (InTail hs h ∷ outer) x (93 ∷ r)) (Continues outer (list_onto hs (Cons h x)) r)
+tail_closes hs h outer x r = record {
+  to = λ m k. tail_ends_to hs h outer x r m k;
+  from = λ m k. AsTail r refl k;
+}
+
+pub no_mark_in_tail : (hs : List Meaning) (h : Meaning) (outer : List Opened) (x : Meaning) (a : ℕ) (r : List ℕ) → a ≢ 93 → (m : Meaning) → Continues (InTail hs h ∷ outer) x (a ∷ r) m → ⊥
+no_mark_in_tail hs h outer x a r other m (AsTail b e k) = other (ap (λ bs. get_or bs 0 0) e)
+
+-- LEAVES
+
+leaf_to : (outer : List Opened) (rest : List ℕ) (x : Meaning) (behind : List ℕ) → get_or rest 0 0 ≢ 123 → get_or rest 0 0 ≢ 91 → Reads rest x behind → (m y : Meaning) (c : List ℕ) → IsLawful y → rest ≡ text_of_term y ++ c → Continues outer y c m → Continues outer x behind m
+leaf_to outer rest x behind h j r m y c l e k =
+    let same = r.only y c (leaf_first y rest c h j e) l (ends_of k) e in
+    moved outer x m behind c same.1 (renamed outer y x m c (sym same.0) k)
+
+-- a leaf
+pub leaf_begins : (outer : List Opened) (rest : List ℕ) (x : Meaning) (behind : List ℕ) → get_or rest 0 0 ≢ 123 → get_or rest 0 0 ≢ 91 → Reads rest x behind → IsSame (Begins outer rest) (Continues outer x behind)
+leaf_begins outer rest x behind h j r = record {
+  to = λ m p. leaf_to outer rest x behind h j r m p.term p.behind p.lawful p.text p.next;
+  from = λ m k. record { term = x; behind = behind; lawful = r.lawful; text = r.parts; next = k };
+}
+
+-- or none
+pub no_leaf_begins : (outer : List Opened) (rest : List ℕ) → get_or rest 0 0 ≢ 123 → get_or rest 0 0 ≢ 91 → NoLeaf rest → (m : Meaning) → Begins outer rest m → ⊥
+no_leaf_begins outer rest h j none m p = none p.term p.behind (leaf_first p.term rest p.behind h j p.text) p.lawful (ends_of p.next) p.text
+
+-- DEPTH
+
+node_count-pos : (x : Meaning) → 1 ≤ node_count x
+node_count-pos (Int n) = omega arith
+node_count-pos (Atom t) = omega arith
+node_count-pos (Ref p n) = omega arith
+node_count-pos (Pid p) = omega arith
+node_count-pos (Tuple parts) = omega arith
+node_count-pos Nil = omega arith
+node_count-pos (Cons h t) = omega arith
+
+parts_onto_nodes : (ps : List Meaning) (ms : Meanings) → node_counts ms ≤ node_counts (parts_onto ps ms)
+parts_onto_nodes [] ms = omega arith
+parts_onto_nodes (p ∷ ps) ms = omega (arith, parts_onto_nodes ps ms)
+
+list_onto_nodes : (hs : List Meaning) (t : Meaning) → node_count t ≤ node_count (list_onto hs t)
+list_onto_nodes [] t = omega arith
+list_onto_nodes (h ∷ hs) t = omega (arith, list_onto_nodes hs t)
+
+-- what is open has a node each
+depth : {outer : List Opened} {x : Meaning} {rest : List ℕ} {m : Meaning} → Continues outer x rest m → length outer + node_count x ≤ node_count m
+depth (AtEnd w e) = omega (arith, ap node_count w)
+depth (AmongParts {parts = ps} {term = x} o b l e k) = omega (arith, depth k, parts_onto_nodes ps (Also x o))
+depth (AmongHeads {heads = hs} {term = x} t b l e k) = omega (arith, depth k, list_onto_nodes hs (Cons x t))
+depth (AsTail {heads = hs} {head = h} {term = x} b e k) = omega (arith, depth k, list_onto_nodes hs (Cons h x))
+
+deep : (o : Opened) (outer : List Opened) (rest : List ℕ) (m : Meaning) → Begins (o ∷ outer) rest m → 10000 ≤ length outer → 10000 < node_count m
+deep o outer rest m p h = omega (arith, depth p.next, node_count-pos p.term)
+
+-- STEPS
+
+-- for want of memory all is refused
+pub no_memory : (before : Meaning → Type 0) (text : List ℕ) → Refuses before text Memory
+no_memory before text = record { place = tt; refuses = λ m b. tt }
+
+-- where the whole can be nothing, there is a fault
+pub bad : (before : Meaning → Type 0) (text : List ℕ) (at : ℕ) → 1 ≤ at → at ≤ length text + 1 → ((m : Meaning) → before m → ⊥) → Refuses before text (BadTerm at)
+bad before text at low high none = record { place = (low, high); refuses = none }
+
+too_much : (before : Meaning → Type 0) (o : Opened) (outer : List Opened) (behind text : List ℕ) (fault : TermFault) → IsSame before (Begins (o ∷ outer) behind) → IsPlace text fault → IsTooMuch outer fault → Refuses before text fault
+too_much before o outer behind text (BadTerm at) s p t = absurd t
+too_much before o outer behind text (TooDeep at) s p t = record { place = p; refuses = λ m b. deep o outer behind m (s.to m b) t }
+too_much before o outer behind text Memory s p t = no_memory before text
+
+-- into what a mark opens
+pub goes_in : (before : Meaning → Type 0) (o : Opened) (outer : List Opened) (behind rest text : List ℕ) (result : Result State TermFault) → IsSame before (Begins (o ∷ outer) behind) → length behind < length rest → GoesIn outer o behind text result → Follows before rest text result
+goes_in before o outer behind rest text (Ok state) s less g = record { same = same_then _ _ _ s g.0; less = omega (arith, ap length g.1) }
+goes_in before o outer behind rest text (Err fault) s less g = too_much before o outer behind text fault s g.0 g.1
+
+pub opened_in-append : (outer : List Open) (last : Open) → opened_in (outer ++ last ∷ []) ≡ open_in last ∷ opened_in outer
+opened_in-append [] last = refl
+opened_in-append (o ∷ outer) last = ap (λ w. w ++ open_in o ∷ []) (opened_in-append outer last)
+
+pub length-opened_in : (outer : List Open) → length (opened_in outer) ≡ length outer
+length-opened_in [] = refl
+length-opened_in (o ∷ outer) = omega (arith, length-append (opened_in outer) (open_in o ∷ []), length-opened_in outer)
+
+-- WHOLE TEXTS
+
+begins_whole : (text : List ℕ) (m x : Meaning) (behind : List ℕ) → IsLawful x → text ≡ text_of_term x ++ behind → Continues [] x behind m → HasText text m
+begins_whole text m x behind l e (AtEnd w f) = (subst IsLawful (sym w) l, e ∙ ap (λ r. text_of_term x ++ r) f ∙ append-nil (text_of_term x) ∙ ap text_of_term (sym w))
+
+-- at first nothing is open
+pub whole_begins : (text : List ℕ) → IsSame (HasText text) (Begins [] text)
+whole_begins text = record {
+  to = λ m h. record { term = m; behind = []; lawful = h.0; text = h.1 ∙ sym (append-nil (text_of_term m)); next = AtEnd refl refl };
+  from = λ m p. begins_whole text m p.term p.behind p.lawful p.text p.next;
+}
+
+-- at last nothing is left
+pub whole_ends : (x m : Meaning) → Continues [] x [] m → x ≡ m
+whole_ends x m (AtEnd w e) = sym w
+
+pub not_ended : (x m : Meaning) (rest : List ℕ) → rest ≢ [] → Continues [] x rest m → ⊥
+not_ended x m rest other (AtEnd w e) = other e

@@ -1,0 +1,12 @@
+// Terms read back from their texts, as transcripts print them.
+#![tactic(auto)]
+
+mod atoms;
+mod brackets;
+pub mod fault;
+mod leaves;
+mod numbers;
+pub mod reader;
+
+pub use fault::TermFault;
+pub use reader::read_term;

@@ -1,0 +1,65 @@
+// A term is read mark by mark: what is open lies on a stack of its own.
+ghost use Rattle.std.specs.Prelude.{◌≡◌, ◌≢◌, ◌≤◌, [], length, IfOk, IfErr, MatchResult};
+ghost use Rattle.term_core.specs.Meaning.{Meaning};
+ghost use Rattle.term_core.specs.Term.{meaning_of};
+ghost use Rattle.term_core.specs.TermText.{text_of_term};
+ghost use Rattle.term_reader.specs.Lawful.{IsLawful, MayRefuse, IsPlace};
+
+use crate::brackets::{State, begin, go_on, place_of};
+use crate::fault::TermFault;
+use std::alloc::Global;
+use term_core::Term;
+
+/// Reads a term from its text: integers of 64 bits in decimal, atoms in single quotes with escapes, pids
+/// as `P.2.1`, references as `#P.2`, tuples as `{a,b}`, lists as `[a,b]` and `[a,b|t]`, without blanks.
+/// These are the texts that `write_term` writes, and no others: so numbers have no needless zeros, an
+/// escape stands only where one is written, and the last tail behind a bar is no list.
+///
+/// What is open lies in memory, so that the native stack does not grow with the text.
+///
+/// # Errors
+///
+/// `BadTerm` where the text is the text of no term; `TooDeep` where more than 10,000 brackets and braces
+/// would be open at once, so that a term with this text has more than 10,000 nodes; `Memory` where there
+/// was no memory for the term.
+pub fn read_term(alloc: Global, text: &[u8]) -> Result<Term, TermFault>
+    // What is read has this text.
+    ensures ok { IfOk result (λ read. IsLawful (meaning_of read) × (text.now ≡ text_of_term (meaning_of read))) }
+
+    // The text of a term is read as that term, unless it is too deep or memory runs out.
+    ensures only { (term : Meaning) → IsLawful term → text.now ≡ text_of_term term
+        → MatchResult result (λ read. meaning_of read ≡ term) (λ fault. MayRefuse term fault) }
+
+    // A fault has a place in the text, or one past its end.
+    ensures place { IfErr result (λ fault. IsPlace text.now fault) }
+{
+    let mut state = State::Wanted(Vec::new(alloc), text);
+    'marks: loop {
+        let next = match state {
+            State::Wanted(outer, rest) => begin(alloc, text, outer, rest),
+            State::Found(mut outer, term, rest) => {
+                let Some(last) = outer.pop() else {
+                    return ended(text, term, rest);
+                };
+                go_on(alloc, text, outer, last, term, rest)
+            }
+        };
+        match next {
+            Ok(reached) => state = reached,
+            Err(fault) => return Err(fault),
+        }
+    }
+}
+
+/// The term, if nothing stands behind it.
+fn ended(text: &[u8], term: Term, rest: &[u8]) -> Result<Term, TermFault>
+    requires { length rest.now ≤ length text.now }
+    ensures ok { IfOk result (λ read. (meaning_of read ≡ meaning_of term) × (rest.now ≡ [])) }
+    ensures fault { IfErr result (λ fault. (rest.now ≢ []) × IsPlace text.now fault) }
+{
+    if rest.is_empty() {
+        Ok(term)
+    } else {
+        Err(TermFault::BadTerm(place_of(text, rest)))
+    }
+}
