@@ -1,14 +1,11 @@
 -- What each mark does to what is open.
-use Rattle.std.proofs.Common.{◌≡◌, ◌≢◌, ◌==◌, ◌||◌, ◌⊎◌, inl, inr, ℕ, zero, suc, ◌+◌, ◌≤◌, ◌<◌, ◌^◌, true, false, List, [], ◌∷◌, ◌++◌, length, get_or, ap, ap₂, sym, refl, ◌∙◌, subst, arith, append_assoc, append-nil, Result, Ok, Err, ℤ, pos, negsuc, length-append}
-use Rattle.std.proofs.lemmas.Bool.Decides.{nat_tests}
-use Rattle.std.proofs.lemmas.Fmt.{decimal_nonempty}
-use Rattle.std.specs.Fmt.{decimal, signed_decimal}
-use Rattle.std.specs.List.{AllByRecursion}
-use Rattle.term_core.proofs.NumberTexts.{IsDigit, all_digits-decimal}
+use Rattle.std.proofs.Common.{◌≡◌, ◌≢◌, ◌==◌, ◌||◌, ◌⊎◌, inl, inr, ℕ, zero, suc, ◌+◌, ◌≤◌, ◌<◌, true, false, List, [], ◌∷◌, ◌++◌, length, get_or, ap, ap₂, sym, refl, ◌∙◌, subst, arith, append_assoc, append-nil, Result, Ok, Err, ℤ, length-append}
+use Rattle.std.specs.Fmt.{signed_decimal}
 use Rattle.term_core.specs.Integers.{has_64_bits}
 use Rattle.term_core.specs.Meaning.{Meaning, Meanings, Int, Atom, Ref, Pid, Tuple, Nil, Cons, NoMore, Also, meanings_of, node_count, node_counts}
 use Rattle.term_core.specs.Term.{list_onto}
 use Rattle.term_core.specs.TermText.{text_of_term, text_of_tail, text_of_tuple, text_of_others}
+use Rattle.term_reader.proofs.IntegerTexts.{integer_first}
 use Rattle.term_reader.specs.Lawful.{IsLawful, AreLawful, MayRefuse, IsPlace}
 use Rattle.term_reader.specs.inside.Leaves.{Ends, IsLeaf, Reads, NoLeaf}
 use Rattle.term_reader.specs.inside.Marks.{Opened, InTuple, InList, InTail, opened_in, open_in, parts_onto, Continues, AtEnd, AmongParts, AmongHeads, AsTail, Begins, IsSame, Means, rest_of, GoesOn, Refuses, Follows, IsTooMuch, GoesIn}
@@ -35,29 +32,12 @@ same_then P Q R a b = record { to = λ m p. b.to m (a.to m p); from = λ m r. a.
 pub clash : (a b : ℕ) (r s : List ℕ) → a ≢ b → a ∷ r ≡ b ∷ s → ⊥
 clash a b r s other e = other (ap (λ bs. get_or bs 0 0) e)
 
-digit_first : (ds : List ℕ) → AllByRecursion IsDigit ds → 0 < length ds → get_or ds 0 0 ≤ 57
-digit_first [] all some = absurd (omega arith)
-digit_first (d ∷ ds) all some = all.0.1
-
-bits_below : (n : ℕ) → has_64_bits (pos n) ≡ true → n < 2 ^ 63
-bits_below n h = grind (arith, nat_tests)
-
-bits_below_negative : (n : ℕ) → has_64_bits (negsuc n) ≡ true → n < 2 ^ 63
-bits_below_negative n h = grind (arith, nat_tests)
-
--- an integer begins with a digit or a sign
-integer_first : (n : ℤ) → has_64_bits n ≡ true → (0 < length (signed_decimal n)) × (get_or (signed_decimal n) 0 0 ≤ 57)
-integer_first (pos n) h =
-    let low : n < 2 ^ 64 = omega (arith, bits_below n h) in
-    (decimal_nonempty n low, digit_first (decimal n) (all_digits-decimal n low) (decimal_nonempty n low))
-integer_first (negsuc n) h = (omega arith, omega arith)
-
 begins_low : (ds behind r : List ℕ) (a : ℕ) → 0 < length ds → get_or ds 0 0 ≤ 57 → 57 < a → a ∷ r ≡ ds ++ behind → ⊥
 begins_low [] behind r a some low high e = omega arith
 begins_low (d ∷ ds) behind r a some low high e = omega (arith, low, ap (λ bs. get_or bs 0 0) e)
 
 no_integer : (n : ℤ) (behind r : List ℕ) (a : ℕ) → has_64_bits n ≡ true → 57 < a → a ∷ r ≡ signed_decimal n ++ behind → ⊥
-no_integer n behind r a h high e = let f = integer_first n h in begins_low (signed_decimal n) behind r a f.0 f.1 high e
+no_integer n behind r a h high e = let f = integer_first n h in begins_low (signed_decimal n) behind r a f.0 f.2 high e
 
 -- no term begins with a byte above `P` that is neither a bracket nor a brace that opens
 pub never_first : (x : Meaning) (a : ℕ) (r behind : List ℕ) → IsLawful x → 80 < a → a ≢ 91 → a ≢ 123 → a ∷ r ≡ text_of_term x ++ behind → ⊥

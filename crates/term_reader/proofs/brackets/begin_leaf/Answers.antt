@@ -1,0 +1,12 @@
+use Rattle.std.proofs.Common.{rules, ◌≡◌, ◌≢◌, ◌≤◌, ◌+◌, ◌-◌, ◌∷◌, length, map, slice_index, ℕ, ◌*◌, ◌<◌, ◌/◌, ◌%◌, Bool, true, false, nat_eq, nat_lt, List, [], ◌++◌, slice_index_or, slice_set, bit_and, bit_or, Fits, w8, w32, w64, Bor, MutBor}
+use Rattle.term_core.specs.Term.{meaning_of}
+use Rattle.term_reader.specs.inside.Marks.{Begins, Continues, Follows, GoesIn, InList, InTail, InTuple, open_in, opened_in}
+use Rattle.term_reader.proofs.brackets.begin_leaf.Goals as goal
+
+-- src/brackets.rt:113:1
+pub returns-in-Read : goal.returns-in-Read
+returns-in-Read c = ?
+
+-- src/brackets.rt:113:1
+pub returns-in-Bad : goal.returns-in-Bad
+returns-in-Bad c = ?

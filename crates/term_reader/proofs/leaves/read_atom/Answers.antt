@@ -1,0 +1,15 @@
+use Rattle.std.proofs.Common.{rules, ◌≡◌, ◌≢◌, ◌∷◌, IfOk, position, slice_index, ℕ, ◌+◌, ◌-◌, ◌*◌, ◌<◌, ◌≤◌, length, ◌/◌, ◌%◌, Bool, true, false, nat_eq, nat_lt, List, [], ◌++◌, slice_index_or, slice_set, bit_and, bit_or, Fits, w8, w32, w64, Bor, MutBor}
+use Rattle.term_reader.specs.inside.Leaves.{ReadsLeaf, ReadsWord, behind_word, marks, word_of}
+use Rattle.term_reader.proofs.leaves.read_atom.Goals as goal
+
+-- src/leaves.rt:33:1
+pub returns-in-Ok : goal.returns-in-Ok
+returns-in-Ok c = ?
+
+-- src/leaves.rt:33:1
+pub returns-in-Read : goal.returns-in-Read
+returns-in-Read c = ?
+
+-- src/leaves.rt:31:1
+pub returns : goal.returns
+returns c = ?
