@@ -229,3 +229,19 @@ no_atom inside none m rest leaf l ends e = no_leaf m leaf l e
     no_leaf (Tuple parts) leaf l e = leaf
     no_leaf Nil leaf l e = leaf
     no_leaf (Cons h t) leaf l e = leaf
+
+pub reads_atom_as : (inside bytes behind text : List ℕ) (x : Meaning) → ReadsBytes inside bytes behind → bytes ≡ text → IsUtf8 text → x ≡ Atom text → Reads (39 ∷ inside) x behind
+reads_atom_as inside bytes behind text x r e utf8 f = subst (λ (m : Meaning). Reads (39 ∷ inside) m behind) (ap Atom e ∙ sym f) (reads_atom inside bytes behind r (subst IsUtf8 (sym e) utf8))
+
+leaf_some : (m : Meaning) → IsLeaf m → IsLawful m → 0 < length (text_of_term m)
+leaf_some (Int n) leaf l = (integer_first n l).0
+leaf_some (Atom t) leaf l = omega arith
+leaf_some (Ref p n) leaf l = omega arith
+leaf_some (Pid p) leaf l = omega arith
+leaf_some (Tuple parts) leaf l = absurd leaf
+leaf_some Nil leaf l = absurd leaf
+leaf_some (Cons h t) leaf l = absurd leaf
+
+-- a leaf that was read leaves fewer bytes
+pub leaf_shortens : (text : List ℕ) (x : Meaning) (behind : List ℕ) → Reads text x behind → length behind < length text
+leaf_shortens text x behind r = omega (arith, ap length r.parts, length-append (text_of_term x) behind, leaf_some x r.leaf r.lawful)

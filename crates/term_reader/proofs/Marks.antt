@@ -1,14 +1,15 @@
 -- What each mark does to what is open.
-use Rattle.std.proofs.Common.{◌≡◌, ◌≢◌, ◌==◌, ◌||◌, ◌⊎◌, inl, inr, ℕ, zero, suc, ◌+◌, ◌≤◌, ◌<◌, true, false, List, [], ◌∷◌, ◌++◌, length, get_or, ap, ap₂, sym, refl, ◌∙◌, subst, arith, append_assoc, append-nil, Result, Ok, Err, ℤ, length-append}
+use Rattle.std.proofs.Common.{◌≡◌, ◌≢◌, ◌==◌, ◌||◌, ◌⊎◌, inl, inr, ℕ, zero, suc, ◌+◌, ◌≤◌, ◌<◌, true, false, List, [], ◌∷◌, ◌++◌, length, get_or, ap, ap₂, sym, refl, ◌∙◌, subst, arith, append_assoc, append-nil, Result, Ok, Err, IfOk, IfErr, MatchResult, ℤ, length-append}
 use Rattle.std.specs.Fmt.{signed_decimal}
 use Rattle.term_core.specs.Integers.{has_64_bits}
 use Rattle.term_core.specs.Meaning.{Meaning, Meanings, Int, Atom, Ref, Pid, Tuple, Nil, Cons, NoMore, Also, meanings_of, node_count, node_counts}
-use Rattle.term_core.specs.Term.{list_onto}
+use Rattle.term_core.specs.Term.{meaning_of, list_onto}
 use Rattle.term_core.specs.TermText.{text_of_term, text_of_tail, text_of_tuple, text_of_others}
 use Rattle.term_reader.proofs.IntegerTexts.{integer_first}
 use Rattle.term_reader.specs.Lawful.{IsLawful, AreLawful, MayRefuse, IsPlace}
 use Rattle.term_reader.specs.inside.Leaves.{Ends, IsLeaf, Reads, NoLeaf}
 use Rattle.term_reader.specs.inside.Marks.{Opened, InTuple, InList, InTail, opened_in, open_in, parts_onto, Continues, AtEnd, AmongParts, AmongHeads, AsTail, Begins, IsSame, Means, rest_of, GoesOn, Refuses, Follows, IsTooMuch, GoesIn}
+use Rattle.term_core.specs.declared.term.Term.{Term}
 use Rattle.term_reader.specs.declared.brackets.Open.{Open}
 use Rattle.term_reader.specs.declared.brackets.State.{State}
 use Rattle.term_reader.specs.declared.fault.TermFault.{TermFault}
@@ -142,6 +143,9 @@ moved outer x m r s e k = subst (λ (w : List ℕ). Continues outer x w m) (sym 
 
 renamed : (outer : List Opened) (x y m : Meaning) (r : List ℕ) → x ≡ y → Continues outer x r m → Continues outer y r m
 renamed outer x y m r e k = subst (λ (w : Meaning). Continues outer w r m) e k
+
+pub no_end_at : (o : Opened) (outer : List Opened) (x : Meaning) (rest : List ℕ) → rest ≡ [] → (m : Meaning) → Continues (o ∷ outer) x rest m → ⊥
+no_end_at o outer x rest e m k = no_end o outer x m (moved (o ∷ outer) x m [] rest (sym e) k)
 
 -- TUPLES
 
@@ -367,6 +371,9 @@ bar_in_list hs outer x r other = record {
 pub no_list_behind_bar : (hs : List Meaning) (outer : List Opened) (x : Meaning) (r : List ℕ) (m : Meaning) → Continues (InList hs ∷ outer) x (124 ∷ 91 ∷ r) m → ⊥
 no_list_behind_bar hs outer x r m (AmongHeads t b l e k) = list_first t r (93 ∷ b) l (behind_bar_is t (91 ∷ r) b e) (bar_last t (91 ∷ r) b e)
 
+pub no_list_behind_bar_at : (hs : List Meaning) (outer : List Opened) (x : Meaning) (r list : List ℕ) → r ≡ 91 ∷ list → (m : Meaning) → Continues (InList hs ∷ outer) x (124 ∷ r) m → ⊥
+no_list_behind_bar_at hs outer x r list e m k = no_list_behind_bar hs outer x list m (moved (InList hs ∷ outer) x m (124 ∷ 91 ∷ list) (124 ∷ r) (ap (λ w. 124 ∷ w) (sym e)) k)
+
 -- no other mark stands behind a head
 pub no_mark_in_list : (hs : List Meaning) (outer : List Opened) (x : Meaning) (a : ℕ) (r : List ℕ) → a ≢ 44 → a ≢ 93 → a ≢ 124 → (m : Meaning) → Continues (InList hs ∷ outer) x (a ∷ r) m → ⊥
 no_mark_in_list hs outer x a r h k j m (AmongHeads (Int n) b l e q) = j (ap (λ bs. get_or bs 0 0) e)
@@ -483,3 +490,78 @@ whole_ends x m (AtEnd w e) = sym w
 
 pub not_ended : (x m : Meaning) (rest : List ℕ) → rest ≢ [] → Continues [] x rest m → ⊥
 not_ended x m rest other (AtEnd w e) = other e
+
+-- what a step needs of the code: what was put on the stack, and what was made
+pub marked : (outer : List Opened) (x : Meaning) (mark n : ℕ) (r : List ℕ) (after : Meaning → Type 0) → mark ≡ n → IsSame (Continues outer x (n ∷ r)) after → IsSame (Continues outer x (mark ∷ r)) after
+marked outer x mark n r after e s = subst (λ (k : ℕ). IsSame (Continues outer x (k ∷ r)) after) (sym e) s
+
+pub wanted : (before : Meaning → Type 0) (o : Opened) (outer new : List Open) (next : Open) (r : List ℕ) → new ≡ outer ++ next ∷ [] → open_in next ≡ o → IsSame before (Begins (o ∷ opened_in outer) r) → IsSame before (Begins (opened_in new) r)
+wanted before o outer new next r e f s =
+    subst (λ (w : List Opened). IsSame before (Begins w r)) (sym (ap opened_in e ∙ opened_in-append outer next ∙ ap (λ w. w ∷ opened_in outer) f)) s
+
+pub found : (before : Meaning → Type 0) (outer : List Opened) (x made : Meaning) (r : List ℕ) → made ≡ x → IsSame before (Continues outer x r) → IsSame before (Continues outer made r)
+found before outer x made r e s = subst (λ (w : Meaning). IsSame before (Continues outer w r)) (sym e) s
+
+pub begun : (outer : List Opened) (text text' : List ℕ) (after : Meaning → Type 0) → text ≡ text' → IsSame (Begins outer text') after → IsSame (Begins outer text) after
+begun outer text text' after e s = subst (λ (w : List ℕ). IsSame (Begins outer w) after) (sym e) s
+
+pub same_self : (P : Meaning → Type 0) → IsSame P P
+same_self P = record { to = λ m p. p; from = λ m p. p }
+
+-- A WHOLE READING
+
+pub nothing : {X : Type 0} (xs : List X) → length xs ≡ 0 → xs ≡ []
+nothing [] e = refl
+nothing (x ∷ xs) e = absurd (omega arith)
+
+pub starts : (text : List ℕ) (outer : List Open) → outer ≡ [] → IsSame (HasText text) (Begins (opened_in outer) text)
+starts text outer e = subst (λ (w : List Open). IsSame (HasText text) (Begins (opened_in w) text)) (sym e) (whole_begins text)
+
+-- a step of a reading
+pub holds_on : (text : List ℕ) (state reached : State) (result : Result State TermFault) → Holds text state → Follows (Means state) (rest_of state) text result → result ≡ Ok reached → Holds text reached
+holds_on text state reached (Ok s) h f e =
+    let same : s ≡ reached = cc in
+    subst (Holds text) same (record { same = same_then _ _ _ h.same f.same; within = omega (arith, h.within, f.less) })
+holds_on text state reached (Err fault) h f e = absurd (no_ok e)
+  where
+    no_ok : {X Y : Type 0} {x : X} {y : Y} → ◌≡◌ {A = Result X Y} (Err y) (Ok x) → ⊥
+    no_ok e = cc
+
+pub less_on : (text : List ℕ) (state reached : State) (result : Result State TermFault) → Follows (Means state) (rest_of state) text result → result ≡ Ok reached → length (rest_of reached) < length (rest_of state)
+less_on text state reached (Ok s) f e = let same : s ≡ reached = cc in subst (λ (w : State). length (rest_of w) < length (rest_of state)) same f.less
+less_on text state reached (Err fault) f e = absurd (no_ok e)
+  where
+    no_ok : {X Y : Type 0} {x : X} {y : Y} → ◌≡◌ {A = Result X Y} (Err y) (Ok x) → ⊥
+    no_ok e = cc
+
+no_err : {X Y : Type 0} {x : X} {y : Y} → ◌≡◌ {A = Result X Y} (Ok x) (Err y) → ⊥
+no_err e = cc
+
+pub refused_on : (text : List ℕ) (state : State) (fault : TermFault) (result : Result State TermFault) → Holds text state → Follows (Means state) (rest_of state) text result → result ≡ Err fault → (m : Meaning) → IsLawful m → text ≡ text_of_term m → MayRefuse m fault
+refused_on text state fault (Ok s) h f e = absurd (no_err e)
+refused_on text state fault (Err g) h f e = λ m l t. let same : g ≡ fault = cc in subst (MayRefuse m) same (f.refuses m (h.same.to m (l, t)))
+
+pub place_on : (text : List ℕ) (state : State) (fault : TermFault) (result : Result State TermFault) → Follows (Means state) (rest_of state) text result → result ≡ Err fault → IsPlace text fault
+place_on text state fault (Ok s) f e = absurd (no_err e)
+place_on text state fault (Err g) f e = let same : g ≡ fault = cc in subst (IsPlace text) same f.place
+
+-- what stood in what was opened last
+pub popped : (outer left : List Open) (last : Open) (x : Meaning) (rest text : List ℕ) (result : Result State TermFault) → outer ≡ left ++ last ∷ [] → Follows (Continues (open_in last ∷ opened_in left) x rest) rest text result → Follows (Continues (opened_in outer) x rest) rest text result
+popped outer left last x rest text result e f = subst (λ (w : List Opened). Follows (Continues w x rest) rest text result) (sym (ap opened_in e ∙ opened_in-append left last)) f
+
+whole_of : (text : List ℕ) (outer : List Open) (x : Meaning) (rest : List ℕ) → IsSame (HasText text) (Continues (opened_in outer) x rest) → length outer ≡ 0 → IsSame (HasText text) (Continues [] x rest)
+whole_of text outer x rest s e = subst (λ (w : List Open). IsSame (HasText text) (Continues (opened_in w) x rest)) (nothing outer e) s
+
+pub ended_ok : (text : List ℕ) (outer : List Open) (x : Meaning) (rest : List ℕ) (result : Result Term TermFault) → IsSame (HasText text) (Continues (opened_in outer) x rest) → length outer ≡ 0
+    → IfOk result (λ read. (meaning_of read ≡ x) × (rest ≡ [])) → IfOk result (λ read. IsLawful (meaning_of read) × (text ≡ text_of_term (meaning_of read)))
+ended_ok text outer x rest (Ok read) s e h =
+    let whole = (whole_of text outer x rest s e).from (meaning_of read) (AtEnd h.0 h.1) in whole
+ended_ok text outer x rest (Err fault) s e h = tt
+
+pub ended_only : (text : List ℕ) (outer : List Open) (x : Meaning) (rest : List ℕ) (result : Result Term TermFault) → IsSame (HasText text) (Continues (opened_in outer) x rest) → length outer ≡ 0
+    → IfOk result (λ read. (meaning_of read ≡ x) × (rest ≡ [])) → IfErr result (λ fault. (rest ≢ []) × IsPlace text fault)
+    → (m : Meaning) → IsLawful m → text ≡ text_of_term m → MatchResult result (λ read. meaning_of read ≡ m) (λ fault. MayRefuse m fault)
+ended_only text outer x rest (Ok read) s e h g = λ m l t.
+    let k = (whole_of text outer x rest s e).to m (l, t) in
+    h.0 ∙ whole_ends x m (moved [] x m [] rest (sym h.1) k)
+ended_only text outer x rest (Err fault) s e h g = λ m l t. absurd (not_ended x m rest g.0 ((whole_of text outer x rest s e).to m (l, t)))

@@ -3,6 +3,7 @@ ghost use Rattle.std.specs.Prelude.{◌≡◌, ◌≢◌, ◌≤◌, ◌+◌, �
 ghost use Rattle.term_core.specs.Term.{meaning_of};
 ghost use Rattle.term_reader.specs.inside.Marks.{Begins, Continues, Follows, GoesIn, InList, InTail, InTuple, open_in, opened_in};
 
+use crate::bytes::behind_mark;
 use crate::fault::TermFault;
 use crate::leaves::{Leaf, read_leaf};
 use std::alloc::Global;
@@ -66,12 +67,10 @@ fn begin_tuple<'a>(
     requires { length behind.now + 1 ≤ length text.now }
     ensures { Follows (Begins (opened_in outer.items) (123 ∷ behind.now)) (123 ∷ behind.now) text.now result }
 {
-    match behind.split_first() {
-        Some((b'}', rest)) => {
-            let empty = Term::tuple(alloc, Terms::new(alloc))?;
-            Ok(State::Found(outer, empty, rest))
-        }
-        _ => go_in(text, outer, Open::Tuple(Terms::new(alloc)), behind),
+    let parts = Terms::new(alloc);
+    match behind_mark(behind, b'}') {
+        Some(rest) => Ok(State::Found(outer, Term::tuple(alloc, parts)?, rest)),
+        None => go_in(text, outer, Open::Tuple(parts), behind),
     }
 }
 
@@ -85,9 +84,9 @@ fn begin_list<'a>(
     requires { length behind.now + 1 ≤ length text.now }
     ensures { Follows (Begins (opened_in outer.items) (91 ∷ behind.now)) (91 ∷ behind.now) text.now result }
 {
-    match behind.split_first() {
-        Some((b']', rest)) => Ok(State::Found(outer, Term::Nil, rest)),
-        _ => go_in(text, outer, Open::List(Vec::new(alloc)), behind),
+    match behind_mark(behind, b']') {
+        Some(rest) => Ok(State::Found(outer, Term::Nil, rest)),
+        None => go_in(text, outer, Open::List(Vec::new(alloc)), behind),
     }
 }
 
@@ -164,18 +163,16 @@ fn go_on_in_tuple<'a>(
 {
     let mut outer = outer;
     let mut parts = parts;
-    match mark {
-        b',' => {
-            parts.push(part)?;
-            outer.push(Open::Tuple(parts))?;
-            Ok(State::Wanted(outer, behind))
-        }
-        b'}' => {
-            parts.push(part)?;
-            Ok(State::Found(outer, Term::tuple(alloc, parts)?, behind))
-        }
-        _ => Err(TermFault::BadTerm(text.len() - behind.len())),
+    if mark == b',' {
+        parts.push(part)?;
+        outer.push(Open::Tuple(parts))?;
+        return Ok(State::Wanted(outer, behind));
     }
+    if mark != b'}' {
+        return Err(TermFault::BadTerm(text.len() - behind.len()));
+    }
+    parts.push(part)?;
+    Ok(State::Found(outer, Term::tuple(alloc, parts)?, behind))
 }
 
 /// Reads the mark behind a head of a list.
@@ -193,19 +190,19 @@ fn go_on_in_list<'a>(
 {
     let mut outer = outer;
     let mut heads = heads;
-    match mark {
-        b',' => {
-            heads.push(head)?;
-            outer.push(Open::List(heads))?;
-            Ok(State::Wanted(outer, behind))
-        }
-        b']' => {
-            let end = Term::cell(alloc, head, Term::Nil)?;
-            Ok(State::Found(outer, list_onto(alloc, heads, end)?, behind))
-        }
-        b'|' => go_on_behind_bar(text, outer, heads, head, behind),
-        _ => Err(TermFault::BadTerm(text.len() - behind.len())),
+    if mark == b',' {
+        heads.push(head)?;
+        outer.push(Open::List(heads))?;
+        return Ok(State::Wanted(outer, behind));
     }
+    if mark == b'|' {
+        return go_on_behind_bar(text, outer, heads, head, behind);
+    }
+    if mark != b']' {
+        return Err(TermFault::BadTerm(text.len() - behind.len()));
+    }
+    let end = Term::cell(alloc, head, Term::Nil)?;
+    Ok(State::Found(outer, list_onto(alloc, heads, end)?, behind))
 }
 
 /// Reads on behind the bar of a list, where no list may stand.
@@ -220,7 +217,7 @@ fn go_on_behind_bar<'a>(
     ensures { Follows (Continues (InList (map meaning_of heads.items) ∷ opened_in outer.items) (meaning_of head) (124 ∷ behind.now)) (124 ∷ behind.now) text.now result }
 {
     let mut outer = outer;
-    if let Some((b'[', _list)) = behind.split_first() {
+    if let Some(_list) = behind_mark(behind, b'[') {
         return Err(TermFault::BadTerm(place_of(text, behind)));
     }
     outer.push(Open::Tail(heads, head))?;

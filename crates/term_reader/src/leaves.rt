@@ -3,6 +3,7 @@ ghost use Rattle.std.specs.Prelude.{◌≡◌, ◌≢◌, ◌∷◌, IfOk, posit
 ghost use Rattle.term_reader.specs.inside.Leaves.{ReadsLeaf, ReadsWord, behind_word, marks, word_of};
 
 use crate::atoms::{Quoted, read_quoted};
+use crate::bytes::behind_mark;
 use crate::numbers::{read_integer, read_numbers};
 use std::alloc::{AllocError, Global};
 use std::str;
@@ -99,7 +100,7 @@ fn read_pid(alloc: Global, numbers: &[u8]) -> Result<Option<Term>, AllocError>
 fn read_reference(alloc: Global, text: &[u8]) -> Result<Option<Term>, AllocError>
     ensures { IfOk result (λ found. ReadsWord (35 ∷ text.now) found) }
 {
-    let Some((b'P', numbers)) = text.split_first() else {
+    let Some(numbers) = behind_mark(text, b'P') else {
         return Ok(None);
     };
     let Some(mut numbers) = read_numbers(alloc, numbers)? else {

@@ -3,6 +3,7 @@
 
 mod atoms;
 mod brackets;
+mod bytes;
 pub mod fault;
 mod leaves;
 mod numbers;

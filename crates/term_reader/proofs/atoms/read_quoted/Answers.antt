@@ -1,16 +1,15 @@
-use Rattle.std.proofs.Common.{rules, ◌≡◌, ◌≢◌, ℕ, [], ◌∷◌, IfOk, MatchOption, IsTrue, ◌↔◌, ◌+◌, ◌-◌, ◌*◌, ◌<◌, ◌≤◌, length, ◌/◌, ◌%◌, Bool, true, false, nat_eq, nat_lt, List, ◌++◌, slice_index_or, slice_set, bit_and, bit_or, Fits, w8, w32, w64, Bor, MutBor}
-use Rattle.term_core.specs.TermText.{printed_byte}
-use Rattle.term_reader.specs.inside.Bytes.{HasLetter, NoByte, ReadsByte, ReadsQuoted}
+use Rattle.term_reader.proofs.QuotedTexts.{reads_byte, no_byte, reads_quote}
 use Rattle.term_reader.proofs.atoms.read_quoted.Goals as goal
 
--- src/atoms.rt:25:13
 pub returns-then-mark-eq39 : goal.returns-then-mark-eq39
-returns-then-mark-eq39 c = ?
+returns-then-mark-eq39 c = reads_quote _ _ _ (rw (c.in-Some.ensures.cases.0, c.if-mark-eq39.true) at c.bytes.invariant)
 
--- src/atoms.rt:28:13
 pub returns-in_default-read_byte : goal.returns-in_default-read_byte
-returns-in_default-read_byte c = ?
+returns-in_default-read_byte c =
+    let r = rw c.in-Some.ensures.cases.0 at c.bytes.invariant in
+    no_byte _ _ _ _ c.if-mark-eq39.false r c.in_default-read_byte.ensures
 
--- src/atoms.rt:23:5
 pub bytes-preserved : goal.bytes-preserved
-bytes-preserved c = ?
+bytes-preserved c =
+    let r = rw c.in-Some.ensures.cases.0 at c.bytes.invariant in
+    rw c.in_ok-push.ensures.items (reads_byte _ _ _ _ _ _ c.if-mark-eq39.false r c.in-Some-read_byte.ensures)

@@ -1,12 +1,14 @@
-use Rattle.std.proofs.Common.{rules, ◌≡◌, ◌≢◌, ◌≤◌, ◌+◌, ◌-◌, ◌∷◌, length, map, slice_index, ℕ, ◌*◌, ◌<◌, ◌/◌, ◌%◌, Bool, true, false, nat_eq, nat_lt, List, [], ◌++◌, slice_index_or, slice_set, bit_and, bit_or, Fits, w8, w32, w64, Bor, MutBor}
-use Rattle.term_core.specs.Term.{meaning_of}
-use Rattle.term_reader.specs.inside.Marks.{Begins, Continues, Follows, GoesIn, InList, InTail, InTuple, open_in, opened_in}
+use Rattle.std.proofs.Common.{arith}
+use Rattle.term_reader.proofs.LeafTexts.{leaf_shortens}
+use Rattle.term_reader.proofs.Marks.{bad, leaf_begins, no_leaf_begins}
 use Rattle.term_reader.proofs.brackets.begin_leaf.Goals as goal
 
--- src/brackets.rt:113:1
 pub returns-in-Read : goal.returns-in-Read
-returns-in-Read c = ?
+returns-in-Read c =
+    let r = rw c.in-Read.is at c.in_ok-term.ensures in
+    record { same = leaf_begins _ _ _ _ c.requires.no_tuple c.requires.no_list r; less = leaf_shortens _ _ _ r }
 
--- src/brackets.rt:113:1
 pub returns-in-Bad : goal.returns-in-Bad
-returns-in-Bad c = ?
+returns-in-Bad c =
+    let r = rw c.in-Bad.is at c.in_ok-term.ensures in
+    bad _ _ _ (omega arith) (omega arith) (no_leaf_begins _ _ c.requires.no_tuple c.requires.no_list r)

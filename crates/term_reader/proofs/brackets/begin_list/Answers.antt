@@ -1,12 +1,12 @@
-use Rattle.std.proofs.Common.{rules, ◌≡◌, ◌≢◌, ◌≤◌, ◌+◌, ◌-◌, ◌∷◌, length, map, slice_index, ℕ, ◌*◌, ◌<◌, ◌/◌, ◌%◌, Bool, true, false, nat_eq, nat_lt, List, [], ◌++◌, slice_index_or, slice_set, bit_and, bit_or, Fits, w8, w32, w64, Bor, MutBor}
-use Rattle.term_core.specs.Term.{meaning_of}
-use Rattle.term_reader.specs.inside.Marks.{Begins, Continues, Follows, GoesIn, InList, InTail, InTuple, open_in, opened_in}
+use Rattle.std.proofs.Common.{◌∷◌, [], arith, ap, length}
+use Rattle.term_reader.specs.inside.Marks.{InList}
+use Rattle.term_reader.proofs.Marks.{begun, nil_begins, goes_in, into_list}
 use Rattle.term_reader.proofs.brackets.begin_list.Goals as goal
 
--- src/brackets.rt:79:1
-pub returns-in-Some-eq93-default : goal.returns-in-Some-eq93-default
-returns-in-Some-eq93-default c = ?
+pub returns-in-Some : goal.returns-in-Some
+returns-in-Some c = record { same = begun _ _ _ _ (ap (λ bs. 91 ∷ bs) c.in-Some.ensures) (nil_begins _ _); less = omega (arith, ap length c.in-Some.ensures) }
 
--- src/brackets.rt:79:1
-pub returns-in_default : goal.returns-in_default
-returns-in_default c = ?
+pub returns-in-None : goal.returns-in-None
+returns-in-None c =
+    let g = rw c.new.ensures.items at c.go_in.ensures in
+    goes_in _ (InList []) _ c.args.behind.now _ _ _ (into_list _ _ c.in-None.ensures) (omega arith) g

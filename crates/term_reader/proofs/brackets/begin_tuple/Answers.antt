@@ -1,12 +1,11 @@
-use Rattle.std.proofs.Common.{rules, ◌≡◌, ◌≢◌, ◌≤◌, ◌+◌, ◌-◌, ◌∷◌, length, map, slice_index, ℕ, ◌*◌, ◌<◌, ◌/◌, ◌%◌, Bool, true, false, nat_eq, nat_lt, List, [], ◌++◌, slice_index_or, slice_set, bit_and, bit_or, Fits, w8, w32, w64, Bor, MutBor}
-use Rattle.term_core.specs.Term.{meaning_of}
-use Rattle.term_reader.specs.inside.Marks.{Begins, Continues, Follows, GoesIn, InList, InTail, InTuple, open_in, opened_in}
+use Rattle.std.proofs.Common.{◌∷◌, ◌∙◌, [], arith, ap, length}
+use Rattle.term_core.specs.Meaning as terms
+use Rattle.term_reader.specs.inside.Marks.{InTuple}
+use Rattle.term_reader.proofs.Marks.{begun, found, empty_tuple, goes_in, into_tuple}
 use Rattle.term_reader.proofs.brackets.begin_tuple.Goals as goal
 
--- src/brackets.rt:60:1
-pub returns-in_ok-empty-in-Some-eq125-default : goal.returns-in_ok-empty-in-Some-eq125-default
-returns-in_ok-empty-in-Some-eq125-default c = ?
+pub returns-in-Some : goal.returns-in-Some
+returns-in-Some c = ?
 
--- src/brackets.rt:60:1
-pub returns-in_default : goal.returns-in_default
-returns-in_default c = ?
+pub returns-in-None : goal.returns-in-None
+returns-in-None c = ?

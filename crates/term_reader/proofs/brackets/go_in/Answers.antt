@@ -1,12 +1,9 @@
-use Rattle.std.proofs.Common.{rules, ◌≡◌, ◌≢◌, ◌≤◌, ◌+◌, ◌-◌, ◌∷◌, length, map, slice_index, ℕ, ◌*◌, ◌<◌, ◌/◌, ◌%◌, Bool, true, false, nat_eq, nat_lt, List, [], ◌++◌, slice_index_or, slice_set, bit_and, bit_or, Fits, w8, w32, w64, Bor, MutBor}
-use Rattle.term_core.specs.Term.{meaning_of}
-use Rattle.term_reader.specs.inside.Marks.{Begins, Continues, Follows, GoesIn, InList, InTail, InTuple, open_in, opened_in}
+use Rattle.std.proofs.Common.{arith, refl}
+use Rattle.term_reader.proofs.Marks.{length-opened_in, wanted, same_self}
 use Rattle.term_reader.proofs.brackets.go_in.Goals as goal
 
--- src/brackets.rt:106:9
 pub returns-then-len-ge-MOST_OPEN : goal.returns-then-len-ge-MOST_OPEN
-returns-then-len-ge-MOST_OPEN c = ?
+returns-then-len-ge-MOST_OPEN c = ((omega arith, omega arith), omega (arith, length-opened_in c.args.outer.items, c.args.outer.ok.0))
 
--- src/brackets.rt:95:1
 pub returns : goal.returns
-returns c = ?
+returns c = (wanted _ _ c.args.outer.items c.push.new.self.items c.args.next c.args.behind.now c.in_ok-push.ensures.items refl (same_self _), refl)

@@ -1,8 +1,6 @@
-use Rattle.std.proofs.Common.{rules, ◌≡◌, ◌≢◌, ◌≤◌, ◌+◌, ◌-◌, ◌∷◌, length, map, slice_index, ℕ, ◌*◌, ◌<◌, ◌/◌, ◌%◌, Bool, true, false, nat_eq, nat_lt, List, [], ◌++◌, slice_index_or, slice_set, bit_and, bit_or, Fits, w8, w32, w64, Bor, MutBor}
-use Rattle.term_core.specs.Term.{meaning_of}
-use Rattle.term_reader.specs.inside.Marks.{Begins, Continues, Follows, GoesIn, InList, InTail, InTuple, open_in, opened_in}
+use Rattle.std.proofs.Common.{arith}
+use Rattle.term_reader.proofs.Marks.{bad, no_end_at, nothing}
 use Rattle.term_reader.proofs.brackets.go_on.Goals as goal
 
--- src/brackets.rt:143:9
 pub returns-in_default : goal.returns-in_default
-returns-in_default c = ?
+returns-in_default c = bad _ _ _ (omega arith) (omega arith) (no_end_at _ _ _ _ (nothing _ c.in_default.ensures.cases))

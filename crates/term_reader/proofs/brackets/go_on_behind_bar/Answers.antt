@@ -1,12 +1,10 @@
-use Rattle.std.proofs.Common.{rules, ◌≡◌, ◌≢◌, ◌≤◌, ◌+◌, ◌-◌, ◌∷◌, length, map, slice_index, ℕ, ◌*◌, ◌<◌, ◌/◌, ◌%◌, Bool, true, false, nat_eq, nat_lt, List, [], ◌++◌, slice_index_or, slice_set, bit_and, bit_or, Fits, w8, w32, w64, Bor, MutBor}
-use Rattle.term_core.specs.Term.{meaning_of}
-use Rattle.term_reader.specs.inside.Marks.{Begins, Continues, Follows, GoesIn, InList, InTail, InTuple, open_in, opened_in}
+use Rattle.std.proofs.Common.{arith, refl}
+use Rattle.term_reader.proofs.Marks.{bad, wanted, bar_in_list, no_list_behind_bar_at}
 use Rattle.term_reader.proofs.brackets.go_on_behind_bar.Goals as goal
 
--- src/brackets.rt:224:9
-pub returns-in-Some-eq91-default : goal.returns-in-Some-eq91-default
-returns-in-Some-eq91-default c = ?
+pub returns-in-Some : goal.returns-in-Some
+returns-in-Some c = bad _ _ _ (omega arith) (omega arith) (no_list_behind_bar_at _ _ _ _ _ c.in-Some.ensures)
 
--- src/brackets.rt:212:1
 pub returns : goal.returns
-returns c = ?
+returns c =
+    record { same = wanted _ _ c.args.outer.items c.push.new.self.items _ c.args.behind.now c.in_ok-push.ensures.items refl (bar_in_list _ _ _ _ c.in_default.ensures); less = omega arith }

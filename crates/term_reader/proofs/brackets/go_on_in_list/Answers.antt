@@ -1,16 +1,14 @@
-use Rattle.std.proofs.Common.{rules, ◌≡◌, ◌≢◌, ◌≤◌, ◌+◌, ◌-◌, ◌∷◌, length, map, slice_index, ℕ, ◌*◌, ◌<◌, ◌/◌, ◌%◌, Bool, true, false, nat_eq, nat_lt, List, [], ◌++◌, slice_index_or, slice_set, bit_and, bit_or, Fits, w8, w32, w64, Bor, MutBor}
-use Rattle.term_core.specs.Term.{meaning_of}
-use Rattle.term_reader.specs.inside.Marks.{Begins, Continues, Follows, GoesIn, InList, InTail, InTuple, open_in, opened_in}
+use Rattle.std.proofs.Common.{◌∷◌, ◌∙◌, ap, arith}
+use Rattle.term_core.specs.Term.{list_onto}
+use Rattle.term_reader.specs.inside.Marks.{InList}
+use Rattle.term_reader.proofs.Marks.{bad, marked, wanted, found, comma_in_list, list_ends, no_mark_in_list}
 use Rattle.term_reader.proofs.brackets.go_on_in_list.Goals as goal
 
--- src/brackets.rt:193:1
-pub returns-in-44 : goal.returns-in-44
-returns-in-44 c = ?
+pub returns-then-mark-eq44 : goal.returns-then-mark-eq44
+returns-then-mark-eq44 c = ?
 
--- src/brackets.rt:193:1
-pub returns-in-93 : goal.returns-in-93
-returns-in-93 c = ?
+pub returns-then-mark-ne93 : goal.returns-then-mark-ne93
+returns-then-mark-ne93 c = bad _ _ _ (omega arith) (omega arith) (no_mark_in_list _ _ _ _ _ c.if-mark-eq44.false c.if-mark-ne93.true c.if-mark-eq124.false)
 
--- src/brackets.rt:182:1
 pub returns : goal.returns
 returns c = ?

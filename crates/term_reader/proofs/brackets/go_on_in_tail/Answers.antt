@@ -1,8 +1,9 @@
-use Rattle.std.proofs.Common.{rules, ◌≡◌, ◌≢◌, ◌≤◌, ◌+◌, ◌-◌, ◌∷◌, length, map, slice_index, ℕ, ◌*◌, ◌<◌, ◌/◌, ◌%◌, Bool, true, false, nat_eq, nat_lt, List, [], ◌++◌, slice_index_or, slice_set, bit_and, bit_or, Fits, w8, w32, w64, Bor, MutBor}
-use Rattle.term_core.specs.Term.{meaning_of}
-use Rattle.term_reader.specs.inside.Marks.{Begins, Continues, Follows, GoesIn, InList, InTail, InTuple, open_in, opened_in}
+use Rattle.std.proofs.Common.{◌∙◌, ap, arith}
+use Rattle.term_core.specs.Term.{list_onto}
+use Rattle.term_reader.proofs.Marks.{marked, found, tail_closes}
 use Rattle.term_reader.proofs.brackets.go_on_in_tail.Goals as goal
 
--- src/brackets.rt:231:1
 pub returns : goal.returns
-returns c = ?
+returns c =
+    let made = c.in_ok-list_onto.ensures ∙ ap (list_onto _) c.in_ok-end.ensures in
+    record { same = marked _ _ _ 93 _ _ c.if-mark-ne93.false (found _ _ _ _ _ made (tail_closes _ _ _ _ _)); less = omega arith }

@@ -1,11 +1,12 @@
-use Rattle.std.proofs.Common.{rules, ◌≡◌, ◌≢◌, ◌∷◌, IfOk, position, slice_index, ℕ, ◌+◌, ◌-◌, ◌*◌, ◌<◌, ◌≤◌, length, ◌/◌, ◌%◌, Bool, true, false, nat_eq, nat_lt, List, [], ◌++◌, slice_index_or, slice_set, bit_and, bit_or, Fits, w8, w32, w64, Bor, MutBor}
-use Rattle.term_reader.specs.inside.Leaves.{ReadsLeaf, ReadsWord, behind_word, marks, word_of}
+use Rattle.term_reader.proofs.LeafTexts.{reads_word, no_word}
 use Rattle.term_reader.proofs.leaves.read_bare.Goals as goal
 
--- src/leaves.rt:44:1
 pub returns-in-Some : goal.returns-in-Some
-returns-in-Some c = ?
+returns-in-Some c =
+    let r = rw (c.in-Some.is, c.split_word.ensures.front) at c.in_ok-term.ensures in
+    rw c.split_word.ensures.rest (reads_word c.args.text.now _ c.requires r.0 r.1 r.2)
 
--- src/leaves.rt:44:1
 pub returns-in-None : goal.returns-in-None
-returns-in-None c = ?
+returns-in-None c =
+    let r = rw (c.in-None.is, c.split_word.ensures.front) at c.in_ok-term.ensures in
+    no_word c.args.text.now c.requires r

@@ -1,7 +1,5 @@
-use Rattle.std.proofs.Common.{rules, ◌≡◌, ◌≢◌, ◌∷◌, IfOk, position, slice_index, ℕ, ◌+◌, ◌-◌, ◌*◌, ◌<◌, ◌≤◌, length, ◌/◌, ◌%◌, Bool, true, false, nat_eq, nat_lt, List, [], ◌++◌, slice_index_or, slice_set, bit_and, bit_or, Fits, w8, w32, w64, Bor, MutBor}
-use Rattle.term_reader.specs.inside.Leaves.{ReadsLeaf, ReadsWord, behind_word, marks, word_of}
+use Rattle.term_reader.proofs.LeafTexts.{no_pid}
 use Rattle.term_reader.proofs.leaves.read_pid.Goals as goal
 
--- src/leaves.rt:93:9
 pub returns-in_default : goal.returns-in_default
-returns-in_default c = ?
+returns-in_default c = no_pid c.args.numbers.now (rw c.in_default.is at c.in_ok-numbers.ensures)

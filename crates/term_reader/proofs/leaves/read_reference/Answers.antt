@@ -1,15 +1,13 @@
-use Rattle.std.proofs.Common.{rules, ◌≡◌, ◌≢◌, ◌∷◌, IfOk, position, slice_index, ℕ, ◌+◌, ◌-◌, ◌*◌, ◌<◌, ◌≤◌, length, ◌/◌, ◌%◌, Bool, true, false, nat_eq, nat_lt, List, [], ◌++◌, slice_index_or, slice_set, bit_and, bit_or, Fits, w8, w32, w64, Bor, MutBor}
-use Rattle.term_reader.specs.inside.Leaves.{ReadsLeaf, ReadsWord, behind_word, marks, word_of}
+use Rattle.std.proofs.Common.{◌≡◌, [], rules, ◌∙◌, ap}
+use Rattle.term_reader.specs.inside.Leaves.{text_of_numbers}
+use Rattle.term_reader.proofs.LeafTexts.{no_reference_pid, no_reference_numbers, no_reference_number}
 use Rattle.term_reader.proofs.leaves.read_reference.Goals as goal
 
--- src/leaves.rt:103:9
 pub returns-in_default : goal.returns-in_default
-returns-in_default c = ?
+returns-in_default c = no_reference_pid c.args.text.now c.in_default.ensures
 
--- src/leaves.rt:106:9
 pub returns-in_default-2 : goal.returns-in_default-2
-returns-in_default-2 c = ?
+returns-in_default-2 c = no_reference_numbers c.args.text.now _ c.in-Some.ensures (rw c.in_default-2.is at c.in_ok-numbers.ensures)
 
--- src/leaves.rt:109:9
 pub returns-in_default-pop : goal.returns-in_default-pop
 returns-in_default-pop c = ?

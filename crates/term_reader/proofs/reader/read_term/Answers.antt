@@ -1,26 +1,26 @@
-use Rattle.std.proofs.Common.{rules, ◌≡◌, ◌≢◌, ◌≤◌, [], length, IfOk, IfErr, MatchResult, ℕ, ◌+◌, ◌-◌, ◌*◌, ◌<◌, ◌/◌, ◌%◌, Bool, true, false, nat_eq, nat_lt, List, ◌∷◌, ◌++◌, slice_index_or, slice_set, bit_and, bit_or, Fits, w8, w32, w64, Bor, MutBor}
-use Rattle.term_core.specs.Meaning.{Meaning}
-use Rattle.term_core.specs.Term.{meaning_of}
-use Rattle.term_core.specs.TermText.{text_of_term}
-use Rattle.term_reader.specs.Lawful.{IsLawful, MayRefuse, IsPlace}
+use Rattle.std.proofs.Common.{◌≡◌, length, rules, arith}
+use Rattle.term_reader.specs.inside.Marks.{Means, rest_of}
+use Rattle.term_reader.proofs.Marks.{starts, ended_ok, ended_only, holds_on, refused_on, popped}
 use Rattle.term_reader.proofs.reader.read_term.Goals as goal
+use Rattle.term_reader.proofs.reader.read_term.Goals.{in-Wanted, in-Found+in-Some}
 
--- src/reader.rt:37:5
 pub marks-init : goal.marks-init
-marks-init c = ?
+marks-init c = record { same = starts _ _ c.new.ensures.items; within = omega arith }
 
--- src/reader.rt:42:21
 pub returns-in_default-clause-ok : goal.returns-in_default-clause-ok
-returns-in_default-clause-ok c = ?
+returns-in_default-clause-ok c =
+    let h = rw c.in-Found.is at c.marks.invariant in
+    let none : length c.in-Found.outer.items ≡ 0 = search rules in
+    ended_ok _ c.in-Found.outer.items _ _ c.ended.result h.same none c.ended.ensures.ok
 
--- src/reader.rt:42:21
 pub returns-in_default-clause-only : goal.returns-in_default-clause-only
-returns-in_default-clause-only c = ?
+returns-in_default-clause-only c =
+    let h = rw c.in-Found.is at c.marks.invariant in
+    let none : length c.in-Found.outer.items ≡ 0 = search rules in
+    ended_only _ c.in-Found.outer.items _ _ c.ended.result h.same none c.ended.ensures.ok c.ended.ensures.fault
 
--- src/reader.rt:37:5
 pub marks-preserved : goal.marks-preserved
 marks-preserved c = ?
 
--- src/reader.rt:49:27
 pub returns-in-Err-clause-only : goal.returns-in-Err-clause-only
 returns-in-Err-clause-only c = ?
