@@ -10,4 +10,7 @@ pub returns-in_default-2 : goal.returns-in_default-2
 returns-in_default-2 c = no_reference_numbers c.args.text.now _ c.in-Some.ensures (rw c.in_default-2.is at c.in_ok-numbers.ensures)
 
 pub returns-in_default-pop : goal.returns-in_default-pop
-returns-in_default-pop c = ?
+returns-in_default-pop c =
+    let none : c.in-Some-2.numbers.items ≡ [] = search rules in
+    let r = rw c.in-Some-2.is at c.in_ok-numbers.ensures in
+    no_reference_number c.args.text.now _ c.in-Some.ensures (r.1 ∙ ap text_of_numbers none)
