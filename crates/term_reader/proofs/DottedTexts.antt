@@ -1,8 +1,7 @@
 -- The texts of numbers behind dots, and the numbers that are read of one.
-use Rattle.std.proofs.Common.{◌≡◌, ◌==◌, ◌⊎◌, ℕ, zero, suc, ◌≤◌, ◌<◌, ◌^◌, true, false, List, [], ◌∷◌, ◌++◌, inl, inr, ap, ap₂, sym, refl, ◌∙◌, subst, arith, ne_eqb, append_assoc, append-nil, length, get_or}
+use Rattle.std.proofs.Common.{◌≡◌, ◌==◌, ℕ, ◌<◌, ◌^◌, false, List, [], ◌∷◌, ◌++◌, ap, ap₂, sym, refl, ◌∙◌, arith, ne_eqb, append_assoc, append-nil}
 use Rattle.std.proofs.lemmas.Fmt.{decimal_injective, decimal_digit}
 use Rattle.std.specs.Fmt.{decimal}
-use Rattle.std.specs.List.{AllByRecursion}
 use Rattle.term_core.proofs.Pieces.{Lacks, Begins, front, behind, front-append-behind, front-append, behind-append, one_cut, all-append, all_weaker}
 use Rattle.term_core.proofs.NumberTexts.{IsDigit, all_digits-decimal}
 use Rattle.term_reader.specs.Lawful.{AreNumbers}

@@ -1,5 +1,5 @@
 -- The texts of integers.
-use Rattle.std.proofs.Common.{◌≡◌, ◌≢◌, ◌⊎◌, inl, inr, ℕ, ℤ, pos, negsuc, zero, suc, ◌≤◌, ◌<◌, ◌^◌, ◌+◌, true, List, [], ◌∷◌, length, get_or, slice_index, drop, neg_ℤ, Result, Ok, Err, Option, Some, None, MatchOption, IsUtf8, ap, sym, ◌∙◌, refl, subst, arith, w64}
+use Rattle.std.proofs.Common.{◌≡◌, ◌≢◌, inl, inr, ℕ, ℤ, pos, negsuc, zero, suc, ◌≤◌, ◌<◌, ◌^◌, true, List, [], ◌∷◌, length, get_or, slice_index, drop, neg_ℤ, Result, Ok, Err, Option, Some, None, MatchOption, IsUtf8, ap, sym, ◌∙◌, refl, subst, arith, w64}
 use Rattle.std.proofs.lemmas.Bool.Decides.{nat_tests}
 use Rattle.std.proofs.lemmas.Fmt.{decimal-digits_value, decimal_digit, decimal_nonempty, parse-signed_decimal, IsAscii-signed}
 use Rattle.std.proofs.lemmas.Str.{IsUtf8-from_ascii}

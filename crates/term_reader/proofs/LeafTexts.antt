@@ -1,8 +1,8 @@
 -- The texts of leaves.
-use Rattle.std.proofs.Common.{◌≡◌, ◌≢◌, ◌==◌, ℕ, zero, suc, ◌≤◌, ◌<◌, ◌^◌, ◌+◌, true, false, List, [], ◌∷◌, ◌++◌, length, get_or, slice_index, ap, ap₂, sym, refl, ◌∙◌, subst, arith, ne_eqb, append_assoc, append-nil, ℤ, pos, negsuc, IsUtf8, length-append}
+use Rattle.std.proofs.Common.{◌≡◌, ◌≢◌, ℕ, suc, ◌≤◌, ◌<◌, ◌^◌, true, false, List, [], ◌∷◌, ◌++◌, length, get_or, slice_index, ap, ap₂, sym, refl, ◌∙◌, subst, arith, ne_eqb, append_assoc, append-nil, ℤ, pos, negsuc, IsUtf8, length-append}
 use Rattle.std.proofs.lemmas.Fmt.{signed_decimal_injective}
 use Rattle.std.specs.Fmt.{decimal, signed_decimal}
-use Rattle.std.specs.List.{AllByRecursion, flat_map}
+use Rattle.std.specs.List.{flat_map}
 use Rattle.term_core.proofs.NumberTexts.{IsDigit, all_digits-decimal}
 use Rattle.term_core.proofs.Pieces.{all-append, all_weaker}
 use Rattle.term_core.specs.Integers.{has_64_bits}
@@ -221,6 +221,7 @@ no_atom inside none m rest leaf l ends e = no_leaf m leaf l e
     first_above : (ds inside rest : List ℕ) → (0 < length ds) × (45 ≤ get_or ds 0 0) × (get_or ds 0 0 ≤ 57) → 39 ∷ inside ≡ ds ++ rest → ⊥
     first_above [] inside rest f e = omega (arith, f.0)
     first_above (d ∷ ds) inside rest f e = omega (arith, f.1, ap (λ bs. get_or bs 0 0) e)
+
     no_leaf : (m : Meaning) → IsLeaf m → IsLawful m → 39 ∷ inside ≡ text_of_term m ++ rest → ⊥
     no_leaf (Int n) leaf l e = first_above (signed_decimal n) inside rest (integer_first n l) e
     no_leaf (Atom t) leaf l e = let same : inside ≡ (flat_map printed_byte t ++ 39 ∷ []) ++ rest = cc in none t rest (same ∙ append_assoc (flat_map printed_byte t) (39 ∷ []) rest)

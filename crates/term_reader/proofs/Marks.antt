@@ -1,5 +1,5 @@
 -- What each mark does to what is open.
-use Rattle.std.proofs.Common.{◌≡◌, ◌≢◌, ◌==◌, ◌||◌, ◌⊎◌, inl, inr, ℕ, zero, suc, ◌+◌, ◌≤◌, ◌<◌, true, false, List, [], ◌∷◌, ◌++◌, length, get_or, ap, ap₂, sym, refl, ◌∙◌, subst, arith, append_assoc, append-nil, Result, Ok, Err, IfOk, IfErr, MatchResult, ℤ, length-append}
+use Rattle.std.proofs.Common.{◌≡◌, ◌≢◌, ℕ, ◌+◌, ◌≤◌, ◌<◌, true, List, [], ◌∷◌, ◌++◌, length, get_or, ap, sym, refl, ◌∙◌, subst, arith, append_assoc, append-nil, Result, Ok, Err, IfOk, IfErr, MatchResult, ℤ, length-append}
 use Rattle.std.specs.Fmt.{signed_decimal}
 use Rattle.term_core.specs.Integers.{has_64_bits}
 use Rattle.term_core.specs.Meaning.{Meaning, Meanings, Int, Atom, Ref, Pid, Tuple, Nil, Cons, NoMore, Also, meanings_of, node_count, node_counts}
@@ -8,7 +8,7 @@ use Rattle.term_core.specs.TermText.{text_of_term, text_of_tail, text_of_tuple, 
 use Rattle.term_reader.proofs.IntegerTexts.{integer_first}
 use Rattle.term_reader.specs.Lawful.{IsLawful, AreLawful, MayRefuse, IsPlace}
 use Rattle.term_reader.specs.inside.Leaves.{Ends, IsLeaf, Reads, NoLeaf}
-use Rattle.term_reader.specs.inside.Marks.{Opened, InTuple, InList, InTail, opened_in, open_in, parts_onto, Continues, AtEnd, AmongParts, AmongHeads, AsTail, Begins, IsSame, Means, rest_of, GoesOn, Refuses, Follows, IsTooMuch, GoesIn}
+use Rattle.term_reader.specs.inside.Marks.{Opened, InTuple, InList, InTail, opened_in, open_in, parts_onto, Continues, AtEnd, AmongParts, AmongHeads, AsTail, Begins, IsSame, Means, rest_of, Refuses, Follows, IsTooMuch, GoesIn}
 use Rattle.term_core.specs.declared.term.Term.{Term}
 use Rattle.term_reader.specs.declared.brackets.Open.{Open}
 use Rattle.term_reader.specs.declared.brackets.State.{State}
@@ -207,7 +207,9 @@ comma_in_tuple_to ps outer x r m (AmongParts NoMore b l e k) = absurd (omega (ar
 comma_in_tuple_to ps outer x r m (AmongParts (Also f o) b l e k) =
     let same : r ≡ (text_of_term f ++ text_of_others o) ++ b = cc in
     record {
-      term = f; behind = text_of_others o ++ b; lawful = l.0;
+      term = f;
+      behind = text_of_others o ++ b;
+      lawful = l.0;
       text = same ∙ append_assoc (text_of_term f) (text_of_others o) b;
       next = AmongParts o b l.1 refl (renamed outer _ _ m b (ap Tuple (sym (parts_onto-append ps x (Also f o)))) k);
     }
@@ -215,7 +217,7 @@ comma_in_tuple_to ps outer x r m (AmongParts (Also f o) b l e k) =
 comma_in_tuple_from : (ps : List Meaning) (outer : List Opened) (x : Meaning) (r : List ℕ) (m f : Meaning) (behind : List ℕ) → IsLawful f → r ≡ text_of_term f ++ behind → Continues (InTuple (ps ++ x ∷ []) ∷ outer) f behind m → Continues (InTuple ps ∷ outer) x (44 ∷ r) m
 comma_in_tuple_from ps outer x r m f behind l e (AmongParts o b lo g k) =
     AmongParts (Also f o) b (l, lo) (ap (λ w. 44 ∷ w) (e ∙ ap (λ w. text_of_term f ++ w) g ∙ sym (append_assoc (text_of_term f) (text_of_others o) b)))
-      (renamed outer _ _ m b (ap Tuple (parts_onto-append ps x (Also f o))) k)
+    (renamed outer _ _ m b (ap Tuple (parts_onto-append ps x (Also f o))) k)
 
 -- a comma behind a part
 pub comma_in_tuple : (ps : List Meaning) (outer : List Opened) (x : Meaning) (r : List ℕ) → IsSame (Continues (InTuple ps ∷ outer) x (44 ∷ r)) (Begins (InTuple (ps ++ x ∷ []) ∷ outer) r)
@@ -296,7 +298,9 @@ comma_in_list_to hs outer x r m (AmongHeads Nil b l e k) = absurd (omega (arith,
 comma_in_list_to hs outer x r m (AmongHeads (Cons h t) b l e k) =
     let same : r ≡ (text_of_term h ++ text_of_tail t) ++ b = cc in
     record {
-      term = h; behind = text_of_tail t ++ b; lawful = l.0;
+      term = h;
+      behind = text_of_tail t ++ b;
+      lawful = l.0;
       text = same ∙ append_assoc (text_of_term h) (text_of_tail t) b;
       next = AmongHeads t b l.1 refl (renamed outer _ _ m b (sym (list_onto-append hs x (Cons h t))) k);
     }
@@ -304,7 +308,7 @@ comma_in_list_to hs outer x r m (AmongHeads (Cons h t) b l e k) =
 comma_in_list_from : (hs : List Meaning) (outer : List Opened) (x : Meaning) (r : List ℕ) (m h : Meaning) (behind : List ℕ) → IsLawful h → r ≡ text_of_term h ++ behind → Continues (InList (hs ++ x ∷ []) ∷ outer) h behind m → Continues (InList hs ∷ outer) x (44 ∷ r) m
 comma_in_list_from hs outer x r m h behind l e (AmongHeads t b lt g k) =
     AmongHeads (Cons h t) b (l, lt) (ap (λ w. 44 ∷ w) (e ∙ ap (λ w. text_of_term h ++ w) g ∙ sym (append_assoc (text_of_term h) (text_of_tail t) b)))
-      (renamed outer _ _ m b (list_onto-append hs x (Cons h t)) k)
+    (renamed outer _ _ m b (list_onto-append hs x (Cons h t)) k)
 
 -- a comma behind a head
 pub comma_in_list : (hs : List Meaning) (outer : List Opened) (x : Meaning) (r : List ℕ) → IsSame (Continues (InList hs ∷ outer) x (44 ∷ r)) (Begins (InList (hs ++ x ∷ []) ∷ outer) r)

@@ -1,6 +1,6 @@
 -- Words, which end before a mark or at the end of a text.
-use Rattle.std.proofs.Common.{◌≡◌, ℕ, ◌+◌, Bool, true, false, List, [], ◌∷◌, ◌++◌, length, drop, take_at, drop_at, take-append-drop, ap, sym, refl, ◌∙◌, arith, one-add}
-use Rattle.std.specs.List.{AllByRecursion, position_or_len, before_first}
+use Rattle.std.proofs.Common.{◌≡◌, ℕ, Bool, true, false, List, [], ◌∷◌, ◌++◌, length, take_at, drop_at, take-append-drop, sym, refl, arith}
+use Rattle.std.specs.List.{AllByRecursion, position_or_len}
 use Rattle.term_reader.specs.inside.Leaves.{marks, Ends, word_of, behind_word}
 
 -- no byte is a mark

@@ -144,7 +144,9 @@ pub(crate) fn go_on<'a>(
     match last {
         Open::Tuple(parts) => go_on_in_tuple(alloc, text, outer, parts, term, *mark, behind),
         Open::List(heads) => go_on_in_list(alloc, text, outer, heads, term, *mark, behind),
-        Open::Tail(heads, head) => go_on_in_tail(alloc, text, outer, heads, head, term, *mark, behind),
+        Open::Tail(heads, head) => go_on_in_tail(
+            alloc, text, outer, heads, head, term, *mark, behind,
+        ),
     }
 }
 

@@ -37,14 +37,14 @@ parts_onto (part ∷ parts) others = Also part (parts_onto parts others)
 pub data Continues : List Opened → Meaning → List ℕ → Meaning → Type 0 where
   AtEnd : {term : Meaning} {rest : List ℕ} {whole : Meaning} → whole ≡ term → rest ≡ [] → Continues [] term rest whole
   AmongParts : {parts : List Meaning} {outer : List Opened} {term : Meaning} {rest : List ℕ} {whole : Meaning} (others : Meanings) (behind : List ℕ)
-    → AreLawful others → rest ≡ text_of_others others ++ behind → Continues outer (terms.Tuple (parts_onto parts (Also term others))) behind whole
-    → Continues (InTuple parts ∷ outer) term rest whole
+      → AreLawful others → rest ≡ text_of_others others ++ behind → Continues outer (terms.Tuple (parts_onto parts (Also term others))) behind whole
+      → Continues (InTuple parts ∷ outer) term rest whole
   AmongHeads : {heads : List Meaning} {outer : List Opened} {term : Meaning} {rest : List ℕ} {whole : Meaning} (tail : Meaning) (behind : List ℕ)
-    → IsLawful tail → rest ≡ text_of_tail tail ++ behind → Continues outer (list_onto heads (Cons term tail)) behind whole
-    → Continues (InList heads ∷ outer) term rest whole
+      → IsLawful tail → rest ≡ text_of_tail tail ++ behind → Continues outer (list_onto heads (Cons term tail)) behind whole
+      → Continues (InList heads ∷ outer) term rest whole
   AsTail : {heads : List Meaning} {head : Meaning} {outer : List Opened} {term : Meaning} {rest : List ℕ} {whole : Meaning} (behind : List ℕ)
-    → rest ≡ 93 ∷ behind → Continues outer (list_onto heads (Cons head term)) behind whole
-    → Continues (InTail heads head ∷ outer) term rest whole
+      → rest ≡ 93 ∷ behind → Continues outer (list_onto heads (Cons head term)) behind whole
+      → Continues (InTail heads head ∷ outer) term rest whole
 
 -- some term begins the bytes that are left, stands in what is open, and the whole is this term
 pub record Begins (outer : List Opened) (rest : List ℕ) (whole : Meaning) : Type 0 where

@@ -1,5 +1,5 @@
-use Rattle.std.proofs.Common.{rules, ap, sym, ◌∙◌, append-nil, subst, refl}
-use Rattle.term_reader.proofs.DottedTexts.{reads_none, reads_more, no_dot, no_digits}
+use Rattle.std.proofs.Common.{rules}
+use Rattle.term_reader.proofs.DottedTexts.{reads_more, no_dot, no_digits}
 use Rattle.term_reader.proofs.numbers.read_numbers.Goals as goal
 
 pub returns-then-dot-ne46 : goal.returns-then-dot-ne46

@@ -1,9 +1,6 @@
 use Rattle.std.proofs.Common.{◌≡◌, length, rules, arith, sym, ◌∙◌}
-use Rattle.term_reader.specs.Lawful.{IsLawful, MayRefuse}
 use Rattle.term_reader.specs.inside.Marks.{Follows, Means, rest_of}
-use Rattle.term_reader.proofs.Marks.{Holds, starts, ended_ok, ended_only, holds_on, refused_on, popped}
-use Rattle.term_core.specs.Meaning.{Meaning}
-use Rattle.term_core.specs.TermText.{text_of_term}
+use Rattle.term_reader.proofs.Marks.{starts, ended_ok, ended_only, holds_on, refused_on, popped}
 use Rattle.term_reader.proofs.reader.read_term.Goals as goal
 use Rattle.term_reader.proofs.reader.read_term.Goals.{in-Wanted, in-Found+in-Some}
 
@@ -24,22 +21,22 @@ returns-in_default-clause-only c =
 
 pub marks-preserved : goal.marks-preserved
 marks-preserved c = elim c.match-state.branch [
-    in-Wanted w ↦
+  | in-Wanted w ↦
       let f : Follows (Means c.marks.state) (rest_of c.marks.state) c.args.text.now w.begin-next.result = rw w.in-Wanted.is w.begin-next.ensures in
       holds_on c.args.text.now c.marks.state c.in-Ok.reached w.begin-next.result c.marks.invariant f (sym w.next-is ∙ c.in-Ok.is)
   | in-Found+in-Some w ↦
       let g = popped w.in-Found.outer.items w.pop.new.self.items _ _ _ _ _ w.in-Some.ensures.items w.go_on-next.ensures in
       let f : Follows (Means c.marks.state) (rest_of c.marks.state) c.args.text.now w.go_on-next.result = rw w.in-Found.is g in
       holds_on c.args.text.now c.marks.state c.in-Ok.reached w.go_on-next.result c.marks.invariant f (sym w.next-is ∙ c.in-Ok.is)
-  ]
+]
 
 pub returns-in-Err-clause-only : goal.returns-in-Err-clause-only
 returns-in-Err-clause-only c = elim c.match-state.branch [
-    in-Wanted w ↦
+  | in-Wanted w ↦
       let f : Follows (Means c.marks.state) (rest_of c.marks.state) c.args.text.now w.begin-next.result = rw w.in-Wanted.is w.begin-next.ensures in
       refused_on c.args.text.now c.marks.state c.in-Err.fault w.begin-next.result c.marks.invariant f (sym w.next-is ∙ c.in-Err.is)
   | in-Found+in-Some w ↦
       let g = popped w.in-Found.outer.items w.pop.new.self.items _ _ _ _ _ w.in-Some.ensures.items w.go_on-next.ensures in
       let f : Follows (Means c.marks.state) (rest_of c.marks.state) c.args.text.now w.go_on-next.result = rw w.in-Found.is g in
       refused_on c.args.text.now c.marks.state c.in-Err.fault w.go_on-next.result c.marks.invariant f (sym w.next-is ∙ c.in-Err.is)
-  ]
+]
