@@ -14,6 +14,8 @@ mod streams;
 #[cfg(test)]
 mod term_order;
 #[cfg(test)]
+mod term_reading;
+#[cfg(test)]
 mod term_words;
 #[cfg(test)]
 mod terms;

@@ -25,7 +25,7 @@ pub(crate) fn prints(alloc: Global, term: &Term, text: &[u8]) -> Result<(), Fail
 }
 
 // Terms, and how they are printed.
-const PRINTED: [(&[Word], &[u8]); 22] = [
+pub(crate) const PRINTED: [(&[Word], &[u8]); 22] = [
     (&[Int(0)], b"0"),
     (&[Int(i64::MAX)], b"9223372036854775807"),
     (&[Int(i64::MIN)], b"-9223372036854775808"),
