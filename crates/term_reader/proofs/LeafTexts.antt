@@ -76,7 +76,7 @@ same_integer (negsuc n) (pos k) h j e = signed_decimal_injective (negsuc n) (pos
 same_integer (negsuc n) (negsuc k) h j e = signed_decimal_injective (negsuc n) (negsuc k) (bits_below_negative n h) (bits_below_negative k j) e
 
 -- two lawful words with one text are one
-word_injective : (x y : Meaning) → IsWord x → IsWord y → IsLawful x → IsLawful y → text_of_term x ≡ text_of_term y → x ≡ y
+pub word_injective : (x y : Meaning) → IsWord x → IsWord y → IsLawful x → IsLawful y → text_of_term x ≡ text_of_term y → x ≡ y
 word_injective (Int n) (Int k) v w l j e = ap Int (same_integer n k l j e)
 word_injective (Int n) (Ref q k) v w l j e = absurd (not_that _ _ 35 (integer_first n l) (omega arith) (sym e))
 word_injective (Int n) (Pid q) v w l j e = absurd (not_this _ _ 80 (integer_first n l) (omega arith) (sym e))

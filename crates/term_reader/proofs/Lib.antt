@@ -4,3 +4,4 @@ pub mod QuotedTexts
 pub mod Marks
 pub mod Words
 pub mod LeafTexts
+pub mod OneTerm

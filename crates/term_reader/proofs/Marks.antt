@@ -1,14 +1,14 @@
 -- What each mark does to what is open.
-use Rattle.std.proofs.Common.{◌≡◌, ◌≢◌, ℕ, ◌+◌, ◌≤◌, ◌<◌, true, List, [], ◌∷◌, ◌++◌, length, get_or, ap, sym, refl, ◌∙◌, subst, arith, append_assoc, append-nil, Result, Ok, Err, IfOk, IfErr, MatchResult, ℤ, length-append}
+use Rattle.std.proofs.Common.{◌≡◌, ◌≢◌, inl, inr, ℕ, ◌+◌, ◌≤◌, ◌<◌, true, List, [], ◌∷◌, ◌++◌, length, get_or, slice_index, ap, sym, refl, ◌∙◌, subst, arith, append_assoc, append-nil, Result, Ok, Err, IfOk, IfErr, MatchResult, ℤ, pos, length-append}
 use Rattle.std.specs.Fmt.{signed_decimal}
 use Rattle.term_core.specs.Integers.{has_64_bits}
 use Rattle.term_core.specs.Meaning.{Meaning, Meanings, Int, Atom, Ref, Pid, Tuple, Nil, Cons, NoMore, Also, meanings_of, node_count, node_counts}
 use Rattle.term_core.specs.Term.{meaning_of, list_onto}
 use Rattle.term_core.specs.TermText.{text_of_term, text_of_tail, text_of_tuple, text_of_others}
-use Rattle.term_reader.proofs.IntegerTexts.{integer_first}
-use Rattle.term_reader.specs.Lawful.{IsLawful, AreLawful, MayRefuse, IsPlace}
+use Rattle.term_reader.proofs.IntegerTexts.{integer_first, zero_text}
+use Rattle.term_reader.specs.Lawful.{IsLawful, AreLawful, MayRefuse, IsPlace, HasPlace}
 use Rattle.term_reader.specs.inside.Leaves.{Ends, IsLeaf, Reads, NoLeaf}
-use Rattle.term_reader.specs.inside.Marks.{Opened, InTuple, InList, InTail, opened_in, open_in, parts_onto, Continues, AtEnd, AmongParts, AmongHeads, AsTail, Begins, IsSame, Means, rest_of, Refuses, Follows, IsTooMuch, GoesIn}
+use Rattle.term_reader.specs.inside.Marks.{Opened, InTuple, InList, InTail, opened_in, open_in, parts_onto, Continues, AtEnd, AmongParts, AmongHeads, AsTail, Begins, IsSame, IsLike, Means, MeansAt, rest_of, GoesOn, LiesAt, Lies, Refuses, Follows, IsTooMuch, IsBefore, GoesIn}
 use Rattle.term_core.specs.declared.term.Term.{Term}
 use Rattle.term_reader.specs.declared.brackets.Open.{Open}
 use Rattle.term_reader.specs.declared.brackets.State.{State}
@@ -19,10 +19,13 @@ use Rattle.term_reader.specs.declared.fault.TermFault.TheVariants.{BadTerm, TooD
 abbrev pub HasText : List ℕ → Meaning → Type 0
 HasText text m = IsLawful m × (text ≡ text_of_term m)
 
--- what reading keeps: the whole can be the terms whose text this is
+-- What reading keeps: the whole can be the terms whose text this is, also if other bytes were left.
 pub record Holds (text : List ℕ) (state : State) : Type 0 where
-  pub same : IsSame (HasText text) (Means state)
+  pub read : List ℕ
+  pub parts : text ≡ read ++ rest_of state
   pub within : length (rest_of state) ≤ length text
+  pub same : IsSame (HasText text) (Means state)
+  pub wider : (left : List ℕ) (m : Meaning) → IsLike (rest_of state) left → MeansAt state left m → HasText (read ++ left) m
 
 pub same_then : (P Q R : Meaning → Type 0) → IsSame P Q → IsSame Q R → IsSame P R
 same_then P Q R a b = record { to = λ m p. b.to m (a.to m p); from = λ m r. a.from m (b.from m r) }
@@ -105,11 +108,11 @@ leaf_first (Cons m n) r behind h k e = absurd (k (ap (λ bs. get_or bs 0 0) e))
 
 -- WHAT STANDS BEHIND A TERM
 
-others_ends : (ms : Meanings) (behind : List ℕ) → Ends (text_of_others ms ++ behind)
+pub others_ends : (ms : Meanings) (behind : List ℕ) → Ends (text_of_others ms ++ behind)
 others_ends NoMore behind = refl
 others_ends (Also m ms) behind = refl
 
-tail_ends : (t : Meaning) (behind : List ℕ) → Ends (text_of_tail t ++ behind)
+pub tail_ends : (t : Meaning) (behind : List ℕ) → Ends (text_of_tail t ++ behind)
 tail_ends (Int n) behind = refl
 tail_ends (Atom t) behind = refl
 tail_ends (Ref p n) behind = refl
@@ -334,7 +337,7 @@ list_ends hs outer x r = record {
 }
 
 -- a last tail stands behind a bar
-bar_text : (t : Meaning) (behind : List ℕ) → IsLast t → text_of_tail t ++ behind ≡ 124 ∷ (text_of_term t ++ 93 ∷ behind)
+pub bar_text : (t : Meaning) (behind : List ℕ) → IsLast t → text_of_tail t ++ behind ≡ 124 ∷ (text_of_term t ++ 93 ∷ behind)
 bar_text (Int n) behind k = ap (λ w. 124 ∷ w) (append_assoc (text_of_term (Int n)) (93 ∷ []) behind)
 bar_text (Atom t) behind k = ap (λ w. 124 ∷ w) (append_assoc (text_of_term (Atom t)) (93 ∷ []) behind)
 bar_text (Ref p n) behind k = ap (λ w. 124 ∷ w) (append_assoc (text_of_term (Ref p n)) (93 ∷ []) behind)
@@ -448,25 +451,111 @@ depth (AsTail {heads = hs} {head = h} {term = x} b e k) = omega (arith, depth k,
 deep : (o : Opened) (outer : List Opened) (rest : List ℕ) (m : Meaning) → Begins (o ∷ outer) rest m → 10000 ≤ length outer → 10000 < node_count m
 deep o outer rest m p h = omega (arith, depth p.next, node_count-pos p.term)
 
+-- WHERE READING CAN GO ON
+
+-- marks that close what is open
+record Closing (outer : List Opened) (x : Meaning) : Type 0 where
+  left : List ℕ
+  whole : Meaning
+  like : slice_index left 0 ≢ 91
+  next : Continues outer x left whole
+
+closing : (outer : List Opened) (x : Meaning) → Closing outer x
+closing [] x = record { left = []; whole = x; like = omega arith; next = AtEnd refl refl }
+closing (InTuple ps ∷ outer) x =
+    let k = closing outer (Tuple (parts_onto ps (Also x NoMore))) in
+    record { left = 125 ∷ k.left; whole = k.whole; like = omega arith; next = AmongParts NoMore k.left tt refl k.next }
+closing (InList hs ∷ outer) x =
+    let k = closing outer (list_onto hs (Cons x Nil)) in
+    record { left = 93 ∷ k.left; whole = k.whole; like = omega arith; next = AmongHeads Nil k.left tt refl k.next }
+closing (InTail hs h ∷ outer) x =
+    let k = closing outer (list_onto hs (Cons h x)) in
+    record { left = 93 ∷ k.left; whole = k.whole; like = omega arith; next = AsTail k.left refl k.next }
+
+-- a 0 where a term is wanted
+with_zero : (outer : List Opened) (left : List ℕ) (m : Meaning) → Continues outer (Int (pos 0)) left m → Begins outer (48 ∷ left) m
+with_zero outer left m k = record { term = Int (pos 0); behind = left; lawful = refl; text = ap (λ w. w ++ left) (sym zero_text); next = k }
+
+lies_here : (before : List ℕ → Meaning → Type 0) (rest text left : List ℕ) (at : ℕ) (m : Meaning) → at + length rest ≡ length text + 1 → slice_index left 0 ≢ 91 → before left m → LiesAt before rest text at
+lies_here before rest text left at m e like b = record { read = []; behind = rest; left = left; term = m; parts = refl; place = e; like = inr like; goes_on = b }
+
+begins_here : (outer : List Opened) (rest text : List ℕ) (at : ℕ) → at + length rest ≡ length text + 1 → LiesAt (Begins outer) rest text at
+begins_here outer rest text at e = let k = closing outer (Int (pos 0)) in lies_here (Begins outer) rest text (48 ∷ k.left) at k.whole e (omega arith) (with_zero outer k.left k.whole k.next)
+
+continues_here : (outer : List Opened) (x : Meaning) (rest text : List ℕ) (at : ℕ) → at + length rest ≡ length text + 1 → LiesAt (Continues outer x) rest text at
+continues_here outer x rest text at e = let k = closing outer x in lies_here (Continues outer x) rest text k.left at k.whole e k.like k.next
+
 -- STEPS
 
 -- for want of memory all is refused
-pub no_memory : (before : Meaning → Type 0) (text : List ℕ) → Refuses before text Memory
-no_memory before text = record { place = tt; refuses = λ m b. tt }
+pub no_memory : (before : List ℕ → Meaning → Type 0) (rest text : List ℕ) → Refuses before rest text Memory
+no_memory before rest text = record { place = tt; refuses = λ m b. tt }
 
--- where the whole can be nothing, there is a fault
-pub bad : (before : Meaning → Type 0) (text : List ℕ) (at : ℕ) → 1 ≤ at → at ≤ length text + 1 → ((m : Meaning) → before m → ⊥) → Refuses before text (BadTerm at)
-bad before text at low high none = record { place = (low, high); refuses = none }
+-- where no term can begin, there is a fault
+pub bad_begins : (outer : List Opened) (rest text : List ℕ) (at : ℕ) → at + length rest ≡ length text + 1 → ((m : Meaning) → Begins outer rest m → ⊥) → Refuses (Begins outer) rest text (BadTerm at)
+bad_begins outer rest text at e none = record { place = begins_here outer rest text at e; refuses = none }
 
-too_much : (before : Meaning → Type 0) (o : Opened) (outer : List Opened) (behind text : List ℕ) (fault : TermFault) → IsSame before (Begins (o ∷ outer) behind) → IsPlace text fault → IsTooMuch outer fault → Refuses before text fault
-too_much before o outer behind text (BadTerm at) s p t = absurd t
-too_much before o outer behind text (TooDeep at) s p t = record { place = p; refuses = λ m b. deep o outer behind m (s.to m b) t }
-too_much before o outer behind text Memory s p t = no_memory before text
+-- and where none can go on
+pub bad_continues : (outer : List Opened) (x : Meaning) (rest text : List ℕ) (at : ℕ) → at + length rest ≡ length text + 1 → ((m : Meaning) → Continues outer x rest m → ⊥) → Refuses (Continues outer x) rest text (BadTerm at)
+bad_continues outer x rest text at e none = record { place = continues_here outer x rest text at e; refuses = none }
+
+-- and behind a bar
+pub bad_bar : (hs : List Meaning) (outer : List Opened) (x : Meaning) (behind text : List ℕ) (at : ℕ) → at + length behind ≡ length text + 1 → ((m : Meaning) → Continues (InList hs ∷ outer) x (124 ∷ behind) m → ⊥) → Refuses (Continues (InList hs ∷ outer) x) (124 ∷ behind) text (BadTerm at)
+bad_bar hs outer x behind text at e none =
+    let k = closing (InTail hs x ∷ outer) (Int (pos 0)) in
+    record {
+      place = record {
+        read = 124 ∷ [];
+        behind = behind;
+        left = 48 ∷ k.left;
+        term = k.whole;
+        parts = refl;
+        place = e;
+        like = inl refl;
+        goes_on = (bar_in_list hs outer x (48 ∷ k.left) (omega arith)).from k.whole (with_zero (InTail hs x ∷ outer) k.left k.whole k.next);
+      };
+      refuses = none;
+    }
+
+too_much : (o : Opened) (outer : List Opened) (mark : ℕ) (behind text : List ℕ) (fault : TermFault) → IsSame (Begins outer (mark ∷ behind)) (Begins (o ∷ outer) behind) → IsBefore behind text fault → IsTooMuch outer fault → Refuses (Begins outer) (mark ∷ behind) text fault
+too_much o outer mark behind text (BadTerm at) s p t = absurd t
+too_much o outer mark behind text (TooDeep at) s p t = record { place = begins_here outer (mark ∷ behind) text at (omega (arith, p)); refuses = λ m b. deep o outer behind m (s.to m b) t }
+too_much o outer mark behind text Memory s p t = no_memory (Begins outer) (mark ∷ behind) text
+
+-- a step that does not look at what is left
+pub steps : (before : List ℕ → Meaning → Type 0) (rest : List ℕ) (state : State) (read : List ℕ) → rest ≡ read ++ rest_of state → length (rest_of state) < length rest → ((left : List ℕ) → IsSame (before (read ++ left)) (MeansAt state left)) → GoesOn before rest state
+steps before rest state read e less s = record {
+  read = read;
+  parts = e;
+  less = less;
+  same = subst (λ (w : List ℕ). IsSame (before w) (Means state)) (sym e) (s (rest_of state));
+  wider = λ left m like k. (s left).from m k;
+}
 
 -- into what a mark opens
-pub goes_in : (before : Meaning → Type 0) (o : Opened) (outer : List Opened) (behind rest text : List ℕ) (result : Result State TermFault) → IsSame before (Begins (o ∷ outer) behind) → length behind < length rest → GoesIn outer o behind text result → Follows before rest text result
-goes_in before o outer behind rest text (Ok state) s less g = record { same = same_then _ _ _ s g.0; less = omega (arith, ap length g.1) }
-goes_in before o outer behind rest text (Err fault) s less g = too_much before o outer behind text fault s g.0 g.1
+pub goes_in : (o : Opened) (outer : List Opened) (mark : ℕ) (behind text : List ℕ) (result : Result State TermFault) → IsSame (Begins outer (mark ∷ behind)) (Begins (o ∷ outer) behind) → ((left : List ℕ) (m : Meaning) → Begins (o ∷ outer) left m → Begins outer (mark ∷ left) m) → GoesIn outer o behind text result → Follows (Begins outer) (mark ∷ behind) text result
+goes_in o outer mark behind text (Ok state) s out g = record {
+  read = mark ∷ [];
+  parts = ap (λ w. mark ∷ w) (sym g.1);
+  less = omega (arith, ap length g.1);
+  same = same_then _ _ _ s (subst (λ (w : List ℕ). IsSame (Begins (o ∷ outer) w) (Means state)) g.1 (g.0 (rest_of state)));
+  wider = λ left m like k. out left m ((g.0 left).from m k);
+}
+goes_in o outer mark behind text (Err fault) s out g = too_much o outer mark behind text fault s g.0 g.1
+
+pub out_of_tuple : (outer : List Opened) (left : List ℕ) (m : Meaning) → Begins (InTuple [] ∷ outer) left m → Begins outer (123 ∷ left) m
+out_of_tuple outer left m p = goes_out_of_tuple outer left m p.term p.behind p.lawful p.text p.next
+
+pub out_of_list : (outer : List Opened) (left : List ℕ) (m : Meaning) → Begins (InList [] ∷ outer) left m → Begins outer (91 ∷ left) m
+out_of_list outer left m p = goes_out_of_list outer left m p.term p.behind p.lawful p.text p.next
+
+-- a leaf
+pub leaf_steps : (outer : List Opened) (rest : List ℕ) (x : Meaning) (behind : List ℕ) → Reads rest x behind → (left : List ℕ) (m : Meaning) → Continues outer x left m → Begins outer (text_of_term x ++ left) m
+leaf_steps outer rest x behind r left m k = record { term = x; behind = left; lawful = r.lawful; text = refl; next = k }
+
+like_other : (behind left : List ℕ) → IsLike behind left → slice_index behind 0 ≢ 91 → slice_index left 0 ≢ 91
+like_other behind left (inl e) other = λ f. other (sym e ∙ f)
+like_other behind left (inr h) other = h
 
 pub opened_in-append : (outer : List Open) (last : Open) → opened_in (outer ++ last ∷ []) ≡ open_in last ∷ opened_in outer
 opened_in-append [] last = refl
@@ -512,60 +601,102 @@ begun outer text text' after e s = subst (λ (w : List ℕ). IsSame (Begins oute
 pub same_self : (P : Meaning → Type 0) → IsSame P P
 same_self P = record { to = λ m p. p; from = λ m p. p }
 
+-- a bar, behind which no bracket stands
+pub bar_steps : (hs : List Meaning) (x : Meaning) (outer new : List Open) (next : Open) (behind : List ℕ) → new ≡ outer ++ next ∷ [] → open_in next ≡ InTail hs x → slice_index behind 0 ≢ 91 → (left : List ℕ) (m : Meaning) → IsLike behind left → Begins (opened_in new) left m → Continues (InList hs ∷ opened_in outer) x (124 ∷ left) m
+bar_steps hs x outer new next behind e f other left m like k =
+    (wanted _ (InTail hs x) outer new next left e f (bar_in_list hs (opened_in outer) x left (like_other behind left like other))).from m k
+
 -- A WHOLE READING
 
 pub nothing : {X : Type 0} (xs : List X) → length xs ≡ 0 → xs ≡ []
 nothing [] e = refl
 nothing (x ∷ xs) e = absurd (omega arith)
 
-pub starts : (text : List ℕ) (outer : List Open) → outer ≡ [] → IsSame (HasText text) (Begins (opened_in outer) text)
-starts text outer e = subst (λ (w : List Open). IsSame (HasText text) (Begins (opened_in w) text)) (sym e) (whole_begins text)
+pub starts : (text : List ℕ) (outer : List Open) → outer ≡ [] → (left : List ℕ) → IsSame (HasText left) (Begins (opened_in outer) left)
+starts text outer e left = subst (λ (w : List Open). IsSame (HasText left) (Begins (opened_in w) left)) (sym e) (whole_begins left)
+
+-- what was read begins with the same byte, whatever is left
+first_read : (read a b : List ℕ) → 0 < length read → slice_index (read ++ a) 0 ≡ slice_index (read ++ b) 0
+first_read [] a b some = absurd (omega arith)
+first_read (x ∷ xs) a b some = refl
+
+shorter : (rest read behind : List ℕ) → rest ≡ read ++ behind → length behind < length rest → 0 < length read
+shorter rest read behind e less = omega (arith, ap length e, length-append read behind)
+
+has_text : (a b c : List ℕ) (m : Meaning) → HasText (a ++ (b ++ c)) m → HasText ((a ++ b) ++ c) m
+has_text a b c m h = (h.0, append_assoc a b c ∙ h.1)
 
 -- a step of a reading
-pub holds_on : (text : List ℕ) (state reached : State) (result : Result State TermFault) → Holds text state → Follows (Means state) (rest_of state) text result → result ≡ Ok reached → Holds text reached
-holds_on text state reached (Ok s) h f e =
-    let same : s ≡ reached = cc in
-    subst (Holds text) same (record { same = same_then _ _ _ h.same f.same; within = omega (arith, h.within, f.less) })
-holds_on text state reached (Err fault) h f e = absurd (no_ok e)
-  where
-    no_ok : {X Y : Type 0} {x : X} {y : Y} → ◌≡◌ {A = Result X Y} (Err y) (Ok x) → ⊥
-    no_ok e = cc
+pub holds_then : (text : List ℕ) (state reached : State) → Holds text state → GoesOn (MeansAt state) (rest_of state) reached → Holds text reached
+holds_then text state reached h g = record {
+  read = h.read ++ g.read;
+  parts = h.parts ∙ ap (λ w. h.read ++ w) g.parts ∙ sym (append_assoc h.read g.read (rest_of reached));
+  within = omega (arith, h.within, g.less);
+  same = same_then _ _ _ h.same g.same;
+  wider = λ left m like k.
+      let first : slice_index (g.read ++ left) 0 ≡ slice_index (rest_of state) 0 = first_read g.read left (rest_of reached) (shorter (rest_of state) g.read (rest_of reached) g.parts g.less) ∙ ap (λ w. slice_index w 0) (sym g.parts) in
+      has_text h.read g.read left m (h.wider (g.read ++ left) m (inl first) (g.wider left m like k));
+}
 
-pub less_on : (text : List ℕ) (state reached : State) (result : Result State TermFault) → Follows (Means state) (rest_of state) text result → result ≡ Ok reached → length (rest_of reached) < length (rest_of state)
-less_on text state reached (Ok s) f e = let same : s ≡ reached = cc in subst (λ (w : State). length (rest_of w) < length (rest_of state)) same f.less
-less_on text state reached (Err fault) f e = absurd (no_ok e)
-  where
-    no_ok : {X Y : Type 0} {x : X} {y : Y} → ◌≡◌ {A = Result X Y} (Err y) (Ok x) → ⊥
-    no_ok e = cc
+no_ok : {X Y : Type 0} {x : X} {y : Y} → ◌≡◌ {A = Result X Y} (Err y) (Ok x) → ⊥
+no_ok e = cc
 
 no_err : {X Y : Type 0} {x : X} {y : Y} → ◌≡◌ {A = Result X Y} (Ok x) (Err y) → ⊥
 no_err e = cc
 
-pub refused_on : (text : List ℕ) (state : State) (fault : TermFault) (result : Result State TermFault) → Holds text state → Follows (Means state) (rest_of state) text result → result ≡ Err fault → (m : Meaning) → IsLawful m → text ≡ text_of_term m → MayRefuse m fault
+pub holds_on : (text : List ℕ) (state reached : State) (result : Result State TermFault) → Holds text state → Follows (MeansAt state) (rest_of state) text result → result ≡ Ok reached → Holds text reached
+holds_on text state reached (Ok s) h f e = let same : s ≡ reached = cc in subst (Holds text) same (holds_then text state s h f)
+holds_on text state reached (Err fault) h f e = absurd (no_ok e)
+
+pub refused_on : (text : List ℕ) (state : State) (fault : TermFault) (result : Result State TermFault) → Holds text state → Follows (MeansAt state) (rest_of state) text result → result ≡ Err fault → (m : Meaning) → IsLawful m → text ≡ text_of_term m → MayRefuse m fault
 refused_on text state fault (Ok s) h f e = absurd (no_err e)
 refused_on text state fault (Err g) h f e = λ m l t. let same : g ≡ fault = cc in subst (MayRefuse m) same (f.refuses m (h.same.to m (l, t)))
 
-pub place_on : (text : List ℕ) (state : State) (fault : TermFault) (result : Result State TermFault) → Follows (Means state) (rest_of state) text result → result ≡ Err fault → IsPlace text fault
-place_on text state fault (Ok s) f e = absurd (no_err e)
-place_on text state fault (Err g) f e = let same : g ≡ fault = cc in subst (IsPlace text) same f.place
+place_at : (text : List ℕ) (state : State) (at : ℕ) → Holds text state → LiesAt (MeansAt state) (rest_of state) text at → IsPlace text at
+place_at text state at h p =
+    let parts : text ≡ (h.read ++ p.read) ++ p.behind = h.parts ∙ ap (λ w. h.read ++ w) p.parts ∙ sym (append_assoc h.read p.read p.behind) in
+    let has = has_text h.read p.read p.left p.term (h.wider (p.read ++ p.left) p.term p.like p.goes_on) in
+    record {
+      before = h.read ++ p.read;
+      behind = p.behind;
+      parts = parts;
+      place = omega (arith, p.place, ap length parts, length-append (h.read ++ p.read) p.behind);
+      goes_on = record { rest = p.left; term = p.term; lawful = has.0; text = has.1 };
+    }
+
+pub fault_place : (text : List ℕ) (state : State) (fault : TermFault) → Holds text state → Lies (MeansAt state) (rest_of state) text fault → HasPlace text fault
+fault_place text state (BadTerm at) h p = place_at text state at h p
+fault_place text state (TooDeep at) h p = place_at text state at h p
+fault_place text state Memory h p = tt
+
+pub place_on : (text : List ℕ) (state : State) (fault : TermFault) (result : Result State TermFault) → Holds text state → Follows (MeansAt state) (rest_of state) text result → result ≡ Err fault → HasPlace text fault
+place_on text state fault (Ok s) h f e = absurd (no_err e)
+place_on text state fault (Err g) h f e = let same : g ≡ fault = cc in subst (HasPlace text) same (fault_place text state g h f.place)
 
 -- what stood in what was opened last
-pub popped : (outer left : List Open) (last : Open) (x : Meaning) (rest text : List ℕ) (result : Result State TermFault) → outer ≡ left ++ last ∷ [] → Follows (Continues (open_in last ∷ opened_in left) x rest) rest text result → Follows (Continues (opened_in outer) x rest) rest text result
-popped outer left last x rest text result e f = subst (λ (w : List Opened). Follows (Continues w x rest) rest text result) (sym (ap opened_in e ∙ opened_in-append left last)) f
+pub popped : (outer left : List Open) (last : Open) (x : Meaning) (rest text : List ℕ) (result : Result State TermFault) → outer ≡ left ++ last ∷ [] → Follows (Continues (open_in last ∷ opened_in left) x) rest text result → Follows (Continues (opened_in outer) x) rest text result
+popped outer left last x rest text result e f = subst (λ (w : List Opened). Follows (Continues w x) rest text result) (sym (ap opened_in e ∙ opened_in-append left last)) f
 
 whole_of : (text : List ℕ) (outer : List Open) (x : Meaning) (rest : List ℕ) → IsSame (HasText text) (Continues (opened_in outer) x rest) → length outer ≡ 0 → IsSame (HasText text) (Continues [] x rest)
 whole_of text outer x rest s e = subst (λ (w : List Open). IsSame (HasText text) (Continues (opened_in w) x rest)) (nothing outer e) s
 
 pub ended_ok : (text : List ℕ) (outer : List Open) (x : Meaning) (rest : List ℕ) (result : Result Term TermFault) → IsSame (HasText text) (Continues (opened_in outer) x rest) → length outer ≡ 0
     → IfOk result (λ read. (meaning_of read ≡ x) × (rest ≡ [])) → IfOk result (λ read. IsLawful (meaning_of read) × (text ≡ text_of_term (meaning_of read)))
-ended_ok text outer x rest (Ok read) s e h =
-    let whole = (whole_of text outer x rest s e).from (meaning_of read) (AtEnd h.0 h.1) in whole
+ended_ok text outer x rest (Ok read) s e h = (whole_of text outer x rest s e).from (meaning_of read) (AtEnd h.0 h.1)
 ended_ok text outer x rest (Err fault) s e h = tt
 
-pub ended_only : (text : List ℕ) (outer : List Open) (x : Meaning) (rest : List ℕ) (result : Result Term TermFault) → IsSame (HasText text) (Continues (opened_in outer) x rest) → length outer ≡ 0
-    → IfOk result (λ read. (meaning_of read ≡ x) × (rest ≡ [])) → IfErr result (λ fault. (rest ≢ []) × IsPlace text fault)
+pub ended_only : (text : List ℕ) (outer : List Open) (x : Meaning) (rest : List ℕ) (result : Result Term TermFault) (at : ℕ) → IsSame (HasText text) (Continues (opened_in outer) x rest) → length outer ≡ 0
+    → IfOk result (λ read. (meaning_of read ≡ x) × (rest ≡ [])) → IfErr result (λ fault. (rest ≢ []) × (fault ≡ BadTerm at))
     → (m : Meaning) → IsLawful m → text ≡ text_of_term m → MatchResult result (λ read. meaning_of read ≡ m) (λ fault. MayRefuse m fault)
-ended_only text outer x rest (Ok read) s e h g = λ m l t.
+ended_only text outer x rest (Ok read) at s e h g = λ m l t.
     let k = (whole_of text outer x rest s e).to m (l, t) in
     h.0 ∙ whole_ends x m (moved [] x m [] rest (sym h.1) k)
-ended_only text outer x rest (Err fault) s e h g = λ m l t. absurd (not_ended x m rest g.0 ((whole_of text outer x rest s e).to m (l, t)))
+ended_only text outer x rest (Err fault) at s e h g = λ m l t. absurd (not_ended x m rest g.0 ((whole_of text outer x rest s e).to m (l, t)))
+
+pub ended_place : (text : List ℕ) (state : State) (result : Result Term TermFault) (at : ℕ) → Holds text state → LiesAt (MeansAt state) (rest_of state) text at → IfErr result (λ fault. (rest_of state ≢ []) × (fault ≡ BadTerm at)) → IfErr result (λ fault. HasPlace text fault)
+ended_place text state (Ok read) at h p g = tt
+ended_place text state (Err fault) at h p g = subst (HasPlace text) (sym g.1) (place_at text state at h p)
+
+-- where a term ends, its text may
+pub whole_here : (outer : List Open) (x : Meaning) (rest text : List ℕ) (at : ℕ) → at + length rest ≡ length text + 1 → LiesAt (Continues (opened_in outer) x) rest text at
+whole_here outer x rest text at e = continues_here (opened_in outer) x rest text at e

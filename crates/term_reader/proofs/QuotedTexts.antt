@@ -16,7 +16,7 @@ first_of : (front behind r : List ℕ) (a : ℕ) → 1 ≤ length front → a �
 first_of [] behind r a some e = absurd (omega arith)
 first_of (b ∷ bs) behind r a some e = ap (λ w. get_or w 0 0) e
 
-no_quote : (byte : ℕ) (r behind : List ℕ) → 39 ∷ r ≡ printed_byte byte ++ behind → ⊥
+pub no_quote : (byte : ℕ) (r behind : List ℕ) → 39 ∷ r ≡ printed_byte byte ++ behind → ⊥
 no_quote byte r behind e = printed_first byte (sym (first_of (printed_byte byte) behind r 39 (printed_some byte) e))
 
 -- what was read of the bytes of an atom, where its closing quote is still to come

@@ -1,8 +1,9 @@
 -- The terms whose texts are read, and which of them a reader may refuse.
-use Rattle.std.specs.Prelude.{◌≡◌, ℕ, ◌+◌, ◌≤◌, ◌<◌, ◌^◌, List, length, IsUtf8, true}
+use Rattle.std.specs.Prelude.{◌≡◌, ℕ, ◌+◌, ◌<◌, ◌^◌, List, ◌++◌, length, IsUtf8, true}
 use Rattle.std.specs.List.{AllByRecursion}
 use Rattle.term_core.specs.Integers.{has_64_bits}
 use Rattle.term_core.specs.Meaning.{Meaning, Meanings, Int, Atom, Ref, Pid, Tuple, Nil, Cons, NoMore, Also, node_count}
+use Rattle.term_core.specs.TermText.{text_of_term}
 use Rattle.term_reader.specs.declared.fault.TermFault.{TermFault}
 use Rattle.term_reader.specs.declared.fault.TermFault.TheVariants.{BadTerm, TooDeep, Memory}
 
@@ -31,8 +32,23 @@ MayRefuse m (BadTerm at) = ⊥
 MayRefuse m (TooDeep at) = 10000 < node_count m
 MayRefuse m Memory = Unit {0}
 
--- a place is that of a byte of the text, counted from 1, or one past its end
-abbrev pub IsPlace : List ℕ → TermFault → Type 0
-IsPlace text (BadTerm at) = (1 ≤ at) × (at ≤ length text + 1)
-IsPlace text (TooDeep at) = (1 ≤ at) × (at ≤ length text)
-IsPlace text Memory = Unit {0}
+-- some bytes can go on to the text of a lawful term
+pub record CanGoOn (bytes : List ℕ) : Type 0 where
+  pub rest : List ℕ
+  pub term : Meaning
+  pub lawful : IsLawful term
+  pub text : bytes ++ rest ≡ text_of_term term
+
+-- a place of the text, counted from 1, or one past its end: the bytes before it can go on to the text of a lawful term
+pub record IsPlace (text : List ℕ) (at : ℕ) : Type 0 where
+  pub before : List ℕ
+  pub behind : List ℕ
+  pub parts : text ≡ before ++ behind
+  pub place : length before + 1 ≡ at
+  pub goes_on : CanGoOn before
+
+-- a fault has its place
+abbrev pub HasPlace : List ℕ → TermFault → Type 0
+HasPlace text (BadTerm at) = IsPlace text at
+HasPlace text (TooDeep at) = IsPlace text at
+HasPlace text Memory = Unit {0}

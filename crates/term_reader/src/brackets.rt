@@ -48,7 +48,7 @@ pub(crate) fn begin<'a>(
     rest: &'a [u8],
 ) -> Result<State<'a>, TermFault>
     requires { length rest.now ≤ length text.now }
-    ensures { Follows (Begins (opened_in outer.items) rest.now) rest.now text.now result }
+    ensures { Follows (Begins (opened_in outer.items)) rest.now text.now result }
 {
     match rest.split_first() {
         Some((b'{', behind)) => begin_tuple(alloc, text, outer, behind),
@@ -65,7 +65,7 @@ fn begin_tuple<'a>(
     behind: &'a [u8],
 ) -> Result<State<'a>, TermFault>
     requires { length behind.now + 1 ≤ length text.now }
-    ensures { Follows (Begins (opened_in outer.items) (123 ∷ behind.now)) (123 ∷ behind.now) text.now result }
+    ensures { Follows (Begins (opened_in outer.items)) (123 ∷ behind.now) text.now result }
 {
     let parts = Terms::new(alloc);
     match behind_mark(behind, b'}') {
@@ -82,7 +82,7 @@ fn begin_list<'a>(
     behind: &'a [u8],
 ) -> Result<State<'a>, TermFault>
     requires { length behind.now + 1 ≤ length text.now }
-    ensures { Follows (Begins (opened_in outer.items) (91 ∷ behind.now)) (91 ∷ behind.now) text.now result }
+    ensures { Follows (Begins (opened_in outer.items)) (91 ∷ behind.now) text.now result }
 {
     match behind_mark(behind, b']') {
         Some(rest) => Ok(State::Found(outer, Term::Nil, rest)),
@@ -118,7 +118,7 @@ fn begin_leaf<'a>(
     requires in_text { length rest.now ≤ length text.now }
     requires no_tuple { slice_index rest.now 0 ≢ 123 }
     requires no_list { slice_index rest.now 0 ≢ 91 }
-    ensures { Follows (Begins (opened_in outer.items) rest.now) rest.now text.now result }
+    ensures { Follows (Begins (opened_in outer.items)) rest.now text.now result }
 {
     match read_leaf(alloc, rest)? {
         Leaf::Read(term, behind) => Ok(State::Found(outer, term, behind)),
@@ -136,7 +136,7 @@ pub(crate) fn go_on<'a>(
     rest: &'a [u8],
 ) -> Result<State<'a>, TermFault>
     requires { length rest.now ≤ length text.now }
-    ensures { Follows (Continues (open_in last ∷ opened_in outer.items) (meaning_of term) rest.now) rest.now text.now result }
+    ensures { Follows (Continues (open_in last ∷ opened_in outer.items) (meaning_of term)) rest.now text.now result }
 {
     let Some((mark, behind)) = rest.split_first() else {
         return Err(TermFault::BadTerm(place_of(text, rest)));
@@ -161,7 +161,7 @@ fn go_on_in_tuple<'a>(
     behind: &'a [u8],
 ) -> Result<State<'a>, TermFault>
     requires { length behind.now + 1 ≤ length text.now }
-    ensures { Follows (Continues (InTuple parts ∷ opened_in outer.items) (meaning_of part) (mark ∷ behind.now)) (mark ∷ behind.now) text.now result }
+    ensures { Follows (Continues (InTuple parts ∷ opened_in outer.items) (meaning_of part)) (mark ∷ behind.now) text.now result }
 {
     let mut outer = outer;
     let mut parts = parts;
@@ -188,7 +188,7 @@ fn go_on_in_list<'a>(
     behind: &'a [u8],
 ) -> Result<State<'a>, TermFault>
     requires { length behind.now + 1 ≤ length text.now }
-    ensures { Follows (Continues (InList (map meaning_of heads.items) ∷ opened_in outer.items) (meaning_of head) (mark ∷ behind.now)) (mark ∷ behind.now) text.now result }
+    ensures { Follows (Continues (InList (map meaning_of heads.items) ∷ opened_in outer.items) (meaning_of head)) (mark ∷ behind.now) text.now result }
 {
     let mut outer = outer;
     let mut heads = heads;
@@ -216,7 +216,7 @@ fn go_on_behind_bar<'a>(
     behind: &'a [u8],
 ) -> Result<State<'a>, TermFault>
     requires { length behind.now + 1 ≤ length text.now }
-    ensures { Follows (Continues (InList (map meaning_of heads.items) ∷ opened_in outer.items) (meaning_of head) (124 ∷ behind.now)) (124 ∷ behind.now) text.now result }
+    ensures { Follows (Continues (InList (map meaning_of heads.items) ∷ opened_in outer.items) (meaning_of head)) (124 ∷ behind.now) text.now result }
 {
     let mut outer = outer;
     if let Some(_list) = behind_mark(behind, b'[') {
@@ -238,7 +238,7 @@ fn go_on_in_tail<'a>(
     behind: &'a [u8],
 ) -> Result<State<'a>, TermFault>
     requires { length behind.now + 1 ≤ length text.now }
-    ensures { Follows (Continues (InTail (map meaning_of heads.items) (meaning_of head) ∷ opened_in outer.items) (meaning_of tail) (mark ∷ behind.now)) (mark ∷ behind.now) text.now result }
+    ensures { Follows (Continues (InTail (map meaning_of heads.items) (meaning_of head) ∷ opened_in outer.items) (meaning_of tail)) (mark ∷ behind.now) text.now result }
 {
     if mark != b']' {
         return Err(TermFault::BadTerm(text.len() - behind.len()));

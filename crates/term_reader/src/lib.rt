@@ -10,4 +10,4 @@ mod numbers;
 pub mod reader;
 
 pub use fault::TermFault;
-pub use reader::read_term;
+pub use reader::{read_term, texts_say_one_term};

@@ -1,27 +1,34 @@
 // A term is read mark by mark: what is open lies on a stack of its own.
-ghost use Rattle.std.specs.Prelude.{◌≡◌, ◌≢◌, ◌≤◌, [], length, IfOk, IfErr, MatchResult};
+ghost use Rattle.std.specs.Prelude.{ℕ, List, ◌+◌, ◌-◌, ◌≡◌, ◌≢◌, ◌≤◌, [], length, IfOk, IfErr, MatchResult};
 ghost use Rattle.term_core.specs.Meaning.{Meaning};
 ghost use Rattle.term_core.specs.Term.{meaning_of};
 ghost use Rattle.term_core.specs.TermText.{text_of_term};
-ghost use Rattle.term_reader.specs.Lawful.{IsLawful, MayRefuse, IsPlace};
+ghost use Rattle.term_reader.specs.Lawful.{IsLawful, HasPlace, MayRefuse};
 
 use crate::brackets::{State, begin, go_on, place_of};
 use crate::fault::TermFault;
 use std::alloc::Global;
 use term_core::Term;
 
+/// A text is that of at most one lawful term.
+pub fn texts_say_one_term()
+    ensures { (text : List ℕ) (term other : Meaning) → IsLawful term → IsLawful other → text ≡ text_of_term term → text ≡ text_of_term other → term ≡ other }
+{}
+
 /// Reads a term from its text: integers of 64 bits in decimal, atoms in single quotes with escapes, pids
 /// as `P.2.1`, references as `#P.2`, tuples as `{a,b}`, lists as `[a,b]` and `[a,b|t]`, without blanks.
 /// These are the texts that `write_term` writes, and no others: so numbers have no needless zeros, an
 /// escape stands only where one is written, and the last tail behind a bar is no list.
 ///
-/// What is open lies in memory, so that the native stack does not grow with the text.
+/// Nothing calls itself: what is open lies on a stack in memory. No more than 10,000 brackets and braces
+/// are open at once, since a term that is nested deeper might not be dropped or printed on the native stack.
 ///
 /// # Errors
 ///
-/// `BadTerm` where the text is the text of no term; `TooDeep` where more than 10,000 brackets and braces
-/// would be open at once, so that a term with this text has more than 10,000 nodes; `Memory` where there
-/// was no memory for the term.
+/// `BadTerm` where the text is the text of no term, with the place of the first mark, number, pid,
+/// reference or atom that cannot stand where it does; `TooDeep` where more than 10,000 brackets and braces
+/// would be open at once, so that a term with this text has more than 10,000 nodes, with the place of the
+/// first too many; `Memory` where there was no memory for the term. What was read is dropped.
 pub fn read_term(alloc: Global, text: &[u8]) -> Result<Term, TermFault>
     // What is read has this text.
     ensures ok { IfOk result (λ read. IsLawful (meaning_of read) × (text.now ≡ text_of_term (meaning_of read))) }
@@ -30,8 +37,8 @@ pub fn read_term(alloc: Global, text: &[u8]) -> Result<Term, TermFault>
     ensures only { (term : Meaning) → IsLawful term → text.now ≡ text_of_term term
         → MatchResult result (λ read. meaning_of read ≡ term) (λ fault. MayRefuse term fault) }
 
-    // A fault has a place in the text, or one past its end.
-    ensures place { IfErr result (λ fault. IsPlace text.now fault) }
+    // What stands before the place of a fault can go on to the text of a term.
+    ensures place { IfErr result (λ fault. HasPlace text.now fault) }
 {
     let mut state = State::Wanted(Vec::new(alloc), text);
     'marks: loop {
@@ -55,7 +62,7 @@ pub fn read_term(alloc: Global, text: &[u8]) -> Result<Term, TermFault>
 fn ended(text: &[u8], term: Term, rest: &[u8]) -> Result<Term, TermFault>
     requires { length rest.now ≤ length text.now }
     ensures ok { IfOk result (λ read. (meaning_of read ≡ meaning_of term) × (rest.now ≡ [])) }
-    ensures fault { IfErr result (λ fault. (rest.now ≢ []) × IsPlace text.now fault) }
+    ensures fault { IfErr result (λ fault. (rest.now ≢ []) × (fault ≡ TermFault.BadTerm (length text.now - length rest.now + 1))) }
 {
     if rest.is_empty() {
         Ok(term)

@@ -1,10 +1,10 @@
 -- What is open while a term is read, and what the bytes that are left have to be.
-use Rattle.std.specs.Prelude.{◌≡◌, ℕ, ◌≤◌, ◌<◌, List, [], ◌∷◌, ◌++◌, map, length, Result, MatchResult}
+use Rattle.std.specs.Prelude.{◌≡◌, ◌≢◌, ◌⊎◌, ℕ, ◌+◌, ◌≤◌, ◌<◌, List, [], ◌∷◌, ◌++◌, map, length, slice_index, Result, MatchResult}
 use Rattle.term_core.specs.Meaning.{Meaning, Meanings, Also, Cons}
 use Rattle.term_core.specs.Meaning as terms
 use Rattle.term_core.specs.Term.{meaning_of, list_onto}
 use Rattle.term_core.specs.TermText.{text_of_term, text_of_tail, text_of_others}
-use Rattle.term_reader.specs.Lawful.{IsLawful, AreLawful, MayRefuse, IsPlace}
+use Rattle.term_reader.specs.Lawful.{IsLawful, AreLawful, MayRefuse}
 use Rattle.term_reader.specs.declared.brackets.Open.{Open}
 use Rattle.term_reader.specs.declared.brackets.Open.TheVariants as opens
 use Rattle.term_reader.specs.declared.brackets.State.{State}
@@ -54,33 +54,60 @@ pub record Begins (outer : List Opened) (rest : List ℕ) (whole : Meaning) : Ty
   pub text : rest ≡ text_of_term term ++ behind
   pub next : Continues outer term behind whole
 
--- the terms that the whole can be
-abbrev pub Means : State → Meaning → Type 0
-Means (Wanted outer rest) = Begins (opened_in outer.items) rest.now
-Means (Found outer term rest) = Continues (opened_in outer.items) (meaning_of term) rest.now
-
 -- the bytes that are left
 abbrev pub rest_of : State → List ℕ
 rest_of (Wanted outer rest) = rest.now
 rest_of (Found outer term rest) = rest.now
+
+-- the terms that the whole can be, if these bytes were left
+abbrev pub MeansAt : State → List ℕ → Meaning → Type 0
+MeansAt (Wanted outer rest) = Begins (opened_in outer.items)
+MeansAt (Found outer term rest) = Continues (opened_in outer.items) (meaning_of term)
+
+-- the terms that the whole can be
+abbrev pub Means : State → Meaning → Type 0
+Means state = MeansAt state (rest_of state)
 
 -- the whole can be the same terms
 pub record IsSame (P Q : Meaning → Type 0) : Type 0 where
   pub to : (m : Meaning) → P m → Q m
   pub from : (m : Meaning) → Q m → P m
 
--- what a step came to: the whole can be the same terms as before, and fewer bytes are left
-pub record GoesOn (before : Meaning → Type 0) (rest : List ℕ) (state : State) : Type 0 where
-  pub same : IsSame before (Means state)
+-- other bytes that can stand wherever these do: they begin with the same byte, or with no bracket
+abbrev pub IsLike : List ℕ → List ℕ → Type 0
+IsLike rest other = (slice_index other 0 ≡ slice_index rest 0) ⊎ (slice_index other 0 ≢ 91)
+
+-- what a step came to: the whole can be the same terms as before, also if other bytes were left, and fewer are left
+pub record GoesOn (before : List ℕ → Meaning → Type 0) (rest : List ℕ) (state : State) : Type 0 where
+  pub read : List ℕ
+  pub parts : rest ≡ read ++ rest_of state
   pub less : length (rest_of state) < length rest
+  pub same : IsSame (before rest) (Means state)
+  pub wider : (left : List ℕ) (m : Meaning) → IsLike (rest_of state) left → MeansAt state left m → before (read ++ left) m
+
+-- a fault where these bytes are left of the text: what stands before can go on
+pub record LiesAt (before : List ℕ → Meaning → Type 0) (rest text : List ℕ) (at : ℕ) : Type 0 where
+  pub read : List ℕ
+  pub behind : List ℕ
+  pub left : List ℕ
+  pub term : Meaning
+  pub parts : rest ≡ read ++ behind
+  pub place : at + length behind ≡ length text + 1
+  pub like : IsLike rest (read ++ left)
+  pub goes_on : before (read ++ left) term
+
+abbrev pub Lies : (List ℕ → Meaning → Type 0) → List ℕ → List ℕ → TermFault → Type 0
+Lies before rest text (BadTerm at) = LiesAt before rest text at
+Lies before rest text (TooDeep at) = LiesAt before rest text at
+Lies before rest text Memory = Unit {0}
 
 -- or a fault, which each term that the whole can be may have
-pub record Refuses (before : Meaning → Type 0) (text : List ℕ) (fault : TermFault) : Type 0 where
-  pub place : IsPlace text fault
-  pub refuses : (m : Meaning) → before m → MayRefuse m fault
+pub record Refuses (before : List ℕ → Meaning → Type 0) (rest text : List ℕ) (fault : TermFault) : Type 0 where
+  pub place : Lies before rest text fault
+  pub refuses : (m : Meaning) → before rest m → MayRefuse m fault
 
-abbrev pub Follows : (Meaning → Type 0) → List ℕ → List ℕ → Result State TermFault → Type 0
-Follows before rest text result = MatchResult result (GoesOn before rest) (Refuses before text)
+abbrev pub Follows : (List ℕ → Meaning → Type 0) → List ℕ → List ℕ → Result State TermFault → Type 0
+Follows before rest text result = MatchResult result (GoesOn before rest) (Refuses before rest text)
 
 -- what more is refused in what is open: all, where it is too much
 abbrev pub IsTooMuch : List Opened → TermFault → Type 0
@@ -88,8 +115,14 @@ IsTooMuch outer (BadTerm at) = ⊥
 IsTooMuch outer (TooDeep at) = 10000 ≤ length outer
 IsTooMuch outer Memory = Unit {0}
 
--- one more is open, or that was too much
+-- the place of a fault is that of the byte before those that are left
+abbrev pub IsBefore : List ℕ → List ℕ → TermFault → Type 0
+IsBefore behind text (BadTerm at) = at + length behind ≡ length text
+IsBefore behind text (TooDeep at) = at + length behind ≡ length text
+IsBefore behind text Memory = Unit {0}
+
+-- one more is open, or that was too much, at the byte before those that are left
 abbrev pub GoesIn : List Opened → Opened → List ℕ → List ℕ → Result State TermFault → Type 0
 GoesIn outer next behind text result = MatchResult result
-    (λ state. IsSame (Begins (next ∷ outer) behind) (Means state) × (rest_of state ≡ behind))
-    (λ fault. IsPlace text fault × IsTooMuch outer fault)
+    (λ state. ((left : List ℕ) → IsSame (Begins (next ∷ outer) left) (MeansAt state left)) × (rest_of state ≡ behind))
+    (λ fault. IsBefore behind text fault × IsTooMuch outer fault)
