@@ -1,7 +1,10 @@
 pub mod DottedTexts
 pub mod IntegerTexts
 pub mod QuotedTexts
-pub mod Marks
+pub mod Items
 pub mod Words
 pub mod LeafTexts
+pub mod LeafLaws
+pub mod LeafReads
+pub mod Marks
 pub mod OneTerm

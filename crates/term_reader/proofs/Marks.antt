@@ -6,9 +6,11 @@ use Rattle.term_core.specs.Meaning.{Meaning, Meanings, Int, Atom, Ref, Pid, Tupl
 use Rattle.term_core.specs.Term.{meaning_of, list_onto}
 use Rattle.term_core.specs.TermText.{text_of_term, text_of_tail, text_of_tuple, text_of_others}
 use Rattle.term_reader.proofs.IntegerTexts.{integer_first, zero_text}
-use Rattle.term_reader.specs.Lawful.{IsLawful, AreLawful, MayRefuse, IsPlace, HasPlace}
-use Rattle.term_reader.specs.inside.Leaves.{Ends, IsLeaf, Reads, NoLeaf}
-use Rattle.term_reader.specs.inside.Marks.{Opened, InTuple, InList, InTail, opened_in, open_in, parts_onto, Continues, AtEnd, AmongParts, AmongHeads, AsTail, Begins, IsSame, IsLike, Means, MeansAt, rest_of, GoesOn, LiesAt, Lies, Refuses, Follows, IsTooMuch, IsBefore, GoesIn}
+use Rattle.term_reader.proofs.Items.{alike_after, alike_index, alike_items, alike_other, alike_self, alike_under, item_none}
+use Rattle.term_reader.proofs.LeafLaws.{leaf_byte}
+use Rattle.term_reader.specs.Lawful.{IsLawful, AreLawful, MayRefuse, IsPlace, IsFirstFault, HasPlace, item_of}
+use Rattle.term_reader.specs.inside.Leaves.{Ends, IsAlike, IsLeaf, Reads, NoLeaf}
+use Rattle.term_reader.specs.inside.Marks.{Opened, InTuple, InList, InTail, opened_in, open_in, parts_onto, Continues, AtEnd, AmongParts, AmongHeads, AsTail, Begins, IsSame, IsLike, Means, MeansAt, rest_of, GoesOn, LiesAt, BadAt, Lies, Refuses, Follows, IsTooMuch, IsBefore, GoesIn}
 use Rattle.term_core.specs.declared.term.Term.{Term}
 use Rattle.term_reader.specs.declared.brackets.Open.{Open}
 use Rattle.term_reader.specs.declared.brackets.State.{State}
@@ -26,15 +28,12 @@ pub record Holds (text : List ℕ) (state : State) : Type 0 where
   pub within : length (rest_of state) ≤ length text
   pub same : IsSame (HasText text) (Means state)
   pub wider : (left : List ℕ) (m : Meaning) → IsLike (rest_of state) left → MeansAt state left m → HasText (read ++ left) m
+  pub back : (left : List ℕ) (m : Meaning) → IsAlike (rest_of state) left → HasText (read ++ left) m → MeansAt state left m
 
 pub same_then : (P Q R : Meaning → Type 0) → IsSame P Q → IsSame Q R → IsSame P R
 same_then P Q R a b = record { to = λ m p. b.to m (a.to m p); from = λ m r. a.from m (b.from m r) }
 
 -- FIRST BYTES
-
--- two texts that begin with different bytes
-pub clash : (a b : ℕ) (r s : List ℕ) → a ≢ b → a ∷ r ≡ b ∷ s → ⊥
-clash a b r s other e = other (ap (λ bs. get_or bs 0 0) e)
 
 begins_low : (ds behind r : List ℕ) (a : ℕ) → 0 < length ds → get_or ds 0 0 ≤ 57 → 57 < a → a ∷ r ≡ ds ++ behind → ⊥
 begins_low [] behind r a some low high e = omega arith
@@ -53,16 +52,6 @@ never_first (Tuple NoMore) a r behind l high h k e = k (ap (λ bs. get_or bs 0 0
 never_first (Tuple (Also m ms)) a r behind l high h k e = k (ap (λ bs. get_or bs 0 0) e)
 never_first Nil a r behind l high h k e = h (ap (λ bs. get_or bs 0 0) e)
 never_first (Cons m n) a r behind l high h k e = h (ap (λ bs. get_or bs 0 0) e)
-
--- a term that begins with a brace is a tuple
-tuple_first : (x : Meaning) (r behind : List ℕ) → IsLawful x → 123 ∷ r ≡ text_of_term x ++ behind → (parts : Meanings) × (x ≡ Tuple parts)
-tuple_first (Int n) r behind l e = absurd (no_integer n behind r 123 l (omega arith) e)
-tuple_first (Atom t) r behind l e = absurd (omega (arith, ap (λ bs. get_or bs 0 0) e))
-tuple_first (Ref p n) r behind l e = absurd (omega (arith, ap (λ bs. get_or bs 0 0) e))
-tuple_first (Pid p) r behind l e = absurd (omega (arith, ap (λ bs. get_or bs 0 0) e))
-tuple_first (Tuple parts) r behind l e = (parts, refl)
-tuple_first Nil r behind l e = absurd (omega (arith, ap (λ bs. get_or bs 0 0) e))
-tuple_first (Cons m n) r behind l e = absurd (omega (arith, ap (λ bs. get_or bs 0 0) e))
 
 -- neither nil nor a cell
 abbrev pub IsLast : Meaning → Type 0
@@ -406,21 +395,25 @@ no_mark_in_tail hs h outer x a r other m (AsTail b e k) = other (ap (λ bs. get_
 
 -- LEAVES
 
-leaf_to : (outer : List Opened) (rest : List ℕ) (x : Meaning) (behind : List ℕ) → get_or rest 0 0 ≢ 123 → get_or rest 0 0 ≢ 91 → Reads rest x behind → (m y : Meaning) (c : List ℕ) → IsLawful y → rest ≡ text_of_term y ++ c → Continues outer y c m → Continues outer x behind m
-leaf_to outer rest x behind h j r m y c l e k =
-    let same = r.only y c (leaf_first y rest c h j e) l (ends_of k) e in
-    moved outer x m behind c same.1 (renamed outer y x m c (sym same.0) k)
+leaf_to : (outer : List Opened) (rest : List ℕ) (x : Meaning) (behind left : List ℕ) → Reads rest x behind → IsAlike behind left → (m y : Meaning) (c : List ℕ) → IsLawful y → text_of_term x ++ left ≡ text_of_term y ++ c → Continues outer y c m → Continues outer x left m
+leaf_to outer rest x behind left r alike m y c l e k =
+    let low = leaf_byte x left r.leaf r.lawful in
+    let leaf = leaf_first y (text_of_term x ++ left) c (omega (arith, low)) (omega (arith, low)) e in
+    let same = r.only left y c alike leaf l (ends_of k) e in
+    moved outer x m left c same.1 (renamed outer y x m c (sym same.0) k)
 
 -- a leaf
-pub leaf_begins : (outer : List Opened) (rest : List ℕ) (x : Meaning) (behind : List ℕ) → get_or rest 0 0 ≢ 123 → get_or rest 0 0 ≢ 91 → Reads rest x behind → IsSame (Begins outer rest) (Continues outer x behind)
-leaf_begins outer rest x behind h j r = record {
-  to = λ m p. leaf_to outer rest x behind h j r m p.term p.behind p.lawful p.text p.next;
-  from = λ m k. record { term = x; behind = behind; lawful = r.lawful; text = r.parts; next = k };
+pub leaf_begins : (outer : List Opened) (rest : List ℕ) (x : Meaning) (behind : List ℕ) → Reads rest x behind → (left : List ℕ) → IsAlike behind left → IsSame (Begins outer (text_of_term x ++ left)) (Continues outer x left)
+leaf_begins outer rest x behind r left alike = record {
+  to = λ m p. leaf_to outer rest x behind left r alike m p.term p.behind p.lawful p.text p.next;
+  from = λ m k. record { term = x; behind = left; lawful = r.lawful; text = refl; next = k };
 }
 
 -- or none
-pub no_leaf_begins : (outer : List Opened) (rest : List ℕ) → get_or rest 0 0 ≢ 123 → get_or rest 0 0 ≢ 91 → NoLeaf rest → (m : Meaning) → Begins outer rest m → ⊥
-no_leaf_begins outer rest h j none m p = none p.term p.behind (leaf_first p.term rest p.behind h j p.text) p.lawful (ends_of p.next) p.text
+pub no_leaf_begins : (outer : List Opened) (rest : List ℕ) → slice_index rest 0 ≢ 123 → slice_index rest 0 ≢ 91 → NoLeaf rest → (other : List ℕ) (m : Meaning) → item_of other ≡ item_of rest → Begins outer other m → ⊥
+no_leaf_begins outer rest h j none other m item p =
+    let alike = alike_items rest other item in
+    none other p.term p.behind item (leaf_first p.term other p.behind (alike_other rest other 123 alike h) (alike_other rest other 91 alike j) p.text) p.lawful (ends_of p.next) p.text
 
 -- DEPTH
 
@@ -491,16 +484,36 @@ continues_here outer x rest text at e = let k = closing outer x in lies_here (Co
 pub no_memory : (before : List ℕ → Meaning → Type 0) (rest text : List ℕ) → Refuses before rest text Memory
 no_memory before rest text = record { place = tt; refuses = λ m b. tt }
 
--- where no term can begin, there is a fault
-pub bad_begins : (outer : List Opened) (rest text : List ℕ) (at : ℕ) → at + length rest ≡ length text + 1 → ((m : Meaning) → Begins outer rest m → ⊥) → Refuses (Begins outer) rest text (BadTerm at)
-bad_begins outer rest text at e none = record { place = begins_here outer rest text at e; refuses = none }
+-- where the item that is left can begin no term, there is a fault
+pub bad_begins : (outer : List Opened) (rest text : List ℕ) (at : ℕ) → at + length rest ≡ length text + 1 → ((other : List ℕ) (m : Meaning) → item_of other ≡ item_of rest → Begins outer other m → ⊥) → Refuses (Begins outer) rest text (BadTerm at)
+bad_begins outer rest text at e none =
+    let k = closing outer (Int (pos 0)) in
+    record {
+      place = record {
+        read = [];
+        behind = rest;
+        left = 48 ∷ k.left;
+        term = k.whole;
+        parts = refl;
+        place = e;
+        like = inr (omega arith);
+        goes_on = with_zero outer k.left k.whole k.next;
+        bad = none;
+      };
+      refuses = λ m b. none rest m refl b;
+    }
 
--- and where none can go on
-pub bad_continues : (outer : List Opened) (x : Meaning) (rest text : List ℕ) (at : ℕ) → at + length rest ≡ length text + 1 → ((m : Meaning) → Continues outer x rest m → ⊥) → Refuses (Continues outer x) rest text (BadTerm at)
-bad_continues outer x rest text at e none = record { place = continues_here outer x rest text at e; refuses = none }
+bad_here : (outer : List Opened) (x : Meaning) (rest text : List ℕ) (at : ℕ) → at + length rest ≡ length text + 1 → ((other : List ℕ) (m : Meaning) → item_of other ≡ item_of rest → Continues outer x other m → ⊥) → BadAt (Continues outer x) rest text at
+bad_here outer x rest text at e none =
+    let k = closing outer x in
+    record { read = []; behind = rest; left = k.left; term = k.whole; parts = refl; place = e; like = inr k.like; goes_on = k.next; bad = none }
+
+-- and where nothing goes on with it
+pub bad_continues : (outer : List Opened) (x : Meaning) (rest text : List ℕ) (at : ℕ) → at + length rest ≡ length text + 1 → ((other : List ℕ) (m : Meaning) → item_of other ≡ item_of rest → Continues outer x other m → ⊥) → Refuses (Continues outer x) rest text (BadTerm at)
+bad_continues outer x rest text at e none = record { place = bad_here outer x rest text at e none; refuses = λ m b. none rest m refl b }
 
 -- and behind a bar
-pub bad_bar : (hs : List Meaning) (outer : List Opened) (x : Meaning) (behind text : List ℕ) (at : ℕ) → at + length behind ≡ length text + 1 → ((m : Meaning) → Continues (InList hs ∷ outer) x (124 ∷ behind) m → ⊥) → Refuses (Continues (InList hs ∷ outer) x) (124 ∷ behind) text (BadTerm at)
+pub bad_bar : (hs : List Meaning) (outer : List Opened) (x : Meaning) (behind text : List ℕ) (at : ℕ) → at + length behind ≡ length text + 1 → ((other : List ℕ) (m : Meaning) → item_of other ≡ item_of behind → Continues (InList hs ∷ outer) x (124 ∷ other) m → ⊥) → Refuses (Continues (InList hs ∷ outer) x) (124 ∷ behind) text (BadTerm at)
 bad_bar hs outer x behind text at e none =
     let k = closing (InTail hs x ∷ outer) (Int (pos 0)) in
     record {
@@ -513,9 +526,26 @@ bad_bar hs outer x behind text at e none =
         place = e;
         like = inl refl;
         goes_on = (bar_in_list hs outer x (48 ∷ k.left) (omega arith)).from k.whole (with_zero (InTail hs x ∷ outer) k.left k.whole k.next);
+        bad = none;
       };
-      refuses = none;
+      refuses = λ m b. none behind m refl b;
     }
+
+-- what holds of a mark, whatever stands behind it, holds of the item
+pub by_mark : (outer : List Opened) (x : Meaning) (a : ℕ) (r : List ℕ) → ((left : List ℕ) (m : Meaning) → Continues outer x (a ∷ left) m → ⊥) → (other : List ℕ) (m : Meaning) → item_of other ≡ item_of (a ∷ r) → Continues outer x other m → ⊥
+by_mark outer x a r none [] m item k = absurd (alike_items (a ∷ r) [] item)
+by_mark outer x a r none (b ∷ bs) m item k =
+    let first : a ≡ b = alike_items (a ∷ r) (b ∷ bs) item in
+    none bs m (moved outer x m (a ∷ bs) (b ∷ bs) (ap (λ c. c ∷ bs) first) k)
+
+pub no_list_item : (hs : List Meaning) (outer : List Opened) (x : Meaning) (behind list : List ℕ) → behind ≡ 91 ∷ list → (other : List ℕ) (m : Meaning) → item_of other ≡ item_of behind → Continues (InList hs ∷ outer) x (124 ∷ other) m → ⊥
+no_list_item hs outer x behind list e [] m item k = absurd (alike_items (91 ∷ list) [] (item ∙ ap item_of e))
+no_list_item hs outer x behind list e (b ∷ bs) m item k =
+    let first : 91 ≡ b = alike_items (91 ∷ list) (b ∷ bs) (item ∙ ap item_of e) in
+    no_list_behind_bar_at hs outer x (b ∷ bs) bs (ap (λ c. c ∷ bs) (sym first)) m k
+
+pub no_end_item : (o : Opened) (outer : List Opened) (x : Meaning) (rest : List ℕ) → rest ≡ [] → (other : List ℕ) (m : Meaning) → item_of other ≡ item_of rest → Continues (o ∷ outer) x other m → ⊥
+no_end_item o outer x rest e other m item k = no_end_at o outer x other (item_none other (item ∙ ap item_of e)) m k
 
 too_much : (o : Opened) (outer : List Opened) (mark : ℕ) (behind text : List ℕ) (fault : TermFault) → IsSame (Begins outer (mark ∷ behind)) (Begins (o ∷ outer) behind) → IsBefore behind text fault → IsTooMuch outer fault → Refuses (Begins outer) (mark ∷ behind) text fault
 too_much o outer mark behind text (BadTerm at) s p t = absurd t
@@ -530,18 +560,20 @@ steps before rest state read e less s = record {
   less = less;
   same = subst (λ (w : List ℕ). IsSame (before w) (Means state)) (sym e) (s (rest_of state));
   wider = λ left m like k. (s left).from m k;
+  back = λ left m alike b. (s left).to m b;
 }
 
 -- into what a mark opens
-pub goes_in : (o : Opened) (outer : List Opened) (mark : ℕ) (behind text : List ℕ) (result : Result State TermFault) → IsSame (Begins outer (mark ∷ behind)) (Begins (o ∷ outer) behind) → ((left : List ℕ) (m : Meaning) → Begins (o ∷ outer) left m → Begins outer (mark ∷ left) m) → GoesIn outer o behind text result → Follows (Begins outer) (mark ∷ behind) text result
-goes_in o outer mark behind text (Ok state) s out g = record {
+pub goes_in : (o : Opened) (outer : List Opened) (mark : ℕ) (behind text : List ℕ) (result : Result State TermFault) → ((left : List ℕ) → IsAlike behind left → IsSame (Begins outer (mark ∷ left)) (Begins (o ∷ outer) left)) → ((left : List ℕ) (m : Meaning) → Begins (o ∷ outer) left m → Begins outer (mark ∷ left) m) → GoesIn outer o behind text result → Follows (Begins outer) (mark ∷ behind) text result
+goes_in o outer mark behind text (Ok state) into out g = record {
   read = mark ∷ [];
   parts = ap (λ w. mark ∷ w) (sym g.1);
   less = omega (arith, ap length g.1);
-  same = same_then _ _ _ s (subst (λ (w : List ℕ). IsSame (Begins (o ∷ outer) w) (Means state)) g.1 (g.0 (rest_of state)));
+  same = same_then _ _ _ (into behind (alike_self behind)) (subst (λ (w : List ℕ). IsSame (Begins (o ∷ outer) w) (Means state)) g.1 (g.0 (rest_of state)));
   wider = λ left m like k. out left m ((g.0 left).from m k);
+  back = λ left m alike b. (g.0 left).to m ((into left (subst (λ (w : List ℕ). IsAlike w left) g.1 alike)).to m b);
 }
-goes_in o outer mark behind text (Err fault) s out g = too_much o outer mark behind text fault s g.0 g.1
+goes_in o outer mark behind text (Err fault) into out g = too_much o outer mark behind text fault (into behind (alike_self behind)) g.0 g.1
 
 pub out_of_tuple : (outer : List Opened) (left : List ℕ) (m : Meaning) → Begins (InTuple [] ∷ outer) left m → Begins outer (123 ∷ left) m
 out_of_tuple outer left m p = goes_out_of_tuple outer left m p.term p.behind p.lawful p.text p.next
@@ -550,6 +582,9 @@ pub out_of_list : (outer : List Opened) (left : List ℕ) (m : Meaning) → Begi
 out_of_list outer left m p = goes_out_of_list outer left m p.term p.behind p.lawful p.text p.next
 
 -- a leaf
+pub leaf_goes : (outer : List Opened) (rest : List ℕ) (x : Meaning) (behind : List ℕ) → Reads rest x behind → IsSame (Begins outer rest) (Continues outer x behind)
+leaf_goes outer rest x behind r = subst (λ (w : List ℕ). IsSame (Begins outer w) (Continues outer x behind)) (sym r.parts) (leaf_begins outer rest x behind r behind (alike_self behind))
+
 pub leaf_steps : (outer : List Opened) (rest : List ℕ) (x : Meaning) (behind : List ℕ) → Reads rest x behind → (left : List ℕ) (m : Meaning) → Continues outer x left m → Begins outer (text_of_term x ++ left) m
 leaf_steps outer rest x behind r left m k = record { term = x; behind = left; lawful = r.lawful; text = refl; next = k }
 
@@ -595,9 +630,6 @@ wanted before o outer new next r e f s =
 pub found : (before : Meaning → Type 0) (outer : List Opened) (x made : Meaning) (r : List ℕ) → made ≡ x → IsSame before (Continues outer x r) → IsSame before (Continues outer made r)
 found before outer x made r e s = subst (λ (w : Meaning). IsSame before (Continues outer w r)) (sym e) s
 
-pub begun : (outer : List Opened) (text text' : List ℕ) (after : Meaning → Type 0) → text ≡ text' → IsSame (Begins outer text') after → IsSame (Begins outer text) after
-begun outer text text' after e s = subst (λ (w : List ℕ). IsSame (Begins outer w) after) (sym e) s
-
 pub same_self : (P : Meaning → Type 0) → IsSame P P
 same_self P = record { to = λ m p. p; from = λ m p. p }
 
@@ -605,6 +637,10 @@ same_self P = record { to = λ m p. p; from = λ m p. p }
 pub bar_steps : (hs : List Meaning) (x : Meaning) (outer new : List Open) (next : Open) (behind : List ℕ) → new ≡ outer ++ next ∷ [] → open_in next ≡ InTail hs x → slice_index behind 0 ≢ 91 → (left : List ℕ) (m : Meaning) → IsLike behind left → Begins (opened_in new) left m → Continues (InList hs ∷ opened_in outer) x (124 ∷ left) m
 bar_steps hs x outer new next behind e f other left m like k =
     (wanted _ (InTail hs x) outer new next left e f (bar_in_list hs (opened_in outer) x left (like_other behind left like other))).from m k
+
+pub bar_back : (hs : List Meaning) (x : Meaning) (outer new : List Open) (next : Open) (behind : List ℕ) → new ≡ outer ++ next ∷ [] → open_in next ≡ InTail hs x → slice_index behind 0 ≢ 91 → (left : List ℕ) (m : Meaning) → IsAlike behind left → Continues (InList hs ∷ opened_in outer) x (124 ∷ left) m → Begins (opened_in new) left m
+bar_back hs x outer new next behind e f other left m alike k =
+    (wanted _ (InTail hs x) outer new next left e f (bar_in_list hs (opened_in outer) x left (alike_other behind left 91 alike other))).to m k
 
 -- A WHOLE READING
 
@@ -615,28 +651,27 @@ nothing (x ∷ xs) e = absurd (omega arith)
 pub starts : (text : List ℕ) (outer : List Open) → outer ≡ [] → (left : List ℕ) → IsSame (HasText left) (Begins (opened_in outer) left)
 starts text outer e left = subst (λ (w : List Open). IsSame (HasText left) (Begins (opened_in w) left)) (sym e) (whole_begins left)
 
--- what was read begins with the same byte, whatever is left
-first_read : (read a b : List ℕ) → 0 < length read → slice_index (read ++ a) 0 ≡ slice_index (read ++ b) 0
-first_read [] a b some = absurd (omega arith)
-first_read (x ∷ xs) a b some = refl
-
 shorter : (rest read behind : List ℕ) → rest ≡ read ++ behind → length behind < length rest → 0 < length read
 shorter rest read behind e less = omega (arith, ap length e, length-append read behind)
 
 has_text : (a b c : List ℕ) (m : Meaning) → HasText (a ++ (b ++ c)) m → HasText ((a ++ b) ++ c) m
 has_text a b c m h = (h.0, append_assoc a b c ∙ h.1)
 
+texts_back : (a b c : List ℕ) (m : Meaning) → HasText ((a ++ b) ++ c) m → HasText (a ++ (b ++ c)) m
+texts_back a b c m h = (h.0, sym (append_assoc a b c) ∙ h.1)
+
 -- a step of a reading
 pub holds_then : (text : List ℕ) (state reached : State) → Holds text state → GoesOn (MeansAt state) (rest_of state) reached → Holds text reached
-holds_then text state reached h g = record {
-  read = h.read ++ g.read;
-  parts = h.parts ∙ ap (λ w. h.read ++ w) g.parts ∙ sym (append_assoc h.read g.read (rest_of reached));
-  within = omega (arith, h.within, g.less);
-  same = same_then _ _ _ h.same g.same;
-  wider = λ left m like k.
-      let first : slice_index (g.read ++ left) 0 ≡ slice_index (rest_of state) 0 = first_read g.read left (rest_of reached) (shorter (rest_of state) g.read (rest_of reached) g.parts g.less) ∙ ap (λ w. slice_index w 0) (sym g.parts) in
-      has_text h.read g.read left m (h.wider (g.read ++ left) m (inl first) (g.wider left m like k));
-}
+holds_then text state reached h g =
+    let alike : (left : List ℕ) → IsAlike (rest_of state) (g.read ++ left) = λ left. subst (λ (w : List ℕ). IsAlike w (g.read ++ left)) (sym g.parts) (alike_after g.read (rest_of reached) left (shorter (rest_of state) g.read (rest_of reached) g.parts g.less)) in
+    record {
+      read = h.read ++ g.read;
+      parts = h.parts ∙ ap (λ w. h.read ++ w) g.parts ∙ sym (append_assoc h.read g.read (rest_of reached));
+      within = omega (arith, h.within, g.less);
+      same = same_then _ _ _ h.same g.same;
+      wider = λ left m like k. has_text h.read g.read left m (h.wider (g.read ++ left) m (inl (alike_index (rest_of state) (g.read ++ left) (alike left))) (g.wider left m like k));
+      back = λ left m is b. g.back left m is (h.back (g.read ++ left) m (alike left) (texts_back h.read g.read left m b));
+    }
 
 no_ok : {X Y : Type 0} {x : X} {y : Y} → ◌≡◌ {A = Result X Y} (Err y) (Ok x) → ⊥
 no_ok e = cc
@@ -664,8 +699,23 @@ place_at text state at h p =
       goes_on = record { rest = p.left; term = p.term; lawful = has.0; text = has.1 };
     }
 
+fault_at : (text : List ℕ) (state : State) (at : ℕ) → Holds text state → BadAt (MeansAt state) (rest_of state) text at → IsFirstFault text at
+fault_at text state at h p =
+    let parts : text ≡ (h.read ++ p.read) ++ p.behind = h.parts ∙ ap (λ w. h.read ++ w) p.parts ∙ sym (append_assoc h.read p.read p.behind) in
+    let has = has_text h.read p.read p.left p.term (h.wider (p.read ++ p.left) p.term p.like p.goes_on) in
+    record {
+      before = h.read ++ p.read;
+      behind = p.behind;
+      parts = parts;
+      place = omega (arith, p.place, ap length parts, length-append (h.read ++ p.read) p.behind);
+      goes_on = record { rest = p.left; term = p.term; lawful = has.0; text = has.1 };
+      bad = λ other m item l e.
+          let alike = subst (λ (w : List ℕ). IsAlike w (p.read ++ other)) (sym p.parts) (alike_under p.read p.behind other item) in
+          p.bad other m item (h.back (p.read ++ other) m alike (texts_back h.read p.read other m (l, e)));
+    }
+
 pub fault_place : (text : List ℕ) (state : State) (fault : TermFault) → Holds text state → Lies (MeansAt state) (rest_of state) text fault → HasPlace text fault
-fault_place text state (BadTerm at) h p = place_at text state at h p
+fault_place text state (BadTerm at) h p = fault_at text state at h p
 fault_place text state (TooDeep at) h p = place_at text state at h p
 fault_place text state Memory h p = tt
 
@@ -693,10 +743,25 @@ ended_only text outer x rest (Ok read) at s e h g = λ m l t.
     h.0 ∙ whole_ends x m (moved [] x m [] rest (sym h.1) k)
 ended_only text outer x rest (Err fault) at s e h g = λ m l t. absurd (not_ended x m rest g.0 ((whole_of text outer x rest s e).to m (l, t)))
 
-pub ended_place : (text : List ℕ) (state : State) (result : Result Term TermFault) (at : ℕ) → Holds text state → LiesAt (MeansAt state) (rest_of state) text at → IfErr result (λ fault. (rest_of state ≢ []) × (fault ≡ BadTerm at)) → IfErr result (λ fault. HasPlace text fault)
-ended_place text state (Ok read) at h p g = tt
-ended_place text state (Err fault) at h p g = subst (HasPlace text) (sym g.1) (place_at text state at h p)
+-- where a term ends, nothing else may stand
+only_end : (outer : List Open) (x : Meaning) (rest : List ℕ) → length outer ≡ 0 → rest ≢ [] → (other : List ℕ) (m : Meaning) → item_of other ≡ item_of rest → Continues (opened_in outer) x other m → ⊥
+only_end outer x rest none some other m item k =
+    let alone = subst (λ (w : List Open). Continues (opened_in w) x other m) (nothing outer none) k in
+    not_ended x m other (λ e. some (item_none rest (sym item ∙ ap item_of e))) alone
 
--- where a term ends, its text may
-pub whole_here : (outer : List Open) (x : Meaning) (rest text : List ℕ) (at : ℕ) → at + length rest ≡ length text + 1 → LiesAt (Continues (opened_in outer) x) rest text at
-whole_here outer x rest text at e = continues_here (opened_in outer) x rest text at e
+pub ended_place : (text : List ℕ) (state : State) (outer : List Open) (x : Meaning) (rest : List ℕ) (result : Result Term TermFault) (at : ℕ) → Holds text state → ((left : List ℕ) (m : Meaning) → Continues (opened_in outer) x left m → MeansAt state left m) → ((left : List ℕ) (m : Meaning) → MeansAt state left m → Continues (opened_in outer) x left m) → rest_of state ≡ rest → length outer ≡ 0 → at + length rest ≡ length text + 1 → IfErr result (λ fault. (rest ≢ []) × (fault ≡ BadTerm at)) → IfErr result (λ fault. HasPlace text fault)
+ended_place text state outer x rest (Ok read) at h into out same none e g = tt
+ended_place text state outer x rest (Err fault) at h into out same none e g =
+    let b = bad_here (opened_in outer) x rest text at e (only_end outer x rest none g.0) in
+    let there : BadAt (MeansAt state) (rest_of state) text at = record {
+      read = b.read;
+      behind = b.behind;
+      left = b.left;
+      term = b.term;
+      parts = same ∙ b.parts;
+      place = b.place;
+      like = subst (λ (w : List ℕ). IsLike w (b.read ++ b.left)) (sym same) b.like;
+      goes_on = into (b.read ++ b.left) b.term b.goes_on;
+      bad = λ other m item k. b.bad other m item (out (b.read ++ other) m k);
+    } in
+    subst (HasPlace text) (sym g.1) (fault_at text state at h there)

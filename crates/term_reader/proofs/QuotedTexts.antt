@@ -1,5 +1,5 @@
 -- The texts of atoms between their quotes.
-use Rattle.std.proofs.Common.{◌≡◌, ◌≢◌, ℕ, ◌≤◌, ◌<◌, List, [], ◌∷◌, ◌++◌, length, get_or, ap, sym, refl, ◌∙◌, arith, append_assoc, append-nil, length-append}
+use Rattle.std.proofs.Common.{◌≡◌, ◌≢◌, ℕ, ◌≤◌, List, [], ◌∷◌, ◌++◌, length, get_or, ap, sym, refl, ◌∙◌, arith, append_assoc, append-nil}
 use Rattle.std.proofs.lemmas.Bool.Decides.{nat_tests}
 use Rattle.std.specs.List.{flat_map}
 use Rattle.term_core.specs.TermText.{printed_byte}
@@ -76,15 +76,3 @@ reads_quote text bytes tail r = record {
       let none = none_left l.0 tail behind l.2 in
       (sym (l.1 ∙ ap (λ w. bytes ++ w) none.0 ∙ append-nil bytes), none.1);
 }
-
-some_left : (left behind : List ℕ) → [] ≡ flat_map printed_byte left ++ 39 ∷ behind → ⊥
-some_left left behind e = omega (arith, ap length e, length-append (flat_map printed_byte left) (39 ∷ behind))
-
--- no atom where none ends
-pub no_quote_left : (text bytes rest : List ℕ) → ReadsSome text bytes rest → length rest ≡ 0 → (others behind : List ℕ) → text ≡ flat_map printed_byte others ++ 39 ∷ behind → ⊥
-no_quote_left text bytes [] r none others behind e = let l = r.only others behind e in some_left l.0 behind l.2
-no_quote_left text bytes (b ∷ bs) r none others behind e = omega arith
-
--- a byte that was read leaves fewer
-pub byte_shortens : (text : List ℕ) (byte : ℕ) (behind : List ℕ) → ReadsByte text byte behind → length behind < length text
-byte_shortens text byte behind r = omega (arith, ap length r.parts, length-append (printed_byte byte) behind, printed_some byte)

@@ -1,7 +1,8 @@
 -- Words, which end before a mark or at the end of a text.
-use Rattle.std.proofs.Common.{◌≡◌, ℕ, Bool, true, false, List, [], ◌∷◌, ◌++◌, length, take_at, drop_at, take-append-drop, sym, refl, arith}
+use Rattle.std.proofs.Common.{◌≡◌, ℕ, Bool, true, false, List, [], ◌∷◌, ◌++◌, length, drop, take_at, drop_at, take-append-drop, sym, refl, arith, one-add}
 use Rattle.std.specs.List.{AllByRecursion, position_or_len}
-use Rattle.term_reader.specs.inside.Leaves.{marks, Ends, word_of, behind_word}
+use Rattle.term_reader.specs.Lawful.{marks}
+use Rattle.term_reader.specs.inside.Leaves.{Ends, word_of, behind_word}
 
 -- no byte is a mark
 abbrev pub LacksMarks : List ℕ → Type 0
@@ -29,3 +30,19 @@ behind_word-append a b l s = drop_at a b _ (sym (place-append marks a b l (begin
 
 pub word-append-behind : (text : List ℕ) → word_of text ++ behind_word text ≡ text
 word-append-behind text = take-append-drop _ text
+
+behind_by : (test : ℕ → Bool) (is : Bool) (x : ℕ) (xs : List ℕ) → test x ≡ is → BeginsBy test (drop (position_or_len test xs) xs) → BeginsBy test (drop (position_or_len test (x ∷ xs)) (x ∷ xs))
+behind_by test true x xs e h = rw e e
+behind_by test false x xs e h = rw (e, one-add) h
+
+behind_begins_by : (test : ℕ → Bool) (bytes : List ℕ) → BeginsBy test (drop (position_or_len test bytes) bytes)
+behind_begins_by test [] = tt
+behind_begins_by test (x ∷ xs) = behind_by test (test x) x xs refl (behind_begins_by test xs)
+
+ends_by : (b : List ℕ) → BeginsBy marks b → Ends b
+ends_by [] s = tt
+ends_by (x ∷ xs) s = s
+
+-- behind a word there is nothing or a mark
+pub behind_word_ends : (text : List ℕ) → Ends (behind_word text)
+behind_word_ends text = ends_by (behind_word text) (behind_begins_by marks text)

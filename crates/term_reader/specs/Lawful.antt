@@ -1,6 +1,6 @@
 -- The terms whose texts are read, and which of them a reader may refuse.
-use Rattle.std.specs.Prelude.{◌≡◌, ℕ, ◌+◌, ◌<◌, ◌^◌, List, ◌++◌, length, IsUtf8, true}
-use Rattle.std.specs.List.{AllByRecursion}
+use Rattle.std.specs.Prelude.{◌≡◌, ◌==◌, ◌||◌, if◌then◌else◌, ℕ, ◌+◌, ◌<◌, ◌^◌, Bool, true, List, [], ◌∷◌, ◌++◌, length, IsUtf8}
+use Rattle.std.specs.List.{AllByRecursion, before_first}
 use Rattle.term_core.specs.Integers.{has_64_bits}
 use Rattle.term_core.specs.Meaning.{Meaning, Meanings, Int, Atom, Ref, Pid, Tuple, Nil, Cons, NoMore, Also, node_count}
 use Rattle.term_core.specs.TermText.{text_of_term}
@@ -32,6 +32,15 @@ MayRefuse m (BadTerm at) = ⊥
 MayRefuse m (TooDeep at) = 10000 < node_count m
 MayRefuse m Memory = Unit {0}
 
+-- the marks that can stand behind a term: `,`, `]`, `|` and `}`
+abbrev pub marks : ℕ → Bool
+marks byte = (byte == 44) || ((byte == 93) || ((byte == 124) || (byte == 125)))
+
+-- the item at the beginning of some bytes: such a mark; from a quote on all of them; else those before the next mark
+abbrev pub item_of : List ℕ → List ℕ
+item_of [] = []
+item_of (byte ∷ bytes) = if marks byte then byte ∷ [] else (if byte == 39 then byte ∷ bytes else before_first marks (byte ∷ bytes))
+
 -- some bytes can go on to the text of a lawful term
 pub record CanGoOn (bytes : List ℕ) : Type 0 where
   pub rest : List ℕ
@@ -47,8 +56,17 @@ pub record IsPlace (text : List ℕ) (at : ℕ) : Type 0 where
   pub place : length before + 1 ≡ at
   pub goes_on : CanGoOn before
 
+-- such a place where the item that stands there can stand in the text of no lawful term
+pub record IsFirstFault (text : List ℕ) (at : ℕ) : Type 0 where
+  pub before : List ℕ
+  pub behind : List ℕ
+  pub parts : text ≡ before ++ behind
+  pub place : length before + 1 ≡ at
+  pub goes_on : CanGoOn before
+  pub bad : (rest : List ℕ) (term : Meaning) → item_of rest ≡ item_of behind → IsLawful term → before ++ rest ≡ text_of_term term → ⊥
+
 -- a fault has its place
 abbrev pub HasPlace : List ℕ → TermFault → Type 0
-HasPlace text (BadTerm at) = IsPlace text at
+HasPlace text (BadTerm at) = IsFirstFault text at
 HasPlace text (TooDeep at) = IsPlace text at
 HasPlace text Memory = Unit {0}

@@ -1,6 +1,7 @@
 // The leaves of terms: integers, pids, references and atoms.
 ghost use Rattle.std.specs.Prelude.{◌≡◌, ◌≢◌, ◌∷◌, IfOk, position, slice_index};
-ghost use Rattle.term_reader.specs.inside.Leaves.{ReadsLeaf, ReadsWord, behind_word, marks, word_of};
+ghost use Rattle.term_reader.specs.Lawful.{marks};
+ghost use Rattle.term_reader.specs.inside.Leaves.{ReadsLeaf, ReadsWord, behind_word, word_of};
 
 use crate::atoms::{Quoted, read_quoted};
 use crate::bytes::behind_mark;

@@ -25,8 +25,8 @@ pub fn texts_say_one_term()
 ///
 /// # Errors
 ///
-/// `BadTerm` where the text is the text of no term, with the place of the first mark, number, pid,
-/// reference or atom that cannot stand where it does; `TooDeep` where more than 10,000 brackets and braces
+/// `BadTerm` where the text is the text of no term, with the place of the first item that cannot stand
+/// where it does: a mark, a number, a pid, a reference or an atom, or the end of the text; `TooDeep` where more than 10,000 brackets and braces
 /// would be open at once, so that a term with this text has more than 10,000 nodes, with the place of the
 /// first too many; `Memory` where there was no memory for the term. What was read is dropped.
 pub fn read_term(alloc: Global, text: &[u8]) -> Result<Term, TermFault>
@@ -37,7 +37,7 @@ pub fn read_term(alloc: Global, text: &[u8]) -> Result<Term, TermFault>
     ensures only { (term : Meaning) → IsLawful term → text.now ≡ text_of_term term
         → MatchResult result (λ read. meaning_of read ≡ term) (λ fault. MayRefuse term fault) }
 
-    // What stands before the place of a fault can go on to the text of a term.
+    // What stands before the place of a fault can go on to the text of a term, and with the item there to none.
     ensures place { IfErr result (λ fault. HasPlace text.now fault) }
 {
     let mut state = State::Wanted(Vec::new(alloc), text);

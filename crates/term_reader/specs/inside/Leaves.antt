@@ -1,23 +1,26 @@
 -- The leaves of terms at the beginning of a text.
-use Rattle.std.specs.Prelude.{◌≡◌, ◌==◌, ◌||◌, ◌⊎◌, ℕ, ◌≤◌, Bool, true, List, [], ◌∷◌, ◌++◌, drop, slice_index, Option, MatchOption}
+use Rattle.std.specs.Prelude.{◌≡◌, ◌⊎◌, ℕ, ◌≤◌, true, List, [], ◌∷◌, ◌++◌, drop, slice_index, Option, MatchOption}
 use Rattle.std.specs.List.{flat_map, before_first, position_or_len}
 use Rattle.term_core.specs.Meaning.{Meaning, Int, Atom, Ref, Pid, Tuple, Nil, Cons}
 use Rattle.term_core.specs.Term.{meaning_of}
 use Rattle.term_core.specs.Text.{dotted}
 use Rattle.term_core.specs.TermText.{text_of_term}
 use Rattle.term_core.specs.declared.term.Term.{Term}
-use Rattle.term_reader.specs.Lawful.{IsLawful}
+use Rattle.term_reader.specs.Lawful.{IsLawful, item_of, marks}
 use Rattle.term_reader.specs.declared.leaves.Leaf.{Leaf}
 use Rattle.term_reader.specs.declared.leaves.Leaf.TheVariants.{Read, Bad}
-
--- the marks that can stand behind a term
-abbrev pub marks : ℕ → Bool
-marks byte = (byte == 44) || ((byte == 93) || ((byte == 124) || (byte == 125)))
 
 -- nothing, or a mark and more
 abbrev pub Ends : List ℕ → Type 0
 Ends [] = Unit {0}
 Ends (byte ∷ bytes) = marks byte ≡ true
+
+-- both are empty, or begin with the same byte
+abbrev pub IsAlike : List ℕ → List ℕ → Type 0
+IsAlike [] [] = Unit {0}
+IsAlike [] (b ∷ bs) = ⊥
+IsAlike (a ∷ xs) [] = ⊥
+IsAlike (a ∷ xs) (b ∷ bs) = a ≡ b
 
 -- what stands before the first mark
 abbrev pub word_of : List ℕ → List ℕ
@@ -65,15 +68,16 @@ ReadsWord word found = MatchOption found
     ((m : Meaning) → IsWord m → IsLawful m → word ≡ text_of_term m → ⊥)
     (λ term. IsWord (meaning_of term) × IsLawful (meaning_of term) × (word ≡ text_of_term (meaning_of term)))
 
--- the text begins with the text of this leaf, and where a mark or nothing stands behind, with that of no other
+-- the text begins with the text of this leaf, and with that of no other before a mark or the end, also if other bytes stood behind
 pub record Reads (text : List ℕ) (term : Meaning) (behind : List ℕ) : Type 0 where
   pub leaf : IsLeaf term
   pub lawful : IsLawful term
   pub parts : text ≡ text_of_term term ++ behind
-  pub only : (m : Meaning) (rest : List ℕ) → IsLeaf m → IsLawful m → Ends rest → text ≡ text_of_term m ++ rest → (term ≡ m) × (behind ≡ rest)
+  pub only : (left : List ℕ) (m : Meaning) (rest : List ℕ) → IsAlike behind left → IsLeaf m → IsLawful m → Ends rest → text_of_term term ++ left ≡ text_of_term m ++ rest → (term ≡ m) × (left ≡ rest)
 
+-- no text that begins with this item begins with the text of a leaf
 abbrev pub NoLeaf : List ℕ → Type 0
-NoLeaf text = (m : Meaning) (rest : List ℕ) → IsLeaf m → IsLawful m → Ends rest → text ≡ text_of_term m ++ rest → ⊥
+NoLeaf text = (other : List ℕ) (m : Meaning) (rest : List ℕ) → item_of other ≡ item_of text → IsLeaf m → IsLawful m → Ends rest → other ≡ text_of_term m ++ rest → ⊥
 
 abbrev pub ReadsLeaf : List ℕ → Leaf → Type 0
 ReadsLeaf text (Read term behind) = Reads text (meaning_of term) behind.now

@@ -4,7 +4,8 @@ use Rattle.term_core.specs.Meaning.{Meaning, Meanings, Also, Cons}
 use Rattle.term_core.specs.Meaning as terms
 use Rattle.term_core.specs.Term.{meaning_of, list_onto}
 use Rattle.term_core.specs.TermText.{text_of_term, text_of_tail, text_of_others}
-use Rattle.term_reader.specs.Lawful.{IsLawful, AreLawful, MayRefuse}
+use Rattle.term_reader.specs.Lawful.{IsLawful, AreLawful, MayRefuse, item_of}
+use Rattle.term_reader.specs.inside.Leaves.{IsAlike}
 use Rattle.term_reader.specs.declared.brackets.Open.{Open}
 use Rattle.term_reader.specs.declared.brackets.Open.TheVariants as opens
 use Rattle.term_reader.specs.declared.brackets.State.{State}
@@ -84,6 +85,7 @@ pub record GoesOn (before : List ℕ → Meaning → Type 0) (rest : List ℕ) (
   pub less : length (rest_of state) < length rest
   pub same : IsSame (before rest) (Means state)
   pub wider : (left : List ℕ) (m : Meaning) → IsLike (rest_of state) left → MeansAt state left m → before (read ++ left) m
+  pub back : (left : List ℕ) (m : Meaning) → IsAlike (rest_of state) left → before (read ++ left) m → MeansAt state left m
 
 -- a fault where these bytes are left of the text: what stands before can go on
 pub record LiesAt (before : List ℕ → Meaning → Type 0) (rest text : List ℕ) (at : ℕ) : Type 0 where
@@ -96,8 +98,20 @@ pub record LiesAt (before : List ℕ → Meaning → Type 0) (rest text : List �
   pub like : IsLike rest (read ++ left)
   pub goes_on : before (read ++ left) term
 
+-- and with the item that stands there nothing goes on
+pub record BadAt (before : List ℕ → Meaning → Type 0) (rest text : List ℕ) (at : ℕ) : Type 0 where
+  pub read : List ℕ
+  pub behind : List ℕ
+  pub left : List ℕ
+  pub term : Meaning
+  pub parts : rest ≡ read ++ behind
+  pub place : at + length behind ≡ length text + 1
+  pub like : IsLike rest (read ++ left)
+  pub goes_on : before (read ++ left) term
+  pub bad : (other : List ℕ) (m : Meaning) → item_of other ≡ item_of behind → before (read ++ other) m → ⊥
+
 abbrev pub Lies : (List ℕ → Meaning → Type 0) → List ℕ → List ℕ → TermFault → Type 0
-Lies before rest text (BadTerm at) = LiesAt before rest text at
+Lies before rest text (BadTerm at) = BadAt before rest text at
 Lies before rest text (TooDeep at) = LiesAt before rest text at
 Lies before rest text Memory = Unit {0}
 

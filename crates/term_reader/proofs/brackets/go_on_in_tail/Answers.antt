@@ -1,10 +1,10 @@
 use Rattle.std.proofs.Common.{◌∷◌, [], ◌∙◌, ap, arith, refl}
 use Rattle.term_core.specs.Term.{list_onto}
-use Rattle.term_reader.proofs.Marks.{bad_continues, no_mark_in_tail, steps, marked, found, tail_closes}
+use Rattle.term_reader.proofs.Marks.{bad_continues, by_mark, no_mark_in_tail, steps, marked, found, tail_closes}
 use Rattle.term_reader.proofs.brackets.go_on_in_tail.Goals as goal
 
 pub returns-then-mark-ne93 : goal.returns-then-mark-ne93
-returns-then-mark-ne93 c = bad_continues _ _ _ _ _ (omega arith) (no_mark_in_tail _ _ _ _ _ _ c.if-mark-ne93.true)
+returns-then-mark-ne93 c = bad_continues _ _ _ _ _ (omega arith) (by_mark _ _ _ _ (λ left m k. no_mark_in_tail _ _ _ _ _ left c.if-mark-ne93.true m k))
 
 pub returns : goal.returns
 returns c =

@@ -1,6 +1,6 @@
 use Rattle.std.proofs.Common.{◌≡◌, rules, sym, ◌∙◌, ap}
 use Rattle.term_core.specs.Meaning as terms
-use Rattle.term_reader.proofs.LeafTexts.{reads_atom_as, no_text, no_atom}
+use Rattle.term_reader.proofs.LeafReads.{reads_atom_as, no_text, no_atom}
 use Rattle.term_reader.proofs.leaves.read_atom.Goals as goal
 
 pub returns-in-Ok : goal.returns-in-Ok

@@ -1,4 +1,4 @@
-use Rattle.term_reader.proofs.LeafTexts.{reads_word, no_word}
+use Rattle.term_reader.proofs.LeafReads.{reads_word, no_word}
 use Rattle.term_reader.proofs.leaves.read_bare.Goals as goal
 
 pub returns-in-Some : goal.returns-in-Some

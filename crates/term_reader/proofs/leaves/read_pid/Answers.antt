@@ -1,4 +1,4 @@
-use Rattle.term_reader.proofs.LeafTexts.{no_pid}
+use Rattle.term_reader.proofs.LeafReads.{no_pid}
 use Rattle.term_reader.proofs.leaves.read_pid.Goals as goal
 
 pub returns-in_default : goal.returns-in_default

@@ -1,6 +1,6 @@
 use Rattle.std.proofs.Common.{◌≡◌, [], rules, ◌∙◌, ap}
 use Rattle.term_reader.specs.inside.Leaves.{text_of_numbers}
-use Rattle.term_reader.proofs.LeafTexts.{no_reference_pid, no_reference_numbers, no_reference_number}
+use Rattle.term_reader.proofs.LeafReads.{no_reference_pid, no_reference_numbers, no_reference_number}
 use Rattle.term_reader.proofs.leaves.read_reference.Goals as goal
 
 pub returns-in_default : goal.returns-in_default

@@ -1,6 +1,6 @@
 use Rattle.std.proofs.Common.{◌≡◌, [], length, rules, arith, refl, sym, ◌∙◌}
 use Rattle.term_reader.specs.inside.Marks.{Follows, MeansAt, rest_of}
-use Rattle.term_reader.proofs.Marks.{starts, ended_ok, ended_only, ended_place, whole_here, holds_on, place_on, refused_on, popped}
+use Rattle.term_reader.proofs.Marks.{starts, ended_ok, ended_only, ended_place, holds_on, place_on, refused_on, popped}
 use Rattle.term_reader.proofs.reader.read_term.Goals as goal
 use Rattle.term_reader.proofs.reader.read_term.Goals.{in-Wanted, in-Found+in-Some}
 
@@ -11,6 +11,7 @@ marks-init c = record {
   within = omega arith;
   same = starts c.args.text.now _ c.new.ensures.items c.args.text.now;
   wider = λ left m like k. (starts c.args.text.now c.new.result.items c.new.ensures.items left).from m k;
+  back = λ left m alike b. (starts c.args.text.now c.new.result.items c.new.ensures.items left).to m b;
 }
 
 pub returns-in_default-clause-ok : goal.returns-in_default-clause-ok
@@ -28,7 +29,8 @@ returns-in_default-clause-only c =
 pub returns-in_default-clause-place : goal.returns-in_default-clause-place
 returns-in_default-clause-place c =
     let h = rw c.in-Found.is at c.marks.invariant in
-    ended_place _ _ c.ended.result _ h (whole_here c.in-Found.outer.items _ _ _ _ (omega (arith, h.within))) c.ended.ensures.fault
+    let none : length c.in-Found.outer.items ≡ 0 = search rules in
+    ended_place _ _ c.in-Found.outer.items _ c.in-Found.rest.now c.ended.result _ h (λ left m k. k) (λ left m k. k) refl none (omega (arith, h.within)) c.ended.ensures.fault
 
 pub marks-preserved : goal.marks-preserved
 marks-preserved c = elim c.match-state.branch [
