@@ -8,7 +8,7 @@ use Rattle.term_core.specs.TermText.{text_of_term, text_of_tail, text_of_tuple, 
 use Rattle.term_reader.proofs.IntegerTexts.{integer_first, zero_text}
 use Rattle.term_reader.proofs.Items.{alike_after, alike_index, alike_items, alike_other, alike_self, alike_under, item_none}
 use Rattle.term_reader.proofs.LeafLaws.{leaf_byte}
-use Rattle.term_reader.specs.Lawful.{IsLawful, AreLawful, MayRefuse, IsPlace, IsFirstFault, HasPlace, item_of}
+use Rattle.term_reader.specs.Lawful.{IsLawful, AreLawful, MayRefuse, IsPlace, IsFault, HasPlace, item_of}
 use Rattle.term_reader.specs.inside.Leaves.{Ends, IsAlike, IsLeaf, Reads, NoLeaf}
 use Rattle.term_reader.specs.inside.Marks.{Opened, InTuple, InList, InTail, opened_in, open_in, parts_onto, Continues, AtEnd, AmongParts, AmongHeads, AsTail, Begins, IsSame, IsLike, Means, MeansAt, rest_of, GoesOn, LiesAt, BadAt, Lies, Refuses, Follows, IsTooMuch, IsBefore, GoesIn}
 use Rattle.term_core.specs.declared.term.Term.{Term}
@@ -699,7 +699,7 @@ place_at text state at h p =
       goes_on = record { rest = p.left; term = p.term; lawful = has.0; text = has.1 };
     }
 
-fault_at : (text : List ℕ) (state : State) (at : ℕ) → Holds text state → BadAt (MeansAt state) (rest_of state) text at → IsFirstFault text at
+fault_at : (text : List ℕ) (state : State) (at : ℕ) → Holds text state → BadAt (MeansAt state) (rest_of state) text at → IsFault text at
 fault_at text state at h p =
     let parts : text ≡ (h.read ++ p.read) ++ p.behind = h.parts ∙ ap (λ w. h.read ++ w) p.parts ∙ sym (append_assoc h.read p.read p.behind) in
     let has = has_text h.read p.read p.left p.term (h.wider (p.read ++ p.left) p.term p.like p.goes_on) in

@@ -56,8 +56,8 @@ pub record IsPlace (text : List ℕ) (at : ℕ) : Type 0 where
   pub place : length before + 1 ≡ at
   pub goes_on : CanGoOn before
 
--- such a place where the item that stands there can stand in the text of no lawful term
-pub record IsFirstFault (text : List ℕ) (at : ℕ) : Type 0 where
+-- such a place where, with the item that stands there, they can go on to that of none
+pub record IsFault (text : List ℕ) (at : ℕ) : Type 0 where
   pub before : List ℕ
   pub behind : List ℕ
   pub parts : text ≡ before ++ behind
@@ -67,6 +67,6 @@ pub record IsFirstFault (text : List ℕ) (at : ℕ) : Type 0 where
 
 -- a fault has its place
 abbrev pub HasPlace : List ℕ → TermFault → Type 0
-HasPlace text (BadTerm at) = IsFirstFault text at
+HasPlace text (BadTerm at) = IsFault text at
 HasPlace text (TooDeep at) = IsPlace text at
 HasPlace text Memory = Unit {0}
