@@ -153,6 +153,66 @@ fn pairs_are_listed_in_order(rt: HostRuntime) -> Result<(), Fail> {
     Ok(())
 }
 
+// Whether one number comes between each two of these processes, and nothing after it.
+fn takes_along(
+    alloc: Global,
+    channels: &mut Channels,
+    numbers: &[(u64, u64)],
+) -> Result<bool, AllocError> {
+    for (s, r) in numbers {
+        if !takes_numbers(channels, &pid(alloc, *s)?, &pid(alloc, *r)?, 1)? {
+            return Ok(false);
+        }
+    }
+    Ok(true)
+}
+
+// More channels than are looked through from the front.
+const MANY_SENT: [(u64, u64); 12] = [
+    (6, 1),
+    (2, 3),
+    (9, 9),
+    (1, 4),
+    (4, 2),
+    (7, 7),
+    (3, 1),
+    (8, 2),
+    (1, 1),
+    (5, 5),
+    (2, 1),
+    (6, 3),
+];
+
+const MANY_LISTED: [(u64, u64); 12] = [
+    (1, 1),
+    (1, 4),
+    (2, 1),
+    (2, 3),
+    (3, 1),
+    (4, 2),
+    (5, 5),
+    (6, 1),
+    (6, 3),
+    (7, 7),
+    (8, 2),
+    (9, 9),
+];
+
+#[test]
+fn each_of_many_channels_is_found(rt: HostRuntime) -> Result<(), Fail> {
+    let mut channels = Channels::new(rt.alloc())?;
+    send_along(rt.alloc(), &mut channels, &MANY_SENT)?;
+    let pairs = channels.pairs(rt.alloc())?;
+    assert!(rt; are_pairs(rt.alloc(), pairs.as_slice(), &MANY_LISTED)?);
+    let from = pid(rt.alloc(), 3)?;
+    let to = pid(rt.alloc(), 2)?;
+    assert!(rt; channels.front(&from, &to).is_none());
+    assert!(rt; takes_along(rt.alloc(), &mut channels, &MANY_SENT)?);
+    let left = channels.pairs(rt.alloc())?;
+    assert!(rt; left.as_slice().is_empty());
+    Ok(())
+}
+
 // Takes one term.
 #[derive(Drop)]
 struct Wanted(Term);
