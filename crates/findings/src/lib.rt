@@ -1,6 +1,7 @@
 // What schedules show, and what an exploration found: each error and each refusal once, with its least schedule.
 #![tactic(auto)]
 
+pub mod extent;
 pub mod finding;
 pub mod flags;
 pub mod found;
@@ -11,6 +12,7 @@ pub mod options;
 pub mod order;
 pub mod outcome;
 
+pub use extent::Extent;
 pub use finding::{Finding, copy_schedule};
 pub use flags::Flags;
 pub use found::Findings;

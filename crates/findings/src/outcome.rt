@@ -1,4 +1,5 @@
 // What an exploration comes to.
+use crate::extent::Extent;
 use crate::found::Findings;
 
 /// Why an exploration stopped before its end.
@@ -13,8 +14,8 @@ pub enum Cause {
 /// What an exploration comes to.
 #[derive(Drop)]
 pub enum Outcome {
-    /// All nodes were visited: what they show, and how many they are.
-    Complete(Findings, u64),
+    /// All nodes were visited: what they show, how many they are, and at how many of them the tree is cut.
+    Complete(Findings, Extent),
     /// It stopped for this cause, and what was found by then.
     Incomplete(Cause, Findings),
 }

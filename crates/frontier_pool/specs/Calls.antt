@@ -8,7 +8,7 @@ use Rattle.findings.specs.declared.outcome.Outcome.{Outcome}
 use Rattle.findings.specs.declared.outcome.Outcome.TheVariants.{Complete, Incomplete}
 use Rattle.sleep_jobs.specs.Explorations.{ExplorationSeen, JobSeen, TicketSeen, program_in, names_of, nodes_of, findings_of}
 use Rattle.sleep_jobs.specs.Meanings.{AreOfJob}
-use Rattle.sleep_jobs.specs.Pieces.{PieceSeen}
+use Rattle.sleep_jobs.specs.Pieces.{PieceSeen, extent_of}
 use Rattle.world_model.specs.Requests.{Program}
 use Rattle.frontier_pool.specs.Explorations.{AreOne, IsJobOf}
 use Rattle.frontier_pool.specs.Machine.{Standing, Takes, after_give, opening, stopped}
@@ -103,9 +103,9 @@ pub record Accepts (s : Seen) (ticket : TicketSeen) (piece : PieceSeen) (t : See
   pub leaves : t ≡ record {
     exploration = s.exploration;
     limit = s.limit;
-    standing = after_give s.limit s.standing (front ++ back) piece.findings piece.nodes (names_of piece.rest);
+    standing = after_give s.limit s.standing (front ++ back) piece.findings piece.extent (names_of piece.rest);
     events = s.events ++ Gave ticket.number ∷ [];
-    stop = stop_after s.limit (s.standing.nodes + piece.nodes) (length s.events + 1) s.stop;
+    stop = stop_after s.limit (s.standing.extent.nodes + piece.extent.nodes) (length s.events + 1) s.stop;
   }
 
 -- what a refused give leaves, and hands back
@@ -135,7 +135,7 @@ IsDone s = s.stop ≡ None → (s.standing.todo ≡ []) × (s.standing.out ≡ [
 abbrev pub IsOwn : Seen → ExplorationSeen → ℕ → Type 0
 IsOwn s e limit = AreOne s.exploration e × (s.limit ≡ limit)
 
--- what it comes to: all that the tree shows, and how many nodes it has; or why it stopped, and what was found by then, which is what the visited nodes show
+-- what it comes to: all that the tree shows, how many nodes it has, and at how many of them it is cut; or why it stopped, and what was found by then, which is what the visited nodes show
 abbrev pub ComesTo : Seen → Outcome → Type 0
-ComesTo s (Complete findings nodes) = (s.stop ≡ None) × (findings ≡ findings_of s.exploration (nodes_of s.exploration root)) × (nodes ≡ length (nodes_of s.exploration root)) × (nodes ≤ s.limit)
+ComesTo s (Complete findings extent) = (s.stop ≡ None) × (findings ≡ findings_of s.exploration (nodes_of s.exploration root)) × (extent ≡ extent_of s.exploration (nodes_of s.exploration root)) × (extent.nodes ≤ s.limit)
 ComesTo s (Incomplete why findings) = (cause_of s.stop ≡ Some why) × (findings ≡ s.standing.findings) × AreOfJob s.exploration root findings × (why ≡ NodeLimit → s.limit < length (nodes_of s.exploration root)) × VisitsSome s.exploration s.limit why findings

@@ -5,18 +5,19 @@ use Rattle.coverage.specs.Jobs.{Job, Node, root}
 use Rattle.findings.specs.Merging.{merged_findings, nothing}
 use Rattle.findings.specs.declared.outcome.Cause.{Cause}
 use Rattle.findings.specs.declared.outcome.Cause.TheVariants.{NodeLimit, Memory}
+use Rattle.findings.specs.declared.extent.Extent.{Extent}
 use Rattle.sleep_jobs.specs.Explorations.{ExplorationSeen, TicketSeen, nodes_of}
 use Rattle.sleep_jobs.specs.Pieces.{IsDone}
 use Rattle.frontier_pool.specs.Explorations.{nodes_of_jobs}
 use Rattle.frontier_pool.specs.declared.entry.PoolEvent.{PoolEvent}
 use Rattle.frontier_pool.specs.declared.entry.PoolEvent.TheVariants.{Took, Gave}
 
--- a state: the jobs that are open, the last of which is on top, and those that are out; what the nodes that were visited show, and how many they are; how many jobs were handed out; why no more are
+-- a state: the jobs that are open, the last of which is on top, and those that are out; what the nodes that were visited show, how many they are and at how many of them the tree is cut; how many jobs were handed out; why no more are
 pub record Standing : Type 0 where
   pub todo : List Job
   pub out : List TicketSeen
   pub findings : Findings
-  pub nodes : ℕ
+  pub extent : Extent
   pub taken : ℕ
   pub cause : Option Cause
 
@@ -27,13 +28,13 @@ pub data Entry : Type 0 where
 
 -- at the beginning the job of the whole tree is open, and nothing was done
 abbrev pub opening : Standing
-opening = record { todo = root ∷ []; out = []; findings = nothing; nodes = 0; taken = 0; cause = None }
+opening = record { todo = root ∷ []; out = []; findings = nothing; extent = record { nodes = 0; cut = 0 }; taken = 0; cause = None }
 
 -- ---- a job is handed out
 
 -- the state after it, with the jobs that are still open
 abbrev pub after_take : Standing → TicketSeen → List Job → Standing
-after_take s ticket open_ = record { todo = open_; out = s.out ++ ticket ∷ []; findings = s.findings; nodes = s.nodes; taken = s.taken + 1; cause = s.cause }
+after_take s ticket open_ = record { todo = open_; out = s.out ++ ticket ∷ []; findings = s.findings; extent = s.extent; taken = s.taken + 1; cause = s.cause }
 
 -- any open job goes out under the next number, not after a stop
 pub record Takes (s : Standing) (ticket : TicketSeen) (t : Standing) : Type 0 where
@@ -47,10 +48,14 @@ pub record Takes (s : Standing) (ticket : TicketSeen) (t : Standing) : Type 0 wh
 -- ---- its piece comes back
 
 -- the nodes of a job are those that were visited, which show what was found, and then those of the jobs that are left
-pub record MakesUp (e : ExplorationSeen) (name : Job) (findings : Findings) (nodes : ℕ) (rest : List Job) : Type 0 where
+pub record MakesUp (e : ExplorationSeen) (name : Job) (findings : Findings) (extent : Extent) (rest : List Job) : Type 0 where
   pub visited : List Node
-  pub is_done : IsDone e visited findings nodes
+  pub is_done : IsDone e visited findings extent
   pub made_up : nodes_of e name ≡ visited ++ nodes_of_jobs e rest
+
+-- how many nodes two lists have together, and at how many of them the tree is cut
+abbrev pub sum_of : Extent → Extent → Extent
+sum_of x y = record { nodes = x.nodes + y.nodes; cut = x.cut + y.cut }
 
 -- above the limit of nodes there is a cause; the first one stays
 abbrev pub cause_after : ℕ → ℕ → Option Cause → Option Cause
@@ -58,14 +63,14 @@ cause_after limit nodes None = if nat_lt limit nodes then Some NodeLimit else No
 cause_after limit nodes (Some cause) = Some cause
 
 -- the state after it, with the tickets that are still out: the first of the jobs that are left is on top
-abbrev pub after_give : ℕ → Standing → List TicketSeen → Findings → ℕ → List Job → Standing
-after_give limit s out findings nodes rest = record {
+abbrev pub after_give : ℕ → Standing → List TicketSeen → Findings → Extent → List Job → Standing
+after_give limit s out findings extent rest = record {
   todo = s.todo ++ reverse rest;
   out = out;
   findings = merged_findings s.findings findings;
-  nodes = s.nodes + nodes;
+  extent = sum_of s.extent extent;
   taken = s.taken;
-  cause = cause_after limit (s.nodes + nodes) s.cause;
+  cause = cause_after limit (s.extent.nodes + extent.nodes) s.cause;
 }
 
 -- the job of any ticket that is out was expanded: what is done of it is added, and what is left of it is open
@@ -73,17 +78,17 @@ pub record Gives (e : ExplorationSeen) (limit : ℕ) (s : Standing) (ticket : Ti
   pub front : List TicketSeen
   pub back : List TicketSeen
   pub findings : Findings
-  pub nodes : ℕ
+  pub extent : Extent
   pub rest : List Job
   pub is_out : s.out ≡ front ++ ticket ∷ back
-  pub made_up : MakesUp e ticket.name findings nodes rest
-  pub leaves : t ≡ after_give limit s (front ++ back) findings nodes rest
+  pub made_up : MakesUp e ticket.name findings extent rest
+  pub leaves : t ≡ after_give limit s (front ++ back) findings extent rest
 
 -- ---- there is no memory
 
 -- the state after it: nothing but the cause is another
 abbrev pub stopped : Standing → Standing
-stopped s = record { todo = s.todo; out = s.out; findings = s.findings; nodes = s.nodes; taken = s.taken; cause = Some Memory }
+stopped s = record { todo = s.todo; out = s.out; findings = s.findings; extent = s.extent; taken = s.taken; cause = Some Memory }
 
 -- ---- lists of entries
 

@@ -3,6 +3,7 @@ use Rattle.std.specs.Prelude.{ℕ, List, ◌∷◌, ◌++◌, Option, Some, None
 use Rattle.coverage.specs.Findings.{Findings}
 use Rattle.findings.specs.declared.outcome.Cause.{Cause}
 use Rattle.findings.specs.declared.outcome.Cause.TheVariants.{NodeLimit, Memory}
+use Rattle.findings.specs.declared.extent.Extent.{Extent}
 use Rattle.sleep_jobs.specs.Explorations.{ExplorationSeen, JobSeen, TicketSeen, names_of}
 use Rattle.frontier_pool.specs.Machine.{Standing, Entry, Enters, Stops}
 use Rattle.frontier_pool.specs.declared.entry.PoolEvent.{PoolEvent}
@@ -35,9 +36,9 @@ abbrev pub cause_of : Option Stop → Option Cause
 cause_of stop = option_map (λ (s : Stop). s.cause) stop
 
 -- the state of the machine, by what is stored
-abbrev pub standing_of : List JobSeen → List TicketSeen → Findings → ℕ → ℕ → Option Stop → Standing
-standing_of todo out findings nodes taken stop = record { todo = names_of todo; out = out; findings = findings; nodes = nodes; taken = taken; cause = cause_of stop }
+abbrev pub standing_of : List JobSeen → List TicketSeen → Findings → Extent → ℕ → Option Stop → Standing
+standing_of todo out findings extent taken stop = record { todo = names_of todo; out = out; findings = findings; extent = extent; taken = taken; cause = cause_of stop }
 
 -- and the pool
-abbrev pub seen_of : ExplorationSeen → ℕ → List JobSeen → List TicketSeen → Findings → ℕ → ℕ → List PoolEvent → Option Stop → Seen
-seen_of e limit todo out findings nodes taken events stop = record { exploration = e; limit = limit; standing = standing_of todo out findings nodes taken stop; events = events; stop = stop }
+abbrev pub seen_of : ExplorationSeen → ℕ → List JobSeen → List TicketSeen → Findings → Extent → ℕ → List PoolEvent → Option Stop → Seen
+seen_of e limit todo out findings extent taken events stop = record { exploration = e; limit = limit; standing = standing_of todo out findings extent taken stop; events = events; stop = stop }

@@ -8,9 +8,9 @@ use Rattle.findings.specs.declared.outcome.Cause.{Cause}
 use Rattle.findings.specs.declared.outcome.Cause.TheVariants.{NodeLimit}
 use Rattle.sleep_jobs.specs.Explorations.{ExplorationSeen, TicketSeen, nodes_of, findings_of}
 use Rattle.sleep_jobs.specs.Meanings.{AreOfJob}
-use Rattle.sleep_jobs.specs.Pieces.{IsDone}
+use Rattle.sleep_jobs.specs.Pieces.{IsDone, extent_of}
 use Rattle.frontier_pool.specs.Explorations.{nodes_of_jobs}
-use Rattle.frontier_pool.specs.Machine.{Standing, Entry, IsLegal}
+use Rattle.frontier_pool.specs.Machine.{Standing, Entry, IsLegal, sum_of}
 
 -- the jobs that are out
 abbrev pub names_out : List TicketSeen → List Job
@@ -27,15 +27,15 @@ nodes_left e s = nodes_of_jobs e (jobs_left s)
 -- the nodes of the tree are, in some order, those that were visited and those of the jobs that are left; the limit is the cause only above it, and above it there is a cause
 pub record AddsUp (e : ExplorationSeen) (limit : ℕ) (s : Standing) : Type 0 where
   pub visited : List Node
-  pub is_done : IsDone e visited s.findings s.nodes
+  pub is_done : IsDone e visited s.findings s.extent
   pub made_up : IsPermutation (nodes_of e root) (visited ++ nodes_left e s)
-  pub limited : s.cause ≡ Some NodeLimit → limit < s.nodes
-  pub within : s.cause ≡ None → s.nodes ≤ limit
+  pub limited : s.cause ≡ Some NodeLimit → limit < s.extent.nodes
+  pub within : s.cause ≡ None → s.extent.nodes ≤ limit
 
--- so what was found and what the jobs that are left show is what the tree shows, their nodes are as many as it has, and each finding is shown by a node with its schedule
+-- so what was found and what the jobs that are left show is what the tree shows, their nodes are as many as it has, it is cut at as many of them, and each finding is shown by a node with its schedule
 pub record SumsUp (e : ExplorationSeen) (s : Standing) : Type 0 where
   pub found : findings_of e (nodes_of e root) ≡ merged_findings s.findings (findings_of e (nodes_left e s))
-  pub counted : length (nodes_of e root) ≡ s.nodes + length (nodes_left e s)
+  pub counted : extent_of e (nodes_of e root) ≡ sum_of s.extent (extent_of e (nodes_left e s))
   pub shown : AreOfJob e root s.findings
 
 -- where it was stopped: some nodes of the tree were visited, each once, and what was found is what these show, each identity once, in order, with the least of their schedules; at the limit more were visited than it

@@ -12,13 +12,13 @@ use crate::numbered::place_of;
 use crate::room::{put, take_in};
 use crate::sameness::{are_one, is_for};
 use core_tree::Module;
-use findings::{Cause, Findings, Options, Outcome};
+use findings::{Cause, Extent, Findings, Options, Outcome};
 use sleep_jobs::{Exploration, Job, Piece, Ticket};
 use std::alloc::{AllocError, Global};
 use std::marker::Model;
 
-/// The jobs that are open and those that are out, what the others show and how many nodes they have, and how it came
-/// about. Contracts see it as a state of the machine, which a legal list leads to.
+/// The jobs that are open and those that are out, what the others show, how many nodes they have and at how many of them
+/// the tree is cut, and how it came about. Contracts see it as a state of the machine, which a legal list leads to.
 #[derive(Drop)]
 pub struct Frontier<'m> {
     exploration: Exploration<'m>,
@@ -27,6 +27,7 @@ pub struct Frontier<'m> {
     out: Vec<Ticket>,
     findings: Findings,
     nodes: u128,
+    cut: u128,
     taken: u64,
     events: Vec<PoolEvent>,
     stop: Option<Stop>,
@@ -42,9 +43,9 @@ impl<'m> Model for Frontier<'m> {
 
     ghost coded = { coded_seen };
 
-    ghost view = { λ f. seen_of (exploration_in f.exploration) f.limit f.todo.items f.out.items f.findings f.nodes f.taken f.events.items f.stop };
+    ghost view = { λ f. seen_of (exploration_in f.exploration) f.limit f.todo.items f.out.items f.findings (record { nodes = f.nodes; cut = f.cut }) f.taken f.events.items f.stop };
 
-    ghost invariant = { λ f. IsFrontier (exploration_in f.exploration) f.limit f.todo.items f.out.items f.findings f.nodes f.taken f.events.items f.stop };
+    ghost invariant = { λ f. IsFrontier (exploration_in f.exploration) f.limit f.todo.items f.out.items f.findings (record { nodes = f.nodes; cut = f.cut }) f.taken f.events.items f.stop };
 }
 
 /// The ticket of a job under a number, for whom takes it and for the pool. `AllocError` if there is no memory for them.
@@ -60,7 +61,7 @@ fn tickets_of(alloc: Global, number: u64, job: &Job<'_>) -> Result<(Ticket, Tick
     Ok((ticket, own))
 }
 
-/// A count of nodes, among those of all pieces.
+/// A count of nodes, or of cuts, among those of all pieces.
 fn widened(nodes: u64) -> u128
     ensures same { result ≡ nodes }
     ensures small { result < 2 ^ 64 }
@@ -68,7 +69,7 @@ fn widened(nodes: u64) -> u128
     u128::from(nodes)
 }
 
-/// A count of nodes that a limit allows.
+/// A count of nodes, or of cuts, that a limit allows.
 fn narrowed(nodes: u128, limit: u64) -> u64
     requires { nodes ≤ limit }
     ensures { result ≡ nodes }
@@ -122,6 +123,7 @@ impl<'m> Frontier<'m> {
             out,
             findings,
             nodes: 0,
+            cut: 0,
             taken: 0,
             events,
             stop: None,
@@ -194,7 +196,8 @@ impl<'m> Frontier<'m> {
         if !is_for(&piece, ticket, &self.exploration) {
             return Err(GiveFault::StrangePiece(piece));
         }
-        let visited = widened(piece.nodes());
+        let visited = widened(piece.extent().nodes);
+        let cut = widened(piece.extent().cut);
         let (more, rest) = piece.into_parts();
         let taken_in = take_in(
             &mut self.findings,
@@ -210,6 +213,7 @@ impl<'m> Frontier<'m> {
         put(&mut self.events, PoolEvent::Gave(ticket.number));
         self.out.remove(at);
         self.nodes += visited;
+        self.cut += cut;
         self.stop = limited(self.stop, self.limit, self.nodes, self.events.len());
         Ok(())
     }
@@ -239,8 +243,11 @@ impl<'m> Frontier<'m> {
             return Ok(Outcome::Incomplete(stop.cause, self.findings));
         }
         if self.todo.is_empty() && self.out.is_empty() {
-            let nodes = narrowed(self.nodes, self.limit);
-            return Ok(Outcome::Complete(self.findings, nodes));
+            let extent = Extent {
+                nodes: narrowed(self.nodes, self.limit),
+                cut: narrowed(self.cut, self.limit),
+            };
+            return Ok(Outcome::Complete(self.findings, extent));
         }
         Err(StrangePool)
     }

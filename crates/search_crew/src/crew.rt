@@ -1,7 +1,7 @@
 // A search by several workers.
 ghost use Rattle.std.specs.Prelude.{◌≡◌, ◌+◌, ◌<◌, ◌≤◌, IfOk, vec_len, vec_capacity};
 ghost use Rattle.std.specs.Thread.{IsSend, IsSync};
-ghost use Rattle.search_crew.specs.Outcomes.{IsExact, IsOutcome};
+ghost use Rattle.search_crew.specs.Outcomes.{IsExact, IsOutcome, IsWhole};
 ghost use Rattle.sleep_jobs.specs.Explorations.{explored_by};
 ghost use Rattle.world_model.specs.Asking.{program_of};
 
@@ -105,6 +105,7 @@ fn searched<N: PoolName + Send + Sync, R: Threads + Wait + Sync, G: Gate + Sync>
     requires program { program_of program.now ≡ N.program }
     ensures outcome { IfOk result (λ outcome. IsOutcome (explored_by program.now options.now) options.now.nodes outcome) }
     ensures exact { IfOk result (λ outcome. IsExact (explored_by program.now options.now) outcome) }
+    ensures whole { IfOk result (λ outcome. IsWhole (explored_by program.now options.now) outcome) }
 {
     places_do_not_matter();
     let (state, seats) = PoolState::<'_, N>::open(alloc, blank, program, options)?;
@@ -118,14 +119,15 @@ fn searched<N: PoolName + Send + Sync, R: Threads + Wait + Sync, G: Gate + Sync>
 }
 
 /// Visits the nodes of the tree of schedules with sleep sets (Godefroid, "Partial-Order Methods for the Verification of
-/// Concurrent Systems"), each once, by so many workers: what they show, and how many they are. Each worker is a thread
+/// Concurrent Systems"), each once, by so many workers: what they show, how many they are, and how many of them lie at the depth and go on. Each worker is a thread
 /// of its own, and has a module of its own, a copy; it takes a job from a pool, expands it while no lock is held, and
 /// gives back what it found and the jobs that are left. Of its first job it visits at most as many nodes as the budget
 /// says, and of the next ones twice as many from job to job, up to 64 times as many, until a worker waits for work: then
 /// it begins again. The gate is told of each node before it is visited, and of each job after its piece was accepted;
 /// jobs are numbered from 1.
 ///
-/// It is `Complete` where all nodes were visited, which are at most as many as may be; `Incomplete` for `NodeLimit` only
+/// It is `Complete` where all nodes were visited, which are at most as many as may be. Where no node at the depth goes on,
+/// it is complete of schedules of whatever length. It is `Incomplete` for `NodeLimit` only
 /// where they are more, and for `Memory` where there was none: then each finding is shown by its schedule. How many
 /// workers there are, and how many nodes of a job one visits before it gives the job back, change nothing of a complete
 /// search. It returns when all workers have ended.
@@ -144,6 +146,7 @@ pub fn search<R: Threads + Wait + Sync, G: Gate + Sync>(
     requires some { 1 ≤ options.now.budget }
     ensures outcome { IfOk result (λ outcome. IsOutcome (explored_by program.now options.now) options.now.nodes outcome) }
     ensures exact { IfOk result (λ outcome. IsExact (explored_by program.now options.now) outcome) }
+    ensures whole { IfOk result (λ outcome. IsWhole (explored_by program.now options.now) outcome) }
 {
     searched::<Brand, R, G>(
         rt,

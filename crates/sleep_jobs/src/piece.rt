@@ -6,17 +6,17 @@ ghost use Rattle.sleep_jobs.specs.Pieces.{IsPiece};
 use crate::exploration::Exploration;
 use crate::job::Job;
 use crate::names::Ticket;
-use findings::Findings;
+use findings::{Extent, Findings};
 use std::alloc::{AllocError, Global};
 use std::marker::Model;
 
-/// What was found in a job, how many nodes were visited, and the jobs of the others, in the order in which the search
-/// visits them. It holds the ticket of the job, and what is explored.
+/// What was found in a job, how many nodes were visited and at how many of them the tree is cut, and the jobs of the
+/// others, in the order in which the search visits them. It holds the ticket of the job, and what is explored.
 pub struct Piece<'m> {
     ticket: Ticket,
     exploration: Exploration<'m>,
     findings: Findings,
-    nodes: u64,
+    extent: Extent,
     rest: Vec<Job<'m>>,
 }
 
@@ -27,7 +27,7 @@ impl Drop for Piece<'_> {
             ticket: _,
             exploration: _,
             findings: _,
-            nodes: _,
+            extent: _,
             rest: _,
         } = self;
     }
@@ -42,9 +42,9 @@ impl<'m> Model for Piece<'m> {
 
     ghost coded = { coded_piece };
 
-    ghost view = { λ p. record { ticket = p.ticket; exploration = exploration_in p.exploration; findings = p.findings; nodes = p.nodes; rest = p.rest.items } };
+    ghost view = { λ p. record { ticket = p.ticket; exploration = exploration_in p.exploration; findings = p.findings; extent = p.extent; rest = p.rest.items } };
 
-    ghost invariant = { λ p. IsPiece (exploration_in p.exploration) p.ticket.name p.findings p.nodes p.rest.items };
+    ghost invariant = { λ p. IsPiece (exploration_in p.exploration) p.ticket.name p.findings p.extent p.rest.items };
 }
 
 /// A copy of jobs, or `AllocError` if there is no memory for it.
@@ -59,23 +59,23 @@ fn copy_jobs<'m>(alloc: Global, jobs: &[Job<'m>]) -> Result<Vec<Job<'m>>, AllocE
 }
 
 impl<'m> Piece<'m> {
-    /// The piece of these parts: what the nodes of the ticket's job that were visited show, how many they are, and the
-    /// jobs of the others.
+    /// The piece of these parts: what the nodes of the ticket's job that were visited show, how many they are and at
+    /// how many of them the tree is cut, and the jobs of the others.
     pub fn of(
         ticket: Ticket,
         exploration: Exploration<'m>,
         findings: Findings,
-        nodes: u64,
+        extent: Extent,
         rest: Vec<Job<'m>>,
     ) -> Piece<'m>
-        requires { IsPiece (exploration_in exploration) ticket.name findings nodes rest.items }
-        ensures { result ≡ record { ticket = ticket; exploration = exploration_in exploration.entry; findings = findings; nodes = nodes; rest = rest.entry.items } }
+        requires { IsPiece (exploration_in exploration) ticket.name findings extent rest.items }
+        ensures { result ≡ record { ticket = ticket; exploration = exploration_in exploration.entry; findings = findings; extent = extent; rest = rest.entry.items } }
     {
         Piece {
             ticket,
             exploration,
             findings,
-            nodes,
+            extent,
             rest,
         }
     }
@@ -94,24 +94,24 @@ impl<'m> Piece<'m> {
         self.exploration
     }
 
-    /// How many nodes were visited.
-    pub fn nodes(&self) -> u64
-        ensures { result ≡ self.now.nodes }
+    /// How many nodes were visited, and at how many of them the tree is cut.
+    pub fn extent(&self) -> Extent
+        ensures { result ≡ self.now.extent }
     {
-        self.nodes
+        self.extent
     }
 
     /// What the nodes that were visited show, and the jobs of the others; the rest of it is let go.
     pub fn into_parts(self) -> (Findings, Vec<Job<'m>>)
         ensures found { result.0 ≡ self.entry.findings }
         ensures rest { result.1.items ≡ self.entry.rest }
-        ensures piece { IsPiece self.entry.exploration self.entry.ticket.name self.entry.findings self.entry.nodes self.entry.rest }
+        ensures piece { IsPiece self.entry.exploration self.entry.ticket.name self.entry.findings self.entry.extent self.entry.rest }
     {
         let Piece {
             ticket: _,
             exploration: _,
             findings,
-            nodes: _,
+            extent: _,
             rest,
         } = self;
         (findings, rest)
@@ -125,7 +125,7 @@ impl<'m> Piece<'m> {
             ticket: self.ticket.copy(alloc)?,
             exploration: self.exploration,
             findings: self.findings.copy(alloc)?,
-            nodes: self.nodes,
+            extent: self.extent,
             rest: copy_jobs(alloc, self.rest.as_slice())?,
         })
     }

@@ -3,6 +3,9 @@ use Rattle.std.proofs.Common.{◌≡◌, ◌↔◌, ◌≤◌, ◌+◌, ◌==◌
 use Rattle.std.proofs.lemmas.Bool.{eqb-true, eq-eqb}
 use Rattle.std.proofs.lemmas.List.{length-append, length_push}
 use Rattle.std.proofs.lemmas.List.Elements.{filter-append}
+use Rattle.std.proofs.lemmas.List.Sorted.{sum_by-IsPermutation}
+use Rattle.std.proofs.lemmas.List.Sums.{count_by-le-length, length-filter}
+use Rattle.std.specs.List.{sum_by}
 use Rattle.term_core.specs.declared.step.Step.{Step}
 use Rattle.world_model.specs.Events.{Event, History}
 use Rattle.world_model.specs.Names.{IsAmong}
@@ -11,7 +14,7 @@ use Rattle.world_model.specs.Run.{next_event, enabled_steps, extended, run}
 use Rattle.world_model.specs.Shown.{Identity, is_error, is_refusal}
 use Rattle.world_model.proofs.Opened.{listed_enabled}
 use Rattle.coverage.specs.Covers.{is_empty, is_one_of}
-use Rattle.tree_cuts.specs.Cuts.{goes_on, is_cut, cut_count, IsUncut, CutsAddUp, RootHasAllCuts, JobsHaveTheirCuts, CutsAreExact, UncutTreesAreWhole, UncutRootsAreWhole, UncutFindingsAreWhole, IsEverShown, UncutErrorsAreExact, UncutRefusalsAreExact, UncutTreesShowNoError, NodesTellCuts}
+use Rattle.tree_cuts.specs.Cuts.{goes_on, is_cut, cut_count, IsUncut, CutsAddUp, CutsAreSome, CutsInAnyOrder, RootHasAllCuts, JobsHaveTheirCuts, CutsAreExact, UncutTreesAreWhole, UncutRootsAreWhole, UncutFindingsAreWhole, IsEverShown, UncutErrorsAreExact, UncutRefusalsAreExact, UncutTreesShowNoError, NodesTellCuts}
 use Rattle.coverage.specs.Findings.{Finding, IsFound, findings_among, findings_of}
 use Rattle.coverage.specs.Jobs.{Node, asleep_below, awake_steps, nodes_after, nodes_along, node_at, nodes_from, nodes_of, nodes_of_all, root, schedules_of, still_open, visited}
 use Rattle.coverage.specs.Shown.{IsShown}
@@ -35,6 +38,22 @@ cuts_of_both a n us vs = ap (cut_count a n) (map_join (λ v. v.schedule) us vs) 
 pub cuts_of_jobs : JobsHaveTheirCuts
 cuts_of_jobs a n budget jobs =
     ap (λ vs. cut_count a n (schedules_of vs)) (split_jobs a n budget jobs) ∙ cuts_of_both a n (visited a n budget jobs) (nodes_of_all a n (still_open a n budget jobs))
+
+-- of a list no more pass than there are, in whatever order they stand
+as_sum : {X : Type 0} (test : X → Bool) (xs : List X) → length (filter test xs) ≡ sum_by (λ x. cond (test x) 1 0) xs
+as_sum test [] = refl
+as_sum test (x ∷ xs) = go (test x)
+  where
+    go : (b : Bool) → length (cond b (x ∷ filter test xs) (filter test xs)) ≡ cond b 1 0 + sum_by (λ x. cond (test x) 1 0) xs
+    go true = omega (arith, as_sum test xs)
+    go false = as_sum test xs
+
+pub cuts_some : CutsAreSome
+cuts_some a n schedules = subst (λ k. k ≤ length schedules) (sym (length-filter (is_cut a n) schedules)) (count_by-le-length (is_cut a n) schedules)
+
+pub cuts_in_any_order : CutsInAnyOrder
+cuts_in_any_order a n ss ts same =
+    as_sum (is_cut a n) ss ∙ sym (sum_by-IsPermutation (λ s. cond (is_cut a n s) 1 0) ss ts same) ∙ sym (as_sum (is_cut a n) ts)
 
 -- ---- where none of a list passes a test
 

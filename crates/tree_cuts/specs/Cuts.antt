@@ -1,5 +1,6 @@
 -- Where a tree is cut at its depth, and what a tree says of all schedules that is cut nowhere.
 use Rattle.std.specs.List.{filter}
+use Rattle.std.specs.List.Sorted.{IsPermutation}
 use Rattle.std.specs.Prelude.{◌≡◌, ◌≤◌, ◌↔◌, ◌==◌, ◌&&◌, ◌+◌, ℕ, Bool, true, false, not, List, [], ◌++◌, length, Option, Some, None}
 use Rattle.term_core.specs.declared.step.Step.{Step}
 use Rattle.world_model.specs.Events.{History}
@@ -42,6 +43,14 @@ IsUncut a n = cuts_of a n ≡ 0
 -- these counts add up
 abbrev pub CutsAddUp : Type 0
 CutsAddUp = (a : Program) (n : ℕ) (ss ts : List (List Step)) → cut_count a n (ss ++ ts) ≡ cut_count a n ss + cut_count a n ts
+
+-- and a tree is cut at no more schedules than there are
+abbrev pub CutsAreSome : Type 0
+CutsAreSome = (a : Program) (n : ℕ) (schedules : List (List Step)) → cut_count a n schedules ≤ length schedules
+
+-- whatever the order of the schedules
+abbrev pub CutsInAnyOrder : Type 0
+CutsInAnyOrder = (a : Program) (n : ℕ) (ss ts : List (List Step)) → IsPermutation ss ts → cut_count a n ss ≡ cut_count a n ts
 
 -- the cuts of a tree are those of the nodes of its root
 abbrev pub RootHasAllCuts : Type 0

@@ -4,7 +4,9 @@ use Rattle.std.specs.Coded.{Coded, code_by, coded×, coded⊎, coded_list, coded
 use mathlib.Core.Logic.{inl, inr}
 use Rattle.coverage.specs.Findings.{Findings}
 use Rattle.coverage.specs.Jobs.{Job}
+use Rattle.findings.specs.contracts.extent.Extent as extents
 use Rattle.findings.specs.contracts.outcome.Cause as causes
+use Rattle.findings.specs.declared.extent.Extent.{Extent}
 use Rattle.findings.specs.declared.outcome.Cause.{Cause}
 use Rattle.findings.specs.inside.FindingCodes.{coded_findings}
 use Rattle.sleep_jobs.specs.Explorations.{ExplorationSeen, TicketSeen}
@@ -34,13 +36,13 @@ abbrev coded_stop : Coded Stop
 coded_stop = code_by (Cause × ℕ) (coded× causes.the_row.coded coded_ℕ) (λ s. (s.cause, s.place)) (λ p. record { cause = p.0; place = p.1 }) (λ _. refl)
 
 abbrev StandingParts : Type 0
-StandingParts = List Job × (List TicketSeen × (Findings × (ℕ × (ℕ × Option Cause))))
+StandingParts = List Job × (List TicketSeen × (Findings × (Extent × (ℕ × Option Cause))))
 
 abbrev pub coded_standing : Coded Standing
 coded_standing =
-    code_by StandingParts (coded× (coded_list coded_name) (coded× (coded_list coded_ticket) (coded× coded_findings (coded× coded_ℕ (coded× coded_ℕ (coded_option causes.the_row.coded))))))
-    (λ s. (s.todo, (s.out, (s.findings, (s.nodes, (s.taken, s.cause))))))
-    (λ p. record { todo = p.0; out = p.1.0; findings = p.1.1.0; nodes = p.1.1.1.0; taken = p.1.1.1.1.0; cause = p.1.1.1.1.1 })
+    code_by StandingParts (coded× (coded_list coded_name) (coded× (coded_list coded_ticket) (coded× coded_findings (coded× extents.the_row.coded (coded× coded_ℕ (coded_option causes.the_row.coded))))))
+    (λ s. (s.todo, (s.out, (s.findings, (s.extent, (s.taken, s.cause))))))
+    (λ p. record { todo = p.0; out = p.1.0; findings = p.1.1.0; extent = p.1.1.1.0; taken = p.1.1.1.1.0; cause = p.1.1.1.1.1 })
     (λ _. refl)
 
 abbrev SeenParts : Type 0

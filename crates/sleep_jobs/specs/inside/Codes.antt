@@ -8,6 +8,8 @@ use Rattle.term_core.specs.declared.step.Step.{Step}
 use Rattle.world_model.specs.Shown.{Flags}
 use Rattle.coverage.specs.Findings.{Findings}
 use Rattle.coverage.specs.Jobs.{Job}
+use Rattle.findings.specs.contracts.extent.Extent as extents
+use Rattle.findings.specs.declared.extent.Extent.{Extent}
 use Rattle.findings.specs.inside.FindingCodes.{coded_findings}
 use Rattle.sleep_jobs.specs.Explorations.{ExplorationSeen, JobSeen, TicketSeen}
 use Rattle.sleep_jobs.specs.Pieces.{PieceSeen}
@@ -33,11 +35,11 @@ abbrev pub coded_ticket : Coded TicketSeen
 coded_ticket = code_by (ℕ × Job) (coded× coded_ℕ coded_name) (λ t. (t.number, t.name)) (λ p. record { number = p.0; name = p.1 }) (λ _. refl)
 
 abbrev PieceParts : Type 0
-PieceParts = TicketSeen × (ExplorationSeen × (Findings × (ℕ × List JobSeen)))
+PieceParts = TicketSeen × (ExplorationSeen × (Findings × (Extent × List JobSeen)))
 
 abbrev pub coded_piece : Coded PieceSeen
 coded_piece =
-    code_by PieceParts (coded× coded_ticket (coded× coded_exploration (coded× coded_findings (coded× coded_ℕ (coded_list coded_job)))))
-    (λ p. (p.ticket, (p.exploration, (p.findings, (p.nodes, p.rest)))))
-    (λ p. record { ticket = p.0; exploration = p.1.0; findings = p.1.1.0; nodes = p.1.1.1.0; rest = p.1.1.1.1 })
+    code_by PieceParts (coded× coded_ticket (coded× coded_exploration (coded× coded_findings (coded× extents.the_row.coded (coded_list coded_job)))))
+    (λ p. (p.ticket, (p.exploration, (p.findings, (p.extent, p.rest)))))
+    (λ p. record { ticket = p.0; exploration = p.1.0; findings = p.1.1.0; extent = p.1.1.1.0; rest = p.1.1.1.1 })
     (λ _. refl)
