@@ -1,8 +1,9 @@
 -- The report: the text of what an exploration comes to, as bytes.
-use Rattle.std.specs.Prelude.{ℕ, ◌+◌, List, [], ◌∷◌, ◌++◌, length, codes}
+use Rattle.std.specs.Prelude.{ℕ, ◌+◌, ◌==◌, List, [], ◌∷◌, ◌++◌, length, codes, if◌then◌else◌}
 use Rattle.std.specs.Fmt.{decimal}
 use Rattle.term_core.specs.Text.{text_of_schedule}
 use Rattle.coverage.specs.Findings.{Finding, Findings}
+use Rattle.findings.specs.declared.extent.Extent.{Extent}
 use Rattle.findings.specs.declared.outcome.Cause.{Cause}
 use Rattle.findings.specs.declared.outcome.Cause.TheVariants.{NodeLimit, Memory}
 use Rattle.findings.specs.declared.outcome.Outcome.{Outcome}
@@ -11,7 +12,7 @@ use Rattle.report_text.specs.IdentityText.{text_of_identity}
 
 -- what was found
 abbrev pub findings_in : Outcome → Findings
-findings_in (Complete findings nodes) = findings
+findings_in (Complete findings extent) = findings
 findings_in (Incomplete cause findings) = findings
 
 -- ---- the first line
@@ -31,7 +32,7 @@ text_of_incomplete cause = codes "incomplete: " ++ text_of_cause cause
 
 -- how far the exploration came
 abbrev pub text_of_extent : Outcome → List ℕ
-text_of_extent (Complete findings nodes) = text_of_nodes nodes
+text_of_extent (Complete findings extent) = text_of_nodes extent.nodes
 text_of_extent (Incomplete cause findings) = text_of_incomplete cause
 
 -- how many steps a schedule may have, and how far the exploration came
@@ -66,7 +67,7 @@ complete_result [] = codes "clean"
 complete_result (f ∷ fs) = codes "errors"
 
 abbrev pub text_of_result : Outcome → List ℕ
-text_of_result (Complete findings nodes) = complete_result findings.errors
+text_of_result (Complete findings extent) = complete_result findings.errors
 text_of_result (Incomplete cause findings) = codes "incomplete"
 
 abbrev pub last_line : Outcome → List ℕ
@@ -81,3 +82,27 @@ text_of_all findings = text_of_findings (codes "error") findings.errors ++ text_
 -- what an exploration comes to whose schedules may have so many steps
 abbrev pub text_of_report : ℕ → Outcome → List ℕ
 text_of_report depth outcome = first_line depth outcome ++ (text_of_all (findings_in outcome) ++ (text_of_counts (findings_in outcome) ++ last_line outcome))
+
+-- ---- the first and the last line where a report is explained
+
+-- that all nodes were visited, how many they are, and at how many of them the tree is cut
+abbrev pub text_of_nodes_and_cuts : Extent → List ℕ
+text_of_nodes_and_cuts extent = text_of_nodes extent.nodes ++ (codes ", cut " ++ decimal extent.cut)
+
+abbrev pub explained_extent : Outcome → List ℕ
+explained_extent (Complete findings extent) = text_of_nodes_and_cuts extent
+explained_extent (Incomplete cause findings) = text_of_incomplete cause
+
+abbrev pub explained_first_line : ℕ → Outcome → List ℕ
+explained_first_line depth outcome = codes "depth " ++ (decimal depth ++ (codes ", " ++ (explained_extent outcome ++ codes "\n")))
+
+-- of which schedules the result tells: of all, where the tree is cut at no node, and else of those up to the depth
+abbrev pub text_of_reach : ℕ → Extent → List ℕ
+text_of_reach depth extent = if extent.cut == 0 then codes ", all schedules" else (codes " to depth " ++ decimal depth)
+
+abbrev pub explained_result : ℕ → Outcome → List ℕ
+explained_result depth (Complete findings extent) = complete_result findings.errors ++ text_of_reach depth extent
+explained_result depth (Incomplete cause findings) = codes "incomplete"
+
+abbrev pub explained_last_line : ℕ → Outcome → List ℕ
+explained_last_line depth outcome = codes "result: " ++ (explained_result depth outcome ++ codes "\n")
