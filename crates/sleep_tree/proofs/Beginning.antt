@@ -1,5 +1,5 @@
 -- The first visit of a walk: that of the node of a job.
-use Rattle.std.proofs.Common.{◌≡◌, ◌∙◌, ◌≤◌, ◌-◌, ℕ, List, [], ◌∷◌, ◌++◌, Some, length, filter, refl, sym, ap, subst, append-nil}
+use Rattle.std.proofs.Common.{◌≡◌, ◌∙◌, ◌≤◌, ◌-◌, ℕ, Bool, List, [], ◌∷◌, ◌++◌, Some, length, filter, refl, sym, ap, subst, append-nil}
 use Rattle.std.specs.List.{AllByRecursion}
 use Rattle.core_tree.specs.Syntax.{ModuleTree}
 use Rattle.term_core.specs.declared.step.Step.{Step}
@@ -14,11 +14,12 @@ use Rattle.coverage.specs.Jobs.{Job}
 use Rattle.sleep_jobs.specs.Explorations as seen
 use Rattle.sleep_jobs.specs.Explorations.{ExplorationSeen, findings_of, nodes_of}
 use Rattle.sleep_jobs.specs.Reached.{IsAt}
-use Rattle.sleep_tree.specs.inside.Frames.{AreFramesOf, IsNodeOf, NodeSeen, nodes_of_frames, nodes_of_node, own_node}
+use Rattle.tree_cuts.specs.Cuts.{is_cut}
+use Rattle.sleep_tree.specs.inside.Frames.{AreFramesOf, IsNodeOf, NodeSeen, is_cut_at, nodes_of_frames, nodes_of_node, own_node}
 use Rattle.sleep_tree.specs.inside.Walks.{AreOnPath, Opens, all_seen_on}
 use Rattle.sleep_tree.specs.declared.frame.Frame.{Frame}
 use Rattle.sleep_tree.proofs.Nodes.{node_has_nodes, node_is_of, own_schedule, reached_by}
-use Rattle.sleep_tree.proofs.Pieces.{node_adds}
+use Rattle.sleep_tree.proofs.Pieces.{node_adds, node_cut}
 use Rattle.sleep_tree.proofs.Visiting.{opened, opened_of, opened_on}
 
 module _ (e : ExplorationSeen) (name : Job) (w : Seen) (m : ModuleTree) (path slept : List Step) (taken left : ℕ) (at : IsAt (seen.program_in e) name.prefix w) (short : length name.prefix ≤ e.depth) (module_is : w.program ≡ m) (path_is : path ≡ name.prefix)
@@ -50,6 +51,10 @@ module _ (e : ExplorationSeen) (name : Job) (w : Seen) (m : ModuleTree) (path sl
       (subst (λ s. AddsSchedule flags s (shown.shown (program_of m) w.history) f g) (path_is ∙ sym (own_schedule (seen.program_in e) name w at))
       (subst (λ xs. AddsSchedule flags path xs f g) (all ∙ ap (λ p. shown.shown (program_of p) w.history) module_is) adds))
       nothing
+
+  -- it is told whether the tree is cut there
+  pub first_cut : (cut : Bool) → cut ≡ is_cut_at first → cut ≡ is_cut (seen.program_in e) e.depth (schedule_of w.history)
+  first_cut cut is = is ∙ node_cut e first first_is_of own_runs
 
   -- and its frame, if it has one, is all that is left
   module _ (old new : List Frame) (none : old ≡ []) (opens : Opens m first taken old new) where

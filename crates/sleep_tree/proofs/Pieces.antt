@@ -1,6 +1,11 @@
 -- What one more visit does to what was done.
-use Rattle.std.proofs.Common.{◌≡◌, ◌≤◌, ℕ, zero, suc, ◌+◌, Bool, List, [], ◌∷◌, ◌++◌, length, Some, refl, sym, ap, ◌∙◌, subst, arith, append_assoc, append-nil, length-append}
+use Rattle.std.proofs.Common.{◌≡◌, ◌≤◌, ℕ, zero, suc, ◌+◌, Bool, true, false, cond, if◌then◌else◌, List, [], ◌∷◌, ◌++◌, length, Some, refl, sym, ap, ◌∙◌, subst, arith, append_assoc, append-nil, length-append, length-map}
 use Rattle.findings.specs.Laws.{AddsSchedule}
+use Rattle.findings.specs.declared.extent.Extent.{Extent}
+use Rattle.term_core.specs.declared.step.Step.{Step}
+use Rattle.tree_cuts.specs.Cuts.{cut_count, is_cut}
+use Rattle.tree_cuts.proofs.CutLaws.{cuts_of_both, cuts_some, nodes_tell}
+use Rattle.world_model.specs.Requests.{Program}
 use Rattle.world_model.specs.Names.{IsAmong}
 use Rattle.world_model.specs.Run.{run, schedule_of}
 use Rattle.world_model.specs.Shown.{Identity, Flags, is_error, is_refusal, shown}
@@ -11,8 +16,8 @@ use Rattle.coverage.proofs.JobLaws.{map_join}
 use Rattle.coverage.proofs.Lists.{among_left}
 use Rattle.sleep_jobs.specs.Explorations.{ExplorationSeen, JobSeen, program_in, nodes_of, nodes_of_all, findings_of}
 use Rattle.sleep_jobs.specs.Meanings.{AreShown, AreOfJob}
-use Rattle.sleep_jobs.specs.Pieces.{AreOf, IsPiece}
-use Rattle.sleep_tree.specs.inside.Frames.{NodeSeen, FrameSeen, own_node, nodes_of_node, nodes_of_frames, IsFrameOf, AreFramesOf, IsExploring, VisitsNext}
+use Rattle.sleep_jobs.specs.Pieces.{AreOf, IsPiece, extent_of}
+use Rattle.sleep_tree.specs.inside.Frames.{NodeSeen, FrameSeen, is_cut_at, own_node, nodes_of_node, nodes_of_frames, IsFrameOf, IsNodeOf, AreFramesOf, IsExploring, VisitsNext}
 use Rattle.sleep_tree.specs.inside.Walks.{BeginsWalk, frames_in}
 use Rattle.sleep_tree.specs.declared.walk.Walk.{Walk}
 use Rattle.sleep_jobs.proofs.Passing.{found_passes}
@@ -33,11 +38,38 @@ node_adds e v flags f g done same belongs runs adds old =
     ∙ (λ i. findings_among (sym same i) (belongs i) (schedules_of done ++ s ∷ []))
     ∙ ap (findings_among e.flags (program_in e)) (sym (map_join (λ (v : Node). v.schedule) done (own_node v ∷ [])))
 
--- the first visit
-pub exploring_first : (e : ExplorationSeen) (name : Job) (f g : Findings) (w : Walk) → BeginsWalk e name f g w → f ≡ findings_of e [] → IsExploring e name g 1 (frames_in w)
-exploring_first e name f g w begins nothing = record {
+-- whether the tree is cut at a node is told by it
+pub node_cut : (e : ExplorationSeen) (v : NodeSeen) → IsNodeOf e v → run v.program (schedule_of v.history) ≡ Some v.history → is_cut_at v ≡ is_cut (program_in e) e.depth (schedule_of v.history)
+node_cut e v belongs runs =
+    sym (nodes_tell v.program e.depth v.left (schedule_of v.history) v.history runs belongs.deep)
+    ∙ ap (λ (a : Program). is_cut a e.depth (schedule_of v.history)) belongs.program
+
+-- ---- counts
+
+cut_one : (a : Program) (n : ℕ) (s : List Step) (b : Bool) → b ≡ is_cut a n s → (if b then 1 else 0) ≡ cut_count a n (s ∷ [])
+cut_one a n s true is = ap (λ (b : Bool). length (cond b (s ∷ []) [])) is
+cut_one a n s false is = ap (λ (b : Bool). length (cond b (s ∷ []) [])) is
+
+-- with one more node
+pub extent_more : (e : ExplorationSeen) (done : List Node) (node : Node) (k l : Extent) (b : Bool) → k ≡ extent_of e done → b ≡ is_cut (program_in e) e.depth node.schedule → l ≡ record { nodes = k.nodes + 1; cut = k.cut + (if b then 1 else 0) } → l ≡ extent_of e (done ++ node ∷ [])
+extent_more e done node k l b was is now =
+    let a = program_in e in
+    let nodes : k.nodes + 1 ≡ length (done ++ node ∷ []) = omega (arith, ap (λ (x : Extent). x.nodes) was, length-append done (node ∷ [])) in
+    let cut : k.cut + (if b then 1 else 0) ≡ cut_count a e.depth (schedules_of (done ++ node ∷ [])) =
+    (λ i. ap (λ (x : Extent). x.cut) was i + cut_one a e.depth node.schedule b is i) ∙ sym (cuts_of_both a e.depth done (node ∷ [])) in
+    now ∙ (λ i. record { nodes = nodes i; cut = cut i })
+
+-- no more cuts than nodes
+pub extent_fits : (e : ExplorationSeen) (done : List Node) (k : Extent) → k ≡ extent_of e done → k.cut ≤ k.nodes
+extent_fits e done k is =
+    let few : cut_count (program_in e) e.depth (schedules_of done) ≤ length (schedules_of done) = cuts_some (program_in e) e.depth (schedules_of done) in
+    omega (arith, ap (λ (x : Extent). x.cut) is, ap (λ (x : Extent). x.nodes) is, few, length-map (λ (v : Node). v.schedule) done)
+
+-- ---- the first visit
+pub exploring_first : (e : ExplorationSeen) (name : Job) (f g : Findings) (w : Walk) (b : Bool) (l : Extent) → BeginsWalk e name f g w b → f ≡ findings_of e [] → l ≡ record { nodes = 1; cut = 0 + (if b then 1 else 0) } → IsExploring e name g l (frames_in w)
+exploring_first e name f g w b l begins nothing now = record {
   done = begins.node ∷ [];
-  is_done = record { found = begins.found nothing; counted = refl };
+  is_done = record { found = begins.found nothing; counted = extent_more e [] begins.node (record { nodes = 0; cut = 0 }) l b refl begins.cut_is now };
   made_up = begins.nodes;
   are_of = begins.are_of;
 }
@@ -49,10 +81,10 @@ popped e all fs frame belong is =
     ((all_back (IsFrameOf e) fs (frame ∷ []) both).0, all_front (IsFrameOf e) fs (frame ∷ []) both)
 
 -- one more
-pub exploring_more : (e : ExplorationSeen) (name : Job) (flags : Flags) (f g : Findings) (k : ℕ) (fs hs : List FrameSeen) → IsExploring e name f k fs → e.flags ≡ flags → VisitsNext flags fs f hs g → IsExploring e name g (k + 1) hs
-exploring_more e name flags f g k fs hs x same next = record {
+pub exploring_more : (e : ExplorationSeen) (name : Job) (flags : Flags) (f g : Findings) (k l : Extent) (b : Bool) (fs hs : List FrameSeen) → IsExploring e name f k fs → e.flags ≡ flags → VisitsNext flags fs f hs g b → l ≡ record { nodes = k.nodes + 1; cut = k.cut + (if b then 1 else 0) } → IsExploring e name g l hs
+exploring_more e name flags f g k l b fs hs x same next now = record {
   done = x.done ++ next.node ∷ [];
-  is_done = record { found = next.found e x.done same x.are_of x.is_done.found; counted = omega (arith, x.is_done.counted, length-append x.done (next.node ∷ [])) };
+  is_done = record { found = next.found e x.done same x.are_of x.is_done.found; counted = extent_more e x.done next.node k l b x.is_done.counted (next.cut_is e x.are_of) now };
   made_up = x.made_up ∙ ap (λ vs. x.done ++ vs) next.nodes ∙ sym (append_assoc x.done (next.node ∷ []) (nodes_of_frames hs));
   are_of = next.are_of e x.are_of;
 }
@@ -90,7 +122,7 @@ shown_of e name test done more fs made_up is f there =
       l.shows,
     )
 
-pub piece_shown : (e : ExplorationSeen) (name : Job) (f : Findings) (k : ℕ) (rest : List JobSeen) → IsPiece e name f k rest → AreOfJob e name f
+pub piece_shown : (e : ExplorationSeen) (name : Job) (f : Findings) (k : Extent) (rest : List JobSeen) → IsPiece e name f k rest → AreOfJob e name f
 piece_shown e name f k rest p = (
   shown_of e name (is_error e.flags) p.done (nodes_of_all e rest) f.errors p.made_up (ap (λ (x : Findings). x.errors) p.is_done.found),
   shown_of e name is_refusal p.done (nodes_of_all e rest) f.refusals p.made_up (ap (λ (x : Findings). x.refusals) p.is_done.found),

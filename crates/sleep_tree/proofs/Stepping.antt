@@ -1,8 +1,10 @@
 -- Records behind a planned step, and the deadlock of those where no step is enabled.
 use Rattle.std.proofs.lemmas.Bool.{eq-eqb, eqb-true, false≢true}
-use Rattle.std.proofs.Common.{◌≡◌, ◌∙◌, ◌==◌, ◌++◌, ℕ, List, [], ◌∷◌, Option, Some, None, Bor, is_some, map, option_map, true, false, refl, sym, ap, subst, append-nil, length}
+use Rattle.std.proofs.Common.{◌≡◌, ◌∙◌, ◌==◌, ◌++◌, ℕ, Bool, List, [], ◌∷◌, Option, Some, None, Bor, is_some, map, option_map, true, false, not, refl, sym, ap, subst, append-nil, length}
 use Rattle.core_tree.specs.Syntax.{ModuleTree}
 use Rattle.term_core.specs.declared.step.Step.{Step}
+use Rattle.coverage.specs.Covers.{is_empty}
+use Rattle.tree_cuts.specs.Cuts.{goes_on}
 use Rattle.findings.specs.Identities.{identity_in}
 use Rattle.findings.specs.declared.identity.Identity.{Identity}
 use Rattle.world_model.specs.Asking.{program_of}
@@ -64,6 +66,22 @@ lives_on a h shown some = sym (append-nil (map identity_in shown)) ∙ ap (λ mo
 -- and all that live where none is
 pub dies_out : (a : Program) (h : History) (old new : List Identity) → enabled_steps a h ≡ [] → map identity_in new ≡ map identity_in old ++ deadlock_of [] (living h) → AddsDeadlock a h old new
 dies_out a h old new none adds = adds ∙ ap (λ steps. map identity_in old ++ deadlock_of steps (living h)) (sym none)
+
+-- so it goes on, or not
+pub goes : (a : Program) (h : History) → (enabled_steps a h ≡ [] → ⊥) → goes_on a (Some h) ≡ true
+goes a h some = go (enabled_steps a h) some
+  where
+    go : (steps : List Step) → (steps ≡ [] → ⊥) → not (is_empty steps) ≡ true
+    go [] some = absurd (some refl)
+    go (s ∷ steps) some = refl
+
+pub goes_not : (a : Program) (h : History) → enabled_steps a h ≡ [] → goes_on a (Some h) ≡ false
+goes_not a h none = ap (λ (steps : List Step). not (is_empty steps)) none
+
+-- and by whether there is a first one
+pub goes_first : (a : Program) (h : History) (o : Option (Bor Step)) (b : Bool) → option_map (λ (s : Bor Step). s.now) o ≡ first_of (enabled_steps a h) → is_some o ≡ b → b ≡ goes_on a (Some h)
+goes_first a h o true is on = sym (goes a h (some_enabled o (enabled_steps a h) is on))
+goes_first a h o false is off = sym (goes_not a h (none_enabled o (enabled_steps a h) is off))
 
 -- ---- whether a list is empty, by its length
 

@@ -1,5 +1,5 @@
 -- The visit of a node: what it adds, and what it leaves on the stack.
-use Rattle.std.proofs.Common.{◌≡◌, ◌∙◌, ◌≤◌, ◌<◌, ◌-◌, inl, inr, ℕ, ◌+◌, List, [], ◌∷◌, ◌++◌, Some, length, map, reverse, take, refl, sym, ap, subst, arith, length-append, slice_index_or}
+use Rattle.std.proofs.Common.{◌≡◌, ◌∙◌, ◌≤◌, ◌<◌, ◌-◌, inl, inr, ℕ, ◌+◌, Bool, List, [], ◌∷◌, ◌++◌, Some, length, map, reverse, take, refl, sym, ap, subst, arith, length-append, slice_index_or}
 use Rattle.std.proofs.lemmas.List.{length-take-le}
 use Rattle.std.specs.List.{AllByRecursion}
 use Rattle.core_tree.specs.Syntax.{ModuleTree}
@@ -20,12 +20,12 @@ use Rattle.sleep_jobs.specs.Explorations.{ExplorationSeen, nodes_of, program_in}
 use Rattle.sleep_jobs.specs.Reached.{IsJob}
 use Rattle.sleep_jobs.proofs.Lists.{all_append}
 use Rattle.step_agenda.specs.Plans.{steps_in}
-use Rattle.sleep_tree.specs.inside.Frames.{AreFramesOf, IsChild, IsNodeOf, NodeSeen, VisitsNext, nodes_of_frames, nodes_of_node, own_node}
+use Rattle.sleep_tree.specs.inside.Frames.{AreFramesOf, IsChild, IsNodeOf, NodeSeen, VisitsNext, is_cut_at, nodes_of_frames, nodes_of_node, own_node}
 use Rattle.sleep_tree.specs.inside.Walks.{AreOnPath, IsFrame, Opens, OpensFrame, Passes, StandsOn, VisitsChild, all_seen_on, history_at, line_in, seen_on}
 use Rattle.sleep_tree.specs.declared.frame.Frame.{Frame}
 use Rattle.sleep_tree.proofs.Frames.{child_and_others, child_is_of, deep_node, frame_of, frames_push, opened_is_of, opened_node, others_are_of, sleeping_node}
 use Rattle.sleep_tree.proofs.Nodes.{job_has_nodes, job_of_node}
-use Rattle.sleep_tree.proofs.Pieces.{node_adds, node_some, popped}
+use Rattle.sleep_tree.proofs.Pieces.{node_adds, node_cut, node_some, popped}
 use Rattle.sleep_tree.proofs.Stacks.{HasLast, has_last, last_is}
 use Rattle.sleep_tree.proofs.Walking.{all_lower, ascends_more, goes_there, history_whole, last_stands, next_of_frame, reached, rest_low, rest_on, rest_seen, schedule_is, whole_runs, whole_seen}
 
@@ -114,9 +114,9 @@ module _ (m : ModuleTree) (path : List Step) (below : List Frame) (top : Frame) 
     own_runs : run child.program (schedule_of child.history) ≡ Some child.history
     own_runs = (λ i. run (program i) (schedule_of (history i))) ∙ goes_there m path below top on e next ∙ ap Some (sym history)
 
-    pub visited : (flags : Flags) (f g : Findings) → map identity_in before ≡ shown_last (e ∷ history_at m path top.taken) → map identity_in after ≡ map identity_in before ++ deadlock_of (enabled_steps (program_of m) (e ∷ history_at m path top.taken)) (living (e ∷ history_at m path top.taken)) → AddsSchedule flags there (map identity_in after) f g
-        → VisitsNext flags (all_seen_on m path (below ++ top ∷ [])) f (all_seen_on m there new) g
-    visited flags f g last dead adds =
+    pub visited : (cut : Bool) (flags : Flags) (f g : Findings) → cut ≡ is_cut_at child → map identity_in before ≡ shown_last (e ∷ history_at m path top.taken) → map identity_in after ≡ map identity_in before ++ deadlock_of (enabled_steps (program_of m) (e ∷ history_at m path top.taken)) (living (e ∷ history_at m path top.taken)) → AddsSchedule flags there (map identity_in after) f g
+        → VisitsNext flags (all_seen_on m path (below ++ top ∷ [])) f (all_seen_on m there new) g cut
+    visited cut flags f g cut_is last dead adds =
         let h = e ∷ history_at m path top.taken in
         let all : map identity_in after ≡ shown.shown child.program child.history =
         dead ∙ ap (λ is. is ++ deadlock_of (enabled_steps (program_of m) h) (living h)) last ∙ (λ i. shown.shown (sym program i) (sym history i)) in
@@ -130,6 +130,7 @@ module _ (m : ModuleTree) (path : List Step) (below : List Frame) (top : Frame) 
           are_of = λ ex frames.
               let both = both_of child is_child ex frames in
               opened_of m there child taken rest new program runs count ex opens both.0 both.1;
+          cut_is = λ ex frames. cut_is ∙ node_cut ex child (both_of child is_child ex frames).0 own_runs;
         }
 
   -- ---- it is left to a job
@@ -188,10 +189,10 @@ module _ (m : ModuleTree) (path moved : List Step) (fs new : List Frame) (some :
   moved_there = follows ∙ ap (λ (f : Frame). take f.taken path ++ f.next.value.step ∷ []) same
 
   -- it visits the child
-  module _ (taken : ℕ) (count : taken ≡ length moved) (before after : List Identity)
+  module _ (taken : ℕ) (count : taken ≡ length moved) (cut : Bool) (before after : List Identity)
       (told : (h : History) (e : Event) → IsFrame m h frame → next_event (program_of m) h frame.next.value.step ≡ Some e → map identity_in before ≡ shown_last (e ∷ h))
-      (visits : (below : List Frame) (top : Frame) → fs ≡ below ++ top ∷ [] → (k : ModuleTree) (h : History) (e : Event) → IsFrame k h top → next_event (program_of k) h top.next.value.step ≡ Some e → VisitsChild k h e below top taken new before after) where
-    child : VisitsChild m after_last next_step.0 last.below last.last taken new before after
+      (visits : (below : List Frame) (top : Frame) → fs ≡ below ++ top ∷ [] → (k : ModuleTree) (h : History) (e : Event) → IsFrame k h top → next_event (program_of k) h top.next.value.step ≡ Some e → VisitsChild k h e below top taken new cut before after) where
+    child : VisitsChild m after_last next_step.0 last.below last.last taken new cut before after
     child = visits last.below last.last last.is m after_last next_step.0 stands.frame next_step.1
 
     last_told : map identity_in before ≡ shown_last (next_step.0 ∷ after_last)
@@ -204,12 +205,12 @@ module _ (m : ModuleTree) (path moved : List Step) (fs new : List Frame) (some :
         subst (λ (p : List Step). AreOnPath m p new) (sym moved_there)
         (visited_on m path last.below last.last on_last next_step.0 next_step.1 child.rest child.passes taken (count ∙ ap length moved_there) new before after child.child child.program child.history child.slept child.left child.opens)
 
-    pub next_visits : (flags : Flags) (f g : Findings) → AddsSchedule flags moved (map identity_in after) f g → VisitsNext flags (all_seen_on m path fs) f (all_seen_on m moved new) g
+    pub next_visits : (flags : Flags) (f g : Findings) → AddsSchedule flags moved (map identity_in after) f g → VisitsNext flags (all_seen_on m path fs) f (all_seen_on m moved new) g cut
     next_visits flags f g adds =
-        subst (λ (xs : List Frame). VisitsNext flags (all_seen_on m path xs) f (all_seen_on m moved new) g) (sym last.is)
-        (subst (λ (p : List Step). VisitsNext flags (all_seen_on m path (last.below ++ last.last ∷ [])) f (all_seen_on m p new) g) (sym moved_there)
+        subst (λ (xs : List Frame). VisitsNext flags (all_seen_on m path xs) f (all_seen_on m moved new) g cut) (sym last.is)
+        (subst (λ (p : List Step). VisitsNext flags (all_seen_on m path (last.below ++ last.last ∷ [])) f (all_seen_on m p new) g cut) (sym moved_there)
         (visited m path last.below last.last on_last next_step.0 next_step.1 child.rest child.passes taken (count ∙ ap length moved_there) new before after child.child child.program child.history child.slept child.left child.opens
-        flags f g last_told child.adds (subst (λ (p : List Step). AddsSchedule flags p (map identity_in after) f g) moved_there adds)))
+        cut flags f g child.cut_is last_told child.adds (subst (λ (p : List Step). AddsSchedule flags p (map identity_in after) f g) moved_there adds)))
 
   -- it leaves the child to a job
   module _ (passes : (below : List Frame) (top : Frame) → fs ≡ below ++ top ∷ [] → Passes below top new) (ex : ExplorationSeen) (program : program_of m ≡ program_in ex) (frames : AreFramesOf ex (all_seen_on m path fs)) (asleep : List Step)

@@ -1,5 +1,5 @@
 // The expansion of a job.
-ghost use Rattle.std.specs.Prelude.{◌≡◌, ◌≤◌, IfOk, IfErr};
+ghost use Rattle.std.specs.Prelude.{◌≡◌, ◌+◌, ◌<◌, ◌^◌, ◌≤◌, IfOk, IfErr, if◌then◌else◌};
 ghost use Rattle.sleep_jobs.specs.Explorations.{program_in};
 ghost use Rattle.sleep_jobs.specs.Meanings.{AreOfJob};
 ghost use Rattle.sleep_jobs.specs.Pieces.{IsPiece};
@@ -8,17 +8,34 @@ ghost use Rattle.world_model.specs.Asking.{program_of};
 use crate::gate::Gate;
 use crate::walk::Walk;
 use core_tree::Module;
-use findings::Findings;
+use findings::{Extent, Findings};
 use sleep_jobs::{Exploration, Job, JobName, Piece, Ticket};
 use std::alloc::Global;
 use world_core::WorldFault;
 
-/// What was found, how many nodes were visited, and the jobs of the others.
+/// What was found, how many nodes were visited and at how many of them the tree is cut, and the jobs of the others.
 #[derive(Drop)]
 struct Done<'m> {
     findings: Findings,
-    nodes: u64,
+    extent: Extent,
     rest: Vec<Job<'m>>,
+}
+
+/// With one more node, at which the tree may be cut.
+fn with_node(extent: Extent, is_cut: bool) -> Extent
+    requires room { extent.nodes + 1 < 2 ^ 64 }
+    requires fewer { extent.cut ≤ extent.nodes }
+    ensures { result ≡ record { nodes = extent.nodes + 1; cut = extent.cut + (if is_cut then 1 else 0) } }
+{
+    let cut = if is_cut {
+        extent.cut + 1
+    } else {
+        extent.cut
+    };
+    Extent {
+        nodes: extent.nodes + 1,
+        cut,
+    }
 }
 
 /// Visits at most so many nodes of a job, depth first, at least one. `Memory` where there is none.
@@ -31,25 +48,25 @@ fn expanded<'m, G: Gate>(
 ) -> Result<Done<'m>, WorldFault>
     requires some { 1 ≤ budget }
     requires program { program_of program.now ≡ program_in job.now.exploration }
-    ensures piece { IfOk result (λ done. IsPiece job.now.exploration job.now.name done.findings done.nodes done.rest.items) }
-    ensures nodes { IfOk result (λ done. (1 ≤ done.nodes) × (done.nodes ≤ budget)) }
+    ensures piece { IfOk result (λ done. IsPiece job.now.exploration job.now.name done.findings done.extent done.rest.items) }
+    ensures nodes { IfOk result (λ done. (1 ≤ done.extent.nodes) × (done.extent.nodes ≤ budget)) }
 {
     let exploration = job.exploration();
     let mut findings = Findings::new(alloc);
     let own = job.own(alloc)?;
     let mut walk = Walk::new(alloc, program);
     gate.turn(job.number());
-    walk.visit_first(alloc, &own, &mut findings)?;
-    let mut nodes = 1;
-    while nodes < budget && !walk.is_over() {
+    let is_cut = walk.visit_first(alloc, &own, &mut findings)?;
+    let mut extent = with_node(Extent { nodes: 0, cut: 0 }, is_cut);
+    while extent.nodes < budget && !walk.is_over() {
         gate.turn(job.number());
-        walk.visit_next(alloc, exploration.flags, &mut findings)?;
-        nodes += 1;
+        let is_cut = walk.visit_next(alloc, exploration.flags, &mut findings)?;
+        extent = with_node(extent, is_cut);
     }
     let rest = walk.into_rest(alloc, exploration)?;
     Ok(Done {
         findings,
-        nodes,
+        extent,
         rest,
     })
 }
@@ -72,9 +89,9 @@ pub fn expand<'m, G: Gate>(
     requires program { program_of program.now ≡ program_in job.exploration }
     ensures ticket { IfOk result (λ piece. piece.ticket ≡ record { number = job.entry.number; name = job.entry.name }) }
     ensures exploration { IfOk result (λ piece. piece.exploration ≡ job.entry.exploration) }
-    ensures piece { IfOk result (λ piece. IsPiece job.entry.exploration job.entry.name piece.findings piece.nodes piece.rest) }
+    ensures piece { IfOk result (λ piece. IsPiece job.entry.exploration job.entry.name piece.findings piece.extent piece.rest) }
     ensures shown { IfOk result (λ piece. AreOfJob job.entry.exploration job.entry.name piece.findings) }
-    ensures nodes { IfOk result (λ piece. (1 ≤ piece.nodes) × (piece.nodes ≤ budget)) }
+    ensures nodes { IfOk result (λ piece. (1 ≤ piece.extent.nodes) × (piece.extent.nodes ≤ budget)) }
     ensures refused { IfErr result (λ name. name ≡ job.entry.name) }
 {
     let Ok(done) = expanded(alloc, program, &job, budget, gate) else {
@@ -82,7 +99,7 @@ pub fn expand<'m, G: Gate>(
     };
     let Done {
         findings,
-        nodes,
+        extent,
         rest,
     } = done;
     let exploration = job.exploration();
@@ -90,5 +107,5 @@ pub fn expand<'m, G: Gate>(
         number: job.number(),
         name: job.into_name(),
     };
-    Ok(Piece::of(ticket, exploration, findings, nodes, rest))
+    Ok(Piece::of(ticket, exploration, findings, extent, rest))
 }

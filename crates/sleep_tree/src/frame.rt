@@ -1,5 +1,5 @@
 // A node that was visited, and whose children were not all.
-ghost use Rattle.std.specs.Prelude.{◌≡◌, ◌∷◌, ◌++◌, [], List, true, false, Some, IfOk, OnOk, map, take};
+ghost use Rattle.std.specs.Prelude.{◌≡◌, ◌==◌, ◌∷◌, ◌++◌, [], List, true, false, Some, IfOk, OnOk, map, take};
 ghost use Rattle.core_tree.specs.Syntax.{ModuleTree};
 ghost use Rattle.coverage.specs.Jobs.{asleep_below};
 ghost use Rattle.findings.specs.Identities.{identity_in};
@@ -7,6 +7,7 @@ ghost use Rattle.sleep_tree.specs.declared.frame.Frame.{Frame as FrameOf};
 ghost use Rattle.sleep_tree.specs.inside.Nodes.{AddsDeadlock, IsNode};
 ghost use Rattle.sleep_tree.specs.inside.Walks.{GoesOn, IsFrame, IsNextNode, Opens, Passes, node_seen};
 ghost use Rattle.step_agenda.specs.Plans.{ArePlans, steps_in};
+ghost use Rattle.tree_cuts.specs.Cuts.{goes_on};
 ghost use Rattle.world_model.specs.Asking.{program_of};
 ghost use Rattle.world_model.specs.Events.{Event, History};
 ghost use Rattle.world_model.specs.Run.{next_event};
@@ -191,7 +192,7 @@ impl<'m> Frame<'m> {
 
     /// Whether its next child lies at the depth. It takes no memory.
     pub(crate) fn leads_to_a_leaf(&self) -> bool
-        ensures { result ≡ true → self.now.left ≡ 0 }
+        ensures { result ≡ (self.now.left == 0) }
     {
         self.left == 0
     }
@@ -215,23 +216,25 @@ impl<'m> Frame<'m> {
     }
 
     /// Puts the deadlock of the next child behind other identities, where no step is enabled there and some process
-    /// lives. No records are made where it is plain that a step is. `AllocError` if there is no memory for it.
+    /// lives, and says whether one is enabled. No records are made where it is plain that one is. `AllocError` if there is
+    /// no memory for it.
     pub(crate) fn add_deadlock(
         &self,
         alloc: Global,
         shown: &mut Vec<Identity>,
-    ) -> Result<(), AllocError>
-        ensures { OnOk result ((m : ModuleTree) (h : History) (e : Event) → IsFrame m h self.now → next_event (program_of m) h self.now.next.value.step ≡ Some e → AddsDeadlock (program_of m) (e ∷ h) shown.old.items shown.new.items) }
+    ) -> Result<bool, AllocError>
+        ensures adds { OnOk result ((m : ModuleTree) (h : History) (e : Event) → IsFrame m h self.now → next_event (program_of m) h self.now.next.value.step ≡ Some e → AddsDeadlock (program_of m) (e ∷ h) shown.old.items shown.new.items) }
+        ensures lives { IfOk result (λ lives. (m : ModuleTree) (h : History) (e : Event) → IsFrame m h self.now → next_event (program_of m) h self.now.next.value.step ≡ Some e → lives ≡ goes_on (program_of m) (Some (e ∷ h))) }
     {
         if self.agenda.lives_below(&self.next) {
-            return Ok(());
+            return Ok(true);
         }
         let records = stepped(alloc, self.records.copy()?, &self.next)?;
         let enabled = enabled_steps(&records, alloc)?;
         if !enabled.is_empty() {
-            return Ok(());
+            return Ok(true);
         }
         push_deadlock(&records, alloc, shown)?;
-        Ok(())
+        Ok(false)
     }
 }

@@ -1,9 +1,12 @@
 // A node that is to be visited.
-ghost use Rattle.std.specs.Prelude.{◌≡◌, IfOk, OnOk};
+ghost use Rattle.std.specs.Prelude.{◌≡◌, ◌==◌, ◌&&◌, Some, IfOk, OnOk};
 ghost use Rattle.core_tree.specs.Syntax.{ModuleTree};
+ghost use Rattle.step_agenda.specs.Plans.{IsAgenda};
 ghost use Rattle.sleep_tree.specs.inside.Nodes.{AddsDeadlock, IsBelow, IsNode, IsStepped};
+ghost use Rattle.tree_cuts.specs.Cuts.{goes_on};
 ghost use Rattle.world_model.specs.Asking.{program_of};
 ghost use Rattle.world_model.specs.Events.{History};
+ghost use Rattle.world_model.specs.Requests.{Program};
 
 use findings::Identity;
 use std::alloc::{AllocError, Global};
@@ -34,6 +37,14 @@ pub(crate) fn stepped<'m>(
     let mut records = records;
     perform(&mut records, alloc, plan)?;
     Ok(records)
+}
+
+/// Whether the tree is cut at a node that has this agenda, and that so many steps may follow: none may, and one is enabled.
+/// It takes no memory.
+pub(crate) fn is_cut(left: u64, agenda: &Agenda) -> bool
+    ensures { (a : Program) (h : History) → IsAgenda a h agenda.now → result ≡ (left == 0 && goes_on a (Some h)) }
+{
+    left == 0 && agenda.first_enabled().is_some()
 }
 
 impl<'m> Node<'m> {

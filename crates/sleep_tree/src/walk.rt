@@ -13,7 +13,7 @@ ghost use Rattle.world_model.specs.Events.{Event, History};
 ghost use Rattle.world_model.specs.Run.{next_event};
 
 use crate::frame::{Frame, descend, open, pass_child};
-use crate::node::Node;
+use crate::node::{Node, is_cut};
 use crate::sleeping::steps_of;
 use core_tree::Module;
 use findings::{Findings, Flags, Identity, copy_schedule};
@@ -51,28 +51,29 @@ fn note(
 }
 
 // Visits the next child of the last frame of a stack, to which so many steps lead: puts its deadlock behind what it shows,
-// and its frame on the stack. At the depth no agenda is made for it. `AllocError` if there is no memory for it.
+// and its frame on the stack, and says whether the tree is cut there. At the depth no agenda is made for it. `AllocError`
+// if there is no memory for it.
 fn visit_child(
     alloc: Global,
     taken: usize,
     frames: &mut Vec<Frame<'_>>,
     shown: &mut Vec<Identity>,
-) -> Result<(), AllocError>
+) -> Result<bool, AllocError>
     requires { frames.old.items ≡ [] → ⊥ }
-    ensures { OnOk result ((below : List FrameOf) (top : FrameOf) → frames.old.items ≡ below ++ top ∷ [] → (m : ModuleTree) (h : History) (e : Event) → IsFrame m h top → next_event (program_of m) h top.next.value.step ≡ Some e → VisitsChild m h e below top taken frames.new.items shown.old.items shown.new.items) }
+    ensures { IfOk result (λ is_cut. (below : List FrameOf) (top : FrameOf) → frames.old.items ≡ below ++ top ∷ [] → (m : ModuleTree) (h : History) (e : Event) → IsFrame m h top → next_event (program_of m) h top.next.value.step ≡ Some e → VisitsChild m h e below top taken frames.new.items is_cut shown.old.items shown.new.items) }
 {
     let Some(frame) = frames.last() else {
         unreachable!();
     };
     if frame.leads_to_a_leaf() {
-        frame.add_deadlock(alloc, shown)?;
+        let is_cut = frame.add_deadlock(alloc, shown)?;
         pass_child(frames)?;
-        return Ok(());
+        return Ok(is_cut);
     }
     let node = descend(alloc, frames)?;
     node.add_deadlock(alloc, shown)?;
     open(alloc, node, taken, frames)?;
-    Ok(())
+    Ok(false)
 }
 
 impl<'m> Walk<'m> {
@@ -87,16 +88,16 @@ impl<'m> Walk<'m> {
         }
     }
 
-    /// Visits the node of a job, and forgets all others. `Memory` where there is none.
+    /// Visits the node of a job, and forgets all others; says whether the tree is cut there. `Memory` where there is none.
     pub(crate) fn visit_first(
         &mut self,
         alloc: Global,
         job: &Job<'_>,
         findings: &mut Findings,
-    ) -> Result<(), WorldFault>
+    ) -> Result<bool, WorldFault>
         requires { program_of self.old.program.now ≡ program_in job.now.exploration }
         ensures program { self.new.program ≡ self.old.program }
-        ensures begins { OnOk result (BeginsWalk job.now.exploration job.now.name findings.old findings.new self.new) }
+        ensures begins { IfOk result (BeginsWalk job.now.exploration job.now.name findings.old findings.new self.new) }
     {
         let exploration = job.exploration();
         let name = job.name();
@@ -114,6 +115,7 @@ impl<'m> Walk<'m> {
             findings,
         )?;
         let left = exploration.depth - path.len() as u64;
+        let is_cut = is_cut(left, &agenda);
         let node = Node {
             records,
             slept,
@@ -124,7 +126,7 @@ impl<'m> Walk<'m> {
         open(alloc, node, path.len(), &mut frames)?;
         self.path = path;
         self.frames = frames;
-        Ok(())
+        Ok(is_cut)
     }
 
     /// Whether all nodes of the job were visited. It takes no memory.
@@ -134,25 +136,26 @@ impl<'m> Walk<'m> {
         self.frames.is_empty()
     }
 
-    /// Visits the next node: adds what it shows. `AllocError` if there is no memory for it.
+    /// Visits the next node: adds what it shows, and says whether the tree is cut there. `AllocError` if there is no memory
+    /// for it.
     pub(crate) fn visit_next(
         &mut self,
         alloc: Global,
         flags: Flags,
         findings: &mut Findings,
-    ) -> Result<(), AllocError>
+    ) -> Result<bool, AllocError>
         requires walk { IsWalk self.old }
         requires more { self.old.frames.items ≡ [] → ⊥ }
         ensures program { self.new.program ≡ self.old.program }
         ensures walk { OnOk result (IsWalk self.new) }
-        ensures visits { OnOk result (VisitsNext (flags_in flags) (frames_in self.old) findings.old (frames_in self.new) findings.new) }
+        ensures visits { IfOk result (VisitsNext (flags_in flags) (frames_in self.old) findings.old (frames_in self.new) findings.new) }
     {
         let Some(frame) = self.frames.last() else {
             unreachable!();
         };
         let mut shown = frame.shown_next(alloc)?;
         frame.follow(&mut self.path)?;
-        visit_child(alloc, self.path.len(), &mut self.frames, &mut shown)?;
+        let is_cut = visit_child(alloc, self.path.len(), &mut self.frames, &mut shown)?;
         note(
             alloc,
             flags,
@@ -160,7 +163,7 @@ impl<'m> Walk<'m> {
             self.path.as_slice(),
             findings,
         )?;
-        Ok(())
+        Ok(is_cut)
     }
 
     // The job of the next node, which is not visited. `AllocError` if there is no memory for it.

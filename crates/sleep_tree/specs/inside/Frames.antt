@@ -1,6 +1,6 @@
 -- The stack of a walk: nodes that were visited, and whose children were not all.
 use Rattle.std.specs.List.{AllByRecursion}
-use Rattle.std.specs.Prelude.{◌≡◌, ◌+◌, ℕ, List, [], ◌∷◌, ◌++◌, Some, None, length}
+use Rattle.std.specs.Prelude.{◌≡◌, ◌+◌, ◌==◌, ◌&&◌, ℕ, Bool, List, [], ◌∷◌, ◌++◌, Some, None, length}
 use Rattle.term_core.specs.declared.step.Step.{Step}
 use Rattle.world_model.specs.Events.{History}
 use Rattle.world_model.specs.Names.{IsAmong}
@@ -8,10 +8,12 @@ use Rattle.world_model.specs.Requests.{Program}
 use Rattle.world_model.specs.Run.{extended, next_event, schedule_of}
 use Rattle.world_model.specs.Shown.{Flags}
 use Rattle.coverage.specs.Findings.{Findings}
+use Rattle.findings.specs.declared.extent.Extent.{Extent}
 use Rattle.coverage.specs.Jobs.{Job, Node, asleep_below, node_at, nodes_from, nodes_along}
 use Rattle.sleep_jobs.specs.Explorations as seen
 use Rattle.sleep_jobs.specs.Explorations.{ExplorationSeen, findings_of, nodes_of}
 use Rattle.sleep_jobs.specs.Pieces.{IsDone}
+use Rattle.tree_cuts.specs.Cuts.{goes_on, is_cut}
 
 -- a node that is to be visited: how many steps may follow it
 pub record NodeSeen : Type 0 where
@@ -26,6 +28,10 @@ own_node v = node_at v.program v.left v.history (schedule_of v.history) v.slept
 
 abbrev pub nodes_of_node : NodeSeen → List Node
 nodes_of_node v = nodes_from v.program v.left v.history (schedule_of v.history) v.slept
+
+-- the tree is cut at it: no step may follow, and some is enabled
+abbrev pub is_cut_at : NodeSeen → Bool
+is_cut_at v = v.left == 0 && goes_on v.program (Some v.history)
 
 -- a node that was visited: the steps that sleep for the next of its children, the steps that are still to be taken there, and how many steps may follow a child
 pub record FrameSeen : Type 0 where
@@ -78,16 +84,17 @@ pub record IsChild (f : FrameSeen) (s : Step) (rest : List Step) (v : NodeSeen) 
   pub slept : (f.left ≡ 0 → ⊥) → v.slept ≡ asleep_below f.program f.history f.slept s
   pub left : v.left ≡ f.left
 
--- the next child of the last frame is visited: what it shows is added, and the others stay on the stack
-pub record VisitsNext (flags : Flags) (old : List FrameSeen) (before : Findings) (new : List FrameSeen) (after : Findings) : Type 0 where
+-- the next child of the last frame is visited: what it shows is added, the others stay on the stack, and it is told whether the tree is cut there
+pub record VisitsNext (flags : Flags) (old : List FrameSeen) (before : Findings) (new : List FrameSeen) (after : Findings) (cut : Bool) : Type 0 where
   pub node : Node
   pub nodes : nodes_of_frames old ≡ node ∷ nodes_of_frames new
   pub found : (e : ExplorationSeen) (done : List Node) → e.flags ≡ flags → AreFramesOf e old → before ≡ findings_of e done → after ≡ findings_of e (done ++ node ∷ [])
   pub are_of : (e : ExplorationSeen) → AreFramesOf e old → AreFramesOf e new
+  pub cut_is : (e : ExplorationSeen) → AreFramesOf e old → cut ≡ is_cut (seen.program_in e) e.depth node.schedule
 
 -- the nodes of a job are those that were visited, and then those that the stack leaves
-pub record IsExploring (e : ExplorationSeen) (name : Job) (findings : Findings) (nodes : ℕ) (frames : List FrameSeen) : Type 0 where
+pub record IsExploring (e : ExplorationSeen) (name : Job) (findings : Findings) (extent : Extent) (frames : List FrameSeen) : Type 0 where
   pub done : List Node
-  pub is_done : IsDone e done findings nodes
+  pub is_done : IsDone e done findings extent
   pub made_up : nodes_of e name ≡ done ++ nodes_of_frames frames
   pub are_of : AreFramesOf e frames

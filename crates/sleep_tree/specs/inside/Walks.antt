@@ -1,6 +1,6 @@
 -- Walks: what their parts hold of the path that they keep.
 use Rattle.std.specs.List.{AllByRecursion}
-use Rattle.std.specs.Prelude.{◌≡◌, ◌⊎◌, ◌≤◌, ◌-◌, ℕ, List, [], ◌∷◌, ◌++◌, Option, Some, None, length, map, reverse, take}
+use Rattle.std.specs.Prelude.{◌≡◌, ◌⊎◌, ◌≤◌, ◌-◌, ℕ, Bool, List, [], ◌∷◌, ◌++◌, Option, Some, None, length, map, reverse, take}
 use Rattle.core_tree.specs.Syntax.{ModuleTree}
 use Rattle.term_core.specs.declared.step.Step.{Step}
 use Rattle.world_model.specs.Asking.{program_of}
@@ -13,7 +13,8 @@ use Rattle.findings.specs.declared.identity.Identity.{Identity}
 use Rattle.sleep_jobs.specs.Explorations as seen
 use Rattle.sleep_jobs.specs.Explorations.{ExplorationSeen, findings_of, nodes_of}
 use Rattle.step_agenda.specs.Plans.{ArePlans, IsAgenda, IsWorld, steps_in}
-use Rattle.sleep_tree.specs.inside.Frames.{AreEnabled, AreFramesOf, FrameSeen, NodeSeen, nodes_of_frames}
+use Rattle.sleep_tree.specs.inside.Frames.{AreEnabled, AreFramesOf, FrameSeen, NodeSeen, is_cut_at, nodes_of_frames}
+use Rattle.tree_cuts.specs.Cuts.{is_cut}
 use Rattle.sleep_tree.specs.inside.Nodes.{AddsDeadlock, IsNode}
 use Rattle.sleep_tree.specs.declared.frame.Frame.{Frame}
 use Rattle.sleep_tree.specs.declared.node.Node.{Node}
@@ -127,8 +128,8 @@ pub record IsWalkOf (e : ExplorationSeen) (w : Walk) : Type 0 where
   pub walk : IsWalk w
   pub are_of : AreFramesOf e (frames_in w)
 
--- the next child of the last frame is visited, to which so many steps lead: its frame is put on the stack, and its deadlock behind what is shown
-pub record VisitsChild (m : ModuleTree) (h : History) (e : Event) (below : List Frame) (top : Frame) (taken : ℕ) (new : List Frame) (before after : List Identity) : Type 0 where
+-- the next child of the last frame is visited, to which so many steps lead: its frame is put on the stack, its deadlock behind what is shown, and it is told whether the tree is cut there
+pub record VisitsChild (m : ModuleTree) (h : History) (e : Event) (below : List Frame) (top : Frame) (taken : ℕ) (new : List Frame) (cut : Bool) (before after : List Identity) : Type 0 where
   pub child : NodeSeen
   pub rest : List Frame
   pub passes : Passes below top rest
@@ -138,11 +139,13 @@ pub record VisitsChild (m : ModuleTree) (h : History) (e : Event) (below : List 
   pub left : child.left ≡ top.left
   pub opens : Opens m child taken rest new
   pub adds : AddsDeadlock (program_of m) (e ∷ h) before after
+  pub cut_is : cut ≡ is_cut_at child
 
--- the node of a job is visited, and no other
-pub record BeginsWalk (e : ExplorationSeen) (name : Job) (before after : Findings) (w : Walk) : Type 0 where
+-- the node of a job is visited, and no other, and it is told whether the tree is cut there
+pub record BeginsWalk (e : ExplorationSeen) (name : Job) (before after : Findings) (w : Walk) (cut : Bool) : Type 0 where
   pub node : tree.Node
   pub nodes : nodes_of e name ≡ node ∷ nodes_of_frames (frames_in w)
   pub found : before ≡ findings_of e [] → after ≡ findings_of e (node ∷ [])
   pub walk : IsWalk w
   pub are_of : AreFramesOf e (frames_in w)
+  pub cut_is : cut ≡ is_cut (seen.program_in e) e.depth node.schedule

@@ -9,7 +9,7 @@ use Rattle.coverage.specs.Jobs.{Job}
 use Rattle.sleep_jobs.specs.Explorations.{ExplorationSeen, program_in}
 use Rattle.step_agenda.specs.Plans.{IsWorld, steps_in}
 use Rattle.sleep_tree.specs.inside.Frames.{own_node}
-use Rattle.sleep_tree.proofs.Beginning.{first_adds, first_frames, first_nodes, first_on}
+use Rattle.sleep_tree.proofs.Beginning.{first_adds, first_cut, first_frames, first_nodes, first_on}
 use Rattle.sleep_tree.proofs.Walking.{is_run_of}
 use Rattle.sleep_tree.proofs.walk.Walk.visit_first.Goals as goal
 
@@ -45,4 +45,5 @@ returns-clause-begins c =
           (sym (ap (λ (x : ExplorationSeen). x.flags) c.exploration-exploration.ensures)) c.in_ok-shown.ensures.shown adds;
       walk = first_on e name w m c.in_ok-path.path.items slept c.len-2.result left at c.in_ok-world.ensures.short module_is path_is sleeps (c.len-2.ensures ∙ c.in_ok-path.path.ok.0) left_is c.new-frames.result.items c.open.new.frames.items c.new-frames.ensures.items opens;
       are_of = first_frames e name w m c.in_ok-path.path.items slept c.len-2.result left at c.in_ok-world.ensures.short module_is path_is sleeps (c.len-2.ensures ∙ c.in_ok-path.path.ok.0) left_is c.new-frames.result.items c.open.new.frames.items c.new-frames.ensures.items opens;
+      cut_is = first_cut e name w m c.in_ok-path.path.items slept c.len-2.result left at c.in_ok-world.ensures.short module_is path_is sleeps (c.len-2.ensures ∙ c.in_ok-path.path.ok.0) left_is c.is_cut-is_cut.result (c.is_cut-is_cut.ensures (program_of m) w.history agenda);
     }

@@ -15,7 +15,7 @@ returns-clause-walk c =
     let found : Some frame ≡ slice_get fs (length fs - 1) = c.in-Some.ensures.value ∙ (λ i. slice_get (c.deref.ensures.value i) (length (c.deref.ensures.value i) - 1)) in
     let looked : frame ≡ slice_index_or fs (length fs - 1) frame = sym (get_or_from_slice_get fs (length fs - 1) frame frame (sym found)) in
     next_on w.program.now w.path.items c.follow.new.path.items fs c.visit_child.new.frames.items c.requires.more frame looked c.requires.walk c.in_ok-follow.ensures
-    c.len.result (c.len.ensures ∙ c.follow.new.path.ok.0) c.in_ok-shown.shown.items c.visit_child.new.shown.items (λ h e. c.in_ok-shown.ensures w.program.now h e) c.in_ok-visit_child.ensures
+    c.len.result (c.len.ensures ∙ c.follow.new.path.ok.0) c.in_ok-is_cut.is_cut c.in_ok-shown.shown.items c.visit_child.new.shown.items (λ h e. c.in_ok-shown.ensures w.program.now h e) c.in_ok-is_cut.ensures
 
 pub returns-clause-visits : goal.returns-clause-visits
 returns-clause-visits c =
@@ -28,5 +28,5 @@ returns-clause-visits c =
     let adds = subst (λ (p : List Step). AddsSchedule flags p (map identity_in c.visit_child.new.shown.items) c.args.findings.now c.note.new.findings) c.as_slice-2.ensures.value
     (subst (λ is. AddsSchedule flags c.as_slice-2.result.now (map identity_in is) c.args.findings.now c.note.new.findings) c.as_slice.ensures.value c.in_ok-note.ensures) in
     next_visits w.program.now w.path.items c.follow.new.path.items fs c.visit_child.new.frames.items c.requires.more frame looked c.requires.walk c.in_ok-follow.ensures
-    c.len.result (c.len.ensures ∙ c.follow.new.path.ok.0) c.in_ok-shown.shown.items c.visit_child.new.shown.items (λ h e. c.in_ok-shown.ensures w.program.now h e) c.in_ok-visit_child.ensures
+    c.len.result (c.len.ensures ∙ c.follow.new.path.ok.0) c.in_ok-is_cut.is_cut c.in_ok-shown.shown.items c.visit_child.new.shown.items (λ h e. c.in_ok-shown.ensures w.program.now h e) c.in_ok-is_cut.ensures
     flags c.args.findings.now c.note.new.findings adds
