@@ -4,6 +4,7 @@ use Rattle.std.proofs.lemmas.Bool.{eqb-true, eq-eqb}
 use Rattle.std.proofs.lemmas.List.{length-append, length_push}
 use Rattle.std.proofs.lemmas.List.Elements.{filter-append}
 use Rattle.std.proofs.lemmas.List.Sorted.{sum_by-IsPermutation}
+use Rattle.std.proofs.lemmas.List.Recursion.{is_sum_by}
 use Rattle.std.proofs.lemmas.List.Sums.{count_by-le-length, length-filter}
 use Rattle.std.specs.List.{sum_by}
 use Rattle.term_core.specs.declared.step.Step.{Step}
@@ -41,12 +42,11 @@ cuts_of_jobs a n budget jobs =
 
 -- of a list no more pass than there are, in whatever order they stand
 as_sum : {X : Type 0} (test : X → Bool) (xs : List X) → length (filter test xs) ≡ sum_by (λ x. cond (test x) 1 0) xs
-as_sum test [] = refl
-as_sum test (x ∷ xs) = go (test x)
+as_sum test = is_sum_by (λ xs. length (filter test xs)) (λ x. cond (test x) 1 0) refl (λ x xs. one (test x) x (filter test xs))
   where
-    go : (b : Bool) → length (cond b (x ∷ filter test xs) (filter test xs)) ≡ cond b 1 0 + sum_by (λ x. cond (test x) 1 0) xs
-    go true = omega (arith, as_sum test xs)
-    go false = as_sum test xs
+    one : {X : Type 0} (b : Bool) (x : X) (kept : List X) → length (cond b (x ∷ kept) kept) ≡ cond b 1 0 + length kept
+    one true x kept = omega arith
+    one false x kept = omega arith
 
 pub cuts_some : CutsAreSome
 cuts_some a n schedules = subst (λ k. k ≤ length schedules) (sym (length-filter (is_cut a n) schedules)) (count_by-le-length (is_cut a n) schedules)
