@@ -67,5 +67,6 @@ IsCheckOf input depth flags old new failed (Err (run.Schedule fault)) = ⊥
 IsCheckOf input depth flags old new failed (Err (run.Replay fault)) = ⊥
 IsCheckOf input depth flags old new failed (Err (run.Explore fault)) = ⊥
 IsCheckOf input depth flags old new failed (Err (run.Cover fault)) = IsRefusedCover input depth flags fault × WritesNothing old new failed
+IsCheckOf input depth flags old new failed (Err run.ReportCutOff) = ⊥
 IsCheckOf input depth flags old new failed (Err run.CoverCutOff) = ⊥
 IsCheckOf input depth flags old new failed (Err run.Output) = IsGood input depth flags × BreaksOff old new failed (text_of_good depth)

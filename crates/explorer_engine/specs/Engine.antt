@@ -58,6 +58,7 @@ IsRunOf input word old new failed (Err (run.Replay replay.Write)) = ⊥
 IsRunOf input word old new failed (Err (run.Replay fault)) = IsReplayed input word (λ m steps. Replays (program_of m) steps old new failed (Err fault))
 IsRunOf input word old new failed (Err (run.Explore fault)) = ⊥
 IsRunOf input word old new failed (Err (run.Cover fault)) = ⊥
+IsRunOf input word old new failed (Err run.ReportCutOff) = ⊥
 IsRunOf input word old new failed (Err run.CoverCutOff) = ⊥
 IsRunOf input word old new failed (Err run.Output) = IsReplayed input word (λ m steps. BreaksOff old new failed (transcript (program_of m) steps))
 
@@ -70,6 +71,7 @@ IsRefusedBefore (Err (run.Schedule fault)) = Unit {0}
 IsRefusedBefore (Err (run.Replay fault)) = ⊥
 IsRefusedBefore (Err (run.Explore fault)) = Unit {0}
 IsRefusedBefore (Err (run.Cover fault)) = Unit {0}
+IsRefusedBefore (Err run.ReportCutOff) = ⊥
 IsRefusedBefore (Err run.CoverCutOff) = ⊥
 IsRefusedBefore (Err run.Output) = ⊥
 
@@ -82,5 +84,6 @@ IsHandedOn (Err (run.Schedule fault)) flushed = Unit {0}
 IsHandedOn (Err (run.Replay fault)) flushed = flushed ≡ true
 IsHandedOn (Err (run.Explore fault)) flushed = Unit {0}
 IsHandedOn (Err (run.Cover fault)) flushed = Unit {0}
+IsHandedOn (Err run.ReportCutOff) flushed = flushed ≡ true
 IsHandedOn (Err run.CoverCutOff) flushed = flushed ≡ true
 IsHandedOn (Err run.Output) flushed = Unit {0}

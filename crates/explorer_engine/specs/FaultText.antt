@@ -67,5 +67,6 @@ text_of_fault (run.Explore search.Memory) = codes "explore: 1 Memory\n"
 text_of_fault (run.Explore search.NoThread) = codes "explore: 2 NoThread\n"
 text_of_fault (run.Explore search.StrangePool) = codes "explore: 3 StrangePool\n"
 text_of_fault (run.Cover fault) = text_of_cover_fault fault
+text_of_fault run.ReportCutOff = codes "explore: 1 Memory\n"
 text_of_fault run.CoverCutOff = codes "cover: 7 Memory\n"
 text_of_fault run.Output = codes "output failed\n"

@@ -1,6 +1,7 @@
 pub mod FaultText
 pub mod Status
 pub mod Input
+pub mod Printing
 pub mod Refusals
 pub mod Engine
 pub mod Explored

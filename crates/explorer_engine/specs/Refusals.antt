@@ -4,8 +4,8 @@ use Rattle.explorer_engine.specs.declared.input.InputFault.{InputFault}
 use Rattle.explorer_engine.specs.declared.input.InputFault.TheVariants as input
 use Rattle.replay_core.specs.declared.replay_fault.ReplayFault.{ReplayFault}
 use Rattle.replay_core.specs.declared.replay_fault.ReplayFault.TheVariants as replay
-use Rattle.cover_check.specs.declared.fault.WriteCoverFault.{WriteCoverFault}
-use Rattle.cover_check.specs.declared.fault.WriteCoverFault.TheVariants as written
+use Rattle.explorer_engine.specs.declared.print_fault.PrintFault.{PrintFault}
+use Rattle.explorer_engine.specs.declared.print_fault.PrintFault.TheVariants as printing
 use Rattle.explorer_engine.specs.declared.verdict.RunFault.{RunFault}
 use Rattle.explorer_engine.specs.declared.verdict.RunFault.TheVariants as run
 
@@ -21,6 +21,7 @@ refusal_of_replay replay.Memory = run.Replay replay.Memory
 refusal_of_replay replay.Write = run.Output
 
 -- a report, or the cover behind it, that could not be written is output that failed
-abbrev pub refusal_of_printing : WriteCoverFault → RunFault
-refusal_of_printing written.Memory = run.CoverCutOff
-refusal_of_printing written.Write = run.Output
+abbrev pub refusal_of_printing : PrintFault → RunFault
+refusal_of_printing printing.ReportCutOff = run.ReportCutOff
+refusal_of_printing printing.CoverCutOff = run.CoverCutOff
+refusal_of_printing printing.Write = run.Output

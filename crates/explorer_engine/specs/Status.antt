@@ -45,6 +45,7 @@ status_of_fault (run.Explore search.Memory) = 3
 status_of_fault (run.Explore search.NoThread) = 3
 status_of_fault (run.Explore search.StrangePool) = 3
 status_of_fault (run.Cover fault) = status_of_cover_fault fault
+status_of_fault run.ReportCutOff = 3
 status_of_fault run.CoverCutOff = 3
 status_of_fault run.Output = 4
 

@@ -20,7 +20,9 @@ use term_core::{Sink, Source};
 
 /// Reads a module from the source, visits the tree of its schedules within the options, and writes the report to the
 /// sink, which is flushed at the end: each error, and each table call that is refused, that some schedule of at most
-/// so many steps shows, with the least schedule of a node that shows it. Where that is asked for, the cover of the tree
+/// so many steps shows, with the least schedule of a node that shows it. Where that is asked for, the report is explained: the lines of its
+/// schedule stand below each, and it says whether all schedules are told of, since none is longer than the depth. Where that
+/// is asked for, the cover of the tree
 /// stands behind a report without errors: the tree is gone through once more, and each line is written as its node is
 /// visited. The search is done by as many threads as the options say; how many there are changes nothing of what is
 /// written of a complete exploration. The gate is told of the work. Nothing is written before the search has ended.
@@ -28,7 +30,8 @@ use term_core::{Sink, Source};
 /// # Errors
 ///
 /// `Input` where the source gives no module, `ReadFailed` where it cannot be read, `Explore` where the search has no
-/// outcome, and then nothing was written. `CoverCutOff` where there was no memory for the whole cover, and `Output` where
+/// outcome, and then nothing was written. `ReportCutOff` and `CoverCutOff` where there was no memory for the
+/// whole report or the whole cover, and `Output` where
 /// the sink has failed, at a write or at the flush: then a beginning of the report and the cover was written.
 pub fn run_explore<T: Threads + Wait + Sync, R: Source, G: Gate + Sync, W: Sink>(
     rt: &T,

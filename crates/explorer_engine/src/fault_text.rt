@@ -26,6 +26,7 @@ pub fn write_fault<W: Sink>(sink: &mut W, fault: &RunFault) -> Result<(), WriteF
         RunFault::Explore(SearchFault::NoThread) => write_all(sink, b"explore: 2 NoThread\n"),
         RunFault::Explore(SearchFault::StrangePool) => write_all(sink, b"explore: 3 StrangePool\n"),
         RunFault::Cover(fault) => write_cover_fault(sink, fault),
+        RunFault::ReportCutOff => write_all(sink, b"explore: 1 Memory\n"),
         RunFault::CoverCutOff => write_all(sink, b"cover: 7 Memory\n"),
         RunFault::Output => write_all(sink, b"output failed\n"),
     }

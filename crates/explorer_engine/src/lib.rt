@@ -7,6 +7,7 @@ pub mod engine;
 pub mod explore;
 pub mod fault_text;
 pub mod input;
+pub mod print_fault;
 mod printing;
 pub mod program;
 pub mod verdict;

@@ -1,19 +1,41 @@
 // What an exploration prints: its report and, where that is asked for and no error was found, the cover of the tree.
 ghost use Rattle.std.specs.Prelude.{◌≡◌, true, false};
-ghost use Rattle.cover_check.specs.Writing.{IsWritten};
-ghost use Rattle.explorer_engine.specs.Explored.{complete_verdict, has_cover, text_of_exploration, verdict_of};
+ghost use Rattle.explorer_engine.specs.Explored.{complete_verdict, has_cover, text_of_exploration, text_of_form, verdict_of};
+ghost use Rattle.explorer_engine.specs.Printing.{IsPrinted};
 ghost use Rattle.world_model.specs.Asking.{program_of};
 
+use crate::print_fault::PrintFault;
 use crate::verdict::Verdict;
 use crate::watched::Watched;
 use command_words::Printed;
 use core_tree::Module;
-use cover_check::{WriteCoverFault, write_cover};
+use cover_check::write_cover;
 use findings::{FindingList, Outcome};
+use replay_core::write_explained_report;
 use report_text::write_report;
 use search_crew::Gate;
 use std::alloc::Global;
 use term_core::Sink;
+
+// Writes the report, explained where that is asked for.
+fn write_form<W: Sink>(
+    alloc: Global,
+    program: &Module,
+    depth: u64,
+    printed: Printed,
+    outcome: &Outcome,
+    sink: &mut W,
+) -> Result<(), PrintFault>
+    requires { W.has_failed sink.old ≡ false }
+    ensures { IsPrinted (text_of_form printed (program_of program.now) depth outcome.now) (W.contents sink.old) (W.contents sink.new) (W.has_failed sink.new) result }
+{
+    if printed.explained {
+        write_explained_report(alloc, program, depth, outcome, sink)?;
+        return Ok(());
+    }
+    write_report(sink, depth, outcome)?;
+    Ok(())
+}
 
 // Writes the report, and the cover behind it where it belongs there.
 fn print<G: Gate, W: Sink>(
@@ -24,24 +46,25 @@ fn print<G: Gate, W: Sink>(
     outcome: &Outcome,
     gate: &G,
     sink: &mut W,
-) -> Result<(), WriteCoverFault>
+) -> Result<(), PrintFault>
     requires { W.has_failed sink.old ≡ false }
-    ensures { IsWritten (text_of_exploration printed (program_of program.now) depth outcome.now) (W.contents sink.old) (W.contents sink.new) (W.has_failed sink.new) result }
+    ensures { IsPrinted (text_of_exploration printed (program_of program.now) depth outcome.now) (W.contents sink.old) (W.contents sink.new) (W.has_failed sink.new) result }
 {
-    write_report(sink, depth, outcome)?;
+    write_form(alloc, program, depth, printed, outcome, sink)?;
     if !has_cover(printed, verdict_of(outcome)) {
         return Ok(());
     }
-    write_cover(alloc, program, depth, sink, &Watched { gate })
+    write_cover(alloc, program, depth, sink, &Watched { gate })?;
+    Ok(())
 }
 
 // Whether a cover stands behind the report: where it is asked for, and no node shows an error.
 fn has_cover(printed: Printed, verdict: Verdict) -> bool
     ensures { result ≡ has_cover printed verdict }
 {
-    match printed {
-        Printed::Report => false,
-        Printed::ReportAndCover => matches!(verdict, Verdict::Clean),
+    match verdict {
+        Verdict::Clean => printed.cover,
+        Verdict::Done | Verdict::Errors | Verdict::Incomplete => false,
     }
 }
 
@@ -49,7 +72,7 @@ fn has_cover(printed: Printed, verdict: Verdict) -> bool
 ///
 /// # Errors
 ///
-/// `Memory` where there was no memory for the whole cover, and `Write` where the sink has failed, at a write or at the
+/// `ReportCutOff` and `CoverCutOff` where there was no memory for the whole report or the whole cover, and `Write` where the sink has failed, at a write or at the
 /// flush: then a beginning was written.
 pub(crate) fn print_and_flush<G: Gate, W: Sink>(
     alloc: Global,
@@ -59,9 +82,9 @@ pub(crate) fn print_and_flush<G: Gate, W: Sink>(
     outcome: &Outcome,
     gate: &G,
     sink: &mut W,
-) -> Result<(), WriteCoverFault>
+) -> Result<(), PrintFault>
     requires { W.has_failed sink.old ≡ false }
-    ensures written { IsWritten (text_of_exploration printed (program_of program.now) depth outcome.now) (W.contents sink.old) (W.contents sink.new) (W.has_failed sink.new) result }
+    ensures written { IsPrinted (text_of_exploration printed (program_of program.now) depth outcome.now) (W.contents sink.old) (W.contents sink.new) (W.has_failed sink.new) result }
     ensures flushed { W.has_failed sink.new ≡ false → W.is_flushed sink.new ≡ true }
 {
     let outcome = print(alloc, program, depth, printed, outcome, gate, sink);
@@ -69,7 +92,7 @@ pub(crate) fn print_and_flush<G: Gate, W: Sink>(
         return outcome;
     }
     if sink.flush().is_err() {
-        return Err(WriteCoverFault::Write);
+        return Err(PrintFault::Write);
     }
     outcome
 }

@@ -3,8 +3,9 @@ ghost use Rattle.std.specs.Prelude.{◌≡◌};
 ghost use Rattle.explorer_engine.specs.Status.{status_of, status_of_verdict, status_of_fault, status_of_read_fault, status_of_schedule_fault, status_of_replay_fault, status_of_cover_fault};
 
 use crate::input::InputFault;
+use crate::print_fault::PrintFault;
 use core_reader::ReadFault;
-use cover_check::{CoverFault, WriteCoverFault};
+use cover_check::CoverFault;
 use replay_core::ReplayFault;
 use search_crew::SearchFault;
 use term_core::{ScheduleFault, WriteFault};
@@ -37,6 +38,8 @@ pub enum RunFault {
     Explore(SearchFault),
     /// The cover that came with the module was refused.
     Cover(CoverFault),
+    /// There was no memory to explain a report to its end. A beginning of the report was written.
+    ReportCutOff,
     /// There was no memory to write a cover to its end. The report, and a beginning of the cover, were written.
     CoverCutOff,
     /// The output could not be written or flushed.
@@ -109,15 +112,16 @@ impl From<CoverFault> for RunFault {
     }
 }
 
-impl From<WriteCoverFault> for RunFault {
+impl From<PrintFault> for RunFault {
     ghost use Rattle.explorer_engine.specs.Refusals.{refusal_of_printing};
 
     ghost from_gives = { λ fault refusal. refusal ≡ refusal_of_printing fault };
 
-    fn from(fault: WriteCoverFault) -> RunFault {
+    fn from(fault: PrintFault) -> RunFault {
         match fault {
-            WriteCoverFault::Memory => RunFault::CoverCutOff,
-            WriteCoverFault::Write => RunFault::Output,
+            PrintFault::ReportCutOff => RunFault::ReportCutOff,
+            PrintFault::CoverCutOff => RunFault::CoverCutOff,
+            PrintFault::Write => RunFault::Output,
         }
     }
 }
@@ -169,6 +173,7 @@ fn fault_status(fault: &RunFault) -> u8
         RunFault::Explore(SearchFault::NoThread) => 3,
         RunFault::Explore(SearchFault::StrangePool) => 3,
         RunFault::Cover(fault) => cover_status(fault),
+        RunFault::ReportCutOff => 3,
         RunFault::CoverCutOff => 3,
         RunFault::Output => 4,
     }

@@ -1,2 +1,3 @@
 pub mod CallTexts
 pub mod ReportTexts
+pub mod CleanLaws

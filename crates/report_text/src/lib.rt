@@ -4,6 +4,7 @@
 mod call_text;
 pub mod event_text;
 pub mod identity_text;
+pub mod laws;
 pub mod report;
 
 pub use event_text::write_event;
