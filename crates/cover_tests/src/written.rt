@@ -21,6 +21,17 @@ const STRANGER: &str =
 const TWO_KEYS: &str =
     "module 'm' ['main'/0,'c'/0] attributes [] 'main'/0 = fun () -> do call 'ets':'new'('t',['named_table','public']) do call 'erlang':'spawn'('m','c',[]) call 'ets':'insert'('t',{'a',1}) 'c'/0 = fun () -> catch call 'ets':'insert'('t',{'b',1}) end\n";
 
+// The report alone, and with the cover behind it.
+const PLAIN: Printed = Printed {
+    explained: false,
+    cover: false,
+};
+
+const COVERED: Printed = Printed {
+    explained: false,
+    cover: true,
+};
+
 // What is explored by so many workers, with at most so many nodes.
 fn options(depth: u64, nodes: u64, workers: u64) -> Options
     ensures { result.budget ≡ 64 }
@@ -47,7 +58,7 @@ fn writes_the_cover_of_a_clean_tree(rt: HostRuntime) -> Result<(), Fail> {
             rt.alloc(),
             &mut source,
             &options(3, 1000, workers),
-            Printed::ReportAndCover,
+            COVERED,
             &Unwatched,
             &mut sink,
         );
@@ -61,9 +72,9 @@ fn writes_the_cover_of_a_clean_tree(rt: HostRuntime) -> Result<(), Fail> {
 #[test]
 fn writes_no_other_cover(rt: HostRuntime) -> Result<(), Fail> {
     for (text, nodes, printed, wanted) in [
-        (STRANGER, 1000, Printed::ReportAndCover, Verdict::Errors),
-        (STRANGER, 9, Printed::ReportAndCover, Verdict::Incomplete),
-        (TWO_END, 1000, Printed::Report, Verdict::Clean),
+        (STRANGER, 1000, COVERED, Verdict::Errors),
+        (STRANGER, 9, COVERED, Verdict::Incomplete),
+        (TWO_END, 1000, PLAIN, Verdict::Clean),
     ] {
         let mut source = MemorySource::new(text.as_bytes());
         let mut sink = MemorySink::with_room(rt.alloc(), 1000)?;
@@ -98,7 +109,7 @@ fn a_write_that_fails_leaves_what_was_written(rt: HostRuntime) -> Result<(), Fai
             rt.alloc(),
             &mut source,
             &options(3, 1000, 1),
-            Printed::ReportAndCover,
+            COVERED,
             &Unwatched,
             &mut sink,
         );
@@ -126,7 +137,7 @@ fn accepts_what_it_writes(rt: HostRuntime) -> Result<(), Fail> {
             alloc,
             &mut source,
             &options(depth, 1000, 2),
-            Printed::ReportAndCover,
+            COVERED,
             &Unwatched,
             &mut sink,
         );

@@ -174,7 +174,7 @@ impl<'m, N: PoolName> Bench<'m, N> {
         let mut bench = self;
         bench.work_out(alloc, program)?;
         match bench.finish(alloc, program, 5)? {
-            Ok(Outcome::Complete(_, nodes)) => Ok(nodes),
+            Ok(Outcome::Complete(_, extent)) => Ok(extent.nodes),
             _ => Err(Fail::from("the pool is not complete")),
         }
     }

@@ -17,15 +17,30 @@ fn reads_the_words_of_a_replay(rt: HostRuntime) -> Result<(), Fail> {
     Ok(())
 }
 
+const PLAIN: Printed = Printed {
+    explained: false,
+    cover: false,
+};
+
+const COVERED: Printed = Printed {
+    explained: false,
+    cover: true,
+};
+
+const EXPLAINED: Printed = Printed {
+    explained: true,
+    cover: false,
+};
+
 // Words of an exploration, and its depth, its limit of nodes, its flags, and what it prints.
-const EXPLORATIONS: [(&[&str], u64, u64, bool, bool, Printed); 5] = [
+const EXPLORATIONS: [(&[&str], u64, u64, bool, bool, Printed); 6] = [
     (
         &[NAME, "explore", "--depth", "0"],
         0,
         1_000_000,
         false,
         false,
-        Printed::Report,
+        PLAIN,
     ),
     (
         &[NAME, "explore", "--depth", "400", "--nodes", "10000000"],
@@ -33,7 +48,7 @@ const EXPLORATIONS: [(&[&str], u64, u64, bool, bool, Printed); 5] = [
         10_000_000,
         false,
         false,
-        Printed::Report,
+        PLAIN,
     ),
     (
         &[
@@ -49,7 +64,7 @@ const EXPLORATIONS: [(&[&str], u64, u64, bool, bool, Printed); 5] = [
         1,
         true,
         false,
-        Printed::Report,
+        PLAIN,
     ),
     (
         &[
@@ -64,7 +79,7 @@ const EXPLORATIONS: [(&[&str], u64, u64, bool, bool, Printed); 5] = [
         1_000_000,
         true,
         true,
-        Printed::Report,
+        PLAIN,
     ),
     (
         &[NAME, "explore", "--depth", "3", "--cover"],
@@ -72,7 +87,15 @@ const EXPLORATIONS: [(&[&str], u64, u64, bool, bool, Printed); 5] = [
         1_000_000,
         false,
         false,
-        Printed::ReportAndCover,
+        COVERED,
+    ),
+    (
+        &[NAME, "explore", "--explain", "--depth", "3"],
+        3,
+        1_000_000,
+        false,
+        false,
+        EXPLAINED,
     ),
 ];
 

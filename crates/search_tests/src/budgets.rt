@@ -3,7 +3,7 @@ ghost use Rattle.std.specs.Prelude.{◌≡◌, ◌≤◌};
 
 use crate::modules::{INSERTS, LINE, MAKERS, MESSAGES, MIXED, WRITERS};
 use core_reader::{Module, read_module};
-use findings::{Flags, Options, Outcome};
+use findings::{Extent, Flags, Options, Outcome};
 use report_text::write_report;
 use search_crew::{Gate, Unwatched, search};
 use std::alloc::Global;
@@ -86,20 +86,20 @@ fn budgets_change_nothing(rt: HostRuntime) -> Result<(), Fail> {
     Ok(())
 }
 
-// The nodes of a clean exploration.
+// How far a clean exploration went.
 fn counted<T: Threads + Wait + Sync>(
     rt: &T,
     alloc: Global,
     program: &Module,
     depth: u64,
     budget: u64,
-) -> Result<u64, Fail>
+) -> Result<Extent, Fail>
     requires { 1 ≤ budget }
 {
     match search(rt, alloc, program, &options(depth, budget), &Unwatched) {
-        Ok(Outcome::Complete(found, nodes)) => {
+        Ok(Outcome::Complete(found, extent)) => {
             if found.errors().len() == 0 && found.refusals().len() == 0 {
-                return Ok(nodes);
+                return Ok(extent);
             }
             Err(Fail::from("something was found"))
         }
@@ -107,21 +107,21 @@ fn counted<T: Threads + Wait + Sync>(
     }
 }
 
-// Depths, and how many nodes the line has then.
-const NODES: [(u64, u64); 3] = [(40, 22), (17, 18), (16, 17)];
+// Depths, how many nodes the line has then, and at how many of them it is cut.
+const NODES: [(u64, u64, u64); 4] = [(40, 22, 0), (21, 22, 0), (17, 18, 1), (16, 17, 1)];
 
 #[test]
 fn a_line_has_a_node_for_each_turn(rt: HostRuntime) -> Result<(), Fail> {
     let program = read_module(rt.alloc(), LINE.as_bytes())?;
-    for (depth, nodes) in NODES {
+    for (depth, nodes, cut) in NODES {
         assert_eq!(rt;
             counted(&rt, rt.alloc(), &program, depth, 1)?,
-            nodes,
+            Extent { nodes, cut },
             "{depth}"
         );
         assert_eq!(rt;
             counted(&rt, rt.alloc(), &program, depth, 64)?,
-            nodes,
+            Extent { nodes, cut },
             "{depth}"
         );
     }
@@ -155,7 +155,7 @@ fn pieces_of<T: Threads + Wait + Sync>(
         given: AtomicU64::new(0),
     };
     match search(rt, alloc, program, &options(40, budget), &gate) {
-        Ok(Outcome::Complete(_, 22)) => Ok(gate.given.load(Ordering::SeqCst)),
+        Ok(Outcome::Complete(_, Extent { nodes: 22, cut: 0 })) => Ok(gate.given.load(Ordering::SeqCst)),
         _ => Err(Fail::from("the search was not complete")),
     }
 }

@@ -4,7 +4,7 @@ ghost use Rattle.std.specs.Prelude.{◌≡◌, ◌≤◌};
 use crate::budgets::text_of;
 use crate::modules::{DEEP, INSERTS, MAKERS, MESSAGES, MIXED, STRANGER};
 use core_reader::{Module, read_module};
-use findings::{Flags, Options, Outcome};
+use findings::{Extent, Flags, Options, Outcome};
 use search_crew::{Gate, SearchFault, Unwatched, search};
 use std::alloc::Global;
 use std::sync::Wait;
@@ -76,7 +76,7 @@ fn met_by<T: Threads + Wait + Sync>(rt: &T, alloc: Global, workers: u64) -> Resu
     let program = read_module(alloc, MAKERS.as_bytes())?;
     let gate = Meeting::new();
     match search(rt, alloc, &program, &options(5, 1, workers), &gate) {
-        Ok(Outcome::Complete(_, 10)) => Ok(gate.met.load(Ordering::SeqCst)),
+        Ok(Outcome::Complete(_, Extent { nodes: 10, cut: 0 })) => Ok(gate.met.load(Ordering::SeqCst)),
         _ => Err(Fail::from("the search was not complete")),
     }
 }
