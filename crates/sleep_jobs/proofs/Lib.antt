@@ -1,4 +1,3 @@
 pub mod Lists
 pub mod Runs
-pub mod Reached
 pub mod Passing

@@ -1,11 +1,9 @@
 // Jobs: a node, and all nodes below it.
-ghost use Rattle.std.specs.Prelude.{◌≡◌, ◌≤◌, [], IfErr, IfOk, length};
+ghost use Rattle.std.specs.Prelude.{◌≡◌, IfOk};
 ghost use Rattle.coverage.specs.Jobs.{root};
 ghost use Rattle.findings.specs.Identities.{flags_in};
-ghost use Rattle.sleep_jobs.specs.Explorations.{exploration_in, program_in};
-ghost use Rattle.sleep_jobs.specs.Reached.{IsAt, IsJob};
-ghost use Rattle.world_model.specs.Asking.{program_of};
-ghost use Rattle.world_core.specs.declared.fault.WorldFault.TheVariants.{Memory};
+ghost use Rattle.sleep_jobs.specs.Explorations.{exploration_in};
+ghost use Rattle.sleep_jobs.specs.Reached.{IsJob};
 
 use crate::exploration::Exploration;
 use crate::names::JobName;
@@ -13,7 +11,6 @@ use core_tree::Module;
 use findings::Options;
 use std::alloc::{AllocError, Global};
 use std::marker::Model;
-use world_core::{World, WorldFault};
 
 /// A job: a node of the tree of schedules, and all nodes below it. It holds its exploration, its name, and the number of
 /// its ticket, 0 while it has none. It holds no world, so that nothing of one goes from thread to thread.
@@ -141,24 +138,11 @@ impl<'m> Job<'m> {
         })
     }
 
-    /// The world of its node: each of its steps is taken, in a new world of a module that asks what the one does that is
-    /// explored.
-    ///
-    /// # Errors
-    ///
-    /// `Memory` if there is no memory.
-    pub fn world<'w>(&self, alloc: Global, program: &'w Module) -> Result<World<'w>, WorldFault>
-        requires { program_of program.now ≡ program_in self.now.exploration }
-        ensures at { IfOk result (λ world. IsAt (program_in self.now.exploration) self.now.name.prefix world) }
-        ensures module { IfOk result (λ world. world.program ≡ program.now) }
-        ensures short { IfOk result (λ _. length self.now.name.prefix ≤ self.now.exploration.depth) }
-        ensures memory { IfErr result (λ fault. fault ≡ Memory) }
+    /// Its name is that of a node of what is explored: its schedule runs, and has no more steps than the depth. It changes
+    /// nothing.
+    pub fn names_a_node(&self)
+        ensures { IsJob self.now.exploration self.now.name }
     {
-        let mut world = World::open(alloc, program)?;
-        match world.advance(alloc, self.name.prefix.as_slice()) {
-            Ok(()) => Ok(world),
-            Err((_, WorldFault::Memory)) => Err(WorldFault::Memory),
-            Err((_, WorldFault::NotEnabled)) => unreachable!(),
-        }
+        let _number = self.number;
     }
 }

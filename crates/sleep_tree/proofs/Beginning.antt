@@ -13,7 +13,7 @@ use Rattle.coverage.specs.Findings.{Findings}
 use Rattle.coverage.specs.Jobs.{Job}
 use Rattle.sleep_jobs.specs.Explorations as seen
 use Rattle.sleep_jobs.specs.Explorations.{ExplorationSeen, findings_of, nodes_of}
-use Rattle.sleep_jobs.specs.Reached.{IsAt}
+use Rattle.sleep_tree.specs.inside.Reached.{IsAt}
 use Rattle.tree_cuts.specs.Cuts.{is_cut}
 use Rattle.sleep_tree.specs.inside.Frames.{AreFramesOf, IsNodeOf, NodeSeen, is_cut_at, nodes_of_frames, nodes_of_node, own_node}
 use Rattle.sleep_tree.specs.inside.Walks.{AreOnPath, Opens, all_seen_on}

@@ -1,4 +1,5 @@
 pub mod Runs
+pub mod Reached
 pub mod Nodes
 pub mod Asleep
 pub mod Frames

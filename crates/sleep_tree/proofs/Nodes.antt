@@ -8,7 +8,8 @@ use Rattle.world_model.specs.Run.{is_enabled, run, schedule_of}
 use Rattle.world_model.proofs.Runs.{runs_real}
 use Rattle.coverage.specs.Jobs.{Job, nodes_from, nodes_behind}
 use Rattle.sleep_jobs.specs.Explorations as seen
-use Rattle.sleep_jobs.specs.Reached.{IsAt, IsJob}
+use Rattle.sleep_jobs.specs.Reached.{IsJob}
+use Rattle.sleep_tree.specs.inside.Reached.{IsAt}
 use Rattle.sleep_tree.specs.inside.Frames.{IsNodeOf, NodeSeen, nodes_of_node}
 use Rattle.sleep_tree.proofs.Asleep.{only_enabled}
 

@@ -1,3 +1,4 @@
+pub mod Reached
 pub mod Nodes
 pub mod Frames
 pub mod Walks

@@ -7,6 +7,7 @@ pub mod gate;
 mod node;
 mod sleeping;
 mod walk;
+mod world;
 
 pub use expansion::expand;
 pub use gate::{Gate, Unwatched};

@@ -15,6 +15,7 @@ ghost use Rattle.world_model.specs.Run.{next_event};
 use crate::frame::{Frame, descend, open, pass_child};
 use crate::node::{Node, is_cut};
 use crate::sleeping::steps_of;
+use crate::world::world_of;
 use core_tree::Module;
 use findings::{Findings, Flags, Identity, copy_schedule};
 use sleep_jobs::{Exploration, Job, JobName};
@@ -101,7 +102,7 @@ impl<'m> Walk<'m> {
     {
         let exploration = job.exploration();
         let name = job.name();
-        let world = job.world(alloc, self.program)?;
+        let world = world_of(alloc, self.program, job)?;
         let records = world.records().copy()?;
         let agenda = Agenda::of(&records, alloc)?;
         let slept = agenda.plans_of(alloc, name.slept.as_slice())?;
