@@ -30,10 +30,11 @@ asked words steps flags asks = record {
     workers = omega (arith, ap length asks.no_workers);
     allow_deadlock = at_most_once _ flags.allow_deadlock asks.allow_deadlock;
     strict_access = at_most_once _ flags.strict_access asks.strict_access;
+    explain = omega (arith, asks.no_explain);
     cover = omega (arith, asks.no_cover);
   };
   lawful = check_lawful_by asks.given (subst (Each (λ n. n ≤ 400)) (sym asks.depth) (asks.in_range, tt)) (omega (arith, ap length asks.no_nodes)) (omega (arith, ap length asks.no_workers))
-      (omega (arith, asks.no_cover));
+      (omega (arith, asks.no_explain)) (omega (arith, asks.no_cover));
   in_range = asks.in_range;
 }
 

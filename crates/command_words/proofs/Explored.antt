@@ -9,15 +9,14 @@ use Rattle.clap.specs.declared.parser.matches.ValueSource.TheVariants.{CommandLi
 use Rattle.findings.specs.declared.flags.Flags.{Flags}
 use Rattle.findings.specs.declared.options.Options.{Options}
 use Rattle.command_words.specs.declared.words.Printed.{Printed}
-use Rattle.command_words.specs.declared.words.Printed.TheVariants.{Report, ReportAndCover}
-use Rattle.command_words.specs.Words.{AreInRange, Given, IsExplore, IsGivenOr, asks_for_cover, is_cover, nodes_of, workers_of}
+use Rattle.command_words.specs.Words.{AreInRange, Given, IsExplore, IsGivenOr, is_cover, is_explain, nodes_of, workers_of}
 use Rattle.command_words.specs.inside.CommandLine.{command_line, exploring}
 use Rattle.command_words.specs.inside.Found.{AreOptionsIn, AreOptionsOf, AreRead, IsCheckOf, ReadsNumber, schedule_in}
 use Rattle.command_words.proofs.Asked.{IsAsked, asked_enters, asked_has_no_schedule, asked_passes, at_most_once, depth_is_read, depth_read, flag_read, flags_read, number_not_read, number_read, rows_of_given}
 use Rattle.command_words.proofs.Entered.{entered_rows, number_fits}
 use Rattle.command_words.proofs.Once.{Each, lawful_by}
 use Rattle.command_words.proofs.Ranges.{depth_fits, nodes_fits, workers_fits}
-use Rattle.command_words.proofs.Rows.{cover_left, cover_row, nodes_left, nodes_row, row_at, row_of, row_or, row_with, text_of_row, workers_left, workers_row}
+use Rattle.command_words.proofs.Rows.{cover_left, cover_row, explain_left, explain_row, nodes_left, nodes_row, row_at, row_of, row_or, row_with, text_of_row, workers_left, workers_row}
 
 -- ---- the options of an exploration, each once and in its range
 
@@ -45,7 +44,8 @@ asked words options printed asks = record {
     workers = given_once 1 options.workers (workers_of asks.given) asks.workers;
     allow_deadlock = at_most_once _ options.flags.allow_deadlock asks.allow_deadlock;
     strict_access = at_most_once _ options.flags.strict_access asks.strict_access;
-    cover = at_most_once _ (asks_for_cover printed) asks.cover;
+    explain = at_most_once _ printed.explained asks.explain;
+    cover = at_most_once _ printed.cover asks.cover;
   };
   lawful = lawful_by asks.given (subst (Each (λ n. n ≤ 400)) (sym asks.depth) (asks.in_range.depth, tt))
       (given_lawful 10000000 1000000 options.nodes (nodes_of asks.given) asks.nodes asks.in_range.least_nodes asks.in_range.most_nodes)
@@ -114,16 +114,15 @@ same_options words options found printed prints asks read =
     let flags : found.flags ≡ options.flags = flags_read exploring words options.depth options.flags of found.flags read.flags in
     (λ i. record { depth = depth i; nodes = nodes i; budget = budget i; workers = workers i; flags = flags i })
 
-by_its_cover : (printed prints : Printed) → asks_for_cover prints ≡ asks_for_cover printed → prints ≡ printed
-by_its_cover Report Report same = refl
-by_its_cover Report ReportAndCover same = cc
-by_its_cover ReportAndCover Report same = cc
-by_its_cover ReportAndCover ReportAndCover same = refl
-
 same_printed : (words : List Text) (options found : Options) (printed prints : Printed) (asks : IsExplore words options printed) → AreRead (rows_of_given exploring asks.given) found prints
     → prints ≡ printed
 same_printed words options found printed prints asks read =
-    by_its_cover printed prints (flag_read exploring (codes "cover") is_cover asks.given (asks_for_cover printed) (asks_for_cover prints) asks.cover (cover_left (map row_of asks.given)) (cover_row asks.given) read.cover)
+    let rows = map row_of asks.given in
+    let explained : prints.explained ≡ printed.explained = flag_read exploring (codes "explain") is_explain asks.given printed.explained prints.explained asks.explain
+    (explain_left rows) (explain_row asks.given) read.prints.explained in
+    let cover : prints.cover ≡ printed.cover = flag_read exploring (codes "cover") is_cover asks.given printed.cover prints.cover asks.cover
+    (cover_left rows) (cover_row asks.given) read.prints.cover in
+    (λ i. record { explained = explained i; cover = cover i })
 
 -- the options that are found are those that the words ask for
 pub explore_reads : (words : List Text) (options : Options) (printed : Printed) (read : Options × Printed) → IsExplore words options printed

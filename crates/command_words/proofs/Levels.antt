@@ -36,14 +36,16 @@ defaults_pass exploring rows =
     let three = with_default two (filled workers_rule) in
     let four = with_default three (filled (flag_rule (codes "allow-deadlock"))) in
     let five = with_default four (filled (flag_rule (codes "strict-access"))) in
-    let six = with_default five (filled (flag_rule (codes "cover"))) in
+    let six = with_default five (filled (flag_rule (codes "explain"))) in
+    let seven = with_default six (filled (flag_rule (codes "cover"))) in
     both_none _ _ (no_default_fault (has_row (codes "depth") rows) [])
     (both_none _ _ (no_fault (has_row (codes "nodes") one || false))
     (both_none _ _ (no_fault (has_row (codes "workers") two || false))
     (both_none _ _ (no_fault (has_row (codes "allow-deadlock") three || false))
     (both_none _ _ (no_fault (has_row (codes "strict-access") four || false))
-    (both_none _ _ (no_fault (has_row (codes "cover") five || false))
-    (both_none _ _ (no_default_fault (has_row (codes "help") six) (DisplayHelp ∷ [])) refl))))))
+    (both_none _ _ (no_fault (has_row (codes "explain") five || false))
+    (both_none _ _ (no_fault (has_row (codes "cover") six || false))
+    (both_none _ _ (no_default_fault (has_row (codes "help") seven) (DisplayHelp ∷ [])) refl)))))))
 defaults_pass checking rows =
     let one = with_default rows (filled depth_rule) in
     let two = with_default one (filled (flag_rule (codes "allow-deadlock"))) in

@@ -5,7 +5,7 @@ use Rattle.std.specs.Str.{bytes_eq}
 use Rattle.std.proofs.lemmas.List.Folds.{list_any-append}
 use Rattle.std.proofs.lemmas.List.Sums.{sum_by-cons}
 use Rattle.clap.specs.Walk.{Row, Text, has_row}
-use Rattle.command_words.specs.Words.{Given, depth, nodes, workers, allow_deadlock, strict_access, cover, depths_of, nodes_of, workers_of, is_allow_deadlock, is_strict_access, is_cover}
+use Rattle.command_words.specs.Words.{Given, depth, nodes, workers, allow_deadlock, strict_access, explain, cover, depths_of, nodes_of, workers_of, is_allow_deadlock, is_strict_access, is_explain, is_cover}
 use Rattle.command_words.specs.inside.CommandLine.{checking, exploring}
 use Rattle.command_words.proofs.Options.{AreLawful, AreNew}
 use Rattle.command_words.proofs.Rows.{id_of, row_of}
@@ -22,6 +22,7 @@ no_depth (nodes n ∷ rest) few = (refl, no_depth rest few)
 no_depth (workers n ∷ rest) few = (refl, no_depth rest few)
 no_depth (allow_deadlock ∷ rest) few = (refl, no_depth rest few)
 no_depth (strict_access ∷ rest) few = (refl, no_depth rest few)
+no_depth (explain ∷ rest) few = (refl, no_depth rest few)
 no_depth (cover ∷ rest) few = (refl, no_depth rest few)
 
 no_nodes : (given : List Given) → length (nodes_of given) ≤ 0 → IsNoneOf (codes "nodes") given
@@ -31,6 +32,7 @@ no_nodes (depth n ∷ rest) few = (refl, no_nodes rest few)
 no_nodes (workers n ∷ rest) few = (refl, no_nodes rest few)
 no_nodes (allow_deadlock ∷ rest) few = (refl, no_nodes rest few)
 no_nodes (strict_access ∷ rest) few = (refl, no_nodes rest few)
+no_nodes (explain ∷ rest) few = (refl, no_nodes rest few)
 no_nodes (cover ∷ rest) few = (refl, no_nodes rest few)
 
 no_workers : (given : List Given) → length (workers_of given) ≤ 0 → IsNoneOf (codes "workers") given
@@ -40,6 +42,7 @@ no_workers (depth n ∷ rest) few = (refl, no_workers rest few)
 no_workers (nodes n ∷ rest) few = (refl, no_workers rest few)
 no_workers (allow_deadlock ∷ rest) few = (refl, no_workers rest few)
 no_workers (strict_access ∷ rest) few = (refl, no_workers rest few)
+no_workers (explain ∷ rest) few = (refl, no_workers rest few)
 no_workers (cover ∷ rest) few = (refl, no_workers rest few)
 
 counted : (p : Given → Bool) (given : Given) (rest : List Given) → count_by p (given ∷ rest) ≡ cond (p given) 1 0 + count_by p rest
@@ -52,6 +55,7 @@ no_allow_deadlock (depth n ∷ rest) few = (refl, no_allow_deadlock rest (omega 
 no_allow_deadlock (nodes n ∷ rest) few = (refl, no_allow_deadlock rest (omega (arith, counted is_allow_deadlock (nodes n) rest)))
 no_allow_deadlock (workers n ∷ rest) few = (refl, no_allow_deadlock rest (omega (arith, counted is_allow_deadlock (workers n) rest)))
 no_allow_deadlock (strict_access ∷ rest) few = (refl, no_allow_deadlock rest (omega (arith, counted is_allow_deadlock strict_access rest)))
+no_allow_deadlock (explain ∷ rest) few = (refl, no_allow_deadlock rest (omega (arith, counted is_allow_deadlock explain rest)))
 no_allow_deadlock (cover ∷ rest) few = (refl, no_allow_deadlock rest (omega (arith, counted is_allow_deadlock cover rest)))
 
 no_strict_access : (given : List Given) → count_by is_strict_access given ≤ 0 → IsNoneOf (codes "strict-access") given
@@ -61,7 +65,18 @@ no_strict_access (depth n ∷ rest) few = (refl, no_strict_access rest (omega (a
 no_strict_access (nodes n ∷ rest) few = (refl, no_strict_access rest (omega (arith, counted is_strict_access (nodes n) rest)))
 no_strict_access (workers n ∷ rest) few = (refl, no_strict_access rest (omega (arith, counted is_strict_access (workers n) rest)))
 no_strict_access (allow_deadlock ∷ rest) few = (refl, no_strict_access rest (omega (arith, counted is_strict_access allow_deadlock rest)))
+no_strict_access (explain ∷ rest) few = (refl, no_strict_access rest (omega (arith, counted is_strict_access explain rest)))
 no_strict_access (cover ∷ rest) few = (refl, no_strict_access rest (omega (arith, counted is_strict_access cover rest)))
+
+no_explain : (given : List Given) → count_by is_explain given ≤ 0 → IsNoneOf (codes "explain") given
+no_explain [] few = tt
+no_explain (explain ∷ rest) few = absurd (omega (arith, counted is_explain explain rest))
+no_explain (depth n ∷ rest) few = (refl, no_explain rest (omega (arith, counted is_explain (depth n) rest)))
+no_explain (nodes n ∷ rest) few = (refl, no_explain rest (omega (arith, counted is_explain (nodes n) rest)))
+no_explain (workers n ∷ rest) few = (refl, no_explain rest (omega (arith, counted is_explain (workers n) rest)))
+no_explain (allow_deadlock ∷ rest) few = (refl, no_explain rest (omega (arith, counted is_explain allow_deadlock rest)))
+no_explain (strict_access ∷ rest) few = (refl, no_explain rest (omega (arith, counted is_explain strict_access rest)))
+no_explain (cover ∷ rest) few = (refl, no_explain rest (omega (arith, counted is_explain cover rest)))
 
 no_cover : (given : List Given) → count_by is_cover given ≤ 0 → IsNoneOf (codes "cover") given
 no_cover [] few = tt
@@ -71,6 +86,7 @@ no_cover (nodes n ∷ rest) few = (refl, no_cover rest (omega (arith, counted is
 no_cover (workers n ∷ rest) few = (refl, no_cover rest (omega (arith, counted is_cover (workers n) rest)))
 no_cover (allow_deadlock ∷ rest) few = (refl, no_cover rest (omega (arith, counted is_cover allow_deadlock rest)))
 no_cover (strict_access ∷ rest) few = (refl, no_cover rest (omega (arith, counted is_cover strict_access rest)))
+no_cover (explain ∷ rest) few = (refl, no_cover rest (omega (arith, counted is_cover explain rest)))
 
 -- no name comes twice
 abbrev AreApart : List Given → Type 0
@@ -84,6 +100,7 @@ pub record AreOnce (given : List Given) : Type 0 where
   pub workers : length (workers_of given) ≤ 1
   pub allow_deadlock : count_by is_allow_deadlock given ≤ 1
   pub strict_access : count_by is_strict_access given ≤ 1
+  pub explain : count_by is_explain given ≤ 1
   pub cover : count_by is_cover given ≤ 1
 
 -- the options after the first are given no more often
@@ -93,6 +110,7 @@ fewer_depths (nodes n) rest = omega arith
 fewer_depths (workers n) rest = omega arith
 fewer_depths allow_deadlock rest = omega arith
 fewer_depths strict_access rest = omega arith
+fewer_depths explain rest = omega arith
 fewer_depths cover rest = omega arith
 
 fewer_nodes : (first : Given) (rest : List Given) → length (nodes_of rest) ≤ length (nodes_of (first ∷ rest))
@@ -101,6 +119,7 @@ fewer_nodes (nodes n) rest = omega arith
 fewer_nodes (workers n) rest = omega arith
 fewer_nodes allow_deadlock rest = omega arith
 fewer_nodes strict_access rest = omega arith
+fewer_nodes explain rest = omega arith
 fewer_nodes cover rest = omega arith
 
 fewer_workers : (first : Given) (rest : List Given) → length (workers_of rest) ≤ length (workers_of (first ∷ rest))
@@ -109,6 +128,7 @@ fewer_workers (nodes n) rest = omega arith
 fewer_workers (workers n) rest = omega arith
 fewer_workers allow_deadlock rest = omega arith
 fewer_workers strict_access rest = omega arith
+fewer_workers explain rest = omega arith
 fewer_workers cover rest = omega arith
 
 rest_once : (first : Given) (rest : List Given) → AreOnce (first ∷ rest) → AreOnce rest
@@ -118,6 +138,7 @@ rest_once first rest once = record {
   workers = omega (arith, once.workers, fewer_workers first rest);
   allow_deadlock = omega (arith, once.allow_deadlock, counted is_allow_deadlock first rest);
   strict_access = omega (arith, once.strict_access, counted is_strict_access first rest);
+  explain = omega (arith, once.explain, counted is_explain first rest);
   cover = omega (arith, once.cover, counted is_cover first rest);
 }
 
@@ -127,6 +148,7 @@ first_apart (nodes n) rest once = no_nodes rest (omega (arith, once.nodes))
 first_apart (workers n) rest once = no_workers rest (omega (arith, once.workers))
 first_apart allow_deadlock rest once = no_allow_deadlock rest (omega (arith, once.allow_deadlock, counted is_allow_deadlock allow_deadlock rest))
 first_apart strict_access rest once = no_strict_access rest (omega (arith, once.strict_access, counted is_strict_access strict_access rest))
+first_apart explain rest once = no_explain rest (omega (arith, once.explain, counted is_explain explain rest))
 first_apart cover rest once = no_cover rest (omega (arith, once.cover, counted is_cover cover rest))
 
 apart : (given : List Given) → AreOnce given → AreApart given
@@ -168,14 +190,20 @@ lawful_by (nodes n ∷ rest) depths numbers crews = (numbers.0, lawful_by rest d
 lawful_by (workers n ∷ rest) depths numbers crews = (crews.0, lawful_by rest depths numbers crews.1)
 lawful_by (allow_deadlock ∷ rest) depths numbers crews = (tt, lawful_by rest depths numbers crews)
 lawful_by (strict_access ∷ rest) depths numbers crews = (tt, lawful_by rest depths numbers crews)
+lawful_by (explain ∷ rest) depths numbers crews = (tt, lawful_by rest depths numbers crews)
 lawful_by (cover ∷ rest) depths numbers crews = (tt, lawful_by rest depths numbers crews)
 
 -- options of `check`
-pub check_lawful_by : (given : List Given) → Each (λ n. n ≤ 400) (depths_of given) → length (nodes_of given) ≤ 0 → length (workers_of given) ≤ 0 → count_by is_cover given ≤ 0 → AreLawful given checking
-check_lawful_by [] depths numbers crews covers = tt
-check_lawful_by (depth n ∷ rest) depths numbers crews covers = (depths.0, check_lawful_by rest depths.1 numbers crews (omega (arith, covers, counted is_cover (depth n) rest)))
-check_lawful_by (nodes n ∷ rest) depths numbers crews covers = absurd (omega arith)
-check_lawful_by (workers n ∷ rest) depths numbers crews covers = absurd (omega arith)
-check_lawful_by (allow_deadlock ∷ rest) depths numbers crews covers = (tt, check_lawful_by rest depths numbers crews (omega (arith, covers, counted is_cover allow_deadlock rest)))
-check_lawful_by (strict_access ∷ rest) depths numbers crews covers = (tt, check_lawful_by rest depths numbers crews (omega (arith, covers, counted is_cover strict_access rest)))
-check_lawful_by (cover ∷ rest) depths numbers crews covers = absurd (omega (arith, covers, counted is_cover cover rest))
+pub check_lawful_by : (given : List Given) → Each (λ n. n ≤ 400) (depths_of given) → length (nodes_of given) ≤ 0 → length (workers_of given) ≤ 0 → count_by is_explain given ≤ 0
+    → count_by is_cover given ≤ 0 → AreLawful given checking
+check_lawful_by [] depths numbers crews explained covers = tt
+check_lawful_by (depth n ∷ rest) depths numbers crews explained covers =
+    (depths.0, check_lawful_by rest depths.1 numbers crews (omega (arith, explained, counted is_explain (depth n) rest)) (omega (arith, covers, counted is_cover (depth n) rest)))
+check_lawful_by (nodes n ∷ rest) depths numbers crews explained covers = absurd (omega arith)
+check_lawful_by (workers n ∷ rest) depths numbers crews explained covers = absurd (omega arith)
+check_lawful_by (allow_deadlock ∷ rest) depths numbers crews explained covers =
+    (tt, check_lawful_by rest depths numbers crews (omega (arith, explained, counted is_explain allow_deadlock rest)) (omega (arith, covers, counted is_cover allow_deadlock rest)))
+check_lawful_by (strict_access ∷ rest) depths numbers crews explained covers =
+    (tt, check_lawful_by rest depths numbers crews (omega (arith, explained, counted is_explain strict_access rest)) (omega (arith, covers, counted is_cover strict_access rest)))
+check_lawful_by (explain ∷ rest) depths numbers crews explained covers = absurd (omega (arith, explained, counted is_explain explain rest))
+check_lawful_by (cover ∷ rest) depths numbers crews explained covers = absurd (omega (arith, covers, counted is_cover cover rest))

@@ -15,7 +15,7 @@ use Rattle.clap.specs.declared.parser.matches.ValueSource.TheVariants.{CommandLi
 use Rattle.clap.specs.ValueTests.{is_unsigned_in}
 use Rattle.command_words.proofs.Numbers.{decimal_fits, decimal_is_plain}
 use Rattle.clap.proofs.OnLiterals.{clap_on_literals}
-use Rattle.command_words.specs.Words.{Given, begins_with_hyphen, depth, nodes, workers, allow_deadlock, strict_access, cover, words_of, words_of_all}
+use Rattle.command_words.specs.Words.{Given, begins_with_hyphen, depth, nodes, workers, allow_deadlock, strict_access, explain, cover, words_of, words_of_all}
 use Rattle.command_words.specs.inside.CommandLine.{Level, built_of, checking, depth_rule, exploring, flag_rule, nodes_rule, workers_rule}
 use Rattle.command_words.proofs.Rows.{id_of, row_of, row_with, used_once}
 
@@ -37,6 +37,8 @@ IsLawful (workers n) exploring = (1 ≤ n) × (n ≤ 16)
 IsLawful (workers n) checking = ⊥
 IsLawful allow_deadlock level = Unit {0}
 IsLawful strict_access level = Unit {0}
+IsLawful explain exploring = Unit {0}
+IsLawful explain checking = ⊥
 IsLawful cover exploring = Unit {0}
 IsLawful cover checking = ⊥
 
@@ -82,6 +84,7 @@ after (nodes n) level h = with_number level (codes "nodes") (decimal n) h
 after (workers n) level h = with_number level (codes "workers") (decimal n) h
 after allow_deadlock level h = with_flag level (codes "allow-deadlock") h
 after strict_access level h = with_flag level (codes "strict-access") h
+after explain level h = with_flag level (codes "explain") h
 after cover level h = with_flag level (codes "cover") h
 
 -- between the word of an option and its number
@@ -114,6 +117,10 @@ strict_access_word : (level : Level) (h : Held) → met level (walk_from h) (cod
 unfolding clap_on_literals
 strict_access_word exploring h = refl
 strict_access_word checking h = refl
+
+explain_word : (h : Held) → met exploring (walk_from h) (codes "--explain") ≡ walk_from (with_flag exploring (codes "explain") h)
+unfolding clap_on_literals
+explain_word h = refl
 
 cover_word : (h : Held) → met exploring (walk_from h) (codes "--cover") ≡ walk_from (with_flag exploring (codes "cover") h)
 unfolding clap_on_literals
@@ -179,6 +186,11 @@ strict_access_passes exploring rows h ready none =
 strict_access_passes checking rows h ready none =
     both_none (react_fault (built_of checking).rules false (filled (flag_rule (codes "strict-access"))) [] h) [] (reacts checking (codes "strict-access") rows h ready none) refl
 
+explain_passes : (rows : List Row) (h : Held) → IsReady exploring rows h → has_row (codes "explain") rows ≡ false → turn_fault (built_of exploring) [] (walk_from h) (codes "--explain") ≡ []
+unfolding clap_on_literals
+explain_passes rows h ready none =
+    both_none (react_fault (built_of exploring).rules false (filled (flag_rule (codes "explain"))) [] h) [] (reacts exploring (codes "explain") rows h ready none) refl
+
 cover_passes : (rows : List Row) (h : Held) → IsReady exploring rows h → has_row (codes "cover") rows ≡ false → turn_fault (built_of exploring) [] (walk_from h) (codes "--cover") ≡ []
 unfolding clap_on_literals
 cover_passes rows h ready none =
@@ -200,6 +212,8 @@ option_walks (workers n) exploring h rest lawful =
 option_walks (workers n) checking h rest lawful = absurd lawful
 option_walks allow_deadlock level h rest lawful = ap (λ w. fold (walked (built_of level).rules []) w rest) (allow_deadlock_word level h)
 option_walks strict_access level h rest lawful = ap (λ w. fold (walked (built_of level).rules []) w rest) (strict_access_word level h)
+option_walks explain exploring h rest lawful = ap (λ w. fold (walked (built_of exploring).rules []) w rest) (explain_word h)
+option_walks explain checking h rest lawful = absurd lawful
 option_walks cover exploring h rest lawful = ap (λ w. fold (walked (built_of exploring).rules []) w rest) (cover_word h)
 option_walks cover checking h rest lawful = absurd lawful
 
@@ -231,6 +245,9 @@ option_passes allow_deadlock level rows h rest ready none lawful =
     passes_on level (walk_from h) (walk_from (after allow_deadlock level h)) (codes "--allow-deadlock") rest (allow_deadlock_passes level rows h ready none) (allow_deadlock_word level h)
 option_passes strict_access level rows h rest ready none lawful =
     passes_on level (walk_from h) (walk_from (after strict_access level h)) (codes "--strict-access") rest (strict_access_passes level rows h ready none) (strict_access_word level h)
+option_passes explain exploring rows h rest ready none lawful =
+    passes_on exploring (walk_from h) (walk_from (after explain exploring h)) (codes "--explain") rest (explain_passes rows h ready none) (explain_word h)
+option_passes explain checking rows h rest ready none lawful = absurd lawful
 option_passes cover exploring rows h rest ready none lawful =
     passes_on exploring (walk_from h) (walk_from (after cover exploring h)) (codes "--cover") rest (cover_passes rows h ready none) (cover_word h)
 option_passes cover checking rows h rest ready none lawful = absurd lawful
@@ -274,6 +291,8 @@ option_ready (workers n) exploring rows h ready none lawful =
 option_ready (workers n) checking rows h ready none lawful = absurd lawful
 option_ready allow_deadlock level rows h ready none lawful = flag_ready level (codes "allow-deadlock") rows h ready none
 option_ready strict_access level rows h ready none lawful = flag_ready level (codes "strict-access") rows h ready none
+option_ready explain exploring rows h ready none lawful = flag_ready exploring (codes "explain") rows h ready none
+option_ready explain checking rows h ready none lawful = absurd lawful
 option_ready cover exploring rows h ready none lawful = flag_ready exploring (codes "cover") rows h ready none
 option_ready cover checking rows h ready none lawful = absurd lawful
 

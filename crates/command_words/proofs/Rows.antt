@@ -11,7 +11,7 @@ use Rattle.clap.specs.Walk.{Row, Rule, Text, at_row, default_rows, has_row, more
 use Rattle.clap.specs.declared.builder.value_parser.Reading.TheVariants.{AsWritten}
 use Rattle.clap.specs.declared.parser.matches.ValueSource.{ValueSource}
 use Rattle.clap.specs.declared.parser.matches.ValueSource.TheVariants.{CommandLine, DefaultValue}
-use Rattle.command_words.specs.Words.{Given, depth, nodes, workers, allow_deadlock, strict_access, cover, depths_of, nodes_of, workers_of, is_allow_deadlock, is_strict_access, is_cover}
+use Rattle.command_words.specs.Words.{Given, depth, nodes, workers, allow_deadlock, strict_access, explain, cover, depths_of, nodes_of, workers_of, is_allow_deadlock, is_strict_access, is_explain, is_cover}
 use Rattle.command_words.specs.inside.CommandLine.{Level, built_of, checking, depth_rule, exploring, flag_rule, nodes_rule, workers_rule}
 
 -- the row of one value
@@ -25,6 +25,7 @@ id_of (nodes n) = codes "nodes"
 id_of (workers n) = codes "workers"
 id_of allow_deadlock = codes "allow-deadlock"
 id_of strict_access = codes "strict-access"
+id_of explain = codes "explain"
 id_of cover = codes "cover"
 
 abbrev pub value_of : Given → Text
@@ -33,6 +34,7 @@ value_of (nodes n) = decimal n
 value_of (workers n) = decimal n
 value_of allow_deadlock = codes "true"
 value_of strict_access = codes "true"
+value_of explain = codes "true"
 value_of cover = codes "true"
 
 -- the row of an option that is given
@@ -95,6 +97,7 @@ depth_row (nodes n ∷ rest) = depth_row rest
 depth_row (workers n ∷ rest) = depth_row rest
 depth_row (allow_deadlock ∷ rest) = depth_row rest
 depth_row (strict_access ∷ rest) = depth_row rest
+depth_row (explain ∷ rest) = depth_row rest
 depth_row (cover ∷ rest) = depth_row rest
 
 pub nodes_row : (given : List Given) → row_at (codes "nodes") (map row_of given) ≡ option_map (λ n. row_of (nodes n)) (slice_get (nodes_of given) 0)
@@ -104,6 +107,7 @@ nodes_row (depth n ∷ rest) = nodes_row rest
 nodes_row (workers n ∷ rest) = nodes_row rest
 nodes_row (allow_deadlock ∷ rest) = nodes_row rest
 nodes_row (strict_access ∷ rest) = nodes_row rest
+nodes_row (explain ∷ rest) = nodes_row rest
 nodes_row (cover ∷ rest) = nodes_row rest
 
 pub workers_row : (given : List Given) → row_at (codes "workers") (map row_of given) ≡ option_map (λ n. row_of (workers n)) (slice_get (workers_of given) 0)
@@ -113,6 +117,7 @@ workers_row (depth n ∷ rest) = workers_row rest
 workers_row (nodes n ∷ rest) = workers_row rest
 workers_row (allow_deadlock ∷ rest) = workers_row rest
 workers_row (strict_access ∷ rest) = workers_row rest
+workers_row (explain ∷ rest) = workers_row rest
 workers_row (cover ∷ rest) = workers_row rest
 
 pub allow_deadlock_row : (given : List Given) → row_at (codes "allow-deadlock") (map row_of given) ≡ cond (list_any is_allow_deadlock given) (Some (row_of allow_deadlock)) None
@@ -122,6 +127,7 @@ allow_deadlock_row (depth n ∷ rest) = allow_deadlock_row rest
 allow_deadlock_row (nodes n ∷ rest) = allow_deadlock_row rest
 allow_deadlock_row (workers n ∷ rest) = allow_deadlock_row rest
 allow_deadlock_row (strict_access ∷ rest) = allow_deadlock_row rest
+allow_deadlock_row (explain ∷ rest) = allow_deadlock_row rest
 allow_deadlock_row (cover ∷ rest) = allow_deadlock_row rest
 
 pub strict_access_row : (given : List Given) → row_at (codes "strict-access") (map row_of given) ≡ cond (list_any is_strict_access given) (Some (row_of strict_access)) None
@@ -131,7 +137,18 @@ strict_access_row (depth n ∷ rest) = strict_access_row rest
 strict_access_row (nodes n ∷ rest) = strict_access_row rest
 strict_access_row (workers n ∷ rest) = strict_access_row rest
 strict_access_row (allow_deadlock ∷ rest) = strict_access_row rest
+strict_access_row (explain ∷ rest) = strict_access_row rest
 strict_access_row (cover ∷ rest) = strict_access_row rest
+
+pub explain_row : (given : List Given) → row_at (codes "explain") (map row_of given) ≡ cond (list_any is_explain given) (Some (row_of explain)) None
+explain_row [] = refl
+explain_row (explain ∷ rest) = refl
+explain_row (depth n ∷ rest) = explain_row rest
+explain_row (nodes n ∷ rest) = explain_row rest
+explain_row (workers n ∷ rest) = explain_row rest
+explain_row (allow_deadlock ∷ rest) = explain_row rest
+explain_row (strict_access ∷ rest) = explain_row rest
+explain_row (cover ∷ rest) = explain_row rest
 
 pub cover_row : (given : List Given) → row_at (codes "cover") (map row_of given) ≡ cond (list_any is_cover given) (Some (row_of cover)) None
 cover_row [] = refl
@@ -141,6 +158,7 @@ cover_row (nodes n ∷ rest) = cover_row rest
 cover_row (workers n ∷ rest) = cover_row rest
 cover_row (allow_deadlock ∷ rest) = cover_row rest
 cover_row (strict_access ∷ rest) = cover_row rest
+cover_row (explain ∷ rest) = cover_row rest
 
 -- ---- the defaults
 
@@ -196,13 +214,19 @@ abbrev first_five : List Row → List Row
 first_five rows = with_default (first_four rows) (filled (flag_rule (codes "strict-access")))
 
 abbrev first_six : List Row → List Row
-first_six rows = with_default (first_five rows) (filled (flag_rule (codes "cover")))
+first_six rows = with_default (first_five rows) (filled (flag_rule (codes "explain")))
 
-all_as_six : (id : Text) (rows : List Row) → row_at id (with_defaults exploring rows) ≡ row_at id (first_six rows)
-all_as_six id rows = ap (row_at id) (no_default (filled help_rule) (first_six rows) refl)
+abbrev first_seven : List Row → List Row
+first_seven rows = with_default (first_six rows) (filled (flag_rule (codes "cover")))
 
-six_as_five : (id : Text) (rows : List Row) → bytes_eq (codes "cover") id ≡ false → row_at id (first_six rows) ≡ row_at id (first_five rows)
-six_as_five id rows differs = default_other (filled (flag_rule (codes "cover"))) (codes "false") id (first_five rows) refl refl differs
+all_as_seven : (id : Text) (rows : List Row) → row_at id (with_defaults exploring rows) ≡ row_at id (first_seven rows)
+all_as_seven id rows = ap (row_at id) (no_default (filled help_rule) (first_seven rows) refl)
+
+seven_as_six : (id : Text) (rows : List Row) → bytes_eq (codes "cover") id ≡ false → row_at id (first_seven rows) ≡ row_at id (first_six rows)
+seven_as_six id rows differs = default_other (filled (flag_rule (codes "cover"))) (codes "false") id (first_six rows) refl refl differs
+
+six_as_five : (id : Text) (rows : List Row) → bytes_eq (codes "explain") id ≡ false → row_at id (first_six rows) ≡ row_at id (first_five rows)
+six_as_five id rows differs = default_other (filled (flag_rule (codes "explain"))) (codes "false") id (first_five rows) refl refl differs
 
 five_as_four : (id : Text) (rows : List Row) → bytes_eq (codes "strict-access") id ≡ false → row_at id (first_five rows) ≡ row_at id (first_four rows)
 five_as_four id rows differs = default_other (filled (flag_rule (codes "strict-access"))) (codes "false") id (first_four rows) refl refl differs
@@ -241,26 +265,26 @@ row_or id value row = Some (unwrap_or row (row_with DefaultValue id value))
 
 pub depth_left : (level : Level) (rows : List Row) → row_at (codes "depth") (with_defaults level rows) ≡ row_at (codes "depth") rows
 depth_left exploring rows =
-    all_as_six (codes "depth") rows ∙ six_as_five (codes "depth") rows refl ∙ five_as_four (codes "depth") rows refl ∙ four_as_three (codes "depth") rows refl ∙ three_as_two (codes "depth") rows refl
-    ∙ two_as_none (codes "depth") rows refl
+    all_as_seven (codes "depth") rows ∙ seven_as_six (codes "depth") rows refl ∙ six_as_five (codes "depth") rows refl ∙ five_as_four (codes "depth") rows refl
+    ∙ four_as_three (codes "depth") rows refl ∙ three_as_two (codes "depth") rows refl ∙ two_as_none (codes "depth") rows refl
 depth_left checking rows = check_all_as_three (codes "depth") rows ∙ check_three_as_two (codes "depth") rows refl ∙ check_two_as_none (codes "depth") rows refl
 
 pub nodes_left : (rows : List Row) → row_at (codes "nodes") (with_defaults exploring rows) ≡ row_or (codes "nodes") (codes "1000000") (row_at (codes "nodes") rows)
 nodes_left rows =
-    all_as_six (codes "nodes") rows ∙ six_as_five (codes "nodes") rows refl ∙ five_as_four (codes "nodes") rows refl ∙ four_as_three (codes "nodes") rows refl ∙ three_as_two (codes "nodes") rows refl
-    ∙ default_own (filled nodes_rule) (codes "1000000") (with_default rows (filled depth_rule)) refl refl refl
+    all_as_seven (codes "nodes") rows ∙ seven_as_six (codes "nodes") rows refl ∙ six_as_five (codes "nodes") rows refl ∙ five_as_four (codes "nodes") rows refl
+    ∙ four_as_three (codes "nodes") rows refl ∙ three_as_two (codes "nodes") rows refl ∙ default_own (filled nodes_rule) (codes "1000000") (with_default rows (filled depth_rule)) refl refl refl
     ∙ ap (λ l. row_or (codes "nodes") (codes "1000000") (row_at (codes "nodes") l)) (no_default (filled depth_rule) rows refl)
 
 pub workers_left : (rows : List Row) → row_at (codes "workers") (with_defaults exploring rows) ≡ row_or (codes "workers") (codes "1") (row_at (codes "workers") rows)
 workers_left rows =
-    all_as_six (codes "workers") rows ∙ six_as_five (codes "workers") rows refl ∙ five_as_four (codes "workers") rows refl ∙ four_as_three (codes "workers") rows refl
-    ∙ default_own (filled workers_rule) (codes "1") (first_two rows) refl refl refl
+    all_as_seven (codes "workers") rows ∙ seven_as_six (codes "workers") rows refl ∙ six_as_five (codes "workers") rows refl ∙ five_as_four (codes "workers") rows refl
+    ∙ four_as_three (codes "workers") rows refl ∙ default_own (filled workers_rule) (codes "1") (first_two rows) refl refl refl
     ∙ ap (row_or (codes "workers") (codes "1")) (two_as_none (codes "workers") rows refl)
 
 pub allow_deadlock_left : (level : Level) (rows : List Row)
     → row_at (codes "allow-deadlock") (with_defaults level rows) ≡ row_or (codes "allow-deadlock") (codes "false") (row_at (codes "allow-deadlock") rows)
 allow_deadlock_left exploring rows =
-    all_as_six (codes "allow-deadlock") rows ∙ six_as_five (codes "allow-deadlock") rows refl ∙ five_as_four (codes "allow-deadlock") rows refl
+    all_as_seven (codes "allow-deadlock") rows ∙ seven_as_six (codes "allow-deadlock") rows refl ∙ six_as_five (codes "allow-deadlock") rows refl ∙ five_as_four (codes "allow-deadlock") rows refl
     ∙ default_own (filled (flag_rule (codes "allow-deadlock"))) (codes "false") (first_three rows) refl refl refl
     ∙ ap (row_or (codes "allow-deadlock") (codes "false")) (three_as_two (codes "allow-deadlock") rows refl ∙ two_as_none (codes "allow-deadlock") rows refl)
 allow_deadlock_left checking rows =
@@ -271,17 +295,24 @@ allow_deadlock_left checking rows =
 pub strict_access_left : (level : Level) (rows : List Row)
     → row_at (codes "strict-access") (with_defaults level rows) ≡ row_or (codes "strict-access") (codes "false") (row_at (codes "strict-access") rows)
 strict_access_left exploring rows =
-    all_as_six (codes "strict-access") rows ∙ six_as_five (codes "strict-access") rows refl
+    all_as_seven (codes "strict-access") rows ∙ seven_as_six (codes "strict-access") rows refl ∙ six_as_five (codes "strict-access") rows refl
     ∙ default_own (filled (flag_rule (codes "strict-access"))) (codes "false") (first_four rows) refl refl refl
     ∙ ap (row_or (codes "strict-access") (codes "false")) (four_as_three (codes "strict-access") rows refl ∙ three_as_two (codes "strict-access") rows refl ∙ two_as_none (codes "strict-access") rows refl)
 strict_access_left checking rows =
     check_all_as_three (codes "strict-access") rows ∙ default_own (filled (flag_rule (codes "strict-access"))) (codes "false") (check_two rows) refl refl refl
     ∙ ap (row_or (codes "strict-access") (codes "false")) (check_two_as_none (codes "strict-access") rows refl)
 
+pub explain_left : (rows : List Row) → row_at (codes "explain") (with_defaults exploring rows) ≡ row_or (codes "explain") (codes "false") (row_at (codes "explain") rows)
+explain_left rows =
+    all_as_seven (codes "explain") rows ∙ seven_as_six (codes "explain") rows refl ∙ default_own (filled (flag_rule (codes "explain"))) (codes "false") (first_five rows) refl refl refl
+    ∙ ap (row_or (codes "explain") (codes "false"))
+    (five_as_four (codes "explain") rows refl ∙ four_as_three (codes "explain") rows refl ∙ three_as_two (codes "explain") rows refl ∙ two_as_none (codes "explain") rows refl)
+
 pub cover_left : (rows : List Row) → row_at (codes "cover") (with_defaults exploring rows) ≡ row_or (codes "cover") (codes "false") (row_at (codes "cover") rows)
 cover_left rows =
-    all_as_six (codes "cover") rows ∙ default_own (filled (flag_rule (codes "cover"))) (codes "false") (first_five rows) refl refl refl
-    ∙ ap (row_or (codes "cover") (codes "false")) (five_as_four (codes "cover") rows refl ∙ four_as_three (codes "cover") rows refl ∙ three_as_two (codes "cover") rows refl ∙ two_as_none (codes "cover") rows refl)
+    all_as_seven (codes "cover") rows ∙ default_own (filled (flag_rule (codes "cover"))) (codes "false") (first_six rows) refl refl refl
+    ∙ ap (row_or (codes "cover") (codes "false"))
+    (six_as_five (codes "cover") rows refl ∙ five_as_four (codes "cover") rows refl ∙ four_as_three (codes "cover") rows refl ∙ three_as_two (codes "cover") rows refl ∙ two_as_none (codes "cover") rows refl)
 
 -- the text that is read of a row
 pub text_of_row : (id value : Text) (source : ValueSource) (rows : List Row) → row_at id rows ≡ Some (row_with source id value) → one_of id rows ≡ Some value

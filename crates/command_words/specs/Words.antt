@@ -7,7 +7,6 @@ use Rattle.clap.specs.declared.error.kind.ErrorKind.TheVariants.{OutOfMemory}
 use Rattle.findings.specs.declared.flags.Flags.{Flags}
 use Rattle.findings.specs.declared.options.Options.{Options}
 use Rattle.command_words.specs.declared.words.Printed.{Printed}
-use Rattle.command_words.specs.declared.words.Printed.TheVariants.{Report, ReportAndCover}
 use Rattle.command_words.specs.declared.words.Words.{Words}
 use Rattle.command_words.specs.declared.words.Words.TheVariants.{Replay, Explore, Check}
 
@@ -29,6 +28,7 @@ pub data Given : Type 0 where
   workers : ℕ → Given
   allow_deadlock : Given
   strict_access : Given
+  explain : Given
   cover : Given
 
 -- its words: a number is given by its decimal digits
@@ -38,6 +38,7 @@ words_of (nodes n) = codes "--nodes" ∷ decimal n ∷ []
 words_of (workers n) = codes "--workers" ∷ decimal n ∷ []
 words_of allow_deadlock = codes "--allow-deadlock" ∷ []
 words_of strict_access = codes "--strict-access" ∷ []
+words_of explain = codes "--explain" ∷ []
 words_of cover = codes "--cover" ∷ []
 
 -- the words of one option after another
@@ -73,15 +74,15 @@ abbrev pub is_strict_access : Given → Bool
 is_strict_access strict_access = true
 is_strict_access _ = false
 
+-- whether it is the option that asks for the transcript of each finding
+abbrev pub is_explain : Given → Bool
+is_explain explain = true
+is_explain _ = false
+
 -- whether it is the option that asks for the cover
 abbrev pub is_cover : Given → Bool
 is_cover cover = true
 is_cover _ = false
-
--- whether the cover is printed too
-abbrev pub asks_for_cover : Printed → Bool
-asks_for_cover Report = false
-asks_for_cover ReportAndCover = true
 
 -- a number that may be given once, or else is the default
 abbrev pub IsGivenOr : ℕ → List ℕ → ℕ → Type 0
@@ -108,7 +109,8 @@ pub record IsExplore (words : List (List ℕ)) (options : Options) (printed : Pr
   pub workers : IsGivenOr 1 (workers_of given) options.workers
   pub allow_deadlock : count_by is_allow_deadlock given ≡ (if options.flags.allow_deadlock then 1 else 0)
   pub strict_access : count_by is_strict_access given ≡ (if options.flags.strict_access then 1 else 0)
-  pub cover : count_by is_cover given ≡ (if asks_for_cover printed then 1 else 0)
+  pub explain : count_by is_explain given ≡ (if printed.explained then 1 else 0)
+  pub cover : count_by is_cover given ≡ (if printed.cover then 1 else 0)
   pub in_range : AreInRange options
 
 -- the words are the name of the program, `check` and options in any order: `--depth` once, each of its two flags once or not at all, and no option that is of `explore` alone
@@ -121,6 +123,7 @@ pub record IsCheck (words : List (List ℕ)) (steps : ℕ) (flags : Flags) : Typ
   pub strict_access : count_by is_strict_access given ≡ (if flags.strict_access then 1 else 0)
   pub no_nodes : nodes_of given ≡ []
   pub no_workers : workers_of given ≡ []
+  pub no_explain : count_by is_explain given ≡ 0
   pub no_cover : count_by is_cover given ≡ 0
   pub in_range : steps ≤ 400
 

@@ -2,9 +2,8 @@
 ghost use Rattle.std.specs.Prelude.{◌≡◌, codes, option_map, IfOk, IfErr};
 ghost use Rattle.clap.specs.Values.{kind_of};
 ghost use Rattle.clap.specs.Words.{app_of, found_of, one_of, rows_of, subcommand_rows_of};
-ghost use Rattle.command_words.specs.Words.{asks_for_cover};
 ghost use Rattle.command_words.specs.inside.CommandLine.{IsArgument, IsMadeAs, check_command, command_line, depth_rule, explore_command, flag_rule, nodes_rule, replay_command, workers_rule};
-ghost use Rattle.command_words.specs.inside.Found.{AreFlagsOf, AreOptionsOf, IsCheckOf, ReadsFlag, ReadsNumber, schedule_in};
+ghost use Rattle.command_words.specs.inside.Found.{AreFlagsOf, AreOptionsOf, IsCheckOf, IsPrintedOf, ReadsNumber, schedule_in};
 
 use crate::words::Printed;
 use clap::error::ErrorKind;
@@ -63,6 +62,11 @@ fn explore_command<'a>(alloc: Global) -> Result<Command<'a>, Error>
         .arg(workers_option(alloc))?
         .arg(allow_deadlock_flag(alloc))?
         .arg(strict_access_flag(alloc))?
+        .arg(flag(
+            alloc,
+            "explain",
+            "Prints below each finding what its schedule does, and with the result of which schedules it tells",
+        ))?
         .arg(flag(
             alloc,
             "cover",
@@ -199,12 +203,11 @@ fn found_flags(matches: &ArgMatches<'_>) -> Flags
 
 // What an exploration prints.
 fn found_printed(matches: &ArgMatches<'_>) -> Printed
-    ensures { ReadsFlag (one_of (codes "cover") (rows_of (found_of matches.now))) (asks_for_cover result) }
+    ensures { IsPrintedOf (rows_of (found_of matches.now)) result }
 {
-    if matches.get_flag("cover") {
-        Printed::ReportAndCover
-    } else {
-        Printed::Report
+    Printed {
+        explained: matches.get_flag("explain"),
+        cover: matches.get_flag("cover"),
     }
 }
 

@@ -12,13 +12,13 @@ use findings::{Flags, Options};
 use std::alloc::Global;
 use std::convert::AsStr;
 
-/// What an exploration prints.
+/// What an exploration prints with its report.
 #[derive(Clone, Copy, Debug, PartialEq, Eq)]
-pub enum Printed {
-    /// The report alone.
-    Report,
-    /// The report and, behind one that is clean, the cover.
-    ReportAndCover,
+pub struct Printed {
+    /// Whether the report is explained: below each finding its transcript stands.
+    pub explained: bool,
+    /// Whether the cover stands behind a report that is clean.
+    pub cover: bool,
 }
 
 /// What the program is asked to do.

@@ -34,7 +34,9 @@ flag_rule name = record (new_rule name) { long = Some name; action = Some SetTru
 
 -- `explore` with its options
 abbrev pub explore_command : App
-explore_command = with_rule (with_rule (with_rule (with_rule (with_rule (with_rule (new_app (codes "explore")) depth_rule) nodes_rule) workers_rule) (flag_rule (codes "allow-deadlock"))) (flag_rule (codes "strict-access"))) (flag_rule (codes "cover"))
+explore_command =
+    with_rule (with_rule (with_rule (with_rule (with_rule (with_rule (with_rule (new_app (codes "explore")) depth_rule) nodes_rule) workers_rule) (flag_rule (codes "allow-deadlock")))
+    (flag_rule (codes "strict-access"))) (flag_rule (codes "explain"))) (flag_rule (codes "cover"))
 
 -- `check` with its options
 abbrev pub check_command : App

@@ -5,7 +5,6 @@ use Rattle.std.specs.Str.Parse.{IsNumeral, digits_value, without_leading_plus}
 use Rattle.clap.specs.Words.{Row, Text, first_of, one_of}
 use Rattle.findings.specs.declared.flags.Flags.{Flags}
 use Rattle.findings.specs.declared.options.Options.{Options}
-use Rattle.command_words.specs.Words.{asks_for_cover}
 use Rattle.command_words.specs.declared.words.Printed.{Printed}
 
 -- the word of the schedule, where `replay` was found
@@ -34,6 +33,11 @@ pub record AreFlagsOf (rows : List Row) (flags : Flags) : Type 0 where
   pub allow_deadlock : ReadsFlag (one_of (codes "allow-deadlock") rows) flags.allow_deadlock
   pub strict_access : ReadsFlag (one_of (codes "strict-access") rows) flags.strict_access
 
+-- what is printed is what the rows ask for
+pub record IsPrintedOf (rows : List Row) (printed : Printed) : Type 0 where
+  pub explained : ReadsFlag (one_of (codes "explain") rows) printed.explained
+  pub cover : ReadsFlag (one_of (codes "cover") rows) printed.cover
+
 -- the options are those of the rows, and what is printed
 pub record AreRead (rows : List Row) (options : Options) (printed : Printed) : Type 0 where
   pub depth : ReadsNumber (one_of (codes "depth") rows) (Some options.depth)
@@ -41,7 +45,7 @@ pub record AreRead (rows : List Row) (options : Options) (printed : Printed) : T
   pub budget : options.budget ≡ 64
   pub workers : ReadsNumber (one_of (codes "workers") rows) (Some options.workers)
   pub flags : AreFlagsOf rows options.flags
-  pub cover : ReadsFlag (one_of (codes "cover") rows) (asks_for_cover printed)
+  pub prints : IsPrintedOf rows printed
 
 -- options are read where all numbers are there
 abbrev pub AreOptionsIn : List Row → Option (Options × Printed) → Type 0

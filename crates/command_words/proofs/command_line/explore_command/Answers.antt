@@ -18,4 +18,5 @@ returns-clause-line c =
     let three = made_with _ _ _ _ _ two c.workers_option.ensures c.in_ok-arg-3.ensures in
     let four = made_with _ _ _ _ _ three c.allow_deadlock_flag.ensures c.in_ok-arg-4.ensures in
     let five = made_with _ _ _ _ _ four c.strict_access_flag.ensures c.in_ok-arg-5.ensures in
-    made_with _ _ _ _ _ five c.flag.ensures c.in_ok-explore.ensures
+    let six = made_with _ _ _ _ _ five c.flag.ensures c.in_ok-arg-6.ensures in
+    made_with _ _ _ _ _ six c.flag-2.ensures c.in_ok-explore.ensures

@@ -22,6 +22,6 @@ returns c =
       budget = refl;
       workers = c.in_ok-found_number-3.ensures;
       flags = c.found_flags.ensures;
-      cover = c.found_printed.ensures;
+      prints = c.found_printed.ensures;
     } in
     subst (λ o. AreOptionsOf o (Some (options, c.found_printed.result))) (sym rows) read

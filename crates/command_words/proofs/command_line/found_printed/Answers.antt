@@ -1,15 +1,12 @@
-use Rattle.std.proofs.Common.{codes, subst}
-use Rattle.clap.specs.Words.{found_of, one_of, rows_of}
-use Rattle.command_words.specs.inside.Found.{ReadsFlag}
+use Rattle.std.proofs.Common.{codes}
+use Rattle.clap.specs.Words.{found_of}
 use Rattle.command_words.proofs.Found.{flag_of}
 use Rattle.command_words.proofs.command_line.found_printed.Goals as goal
 
-pub returns-then-get_flag : goal.returns-then-get_flag
-returns-then-get_flag c =
+pub returns : goal.returns
+returns c =
     let found = found_of c.args.matches.now in
-    subst (ReadsFlag (one_of (codes "cover") (rows_of found))) c.if-get_flag.true (flag_of found (codes "cover") c.get_flag.result c.get_flag.ensures.value c.get_flag.ensures.other)
-
-pub returns-else-get_flag : goal.returns-else-get_flag
-returns-else-get_flag c =
-    let found = found_of c.args.matches.now in
-    subst (ReadsFlag (one_of (codes "cover") (rows_of found))) c.if-get_flag.false (flag_of found (codes "cover") c.get_flag.result c.get_flag.ensures.value c.get_flag.ensures.other)
+    record {
+      explained = flag_of found (codes "explain") c.get_flag.result c.get_flag.ensures.value c.get_flag.ensures.other;
+      cover = flag_of found (codes "cover") c.get_flag-2.result c.get_flag-2.ensures.value c.get_flag-2.ensures.other;
+    }
