@@ -5,6 +5,7 @@ ghost use Rattle.clap.specs.Words.{app_of, found_of, one_of, rows_of, subcommand
 ghost use Rattle.command_words.specs.inside.CommandLine.{IsArgument, IsMadeAs, check_command, command_line, depth_rule, explore_command, flag_rule, nodes_rule, replay_command, workers_rule};
 ghost use Rattle.command_words.specs.inside.Found.{AreFlagsOf, AreOptionsOf, IsCheckOf, IsPrintedOf, ReadsNumber, schedule_in};
 
+use crate::help;
 use crate::words::Printed;
 use clap::error::ErrorKind;
 use clap::{Arg, ArgAction, ArgMatches, Command, Error, value_parser};
@@ -23,9 +24,8 @@ pub(crate) fn command<'a>(alloc: Global) -> Result<Command<'a>, Error>
     ensures memory { IfErr result (λ e. kind_of e ≡ ErrorKind.OutOfMemory) }
 {
     let explorer = Command::new(alloc, NAME)
-        .about(
-            "Runs a module of Core Erlang, read from standard input, under schedules of its processes",
-        )
+        .about("Runs a module of Core Erlang under schedules of its processes")
+        .after_help(help::OF_THE_PROGRAM)
         .subcommand_required(true)
         .subcommand(replay_command(alloc)?)?
         .subcommand(explore_command(alloc)?)?
@@ -44,6 +44,7 @@ fn replay_command<'a>(alloc: Global) -> Result<Command<'a>, Error>
         .help("Steps with one blank between them, as one word: \"P P.2 P>P.2\"");
     let replay = Command::new(alloc, "replay")
         .about("Replays a schedule, and prints what each of its steps did")
+        .after_help(help::OF_REPLAY)
         .arg(schedule)?;
     Ok(replay)
 }
@@ -54,9 +55,8 @@ fn explore_command<'a>(alloc: Global) -> Result<Command<'a>, Error>
     ensures memory { IfErr result (λ e. kind_of e ≡ ErrorKind.OutOfMemory) }
 {
     let explore = Command::new(alloc, "explore")
-        .about(
-            "Explores all schedules up to a number of steps, and reports the errors that they lead to",
-        )
+        .about("Explores all schedules up to a depth, and reports their errors")
+        .after_help(help::OF_EXPLORE)
         .arg(depth_option(alloc))?
         .arg(nodes_option(alloc))?
         .arg(workers_option(alloc))?
@@ -65,12 +65,12 @@ fn explore_command<'a>(alloc: Global) -> Result<Command<'a>, Error>
         .arg(flag(
             alloc,
             "explain",
-            "Prints below each finding what its schedule does, and with the result of which schedules it tells",
+            "Prints below each finding what its schedule does, and\nwith the result of which schedules it tells",
         ))?
         .arg(flag(
             alloc,
             "cover",
-            "Prints behind a clean report the tree of schedules that it stands on, which `check` reads",
+            "Prints behind a clean report its cover, for `check`",
         ))?;
     Ok(explore)
 }
@@ -81,9 +81,8 @@ fn check_command<'a>(alloc: Global) -> Result<Command<'a>, Error>
     ensures memory { IfErr result (λ e. kind_of e ≡ ErrorKind.OutOfMemory) }
 {
     let check = Command::new(alloc, "check")
-        .about(
-            "Checks a cover: that it stands behind the module, and that no schedule up to a number of steps leads to an error",
-        )
+        .about("Checks a cover: that no schedule up to a depth leads to an error")
+        .after_help(help::OF_CHECK)
         .arg(depth_option(alloc))?
         .arg(allow_deadlock_flag(alloc))?
         .arg(strict_access_flag(alloc))?;
@@ -113,7 +112,7 @@ fn nodes_option<'a>(alloc: Global) -> Arg<'a>
         .value_name("N")
         .value_parser(value_parser!(u64).range(1..=10_000_000))
         .default_value("1000000")
-        .help("How many nodes of the tree of schedules may be visited, from 1 to 10000000")
+        .help("How many nodes of the tree of schedules may be visited,\nfrom 1 to 10000000")
 }
 
 // `--workers N`.
@@ -126,7 +125,7 @@ fn workers_option<'a>(alloc: Global) -> Arg<'a>
         .value_name("N")
         .value_parser(value_parser!(u64).range(1..=16))
         .default_value("1")
-        .help("How many threads work at the exploration, from 1 to 16")
+        .help("How many threads explore, from 1 to 16")
 }
 
 // `--allow-deadlock`.
@@ -147,7 +146,7 @@ fn strict_access_flag<'a>(alloc: Global) -> Arg<'a>
     flag(
         alloc,
         "strict-access",
-        "Counts a call as an error that is refused because of who makes it",
+        "Counts a call as an error that is refused because of\nwho makes it",
     )
 }
 

@@ -2,6 +2,7 @@
 #![tactic(auto)]
 
 pub mod command_line;
+mod help;
 pub mod words;
 
 pub use command_line::{BUDGET, NAME};

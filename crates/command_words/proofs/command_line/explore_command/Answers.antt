@@ -9,9 +9,9 @@ use Rattle.command_words.proofs.command_line.explore_command.Goals as goal
 
 pub returns-clause-line : goal.returns-clause-line
 returns-clause-line c =
-    let new : IsMadeAs (new_app (codes "explore")) c.about.result = record {
-      line = ap app_of_fields c.about.ensures ∙ c.new.ensures.app;
-      local = ap (λ (f : Command-F Command). f.has_globals) c.about.ensures ∙ c.new.ensures.local;
+    let new : IsMadeAs (new_app (codes "explore")) c.after_help.result = record {
+      line = ap app_of_fields c.after_help.ensures ∙ ap app_of_fields c.about.ensures ∙ c.new.ensures.app;
+      local = ap (λ (f : Command-F Command). f.has_globals) c.after_help.ensures ∙ ap (λ (f : Command-F Command). f.has_globals) c.about.ensures ∙ c.new.ensures.local;
     } in
     let one = made_with _ _ _ _ _ new c.depth_option.ensures c.in_ok-arg.ensures in
     let two = made_with _ _ _ _ _ one c.nodes_option.ensures c.in_ok-arg-2.ensures in
