@@ -1,5 +1,6 @@
 -- What one more visit does to what was done.
-use Rattle.std.proofs.Common.{◌≡◌, ◌≤◌, ℕ, zero, suc, ◌+◌, Bool, true, false, cond, if◌then◌else◌, List, [], ◌∷◌, ◌++◌, length, Some, refl, sym, ap, ◌∙◌, subst, arith, append_assoc, append-nil, length-append, length-map}
+use Rattle.std.proofs.Common.{◌≡◌, ◌≤◌, ℕ, zero, suc, ◌+◌, Bool, true, false, cond, if◌then◌else◌, List, [], ◌∷◌, ◌++◌, length, Some, refl, sym, ap, ◌∙◌, subst, arith, append_assoc, append-nil, length-append}
+use Rattle.std.proofs.lemmas.List.{length-map}
 use Rattle.findings.specs.Laws.{AddsSchedule}
 use Rattle.findings.specs.declared.extent.Extent.{Extent}
 use Rattle.term_core.specs.declared.step.Step.{Step}
@@ -63,7 +64,7 @@ extent_more e done node k l b was is now =
 pub extent_fits : (e : ExplorationSeen) (done : List Node) (k : Extent) → k ≡ extent_of e done → k.cut ≤ k.nodes
 extent_fits e done k is =
     let few : cut_count (program_in e) e.depth (schedules_of done) ≤ length (schedules_of done) = cuts_some (program_in e) e.depth (schedules_of done) in
-    omega (arith, ap (λ (x : Extent). x.cut) is, ap (λ (x : Extent). x.nodes) is, few, length-map (λ (v : Node). v.schedule) done)
+    omega (arith, ap (λ (x : Extent). x.cut) is, ap (λ (x : Extent). x.nodes) is, few, length-map done (λ (v : Node). v.schedule))
 
 -- ---- the first visit
 pub exploring_first : (e : ExplorationSeen) (name : Job) (f g : Findings) (w : Walk) (b : Bool) (l : Extent) → BeginsWalk e name f g w b → f ≡ findings_of e [] → l ≡ record { nodes = 1; cut = 0 + (if b then 1 else 0) } → IsExploring e name g l (frames_in w)

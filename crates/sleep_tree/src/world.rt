@@ -25,7 +25,8 @@ pub(crate) fn world_of<'w>(
 {
     job.names_a_node();
     let mut world = World::open(alloc, program)?;
-    match world.advance(alloc, job.name().prefix.as_slice()) {
+    let name = job.name();
+    match world.advance(alloc, name.prefix.as_slice()) {
         Ok(()) => Ok(world),
         Err((_, WorldFault::Memory)) => Err(WorldFault::Memory),
         Err((_, WorldFault::NotEnabled)) => unreachable!(),

@@ -4,14 +4,14 @@ use Rattle.sleep_tree.specs.inside.Walks.{IsWalk, frames_in}
 use Rattle.sleep_tree.proofs.expansion.expanded.Given as goal
 
 -- the nodes so far were visited, and the walk leaves the others
-abbrev pub invariant-loop-nodes : goal.invariant-loop-nodes
-invariant-loop-nodes g l = record {
-  exploring : IsExploring l.job.exploration l.job.name l.findings l.nodes (frames_in l.walk);
+abbrev pub invariant-loop-extent : goal.invariant-loop-extent
+invariant-loop-extent g l = record {
+  exploring : IsExploring l.job.exploration l.job.name l.findings l.extent (frames_in l.walk);
   walk_is : IsWalk l.walk;
   program_is : l.walk.program.now ≡ l.program;
-  some : 1 ≤ l.nodes;
-  within : l.nodes ≤ l.budget;
+  some : 1 ≤ l.extent.nodes;
+  within : l.extent.nodes ≤ l.budget;
 }
 
-abbrev pub decreases-loop-nodes : goal.decreases-loop-nodes
-decreases-loop-nodes g l = l.budget - l.nodes
+abbrev pub decreases-loop-extent : goal.decreases-loop-extent
+decreases-loop-extent g l = l.budget - l.extent.nodes
