@@ -1,13 +1,15 @@
 -- The nodes of jobs: in two explorations that are one, and in another order.
-use Rattle.std.proofs.Common.{◌≡◌, ℕ, List, [], ◌∷◌, ◌++◌, reverse, refl, sym, ap, ◌∙◌, subst, append_assoc, append-nil}
+use Rattle.std.proofs.Common.{◌≡◌, List, [], ◌∷◌, ◌++◌, length, reverse, refl, sym, ap, ◌∙◌, subst, append_assoc, append-nil}
 use mathlib.Core.List.{reverse-cons}
 use Rattle.std.specs.List.Sorted.{IsPermutation}
 use Rattle.std.proofs.lemmas.List.Sorted.{IsPermutation-refl, IsPermutation-trans, IsPermutation-append_left, IsPermutation-append_right, IsPermutation-append_comm}
 use Rattle.coverage.specs.Findings.{Findings, findings_among}
 use Rattle.coverage.specs.Jobs as tree
 use Rattle.coverage.specs.Jobs.{Job, Node, schedules_of}
+use Rattle.findings.specs.declared.extent.Extent.{Extent}
 use Rattle.sleep_jobs.specs.Explorations.{ExplorationSeen, JobSeen, program_in, names_of, nodes_of}
-use Rattle.sleep_jobs.specs.Pieces.{AreOf, IsPiece}
+use Rattle.sleep_jobs.specs.Pieces.{AreOf, IsPiece, extent_of}
+use Rattle.tree_cuts.specs.Cuts.{cut_count}
 use Rattle.world_model.specs.Asking.{program_of}
 use Rattle.frontier_pool.specs.Explorations.{AreOne, AreJobsOf, nodes_of_jobs, OneHasTheSameNodes, OneShowsTheSame}
 use Rattle.frontier_pool.specs.Machine.{MakesUp}
@@ -27,14 +29,18 @@ same_jobs e f jobs one = λ i. tree.nodes_of_all (same_program e f one i) (one.d
 pub same_findings : OneShowsTheSame
 same_findings e f nodes one = λ i. findings_among (one.flags i) (same_program e f one i) (schedules_of nodes)
 
+-- they are cut at the same nodes
+pub same_extent : (e f : ExplorationSeen) (nodes : List Node) → AreOne e f → extent_of e nodes ≡ extent_of f nodes
+same_extent e f nodes one = λ i. record { nodes = length nodes; cut = cut_count (same_program e f one i) (one.depth i) (schedules_of nodes) }
+
 pub one_itself : (e : ExplorationSeen) → AreOne e e
 one_itself e = record { program = refl; depth = refl; flags = refl }
 
 -- a piece of the one is a piece of the other
-pub makes_up : (e f : ExplorationSeen) (name : Job) (found : Findings) (k : ℕ) (rest : List JobSeen) → AreOne e f → IsPiece e name found k rest → MakesUp f name found k (names_of rest)
-makes_up e f name found k rest one p = record {
+pub makes_up : (e f : ExplorationSeen) (name : Job) (found : Findings) (x : Extent) (rest : List JobSeen) → AreOne e f → IsPiece e name found x rest → MakesUp f name found x (names_of rest)
+makes_up e f name found x rest one p = record {
   visited = p.done;
-  is_done = record { found = p.is_done.found ∙ same_findings e f p.done one; counted = p.is_done.counted };
+  is_done = record { found = p.is_done.found ∙ same_findings e f p.done one; counted = p.is_done.counted ∙ same_extent e f p.done one };
   made_up = sym (same_nodes e f name one) ∙ p.made_up ∙ ap (λ vs. p.done ++ vs) (same_jobs e f (names_of rest) one);
 }
 

@@ -3,7 +3,7 @@ use Rattle.std.proofs.Common.{◌≡◌, ℕ, zero, suc, ◌+◌, ◌<◌, ◌�
 use Rattle.std.specs.List.{Contains}
 use Rattle.std.specs.List.Sorted.{IsPermutation}
 use Rattle.std.proofs.lemmas.Bool.Decides.{nat_tests}
-use Rattle.std.proofs.lemmas.List.{map-append}
+use Rattle.std.proofs.lemmas.List.{length-map, map-append}
 use Rattle.std.proofs.lemmas.List.Sorted.{Contains-permutation, IsPermutation-append_left, IsPermutation-append_right, IsPermutation-map, IsPermutation-refl, IsPermutation-sym, IsPermutation-trans, length_permutation}
 use Rattle.coverage.proofs.FindingLaws.{least}
 use Rattle.coverage.proofs.JobLaws.{map_join}
@@ -11,16 +11,19 @@ use Rattle.coverage.proofs.Lists.{among_left}
 use Rattle.coverage.specs.Findings.{Finding, Findings, IsLeast, found, findings_among}
 use Rattle.coverage.specs.Jobs.{Job, Node, root, schedules_of}
 use Rattle.findings.proofs.Schedules.{any_order, lists_merged}
+use Rattle.findings.specs.declared.extent.Extent.{Extent}
 use Rattle.findings.specs.Merging.{merged_findings}
 use Rattle.findings.specs.declared.outcome.Cause.{Cause}
 use Rattle.findings.specs.declared.outcome.Cause.TheVariants.{NodeLimit}
 use Rattle.sleep_jobs.proofs.Passing.{found_passes}
 use Rattle.sleep_jobs.specs.Explorations.{ExplorationSeen, TicketSeen, program_in, nodes_of, findings_of}
 use Rattle.sleep_jobs.specs.Meanings.{AreShown, AreOfJob}
+use Rattle.sleep_jobs.specs.Pieces.{IsDone, extent_of}
+use Rattle.tree_cuts.proofs.CutLaws.{cuts_in_any_order, cuts_of_both, cuts_some}
 use Rattle.world_model.specs.Names.{IsAmong}
 use Rattle.world_model.specs.Shown.{Identity, is_error, is_refusal}
 use Rattle.frontier_pool.specs.Explorations.{nodes_of_jobs}
-use Rattle.frontier_pool.specs.Machine.{Standing, Entry, Enters, Stops, opening, after_take, Takes, cause_after, after_give, Gives, stopped, StepsBy, Leads}
+use Rattle.frontier_pool.specs.Machine.{Standing, Entry, Enters, Stops, opening, after_take, Takes, cause_after, after_give, Gives, stopped, StepsBy, Leads, sum_of}
 use Rattle.frontier_pool.specs.Sums.{names_out, nodes_left, AddsUp, SumsUp, LegalAddsUp, LegalSumsUp}
 use Rattle.frontier_pool.specs.declared.entry.PoolEvent.TheVariants.{Took, Gave}
 use Rattle.frontier_pool.proofs.Jobs.{nodes-append, nodes_middle, nodes_reversed, to_front}
@@ -93,6 +96,10 @@ pub shows_both : (e : ExplorationSeen) (xs ys : List Node) → findings_of e (xs
 shows_both e xs ys =
     ap (findings_among e.flags (program_in e)) (map_join (λ (v : Node). v.schedule) xs ys) ∙ lists_merged e.flags (program_in e) (schedules_of xs) (schedules_of ys)
 
+-- and how many they are, and at how many of them the tree is cut
+pub counts_both : (e : ExplorationSeen) (xs ys : List Node) → extent_of e (xs ++ ys) ≡ sum_of (extent_of e xs) (extent_of e ys)
+counts_both e xs ys = λ i. record { nodes = length-append xs ys i; cut = cuts_of_both (program_in e) e.depth xs ys i }
+
 limited_after : (limit before nodes : ℕ) (c : Option Cause) (b : Bool) → nat_lt limit nodes ≡ b → before ≤ nodes → (c ≡ Some NodeLimit → limit < before) → cause_after limit nodes c ≡ Some NodeLimit → limit < nodes
 limited_after limit before nodes None true is more was now = grind (arith, nat_tests)
 limited_after limit before nodes None false is more was now = let none : None ≡ Some NodeLimit = subst (λ (z : Bool). (if z then Some NodeLimit else None) ≡ Some NodeLimit) is now in absurd (cc)
@@ -106,17 +113,17 @@ within_after limit nodes (Some c) b is now = absurd (cc)
 gives_add_up : (e : ExplorationSeen) (limit : ℕ) (s : Standing) (ticket : TicketSeen) (t : Standing) → AddsUp e limit s → Gives e limit s ticket t → AddsUp e limit t
 gives_add_up e limit s ticket t p h =
     let m = h.made_up in
-    let u = after_give limit s (h.front ++ h.back) h.findings h.nodes h.rest in
+    let u = after_give limit s (h.front ++ h.back) h.findings h.extent h.rest in
     let made : AddsUp e limit u = record {
       visited = p.visited ++ m.visited;
       is_done = record {
         found = (λ i. merged_findings (p.is_done.found i) (m.is_done.found i)) ∙ sym (shows_both e p.visited m.visited);
-        counted = omega (arith, p.is_done.counted, m.is_done.counted, length-append p.visited m.visited);
+        counted = (λ i. sum_of (p.is_done.counted i) (m.is_done.counted i)) ∙ sym (counts_both e p.visited m.visited);
       };
       made_up = subst (IsPermutation (nodes_of e root)) (sym (append_assoc p.visited m.visited (nodes_left e u)))
           (IsPermutation-trans _ _ _ p.made_up (IsPermutation-append_right p.visited _ _ (give_left e s.todo h.rest s.out h.front h.back ticket m.visited h.is_out m.made_up)));
-      limited = limited_after limit s.nodes (s.nodes + h.nodes) s.cause (nat_lt limit (s.nodes + h.nodes)) refl (omega arith) p.limited;
-      within = within_after limit (s.nodes + h.nodes) s.cause (nat_lt limit (s.nodes + h.nodes)) refl;
+      limited = limited_after limit s.extent.nodes (s.extent.nodes + h.extent.nodes) s.cause (nat_lt limit (s.extent.nodes + h.extent.nodes)) refl (omega arith) p.limited;
+      within = within_after limit (s.extent.nodes + h.extent.nodes) s.cause (nat_lt limit (s.extent.nodes + h.extent.nodes)) refl;
     } in
     subst (AddsUp e limit) (sym h.leaves) made
 
@@ -181,10 +188,24 @@ all_shown e limit s p = (
 pub shows_the_same : (e : ExplorationSeen) (xs ys : List Node) → IsPermutation xs ys → findings_of e xs ≡ findings_of e ys
 shows_the_same e xs ys same = any_order e.flags (program_in e) (schedules_of xs) (schedules_of ys) (IsPermutation-map (λ (v : Node). v.schedule) xs ys same)
 
+-- nor how many they are, and at how many of them the tree is cut
+pub counts_the_same : (e : ExplorationSeen) (xs ys : List Node) → IsPermutation xs ys → extent_of e xs ≡ extent_of e ys
+counts_the_same e xs ys same = λ i. record {
+  nodes = sym (length_permutation xs ys same) i;
+  cut = cuts_in_any_order (program_in e) e.depth (schedules_of xs) (schedules_of ys) (IsPermutation-map (λ (v : Node). v.schedule) xs ys same) i;
+}
+
+-- the tree is cut at no more nodes than were visited
+pub done_fewer : (e : ExplorationSeen) (done : List Node) (f : Findings) (x : Extent) → IsDone e done f x → x.cut ≤ x.nodes
+done_fewer e done f x is_done =
+    let some = cuts_some (program_in e) e.depth (schedules_of done) in
+    let fewer : (extent_of e done).cut ≤ (extent_of e done).nodes = omega (arith, some, length-map done (λ (v : Node). v.schedule)) in
+    subst (λ (y : Extent). y.cut ≤ y.nodes) (sym is_done.counted) fewer
+
 pub sums_up : (e : ExplorationSeen) (limit : ℕ) (s : Standing) → AddsUp e limit s → SumsUp e s
 sums_up e limit s p = record {
   found = shows_the_same e (nodes_of e root) (p.visited ++ nodes_left e s) p.made_up ∙ shows_both e p.visited (nodes_left e s) ∙ ap (λ f. merged_findings f (findings_of e (nodes_left e s))) (sym p.is_done.found);
-  counted = omega (arith, length_permutation (nodes_of e root) (p.visited ++ nodes_left e s) p.made_up, length-append p.visited (nodes_left e s), p.is_done.counted);
+  counted = counts_the_same e (nodes_of e root) (p.visited ++ nodes_left e s) p.made_up ∙ counts_both e p.visited (nodes_left e s) ∙ ap (λ x. sum_of x (extent_of e (nodes_left e s))) (sym p.is_done.counted);
   shown = all_shown e limit s p;
 }
 

@@ -62,19 +62,19 @@ fn tickets_of(alloc: Global, number: u64, job: &Job<'_>) -> Result<(Ticket, Tick
 }
 
 /// A count of nodes, or of cuts, among those of all pieces.
-fn widened(nodes: u64) -> u128
-    ensures same { result ≡ nodes }
+fn widened(count: u64) -> u128
+    ensures same { result ≡ count }
     ensures small { result < 2 ^ 64 }
 {
-    u128::from(nodes)
+    u128::from(count)
 }
 
 /// A count of nodes, or of cuts, that a limit allows.
-fn narrowed(nodes: u128, limit: u64) -> u64
-    requires { nodes ≤ limit }
-    ensures { result ≡ nodes }
+fn narrowed(count: u128, limit: u64) -> u64
+    requires { count ≤ limit }
+    ensures { result ≡ count }
 {
-    nodes as u64
+    count as u64
 }
 
 /// The stop after a piece: above the limit of nodes there is one.
@@ -196,8 +196,9 @@ impl<'m> Frontier<'m> {
         if !is_for(&piece, ticket, &self.exploration) {
             return Err(GiveFault::StrangePiece(piece));
         }
-        let visited = widened(piece.extent().nodes);
-        let cut = widened(piece.extent().cut);
+        let extent = piece.extent();
+        let visited = widened(extent.nodes);
+        let cut = widened(extent.cut);
         let (more, rest) = piece.into_parts();
         let taken_in = take_in(
             &mut self.findings,
@@ -243,11 +244,9 @@ impl<'m> Frontier<'m> {
             return Ok(Outcome::Incomplete(stop.cause, self.findings));
         }
         if self.todo.is_empty() && self.out.is_empty() {
-            let extent = Extent {
-                nodes: narrowed(self.nodes, self.limit),
-                cut: narrowed(self.cut, self.limit),
-            };
-            return Ok(Outcome::Complete(self.findings, extent));
+            let nodes = narrowed(self.nodes, self.limit);
+            let cut = narrowed(self.cut, self.limit);
+            return Ok(Outcome::Complete(self.findings, Extent { nodes, cut }));
         }
         Err(StrangePool)
     }

@@ -10,6 +10,7 @@ use Rattle.coverage.specs.Shown.{RunShows}
 use Rattle.coverage.proofs.FindingLaws.{errors_exact, refusals_exact}
 use Rattle.coverage.proofs.JobLaws.{root_nodes}
 use Rattle.coverage.proofs.ShownLaws.{nodes_run}
+use Rattle.findings.specs.declared.extent.Extent.{Extent}
 use Rattle.findings.specs.declared.outcome.Cause.{Cause}
 use Rattle.findings.specs.declared.outcome.Cause.TheVariants.{NodeLimit, Memory}
 use Rattle.findings.specs.declared.outcome.Outcome.{Outcome}
@@ -18,10 +19,13 @@ use Rattle.frontier_pool.specs.Calls.{ComesTo, IsOwn}
 use Rattle.frontier_pool.specs.Explorations.{AreOne, OneHasTheSameNodes, OneShowsTheSame}
 use Rattle.frontier_pool.specs.Seen.{Seen}
 use Rattle.frontier_pool.specs.Sums.{VisitsSome}
-use Rattle.frontier_pool.proofs.Jobs.{same_program}
+use Rattle.frontier_pool.proofs.Jobs.{same_extent, same_program}
 use Rattle.sleep_jobs.specs.Explorations.{ExplorationSeen, findings_of, nodes_of, program_in}
 use Rattle.sleep_jobs.specs.Meanings.{AreOfJob}
-use Rattle.search_crew.specs.Outcomes.{AllAreShown, IsExact, IsListedOf, IsOutcome, all_findings, all_nodes}
+use Rattle.sleep_jobs.specs.Pieces.{extent_of}
+use Rattle.tree_cuts.specs.Cuts.{IsUncut}
+use Rattle.tree_cuts.proofs.CutLaws.{cuts_of_root, errors_ever, refusals_ever}
+use Rattle.search_crew.specs.Outcomes.{AllAreShown, IsExact, IsListedOf, IsListedOfAll, IsOutcome, IsWhole, all_findings, all_nodes, whole_extent}
 
 -- ---- what was found
 
@@ -30,9 +34,10 @@ all_found : (e f : ExplorationSeen) (found : Findings) → OneHasTheSameNodes �
 all_found e f found nodes_same shows_same one is =
     is ∙ ap (findings_of e) (nodes_same e f root one) ∙ shows_same e f (nodes_of f root) one ∙ ap (findings_among f.flags (program_in f)) (root_nodes (program_in f) f.depth)
 
--- and its nodes are as many
-all_counted : (e f : ExplorationSeen) (nodes : ℕ) → OneHasTheSameNodes → AreOne e f → nodes ≡ length (nodes_of e root) → nodes ≡ all_nodes f
-all_counted e f nodes nodes_same one is = is ∙ ap length (nodes_same e f root one)
+-- its nodes are as many, and it is cut at as many of them
+all_counted : (e f : ExplorationSeen) (extent : Extent) → OneHasTheSameNodes → AreOne e f → extent ≡ extent_of e (nodes_of e root) → extent ≡ whole_extent f
+all_counted e f extent nodes_same one is =
+    is ∙ ap (extent_of e) (nodes_same e f root one) ∙ same_extent e f (nodes_of f root) one ∙ (λ i. record { nodes = all_nodes f; cut = cuts_of_root (program_in f) f.depth i })
 
 -- ---- what is shown
 
@@ -74,10 +79,10 @@ visits_as e f limit why found nodes_same shows_same one some = record {
 -- ---- what it comes to
 
 pub comes_to : (s : Seen) (e : ExplorationSeen) (limit : ℕ) (outcome : Outcome) → OneHasTheSameNodes → OneShowsTheSame → IsOwn s e limit → ComesTo s outcome → IsOutcome e limit outcome
-comes_to s e limit (Complete findings nodes) nodes_same shows_same own comes = (
+comes_to s e limit (Complete findings extent) nodes_same shows_same own comes = (
   all_found s.exploration e findings nodes_same shows_same own.0 comes.1,
-  all_counted s.exploration e nodes nodes_same own.0 comes.2,
-  subst (λ (n : ℕ). nodes ≤ n) own.1 comes.3,
+  all_counted s.exploration e extent nodes_same own.0 comes.2,
+  subst (λ (n : ℕ). extent.nodes ≤ n) own.1 comes.3,
 )
 comes_to s e limit (Incomplete NodeLimit findings) nodes_same shows_same own comes = (
   subst (λ (n : ℕ). n < all_nodes e) own.1 (subst (λ (n : ℕ). s.limit < n) (ap length (nodes_same s.exploration e root own.0)) (comes.3 refl)),
@@ -94,5 +99,13 @@ listed_all : (e : ExplorationSeen) (found : Findings) → found ≡ all_findings
 listed_all e found is i = subst (λ f. IsListedOf e f i) (sym is) (record { errors = errors_exact e.flags (program_in e) e.depth i; refusals = refusals_exact e.flags (program_in e) e.depth i })
 
 pub is_exact : (e : ExplorationSeen) (limit : ℕ) (outcome : Outcome) → IsOutcome e limit outcome → IsExact e outcome
-is_exact e limit (Complete findings nodes) comes = listed_all e findings comes.0
+is_exact e limit (Complete findings extent) comes = listed_all e findings comes.0
 is_exact e limit (Incomplete cause findings) comes = tt
+
+-- and all that schedules of whatever length show, where the tree is cut at no node
+listed_ever : (e : ExplorationSeen) (found : Findings) → found ≡ all_findings e → IsUncut (program_in e) e.depth → (i : Identity) → IsListedOfAll e found i
+listed_ever e found is uncut i = subst (λ f. IsListedOfAll e f i) (sym is) (record { errors = errors_ever e.flags (program_in e) e.depth i uncut; refusals = refusals_ever e.flags (program_in e) e.depth i uncut })
+
+pub is_whole : (e : ExplorationSeen) (limit : ℕ) (outcome : Outcome) → IsOutcome e limit outcome → IsWhole e outcome
+is_whole e limit (Complete findings extent) comes none = listed_ever e findings comes.0 (sym (ap (λ (x : Extent). x.cut) comes.1) ∙ none)
+is_whole e limit (Incomplete cause findings) comes = tt

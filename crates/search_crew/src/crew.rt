@@ -119,18 +119,18 @@ fn searched<N: PoolName + Send + Sync, R: Threads + Wait + Sync, G: Gate + Sync>
 }
 
 /// Visits the nodes of the tree of schedules with sleep sets (Godefroid, "Partial-Order Methods for the Verification of
-/// Concurrent Systems"), each once, by so many workers: what they show, how many they are, and how many of them lie at the depth and go on. Each worker is a thread
-/// of its own, and has a module of its own, a copy; it takes a job from a pool, expands it while no lock is held, and
-/// gives back what it found and the jobs that are left. Of its first job it visits at most as many nodes as the budget
-/// says, and of the next ones twice as many from job to job, up to 64 times as many, until a worker waits for work: then
-/// it begins again. The gate is told of each node before it is visited, and of each job after its piece was accepted;
-/// jobs are numbered from 1.
+/// Concurrent Systems"), each once, by so many workers: what they show, how many they are, and at how many of them the
+/// tree is cut at its depth. Each worker is a thread of its own, and has a module of its own, a copy; it takes a job from
+/// a pool, expands it while no lock is held, and gives back what it found and the jobs that are left. Of its first job it
+/// visits at most as many nodes as the budget says, and of the next ones twice as many from job to job, up to 64 times as
+/// many, until a worker waits for work: then it begins again. The gate is told of each node before it is visited, and of
+/// each job after its piece was accepted; jobs are numbered from 1.
 ///
-/// It is `Complete` where all nodes were visited, which are at most as many as may be. Where no node at the depth goes on,
-/// it is complete of schedules of whatever length. It is `Incomplete` for `NodeLimit` only
-/// where they are more, and for `Memory` where there was none: then each finding is shown by its schedule. How many
-/// workers there are, and how many nodes of a job one visits before it gives the job back, change nothing of a complete
-/// search. It returns when all workers have ended.
+/// It is `Complete` where all nodes were visited, which are at most as many as may be; where the tree is cut at none of
+/// them, it tells of all schedules, of whatever length. It is `Incomplete` for `NodeLimit` only where they are more, and
+/// for `Memory` where there was none: then each finding is shown by its schedule. How many workers there are, and how
+/// many nodes of a job one visits before it gives the job back, change nothing of a complete search. It returns when all
+/// workers have ended.
 ///
 /// # Errors
 ///

@@ -1,7 +1,8 @@
-use Rattle.std.proofs.Common.{◌≡◌, ℕ, ◌+◌, ◌^◌, ◌<◌, ◌≤◌, length, length-append, List, [], ◌∷◌, ◌++◌, false, get_or, is_err, reverse, refl, subst, sym, ◌∙◌, ap, arith}
+use Rattle.std.proofs.Common.{◌≡◌, ◌+◌, ◌^◌, ◌<◌, ◌≤◌, length, length-append, List, [], ◌∷◌, ◌++◌, false, get_or, is_err, reverse, refl, subst, sym, ◌∙◌, ap, arith}
+use Rattle.findings.specs.declared.extent.Extent.{Extent}
 use Rattle.findings.specs.Merging.{merged_findings}
 use Rattle.sleep_jobs.specs.Explorations.{JobSeen, TicketSeen, exploration_in}
-use Rattle.frontier_pool.proofs.Frontiers.{give_done, give_kept, on_ok}
+use Rattle.frontier_pool.proofs.Frontiers.{counts_given, give_done, give_kept, on_ok}
 use Rattle.frontier_pool.specs.declared.entry.PoolEvent.{PoolEvent}
 use Rattle.frontier_pool.specs.declared.entry.PoolEvent.TheVariants.{Gave}
 use Rattle.frontier_pool.proofs.frontier.Frontier.give.Goals as goal
@@ -22,14 +23,17 @@ invariant_of-self-2 c =
     let found : taken.new.findings ≡ merged_findings f.findings c.into_parts-more.result.0 = on_ok taken.result _ fine taken.ensures.found in
     let is_todo = opened ∙ ap (λ (l : List JobSeen). f.todo.items ++ reverse l) c.into_parts-more.ensures.rest in
     let is_found = found ∙ ap (merged_findings f.findings) c.into_parts-more.ensures.found in
-    let is_nodes = ap (λ (k : ℕ). f.nodes + k) (c.widened-visited.ensures.same ∙ c.nodes.ensures) in
+    let x : Extent = record { nodes = f.nodes; cut = f.cut } in
+    let nodes : c.widened-visited.result ≡ piece.extent.nodes = c.widened-visited.ensures.same ∙ ap (λ (y : Extent). y.nodes) c.extent-extent.ensures in
+    let cut : c.widened-cut.result ≡ piece.extent.cut = c.widened-cut.ensures.same ∙ ap (λ (y : Extent). y.cut) c.extent-extent.ensures in
+    let is_extent = counts_given x piece.extent c.widened-visited.result c.widened-cut.result nodes cut in
     let is_events : c.put.new.items.items ≡ f.events.items ++ Gave ticket.number ∷ [] =
     c.put.ensures.items ∙ ap (λ (l : List PoolEvent). l ++ Gave c.ticket.inside.number ∷ []) taken.ensures.events ∙ ap (λ (t : TicketSeen). f.events.items ++ Gave t.number ∷ []) c.ticket.view_is in
     let place : c.len.result ≡ length f.events.items + 1 = omega (arith, ap length is_events, length-append f.events.items (Gave ticket.number ∷ [])) in
-    let small : piece.nodes ≤ 2 ^ 64 = omega (arith, c.widened-visited.ensures.same, c.widened-visited.ensures.small, c.nodes.ensures) in
-    give_kept (exploration_in f.exploration) f.limit f.todo.items _ f.out.items _ f.findings _ f.nodes _ f.taken f.events.items _ f.stop _
+    let small : piece.extent.nodes ≤ 2 ^ 64 = omega (arith, nodes, c.widened-visited.ensures.small) in
+    give_kept (exploration_in f.exploration) f.limit f.todo.items _ f.out.items _ f.findings _ x _ f.taken f.events.items _ f.stop _
     at ticket piece c.len.result
-    lt is same.0 same.1 is_todo c.remove.ensures.items is_found is_nodes is_events place c.limited-self-inside.ensures
+    lt is same.0 same.1 is_todo c.remove.ensures.items is_found is_extent is_events place c.limited-self-inside.ensures
     c.into_parts-more.ensures.piece small c.self.invariant
 
 pub returns-clause-given : goal.returns-clause-given
@@ -48,11 +52,14 @@ returns-clause-given c =
     let found : taken.new.findings ≡ merged_findings f.findings c.into_parts-more.result.0 = on_ok taken.result _ fine taken.ensures.found in
     let is_todo = opened ∙ ap (λ (l : List JobSeen). f.todo.items ++ reverse l) c.into_parts-more.ensures.rest in
     let is_found = found ∙ ap (merged_findings f.findings) c.into_parts-more.ensures.found in
-    let is_nodes = ap (λ (k : ℕ). f.nodes + k) (c.widened-visited.ensures.same ∙ c.nodes.ensures) in
+    let x : Extent = record { nodes = f.nodes; cut = f.cut } in
+    let nodes : c.widened-visited.result ≡ piece.extent.nodes = c.widened-visited.ensures.same ∙ ap (λ (y : Extent). y.nodes) c.extent-extent.ensures in
+    let cut : c.widened-cut.result ≡ piece.extent.cut = c.widened-cut.ensures.same ∙ ap (λ (y : Extent). y.cut) c.extent-extent.ensures in
+    let is_extent = counts_given x piece.extent c.widened-visited.result c.widened-cut.result nodes cut in
     let is_events : c.put.new.items.items ≡ f.events.items ++ Gave ticket.number ∷ [] =
     c.put.ensures.items ∙ ap (λ (l : List PoolEvent). l ++ Gave c.ticket.inside.number ∷ []) taken.ensures.events ∙ ap (λ (t : TicketSeen). f.events.items ++ Gave t.number ∷ []) c.ticket.view_is in
     let place : c.len.result ≡ length f.events.items + 1 = omega (arith, ap length is_events, length-append f.events.items (Gave ticket.number ∷ [])) in
     rw (← c.self.view_is)
-    (give_done (exploration_in f.exploration) f.limit f.todo.items _ f.out.items _ f.findings _ f.nodes _ f.taken f.events.items _ f.stop _
+    (give_done (exploration_in f.exploration) f.limit f.todo.items _ f.out.items _ f.findings _ x _ f.taken f.events.items _ f.stop _
     at ticket piece c.len.result
-    lt is same.0 same.1 is_todo c.remove.ensures.items is_found is_nodes is_events place c.limited-self-inside.ensures)
+    lt is same.0 same.1 is_todo c.remove.ensures.items is_found is_extent is_events place c.limited-self-inside.ensures)
