@@ -3,9 +3,18 @@ use Rattle.findings.specs.declared.extent.Extent.{Extent}
 use Rattle.findings.specs.Merging.{merged_findings}
 use Rattle.sleep_jobs.specs.Explorations.{JobSeen, TicketSeen, exploration_in}
 use Rattle.frontier_pool.proofs.Frontiers.{counts_given, give_done, give_kept, on_ok}
+use Rattle.frontier_pool.proofs.Outcomes.{fewer_cuts}
 use Rattle.frontier_pool.specs.declared.entry.PoolEvent.{PoolEvent}
 use Rattle.frontier_pool.specs.declared.entry.PoolEvent.TheVariants.{Gave}
 use Rattle.frontier_pool.proofs.frontier.Frontier.give.Goals as goal
+
+-- the tree is cut at no more nodes than were visited
+pub overflow_add-self-2 : goal.overflow_add-self-2
+overflow_add-self-2 c =
+    let f = c.self.inside in
+    let x : Extent = record { nodes = f.nodes; cut = f.cut } in
+    let fewer : f.cut ≤ f.nodes = fewer_cuts (exploration_in f.exploration) f.limit f.todo.items f.out.items f.findings x f.taken f.events.items f.stop c.self.invariant in
+    grind (arith, fewer, c.self.invariant.bounded, c.widened-cut.ensures.small)
 
 pub invariant_of-self-2 : goal.invariant_of-self-2
 invariant_of-self-2 c =
