@@ -8,4 +8,4 @@ use Rattle.sleep_tree.proofs.expansion.expand.Goals as goal
 pub returns-clause-shown : goal.returns-clause-shown
 returns-clause-shown g c =
     subst (λ (found : Findings). AreOfJob c.args.job.exploration c.args.job.name found) (sym (ap (λ (p : PieceSeen). p.findings) c.of.ensures))
-    (piece_shown c.args.job.exploration c.args.job.name c.in-Ok.done.findings c.in-Ok.done.nodes c.in-Ok.done.rest.items c.in-Ok.ensures.piece)
+    (piece_shown c.args.job.exploration c.args.job.name c.in-Ok.done.findings c.in-Ok.done.extent c.in-Ok.done.rest.items c.in-Ok.ensures.piece)

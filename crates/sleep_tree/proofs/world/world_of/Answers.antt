@@ -1,4 +1,4 @@
-use Rattle.std.proofs.Common.{◌≡◌, ◌∙◌, ap, subst, sym}
+use Rattle.std.proofs.Common.{◌∙◌, ap, subst}
 use Rattle.coverage.specs.Jobs.{Job}
 use Rattle.world_core.specs.Advanced.{IsStopped}
 use Rattle.world_core.specs.declared.fault.WorldFault.{WorldFault}
