@@ -3,3 +3,7 @@ mod WholeLines
 pub mod ReplayLaws
 pub mod FlushLaws
 pub mod StopLaws
+pub mod Parts
+pub mod ExplainedTexts
+pub mod ExplainedLaws
+pub mod WaitingTexts

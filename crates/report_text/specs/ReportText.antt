@@ -96,9 +96,13 @@ explained_extent (Incomplete cause findings) = text_of_incomplete cause
 abbrev pub explained_first_line : ℕ → Outcome → List ℕ
 explained_first_line depth outcome = codes "depth " ++ (decimal depth ++ (codes ", " ++ (explained_extent outcome ++ codes "\n")))
 
+-- that the result tells of schedules up to the depth
+abbrev pub text_of_depth_reached : ℕ → List ℕ
+text_of_depth_reached depth = codes " to depth " ++ decimal depth
+
 -- of which schedules the result tells: of all, where the tree is cut at no node, and else of those up to the depth
 abbrev pub text_of_reach : ℕ → Extent → List ℕ
-text_of_reach depth extent = if extent.cut == 0 then codes ", all schedules" else (codes " to depth " ++ decimal depth)
+text_of_reach depth extent = if extent.cut == 0 then codes ", all schedules" else text_of_depth_reached depth
 
 abbrev pub explained_result : ℕ → Outcome → List ℕ
 explained_result depth (Complete findings extent) = complete_result findings.errors ++ text_of_reach depth extent

@@ -23,8 +23,8 @@ pub fn write_report<W: Sink>(sink: &mut W, depth: u64, outcome: &Outcome) -> Res
     write_last_line(sink, outcome)
 }
 
-// What was found.
-fn findings_in(outcome: &Outcome) -> &Findings
+/// What was found, by an exploration that came to its end or stopped before it. It takes no memory.
+pub fn findings_in(outcome: &Outcome) -> &Findings
     ensures { result.now ≡ findings_in outcome.now }
 {
     match outcome {
@@ -51,13 +51,13 @@ fn write_extent<W: Sink>(sink: &mut W, outcome: &Outcome) -> Result<(), WriteFau
     ensures { Writes (W.contents sink.old) (W.contents sink.new) (W.has_failed sink.new) result (text_of_extent outcome.now) }
 {
     match outcome {
-        Outcome::Complete(_, nodes) => write_nodes(sink, *nodes),
+        Outcome::Complete(_, extent) => write_nodes(sink, extent.nodes),
         Outcome::Incomplete(cause, _) => write_incomplete(sink, *cause),
     }
 }
 
-// Writes that all nodes were visited, and how many they are.
-fn write_nodes<W: Sink>(sink: &mut W, nodes: u64) -> Result<(), WriteFault>
+/// Writes that all nodes were visited, and how many they are.
+pub(crate) fn write_nodes<W: Sink>(sink: &mut W, nodes: u64) -> Result<(), WriteFault>
     requires { W.has_failed sink.old ≡ false }
     ensures { Writes (W.contents sink.old) (W.contents sink.new) (W.has_failed sink.new) result (text_of_nodes nodes) }
 {
@@ -66,8 +66,8 @@ fn write_nodes<W: Sink>(sink: &mut W, nodes: u64) -> Result<(), WriteFault>
     write_all(sink, b", complete")
 }
 
-// Writes that the exploration stopped before its end, and why.
-fn write_incomplete<W: Sink>(sink: &mut W, cause: Cause) -> Result<(), WriteFault>
+/// Writes that the exploration stopped before its end, and why.
+pub(crate) fn write_incomplete<W: Sink>(sink: &mut W, cause: Cause) -> Result<(), WriteFault>
     requires { W.has_failed sink.old ≡ false }
     ensures { Writes (W.contents sink.old) (W.contents sink.new) (W.has_failed sink.new) result (text_of_incomplete cause) }
 {
@@ -112,8 +112,10 @@ fn write_findings<W: Sink>(
     Ok(())
 }
 
-// Writes one finding of a kind by its number, and on a line of its own its schedule behind two blanks.
-fn write_finding<W: Sink>(
+/// Writes one finding of a kind (`error`, `refusal`) by its number, and on a line of its own its schedule behind
+/// two blanks. `WriteFault` comes only where the sink has failed, and then a beginning of the text was written.
+/// It takes no memory.
+pub fn write_finding<W: Sink>(
     sink: &mut W,
     kind: &[u8],
     number: usize,
@@ -133,8 +135,9 @@ fn write_finding<W: Sink>(
     write_all(sink, b"\n")
 }
 
-// Writes how many errors and refusals there are.
-fn write_counts<W: Sink>(sink: &mut W, findings: &Findings) -> Result<(), WriteFault>
+/// Writes the line that says how many errors and refusals there are. `WriteFault` comes only where the sink has
+/// failed, and then a beginning of the line was written. It takes no memory.
+pub fn write_counts<W: Sink>(sink: &mut W, findings: &Findings) -> Result<(), WriteFault>
     requires { W.has_failed sink.old ≡ false }
     ensures { Writes (W.contents sink.old) (W.contents sink.new) (W.has_failed sink.new) result (text_of_counts findings.now) }
 {
@@ -168,8 +171,8 @@ fn write_result<W: Sink>(sink: &mut W, outcome: &Outcome) -> Result<(), WriteFau
     }
 }
 
-// Writes the result where all nodes were visited: whether there are errors.
-fn write_complete_result<W: Sink>(sink: &mut W, errors: &FindingList) -> Result<(), WriteFault>
+/// Writes the result where all nodes were visited: whether there are errors.
+pub(crate) fn write_complete_result<W: Sink>(sink: &mut W, errors: &FindingList) -> Result<(), WriteFault>
     requires { W.has_failed sink.old ≡ false }
     ensures { Writes (W.contents sink.old) (W.contents sink.new) (W.has_failed sink.new) result (complete_result errors.now) }
 {

@@ -1,0 +1,13 @@
+use Rattle.std.proofs.lemmas.Result.{err_from_is_err_and}
+use Rattle.term_core.specs.inside.Writing.{owes_all, owes_less, owes_break_in, writes_last, breaks_at}
+use Rattle.report_text.proofs.explained_lines.write_reached_result.Goals as goal
+
+pub returns-in_err-write_complete_result : goal.returns-in_err-write_complete_result
+returns-in_err-write_complete_result g c =
+    let p = err_from_is_err_and c.from_residual.result c.from_residual.ensures.1 in
+    breaks_at _ _ _ _ _ _ p.1 (owes_break_in _ _ _ _ _ _ _ (owes_all _ _) c.in_err-write_complete_result.ensures)
+
+pub returns : goal.returns
+returns g c =
+    let o1 = owes_less _ _ _ _ _ _ (owes_all _ _) c.in_ok-write_complete_result.ensures.appends in
+    writes_last _ _ _ _ _ _ _ o1 c.write_reach.ensures

@@ -1,0 +1,115 @@
+// The first and the last line where a report is explained. No write takes memory.
+ghost use Rattle.std.specs.Prelude.{◌≡◌, ◌++◌, false};
+ghost use Rattle.term_core.specs.Stream.{Writes};
+ghost use Rattle.report_text.specs.ReportText.{complete_result, explained_extent, explained_first_line, explained_last_line, explained_result, text_of_depth_reached, text_of_nodes_and_cuts, text_of_reach};
+
+use crate::report::{write_complete_result, write_incomplete, write_nodes};
+use findings::{Extent, FindingList, Outcome};
+use term_core::{Sink, WriteFault, write_all, write_number};
+
+/// Writes the first line of an explained report: how many steps a schedule may have, and how far the exploration
+/// came; where all nodes were visited, also at how many of them the tree is cut. `WriteFault` comes only where the
+/// sink has failed, and then a beginning of the line was written. It takes no memory.
+pub fn write_explained_first_line<W: Sink>(
+    sink: &mut W,
+    depth: u64,
+    outcome: &Outcome,
+) -> Result<(), WriteFault>
+    requires { W.has_failed sink.old ≡ false }
+    ensures { Writes (W.contents sink.old) (W.contents sink.new) (W.has_failed sink.new) result (explained_first_line depth outcome.now) }
+{
+    write_all(sink, b"depth ")?;
+    write_number(depth, sink)?;
+    write_all(sink, b", ")?;
+    write_explained_extent(sink, outcome)?;
+    write_all(sink, b"\n")
+}
+
+// Writes how far the exploration came.
+fn write_explained_extent<W: Sink>(sink: &mut W, outcome: &Outcome) -> Result<(), WriteFault>
+    requires { W.has_failed sink.old ≡ false }
+    ensures { Writes (W.contents sink.old) (W.contents sink.new) (W.has_failed sink.new) result (explained_extent outcome.now) }
+{
+    match outcome {
+        Outcome::Complete(_, extent) => write_nodes_and_cuts(sink, *extent),
+        Outcome::Incomplete(cause, _) => write_incomplete(sink, *cause),
+    }
+}
+
+// Writes that all nodes were visited, how many they are, and at how many of them the tree is cut.
+fn write_nodes_and_cuts<W: Sink>(sink: &mut W, extent: Extent) -> Result<(), WriteFault>
+    requires { W.has_failed sink.old ≡ false }
+    ensures { Writes (W.contents sink.old) (W.contents sink.new) (W.has_failed sink.new) result (text_of_nodes_and_cuts extent) }
+{
+    write_nodes(sink, extent.nodes)?;
+    write_all(sink, b", cut ")?;
+    write_number(extent.cut, sink)
+}
+
+/// Writes the last line of an explained report: the result, and where all nodes were visited, of which schedules it
+/// tells: of all, where the tree is cut at no node, and else of those up to the depth. `WriteFault` comes only where
+/// the sink has failed, and then a beginning of the line was written. It takes no memory.
+pub fn write_explained_last_line<W: Sink>(
+    sink: &mut W,
+    depth: u64,
+    outcome: &Outcome,
+) -> Result<(), WriteFault>
+    requires { W.has_failed sink.old ≡ false }
+    ensures { Writes (W.contents sink.old) (W.contents sink.new) (W.has_failed sink.new) result (explained_last_line depth outcome.now) }
+{
+    write_all(sink, b"result: ")?;
+    write_explained_result(sink, depth, outcome)?;
+    write_all(sink, b"\n")
+}
+
+// Writes the result.
+fn write_explained_result<W: Sink>(
+    sink: &mut W,
+    depth: u64,
+    outcome: &Outcome,
+) -> Result<(), WriteFault>
+    requires { W.has_failed sink.old ≡ false }
+    ensures { Writes (W.contents sink.old) (W.contents sink.new) (W.has_failed sink.new) result (explained_result depth outcome.now) }
+{
+    match outcome {
+        Outcome::Complete(findings, extent) => {
+            write_reached_result(sink, findings.errors(), depth, *extent)
+        }
+        Outcome::Incomplete(_, _) => write_all(sink, b"incomplete"),
+    }
+}
+
+// Writes the result where all nodes were visited, and of which schedules it tells.
+fn write_reached_result<W: Sink>(
+    sink: &mut W,
+    errors: &FindingList,
+    depth: u64,
+    extent: Extent,
+) -> Result<(), WriteFault>
+    requires { W.has_failed sink.old ≡ false }
+    ensures { Writes (W.contents sink.old) (W.contents sink.new) (W.has_failed sink.new) result (complete_result errors.now ++ text_of_reach depth extent) }
+{
+    write_complete_result(sink, errors)?;
+    write_reach(sink, depth, extent)
+}
+
+// Writes of which schedules the result tells.
+fn write_reach<W: Sink>(sink: &mut W, depth: u64, extent: Extent) -> Result<(), WriteFault>
+    requires { W.has_failed sink.old ≡ false }
+    ensures { Writes (W.contents sink.old) (W.contents sink.new) (W.has_failed sink.new) result (text_of_reach depth extent) }
+{
+    if extent.cut == 0 {
+        write_all(sink, b", all schedules")
+    } else {
+        write_depth_reached(sink, depth)
+    }
+}
+
+// Writes that the result tells of schedules up to the depth.
+fn write_depth_reached<W: Sink>(sink: &mut W, depth: u64) -> Result<(), WriteFault>
+    requires { W.has_failed sink.old ≡ false }
+    ensures { Writes (W.contents sink.old) (W.contents sink.new) (W.has_failed sink.new) result (text_of_depth_reached depth) }
+{
+    write_all(sink, b" to depth ")?;
+    write_number(depth, sink)
+}
