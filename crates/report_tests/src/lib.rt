@@ -1,5 +1,7 @@
-// Tests of the lines of events.
+// Tests of the lines of events, and of explained reports.
 #![tactic(auto)]
 
+#[cfg(test)]
+mod explained;
 #[cfg(test)]
 mod transcript;

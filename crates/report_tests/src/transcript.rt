@@ -14,7 +14,7 @@ use world_model::rule::Rule;
 // How many bytes a sink takes at a time.
 const PIECES: [usize; 2] = [1, 1000];
 
-fn pid(alloc: Global, numbers: &[u64]) -> Result<Pid, AllocError> {
+pub(super) fn pid(alloc: Global, numbers: &[u64]) -> Result<Pid, AllocError> {
     Pid::new(alloc, Vec::from_slice(alloc, numbers)?)
 }
 
