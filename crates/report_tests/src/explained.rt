@@ -177,7 +177,7 @@ fn explains_a_deadlock(rt: HostRuntime) -> Result<(), Fail> {
     Ok(())
 }
 
-// A schedule of another module, of which the first two steps are enabled.
+// The process of a schedule ends with its second turn, and takes no third.
 #[test]
 fn explains_no_step_that_is_not_enabled(rt: HostRuntime) -> Result<(), Fail> {
     let alloc = rt.alloc();
