@@ -9,7 +9,7 @@ use Rattle.report_text.specs.Clean.{LastLinesSayIt}
 use Rattle.report_text.specs.ReportText.{complete_result}
 
 -- the byte at a place
-byte_at : ℕ → List ℕ → ℕ
+abbrev byte_at : ℕ → List ℕ → ℕ
 byte_at n [] = 0
 byte_at zero (x ∷ xs) = x
 byte_at (suc n) (x ∷ xs) = byte_at n xs
