@@ -51,3 +51,8 @@ messages-first (n ∷ ms) m is = messages-cons n ms ∙ ap (λ (k : Meaning). te
 pub messages-none : (messages : List Meaning) → None ≡ slice_get messages 0 → text_of_arguments messages ≡ []
 messages-none [] is = refl
 messages-none (m ∷ ms) is = absurd (none-some m is)
+
+-- there is one at each place of the mailbox
+pub messages-there : (messages : List Meaning) (i : ℕ) → i < length messages → None ≡ slice_get messages i → ⊥
+messages-there [] i within is = omega (arith, within)
+messages-there (m ∷ ms) i within is = none-some (get_or (m ∷ ms) i m) (is ∙ slice_get-get_or (m ∷ ms) i m within)

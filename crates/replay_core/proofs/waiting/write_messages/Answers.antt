@@ -1,16 +1,16 @@
-use Rattle.std.proofs.Common.{◌≡◌, [], ◌++◌, get_or, sym, append-nil}
+use Rattle.std.proofs.Common.{[], sym, append-nil, arith}
 use Rattle.std.proofs.lemmas.Option.{get_or_from_slice_get}
 use Rattle.std.proofs.lemmas.Result.{err_from_is_err_and}
 use Rattle.term_core.specs.Term.{meaning_of}
 use Rattle.term_core.specs.TermText.{text_of_term}
 use Rattle.term_core.specs.inside.Writing.{owes_all, owes_less, owes_break_in, owes_item, owes_items_end, owes_nothing, owes_same, breaks_at}
 use Rattle.report_text.specs.CallText.{behind_comma}
-use Rattle.replay_core.proofs.WaitingTexts.{messages-first, messages-none}
+use Rattle.replay_core.proofs.WaitingTexts.{messages-first, messages-none, messages-there}
 use Rattle.replay_core.proofs.waiting.write_messages.Goals as goal
 
-pub returns-in-None : goal.returns-in-None
-returns-in-None g c =
-    owes_nothing _ _ _ _ (owes_same _ _ _ _ _ (messages-none c.args.mailbox.now c.in-None.ensures) (owes_all _ _)) c.requires
+pub returns-in_default : goal.returns-in_default
+returns-in_default g c =
+    owes_nothing _ _ _ _ (owes_same _ _ _ _ _ (messages-none c.args.mailbox.now c.in_default.ensures) (owes_all _ _)) c.requires
 
 pub returns-in_err-write_term : goal.returns-in_err-write_term
 returns-in_err-write_term g c =
@@ -24,22 +24,26 @@ loop-place-init g c =
     let o = owes_same _ _ _ _ _ (messages-first c.args.mailbox.now (meaning_of c.in-Some.first.now) c.in-Some.ensures) (owes_all _ _) in
     (w.sound, owes_same _ _ _ _ _ (sym (append-nil _)) (owes_less _ _ _ (text_of_term (meaning_of c.in-Some.first.now)) _ _ o w.appends))
 
+pub unreachable-requires : goal.unreachable-requires
+unreachable-requires g c =
+    messages-there c.args.mailbox.now c.loop-place.place (omega (arith, c.len-place-end.ensures, c.loop-place-test.true)) c.in_default-get.ensures
+
 pub returns-in_err-write_behind_comma : goal.returns-in_err-write_behind_comma
 returns-in_err-write_behind_comma g c =
     let p = err_from_is_err_and c.from_residual-in_err-write_behind_comma.result c.from_residual-in_err-write_behind_comma.ensures.1 in
-    let m = meaning_of c.in-Some-in-loop-place.message.now in
-    let at = sym (get_or_from_slice_get c.args.mailbox.now c.loop-place.place m m (sym c.in-Some-in-loop-place.ensures)) in
-    let o = owes_item behind_comma c.args.mailbox.now c.loop-place.place m m _ _ [] _ c.loop-place-test.true at c.loop-place.invariant.1 in
+    let m = meaning_of c.in-Some-get.message.now in
+    let at = sym (get_or_from_slice_get c.args.mailbox.now c.loop-place.place m m (sym c.in-Some-get.ensures)) in
+    let o = owes_item behind_comma c.args.mailbox.now c.loop-place.place m m _ _ [] _ (omega (arith, c.len-place-end.ensures, c.loop-place-test.true)) at c.loop-place.invariant.1 in
     breaks_at _ _ _ _ _ _ p.1 (owes_break_in _ _ _ _ _ _ _ o c.in_err-write_behind_comma.ensures)
 
 pub loop-place-preserved : goal.loop-place-preserved
 loop-place-preserved g c =
     let w = c.in_ok-write_behind_comma.ensures in
-    let m = meaning_of c.in-Some-in-loop-place.message.now in
-    let at = sym (get_or_from_slice_get c.args.mailbox.now c.loop-place.place m m (sym c.in-Some-in-loop-place.ensures)) in
-    let o = owes_item behind_comma c.args.mailbox.now c.loop-place.place m m _ _ [] _ c.loop-place-test.true at c.loop-place.invariant.1 in
+    let m = meaning_of c.in-Some-get.message.now in
+    let at = sym (get_or_from_slice_get c.args.mailbox.now c.loop-place.place m m (sym c.in-Some-get.ensures)) in
+    let o = owes_item behind_comma c.args.mailbox.now c.loop-place.place m m _ _ [] _ (omega (arith, c.len-place-end.ensures, c.loop-place-test.true)) at c.loop-place.invariant.1 in
     (w.sound, owes_less _ _ _ _ _ _ o w.appends)
 
 pub returns : goal.returns
 returns g c =
-    owes_nothing _ _ _ _ (owes_items_end behind_comma c.args.mailbox.now c.loop-place.place _ _ [] _ c.loop-place-test.false c.loop-place.invariant.1) c.loop-place.invariant.0
+    owes_nothing _ _ _ _ (owes_items_end behind_comma c.args.mailbox.now c.loop-place.place _ _ [] _ (omega (arith, c.len-place-end.ensures, c.loop-place-test.false)) c.loop-place.invariant.1) c.loop-place.invariant.0
