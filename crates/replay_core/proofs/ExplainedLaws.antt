@@ -127,10 +127,10 @@ module _ (a : Program) (steps : List Step) (start now new : Option (List ℕ)) (
       let more = follows a (took.0 ∷ h) (drop (i + 1) steps) in
       let line = indented (text_of_event (i + 1) took.0) in
       let parts : text_of_steps (reached a steps) ≡ text_of_steps h ++ (line ++ more.0) =
-          ap text_of_steps (sym so.leads ∙ reached_at a h steps i step (Some took.0) within at next)
-          ∙ more.1
-          ∙ ap (λ w. w ++ more.0) (line_at h took.0 i so.counted)
-          ∙ append_assoc (text_of_steps h) line more.0 in
+      ap text_of_steps (sym so.leads ∙ reached_at a h steps i step (Some took.0) within at next)
+      ∙ more.1
+      ∙ ap (λ w. w ++ more.0) (line_at h took.0 i so.counted)
+      ∙ append_assoc (text_of_steps h) line more.0 in
       owes_break_in start now new failed' line more.0 (text_of_steps (reached a steps)) (owed a steps start now h (line ++ more.0) so.appends parts) took.2
 
   pub step_fails : (r : Result (Unit {0}) ExplainFault) (fault : ExplainFault) → r ≡ Err fault → StepsSoFar a steps start now failed program h spent i → i < length steps → step ≡ get_or steps i step

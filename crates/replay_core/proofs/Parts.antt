@@ -1,6 +1,6 @@
 -- An explained text that is written in parts: what becomes of it where a part is not written to its end.
 use Rattle.std.proofs.Common.{◌≡◌, ℕ, Bool, false, List, [], ◌++◌, Option, refl, sym, subst}
-use Rattle.std.specs.Prelude.{Result, Ok, Err}
+use Rattle.std.specs.Prelude.{Result, Err}
 use Rattle.term_core.specs.inside.Writing.{Owes, appends_none, begins_first, owes_break}
 use Rattle.replay_core.specs.Explained.{IsExplained}
 use Rattle.replay_core.specs.declared.explain_fault.ExplainFault.{ExplainFault}

@@ -1,15 +1,14 @@
 -- A replay on its way: what was written and what is still owed.
-use Rattle.std.proofs.Common.{◌≡◌, ◌<◌, ◌≤◌, ℕ, ◌+◌, Bool, false, List, [], ◌∷◌, ◌++◌, length, drop, get_or, Option, Some, None, refl, sym, ap, subst, ◌∙◌, append_assoc, append-nil, arith}
+use Rattle.std.proofs.Common.{◌≡◌, ◌<◌, ◌≤◌, ℕ, ◌+◌, Bool, false, List, [], ◌∷◌, length, drop, get_or, Option, Some, None, refl, sym, ap, subst, ◌∙◌}
 use Rattle.std.specs.Prelude.{Ok, Err}
-use Rattle.std.specs.Io.KnownBytes.{Appends}
 use Rattle.std.proofs.lemmas.List.{at_drop_more, at_drop_all}
 use Rattle.world_model.specs.Requests.{Program}
 use Rattle.term_core.specs.Stream.{WritesAll}
 use Rattle.term_core.specs.declared.step.Step.{Step}
-use Rattle.term_core.specs.inside.Writing.{Owes, owes_all, owes_same, owes_less, owes_nothing, owes_break_in, appends_none}
+use Rattle.term_core.specs.inside.Writing.{Owes, owes_all, owes_same, owes_less, owes_nothing, owes_break_in}
 use Rattle.world_model.specs.Events.{Event, History}
 use Rattle.world_model.specs.Run.{next_event}
-use Rattle.report_text.specs.EventText.{text_of_event, text_of_events}
+use Rattle.report_text.specs.EventText.{text_of_event}
 use Rattle.replay_core.specs.Replay.{with_next, stop_on, stop, transcript, Replays, ReplaysStep}
 use Rattle.replay_core.specs.declared.replay_fault.ReplayFault.{ReplayFault}
 use Rattle.replay_core.specs.declared.replay_fault.ReplayFault.TheVariants.{NotEnabled, Memory, Write}

@@ -185,7 +185,8 @@ fn explains_no_step_that_is_not_enabled(rt: HostRuntime) -> Result<(), Fail> {
     let schedule = turns(alloc, 4)?;
     note(alloc, &mut findings, bad_end(alloc)?, schedule.as_slice())?;
     let outcome = Outcome::Incomplete(Cause::NodeLimit, findings);
-    let report = "depth 5, incomplete: node limit\nerror 1: P ends {'badarg',[]}\n  P P P P\n    1 P ets:lookup('t','a') -> badarg (2 NoTable)\n    2 P ends {'badarg',[]}\nerrors 1, refusals 0\nresult: incomplete\n";
+    let report =
+        "depth 5, incomplete: node limit\nerror 1: P ends {'badarg',[]}\n  P P P P\n    1 P ets:lookup('t','a') -> badarg (2 NoTable)\n    2 P ends {'badarg',[]}\nerrors 1, refusals 0\nresult: incomplete\n";
     explains(alloc, NO_TABLE, 5, &outcome, report, 1000)
 }
 

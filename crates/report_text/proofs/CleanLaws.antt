@@ -1,9 +1,8 @@
 -- What the last line of an explained report says.
-use Rattle.std.proofs.Common.{◌≡◌, ◌∙◌, ◌==◌, ℕ, zero, suc, Bool, true, false, if◌then◌else◌, List, [], ◌∷◌, ◌++◌, codes, refl, ap, arith}
+use Rattle.std.proofs.Common.{◌≡◌, ◌==◌, ℕ, zero, suc, Bool, true, false, if◌then◌else◌, List, [], ◌∷◌, ◌++◌, codes, refl, ap, arith}
 use Rattle.std.proofs.lemmas.Bool.{eq-eqb, eqb-true}
 use Rattle.std.specs.Fmt.{decimal}
 use Rattle.coverage.specs.Findings.{Finding}
-use Rattle.findings.specs.declared.extent.Extent.{Extent}
 use Rattle.findings.specs.declared.outcome.Outcome.TheVariants.{Complete, Incomplete}
 use Rattle.report_text.specs.Clean.{LastLinesSayIt}
 use Rattle.report_text.specs.ReportText.{complete_result}

@@ -172,7 +172,10 @@ fn write_result<W: Sink>(sink: &mut W, outcome: &Outcome) -> Result<(), WriteFau
 }
 
 /// Writes the result where all nodes were visited: whether there are errors.
-pub(crate) fn write_complete_result<W: Sink>(sink: &mut W, errors: &FindingList) -> Result<(), WriteFault>
+pub(crate) fn write_complete_result<W: Sink>(
+    sink: &mut W,
+    errors: &FindingList,
+) -> Result<(), WriteFault>
     requires { W.has_failed sink.old ≡ false }
     ensures { Writes (W.contents sink.old) (W.contents sink.new) (W.has_failed sink.new) result (complete_result errors.now) }
 {

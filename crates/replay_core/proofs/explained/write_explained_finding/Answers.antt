@@ -1,7 +1,7 @@
-use Rattle.std.proofs.Common.{◌++◌, ap, ◌∙◌, codes}
+use Rattle.std.proofs.Common.{ap, ◌∙◌}
 use Rattle.std.specs.Prelude.{Err}
 use Rattle.std.proofs.lemmas.Result.{err_from_is_err_and}
-use Rattle.term_core.specs.inside.Writing.{owes_all, owes_last, owes_less, owes_same}
+use Rattle.term_core.specs.inside.Writing.{owes_all, owes_last, owes_less}
 use Rattle.findings.specs.Found.{finding_in}
 use Rattle.world_model.specs.Asking.{program_of}
 use Rattle.report_text.specs.ReportText.{text_of_finding}

@@ -1,11 +1,10 @@
-use Rattle.std.proofs.Common.{◌++◌, ap, ◌∙◌, codes}
+use Rattle.std.proofs.Common.{ap, ◌∙◌, codes}
 use Rattle.std.specs.Prelude.{Err}
 use Rattle.std.proofs.lemmas.Result.{err_from_is_err_and}
 use Rattle.term_core.specs.inside.Writing.{owes_all, owes_last, owes_less, owes_same}
 use Rattle.world_model.specs.Asking.{program_of}
 use Rattle.replay_core.specs.Explained.{explained_from}
 use Rattle.replay_core.proofs.ExplainedTexts.{findings-lists}
-use Rattle.replay_core.specs.declared.explain_fault.ExplainFault.TheVariants.{Write}
 use Rattle.replay_core.proofs.Parts.{last_fails, part_fails}
 use Rattle.replay_core.proofs.explained.write_explained_findings.Goals as goal
 

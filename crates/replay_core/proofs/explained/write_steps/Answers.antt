@@ -2,7 +2,7 @@ use Rattle.std.proofs.Common.{ap, ◌∙◌}
 use Rattle.std.specs.Prelude.{Err}
 use Rattle.std.proofs.lemmas.Result.{err_from_is_err_and}
 use Rattle.world_model.specs.Asking.{program_of}
-use Rattle.replay_core.proofs.ExplainedLaws.{step_fails, step_goes_on, step_stops, steps_begin, steps_end}
+use Rattle.replay_core.proofs.ExplainedLaws.{step_fails, step_goes_on, steps_begin, steps_end}
 use Rattle.replay_core.proofs.explained.write_steps.Goals as goal
 
 pub loop-index-init : goal.loop-index-init
