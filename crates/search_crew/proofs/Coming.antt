@@ -107,5 +107,5 @@ listed_ever : (e : ExplorationSeen) (found : Findings) → found ≡ all_finding
 listed_ever e found is uncut i = subst (λ f. IsListedOfAll e f i) (sym is) (record { errors = errors_ever e.flags (program_in e) e.depth i uncut; refusals = refusals_ever e.flags (program_in e) e.depth i uncut })
 
 pub is_whole : (e : ExplorationSeen) (limit : ℕ) (outcome : Outcome) → IsOutcome e limit outcome → IsWhole e outcome
-is_whole e limit (Complete findings extent) comes none = listed_ever e findings comes.0 (sym (ap (λ (x : Extent). x.cut) comes.1) ∙ none)
+is_whole e limit (Complete findings extent) comes = λ none. listed_ever e findings comes.0 (sym (ap (λ (x : Extent). x.cut) comes.1) ∙ none)
 is_whole e limit (Incomplete cause findings) comes = tt
