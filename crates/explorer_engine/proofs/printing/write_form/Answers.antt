@@ -1,4 +1,0 @@
-use Rattle.explorer_engine.proofs.printing.write_form.Goals as goal
-
-pub returns : goal.returns
-returns g c = ?
