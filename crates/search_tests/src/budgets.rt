@@ -155,7 +155,9 @@ fn pieces_of<T: Threads + Wait + Sync>(
         given: AtomicU64::new(0),
     };
     match search(rt, alloc, program, &options(40, budget), &gate) {
-        Ok(Outcome::Complete(_, Extent { nodes: 22, cut: 0 })) => Ok(gate.given.load(Ordering::SeqCst)),
+        Ok(Outcome::Complete(_, Extent { nodes: 22, cut: 0 })) => Ok(
+            gate.given.load(Ordering::SeqCst),
+        ),
         _ => Err(Fail::from("the search was not complete")),
     }
 }

@@ -76,7 +76,9 @@ fn met_by<T: Threads + Wait + Sync>(rt: &T, alloc: Global, workers: u64) -> Resu
     let program = read_module(alloc, MAKERS.as_bytes())?;
     let gate = Meeting::new();
     match search(rt, alloc, &program, &options(5, 1, workers), &gate) {
-        Ok(Outcome::Complete(_, Extent { nodes: 10, cut: 0 })) => Ok(gate.met.load(Ordering::SeqCst)),
+        Ok(Outcome::Complete(_, Extent { nodes: 10, cut: 0 })) => Ok(
+            gate.met.load(Ordering::SeqCst),
+        ),
         _ => Err(Fail::from("the search was not complete")),
     }
 }

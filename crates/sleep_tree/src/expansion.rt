@@ -27,11 +27,7 @@ fn with_node(extent: Extent, is_cut: bool) -> Extent
     requires fewer { extent.cut ≤ extent.nodes }
     ensures { result ≡ record { nodes = extent.nodes + 1; cut = extent.cut + (if is_cut then 1 else 0) } }
 {
-    let cut = if is_cut {
-        extent.cut + 1
-    } else {
-        extent.cut
-    };
+    let cut = if is_cut { extent.cut + 1 } else { extent.cut };
     Extent {
         nodes: extent.nodes + 1,
         cut,
