@@ -1,15 +1,13 @@
 -- Schedules that go on.
 use Rattle.std.proofs.Common.{◌≡◌, ◌+◌, [], ◌∷◌, ◌++◌, length, map, Option, Some, None, Result, Ok, Err, refl, sym, ap, ◌∙◌, length-append}
-use Rattle.std.specs.Prelude.{IfOk}
 use Rattle.std.proofs.lemmas.List.{reverse-append}
 use Rattle.term_core.specs.declared.step.Step.{Step}
 use Rattle.world_model.specs.Events.{Event, History}
 use Rattle.world_model.specs.Requests.{Program}
-use Rattle.world_model.specs.Run.{next_event, extended, run, schedule_of}
+use Rattle.world_model.specs.Run.{next_event, extended, schedule_of}
 use Rattle.world_model.specs.Steps.{next_deed}
 use Rattle.world_model.specs.World.{contents}
 use Rattle.world_model.proofs.Histories.{step_is}
-use Rattle.coverage.proofs.JobLaws.{one_more}
 
 pub some_is : {X : Type 0} (x y : X) → Some x ≡ Some y → x ≡ y
 some_is x y e = cc
@@ -35,12 +33,3 @@ longer a h s g n =
 
 pub one_longer : (a : Program) (h : History) (s : Step) (g : History) → IsNext a h s g → length (schedule_of g) ≡ length (schedule_of h) + 1
 one_longer a h s g n = ap length (longer a h s g n) ∙ length-append (schedule_of h) (s ∷ [])
-
--- and is that of its events
-pub goes_on : (a : Program) (h : History) (s : Step) (g : History) → run a (schedule_of h) ≡ Some h → extended h (next_event a h s) ≡ Some g → run a (schedule_of g) ≡ Some g
-goes_on a h s g reached now = ap (run a) (longer a h s g (next_of a h s g now)) ∙ one_more a (schedule_of h) h s reached ∙ now
-
--- what holds of a value in an Ok, in other words
-pub if_ok : {A E : Type 0} (r : Result A E) (P Q : A → Type 0) → ((a : A) → P a → Q a) → IfOk r P → IfOk r Q
-if_ok (Ok a) P Q so is = so a is
-if_ok (Err e) P Q so is = is
