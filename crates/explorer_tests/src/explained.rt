@@ -57,7 +57,7 @@ result: errors, all schedules
 const ENDS_BADLY_REPORT: &str = "depth 1, nodes 2, complete, cut 0
 error 1: P ends 'bad'
   P
-    1 P erlang:exit('bad') -> ends 'bad'
+    1 P ends 'bad'
 errors 1, refusals 0
 result: errors, all schedules
 ";
