@@ -1,5 +1,6 @@
 mod Lines
 mod WholeLines
+pub mod RunLaws
 pub mod ReplayLaws
 pub mod FlushLaws
 pub mod StopLaws

@@ -1,5 +1,5 @@
 -- The explained report: below each finding stand the lines of its schedule and, at a deadlock, who waits.
-use Rattle.std.specs.Prelude.{◌≡◌, ℕ, ◌+◌, Bool, false, List, [], ◌∷◌, ◌++◌, length, codes, Option, Result, Ok, Err}
+use Rattle.std.specs.Prelude.{◌≡◌, ℕ, ◌+◌, Bool, false, List, [], ◌∷◌, ◌++◌, length, codes, Option, Some, Result, Ok, Err}
 use Rattle.term_core.specs.Meaning.{Meaning}
 use Rattle.term_core.specs.Stream.{AppendsBeginning, BreaksOff, WritesAll}
 use Rattle.term_core.specs.Text.{text_of_pid}
@@ -7,6 +7,7 @@ use Rattle.world_model.specs.Events.{History}
 use Rattle.world_model.specs.Mailboxes.{mailbox_in}
 use Rattle.world_model.specs.Names.{Pid}
 use Rattle.world_model.specs.Requests.{Program}
+use Rattle.world_model.specs.Run.{run}
 use Rattle.world_model.specs.Shown.{Identity, Deadlock}
 use Rattle.world_model.specs.World.{contents}
 use Rattle.coverage.specs.Findings.{Finding, Findings}
@@ -46,6 +47,10 @@ text_of_waits h identity = []
 -- what stands below a finding: what its schedule did, and who waits then
 abbrev pub text_of_explanation : Program → Finding → List ℕ
 text_of_explanation a f = text_of_steps (reached a f.schedule) ++ text_of_waits (reached a f.schedule) f.identity
+
+-- below a finding whose schedule runs, as those of a search do, stand the lines of that run, and who waits after it
+abbrev pub ExplanationsAreOfRuns : Type 0
+ExplanationsAreOfRuns = (a : Program) (f : Finding) (h : History) → run a f.schedule ≡ Some h → text_of_explanation a f ≡ text_of_steps h ++ text_of_waits h f.identity
 
 -- ---- the report
 

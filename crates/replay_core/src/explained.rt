@@ -6,7 +6,7 @@ ghost use Rattle.step_plans.specs.Deeds.{event_in};
 ghost use Rattle.report_text.specs.EventText.{text_of_event};
 ghost use Rattle.world_core.specs.Seen.{program_in};
 ghost use Rattle.world_model.specs.Asking.{program_of};
-ghost use Rattle.replay_core.specs.Explained.{IsExplained, explained_finding, explained_findings, explained_from, indented, text_of_explained_report, text_of_explanation, text_of_steps};
+ghost use Rattle.replay_core.specs.Explained.{ExplanationsAreOfRuns, IsExplained, explained_finding, explained_findings, explained_from, indented, text_of_explained_report, text_of_explanation, text_of_steps};
 ghost use Rattle.replay_core.specs.Replay.{reached};
 ghost use Rattle.replay_core.specs.inside.ExplainedSteps.{ExplainsStep};
 
@@ -22,6 +22,11 @@ use std::alloc::Global;
 use step_plans::Event;
 use term_core::{Sink, Step, WriteFault, write_all};
 use world_core::{World, WorldFault};
+
+/// Below a finding whose schedule runs stand the lines of that run and, at a deadlock, who waits after it.
+pub fn explanations_are_of_runs()
+    ensures { ExplanationsAreOfRuns }
+{}
 
 /// Writes the explained report of an exploration whose schedules may have so many steps. Its first line tells also at
 /// how many nodes the tree is cut, and its last one of which schedules the result tells. Below each finding stand the
