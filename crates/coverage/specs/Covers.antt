@@ -1,16 +1,15 @@
 -- Covers: a tree written as lines, one for each node, and when such lines are good.
-use Rattle.std.specs.List.{list_all}
+use Rattle.std.specs.List.{filter, list_all}
 use Rattle.std.specs.Prelude.{◌≡◌, ◌≤◌, ℕ, zero, suc, Bool, true, false, ◌&&◌, not, if◌then◌else◌, List, [], ◌∷◌, ◌++◌, map, Option, Some, None, option_and_then, length}
 use Rattle.term_core.specs.declared.step.Step.{Step}
 use Rattle.world_model.specs.Events.{Event, History}
 use Rattle.world_model.specs.Requests.{Program}
 use Rattle.world_model.specs.Run.{next_event, is_enabled, enabled_steps}
-use Rattle.world_model.specs.Shown.{Identity, Flags, is_error, errors_of}
+use Rattle.world_model.specs.Shown.{Identity, shown}
 use Rattle.sleep_sets.specs.Search.{is_among}
 use Rattle.coverage.specs.Explored.{same_step}
-use Rattle.coverage.specs.Findings.{findings_of}
 use Rattle.coverage.specs.Jobs.{Node, Job, asleep_below, nodes_of, root}
-use Rattle.coverage.specs.Shown.{RunShows}
+use Rattle.coverage.specs.Shown.{RunShows, IsShown}
 
 -- the steps that are taken at each node, in preorder
 abbrev pub Lines : Type 0
@@ -30,18 +29,18 @@ abbrev pub is_empty : {X : Type 0} → List X → Bool
 is_empty [] = true
 is_empty (x ∷ xs) = false
 
--- the node shows no error under the flags
-abbrev pub is_clean : Flags → Program → History → Bool
-is_clean flags a h = is_empty (errors_of flags a h)
+-- the node shows nothing that counts as an error
+abbrev pub is_clean : (Identity → Bool) → Program → History → Bool
+is_clean counts a h = is_empty (filter counts (shown a h))
 
 -- above the depth: enabled steps, each once, and each enabled step is taken or sleeps
-abbrev pub is_good_line : Flags → Program → History → List Step → List Step → Bool
-is_good_line flags a h slept line =
-    is_clean flags a h && (are_once line && (list_all (is_enabled a h) line && list_all (is_one_of (slept ++ line)) (enabled_steps a h)))
+abbrev pub is_good_line : (Identity → Bool) → Program → History → List Step → List Step → Bool
+is_good_line counts a h slept line =
+    is_clean counts a h && (are_once line && (list_all (is_enabled a h) line && list_all (is_one_of (slept ++ line)) (enabled_steps a h)))
 
 -- at the depth no step is taken
-abbrev pub is_good_end : Flags → Program → History → List Step → Bool
-is_good_end flags a h line = is_clean flags a h && is_empty line
+abbrev pub is_good_end : (Identity → Bool) → Program → History → List Step → Bool
+is_good_end counts a h line = is_clean counts a h && is_empty line
 
 -- ---- all lines
 
@@ -68,22 +67,22 @@ abbrev pub left_if : Bool → Option Lines → Option Lines
 left_if good left = if good then left else None
 
 -- what is left behind the lines of a node and of all nodes below it; none where these are not good
-abbrev pub left_over : Flags → Program → ℕ → History → List Step → Lines → Option Lines
-left_over flags a zero h slept [] = None
-left_over flags a zero h slept (line ∷ lines) = left_if (is_good_end flags a h line) (Some lines)
-left_over flags a (suc n) h slept [] = None
-left_over flags a (suc n) h slept (line ∷ lines) =
-    left_if (is_good_line flags a h slept line) (left_by_steps (left_over flags a n) a h slept line lines)
+abbrev pub left_over : (Identity → Bool) → Program → ℕ → History → List Step → Lines → Option Lines
+left_over counts a zero h slept [] = None
+left_over counts a zero h slept (line ∷ lines) = left_if (is_good_end counts a h line) (Some lines)
+left_over counts a (suc n) h slept [] = None
+left_over counts a (suc n) h slept (line ∷ lines) =
+    left_if (is_good_line counts a h slept line) (left_by_steps (left_over counts a n) a h slept line lines)
 
 -- the lines of the root and of all below it are good, and no line is left over
-abbrev pub IsGoodCover : Flags → Program → ℕ → Lines → Type 0
-IsGoodCover flags a n lines = left_over flags a n [] [] lines ≡ Some []
+abbrev pub IsGoodCover : (Identity → Bool) → Program → ℕ → Lines → Type 0
+IsGoodCover counts a n lines = left_over counts a n [] [] lines ≡ Some []
 
 -- ---- what a good cover says
 
 -- no schedule of at most so many steps shows an error, whoever wrote the lines
 abbrev pub CoversShowNoError : Type 0
-CoversShowNoError = (flags : Flags) (a : Program) (n : ℕ) (lines : Lines) → IsGoodCover flags a n lines → (s : List Step) (i : Identity) → length s ≤ n → RunShows a s i → is_error flags i ≡ false
+CoversShowNoError = (counts : Identity → Bool) (a : Program) (n : ℕ) (lines : Lines) → IsGoodCover counts a n lines → (s : List Step) (i : Identity) → length s ≤ n → RunShows a s i → counts i ≡ false
 
 -- ---- the cover that the search writes
 
@@ -94,6 +93,10 @@ cover_of a n job = nodes_of a n job
 abbrev pub lines_of : List Node → Lines
 lines_of = map (λ v. v.taken)
 
--- where the tree shows no error, its own lines are a good cover
+-- no schedule of at most so many steps shows anything that counts as an error
+abbrev pub ShowsNothing : (Identity → Bool) → Program → ℕ → Type 0
+ShowsNothing counts a n = (i : Identity) → counts i ≡ true → IsShown a n i → ⊥
+
+-- where no schedule shows an error, the tree's own lines are a good cover
 abbrev pub OwnCoversAreGood : Type 0
-OwnCoversAreGood = (flags : Flags) (a : Program) (n : ℕ) → (findings_of flags a n).errors ≡ [] → IsGoodCover flags a n (lines_of (cover_of a n root))
+OwnCoversAreGood = (counts : Identity → Bool) (a : Program) (n : ℕ) → ShowsNothing counts a n → IsGoodCover counts a n (lines_of (cover_of a n root))

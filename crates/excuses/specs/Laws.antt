@@ -1,0 +1,27 @@
+-- What the laws of excuses say.
+use Rattle.std.specs.List.{filter}
+use Rattle.std.specs.Prelude.{◌≡◌, ◌↔◌, ◌⊎◌, ◌&&◌, Bool, true, List, []}
+use Rattle.world_model.specs.Names.{IsAmong}
+use Rattle.world_model.specs.Shown.{Identity, Flags, is_error}
+use Rattle.coverage.specs.Findings.{Finding, IsFound}
+use Rattle.excuses.specs.Excuses.{Excuses, no_excuses, is_normal, counts, counted, taken}
+
+-- the errors that are listed are those of which this is so
+abbrev pub AreErrorsThat : Flags → (Identity → Type 0) → List Finding → Type 0
+AreErrorsThat flags Holds fs = (i : Identity) → IsFound i fs ↔ ((is_error flags i ≡ true) × Holds i)
+
+-- then those that count are listed exactly where it is so of them, and so are those that are taken as normal
+pub record AreJudged (flags : Flags) (x : Excuses) (Holds : Identity → Type 0) (fs : List Finding) : Type 0 where
+  pub errors : (i : Identity) → IsFound i (counted x fs) ↔ ((counts flags x i ≡ true) × Holds i)
+  pub normal : (i : Identity) → IsFound i (taken x fs) ↔ ((is_normal flags x i ≡ true) × Holds i)
+
+abbrev pub JudgedAreExact : Type 0
+JudgedAreExact = (flags : Flags) (x : Excuses) (Holds : Identity → Type 0) (fs : List Finding) → AreErrorsThat flags Holds fs → AreJudged flags x Holds fs
+
+-- each error that was found counts or is taken as normal, and nothing else is listed
+abbrev pub NothingIsLost : Type 0
+NothingIsLost = (x : Excuses) (f : Finding) (fs : List Finding) → IsAmong f fs ↔ (IsAmong f (counted x fs) ⊎ IsAmong f (taken x fs))
+
+-- without excuses all count, and none is taken as normal
+abbrev pub NoExcusesChangeNothing : Type 0
+NoExcusesChangeNothing = (fs : List Finding) → (counted no_excuses fs ≡ fs) × (taken no_excuses fs ≡ [])

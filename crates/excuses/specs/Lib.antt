@@ -1,0 +1,2 @@
+pub mod Excuses
+pub mod Laws

@@ -1,0 +1,8 @@
+// Which errors are excused, and so taken as normal: ends with reasons that are given, and deadlocks in which the first
+// process does not wait.
+#![tactic(auto)]
+
+pub mod excuses;
+pub mod laws;
+
+pub use excuses::Excuses;
