@@ -33,7 +33,7 @@ abbrev pub has_first : List Pid → Bool
 has_first = list_any (λ p. same_pid p [])
 
 abbrev pub is_excused : Excuses → Identity → Bool
-is_excused x (End p reason) = list_any (λ normal. same_term normal reason) x.normal
+is_excused x (End p reason) = list_any (λ it. same_term it reason) x.normal
 is_excused x (Deadlock ps) = x.main_deadlock && not (has_first ps)
 is_excused x (Runaway p) = false
 is_excused x (RefusedCall p request kind arguments rule told) = false

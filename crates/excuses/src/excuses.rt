@@ -1,5 +1,5 @@
 // Which errors are excused, and so taken as normal.
-ghost use Rattle.std.specs.Prelude.{◌≡◌, length};
+ghost use Rattle.std.specs.Prelude.{◌≡◌, length, map};
 ghost use Rattle.std.specs.List.{list_any};
 ghost use Rattle.findings.specs.Identities.{flags_in, identity_in};
 ghost use Rattle.term_core.specs.Term.{meaning_of};
@@ -42,7 +42,7 @@ fn has_first(pids: &[Pid]) -> bool
 
 // Whether a reason is one of these.
 fn is_one_of(normal: &[Term], reason: &Term) -> bool
-    ensures { result ≡ list_any (λ it. same_term (meaning_of it) (meaning_of reason.now)) normal.now }
+    ensures { result ≡ list_any (λ it. same_term it (meaning_of reason.now)) (map meaning_of normal.now) }
 {
     for term in normal {
         if *term == *reason {

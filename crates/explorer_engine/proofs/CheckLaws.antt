@@ -6,14 +6,13 @@ use Rattle.core_reader.specs.ModuleText.{SpellsModule}
 use Rattle.core_reader.specs.Refusal.{IsRefusalOf}
 use Rattle.core_tokens.specs.declared.fault.ReadFault.{ReadFault}
 use Rattle.core_tokens.specs.declared.fault.ReadFault.TheVariants as read
-use Rattle.cover_check.specs.CoverLaws.{ShowsNoError}
+use Rattle.coverage.specs.Covers.{ShowsNothing}
 use Rattle.cover_check.specs.CoverText.{IsCut}
 use Rattle.cover_check.specs.Faults.{IsCoverText}
 use Rattle.cover_check.specs.declared.fault.CoverFault.{CoverFault}
-use Rattle.findings.specs.Identities.{flags_in}
-use Rattle.findings.specs.declared.flags.Flags.{Flags}
 use Rattle.term_core.specs.Stream.{WritesAll, BreaksOff}
 use Rattle.world_model.specs.Asking.{program_of}
+use Rattle.world_model.specs.Shown.{Identity}
 use Rattle.explorer_engine.specs.Checked.{IsCheckOf, IsGood, IsRefusedAs, text_of_good}
 use Rattle.explorer_engine.specs.declared.verdict.RunFault.{RunFault}
 use Rattle.explorer_engine.specs.declared.verdict.RunFault.TheVariants as run
@@ -25,42 +24,42 @@ cut_all : (all bytes before : List ℕ) (behind : Option (List ℕ)) → bytes �
 cut_all all bytes before behind is cut = subst (λ (t : List ℕ). IsCut t before behind) is cut
 
 -- what stands before the mark is no module
-no_module : (all before : List ℕ) (behind : Option (List ℕ)) (depth : ℕ) (flags : Flags) (contents : Option (List ℕ)) (failed : Bool) (fault : ReadFault)
-    → IsCut all before behind → IsRefusalOf before fault → failed ≡ false → IsCheckOf all depth flags contents contents failed (Err (run.Input fault))
-no_module all before behind depth flags contents failed read.Memory cut refusal sound = record { same = refl; sound = sound }
-no_module all before behind depth flags contents failed _ cut refusal sound = (record { module_text = before; behind = behind; cut = cut; refused = refusal }, record { same = refl; sound = sound })
+no_module : (all before : List ℕ) (behind : Option (List ℕ)) (depth : ℕ) (counts : Identity → Bool) (contents : Option (List ℕ)) (failed : Bool) (fault : ReadFault)
+    → IsCut all before behind → IsRefusalOf before fault → failed ≡ false → IsCheckOf all depth counts contents contents failed (Err (run.Input fault))
+no_module all before behind depth counts contents failed read.Memory cut refusal sound = record { same = refl; sound = sound }
+no_module all before behind depth counts contents failed _ cut refusal sound = (record { module_text = before; behind = behind; cut = cut; refused = refusal }, record { same = refl; sound = sound })
 
-pub module_refused : (remaining : Option (List ℕ)) (bytes before : List ℕ) (behind : Option (List ℕ)) (depth : ℕ) (flags : Flags) (contents : Option (List ℕ)) (failed : Bool) (fault : ReadFault) (r : Result Verdict RunFault)
+pub module_refused : (remaining : Option (List ℕ)) (bytes before : List ℕ) (behind : Option (List ℕ)) (depth : ℕ) (counts : Identity → Bool) (contents : Option (List ℕ)) (failed : Bool) (fault : ReadFault) (r : Result Verdict RunFault)
     → r ≡ Err (run.Input fault) → IfSome remaining (λ all. bytes ≡ all) → IsCut bytes before behind → IsRefusalOf before fault → failed ≡ false
-    → IfSome remaining (λ input. IsCheckOf input depth flags contents contents failed r)
-module_refused None bytes before behind depth flags contents failed fault r e is cut refusal sound = tt
-module_refused (Some all) bytes before behind depth flags contents failed fault r e is cut refusal sound =
-    subst (λ (r : Result Verdict RunFault). IsCheckOf all depth flags contents contents failed r) (sym e) (no_module all before behind depth flags contents failed fault (cut_all all bytes before behind is cut) refusal sound)
+    → IfSome remaining (λ input. IsCheckOf input depth counts contents contents failed r)
+module_refused None bytes before behind depth counts contents failed fault r e is cut refusal sound = tt
+module_refused (Some all) bytes before behind depth counts contents failed fault r e is cut refusal sound =
+    subst (λ (r : Result Verdict RunFault). IsCheckOf all depth counts contents contents failed r) (sym e) (no_module all before behind depth counts contents failed fault (cut_all all bytes before behind is cut) refusal sound)
 
 -- the cover is refused, or there is none
-pub cover_refused : (remaining : Option (List ℕ)) (bytes before : List ℕ) (behind : Option (List ℕ)) (depth : ℕ) (flags : Flags) (contents : Option (List ℕ)) (failed : Bool) (m : ModuleTree) (fault : CoverFault) (r : Result Verdict RunFault)
-    → r ≡ Err (run.Cover fault) → IfSome remaining (λ all. bytes ≡ all) → IsCut bytes before behind → SpellsModule before m → IsRefusedAs flags m depth behind fault → failed ≡ false
-    → IfSome remaining (λ input. IsCheckOf input depth flags contents contents failed r)
-cover_refused None bytes before behind depth flags contents failed m fault r e is cut spelt refused sound = tt
-cover_refused (Some all) bytes before behind depth flags contents failed m fault r e is cut spelt refused sound =
-    subst (λ (r : Result Verdict RunFault). IsCheckOf all depth flags contents contents failed r) (sym e)
+pub cover_refused : (remaining : Option (List ℕ)) (bytes before : List ℕ) (behind : Option (List ℕ)) (depth : ℕ) (counts : Identity → Bool) (contents : Option (List ℕ)) (failed : Bool) (m : ModuleTree) (fault : CoverFault) (r : Result Verdict RunFault)
+    → r ≡ Err (run.Cover fault) → IfSome remaining (λ all. bytes ≡ all) → IsCut bytes before behind → SpellsModule before m → IsRefusedAs counts m depth behind fault → failed ≡ false
+    → IfSome remaining (λ input. IsCheckOf input depth counts contents contents failed r)
+cover_refused None bytes before behind depth counts contents failed m fault r e is cut spelt refused sound = tt
+cover_refused (Some all) bytes before behind depth counts contents failed m fault r e is cut spelt refused sound =
+    subst (λ (r : Result Verdict RunFault). IsCheckOf all depth counts contents contents failed r) (sym e)
     (record { module_text = before; behind = behind; cut = cut_all all bytes before behind is cut; program = m; spelt = spelt; refused = refused }, record { same = refl; sound = sound })
 
 -- the cover is good
-is_good : (all bytes before behind : List ℕ) (depth : ℕ) (flags : Flags) (m : ModuleTree)
-    → bytes ≡ all → IsCut bytes before (Some behind) → SpellsModule before m → IsCoverText (flags_in flags) (program_of m) depth behind → ShowsNoError (flags_in flags) (program_of m) depth → IsGood all depth flags
-is_good all bytes before behind depth flags m is cut spelt good clean =
+is_good : (all bytes before behind : List ℕ) (depth : ℕ) (counts : Identity → Bool) (m : ModuleTree)
+    → bytes ≡ all → IsCut bytes before (Some behind) → SpellsModule before m → IsCoverText counts (program_of m) depth behind → ShowsNothing counts (program_of m) depth → IsGood all depth counts
+is_good all bytes before behind depth counts m is cut spelt good clean =
     record { module_text = before; cover_text = behind; cut = cut_all all bytes before (Some behind) is cut; program = m; spelt = spelt; good = good; no_error = clean }
 
-pub found_good : (remaining : Option (List ℕ)) (bytes before behind : List ℕ) (depth : ℕ) (flags : Flags) (old new : Option (List ℕ)) (failed : Bool) (m : ModuleTree)
-    → IfSome remaining (λ all. bytes ≡ all) → IsCut bytes before (Some behind) → SpellsModule before m → IsCoverText (flags_in flags) (program_of m) depth behind → ShowsNoError (flags_in flags) (program_of m) depth
-    → WritesAll old new failed (text_of_good depth) → IfSome remaining (λ input. IsCheckOf input depth flags old new failed (Ok Done))
-found_good None bytes before behind depth flags old new failed m is cut spelt good clean written = tt
-found_good (Some all) bytes before behind depth flags old new failed m is cut spelt good clean written = (is_good all bytes before behind depth flags m is cut spelt good clean, written)
+pub found_good : (remaining : Option (List ℕ)) (bytes before behind : List ℕ) (depth : ℕ) (counts : Identity → Bool) (old new : Option (List ℕ)) (failed : Bool) (m : ModuleTree)
+    → IfSome remaining (λ all. bytes ≡ all) → IsCut bytes before (Some behind) → SpellsModule before m → IsCoverText counts (program_of m) depth behind → ShowsNothing counts (program_of m) depth
+    → WritesAll old new failed (text_of_good depth) → IfSome remaining (λ input. IsCheckOf input depth counts old new failed (Ok Done))
+found_good None bytes before behind depth counts old new failed m is cut spelt good clean written = tt
+found_good (Some all) bytes before behind depth counts old new failed m is cut spelt good clean written = (is_good all bytes before behind depth counts m is cut spelt good clean, written)
 
-pub good_untold : (remaining : Option (List ℕ)) (bytes before behind : List ℕ) (depth : ℕ) (flags : Flags) (old new : Option (List ℕ)) (failed : Bool) (m : ModuleTree) (r : Result Verdict RunFault)
-    → r ≡ Err run.Output → IfSome remaining (λ all. bytes ≡ all) → IsCut bytes before (Some behind) → SpellsModule before m → IsCoverText (flags_in flags) (program_of m) depth behind → ShowsNoError (flags_in flags) (program_of m) depth
-    → BreaksOff old new failed (text_of_good depth) → IfSome remaining (λ input. IsCheckOf input depth flags old new failed r)
-good_untold None bytes before behind depth flags old new failed m r e is cut spelt good clean broken = tt
-good_untold (Some all) bytes before behind depth flags old new failed m r e is cut spelt good clean broken =
-    subst (λ (r : Result Verdict RunFault). IsCheckOf all depth flags old new failed r) (sym e) (is_good all bytes before behind depth flags m is cut spelt good clean, broken)
+pub good_untold : (remaining : Option (List ℕ)) (bytes before behind : List ℕ) (depth : ℕ) (counts : Identity → Bool) (old new : Option (List ℕ)) (failed : Bool) (m : ModuleTree) (r : Result Verdict RunFault)
+    → r ≡ Err run.Output → IfSome remaining (λ all. bytes ≡ all) → IsCut bytes before (Some behind) → SpellsModule before m → IsCoverText counts (program_of m) depth behind → ShowsNothing counts (program_of m) depth
+    → BreaksOff old new failed (text_of_good depth) → IfSome remaining (λ input. IsCheckOf input depth counts old new failed r)
+good_untold None bytes before behind depth counts old new failed m r e is cut spelt good clean broken = tt
+good_untold (Some all) bytes before behind depth counts old new failed m r e is cut spelt good clean broken =
+    subst (λ (r : Result Verdict RunFault). IsCheckOf all depth counts old new failed r) (sym e) (is_good all bytes before behind depth counts m is cut spelt good clean, broken)

@@ -6,15 +6,14 @@ use Rattle.core_reader.specs.ModuleText.{SpellsModule}
 use Rattle.core_reader.specs.Refusal.{IsRefusalOf}
 use Rattle.core_tokens.specs.declared.fault.ReadFault.{ReadFault}
 use Rattle.core_tokens.specs.declared.fault.ReadFault.TheVariants as read
-use Rattle.cover_check.specs.CoverLaws.{ShowsNoError}
+use Rattle.coverage.specs.Covers.{ShowsNothing}
 use Rattle.cover_check.specs.CoverText.{IsCut}
 use Rattle.cover_check.specs.Faults.{IsCoverText, IsFaultOf}
 use Rattle.cover_check.specs.declared.fault.CoverFault.{CoverFault}
 use Rattle.cover_check.specs.declared.fault.CoverFault.TheVariants.{Short}
-use Rattle.findings.specs.Identities.{flags_in}
-use Rattle.findings.specs.declared.flags.Flags.{Flags}
 use Rattle.term_core.specs.Stream.{WritesAll, BreaksOff}
 use Rattle.world_model.specs.Asking.{program_of}
+use Rattle.world_model.specs.Shown.{Identity}
 use Rattle.explorer_engine.specs.Engine.{WritesNothing}
 use Rattle.explorer_engine.specs.declared.verdict.RunFault.{RunFault}
 use Rattle.explorer_engine.specs.declared.verdict.RunFault.TheVariants as run
@@ -26,14 +25,14 @@ abbrev pub text_of_good : ℕ → List ℕ
 text_of_good depth = codes "cover good to depth " ++ (decimal depth ++ codes "\n")
 
 -- the input is the text of a module, the mark, and the text of a good cover, so that no schedule shows an error
-pub record IsGood (input : List ℕ) (depth : ℕ) (flags : Flags) : Type 0 where
+pub record IsGood (input : List ℕ) (depth : ℕ) (counts : Identity → Bool) : Type 0 where
   pub module_text : List ℕ
   pub cover_text : List ℕ
   pub cut : IsCut input module_text (Some cover_text)
   pub program : ModuleTree
   pub spelt : SpellsModule module_text program
-  pub good : IsCoverText (flags_in flags) (program_of program) depth cover_text
-  pub no_error : ShowsNoError (flags_in flags) (program_of program) depth
+  pub good : IsCoverText counts (program_of program) depth cover_text
+  pub no_error : ShowsNothing counts (program_of program) depth
 
 -- what stands before the mark is refused as a module
 pub record HasNoModule (input : List ℕ) (fault : ReadFault) : Type 0 where
@@ -43,30 +42,30 @@ pub record HasNoModule (input : List ℕ) (fault : ReadFault) : Type 0 where
   pub refused : IsRefusalOf module_text fault
 
 -- where there is no mark, the first line is wanting
-abbrev pub IsRefusedAs : (flags : Flags) → ModuleTree → ℕ → Option (List ℕ) → CoverFault → Type 0
-IsRefusedAs flags m depth None fault = fault ≡ Short 1
-IsRefusedAs flags m depth (Some cover_text) fault = IsFaultOf (flags_in flags) (program_of m) depth cover_text fault
+abbrev pub IsRefusedAs : (counts : Identity → Bool) → ModuleTree → ℕ → Option (List ℕ) → CoverFault → Type 0
+IsRefusedAs counts m depth None fault = fault ≡ Short 1
+IsRefusedAs counts m depth (Some cover_text) fault = IsFaultOf counts (program_of m) depth cover_text fault
 
 -- a module stands before the mark, and this is so of what stands behind it
-pub record IsRefusedCover (input : List ℕ) (depth : ℕ) (flags : Flags) (fault : CoverFault) : Type 0 where
+pub record IsRefusedCover (input : List ℕ) (depth : ℕ) (counts : Identity → Bool) (fault : CoverFault) : Type 0 where
   pub module_text : List ℕ
   pub behind : Option (List ℕ)
   pub cut : IsCut input module_text behind
   pub program : ModuleTree
   pub spelt : SpellsModule module_text program
-  pub refused : IsRefusedAs flags program depth behind fault
+  pub refused : IsRefusedAs counts program depth behind fault
 
 -- a cover was found good, and that was written; or the module or the cover was refused, or the input could not be read, and nothing was written; or the output failed, at a write or at the flush
-abbrev pub IsCheckOf : List ℕ → ℕ → Flags → (old new : Option (List ℕ)) → Bool → Result Verdict RunFault → Type 0
-IsCheckOf input depth flags old new failed (Ok Done) = IsGood input depth flags × WritesAll old new failed (text_of_good depth)
-IsCheckOf input depth flags old new failed (Ok _) = ⊥
-IsCheckOf input depth flags old new failed (Err (run.Input read.Memory)) = WritesNothing old new failed
-IsCheckOf input depth flags old new failed (Err (run.Input fault)) = HasNoModule input fault × WritesNothing old new failed
-IsCheckOf input depth flags old new failed (Err run.ReadFailed) = WritesNothing old new failed
-IsCheckOf input depth flags old new failed (Err (run.Schedule fault)) = ⊥
-IsCheckOf input depth flags old new failed (Err (run.Replay fault)) = ⊥
-IsCheckOf input depth flags old new failed (Err (run.Explore fault)) = ⊥
-IsCheckOf input depth flags old new failed (Err (run.Cover fault)) = IsRefusedCover input depth flags fault × WritesNothing old new failed
-IsCheckOf input depth flags old new failed (Err run.ReportCutOff) = ⊥
-IsCheckOf input depth flags old new failed (Err run.CoverCutOff) = ⊥
-IsCheckOf input depth flags old new failed (Err run.Output) = IsGood input depth flags × BreaksOff old new failed (text_of_good depth)
+abbrev pub IsCheckOf : List ℕ → ℕ → (Identity → Bool) → (old new : Option (List ℕ)) → Bool → Result Verdict RunFault → Type 0
+IsCheckOf input depth counts old new failed (Ok Done) = IsGood input depth counts × WritesAll old new failed (text_of_good depth)
+IsCheckOf input depth counts old new failed (Ok _) = ⊥
+IsCheckOf input depth counts old new failed (Err (run.Input read.Memory)) = WritesNothing old new failed
+IsCheckOf input depth counts old new failed (Err (run.Input fault)) = HasNoModule input fault × WritesNothing old new failed
+IsCheckOf input depth counts old new failed (Err run.ReadFailed) = WritesNothing old new failed
+IsCheckOf input depth counts old new failed (Err (run.Schedule fault)) = ⊥
+IsCheckOf input depth counts old new failed (Err (run.Replay fault)) = ⊥
+IsCheckOf input depth counts old new failed (Err (run.Explore fault)) = ⊥
+IsCheckOf input depth counts old new failed (Err (run.Cover fault)) = IsRefusedCover input depth counts fault × WritesNothing old new failed
+IsCheckOf input depth counts old new failed (Err run.ReportCutOff) = ⊥
+IsCheckOf input depth counts old new failed (Err run.CoverCutOff) = ⊥
+IsCheckOf input depth counts old new failed (Err run.Output) = IsGood input depth counts × BreaksOff old new failed (text_of_good depth)

@@ -2,6 +2,7 @@ pub mod FaultText
 pub mod Status
 pub mod Input
 pub mod Printing
+pub mod inside
 pub mod Refusals
 pub mod Engine
 pub mod Explored

@@ -1,6 +1,8 @@
 -- What the program does with its words and its three streams.
 use Rattle.std.specs.Prelude.{◌≡◌, ◌⊎◌, ℕ, Bool, true, false, List, codes, Option, Result, Ok, Err, IfSome, string_bytes}
 use Rattle.term_core.specs.Stream.{WritesAll, BreaksOff}
+use Rattle.excuses.specs.Excuses.{Excuses, counts, excuses_in}
+use Rattle.findings.specs.Identities.{flags_in}
 use Rattle.findings.specs.declared.flags.Flags.{Flags}
 use Rattle.findings.specs.declared.options.Options.{Options}
 use Rattle.command_words.specs.Words.{AsksCheck, AsksExplore, AsksReplay, IsCheck, IsExplore, IsInRange, IsNamed, IsReplay, command_of}
@@ -44,21 +46,21 @@ IsReported errors (Err fault) = Gets errors (text_of_fault fault)
 -- what was asked for was done with the input: a schedule was replayed, or the schedules were explored, or a cover was checked
 abbrev pub IsDone : Words → List ℕ → (old new : Option (List ℕ)) → Bool → Result Verdict RunFault → Type 0
 IsDone (Replay schedule) input old new failed outcome = IsRunOf input (string_bytes schedule) old new failed outcome
-IsDone (Explore options what) input old new failed outcome = IsExplorationOf input options what old new failed outcome × IsCleanIfSaid input options outcome
-IsDone (Check depth flags) input old new failed outcome = IsCheckOf input depth flags old new failed outcome
+IsDone (Explore options x what) input old new failed outcome = IsExplorationOf input options (excuses_in x) what old new failed outcome × IsCleanIfSaid input options (excuses_in x) outcome
+IsDone (Check depth flags x) input old new failed outcome = IsCheckOf input depth (counts (flags_in flags) (excuses_in x)) old new failed outcome
 
 -- the input could not be read: a read has failed, or, where it is read whole, the reads are used up
 abbrev pub CannotBeRead : Words → Option (List ℕ) → Bool → Type 0
 CannotBeRead (Replay schedule) input failed = failed ≡ true
-CannotBeRead (Explore options what) input failed = failed ≡ true
-CannotBeRead (Check depth flags) input failed = IsUnread input failed
+CannotBeRead (Explore options x what) input failed = failed ≡ true
+CannotBeRead (Check depth flags x) input failed = IsUnread input failed
 
 -- what the words ask for was done with the input, a read of which may have failed: what it wrote to the output was flushed, the third stream got the line of a refusal or nothing, and the status is that of its end
 pub record IsRun (words : List (List ℕ)) (input : Option (List ℕ)) (failed : Bool) (output errors : Written) (status : ℕ) : Type 0 where
   pub asked : Words
   pub replay : (schedule : List ℕ) → IsReplay words schedule → AsksReplay schedule asked
-  pub explore : (options : Options) (what : Printed) → IsExplore words options what → AsksExplore options what asked
-  pub check : (depth : ℕ) (flags : Flags) → IsCheck words depth flags → AsksCheck depth flags asked
+  pub explore : (options : Options) (x : Excuses) (what : Printed) → IsExplore words options x what → AsksExplore options x what asked
+  pub check : (depth : ℕ) (flags : Flags) (x : Excuses) → IsCheck words depth flags x → AsksCheck depth flags x asked
   pub named : IsNamed words (command_of asked)
   pub in_range : IsInRange asked
   pub outcome : Result Verdict RunFault
@@ -76,8 +78,8 @@ pub record AreRefused (words : List (List ℕ)) (output errors : Written) : Type
   pub text : List ℕ
   pub told : Gets errors text
   pub no_replay : (schedule : List ℕ) → IsReplay words schedule → text ≡ codes "error: out of memory\n"
-  pub no_exploration : (options : Options) (what : Printed) → IsExplore words options what → text ≡ codes "error: out of memory\n"
-  pub no_check : (depth : ℕ) (flags : Flags) → IsCheck words depth flags → text ≡ codes "error: out of memory\n"
+  pub no_exploration : (options : Options) (x : Excuses) (what : Printed) → IsExplore words options x what → text ≡ codes "error: out of memory\n"
+  pub no_check : (depth : ℕ) (flags : Flags) (x : Excuses) → IsCheck words depth flags x → text ≡ codes "error: out of memory\n"
 
 -- there was no memory for the words: the output got nothing, and the third stream the parser's text for that
 abbrev pub HaveNoMemory : (output errors : Written) → Type 0

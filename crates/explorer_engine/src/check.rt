@@ -1,5 +1,7 @@
 // A check of a cover, from the bytes that the program is given to the line that it writes.
 ghost use Rattle.std.specs.Prelude.{◌≡◌, ◌==◌, true, false, IfSome, OnOk, Err};
+ghost use Rattle.excuses.specs.Excuses.{counts, excuses_in};
+ghost use Rattle.findings.specs.Identities.{flags_in};
 ghost use Rattle.explorer_engine.specs.Checked.{IsCheckOf, text_of_good};
 ghost use Rattle.explorer_engine.specs.Engine.{IsRefusedBefore, IsHandedOn, WritesNothing};
 ghost use Rattle.explorer_engine.specs.Input.{IsUnread};
@@ -11,13 +13,14 @@ use crate::verdict::{RunFault, Verdict};
 use crate::watched::Watched;
 use core_reader::read_module;
 use cover_check::{CoverFault, check_cover, split_at_mark};
+use excuses::Excuses;
 use findings::Flags;
 use search_crew::Gate;
 use std::alloc::Global;
 use term_core::{Sink, Source, WriteFault, write_all, write_number};
 
 /// Reads a module and the cover behind it from the source, and checks the cover: where it is good, no schedule of at most
-/// so many steps shows an error under the flags, whoever wrote it. The module is what stands before the first line that
+/// so many steps shows anything that counts as an error, whoever wrote it. The module is what stands before the first line that
 /// is exactly `%%cover`. The answer is one line, and the sink is flushed. The gate is told of each line that is good. It
 /// waits for nobody.
 ///
@@ -31,6 +34,7 @@ pub fn run_check<R: Source, G: Gate, W: Sink>(
     source: &mut R,
     depth: u64,
     flags: Flags,
+    excuses: &Excuses,
     gate: &G,
     sink: &mut W,
 ) -> Result<Verdict, RunFault>
@@ -39,7 +43,7 @@ pub fn run_check<R: Source, G: Gate, W: Sink>(
 
     // Where the source reports its bytes.
     ensures run { IfSome (R.remaining source.old) (λ input.
-        IsCheckOf input depth flags (W.contents sink.old) (W.contents sink.new) (W.has_failed sink.new) result) }
+        IsCheckOf input depth (counts (flags_in flags) (excuses_in excuses.now)) (W.contents sink.old) (W.contents sink.new) (W.has_failed sink.new) result) }
 
     // Whether or not it does.
     ensures silent { IsRefusedBefore result → WritesNothing (W.contents sink.old) (W.contents sink.new) (W.has_failed sink.new) }
@@ -57,7 +61,15 @@ pub fn run_check<R: Source, G: Gate, W: Sink>(
     let Some(cover_text) = behind else {
         return Err(RunFault::Cover(CoverFault::Short(1)));
     };
-    check_cover(alloc, &program, depth, flags, cover_text, &Watched { gate })?;
+    check_cover(
+        alloc,
+        &program,
+        depth,
+        flags,
+        excuses,
+        cover_text,
+        &Watched { gate },
+    )?;
     write_good(sink, depth)?;
     Ok(Verdict::Done)
 }

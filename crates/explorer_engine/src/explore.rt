@@ -1,6 +1,7 @@
 // An exploration of the program, from the bytes that it is given to the report that it writes.
 ghost use Rattle.std.specs.Prelude.{◌≡◌, ◌==◌, ◌≤◌, true, false, IfSome, OnOk, Err};
 ghost use Rattle.explorer_engine.specs.Engine.{IsRefusedBefore, IsHandedOn, WritesNothing};
+ghost use Rattle.excuses.specs.Excuses.{excuses_in};
 ghost use Rattle.explorer_engine.specs.Explored.{IsCleanIfSaid, IsExplorationOf};
 ghost use Rattle.explorer_engine.specs.Input.{IsReadWithin};
 ghost use Rattle.explorer_engine.specs.Status.{status_of};
@@ -11,6 +12,8 @@ use crate::verdict::{RunFault, Verdict};
 use command_words::Printed;
 use core_reader::laws::texts_say_one_module;
 use core_reader::read_module;
+use excuses::Excuses;
+use excuses::laws::judged_are_exact;
 use findings::Options;
 use search_crew::{Gate, search};
 use std::alloc::Global;
@@ -38,6 +41,7 @@ pub fn run_explore<T: Threads + Wait + Sync, R: Source, G: Gate + Sync, W: Sink>
     alloc: Global,
     source: &mut R,
     options: &Options,
+    excuses: &Excuses,
     printed: Printed,
     gate: &G,
     sink: &mut W,
@@ -48,8 +52,8 @@ pub fn run_explore<T: Threads + Wait + Sync, R: Source, G: Gate + Sync, W: Sink>
 
     // Where the source reports its bytes.
     ensures run { IfSome (R.remaining source.old) (λ input.
-        IsExplorationOf input options.now printed (W.contents sink.old) (W.contents sink.new) (W.has_failed sink.new) result) }
-    ensures clean { IfSome (R.remaining source.old) (λ input. IsCleanIfSaid input options.now result) }
+        IsExplorationOf input options.now (excuses_in excuses.now) printed (W.contents sink.old) (W.contents sink.new) (W.has_failed sink.new) result) }
+    ensures clean { IfSome (R.remaining source.old) (λ input. IsCleanIfSaid input options.now (excuses_in excuses.now) result) }
 
     // Whether or not it does.
     ensures silent { IsRefusedBefore result → WritesNothing (W.contents sink.old) (W.contents sink.new) (W.has_failed sink.new) }
@@ -63,6 +67,7 @@ pub fn run_explore<T: Threads + Wait + Sync, R: Source, G: Gate + Sync, W: Sink>
     ensures flushed { IsHandedOn result (W.is_flushed sink.new) }
 {
     texts_say_one_module();
+    judged_are_exact();
     let text = read_input(alloc, source)?;
     let program = read_module(alloc, &text)?;
     let outcome = search(rt, alloc, &program, options, gate)?;
@@ -70,10 +75,11 @@ pub fn run_explore<T: Threads + Wait + Sync, R: Source, G: Gate + Sync, W: Sink>
         alloc,
         &program,
         options.depth,
+        excuses,
         printed,
         &outcome,
         gate,
         sink,
     )?;
-    Ok(verdict_of(&outcome))
+    Ok(verdict_of(excuses, &outcome))
 }

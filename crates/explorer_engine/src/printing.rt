@@ -1,7 +1,9 @@
 // What an exploration prints: its report and, where that is asked for and no error was found, the cover of the tree.
 ghost use Rattle.std.specs.Prelude.{◌≡◌, true, false};
-ghost use Rattle.explorer_engine.specs.Explored.{complete_verdict, has_cover, text_of_exploration, text_of_form, verdict_of};
+ghost use Rattle.excuses.specs.Excuses.{counted, excuses_in};
+ghost use Rattle.explorer_engine.specs.Explored.{complete_verdict, has_cover, print_of, text_of_form, verdict_of};
 ghost use Rattle.explorer_engine.specs.Printing.{IsPrinted};
+ghost use Rattle.explorer_engine.specs.inside.Forms.{IsReportWritten};
 ghost use Rattle.world_model.specs.Asking.{program_of};
 
 use crate::print_fault::PrintFault;
@@ -10,6 +12,7 @@ use crate::watched::Watched;
 use command_words::Printed;
 use core_tree::Module;
 use cover_check::write_cover;
+use excuses::Excuses;
 use findings::{FindingList, Outcome};
 use replay_core::write_explained_report;
 use report_text::write_report;
@@ -22,18 +25,19 @@ fn write_form<W: Sink>(
     alloc: Global,
     program: &Module,
     depth: u64,
+    excuses: &Excuses,
     printed: Printed,
     outcome: &Outcome,
     sink: &mut W,
 ) -> Result<(), PrintFault>
     requires { W.has_failed sink.old ≡ false }
-    ensures { IsPrinted (text_of_form printed (program_of program.now) depth outcome.now) (W.contents sink.old) (W.contents sink.new) (W.has_failed sink.new) result }
+    ensures { IsReportWritten printed.explained (text_of_form printed (program_of program.now) depth (excuses_in excuses.now) outcome.now) (W.contents sink.old) (W.contents sink.new) (W.has_failed sink.new) result }
 {
     if printed.explained {
-        write_explained_report(alloc, program, depth, outcome, sink)?;
+        write_explained_report(alloc, program, depth, excuses, outcome, sink)?;
         return Ok(());
     }
-    write_report(sink, depth, outcome)?;
+    write_report(sink, depth, excuses, outcome)?;
     Ok(())
 }
 
@@ -42,16 +46,17 @@ fn print<G: Gate, W: Sink>(
     alloc: Global,
     program: &Module,
     depth: u64,
+    excuses: &Excuses,
     printed: Printed,
     outcome: &Outcome,
     gate: &G,
     sink: &mut W,
 ) -> Result<(), PrintFault>
     requires { W.has_failed sink.old ≡ false }
-    ensures { IsPrinted (text_of_exploration printed (program_of program.now) depth outcome.now) (W.contents sink.old) (W.contents sink.new) (W.has_failed sink.new) result }
+    ensures { IsPrinted (print_of printed (program_of program.now) depth (excuses_in excuses.now) outcome.now) (W.contents sink.old) (W.contents sink.new) (W.has_failed sink.new) result }
 {
-    write_form(alloc, program, depth, printed, outcome, sink)?;
-    if !has_cover(printed, verdict_of(outcome)) {
+    write_form(alloc, program, depth, excuses, printed, outcome, sink)?;
+    if !has_cover(printed, verdict_of(excuses, outcome)) {
         return Ok(());
     }
     write_cover(alloc, program, depth, sink, &Watched { gate })?;
@@ -78,16 +83,17 @@ pub(crate) fn print_and_flush<G: Gate, W: Sink>(
     alloc: Global,
     program: &Module,
     depth: u64,
+    excuses: &Excuses,
     printed: Printed,
     outcome: &Outcome,
     gate: &G,
     sink: &mut W,
 ) -> Result<(), PrintFault>
     requires { W.has_failed sink.old ≡ false }
-    ensures written { IsPrinted (text_of_exploration printed (program_of program.now) depth outcome.now) (W.contents sink.old) (W.contents sink.new) (W.has_failed sink.new) result }
+    ensures written { IsPrinted (print_of printed (program_of program.now) depth (excuses_in excuses.now) outcome.now) (W.contents sink.old) (W.contents sink.new) (W.has_failed sink.new) result }
     ensures flushed { W.has_failed sink.new ≡ false → W.is_flushed sink.new ≡ true }
 {
-    let outcome = print(alloc, program, depth, printed, outcome, gate, sink);
+    let outcome = print(alloc, program, depth, excuses, printed, outcome, gate, sink);
     if sink.failed() {
         return outcome;
     }
@@ -97,22 +103,22 @@ pub(crate) fn print_and_flush<G: Gate, W: Sink>(
     outcome
 }
 
-// Whether a search of all nodes found errors.
-fn complete_verdict(errors: &FindingList) -> Verdict
-    ensures { result ≡ complete_verdict errors.now }
+// Whether a search of all nodes found errors that count.
+fn complete_verdict(excuses: &Excuses, errors: &FindingList) -> Verdict
+    ensures { result ≡ complete_verdict (counted (excuses_in excuses.now) errors.now) }
 {
-    if errors.len() == 0 {
+    if excuses.count_counted(errors) == 0 {
         return Verdict::Clean;
     }
     Verdict::Errors
 }
 
 /// What a search came to.
-pub(crate) fn verdict_of(outcome: &Outcome) -> Verdict
-    ensures { result ≡ verdict_of outcome.now }
+pub(crate) fn verdict_of(excuses: &Excuses, outcome: &Outcome) -> Verdict
+    ensures { result ≡ verdict_of (excuses_in excuses.now) outcome.now }
 {
     match outcome {
-        Outcome::Complete(findings, _) => complete_verdict(findings.errors()),
+        Outcome::Complete(findings, _) => complete_verdict(excuses, findings.errors()),
         Outcome::Incomplete(_, _) => Verdict::Incomplete,
     }
 }

@@ -136,10 +136,12 @@ fn run_asked<T: Threads + Wait + Sync, R: Source, G: Gate + Sync, W: Sink>(
 {
     match asked {
         Words::Replay(schedule) => run_replay(alloc, input, schedule.as_str(), output),
-        Words::Explore(options, printed) => {
-            run_explore(rt, alloc, input, options, *printed, gate, output)
+        Words::Explore(options, excuses, printed) => run_explore(
+            rt, alloc, input, options, excuses, *printed, gate, output,
+        ),
+        Words::Check(depth, flags, excuses) => {
+            run_check(alloc, input, *depth, *flags, excuses, gate, output)
         }
-        Words::Check(depth, flags) => run_check(alloc, input, *depth, *flags, gate, output),
     }
 }
 

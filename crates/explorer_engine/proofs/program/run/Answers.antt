@@ -26,6 +26,6 @@ returns-in-Err-clause-refused g c refused = record {
   text = c.write_words_error.ensures.0;
   told = gets _ _ _ _ _ c.write_words_error.ensures.2;
   no_replay = λ schedule asks. c.write_words_error.ensures.1 (c.in-Err.ensures.replay schedule asks);
-  no_exploration = λ options what asks. c.write_words_error.ensures.1 (c.in-Err.ensures.explore options what asks);
-  no_check = λ depth flags asks. c.write_words_error.ensures.1 (c.in-Err.ensures.check depth flags asks);
+  no_exploration = λ options x what asks. c.write_words_error.ensures.1 (c.in-Err.ensures.explore options x what asks);
+  no_check = λ depth flags x asks. c.write_words_error.ensures.1 (c.in-Err.ensures.check depth flags x asks);
 }
