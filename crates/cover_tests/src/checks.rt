@@ -1,4 +1,5 @@
 // Checks of covers, from the bytes of a module and a cover to what is written and the status.
+use excuses::Excuses;
 use explorer_engine::{RunFault, Verdict, run_check, status, write_fault};
 use findings::Flags;
 use sleep_tree::Unwatched;
@@ -381,7 +382,7 @@ fn answer_of(
 ) -> Result<(Vec<u8>, Vec<u8>, u8), AllocError> {
     let mut source = MemorySource::in_pieces(bytes, read, u64::MAX);
     let mut sink = MemorySink::in_pieces(alloc, 10_000, write)?;
-    let outcome = run_check(alloc, &mut source, depth, flags, &Unwatched, &mut sink);
+    let outcome = run_check(alloc, &mut source, depth, flags, &Excuses::none(alloc), &Unwatched, &mut sink);
     let line = line_of(alloc, &outcome)?;
     Ok((sink.bytes, line, status(&outcome)))
 }

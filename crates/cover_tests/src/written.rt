@@ -3,6 +3,7 @@ ghost use Rattle.std.specs.Prelude.{◌≡◌};
 
 use crate::checks::{TWO_END, joined};
 use cover_check::split_at_mark;
+use excuses::Excuses;
 use explorer_engine::{Printed, RunFault, Verdict, run_check, run_explore};
 use findings::{Flags, Options};
 use sleep_tree::Unwatched;
@@ -58,6 +59,7 @@ fn writes_the_cover_of_a_clean_tree(rt: HostRuntime) -> Result<(), Fail> {
             rt.alloc(),
             &mut source,
             &options(3, 1000, workers),
+            &Excuses::none(rt.alloc()),
             COVERED,
             &Unwatched,
             &mut sink,
@@ -83,6 +85,7 @@ fn writes_no_other_cover(rt: HostRuntime) -> Result<(), Fail> {
             rt.alloc(),
             &mut source,
             &options(5, nodes, 2),
+            &Excuses::none(rt.alloc()),
             printed,
             &Unwatched,
             &mut sink,
@@ -109,6 +112,7 @@ fn a_write_that_fails_leaves_what_was_written(rt: HostRuntime) -> Result<(), Fai
             rt.alloc(),
             &mut source,
             &options(3, 1000, 1),
+            &Excuses::none(rt.alloc()),
             COVERED,
             &Unwatched,
             &mut sink,
@@ -137,6 +141,7 @@ fn accepts_what_it_writes(rt: HostRuntime) -> Result<(), Fail> {
             alloc,
             &mut source,
             &options(depth, 1000, 2),
+            &Excuses::none(rt.alloc()),
             COVERED,
             &Unwatched,
             &mut sink,
@@ -153,7 +158,7 @@ fn accepts_what_it_writes(rt: HostRuntime) -> Result<(), Fail> {
         let mut source = MemorySource::new(text.as_bytes());
         let mut answer = MemorySink::with_room(alloc, 100)?;
         let flags = options(depth, 1, 1).flags;
-        let outcome = run_check(alloc, &mut source, depth, flags, &Unwatched, &mut answer);
+        let outcome = run_check(alloc, &mut source, depth, flags, &Excuses::none(alloc), &Unwatched, &mut answer);
         assert_eq!(rt; outcome, Ok(Verdict::Done));
     }
     Ok(())

@@ -1,6 +1,7 @@
 // Explained reports, from the bytes of a module to the last line.
 ghost use Rattle.std.specs.Prelude.{◌≡◌};
 
+use excuses::Excuses;
 use explorer_engine::{Printed, Verdict, run_explore};
 use findings::{Flags, Options};
 use sleep_tree::Unwatched;
@@ -131,6 +132,7 @@ fn explains_what_it_found(rt: HostRuntime) -> Result<(), Fail> {
                 rt.alloc(),
                 &mut source,
                 &options(depth, nodes, workers),
+                &Excuses::none(rt.alloc()),
                 Printed {
                     explained: true,
                     cover: false,

@@ -102,7 +102,7 @@ const EXPLORATIONS: [(&[&str], u64, u64, bool, bool, Printed); 6] = [
 #[test]
 fn reads_the_words_of_an_exploration(rt: HostRuntime) -> Result<(), Fail> {
     for (words, depth, nodes, allow_deadlock, strict_access, wanted) in EXPLORATIONS {
-        let Words::Explore(options, printed) = read_words(rt.alloc(), words)? else {
+        let Words::Explore(options, excuses, printed) = read_words(rt.alloc(), words)? else {
             return Err(Fail::from("the words are no exploration"));
         };
         assert_eq!(rt; options.depth, depth);
@@ -110,6 +110,7 @@ fn reads_the_words_of_an_exploration(rt: HostRuntime) -> Result<(), Fail> {
         assert_eq!(rt; options.flags.allow_deadlock, allow_deadlock);
         assert_eq!(rt; options.flags.strict_access, strict_access);
         assert_eq!(rt; printed, wanted);
+        assert!(rt; !excuses.are_any());
     }
     Ok(())
 }
@@ -134,10 +135,11 @@ const CHECKS: [(&[&str], u64, bool, bool); 3] = [
 #[test]
 fn reads_the_words_of_a_check(rt: HostRuntime) -> Result<(), Fail> {
     for (words, depth, allow_deadlock, strict_access) in CHECKS {
-        let Words::Check(found, flags) = read_words(rt.alloc(), words)? else {
+        let Words::Check(found, flags, excuses) = read_words(rt.alloc(), words)? else {
             return Err(Fail::from("the words are no check"));
         };
         assert_eq!(rt; found, depth);
+        assert!(rt; !excuses.are_any());
         assert_eq!(rt; flags.allow_deadlock, allow_deadlock);
         assert_eq!(rt; flags.strict_access, strict_access);
     }
