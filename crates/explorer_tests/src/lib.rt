@@ -2,6 +2,8 @@
 #![tactic(auto)]
 
 #[cfg(test)]
+mod excused;
+#[cfg(test)]
 mod explained;
 #[cfg(test)]
 mod input;
