@@ -47,14 +47,14 @@ replayed(Work) ->
 %% ---- an exploration
 
 explored(Work, Coverage) ->
-    {First, Findings, _} = report_reader:report(read(filename:join(Work#work.folder, "report"))),
+    {First, Findings, Last} = report_reader:report(read(filename:join(Work#work.folder, "report"))),
     print(report_text:head(Work#work.source, Coverage, First)),
     Errors = [{Number, report_reader:identity(Identity)} || {error, Number, Identity, _} <- Findings],
     Told = [finding(Work, Place, Finding, Errors) || {Place, Finding} <- lists:enumerate(Findings)],
-    print(report_text:tail(Coverage, First, Findings)),
+    print(report_text:tail(Coverage, First, Findings, Last)),
     disagreements(Told).
 
-%% One finding: an error with all that leads to it, a refusal with its last event.
+%% One finding: an error with all that leads to it, a refusal and what is taken as normal with the last event.
 finding(Work, Place, {Kind, Number, Identity, Schedule}, Errors) ->
     Told = told(Work, read(filename:join([Work#work.folder, "transcripts", integer_to_list(Place)]))),
     Read = report_reader:identity(Identity),
@@ -65,7 +65,7 @@ finding(Work, Place, {Kind, Number, Identity, Schedule}, Errors) ->
             print(["\n", Title, "\n", report_text:schedule(Schedule), report_text:earlier(Earlier),
                    report_text:transcript(Read, Told)]),
             draw(Work, ["error_", integer_to_list(Number)], Title, Read, Told);
-        refusal -> print(report_text:refusal(Title, Schedule, Told))
+        _ -> print(report_text:brief(Title, Schedule, Told))
     end,
     Told.
 

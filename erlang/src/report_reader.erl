@@ -52,7 +52,7 @@ call(Text) ->
 
 whole(Text) -> {Term, []} = report_term:read(Text), Term.
 
-%% The findings of a report, errors before refusals, each with its kind, number, identity and schedule; and the first
+%% The findings of a report, errors before refusals before ends that are taken as normal, each with its kind, number, identity and schedule; and the first
 %% line and the last two.
 report(Text) ->
     [First | Lines] = lines(Text),

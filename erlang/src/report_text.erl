@@ -1,7 +1,7 @@
 %% The report for people.
 -module(report_text).
 -export([call/3, deed/1, identity/1, place/1, role/2, waits/2, stands/2]).
--export([head/3, tail/3, schedule/1, earlier/1, transcript/2, refusal/3]).
+-export([head/3, tail/4, schedule/1, earlier/1, transcript/2, brief/3]).
 -include("report.hrl").
 
 -define(GREATEST_COLUMN, 76).
@@ -90,11 +90,10 @@ visited(First) ->
         _ -> ""
     end.
 
-%% The last lines: how many errors and refusals there are, and the result.
-tail(Coverage, First, Findings) ->
+%% The last lines: how many errors and refusals there are, as the program tells, and the result.
+tail(Coverage, First, Findings, [Counts | _]) ->
     Errors = length([error || {error, _, _, _} <- Findings]),
-    Refusals = length(Findings) - Errors,
-    ["\nerrors ", integer_to_list(Errors), ", refusals ", integer_to_list(Refusals), "\n",
+    ["\n", Counts, "\n",
      "result: ", result(Errors, is_incomplete(First), Coverage, First), "\n"].
 
 result(0, false, ["all", _], _) -> "clean, all schedules";
@@ -154,7 +153,8 @@ in_columns(Lines) ->
 line(Text, "", _) -> [Text, "\n"];
 line(Text, Where, Column) -> [Text, lists:duplicate(max(2, Column - length(Text)), $\s), Where, "\n"].
 
-%% A refused call with the place from which it comes.
-refusal(Title, Schedule, #{events := Events, places := Places}) ->
-    Place = maps:get((lists:last(Events))#event.number, Places, none),
-    ["\n", in_columns([{Title, Place}]), schedule(Schedule)].
+%% A finding in short, with the place of its last event, from which a refused call comes.
+brief(Title, Schedule, Told) -> ["\n", in_columns([{Title, last_place(Told)}]), schedule(Schedule)].
+
+last_place(#{events := []}) -> none;
+last_place(#{events := Events, places := Places}) -> maps:get((lists:last(Events))#event.number, Places, none).
