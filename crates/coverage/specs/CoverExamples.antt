@@ -1,4 +1,4 @@
--- Good covers of small modules, and lines that are none.
+-- Good covers of small modules, and lines that are none, where what is an error under the flags counts as one.
 use Rattle.std.specs.Prelude.{ℕ, List, [], ◌∷◌, codes}
 use Rattle.core_tree.specs.Syntax.{ModuleTree}
 use Rattle.term_core.specs.declared.step.Step.{Step}
@@ -6,12 +6,13 @@ use Rattle.term_core.specs.declared.step.Step.TheVariants.{Turn}
 use Rattle.world_model.specs.Asking.{program_of}
 use Rattle.world_model.specs.Happenings.{P_2}
 use Rattle.world_model.specs.Modules.{module_of, main, child, spawn_child, new_table, put_one, in_turn, the_atom}
+use Rattle.world_model.specs.Shown.{is_error}
 use Rattle.world_model.specs.ShownExamples.{plain, strict}
 use Rattle.coverage.specs.Covers.{Lines, IsGoodCover}
 use Rattle.coverage.specs.Trees.{p, c, idle, private_read}
 
 abbrev pub IsCover : ModuleTree → ℕ → Lines → Type 0
-IsCover m n lines = IsGoodCover plain (program_of m) n lines
+IsCover m n lines = IsGoodCover (is_error plain) (program_of m) n lines
 
 abbrev pub IsRefused : ModuleTree → ℕ → Lines → Type 0
 IsRefused m n lines = IsCover m n lines → ⊥
@@ -84,4 +85,4 @@ abbrev pub RefusalIsGood : Type 0
 RefusalIsGood = IsCover private_read 3 private_lines
 
 abbrev pub ErrorIsRefused : Type 0
-ErrorIsRefused = IsGoodCover strict (program_of private_read) 3 private_lines → ⊥
+ErrorIsRefused = IsGoodCover (is_error strict) (program_of private_read) 3 private_lines → ⊥

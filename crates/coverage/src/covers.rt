@@ -2,13 +2,14 @@
 ghost use Rattle.coverage.specs.CoverExamples.{OwnOrderIsGood, OtherOrderIsGood, SleepingStepIsGood, BothOrdersAreGood, RefusalIsGood, MissingBranchIsRefused, LaterStepIsWanted, WokenStepIsWanted, StepTwiceIsRefused, StrangeStepIsRefused, StepAtTheDepthIsRefused, ShortCoverIsRefused, LongCoverIsRefused, ErrorIsRefused};
 ghost use Rattle.coverage.specs.Covers.{CoversShowNoError, OwnCoversAreGood};
 
-/// Where lines are a good cover, no schedule of at most so many steps shows an error under the flags, whoever
-/// wrote the lines and in whatever order they take their steps.
+/// Where lines are a good cover, no schedule of at most so many steps shows anything that counts as an error, whoever
+/// wrote the lines and in whatever order they take their steps. Any test of what schedules show may say what counts.
 pub fn covers_show_no_error()
     ensures { CoversShowNoError }
 {}
 
-/// Where the tree shows no error under the flags, the lines that the search writes are a good cover.
+/// Where no schedule of at most so many steps shows anything that counts as an error, the lines that the search writes
+/// are a good cover.
 pub fn own_covers_are_good()
     ensures { OwnCoversAreGood }
 {}
