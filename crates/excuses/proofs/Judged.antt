@@ -3,9 +3,11 @@ use Rattle.std.proofs.Common.{◌≡◌, ◌↔◌, ◌⊎◌, inl, inr, Bool, t
 use Rattle.world_model.specs.Names.{IsAmong}
 use Rattle.world_model.specs.Shown.{Identity, End, Deadlock, Runaway, RefusedCall, Flags, is_error}
 use Rattle.coverage.specs.Findings.{Finding, IsFound}
+use Rattle.coverage.specs.Shown.{IsShown}
+use Rattle.tree_cuts.specs.Cuts.{IsEverShown}
 use Rattle.coverage.proofs.Lists.{both_first, both_second, both_true, kept_passes, passes_kept}
 use Rattle.excuses.specs.Excuses.{Excuses, no_excuses, is_excused, counted, taken}
-use Rattle.excuses.specs.Laws.{AreErrorsThat, JudgedAreExact, NoExcusesChangeNothing, NothingIsLost}
+use Rattle.excuses.specs.Laws.{AreErrorsThat, AreJudged, JudgedAreExact, JudgedAreWhole, NoExcusesChangeNothing, NothingIsLost}
 
 -- ---- findings that pass a test of their identities
 
@@ -26,8 +28,14 @@ listed flags more Holds fs are i = (
   λ h. kept more fs i ((are i).1 (both_first (is_error flags i) (more i) h.0, h.1)) (both_second (is_error flags i) (more i) h.0),
 )
 
-pub judged : JudgedAreExact
+judged : (flags : Flags) (x : Excuses) (Holds : Identity → Type 0) (fs : List Finding) → AreErrorsThat flags Holds fs → AreJudged flags x Holds fs
 judged flags x Holds fs are = record { errors = listed flags (λ i. not (is_excused x i)) Holds fs are; normal = listed flags (is_excused x) Holds fs are }
+
+pub judged_to : JudgedAreExact
+judged_to flags x a n fs are = judged flags x (IsShown a n) fs are
+
+pub judged_all : JudgedAreWhole
+judged_all flags x a fs are = judged flags x (IsEverShown a) fs are
 
 -- ---- each counts, or is taken as normal
 

@@ -1,6 +1,6 @@
 -- Which errors are excused, and so taken as normal.
 use Rattle.std.specs.List.{filter, list_any}
-use Rattle.std.specs.Prelude.{ℕ, Bool, true, false, ◌&&◌, ◌||◌, not, List, [], ◌∷◌, map}
+use Rattle.std.specs.Prelude.{Bool, false, ◌&&◌, ◌||◌, not, List, [], map}
 use Rattle.term_core.specs.Meaning.{Meaning}
 use Rattle.term_core.specs.Term.{meaning_of}
 use Rattle.world_model.specs.Names.{Pid, same_pid, same_term}

@@ -1,9 +1,11 @@
 -- What the laws of excuses say.
-use Rattle.std.specs.List.{filter}
-use Rattle.std.specs.Prelude.{◌≡◌, ◌↔◌, ◌⊎◌, ◌&&◌, Bool, true, List, []}
+use Rattle.std.specs.Prelude.{◌≡◌, ◌↔◌, ◌⊎◌, ℕ, true, List, []}
 use Rattle.world_model.specs.Names.{IsAmong}
+use Rattle.world_model.specs.Requests.{Program}
 use Rattle.world_model.specs.Shown.{Identity, Flags, is_error}
 use Rattle.coverage.specs.Findings.{Finding, IsFound}
+use Rattle.coverage.specs.Shown.{IsShown}
+use Rattle.tree_cuts.specs.Cuts.{IsEverShown}
 use Rattle.excuses.specs.Excuses.{Excuses, no_excuses, is_normal, counts, counted, taken}
 
 -- the errors that are listed are those of which this is so
@@ -15,8 +17,13 @@ pub record AreJudged (flags : Flags) (x : Excuses) (Holds : Identity → Type 0)
   pub errors : (i : Identity) → IsFound i (counted x fs) ↔ ((counts flags x i ≡ true) × Holds i)
   pub normal : (i : Identity) → IsFound i (taken x fs) ↔ ((is_normal flags x i ≡ true) × Holds i)
 
+-- of what schedules of at most so many steps show
 abbrev pub JudgedAreExact : Type 0
-JudgedAreExact = (flags : Flags) (x : Excuses) (Holds : Identity → Type 0) (fs : List Finding) → AreErrorsThat flags Holds fs → AreJudged flags x Holds fs
+JudgedAreExact = (flags : Flags) (x : Excuses) (a : Program) (n : ℕ) (fs : List Finding) → AreErrorsThat flags (IsShown a n) fs → AreJudged flags x (IsShown a n) fs
+
+-- and of what schedules of whatever length show
+abbrev pub JudgedAreWhole : Type 0
+JudgedAreWhole = (flags : Flags) (x : Excuses) (a : Program) (fs : List Finding) → AreErrorsThat flags (IsEverShown a) fs → AreJudged flags x (IsEverShown a) fs
 
 -- each error that was found counts or is taken as normal, and nothing else is listed
 abbrev pub NothingIsLost : Type 0

@@ -1,10 +1,12 @@
 // The laws of excuses.
-ghost use Rattle.excuses.specs.Laws.{JudgedAreExact, NoExcusesChangeNothing, NothingIsLost};
+ghost use Rattle.excuses.specs.Laws.{JudgedAreExact, JudgedAreWhole, NoExcusesChangeNothing, NothingIsLost};
 
-/// Where the errors that are listed are exactly those of which something is so, those that count are listed exactly
-/// where it is so of them, and so are those that are taken as normal.
+/// Where the errors that are listed are exactly those that some schedule shows, of at most so many steps or of whatever
+/// length, those that count are listed exactly where some schedule shows them, and so are those that are taken as
+/// normal.
 pub fn judged_are_exact()
-    ensures { JudgedAreExact }
+    ensures bounded { JudgedAreExact }
+    ensures all { JudgedAreWhole }
 {}
 
 /// Each error that was found counts or is taken as normal.
