@@ -3,6 +3,7 @@ use Rattle.std.proofs.Common.{◌≡◌, ◌==◌, ℕ, zero, suc, Bool, true, f
 use Rattle.std.proofs.lemmas.Bool.{eq-eqb, eqb-true}
 use Rattle.std.specs.Fmt.{decimal}
 use Rattle.coverage.specs.Findings.{Finding}
+use Rattle.excuses.specs.Excuses.{counted}
 use Rattle.findings.specs.declared.outcome.Outcome.TheVariants.{Complete, Incomplete}
 use Rattle.report_text.specs.Clean.{LastLinesSayIt}
 use Rattle.report_text.specs.ReportText.{complete_result}
@@ -27,5 +28,7 @@ says : (depth : ℕ) (errors : List Finding) (cut : ℕ) → errors ≡ [] → c
 says depth errors cut none whole = λ i. line_of depth (none i) (eq-eqb cut 0 whole i)
 
 pub lines_say_it : LastLinesSayIt
-lines_say_it depth (Complete findings extent) = (of_all depth findings.errors extent.cut (extent.cut == 0) refl, λ all. says depth findings.errors extent.cut all.0 all.1)
-lines_say_it depth (Incomplete cause findings) = (λ said. absurd (omega (arith, ap (byte_at 8) said)), λ none. absurd none)
+lines_say_it depth x (Complete findings extent) =
+    let errors = counted x findings.errors in
+    (of_all depth errors extent.cut (extent.cut == 0) refl, λ all. says depth errors extent.cut all.0 all.1)
+lines_say_it depth x (Incomplete cause findings) = (λ said. absurd (omega (arith, ap (byte_at 8) said)), λ none. absurd none)

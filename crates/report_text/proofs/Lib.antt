@@ -1,3 +1,5 @@
 pub mod CallTexts
 pub mod ReportTexts
+pub mod Listing
 pub mod CleanLaws
+pub mod NoExcuses

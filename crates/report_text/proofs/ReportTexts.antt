@@ -5,23 +5,40 @@ use Rattle.std.specs.Fmt.{decimal}
 use Rattle.term_core.specs.Text.{text_of_schedule}
 use Rattle.term_core.specs.declared.step.Step.{Step}
 use Rattle.coverage.specs.Findings as coverage
+use Rattle.excuses.specs.Excuses.{Excuses, counted, taken}
 use Rattle.findings.specs.Found.{finding_in}
 use Rattle.findings.specs.declared.finding.Finding.{Finding}
 use Rattle.findings.specs.declared.outcome.Outcome.{Outcome}
 use Rattle.report_text.specs.IdentityText.{text_of_identity}
-use Rattle.report_text.specs.ReportText.{findings_in, first_line, text_of_finding, findings_from, text_of_findings, text_of_all, text_of_counts, complete_result, last_line, text_of_report}
+use Rattle.report_text.proofs.Listing.{IsListing}
+use Rattle.report_text.specs.ReportText.{findings_in, first_line, text_of_finding, findings_from, text_of_findings, text_of_all, text_of_counts, text_of_normal, text_of_taken, complete_result, last_line, text_of_report}
 
 -- by what the errors and the refusals are
-pub text_of_all-lists : (f : coverage.Findings) (es rs : List coverage.Finding) → es ≡ f.errors → rs ≡ f.refusals → text_of_all f ≡ text_of_findings (codes "error") es ++ text_of_findings (codes "refusal") rs
-text_of_all-lists f es rs e h = sym (ap (λ w. text_of_findings (codes "error") w ++ text_of_findings (codes "refusal") rs) e ∙ ap (λ w. text_of_findings (codes "error") f.errors ++ text_of_findings (codes "refusal") w) h)
+pub text_of_all-lists : (x : Excuses) (f : coverage.Findings) (es rs : List coverage.Finding) → es ≡ f.errors → rs ≡ f.refusals
+    → text_of_all x f ≡ text_of_findings (codes "error") (counted x es) ++ (text_of_findings (codes "refusal") rs ++ text_of_findings (codes "normal") (taken x es))
+text_of_all-lists x f es rs e h =
+    sym (
+    ap (λ w. text_of_findings (codes "error") (counted x w) ++ (text_of_findings (codes "refusal") rs ++ text_of_findings (codes "normal") (taken x w))) e
+    ∙ ap (λ w. text_of_findings (codes "error") (counted x f.errors) ++ (text_of_findings (codes "refusal") w ++ text_of_findings (codes "normal") (taken x f.errors))) h
+    )
 
--- by how many errors and refusals there are
-pub text_of_counts-numbers : (f : coverage.Findings) (m n : ℕ) → m ≡ length f.errors → n ≡ length f.refusals → text_of_counts f ≡ codes "errors " ++ (decimal m ++ (codes ", refusals " ++ (decimal n ++ codes "\n")))
-text_of_counts-numbers f m n e h = sym (ap (λ w. codes "errors " ++ (decimal w ++ (codes ", refusals " ++ (decimal n ++ codes "\n")))) e ∙ ap (λ w. codes "errors " ++ (decimal (length f.errors) ++ (codes ", refusals " ++ (decimal w ++ codes "\n")))) h)
+-- by what the errors are, and by how many of them count and how many refusals there are
+pub text_of_counts-numbers : (x : Excuses) (f : coverage.Findings) (es : List coverage.Finding) (m n : ℕ) → es ≡ f.errors → m ≡ length (counted x es) → n ≡ length f.refusals
+    → text_of_counts x f ≡ codes "errors " ++ (decimal m ++ (codes ", refusals " ++ (decimal n ++ (text_of_normal x es ++ codes "\n"))))
+text_of_counts-numbers x f es m n are e h =
+    sym (
+    ap (λ w. codes "errors " ++ (decimal w ++ (codes ", refusals " ++ (decimal n ++ (text_of_normal x es ++ codes "\n"))))) e
+    ∙ ap (λ w. codes "errors " ++ (decimal (length (counted x es)) ++ (codes ", refusals " ++ (decimal w ++ (text_of_normal x es ++ codes "\n"))))) h
+    ∙ ap (λ w. codes "errors " ++ (decimal (length (counted x w)) ++ (codes ", refusals " ++ (decimal (length f.refusals) ++ (text_of_normal x w ++ codes "\n"))))) are
+    )
+
+-- by how many they are
+pub text_of_taken-number : (fs : List coverage.Finding) (n : ℕ) → n ≡ length fs → text_of_taken fs ≡ codes ", taken as normal " ++ decimal n
+text_of_taken-number fs n e = ap (λ w. codes ", taken as normal " ++ decimal w) (sym e)
 
 -- by what was found
-pub text_of_report-findings : (depth : ℕ) (o : Outcome) (f : coverage.Findings) → f ≡ findings_in o → text_of_report depth o ≡ first_line depth o ++ (text_of_all f ++ (text_of_counts f ++ last_line o))
-text_of_report-findings depth o f e = sym (ap (λ w. first_line depth o ++ (text_of_all w ++ (text_of_counts w ++ last_line o))) e)
+pub text_of_report-findings : (depth : ℕ) (x : Excuses) (o : Outcome) (f : coverage.Findings) → f ≡ findings_in o → text_of_report depth x o ≡ first_line depth o ++ (text_of_all x f ++ (text_of_counts x f ++ last_line x o))
+text_of_report-findings depth x o f e = sym (ap (λ w. first_line depth o ++ (text_of_all x w ++ (text_of_counts x w ++ last_line x o))) e)
 
 -- by what the schedule is
 pub text_of_finding-schedule : (kind : List ℕ) (number : ℕ) (f : coverage.Finding) (s : List Step) → s ≡ f.schedule → text_of_finding kind number f ≡ kind ++ (codes " " ++ (decimal number ++ (codes ": " ++ (text_of_identity f.identity ++ (codes "\n  " ++ (text_of_schedule s ++ codes "\n"))))))
@@ -45,3 +62,7 @@ complete_result-none (f ∷ fs) e = absurd (omega (arith, e))
 pub complete_result-some : (fs : List coverage.Finding) → (length fs ≡ 0 → ⊥) → complete_result fs ≡ codes "errors"
 complete_result-some [] n = absurd (n refl)
 complete_result-some (f ∷ fs) n = refl
+
+-- findings of a kind are one text after another
+pub is_listing : (kind : List ℕ) → IsListing (findings_from kind) (text_of_finding kind)
+is_listing kind = record { none = λ n. refl; more = λ n f fs. refl }

@@ -1,5 +1,7 @@
 pub mod CallText
 pub mod EventText
 pub mod IdentityText
+pub mod Standing
 pub mod ReportText
 pub mod Clean
+pub mod NoExcuses

@@ -3,6 +3,7 @@ use Rattle.std.specs.Prelude.{ℕ, ◌+◌, ◌==◌, List, [], ◌∷◌, ◌++
 use Rattle.std.specs.Fmt.{decimal}
 use Rattle.term_core.specs.Text.{text_of_schedule}
 use Rattle.coverage.specs.Findings.{Finding, Findings}
+use Rattle.excuses.specs.Excuses.{Excuses, are_any, counted, taken}
 use Rattle.findings.specs.declared.extent.Extent.{Extent}
 use Rattle.findings.specs.declared.outcome.Cause.{Cause}
 use Rattle.findings.specs.declared.outcome.Cause.TheVariants.{NodeLimit, Memory}
@@ -55,33 +56,43 @@ findings_from kind number (f ∷ fs) = text_of_finding kind number f ++ findings
 abbrev pub text_of_findings : List ℕ → List Finding → List ℕ
 text_of_findings kind fs = findings_from kind 1 fs
 
--- how many errors and refusals there are
-abbrev pub text_of_counts : Findings → List ℕ
-text_of_counts findings = codes "errors " ++ (decimal (length findings.errors) ++ (codes ", refusals " ++ (decimal (length findings.refusals) ++ codes "\n")))
+-- how many errors are taken as normal
+abbrev pub text_of_taken : List Finding → List ℕ
+text_of_taken fs = codes ", taken as normal " ++ decimal (length fs)
+
+-- which is told where an error may be excused
+abbrev pub text_of_normal : Excuses → List Finding → List ℕ
+text_of_normal x errors = if are_any x then text_of_taken (taken x errors) else []
+
+-- how many errors count and how many refusals there are; where an error may be excused, how many are taken as normal
+abbrev pub text_of_counts : Excuses → Findings → List ℕ
+text_of_counts x findings =
+    codes "errors " ++ (decimal (length (counted x findings.errors)) ++ (codes ", refusals " ++ (decimal (length findings.refusals) ++ (text_of_normal x findings.errors ++ codes "\n"))))
 
 -- ---- the result
 
--- of all nodes: whether there are errors
+-- of all nodes: whether there are errors that count
 abbrev pub complete_result : List Finding → List ℕ
 complete_result [] = codes "clean"
 complete_result (f ∷ fs) = codes "errors"
 
-abbrev pub text_of_result : Outcome → List ℕ
-text_of_result (Complete findings extent) = complete_result findings.errors
-text_of_result (Incomplete cause findings) = codes "incomplete"
+abbrev pub text_of_result : Excuses → Outcome → List ℕ
+text_of_result x (Complete findings extent) = complete_result (counted x findings.errors)
+text_of_result x (Incomplete cause findings) = codes "incomplete"
 
-abbrev pub last_line : Outcome → List ℕ
-last_line outcome = codes "result: " ++ (text_of_result outcome ++ codes "\n")
+abbrev pub last_line : Excuses → Outcome → List ℕ
+last_line x outcome = codes "result: " ++ (text_of_result x outcome ++ codes "\n")
 
 -- ---- the report
 
--- the errors and then the refusals
-abbrev pub text_of_all : Findings → List ℕ
-text_of_all findings = text_of_findings (codes "error") findings.errors ++ text_of_findings (codes "refusal") findings.refusals
+-- the errors that count, then the refusals, and then the errors that are taken as normal
+abbrev pub text_of_all : Excuses → Findings → List ℕ
+text_of_all x findings =
+    text_of_findings (codes "error") (counted x findings.errors) ++ (text_of_findings (codes "refusal") findings.refusals ++ text_of_findings (codes "normal") (taken x findings.errors))
 
 -- what an exploration comes to whose schedules may have so many steps
-abbrev pub text_of_report : ℕ → Outcome → List ℕ
-text_of_report depth outcome = first_line depth outcome ++ (text_of_all (findings_in outcome) ++ (text_of_counts (findings_in outcome) ++ last_line outcome))
+abbrev pub text_of_report : ℕ → Excuses → Outcome → List ℕ
+text_of_report depth x outcome = first_line depth outcome ++ (text_of_all x (findings_in outcome) ++ (text_of_counts x (findings_in outcome) ++ last_line x outcome))
 
 -- ---- the first and the last line where a report is explained
 
@@ -104,9 +115,9 @@ text_of_depth_reached depth = codes " to depth " ++ decimal depth
 abbrev pub text_of_reach : ℕ → Extent → List ℕ
 text_of_reach depth extent = if extent.cut == 0 then codes ", all schedules" else text_of_depth_reached depth
 
-abbrev pub explained_result : ℕ → Outcome → List ℕ
-explained_result depth (Complete findings extent) = complete_result findings.errors ++ text_of_reach depth extent
-explained_result depth (Incomplete cause findings) = codes "incomplete"
+abbrev pub explained_result : ℕ → Excuses → Outcome → List ℕ
+explained_result depth x (Complete findings extent) = complete_result (counted x findings.errors) ++ text_of_reach depth extent
+explained_result depth x (Incomplete cause findings) = codes "incomplete"
 
-abbrev pub explained_last_line : ℕ → Outcome → List ℕ
-explained_last_line depth outcome = codes "result: " ++ (explained_result depth outcome ++ codes "\n")
+abbrev pub explained_last_line : ℕ → Excuses → Outcome → List ℕ
+explained_last_line depth x outcome = codes "result: " ++ (explained_result depth x outcome ++ codes "\n")

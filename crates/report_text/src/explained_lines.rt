@@ -1,9 +1,11 @@
 // The first and the last line where a report is explained. No write takes memory.
 ghost use Rattle.std.specs.Prelude.{◌≡◌, ◌++◌, false};
 ghost use Rattle.term_core.specs.Stream.{Writes};
+ghost use Rattle.excuses.specs.Excuses.{counted, excuses_in};
 ghost use Rattle.report_text.specs.ReportText.{complete_result, explained_extent, explained_first_line, explained_last_line, explained_result, text_of_depth_reached, text_of_nodes_and_cuts, text_of_reach};
 
 use crate::report::{write_complete_result, write_incomplete, write_nodes};
+use excuses::Excuses;
 use findings::{Extent, FindingList, Outcome};
 use term_core::{Sink, WriteFault, write_all, write_number};
 
@@ -46,19 +48,20 @@ fn write_nodes_and_cuts<W: Sink>(sink: &mut W, extent: Extent) -> Result<(), Wri
     write_number(extent.cut, sink)
 }
 
-/// Writes the last line of an explained report: the result, and where all nodes were visited, of which schedules it
-/// tells: of all, where the tree is cut at no node, and else of those up to the depth. `WriteFault` comes only where
-/// the sink has failed, and then a beginning of the line was written. It takes no memory.
+/// Writes the last line of an explained report: the result, by the errors that count, and where all nodes were
+/// visited, of which schedules it tells: of all, where the tree is cut at no node, and else of those up to the depth.
+/// `WriteFault` comes only where the sink has failed, and then a beginning of the line was written. It takes no memory.
 pub fn write_explained_last_line<W: Sink>(
     sink: &mut W,
     depth: u64,
+    excuses: &Excuses,
     outcome: &Outcome,
 ) -> Result<(), WriteFault>
     requires { W.has_failed sink.old ≡ false }
-    ensures { Writes (W.contents sink.old) (W.contents sink.new) (W.has_failed sink.new) result (explained_last_line depth outcome.now) }
+    ensures { Writes (W.contents sink.old) (W.contents sink.new) (W.has_failed sink.new) result (explained_last_line depth (excuses_in excuses.now) outcome.now) }
 {
     write_all(sink, b"result: ")?;
-    write_explained_result(sink, depth, outcome)?;
+    write_explained_result(sink, depth, excuses, outcome)?;
     write_all(sink, b"\n")
 }
 
@@ -66,14 +69,15 @@ pub fn write_explained_last_line<W: Sink>(
 fn write_explained_result<W: Sink>(
     sink: &mut W,
     depth: u64,
+    excuses: &Excuses,
     outcome: &Outcome,
 ) -> Result<(), WriteFault>
     requires { W.has_failed sink.old ≡ false }
-    ensures { Writes (W.contents sink.old) (W.contents sink.new) (W.has_failed sink.new) result (explained_result depth outcome.now) }
+    ensures { Writes (W.contents sink.old) (W.contents sink.new) (W.has_failed sink.new) result (explained_result depth (excuses_in excuses.now) outcome.now) }
 {
     match outcome {
         Outcome::Complete(findings, extent) => {
-            write_reached_result(sink, findings.errors(), depth, *extent)
+            write_reached_result(sink, excuses, findings.errors(), depth, *extent)
         }
         Outcome::Incomplete(_, _) => write_all(sink, b"incomplete"),
     }
@@ -82,14 +86,15 @@ fn write_explained_result<W: Sink>(
 // Writes the result where all nodes were visited, and of which schedules it tells.
 fn write_reached_result<W: Sink>(
     sink: &mut W,
+    excuses: &Excuses,
     errors: &FindingList,
     depth: u64,
     extent: Extent,
 ) -> Result<(), WriteFault>
     requires { W.has_failed sink.old ≡ false }
-    ensures { Writes (W.contents sink.old) (W.contents sink.new) (W.has_failed sink.new) result (complete_result errors.now ++ text_of_reach depth extent) }
+    ensures { Writes (W.contents sink.old) (W.contents sink.new) (W.has_failed sink.new) result (complete_result (counted (excuses_in excuses.now) errors.now) ++ text_of_reach depth extent) }
 {
-    write_complete_result(sink, errors)?;
+    write_complete_result(sink, excuses, errors)?;
     write_reach(sink, depth, extent)
 }
 

@@ -1,8 +1,14 @@
 // Laws of reports.
 ghost use Rattle.report_text.specs.Clean.{LastLinesSayIt};
+ghost use Rattle.report_text.specs.NoExcuses.{NoExcusesTellNothing};
 
-/// The last line of an explained report is `result: clean, all schedules` exactly where all nodes were visited, none shows
-/// an error, and the tree is cut at none.
+/// Whatever is excused, the last line of an explained report is `result: clean, all schedules` exactly where all nodes were
+/// visited, none shows an error that counts, and the tree is cut at none.
 pub fn last_lines_say_it()
     ensures { LastLinesSayIt }
+{}
+
+/// Where nothing is excused, a report lists all errors and then the refusals, and tells how many there are of both.
+pub fn no_excuses_tell_nothing()
+    ensures { NoExcusesTellNothing }
 {}

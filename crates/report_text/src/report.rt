@@ -1,26 +1,35 @@
 // The report: what an exploration comes to. No write takes memory.
 ghost use Rattle.std.specs.Prelude.{◌≡◌, false, map};
 ghost use Rattle.term_core.specs.Stream.{Writes};
+ghost use Rattle.excuses.specs.Excuses.{counted, excuses_in, taken};
 ghost use Rattle.findings.specs.Found.{finding_in};
-ghost use Rattle.report_text.specs.ReportText.{findings_in, text_of_cause, text_of_nodes, text_of_incomplete, text_of_extent, first_line, text_of_finding, text_of_findings, text_of_all, text_of_counts, complete_result, text_of_result, last_line, text_of_report};
+ghost use Rattle.report_text.specs.ReportText.{findings_in, text_of_cause, text_of_nodes, text_of_incomplete, text_of_extent, first_line, text_of_finding, text_of_findings, text_of_all, text_of_counts, text_of_normal, text_of_taken, complete_result, text_of_result, last_line, text_of_report};
+ghost use Rattle.report_text.specs.Standing.{those_that, word_of};
 
 use crate::identity_text::write_identity;
+use crate::standing::Standing;
+use excuses::Excuses;
 use findings::{Cause, Finding, FindingList, Findings, Outcome};
 use term_core::{Sink, WriteFault, write_all, write_number, write_schedule};
 
-/// Writes what an exploration comes to whose schedules may have so many steps: how far it came, then each
-/// error and each refusal, numbered from 1, with a schedule that shows it, how many they are, and the result.
-/// `WriteFault` comes only where the sink has failed, and then a beginning of the report was written. It
-/// takes no memory.
-pub fn write_report<W: Sink>(sink: &mut W, depth: u64, outcome: &Outcome) -> Result<(), WriteFault>
+/// Writes what an exploration comes to whose schedules may have so many steps: how far it came, then each error
+/// that counts, each refusal and each error that is taken as normal, a kind after the other and numbered from 1,
+/// with a schedule that shows it, how many they are, and the result. `WriteFault` comes only where the sink has
+/// failed, and then a beginning of the report was written. It takes no memory.
+pub fn write_report<W: Sink>(
+    sink: &mut W,
+    depth: u64,
+    excuses: &Excuses,
+    outcome: &Outcome,
+) -> Result<(), WriteFault>
     requires { W.has_failed sink.old ≡ false }
-    ensures { Writes (W.contents sink.old) (W.contents sink.new) (W.has_failed sink.new) result (text_of_report depth outcome.now) }
+    ensures { Writes (W.contents sink.old) (W.contents sink.new) (W.has_failed sink.new) result (text_of_report depth (excuses_in excuses.now) outcome.now) }
 {
     let findings = findings_in(outcome);
     write_first_line(sink, depth, outcome)?;
-    write_all_findings(sink, findings)?;
-    write_counts(sink, findings)?;
-    write_last_line(sink, outcome)
+    write_all_findings(sink, excuses, findings)?;
+    write_counts(sink, excuses, findings)?;
+    write_last_line(sink, excuses, outcome)
 }
 
 /// What was found, by an exploration that came to its end or stopped before it. It takes no memory.
@@ -86,15 +95,41 @@ fn write_cause<W: Sink>(sink: &mut W, cause: Cause) -> Result<(), WriteFault>
     }
 }
 
-// Writes the errors and then the refusals.
-fn write_all_findings<W: Sink>(sink: &mut W, findings: &Findings) -> Result<(), WriteFault>
+// Writes the errors that count, then the refusals, and then the errors that are taken as normal.
+fn write_all_findings<W: Sink>(
+    sink: &mut W,
+    excuses: &Excuses,
+    findings: &Findings,
+) -> Result<(), WriteFault>
     requires { W.has_failed sink.old ≡ false }
-    ensures { Writes (W.contents sink.old) (W.contents sink.new) (W.has_failed sink.new) result (text_of_all findings.now) }
+    ensures { Writes (W.contents sink.old) (W.contents sink.new) (W.has_failed sink.new) result (text_of_all (excuses_in excuses.now) findings.now) }
 {
     let errors = findings.errors();
     let refusals = findings.refusals();
-    write_findings(sink, b"error", errors)?;
-    write_findings(sink, b"refusal", refusals)
+    write_errors(sink, Standing::Counts, excuses, errors)?;
+    write_findings(sink, b"refusal", refusals)?;
+    write_errors(sink, Standing::Normal, excuses, errors)
+}
+
+// Writes all errors that stand so, numbered from 1.
+fn write_errors<W: Sink>(
+    sink: &mut W,
+    standing: Standing,
+    excuses: &Excuses,
+    errors: &FindingList,
+) -> Result<(), WriteFault>
+    requires { W.has_failed sink.old ≡ false }
+    ensures { Writes (W.contents sink.old) (W.contents sink.new) (W.has_failed sink.new) result (text_of_findings (word_of standing) (those_that (excuses_in excuses.now) standing errors.now)) }
+{
+    let kind = standing.word();
+    let mut number = 0;
+    for finding in errors.as_slice() {
+        if standing.is_of(excuses, &finding.identity) {
+            number += 1;
+            write_finding(sink, kind, number, finding)?;
+        }
+    }
+    Ok(())
 }
 
 // Writes all findings of one kind, numbered from 1.
@@ -112,7 +147,7 @@ fn write_findings<W: Sink>(
     Ok(())
 }
 
-/// Writes one finding of a kind (`error`, `refusal`) by its number, and on a line of its own its schedule behind
+/// Writes one finding of a kind (`error`, `refusal`, `normal`) by its number, and on a line of its own its schedule behind
 /// two blanks. `WriteFault` comes only where the sink has failed, and then a beginning of the text was written.
 /// It takes no memory.
 pub fn write_finding<W: Sink>(
@@ -135,51 +170,97 @@ pub fn write_finding<W: Sink>(
     write_all(sink, b"\n")
 }
 
-/// Writes the line that says how many errors and refusals there are. `WriteFault` comes only where the sink has
-/// failed, and then a beginning of the line was written. It takes no memory.
-pub fn write_counts<W: Sink>(sink: &mut W, findings: &Findings) -> Result<(), WriteFault>
+/// Writes the line that says how many errors count, how many refusals there are and, where an error may be excused,
+/// how many errors are taken as normal. `WriteFault` comes only where the sink has failed, and then a beginning of
+/// the line was written. It takes no memory.
+pub fn write_counts<W: Sink>(
+    sink: &mut W,
+    excuses: &Excuses,
+    findings: &Findings,
+) -> Result<(), WriteFault>
     requires { W.has_failed sink.old ≡ false }
-    ensures { Writes (W.contents sink.old) (W.contents sink.new) (W.has_failed sink.new) result (text_of_counts findings.now) }
+    ensures { Writes (W.contents sink.old) (W.contents sink.new) (W.has_failed sink.new) result (text_of_counts (excuses_in excuses.now) findings.now) }
 {
-    let errors = findings.errors().len() as u64;
+    let errors = findings.errors();
+    let counted = excuses.count_counted(errors) as u64;
     let refusals = findings.refusals().len() as u64;
     write_all(sink, b"errors ")?;
-    write_number(errors, sink)?;
+    write_number(counted, sink)?;
     write_all(sink, b", refusals ")?;
     write_number(refusals, sink)?;
+    write_normal(sink, excuses, errors)?;
     write_all(sink, b"\n")
 }
 
-// Writes the line of the result.
-fn write_last_line<W: Sink>(sink: &mut W, outcome: &Outcome) -> Result<(), WriteFault>
+// Writes how many errors are taken as normal, where an error may be excused.
+fn write_normal<W: Sink>(
+    sink: &mut W,
+    excuses: &Excuses,
+    errors: &FindingList,
+) -> Result<(), WriteFault>
     requires { W.has_failed sink.old ≡ false }
-    ensures { Writes (W.contents sink.old) (W.contents sink.new) (W.has_failed sink.new) result (last_line outcome.now) }
+    ensures { Writes (W.contents sink.old) (W.contents sink.new) (W.has_failed sink.new) result (text_of_normal (excuses_in excuses.now) errors.now) }
+{
+    if excuses.are_any() {
+        write_taken(sink, excuses, errors)
+    } else {
+        Ok(())
+    }
+}
+
+// Writes how many errors are taken as normal.
+fn write_taken<W: Sink>(
+    sink: &mut W,
+    excuses: &Excuses,
+    errors: &FindingList,
+) -> Result<(), WriteFault>
+    requires { W.has_failed sink.old ≡ false }
+    ensures { Writes (W.contents sink.old) (W.contents sink.new) (W.has_failed sink.new) result (text_of_taken (taken (excuses_in excuses.now) errors.now)) }
+{
+    let taken = excuses.count_taken(errors) as u64;
+    write_all(sink, b", taken as normal ")?;
+    write_number(taken, sink)
+}
+
+// Writes the line of the result.
+fn write_last_line<W: Sink>(
+    sink: &mut W,
+    excuses: &Excuses,
+    outcome: &Outcome,
+) -> Result<(), WriteFault>
+    requires { W.has_failed sink.old ≡ false }
+    ensures { Writes (W.contents sink.old) (W.contents sink.new) (W.has_failed sink.new) result (last_line (excuses_in excuses.now) outcome.now) }
 {
     write_all(sink, b"result: ")?;
-    write_result(sink, outcome)?;
+    write_result(sink, excuses, outcome)?;
     write_all(sink, b"\n")
 }
 
 // Writes the result.
-fn write_result<W: Sink>(sink: &mut W, outcome: &Outcome) -> Result<(), WriteFault>
+fn write_result<W: Sink>(
+    sink: &mut W,
+    excuses: &Excuses,
+    outcome: &Outcome,
+) -> Result<(), WriteFault>
     requires { W.has_failed sink.old ≡ false }
-    ensures { Writes (W.contents sink.old) (W.contents sink.new) (W.has_failed sink.new) result (text_of_result outcome.now) }
+    ensures { Writes (W.contents sink.old) (W.contents sink.new) (W.has_failed sink.new) result (text_of_result (excuses_in excuses.now) outcome.now) }
 {
     match outcome {
-        Outcome::Complete(findings, _) => write_complete_result(sink, findings.errors()),
+        Outcome::Complete(findings, _) => write_complete_result(sink, excuses, findings.errors()),
         Outcome::Incomplete(_, _) => write_all(sink, b"incomplete"),
     }
 }
 
-/// Writes the result where all nodes were visited: whether there are errors.
+/// Writes the result where all nodes were visited: whether there are errors that count.
 pub(crate) fn write_complete_result<W: Sink>(
     sink: &mut W,
+    excuses: &Excuses,
     errors: &FindingList,
 ) -> Result<(), WriteFault>
     requires { W.has_failed sink.old ≡ false }
-    ensures { Writes (W.contents sink.old) (W.contents sink.new) (W.has_failed sink.new) result (complete_result errors.now) }
+    ensures { Writes (W.contents sink.old) (W.contents sink.new) (W.has_failed sink.new) result (complete_result (counted (excuses_in excuses.now) errors.now)) }
 {
-    if errors.len() == 0 {
+    if excuses.count_counted(errors) == 0 {
         write_all(sink, b"clean")
     } else {
         write_all(sink, b"errors")
