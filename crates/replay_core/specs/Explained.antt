@@ -11,6 +11,7 @@ use Rattle.world_model.specs.Run.{run}
 use Rattle.world_model.specs.Shown.{Identity, Deadlock}
 use Rattle.world_model.specs.World.{contents}
 use Rattle.coverage.specs.Findings.{Finding, Findings}
+use Rattle.excuses.specs.Excuses.{Excuses, counted, taken}
 use Rattle.findings.specs.declared.outcome.Outcome.{Outcome}
 use Rattle.report_text.specs.CallText.{text_of_arguments}
 use Rattle.report_text.specs.EventText.{text_of_event}
@@ -62,13 +63,14 @@ abbrev pub explained_from : Program → List ℕ → ℕ → List Finding → Li
 explained_from a kind number [] = []
 explained_from a kind number (f ∷ fs) = explained_finding a kind number f ++ explained_from a kind (number + 1) fs
 
--- the errors and then the refusals, each numbered from 1
-abbrev pub explained_findings : Program → Findings → List ℕ
-explained_findings a findings = explained_from a (codes "error") 1 findings.errors ++ explained_from a (codes "refusal") 1 findings.refusals
+-- the errors that count, then the refusals, and then the errors that are taken as normal, each kind numbered from 1
+abbrev pub explained_findings : Program → Excuses → Findings → List ℕ
+explained_findings a x findings =
+    explained_from a (codes "error") 1 (counted x findings.errors) ++ (explained_from a (codes "refusal") 1 findings.refusals ++ explained_from a (codes "normal") 1 (taken x findings.errors))
 
-abbrev pub text_of_explained_report : Program → ℕ → Outcome → List ℕ
-text_of_explained_report a depth outcome =
-    explained_first_line depth outcome ++ (explained_findings a (findings_in outcome) ++ (text_of_counts (findings_in outcome) ++ explained_last_line depth outcome))
+abbrev pub text_of_explained_report : Program → ℕ → Excuses → Outcome → List ℕ
+text_of_explained_report a depth x outcome =
+    explained_first_line depth outcome ++ (explained_findings a x (findings_in outcome) ++ (text_of_counts x (findings_in outcome) ++ explained_last_line depth x outcome))
 
 -- ---- what was written of such a text, which takes memory to be made
 

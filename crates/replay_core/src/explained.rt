@@ -1,9 +1,11 @@
 // The explained report: below each finding stand the lines of its schedule and, at a deadlock, who waits.
 ghost use Rattle.std.specs.Prelude.{◌≡◌, [], false, OnOk, codes};
 ghost use Rattle.term_core.specs.Stream.{Writes};
+ghost use Rattle.excuses.specs.Excuses.{excuses_in};
 ghost use Rattle.findings.specs.Found.{finding_in};
 ghost use Rattle.step_plans.specs.Deeds.{event_in};
 ghost use Rattle.report_text.specs.EventText.{text_of_event};
+ghost use Rattle.report_text.specs.Standing.{those_that, word_of};
 ghost use Rattle.world_core.specs.Seen.{program_in};
 ghost use Rattle.world_model.specs.Asking.{program_of};
 ghost use Rattle.replay_core.specs.Explained.{ExplanationsAreOfRuns, IsExplained, explained_finding, explained_findings, explained_from, indented, text_of_explained_report, text_of_explanation, text_of_steps};
@@ -13,10 +15,11 @@ ghost use Rattle.replay_core.specs.inside.ExplainedSteps.{ExplainsStep};
 use crate::explain_fault::ExplainFault;
 use crate::waiting::write_waits;
 use core_tree::Module;
+use excuses::Excuses;
 use findings::{Finding, FindingList, Findings, Outcome};
 use report_text::{
-    findings_in, write_counts, write_event, write_explained_first_line, write_explained_last_line,
-    write_finding,
+    Standing, findings_in, write_counts, write_event, write_explained_first_line,
+    write_explained_last_line, write_finding,
 };
 use std::alloc::Global;
 use step_plans::Event;
@@ -29,8 +32,9 @@ pub fn explanations_are_of_runs()
 {}
 
 /// Writes the explained report of an exploration whose schedules may have so many steps. Its first line tells also at
-/// how many nodes the tree is cut, and its last one of which schedules the result tells. Below each finding stand the
-/// lines of its schedule, each behind four blanks: they come from a new world of the module, in which the steps are
+/// how many nodes the tree is cut, and its last one of which schedules the result tells. The errors that count come
+/// first, then the refusals, and then the errors that are taken as normal. Below each finding stand the lines of its
+/// schedule, each behind four blanks: they come from a new world of the module, in which the steps are
 /// taken one after another, up to one that is not enabled. Below these stands, at a deadlock, a line for each of its
 /// processes, with the messages in its mailbox.
 ///
@@ -41,34 +45,61 @@ pub fn write_explained_report<W: Sink>(
     alloc: Global,
     program: &Module,
     depth: u64,
+    excuses: &Excuses,
     outcome: &Outcome,
     sink: &mut W,
 ) -> Result<(), ExplainFault>
     requires { W.has_failed sink.old ≡ false }
-    ensures { IsExplained (text_of_explained_report (program_of program.now) depth outcome.now) (W.contents sink.old) (W.contents sink.new) (W.has_failed sink.new) result }
+    ensures { IsExplained (text_of_explained_report (program_of program.now) depth (excuses_in excuses.now) outcome.now) (W.contents sink.old) (W.contents sink.new) (W.has_failed sink.new) result }
 {
     let findings = findings_in(outcome);
     write_explained_first_line(sink, depth, outcome)?;
-    write_explained_findings(alloc, program, findings, sink)?;
-    write_counts(sink, findings)?;
-    write_explained_last_line(sink, depth, outcome)?;
+    write_explained_findings(alloc, program, excuses, findings, sink)?;
+    write_counts(sink, excuses, findings)?;
+    write_explained_last_line(sink, depth, excuses, outcome)?;
     Ok(())
 }
 
-// Writes the errors and then the refusals, each with what stands below it.
+// Writes the errors that count, then the refusals, and then the errors that are taken as normal, each with what stands
+// below it.
 fn write_explained_findings<W: Sink>(
     alloc: Global,
     program: &Module,
+    excuses: &Excuses,
     findings: &Findings,
     sink: &mut W,
 ) -> Result<(), ExplainFault>
     requires { W.has_failed sink.old ≡ false }
-    ensures { IsExplained (explained_findings (program_of program.now) findings.now) (W.contents sink.old) (W.contents sink.new) (W.has_failed sink.new) result }
+    ensures { IsExplained (explained_findings (program_of program.now) (excuses_in excuses.now) findings.now) (W.contents sink.old) (W.contents sink.new) (W.has_failed sink.new) result }
 {
     let errors = findings.errors();
     let refusals = findings.refusals();
-    write_explained_list(alloc, program, b"error", errors, sink)?;
+    write_explained_errors(alloc, program, Standing::Counts, excuses, errors, sink)?;
     write_explained_list(alloc, program, b"refusal", refusals, sink)?;
+    write_explained_errors(alloc, program, Standing::Normal, excuses, errors, sink)?;
+    Ok(())
+}
+
+// Writes all errors that stand so, numbered from 1, each with what stands below it.
+fn write_explained_errors<W: Sink>(
+    alloc: Global,
+    program: &Module,
+    standing: Standing,
+    excuses: &Excuses,
+    errors: &FindingList,
+    sink: &mut W,
+) -> Result<(), ExplainFault>
+    requires { W.has_failed sink.old ≡ false }
+    ensures { IsExplained (explained_from (program_of program.now) (word_of standing) 1 (those_that (excuses_in excuses.now) standing errors.now)) (W.contents sink.old) (W.contents sink.new) (W.has_failed sink.new) result }
+{
+    let kind = standing.word();
+    let mut number = 0;
+    for finding in errors.as_slice() {
+        if standing.is_of(excuses, &finding.identity) {
+            number += 1;
+            write_explained_finding(alloc, program, kind, number, finding, sink)?;
+        }
+    }
     Ok(())
 }
 
