@@ -8,9 +8,8 @@ use Rattle.term_core.specs.declared.step.Step.{Step}
 use Rattle.core_tree.specs.Syntax.{ModuleTree}
 use Rattle.world_model.specs.Asking.{program_of}
 use Rattle.world_model.specs.Requests.{Program}
-use Rattle.world_model.specs.Shown.{Flags, is_error}
-use Rattle.coverage.specs.Covers.{Lines, left_over, IsGoodCover, CoversShowNoError}
-use Rattle.cover_check.specs.CoverLaws.{ShowsNoError}
+use Rattle.world_model.specs.Shown.{Identity}
+use Rattle.coverage.specs.Covers.{Lines, left_over, IsGoodCover, CoversShowNoError, ShowsNothing}
 use Rattle.cover_check.specs.CoverText.{lines_in, AreLawfulLines}
 use Rattle.cover_check.specs.Faults.{places_below, root_place, IsCoverText, StandsAt, IsSoAt, IsNoLine, IsJudged, IsFaultOf}
 use Rattle.cover_check.specs.Judging.{Place, judgement_of}
@@ -50,31 +49,31 @@ map_join (first ∷ before) line rest = ap (λ ls. text_of_schedule first ∷ ls
 
 -- ---- a check on its way
 
-module _ (flags : Flags) (a : Program) (n : ℕ) (bytes : List ℕ) where
+module _ (counts : Identity → Bool) (a : Program) (n : ℕ) (bytes : List ℕ) where
   -- at the beginning the root is to come
-  pub stands_first : StandsAt flags a n bytes 1 (root_place n ∷ []) (lines_in bytes)
+  pub stands_first : StandsAt counts a n bytes 1 (root_place n ∷ []) (lines_in bytes)
   stands_first = record { before = []; lawful = tt; spelt = refl; counted = refl; good = refl }
 
   -- one good line more
-  pub stands_next : (number : ℕ) (v : Place) (others : List Place) (line : List ℕ) (rest : List (List ℕ)) (steps : List Step) → StandsAt flags a n bytes number (v ∷ others) (line ∷ rest) → AreLawful steps → line ≡ text_of_schedule steps → judgement_of flags a v steps ≡ Good → StandsAt flags a n bytes (number + 1) (places_below a v steps ++ others) rest
+  pub stands_next : (number : ℕ) (v : Place) (others : List Place) (line : List ℕ) (rest : List (List ℕ)) (steps : List Step) → StandsAt counts a n bytes number (v ∷ others) (line ∷ rest) → AreLawful steps → line ≡ text_of_schedule steps → judgement_of counts a v steps ≡ Good → StandsAt counts a n bytes (number + 1) (places_below a v steps ++ others) rest
   stands_next number v others line rest steps s lawful text good = record {
     before = s.before ++ steps ∷ [];
     lawful = lawful_join s.before steps s.lawful lawful;
     spelt = s.spelt ∙ ap (λ l. map text_of_schedule s.before ++ l ∷ rest) text ∙ sym (map_join s.before steps rest);
     counted = omega (arith, s.counted, length-append s.before (steps ∷ []));
-    good = one_more flags a (root_place n ∷ []) others v s.before steps s.good good;
+    good = one_more counts a (root_place n ∷ []) others v s.before steps s.good good;
   }
 
   -- at the end the bytes are the text of a good cover
-  pub stands_last : (number : ℕ) → StandsAt flags a n bytes number [] [] → IsCoverText flags a n bytes
+  pub stands_last : (number : ℕ) → StandsAt counts a n bytes number [] [] → IsCoverText counts a n bytes
   stands_last number s = record {
     lines = s.before;
     spells = record { lawful = s.lawful; spelt = s.spelt ∙ append-nil (map text_of_schedule s.before) };
-    good = all_good flags a n s.before s.good;
+    good = all_good counts a n s.before s.good;
   }
 
-  pub no_error : CoversShowNoError → IsCoverText flags a n bytes → ShowsNoError flags a n
-  no_error law c i error shown = absurd_error (is_error flags i) error (law flags a n c.lines c.good shown.0 i shown.1 shown.2)
+  pub no_error : CoversShowNoError → IsCoverText counts a n bytes → ShowsNothing counts a n
+  no_error law c i error shown = absurd_error (counts i) error (law counts a n c.lines c.good shown.0 i shown.1 shown.2)
     where
       absurd_error : (b : Bool) → b ≡ true → b ≡ false → ⊥
       absurd_error b is is_not = absurd (true≢false (sym is ∙ is_not))
@@ -82,29 +81,29 @@ module _ (flags : Flags) (a : Program) (n : ℕ) (bytes : List ℕ) where
   -- ---- faults
 
   -- what the nodes that are to come leave of the other lines of a good cover: nothing
-  left : (number : ℕ) (places : List Place) (rest : List (List ℕ)) → StandsAt flags a n bytes number places rest → IsCoverText flags a n bytes → (more : Lines) × AreLawfulLines more × (map text_of_schedule more ≡ rest) × (left_by_places flags a places more ≡ Some [])
+  left : (number : ℕ) (places : List Place) (rest : List (List ℕ)) → StandsAt counts a n bytes number places rest → IsCoverText counts a n bytes → (more : Lines) × AreLawfulLines more × (map text_of_schedule more ≡ rest) × (left_by_places counts a places more ≡ Some [])
   left number places rest s c =
       let g = goes_on c.lines s.before rest c.spells.lawful s.lawful (sym c.spells.spelt ∙ s.spelt) in
-      (g.more, g.lawful, g.spelt, good_leaves flags a n s.before g.more places (subst (IsGoodCover flags a n) g.parts c.good) s.good)
+      (g.more, g.lawful, g.spelt, good_leaves counts a n s.before g.more places (subst (IsGoodCover counts a n) g.parts c.good) s.good)
 
   none_is : (let o : Option Lines = None in o) ≡ Some [] → ⊥
   none_is e = absurd cc
 
   -- a node without a line leaves nothing good
-  wanting : (v : Place) (others : List Place) → left_by_places flags a (v ∷ others) [] ≡ Some [] → ⊥
-  wanting v others e = none_is (sym (ap (option_and_then (left_by_places flags a others)) (no_line flags a v.left v.history v.slept)) ∙ e)
+  wanting : (v : Place) (others : List Place) → left_by_places counts a (v ∷ others) [] ≡ Some [] → ⊥
+  wanting v others e = none_is (sym (ap (option_and_then (left_by_places counts a others)) (no_line counts a v.left v.history v.slept)) ∙ e)
 
-  refuse_short : (number : ℕ) (v : Place) (others : List Place) → StandsAt flags a n bytes number (v ∷ others) [] → IsCoverText flags a n bytes → ⊥
+  refuse_short : (number : ℕ) (v : Place) (others : List Place) → StandsAt counts a n bytes number (v ∷ others) [] → IsCoverText counts a n bytes → ⊥
   refuse_short number v others s c = go (left number (v ∷ others) [] s c)
     where
-      go : (more : Lines) × AreLawfulLines more × (map text_of_schedule more ≡ []) × (left_by_places flags a (v ∷ others) more ≡ Some []) → ⊥
+      go : (more : Lines) × AreLawfulLines more × (map text_of_schedule more ≡ []) × (left_by_places counts a (v ∷ others) more ≡ Some []) → ⊥
       go l = at l.0 l.2 l.3
         where
-          at : (more : Lines) → map text_of_schedule more ≡ [] → left_by_places flags a (v ∷ others) more ≡ Some [] → ⊥
+          at : (more : Lines) → map text_of_schedule more ≡ [] → left_by_places counts a (v ∷ others) more ≡ Some [] → ⊥
           at [] e q = wanting v others q
           at (x ∷ more) e q = absurd cc
 
-  refuse_long : (number : ℕ) (line : List ℕ) (rest : List (List ℕ)) → StandsAt flags a n bytes number [] (line ∷ rest) → IsCoverText flags a n bytes → ⊥
+  refuse_long : (number : ℕ) (line : List ℕ) (rest : List (List ℕ)) → StandsAt counts a n bytes number [] (line ∷ rest) → IsCoverText counts a n bytes → ⊥
   refuse_long number line rest s c =
       let l = left number [] (line ∷ rest) s c in
       at l.0 l.2 l.3
@@ -114,32 +113,32 @@ module _ (flags : Flags) (a : Program) (n : ℕ) (bytes : List ℕ) where
       at (x ∷ more) e q = absurd cc
 
   -- the line of a node of a good cover is good
-  line_is_good : (number : ℕ) (v : Place) (others : List Place) (line : List ℕ) (rest : List (List ℕ)) → StandsAt flags a n bytes number (v ∷ others) (line ∷ rest) → IsCoverText flags a n bytes → (steps : List Step) × AreLawful steps × (line ≡ text_of_schedule steps) × ((judgement_of flags a v steps ≡ Good → ⊥) → ⊥)
+  line_is_good : (number : ℕ) (v : Place) (others : List Place) (line : List ℕ) (rest : List (List ℕ)) → StandsAt counts a n bytes number (v ∷ others) (line ∷ rest) → IsCoverText counts a n bytes → (steps : List Step) × AreLawful steps × (line ≡ text_of_schedule steps) × ((judgement_of counts a v steps ≡ Good → ⊥) → ⊥)
   line_is_good number v others line rest s c =
       let l = left number (v ∷ others) (line ∷ rest) s c in
       at l.0 l.1 l.2 l.3
     where
-      none : (o : Option Lines) → o ≡ None → option_and_then (left_by_places flags a others) o ≡ Some [] → ⊥
-      none o e q = none_is (sym (ap (option_and_then (left_by_places flags a others)) e) ∙ q)
+      none : (o : Option Lines) → o ≡ None → option_and_then (left_by_places counts a others) o ≡ Some [] → ⊥
+      none o e q = none_is (sym (ap (option_and_then (left_by_places counts a others)) e) ∙ q)
 
-      at : (more : Lines) → AreLawfulLines more → map text_of_schedule more ≡ line ∷ rest → left_by_places flags a (v ∷ others) more ≡ Some [] → (steps : List Step) × AreLawful steps × (line ≡ text_of_schedule steps) × ((judgement_of flags a v steps ≡ Good → ⊥) → ⊥)
+      at : (more : Lines) → AreLawfulLines more → map text_of_schedule more ≡ line ∷ rest → left_by_places counts a (v ∷ others) more ≡ Some [] → (steps : List Step) × AreLawful steps × (line ≡ text_of_schedule steps) × ((judgement_of counts a v steps ≡ Good → ⊥) → ⊥)
       at [] h e q = absurd cc
       at (steps ∷ more) h e q =
-          (steps, h.0, (cc), λ bad. none (left_over flags a v.left v.history v.slept (steps ∷ more)) (bad_line flags a v steps more bad) q)
+          (steps, h.0, (cc), λ bad. none (left_over counts a v.left v.history v.slept (steps ∷ more)) (bad_line counts a v steps more bad) q)
 
-  refuse_no_line : (number : ℕ) → IsSoAt flags a n bytes number IsNoLine → IsCoverText flags a n bytes → ⊥
+  refuse_no_line : (number : ℕ) → IsSoAt counts a n bytes number IsNoLine → IsCoverText counts a n bytes → ⊥
   refuse_no_line number s c =
       let l = line_is_good number s.place s.others s.line s.rest s.stands c in
       s.is_so l.0 l.1 l.2
 
-  refuse_judged : (number : ℕ) (j : Judgement) → (j ≡ Good → ⊥) → IsSoAt flags a n bytes number (IsJudged flags a j) → IsCoverText flags a n bytes → ⊥
+  refuse_judged : (number : ℕ) (j : Judgement) → (j ≡ Good → ⊥) → IsSoAt counts a n bytes number (IsJudged counts a j) → IsCoverText counts a n bytes → ⊥
   refuse_judged number j bad s c =
       let l = line_is_good number s.place s.others s.line s.rest s.stands c in
       let same : s.is_so.steps ≡ l.0 = schedule_injective s.is_so.steps l.0 s.is_so.lawful l.1 (sym s.is_so.text ∙ l.2) in
-      l.3 (λ good. bad (sym s.is_so.is ∙ ap (judgement_of flags a s.place) same ∙ good))
+      l.3 (λ good. bad (sym s.is_so.is ∙ ap (judgement_of counts a s.place) same ∙ good))
 
   -- so of a good cover there is no fault but the want of memory
-  pub only_memory : (fault : CoverFault) → IsFaultOf flags a n bytes fault → IsCoverText flags a n bytes → fault ≡ faults.Memory
+  pub only_memory : (fault : CoverFault) → IsFaultOf counts a n bytes fault → IsCoverText counts a n bytes → fault ≡ faults.Memory
   only_memory (faults.Missing number) s c = absurd (refuse_judged number Missing (λ e. absurd cc) s c)
   only_memory (faults.Strange number) s c = absurd (refuse_judged number Strange (λ e. absurd cc) s c)
   only_memory (faults.Short number) s c = absurd (refuse_short number s.place s.others s.stands c)
@@ -148,53 +147,53 @@ module _ (flags : Flags) (a : Program) (n : ℕ) (bytes : List ℕ) where
   only_memory (faults.BadLine number) s c = absurd (refuse_no_line number s c)
   only_memory faults.Memory s c = refl
 
-  pub accepted : {T : Type 0} (r : Result T CoverFault) → IfErr r (IsFaultOf flags a n bytes) → IsCoverText flags a n bytes → IfErr r (λ fault. fault ≡ faults.Memory)
+  pub accepted : {T : Type 0} (r : Result T CoverFault) → IfErr r (IsFaultOf counts a n bytes) → IsCoverText counts a n bytes → IfErr r (λ fault. fault ≡ faults.Memory)
   accepted (Ok done) f c = tt
   accepted (Err fault) f c = only_memory fault f c
 
 -- ---- how a check ends
 
 -- the nodes and the lines that are to come, said in another way
-stands_as : (flags : Flags) (a : Program) (n : ℕ) (bytes : List ℕ) (number : ℕ) (places others : List Place) (lines rest : List (List ℕ)) → places ≡ others → lines ≡ rest → StandsAt flags a n bytes number places lines → StandsAt flags a n bytes number others rest
-stands_as flags a n bytes number places others lines rest e f s =
-    subst (λ (ls : List (List ℕ)). StandsAt flags a n bytes number others ls) f (subst (λ (vs : List Place). StandsAt flags a n bytes number vs lines) e s)
+stands_as : (counts : Identity → Bool) (a : Program) (n : ℕ) (bytes : List ℕ) (number : ℕ) (places others : List Place) (lines rest : List (List ℕ)) → places ≡ others → lines ≡ rest → StandsAt counts a n bytes number places lines → StandsAt counts a n bytes number others rest
+stands_as counts a n bytes number places others lines rest e f s =
+    subst (λ (ls : List (List ℕ)). StandsAt counts a n bytes number others ls) f (subst (λ (vs : List Place). StandsAt counts a n bytes number vs lines) e s)
 
-module _ (flags : Flags) (m : ModuleTree) (n : ℕ) (bytes : List ℕ) (number : ℕ) (places : List Place) (lines : List (List ℕ)) (stands : StandsAt flags (program_of m) n bytes number places lines) where
-  pub is_long : (line : List ℕ) (rest : List (List ℕ)) → places ≡ [] → lines ≡ line ∷ rest → IsFaultOf flags (program_of m) n bytes (faults.Long number)
-  is_long line rest none is = record { line = line; rest = rest; stands = stands_as flags (program_of m) n bytes number places [] lines (line ∷ rest) none is stands }
+module _ (counts : Identity → Bool) (m : ModuleTree) (n : ℕ) (bytes : List ℕ) (number : ℕ) (places : List Place) (lines : List (List ℕ)) (stands : StandsAt counts (program_of m) n bytes number places lines) where
+  pub is_long : (line : List ℕ) (rest : List (List ℕ)) → places ≡ [] → lines ≡ line ∷ rest → IsFaultOf counts (program_of m) n bytes (faults.Long number)
+  is_long line rest none is = record { line = line; rest = rest; stands = stands_as counts (program_of m) n bytes number places [] lines (line ∷ rest) none is stands }
 
-  pub is_short : (v : Place) (others : List Place) → places ≡ v ∷ others → lines ≡ [] → IsFaultOf flags (program_of m) n bytes (faults.Short number)
-  is_short v others is none = record { place = v; others = others; stands = stands_as flags (program_of m) n bytes number places (v ∷ others) lines [] is none stands }
+  pub is_short : (v : Place) (others : List Place) → places ≡ v ∷ others → lines ≡ [] → IsFaultOf counts (program_of m) n bytes (faults.Short number)
+  is_short v others is none = record { place = v; others = others; stands = stands_as counts (program_of m) n bytes number places (v ∷ others) lines [] is none stands }
 
-  pub is_good : places ≡ [] → lines ≡ [] → IsCoverText flags (program_of m) n bytes
-  is_good none empty = stands_last flags (program_of m) n bytes number (stands_as flags (program_of m) n bytes number places [] lines [] none empty stands)
+  pub is_good : places ≡ [] → lines ≡ [] → IsCoverText counts (program_of m) n bytes
+  is_good none empty = stands_last counts (program_of m) n bytes number (stands_as counts (program_of m) n bytes number places [] lines [] none empty stands)
 
   -- at a line of a node
   module _ (k : ModuleTree) (v : Place) (others : List Place) (line : List ℕ) (rest : List (List ℕ)) (same : k ≡ m) (is_next : places ≡ v ∷ others) (is_first : lines ≡ line ∷ rest) where
-    here : StandsAt flags (program_of m) n bytes number (v ∷ others) (line ∷ rest)
-    here = stands_as flags (program_of m) n bytes number places (v ∷ others) lines (line ∷ rest) is_next is_first stands
+    here : StandsAt counts (program_of m) n bytes number (v ∷ others) (line ∷ rest)
+    here = stands_as counts (program_of m) n bytes number places (v ∷ others) lines (line ∷ rest) is_next is_first stands
 
-    so_at : (IsSo : Place → List ℕ → Type 0) (at : ℕ) → at ≡ number → IsSo v line → IsSoAt flags (program_of m) n bytes at IsSo
-    so_at IsSo at e so = record { place = v; others = others; line = line; rest = rest; stands = subst (λ (x : ℕ). StandsAt flags (program_of m) n bytes x (v ∷ others) (line ∷ rest)) (sym e) here; is_so = so }
+    so_at : (IsSo : Place → List ℕ → Type 0) (at : ℕ) → at ≡ number → IsSo v line → IsSoAt counts (program_of m) n bytes at IsSo
+    so_at IsSo at e so = record { place = v; others = others; line = line; rest = rest; stands = subst (λ (x : ℕ). StandsAt counts (program_of m) n bytes x (v ∷ others) (line ∷ rest)) (sym e) here; is_so = so }
 
-    by_fault : (fault : CoverFault) → IsLineFault flags (program_of m) v line number fault → IsFaultOf flags (program_of m) n bytes fault
-    by_fault (faults.Missing at) f = so_at (IsJudged flags (program_of m) Missing) at f.0 f.1
-    by_fault (faults.Strange at) f = so_at (IsJudged flags (program_of m) Strange) at f.0 f.1
+    by_fault : (fault : CoverFault) → IsLineFault counts (program_of m) v line number fault → IsFaultOf counts (program_of m) n bytes fault
+    by_fault (faults.Missing at) f = so_at (IsJudged counts (program_of m) Missing) at f.0 f.1
+    by_fault (faults.Strange at) f = so_at (IsJudged counts (program_of m) Strange) at f.0 f.1
     by_fault (faults.Short at) f = absurd f
     by_fault (faults.Long at) f = absurd f
-    by_fault (faults.ErrorFound at) f = so_at (IsJudged flags (program_of m) ErrorFound) at f.0 f.1
+    by_fault (faults.ErrorFound at) f = so_at (IsJudged counts (program_of m) ErrorFound) at f.0 f.1
     by_fault (faults.BadLine at) f = so_at IsNoLine at f.0 f.1
     by_fault faults.Memory f = tt
 
-    pub line_fault : (fault : CoverFault) → IsLineFault flags (program_of k) v line number fault → IsFaultOf flags (program_of m) n bytes fault
-    line_fault fault f = by_fault fault (subst (λ (x : ModuleTree). IsLineFault flags (program_of x) v line number fault) same f)
+    pub line_fault : (fault : CoverFault) → IsLineFault counts (program_of k) v line number fault → IsFaultOf counts (program_of m) n bytes fault
+    line_fault fault f = by_fault fault (subst (λ (x : ModuleTree). IsLineFault counts (program_of x) v line number fault) same f)
 
-    pub goes_on_below : (steps : List Step) (next : List Place) → AreLawful steps → line ≡ text_of_schedule steps → judgement_of flags (program_of k) v steps ≡ Good → next ≡ places_below (program_of k) v steps ++ others → StandsAt flags (program_of m) n bytes (number + 1) next rest
+    pub goes_on_below : (steps : List Step) (next : List Place) → AreLawful steps → line ≡ text_of_schedule steps → judgement_of counts (program_of k) v steps ≡ Good → next ≡ places_below (program_of k) v steps ++ others → StandsAt counts (program_of m) n bytes (number + 1) next rest
     goes_on_below steps next lawful text good now =
-        subst (λ (vs : List Place). StandsAt flags (program_of m) n bytes (number + 1) vs rest)
+        subst (λ (vs : List Place). StandsAt counts (program_of m) n bytes (number + 1) vs rest)
         (sym (now ∙ ap (λ (x : ModuleTree). places_below (program_of x) v steps ++ others) same))
-        (stands_next flags (program_of m) n bytes number v others line rest steps here lawful text (subst (λ (x : ModuleTree). judgement_of flags (program_of x) v steps ≡ Good) same good))
+        (stands_next counts (program_of m) n bytes number v others line rest steps here lawful text (subst (λ (x : ModuleTree). judgement_of counts (program_of x) v steps ≡ Good) same good))
 
 -- what a fault refuses is no good cover
-pub refused_by : {T : Type 0} (flags : Flags) (a : Program) (n : ℕ) (bytes : List ℕ) (r : Result T CoverFault) (fault : CoverFault) → r ≡ Err fault → IsFaultOf flags a n bytes fault → IsCoverText flags a n bytes → IfErr r (λ f. f ≡ faults.Memory)
-refused_by flags a n bytes r fault e f c = accepted flags a n bytes r (subst (λ (x : Result _ CoverFault). IfErr x (IsFaultOf flags a n bytes)) (sym e) f) c
+pub refused_by : {T : Type 0} (counts : Identity → Bool) (a : Program) (n : ℕ) (bytes : List ℕ) (r : Result T CoverFault) (fault : CoverFault) → r ≡ Err fault → IsFaultOf counts a n bytes fault → IsCoverText counts a n bytes → IfErr r (λ f. f ≡ faults.Memory)
+refused_by counts a n bytes r fault e f c = accepted counts a n bytes r (subst (λ (x : Result _ CoverFault). IfErr x (IsFaultOf counts a n bytes)) (sym e) f) c

@@ -9,7 +9,7 @@ use Rattle.world_model.specs.Events.{History}
 use Rattle.world_model.specs.Names.{IsAmong}
 use Rattle.world_model.specs.Requests.{Program}
 use Rattle.world_model.specs.Run.{next_event, is_enabled, enabled_steps}
-use Rattle.world_model.specs.Shown.{Flags}
+use Rattle.world_model.specs.Shown.{Identity}
 use Rattle.world_model.proofs.Opened.{enabled_listed, listed_enabled}
 use Rattle.coverage.specs.Covers.{is_one_of, are_once, is_clean}
 use Rattle.coverage.specs.Explored.{same_step}
@@ -112,9 +112,9 @@ enabled_if_good true true all e = refl
 enabled_if_good false enabled all e = absurd cc
 enabled_if_good true false all e = absurd cc
 
-pub good_enabled : (flags : Flags) (a : Program) (v : Place) (line : List Step) → judgement_of flags a v line ≡ Good → AreEnabled a v.history line
-good_enabled flags a v line good s there none =
-    is_no_event (next_event a v.history s) (line_enabled a v.left v.history line (enabled_if_good (is_clean flags a v.history) (are_enabled_once a v.left v.history line) (are_all_there a v.left v.history v.slept line) good) s there) none
+pub good_enabled : (counts : Identity → Bool) (a : Program) (v : Place) (line : List Step) → judgement_of counts a v line ≡ Good → AreEnabled a v.history line
+good_enabled counts a v line good s there none =
+    is_no_event (next_event a v.history s) (line_enabled a v.left v.history line (enabled_if_good (is_clean counts a v.history) (are_enabled_once a v.left v.history line) (are_all_there a v.left v.history v.slept line) good) s there) none
 
 -- and each step that the search takes
 pub taken_enabled : (a : Program) (n : ℕ) (h : History) (slept : List Step) → AreEnabled a h (taken_steps a n h slept)

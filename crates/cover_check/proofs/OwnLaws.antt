@@ -103,8 +103,8 @@ lines_read (line ∷ lines) h =
     ∙ ap (λ ls. text_of_schedule line ∷ ls) (lines_read lines h.1)
 
 pub own_texts : OwnTextsAreCovers
-own_texts flags a n lawful none = record {
+own_texts counts a n lawful none = record {
   lines = lines_of (cover_of a n root);
   spells = record { lawful = lawful; spelt = lines_read (lines_of (cover_of a n root)) lawful };
-  good = own_good flags a n none;
+  good = own_good counts a n none;
 }

@@ -1,12 +1,12 @@
 -- What each fault says of the bytes of a cover, and which bytes are a good cover.
-use Rattle.std.specs.Prelude.{◌≡◌, ℕ, zero, suc, ◌+◌, List, [], ◌∷◌, ◌++◌, map, length, Option, Some, None}
+use Rattle.std.specs.Prelude.{◌≡◌, ℕ, zero, suc, ◌+◌, Bool, List, [], ◌∷◌, ◌++◌, map, length, Option, Some, None}
 use Rattle.term_core.specs.Schedule.{AreLawful}
 use Rattle.term_core.specs.Text.{text_of_schedule}
 use Rattle.term_core.specs.declared.step.Step.{Step}
 use Rattle.world_model.specs.Events.{Event, History}
 use Rattle.world_model.specs.Requests.{Program}
 use Rattle.world_model.specs.Run.{next_event}
-use Rattle.world_model.specs.Shown.{Flags}
+use Rattle.world_model.specs.Shown.{Identity}
 use Rattle.coverage.specs.Covers.{Lines, IsGoodCover}
 use Rattle.coverage.specs.Jobs.{asleep_below}
 use Rattle.cover_check.specs.CoverText.{lines_in, AreLawfulLines, SpellsLines}
@@ -54,49 +54,49 @@ after_line next Strange places = None
 after_line next ErrorFound places = None
 
 -- the nodes whose lines are to come after these lines, the next one first; none where a line is not good, or no node is left for it
-abbrev pub places_after : Flags → Program → List Place → Lines → Option (List Place)
-places_after flags a places [] = Some places
-places_after flags a [] (line ∷ lines) = None
-places_after flags a (v ∷ places) (line ∷ lines) =
-    after_line (λ next. places_after flags a next lines) (judgement_of flags a v line) (places_below a v line ++ places)
+abbrev pub places_after : (Identity → Bool) → Program → List Place → Lines → Option (List Place)
+places_after counts a places [] = Some places
+places_after counts a [] (line ∷ lines) = None
+places_after counts a (v ∷ places) (line ∷ lines) =
+    after_line (λ next. places_after counts a next lines) (judgement_of counts a v line) (places_below a v line ++ places)
 
 -- ---- good covers
 
 -- the bytes are the text of a good cover
-pub record IsCoverText (flags : Flags) (a : Program) (n : ℕ) (bytes : List ℕ) : Type 0 where
+pub record IsCoverText (counts : Identity → Bool) (a : Program) (n : ℕ) (bytes : List ℕ) : Type 0 where
   pub lines : Lines
   pub spells : SpellsLines bytes lines
-  pub good : IsGoodCover flags a n lines
+  pub good : IsGoodCover counts a n lines
 
 -- ---- faults
 
 -- before the line of this number, counted from 1, all lines are good; these nodes and these lines are to come
-pub record StandsAt (flags : Flags) (a : Program) (n : ℕ) (bytes : List ℕ) (number : ℕ) (places : List Place) (rest : List (List ℕ)) : Type 0 where
+pub record StandsAt (counts : Identity → Bool) (a : Program) (n : ℕ) (bytes : List ℕ) (number : ℕ) (places : List Place) (rest : List (List ℕ)) : Type 0 where
   pub before : Lines
   pub lawful : AreLawfulLines before
   pub spelt : lines_in bytes ≡ map text_of_schedule before ++ rest
   pub counted : number ≡ length before + 1
-  pub good : places_after flags a (root_place n ∷ []) before ≡ Some places
+  pub good : places_after counts a (root_place n ∷ []) before ≡ Some places
 
 -- a node waits for its line, and no line is left
-pub record IsShort (flags : Flags) (a : Program) (n : ℕ) (bytes : List ℕ) (number : ℕ) : Type 0 where
+pub record IsShort (counts : Identity → Bool) (a : Program) (n : ℕ) (bytes : List ℕ) (number : ℕ) : Type 0 where
   pub place : Place
   pub others : List Place
-  pub stands : StandsAt flags a n bytes number (place ∷ others) []
+  pub stands : StandsAt counts a n bytes number (place ∷ others) []
 
 -- a line is left, and no node waits for it
-pub record IsLong (flags : Flags) (a : Program) (n : ℕ) (bytes : List ℕ) (number : ℕ) : Type 0 where
+pub record IsLong (counts : Identity → Bool) (a : Program) (n : ℕ) (bytes : List ℕ) (number : ℕ) : Type 0 where
   pub line : List ℕ
   pub rest : List (List ℕ)
-  pub stands : StandsAt flags a n bytes number [] (line ∷ rest)
+  pub stands : StandsAt counts a n bytes number [] (line ∷ rest)
 
 -- a node waits for its line, the line is there, and this is so of the two
-pub record IsSoAt (flags : Flags) (a : Program) (n : ℕ) (bytes : List ℕ) (number : ℕ) (IsSo : Place → List ℕ → Type 0) : Type 0 where
+pub record IsSoAt (counts : Identity → Bool) (a : Program) (n : ℕ) (bytes : List ℕ) (number : ℕ) (IsSo : Place → List ℕ → Type 0) : Type 0 where
   pub place : Place
   pub others : List Place
   pub line : List ℕ
   pub rest : List (List ℕ)
-  pub stands : StandsAt flags a n bytes number (place ∷ others) (line ∷ rest)
+  pub stands : StandsAt counts a n bytes number (place ∷ others) (line ∷ rest)
   pub is_so : IsSo place line
 
 -- the line is the text of no steps
@@ -104,18 +104,18 @@ abbrev pub IsNoLine : Place → List ℕ → Type 0
 IsNoLine v line = (steps : List Step) → AreLawful steps → line ≡ text_of_schedule steps → ⊥
 
 -- the line is the text of steps that come to this at the node
-pub record IsJudged (flags : Flags) (a : Program) (judgement : Judgement) (v : Place) (line : List ℕ) : Type 0 where
+pub record IsJudged (counts : Identity → Bool) (a : Program) (judgement : Judgement) (v : Place) (line : List ℕ) : Type 0 where
   pub steps : List Step
   pub lawful : AreLawful steps
   pub text : line ≡ text_of_schedule steps
-  pub is : judgement_of flags a v steps ≡ judgement
+  pub is : judgement_of counts a v steps ≡ judgement
 
 -- what a fault says of the bytes
-abbrev pub IsFaultOf : Flags → Program → ℕ → List ℕ → CoverFault → Type 0
-IsFaultOf flags a n bytes (faults.Missing number) = IsSoAt flags a n bytes number (IsJudged flags a Missing)
-IsFaultOf flags a n bytes (faults.Strange number) = IsSoAt flags a n bytes number (IsJudged flags a Strange)
-IsFaultOf flags a n bytes (faults.Short number) = IsShort flags a n bytes number
-IsFaultOf flags a n bytes (faults.Long number) = IsLong flags a n bytes number
-IsFaultOf flags a n bytes (faults.ErrorFound number) = IsSoAt flags a n bytes number (IsJudged flags a ErrorFound)
-IsFaultOf flags a n bytes (faults.BadLine number) = IsSoAt flags a n bytes number IsNoLine
-IsFaultOf flags a n bytes faults.Memory = Unit {0}
+abbrev pub IsFaultOf : (Identity → Bool) → Program → ℕ → List ℕ → CoverFault → Type 0
+IsFaultOf counts a n bytes (faults.Missing number) = IsSoAt counts a n bytes number (IsJudged counts a Missing)
+IsFaultOf counts a n bytes (faults.Strange number) = IsSoAt counts a n bytes number (IsJudged counts a Strange)
+IsFaultOf counts a n bytes (faults.Short number) = IsShort counts a n bytes number
+IsFaultOf counts a n bytes (faults.Long number) = IsLong counts a n bytes number
+IsFaultOf counts a n bytes (faults.ErrorFound number) = IsSoAt counts a n bytes number (IsJudged counts a ErrorFound)
+IsFaultOf counts a n bytes (faults.BadLine number) = IsSoAt counts a n bytes number IsNoLine
+IsFaultOf counts a n bytes faults.Memory = Unit {0}

@@ -5,7 +5,7 @@ use Rattle.term_core.specs.declared.step.Step.{Step}
 use Rattle.world_model.specs.Events.{History}
 use Rattle.world_model.specs.Requests.{Program}
 use Rattle.world_model.specs.Run.{is_enabled, enabled_steps}
-use Rattle.world_model.specs.Shown.{Flags}
+use Rattle.world_model.specs.Shown.{Identity}
 use Rattle.coverage.specs.Covers.{is_one_of, are_once, is_empty, is_clean}
 use Rattle.cover_check.specs.declared.judging.Judgement.{Judgement}
 use Rattle.cover_check.specs.declared.judging.Judgement.TheVariants.{Good, Missing, Strange, ErrorFound}
@@ -34,6 +34,6 @@ judgement true true false = Missing
 judgement true true true = Good
 
 -- what a line comes to
-abbrev pub judgement_of : Flags → Program → Place → List Step → Judgement
-judgement_of flags a v line =
-    judgement (is_clean flags a v.history) (are_enabled_once a v.left v.history line) (are_all_there a v.left v.history v.slept line)
+abbrev pub judgement_of : (Identity → Bool) → Program → Place → List Step → Judgement
+judgement_of counts a v line =
+    judgement (is_clean counts a v.history) (are_enabled_once a v.left v.history line) (are_all_there a v.left v.history v.slept line)

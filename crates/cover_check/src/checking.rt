@@ -1,10 +1,11 @@
 // How a cover is checked.
 ghost use Rattle.std.specs.Prelude.{◌≡◌, ◌⊎◌, List, IfOk, OnOk, IfErr};
-ghost use Rattle.cover_check.specs.CoverLaws.{ShowsNoError};
 ghost use Rattle.cover_check.specs.Faults.{IsCoverText, IsFaultOf};
 ghost use Rattle.cover_check.specs.Judging.{judgement_of};
 ghost use Rattle.cover_check.specs.inside.Frames.{place_of};
 ghost use Rattle.cover_check.specs.inside.Lines.{IsLineFault};
+ghost use Rattle.coverage.specs.Covers.{ShowsNothing};
+ghost use Rattle.excuses.specs.Excuses.{counts, excuses_in};
 ghost use Rattle.findings.specs.Identities.{flags_in};
 ghost use Rattle.term_core.specs.Schedule.{AreLawful};
 ghost use Rattle.term_core.specs.Text.{text_of_schedule};
@@ -19,6 +20,7 @@ use crate::observer::Observer;
 use crate::walk::Walk;
 use core_tree::Module;
 use coverage::covers::covers_show_no_error;
+use excuses::Excuses;
 use findings::Flags;
 use std::alloc::Global;
 use term_core::{ScheduleFault, Step, read_schedule};
@@ -39,16 +41,17 @@ fn read_line(alloc: Global, line: &[u8], number: usize) -> Result<Vec<Step>, Cov
 fn check_line(
     alloc: Global,
     flags: Flags,
+    excuses: &Excuses,
     node: &Node<'_>,
     line: &[u8],
     number: usize,
 ) -> Result<Vec<Step>, CoverFault>
     ensures lawful { IfOk result (λ steps. AreLawful steps.items × (line.now ≡ text_of_schedule steps.items)) }
-    ensures good { IfOk result (λ steps. judgement_of (flags_in flags) (program_of node.now.program) (place_of node.now) steps.items ≡ Judgement.Good) }
-    ensures refused { IfErr result (IsLineFault (flags_in flags) (program_of node.now.program) (place_of node.now) line.now number) }
+    ensures good { IfOk result (λ steps. judgement_of (counts (flags_in flags) (excuses_in excuses.now)) (program_of node.now.program) (place_of node.now) steps.items ≡ Judgement.Good) }
+    ensures refused { IfErr result (IsLineFault (counts (flags_in flags) (excuses_in excuses.now)) (program_of node.now.program) (place_of node.now) line.now number) }
 {
     let steps = read_line(alloc, line, number)?;
-    match judge(alloc, flags, node, steps.as_slice())? {
+    match judge(alloc, flags, excuses, node, steps.as_slice())? {
         Judgement::Good => Ok(steps),
         Judgement::Missing => Err(CoverFault::Missing(number)),
         Judgement::Strange => Err(CoverFault::Strange(number)),
@@ -57,9 +60,9 @@ fn check_line(
 }
 
 /// Checks whether bytes are the text of a good cover of the tree of so many steps: then no schedule of at most so many
-/// steps shows an error under the flags, whoever wrote the bytes and in whatever order its lines take their steps. The
-/// lines are read once, one after another, and there is one world for each node whose children are not all checked. The
-/// observer is told of each line that is good.
+/// steps shows anything that counts as an error, whoever wrote the bytes and in whatever order its lines take their
+/// steps. What is an error under the flags counts, unless it is excused. The lines are read once, one after another, and
+/// there is one world for each node whose children are not all checked. The observer is told of each line that is good.
 ///
 /// # Errors
 ///
@@ -70,15 +73,16 @@ pub fn check_cover<O: Observer>(
     program: &Module,
     depth: u64,
     flags: Flags,
+    excuses: &Excuses,
     bytes: &[u8],
     observer: &O,
 ) -> Result<(), CoverFault>
-    ensures good { OnOk result (IsCoverText (flags_in flags) (program_of program.now) depth bytes.now) }
-    // So no schedule shows an error.
-    ensures clean { OnOk result (ShowsNoError (flags_in flags) (program_of program.now) depth) }
-    ensures fault { IfErr result (λ fault. IsFaultOf (flags_in flags) (program_of program.now) depth bytes.now fault) }
+    ensures good { OnOk result (IsCoverText (counts (flags_in flags) (excuses_in excuses.now)) (program_of program.now) depth bytes.now) }
+    // So no schedule shows anything that counts as an error.
+    ensures clean { OnOk result (ShowsNothing (counts (flags_in flags) (excuses_in excuses.now)) (program_of program.now) depth) }
+    ensures fault { IfErr result (λ fault. IsFaultOf (counts (flags_in flags) (excuses_in excuses.now)) (program_of program.now) depth bytes.now fault) }
     // A good cover is accepted.
-    ensures accepted { IsCoverText (flags_in flags) (program_of program.now) depth bytes.now → IfErr result (λ fault. fault ≡ CoverFault.Memory) }
+    ensures accepted { IsCoverText (counts (flags_in flags) (excuses_in excuses.now)) (program_of program.now) depth bytes.now → IfErr result (λ fault. fault ≡ CoverFault.Memory) }
 {
     covers_show_no_error();
     let mut walk = Walk::new(alloc, program, depth)?;
@@ -88,7 +92,7 @@ pub fn check_cover<O: Observer>(
         let Some(node) = walk.take(alloc)? else {
             return Err(CoverFault::Long(number));
         };
-        let steps = check_line(alloc, flags, &node, line, number)?;
+        let steps = check_line(alloc, flags, excuses, &node, line, number)?;
         observer.visited();
         walk.go_below(node, steps)?;
         rest = behind;

@@ -19,7 +19,7 @@ pub enum CoverFault {
     Short(usize),
     /// This line is left over: all nodes have theirs.
     Long(usize),
-    /// The node of this line shows an error.
+    /// The node of this line shows something that counts as an error.
     ErrorFound(usize),
     /// This line is not the text of steps with one blank between them.
     BadLine(usize),

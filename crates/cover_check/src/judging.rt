@@ -4,15 +4,16 @@ ghost use Rattle.std.specs.List.{list_all};
 ghost use Rattle.coverage.specs.Covers.{are_once, is_empty, is_one_of};
 ghost use Rattle.cover_check.specs.Judging.{are_all_there, are_enabled_once, judgement, judgement_of};
 ghost use Rattle.cover_check.specs.inside.Frames.{place_of};
+ghost use Rattle.excuses.specs.Excuses.{counts, excuses_in};
 ghost use Rattle.findings.specs.Identities.{flags_in, identity_in};
 ghost use Rattle.world_model.specs.Asking.{program_of};
 ghost use Rattle.world_model.specs.Events.{History};
 ghost use Rattle.world_model.specs.Requests.{Program};
 ghost use Rattle.world_model.specs.Run.{enabled_steps};
-ghost use Rattle.world_model.specs.Shown.{is_error};
 
 use crate::node::Node;
 use crate::sleeping::is_one_of;
+use excuses::Excuses;
 use findings::{Flags, Identity};
 use std::alloc::Global;
 use term_core::Step;
@@ -21,22 +22,23 @@ use world_core::WorldFault;
 /// What a line comes to.
 #[derive(Clone, Copy, Debug, PartialEq, Eq)]
 pub enum Judgement {
-    /// The node shows no error, and the line takes enabled steps, each once, and leaves out none that is awake.
+    /// The node shows nothing that counts as an error, and the line takes enabled steps, each once, and leaves out none
+    /// that is awake.
     Good,
     /// The line leaves out an enabled step that does not sleep.
     Missing,
     /// The line has a step that is not enabled, that stands twice, or that stands at the depth.
     Strange,
-    /// The node shows an error.
+    /// The node shows something that counts as an error.
     ErrorFound,
 }
 
-// Whether none of these is an error under the flags.
-fn is_clean(flags: Flags, identities: &[Identity]) -> bool
-    ensures { result ≡ is_empty (filter (is_error (flags_in flags)) (map identity_in identities.now)) }
+// Whether none of these counts as an error.
+fn is_clean(flags: Flags, excuses: &Excuses, identities: &[Identity]) -> bool
+    ensures { result ≡ is_empty (filter (counts (flags_in flags) (excuses_in excuses.now)) (map identity_in identities.now)) }
 {
     for identity in identities {
-        if identity.is_error(flags) {
+        if excuses.counts(flags, identity) {
             return false;
         }
     }
@@ -79,7 +81,7 @@ fn are_all_there(enabled: &[Step], slept: &[Step], line: &[Step]) -> bool
     true
 }
 
-// What a line comes to, where these steps are enabled and the node shows no error.
+// What a line comes to, where these steps are enabled and the node shows nothing that counts as an error.
 fn judge_steps(enabled: &[Step], slept: &[Step], left: u64, line: &[Step]) -> Judgement
     ensures { (a : Program) (h : History) → enabled.now ≡ enabled_steps a h → result ≡ judgement true (are_enabled_once a left h line.now) (are_all_there a left h slept.now line.now) }
 {
@@ -102,14 +104,15 @@ fn judge_steps(enabled: &[Step], slept: &[Step], left: u64, line: &[Step]) -> Ju
 pub(crate) fn judge(
     alloc: Global,
     flags: Flags,
+    excuses: &Excuses,
     node: &Node<'_>,
     line: &[Step],
 ) -> Result<Judgement, WorldFault>
-    ensures { IfOk result (λ is. is ≡ judgement_of (flags_in flags) (program_of node.now.program) (place_of node.now) line.now) }
+    ensures { IfOk result (λ is. is ≡ judgement_of (counts (flags_in flags) (excuses_in excuses.now)) (program_of node.now.program) (place_of node.now) line.now) }
 {
     let enabled = node.world.enabled(alloc)?;
     let identities = node.world.errors_among(alloc, enabled.as_slice())?;
-    if !is_clean(flags, identities.as_slice()) {
+    if !is_clean(flags, excuses, identities.as_slice()) {
         return Ok(Judgement::ErrorFound);
     }
     Ok(judge_steps(enabled.as_slice(), node.slept.as_slice(), node.left, line))

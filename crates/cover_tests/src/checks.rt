@@ -11,19 +11,19 @@ use test_support::{MemorySink, MemorySource};
 pub(crate) const TWO_END: &str =
     "module 'm' ['main'/0,'c'/0] attributes [] 'main'/0 = fun () -> do call 'erlang':'spawn'('m','c',[]) 'x' 'c'/0 = fun () -> 'x' end\n";
 
-// A process that applies itself for ever.
-const RUNAWAY: &str =
+/// A process that applies itself for ever.
+pub(crate) const RUNAWAY: &str =
     "module 'm' ['main'/0] attributes [] 'main'/0 = fun () -> apply 'main'/0() end\n";
 
 // A process that ends at once.
 const IDLE: &str = "module 'm' ['main'/0] attributes [] 'main'/0 = fun () -> 'ok' end\n";
 
-// A process reads a private table of another, which is refused and caught.
-const PRIVATE: &str =
+/// A process reads a private table of another, which is refused and caught.
+pub(crate) const PRIVATE: &str =
     "module 'm' ['main'/0,'c'/0] attributes [] 'main'/0 = fun () -> do call 'ets':'new'('t',['named_table','private']) call 'erlang':'spawn'('m','c',[]) 'c'/0 = fun () -> try call 'ets':'lookup'('t','a') of <X> -> X catch <K,R> -> 'none' end\n";
 
-// Both processes wait for ever.
-const WAITING: &str =
+/// A process that waits for ever.
+pub(crate) const WAITING: &str =
     "module 'm' ['main'/0] attributes [] 'main'/0 = fun () -> receive <X> when 'true' -> X after 'infinity' -> 'x' end\n";
 
 // A process sends to itself and takes that; another one sends to it besides.

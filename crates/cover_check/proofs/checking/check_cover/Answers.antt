@@ -1,6 +1,7 @@
 use Rattle.std.proofs.Common.{rules, ◌≡◌, ◌∙◌, ◌∷◌, [], ap, arith}
 use Rattle.std.specs.Prelude.{Err}
 use Rattle.std.proofs.lemmas.Result.{err_from_is_err_and}
+use Rattle.excuses.specs.Excuses.{counts, excuses_in}
 use Rattle.findings.specs.Identities.{flags_in}
 use Rattle.world_model.specs.Asking.{program_of}
 use Rattle.cover_check.specs.CoverText.{lines_in}
@@ -12,7 +13,7 @@ use Rattle.cover_check.proofs.checking.check_cover.Goals as goal
 
 pub returns-in_default-2-clause-accepted : goal.returns-in_default-2-clause-accepted
 returns-in_default-2-clause-accepted g c = λ good.
-    let f = flags_in c.args.flags in
+    let f = counts (flags_in c.args.flags) (excuses_in c.args.excuses.now) in
     let m = c.args.program.now in
     let none : c.loop-line.walk.ahead ≡ [] = search rules in
     only_memory f (program_of m) c.args.depth c.args.bytes.now (faults.Long c.loop-line.number)
@@ -20,7 +21,7 @@ returns-in_default-2-clause-accepted g c = λ good.
 
 pub returns-in_err-steps-clause-accepted : goal.returns-in_err-steps-clause-accepted
 returns-in_err-steps-clause-accepted g c = λ good.
-    let f = flags_in c.args.flags in
+    let f = counts (flags_in c.args.flags) (excuses_in c.args.excuses.now) in
     let m = c.args.program.now in
     let p = err_from_is_err_and c.from_residual-in_err-steps.result c.from_residual-in_err-steps.ensures.1 in
     let next : c.loop-line.walk.ahead ≡ place_of c.in-Some-2.node ∷ c.take.new.self.ahead = search rules in
@@ -31,11 +32,11 @@ returns-in_err-steps-clause-accepted g c = λ good.
 
 pub go_below-requires-clause-enabled : goal.go_below-requires-clause-enabled
 go_below-requires-clause-enabled g c =
-    good_enabled (flags_in c.args.flags) (program_of c.in-Some-2.node.program) (place_of c.in-Some-2.node) c.in_ok-steps.steps.items c.in_ok-steps.ensures.good
+    good_enabled (counts (flags_in c.args.flags) (excuses_in c.args.excuses.now)) (program_of c.in-Some-2.node.program) (place_of c.in-Some-2.node) c.in_ok-steps.steps.items c.in_ok-steps.ensures.good
 
 pub loop-line-preserved : goal.loop-line-preserved
 loop-line-preserved g c =
-    let f = flags_in c.args.flags in
+    let f = counts (flags_in c.args.flags) (excuses_in c.args.excuses.now) in
     let m = c.args.program.now in
     let next : c.loop-line.walk.ahead ≡ place_of c.in-Some-2.node ∷ c.take.new.self.ahead = search rules in
     let same : c.in-Some-2.node.program ≡ m = search rules in
@@ -48,7 +49,7 @@ loop-line-preserved g c =
 
 pub returns-in_default-3-clause-good : goal.returns-in_default-3-clause-good
 returns-in_default-3-clause-good g c =
-    let f = flags_in c.args.flags in
+    let f = counts (flags_in c.args.flags) (excuses_in c.args.excuses.now) in
     let m = c.args.program.now in
     let none : c.loop-line.walk.ahead ≡ [] = search rules in
     let empty : c.loop-line.rest.now ≡ [] = search rules in
@@ -56,7 +57,7 @@ returns-in_default-3-clause-good g c =
 
 pub returns-in_default-3-clause-clean : goal.returns-in_default-3-clause-clean
 returns-in_default-3-clause-clean g c =
-    let f = flags_in c.args.flags in
+    let f = counts (flags_in c.args.flags) (excuses_in c.args.excuses.now) in
     let m = c.args.program.now in
     let none : c.loop-line.walk.ahead ≡ [] = search rules in
     let empty : c.loop-line.rest.now ≡ [] = search rules in
@@ -65,7 +66,7 @@ returns-in_default-3-clause-clean g c =
 
 pub returns-clause-accepted : goal.returns-clause-accepted
 returns-clause-accepted g c = λ good.
-    let f = flags_in c.args.flags in
+    let f = counts (flags_in c.args.flags) (excuses_in c.args.excuses.now) in
     let m = c.args.program.now in
     let next : c.loop-line.walk.ahead ≡ place_of c.in-Some-3._node ∷ c.take-2.new.self.ahead = search rules in
     let empty : c.loop-line.rest.now ≡ [] = search rules in

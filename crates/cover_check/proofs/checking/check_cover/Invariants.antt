@@ -1,6 +1,7 @@
 use Rattle.std.proofs.Common.{◌≡◌, ◌+◌, ◌≤◌, length}
 use Rattle.cover_check.specs.CoverText.{lines_in}
 use Rattle.cover_check.specs.Faults.{StandsAt}
+use Rattle.excuses.specs.Excuses.{counts, excuses_in}
 use Rattle.findings.specs.Identities.{flags_in}
 use Rattle.world_model.specs.Asking.{program_of}
 use Rattle.cover_check.proofs.checking.check_cover.Given as goal
@@ -8,7 +9,7 @@ use Rattle.cover_check.proofs.checking.check_cover.Given as goal
 -- all lines so far are good, and the walk has the nodes of the others
 abbrev pub invariant-loop-line : goal.invariant-loop-line
 invariant-loop-line g l = record {
-  stands : StandsAt (flags_in l.flags) (program_of l.program) l.depth l.bytes l.number l.walk.ahead (lines_in l.rest);
+  stands : StandsAt (counts (flags_in l.flags) (excuses_in l.excuses)) (program_of l.program) l.depth l.bytes l.number l.walk.ahead (lines_in l.rest);
   program : l.walk.program ≡ l.program;
   counted : l.number + length l.rest ≤ length l.bytes + 1;
 }

@@ -1,10 +1,10 @@
 use Rattle.std.proofs.Common.{◌≡◌, drop, filter, map}
 use Rattle.coverage.specs.Covers.{is_empty}
+use Rattle.excuses.specs.Excuses.{counts, excuses_in}
 use Rattle.findings.specs.Identities.{flags_in, identity_in}
-use Rattle.world_model.specs.Shown.{is_error}
 use Rattle.cover_check.proofs.judging.is_clean.Given as goal
 
--- none so far is an error
+-- none so far counts as an error
 abbrev pub invariant-loop-identity : goal.invariant-loop-identity
 invariant-loop-identity l =
-    is_empty (filter (is_error (flags_in l.flags)) (map identity_in l.identities)) ≡ is_empty (filter (is_error (flags_in l.flags)) (map identity_in (drop l.identity-index l.identities)))
+    is_empty (filter (counts (flags_in l.flags) (excuses_in l.excuses)) (map identity_in l.identities)) ≡ is_empty (filter (counts (flags_in l.flags) (excuses_in l.excuses)) (map identity_in (drop l.identity-index l.identities)))
