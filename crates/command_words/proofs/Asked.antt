@@ -1,5 +1,5 @@
 -- What the parser makes of the words of a command that has options: its depth and its flags.
-use Rattle.std.proofs.Common.{◌≡◌, ◌∙◌, ◌||◌, ℕ, ◌+◌, ◌<◌, ◌≤◌, ◌^◌, Bool, true, false, List, [], ◌∷◌, map, Option, Some, None, cond, codes, option_map, refl, sym, ap, subst, arith}
+use Rattle.std.proofs.Common.{◌≡◌, ◌∙◌, ◌||◌, ℕ, ◌+◌, ◌<◌, ◌≤◌, ◌^◌, Bool, true, false, List, [], ◌∷◌, Option, Some, None, cond, codes, option_map, refl, sym, ap, subst, arith}
 use Rattle.std.specs.Fmt.{decimal}
 use Rattle.std.specs.List.{count_by, list_any}
 use Rattle.std.specs.Prelude.{slice_get}
@@ -14,12 +14,11 @@ use Rattle.command_words.proofs.Levels.{level_passes, line_enters, line_passes, 
 use Rattle.command_words.proofs.Numbers.{decimal_is_number, decimal_value}
 use Rattle.command_words.proofs.Once.{AreOnce, once_are_new}
 use Rattle.command_words.proofs.Options.{AreLawful}
-use Rattle.command_words.proofs.Rows.{allow_deadlock_left, allow_deadlock_row, depth_left, depth_row, row_at, row_of, row_or, row_with, strict_access_left, strict_access_row, text_of_row, with_defaults}
+use Rattle.command_words.proofs.Rows.{allow_deadlock_left, allow_deadlock_row, depth_left, depth_row, given_row, put_all, row_at, row_or, row_with, strict_access_left, strict_access_row, text_of_row, with_defaults}
 
--- the words of a command with its options, each once and in its range
-pub record IsAsked (level : Level) (words : List Text) (steps : ℕ) (flags : Flags) : Type 0 where
+-- the words of a command with its options, each once, but for `--normal`, and in its range
+pub record IsAsked (level : Level) (words : List Text) (given : List Given) (steps : ℕ) (flags : Flags) : Type 0 where
   pub name : Text
-  pub given : List Given
   pub words_are : words ≡ name ∷ name_of level ∷ words_of_all given
   pub depth : depths_of given ≡ steps ∷ []
   pub allow_deadlock : count_by is_allow_deadlock given ≡ cond flags.allow_deadlock 1 0
@@ -28,26 +27,27 @@ pub record IsAsked (level : Level) (words : List Text) (steps : ℕ) (flags : Fl
   pub lawful : AreLawful given level
   pub in_range : steps ≤ 400
 
--- such words have no fault
-pub asked_passes : (level : Level) (words : List Text) (steps : ℕ) (flags : Flags) → IsAsked level words steps flags → fault_of command_line words ≡ []
-asked_passes level words steps flags asks =
-    ap (fault_of command_line) asks.words_are
-    ∙ line_passes level asks.name (words_of_all asks.given) (level_passes level asks.given steps (once_are_new asks.given asks.once) asks.lawful asks.depth)
-
 -- the rows of what is given, with the defaults
 abbrev pub rows_of_given : Level → List Given → List Row
-rows_of_given level given = with_defaults level (map row_of given)
+rows_of_given level given = with_defaults level (put_all [] given)
 
-pub asked_enters : (level : Level) (words : List Text) (steps : ℕ) (flags : Flags) (asks : IsAsked level words steps flags)
-    → subcommand_of command_line words ≡ Some (name_of level, rows_of_given level asks.given)
-asked_enters level words steps flags asks =
-    ap (subcommand_of command_line) asks.words_are ∙ line_enters level asks.name (words_of_all asks.given)
-    ∙ ap (λ (rows : List Row). Some (name_of level, rows)) (rows_left level asks.given steps (once_are_new asks.given asks.once) asks.lawful asks.depth)
+module _ (level : Level) (words : List Text) (given : List Given) (steps : ℕ) (flags : Flags) (asks : IsAsked level words given steps flags) where
+  -- such words have no fault
+  pub asked_passes : fault_of command_line words ≡ []
+  asked_passes =
+      ap (fault_of command_line) asks.words_are
+      ∙ line_passes level asks.name (words_of_all given) (level_passes level given steps (once_are_new given asks.once) asks.lawful asks.depth)
+
+  pub asked_enters : subcommand_of command_line words ≡ Some (name_of level, rows_of_given level given)
+  asked_enters =
+      ap (subcommand_of command_line) asks.words_are ∙ line_enters level asks.name (words_of_all given)
+      ∙ ap (λ (rows : List Row). Some (name_of level, rows)) (rows_left level given steps (once_are_new given asks.once) asks.lawful asks.depth)
 
 -- no schedule is found of them
-pub asked_has_no_schedule : (level : Level) (words : List Text) (steps : ℕ) (flags : Flags) → IsAsked level words steps flags → schedule_in (subcommand_of command_line words) ≡ None
-asked_has_no_schedule exploring words steps flags asks = ap schedule_in (asked_enters exploring words steps flags asks)
-asked_has_no_schedule checking words steps flags asks = ap schedule_in (asked_enters checking words steps flags asks)
+pub asked_has_no_schedule : (level : Level) (words : List Text) (given : List Given) (steps : ℕ) (flags : Flags) → IsAsked level words given steps flags
+    → schedule_in (subcommand_of command_line words) ≡ None
+asked_has_no_schedule exploring words given steps flags asks = ap schedule_in (asked_enters exploring words given steps flags asks)
+asked_has_no_schedule checking words given steps flags asks = ap schedule_in (asked_enters checking words given steps flags asks)
 
 -- ---- the text of a number, as it is read
 
@@ -64,15 +64,15 @@ number_not_read o n small text reads =
 depth_text : (level : Level) (given : List Given) (steps : ℕ) → depths_of given ≡ steps ∷ [] → one_of (codes "depth") (rows_of_given level given) ≡ Some (decimal steps)
 depth_text level given steps is =
     text_of_row (codes "depth") (decimal steps) CommandLine (rows_of_given level given)
-    (depth_left level (map row_of given) ∙ depth_row given ∙ ap (λ l. option_map (λ n. row_with CommandLine (codes "depth") (decimal n)) (slice_get l 0)) is)
+    (depth_left level (put_all [] given) ∙ given_row (codes "depth") given refl ∙ depth_row given ∙ ap (λ l. option_map (λ n. row_with CommandLine (codes "depth") (decimal n)) (slice_get l 0)) is)
 
-pub depth_read : (level : Level) (words : List Text) (steps : ℕ) (flags : Flags) (asks : IsAsked level words steps flags) (found : ℕ)
-    → ReadsNumber (one_of (codes "depth") (rows_of_given level asks.given)) (Some found) → found ≡ steps
-depth_read level words steps flags asks found read = number_read _ steps found (omega (arith, asks.in_range)) (depth_text level asks.given steps asks.depth) read
+pub depth_read : (level : Level) (words : List Text) (given : List Given) (steps : ℕ) (flags : Flags) (asks : IsAsked level words given steps flags) (found : ℕ)
+    → ReadsNumber (one_of (codes "depth") (rows_of_given level given)) (Some found) → found ≡ steps
+depth_read level words given steps flags asks found read = number_read _ steps found (omega (arith, asks.in_range)) (depth_text level given steps asks.depth) read
 
-pub depth_is_read : (level : Level) (words : List Text) (steps : ℕ) (flags : Flags) (asks : IsAsked level words steps flags)
-    → ReadsNumber (one_of (codes "depth") (rows_of_given level asks.given)) None → ⊥
-depth_is_read level words steps flags asks none = number_not_read _ steps (omega (arith, asks.in_range)) (depth_text level asks.given steps asks.depth) none
+pub depth_is_read : (level : Level) (words : List Text) (given : List Given) (steps : ℕ) (flags : Flags) (asks : IsAsked level words given steps flags)
+    → ReadsNumber (one_of (codes "depth") (rows_of_given level given)) None → ⊥
+depth_is_read level words given steps flags asks none = number_not_read _ steps (omega (arith, asks.in_range)) (depth_text level given steps asks.depth) none
 
 -- ---- the text of a flag
 
@@ -92,9 +92,9 @@ some_counted p (first ∷ rest) some = by (p first) (sym (sum_by-cons (λ x. con
     by true some later = refl
     by false some later = later (omega arith)
 
-flag_text : (level : Level) (id : Text) (p : Given → Bool) (given : List Given) (flag : Bool) → count_by p given ≡ cond flag 1 0
-    → row_at id (rows_of_given level given) ≡ row_or id (codes "false") (row_at id (map row_of given))
-    → row_at id (map row_of given) ≡ cond (list_any p given) (Some (row_with CommandLine id (codes "true"))) None → one_of id (rows_of_given level given) ≡ Some (cond flag (codes "true") (codes "false"))
+pub flag_text : (level : Level) (id : Text) (p : Given → Bool) (given : List Given) (flag : Bool) → count_by p given ≡ cond flag 1 0
+    → row_at id (rows_of_given level given) ≡ row_or id (codes "false") (row_at id (put_all [] given))
+    → row_at id (put_all [] given) ≡ cond (list_any p given) (Some (row_with CommandLine id (codes "true"))) None → one_of id (rows_of_given level given) ≡ Some (cond flag (codes "true") (codes "false"))
 flag_text level id p given true counted left row =
     text_of_row id (codes "true") CommandLine (rows_of_given level given)
     (left ∙ ap (row_or id (codes "false")) (row ∙ ap (λ b. cond b (Some (row_with CommandLine id (codes "true"))) None) (some_counted p given counted)))
@@ -102,22 +102,24 @@ flag_text level id p given false counted left row =
     text_of_row id (codes "false") DefaultValue (rows_of_given level given)
     (left ∙ ap (row_or id (codes "false")) (row ∙ ap (λ b. cond b (Some (row_with CommandLine id (codes "true"))) None) (none_counted p given counted)))
 
-flag_is : (o : Option Text) (flag found : Bool) → o ≡ Some (cond flag (codes "true") (codes "false")) → ReadsFlag o found → found ≡ flag
+pub flag_is : (o : Option Text) (flag found : Bool) → o ≡ Some (cond flag (codes "true") (codes "false")) → ReadsFlag o found → found ≡ flag
 flag_is o true found text reads = reads.set text
 flag_is o false found text reads = reads.unset text
 
 -- a flag is read as it is given
 pub flag_read : (level : Level) (id : Text) (p : Given → Bool) (given : List Given) (flag found : Bool) → count_by p given ≡ cond flag 1 0
-    → row_at id (rows_of_given level given) ≡ row_or id (codes "false") (row_at id (map row_of given))
-    → row_at id (map row_of given) ≡ cond (list_any p given) (Some (row_with CommandLine id (codes "true"))) None → ReadsFlag (one_of id (rows_of_given level given)) found → found ≡ flag
+    → row_at id (rows_of_given level given) ≡ row_or id (codes "false") (row_at id (put_all [] given))
+    → row_at id (put_all [] given) ≡ cond (list_any p given) (Some (row_with CommandLine id (codes "true"))) None → ReadsFlag (one_of id (rows_of_given level given)) found → found ≡ flag
 flag_read level id p given flag found counted left row reads = flag_is _ flag found (flag_text level id p given flag counted left row) reads
 
-pub flags_read : (level : Level) (words : List Text) (steps : ℕ) (flags : Flags) (asks : IsAsked level words steps flags) (found : Flags) → AreFlagsOf (rows_of_given level asks.given) found → found ≡ flags
-flags_read level words steps flags asks found read =
-    let deadlock : found.allow_deadlock ≡ flags.allow_deadlock = flag_read level (codes "allow-deadlock") is_allow_deadlock asks.given flags.allow_deadlock found.allow_deadlock asks.allow_deadlock
-    (allow_deadlock_left level (map row_of asks.given)) (allow_deadlock_row asks.given) read.allow_deadlock in
-    let access : found.strict_access ≡ flags.strict_access = flag_read level (codes "strict-access") is_strict_access asks.given flags.strict_access found.strict_access asks.strict_access
-    (strict_access_left level (map row_of asks.given)) (strict_access_row asks.given) read.strict_access in
+pub flags_read : (level : Level) (words : List Text) (given : List Given) (steps : ℕ) (flags : Flags) (asks : IsAsked level words given steps flags) (found : Flags)
+    → AreFlagsOf (rows_of_given level given) found → found ≡ flags
+flags_read level words given steps flags asks found read =
+    let rows = put_all [] given in
+    let deadlock : found.allow_deadlock ≡ flags.allow_deadlock = flag_read level (codes "allow-deadlock") is_allow_deadlock given flags.allow_deadlock found.allow_deadlock asks.allow_deadlock
+    (allow_deadlock_left level rows) (given_row (codes "allow-deadlock") given refl ∙ allow_deadlock_row given) read.allow_deadlock in
+    let access : found.strict_access ≡ flags.strict_access = flag_read level (codes "strict-access") is_strict_access given flags.strict_access found.strict_access asks.strict_access
+    (strict_access_left level rows) (given_row (codes "strict-access") given refl ∙ strict_access_row given) read.strict_access in
     (λ i. record { allow_deadlock = deadlock i; strict_access = access i })
 
 -- ---- options that are given once or not at all

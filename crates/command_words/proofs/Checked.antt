@@ -7,7 +7,7 @@ use Rattle.clap.specs.Words.{Row, Text, fault_of, one_of, subcommand_of}
 use Rattle.findings.specs.declared.flags.Flags.{Flags}
 use Rattle.findings.specs.declared.options.Options.{Options}
 use Rattle.command_words.specs.declared.words.Printed.{Printed}
-use Rattle.command_words.specs.Words.{IsCheck}
+use Rattle.command_words.specs.Words.{AreWordsOfCheck, Given}
 use Rattle.command_words.specs.inside.CommandLine.{checking, command_line}
 use Rattle.command_words.specs.inside.Found.{AreOptionsOf, IsCheckIn, IsCheckOf, schedule_in}
 use Rattle.command_words.proofs.Asked.{IsAsked, asked_enters, asked_has_no_schedule, asked_passes, at_most_once, depth_is_read, depth_read, flags_read, rows_of_given}
@@ -15,56 +15,56 @@ use Rattle.command_words.proofs.Entered.{entered_rows, number_fits}
 use Rattle.command_words.proofs.Once.{Each, check_lawful_by}
 use Rattle.command_words.proofs.Ranges.{depth_fits}
 
--- the options of a check, each once and in its range
-asked : (words : List Text) (steps : ℕ) (flags : Flags) → IsCheck words steps flags → IsAsked checking words steps flags
-asked words steps flags asks = record {
-  name = asks.name;
-  given = asks.given;
-  words_are = asks.words_are;
-  depth = asks.depth;
-  allow_deadlock = asks.allow_deadlock;
-  strict_access = asks.strict_access;
-  once = record {
-    depths = omega (arith, ap length asks.depth);
-    nodes = omega (arith, ap length asks.no_nodes);
-    workers = omega (arith, ap length asks.no_workers);
-    allow_deadlock = at_most_once _ flags.allow_deadlock asks.allow_deadlock;
-    strict_access = at_most_once _ flags.strict_access asks.strict_access;
-    explain = omega (arith, asks.no_explain);
-    cover = omega (arith, asks.no_cover);
-  };
-  lawful = check_lawful_by asks.given (subst (Each (λ n. n ≤ 400)) (sym asks.depth) (asks.in_range, tt)) (omega (arith, ap length asks.no_nodes)) (omega (arith, ap length asks.no_workers))
-      (omega (arith, asks.no_explain)) (omega (arith, asks.no_cover));
-  in_range = asks.in_range;
-}
+module _ (words : List Text) (given : List Given) (steps : ℕ) (flags : Flags) (says : AreWordsOfCheck words given steps flags) where
+  -- the options of a check, each once, but for `--normal`, and in its range
+  asked : IsAsked checking words given steps flags
+  asked = record {
+    name = says.name;
+    words_are = says.words_are;
+    depth = says.depth;
+    allow_deadlock = says.allow_deadlock;
+    strict_access = says.strict_access;
+    once = record {
+      depths = omega (arith, ap length says.depth);
+      nodes = omega (arith, ap length says.no_nodes);
+      workers = omega (arith, ap length says.no_workers);
+      allow_deadlock = at_most_once _ flags.allow_deadlock says.allow_deadlock;
+      main_deadlock = says.main_deadlock;
+      strict_access = at_most_once _ flags.strict_access says.strict_access;
+      explain = omega (arith, says.no_explain);
+      cover = omega (arith, says.no_cover);
+    };
+    lawful = check_lawful_by given (subst (Each (λ n. n ≤ 400)) (sym says.depth) (says.in_range, tt)) (omega (arith, ap length says.no_nodes)) (omega (arith, ap length says.no_workers))
+        (omega (arith, says.no_explain)) (omega (arith, says.no_cover)) says.normal;
+    in_range = says.in_range;
+  }
 
--- the words of a check have no fault
-pub check_passes : (words : List Text) (steps : ℕ) (flags : Flags) → IsCheck words steps flags → fault_of command_line words ≡ []
-check_passes words steps flags asks = asked_passes checking words steps flags (asked words steps flags asks)
+  -- the words of a check have no fault
+  pub check_passes : fault_of command_line words ≡ []
+  check_passes = asked_passes checking words given steps flags asked
 
--- no schedule is found of them
-pub check_has_no_schedule : (words : List Text) (steps : ℕ) (flags : Flags) → IsCheck words steps flags → schedule_in (subcommand_of command_line words) ≡ None
-check_has_no_schedule words steps flags asks = asked_has_no_schedule checking words steps flags (asked words steps flags asks)
+  pub check_enters : subcommand_of command_line words ≡ Some (codes "check", rows_of_given checking given)
+  check_enters = asked_enters checking words given steps flags asked
 
--- and no exploration
-pub check_has_no_options : (words : List Text) (steps : ℕ) (flags : Flags) (read : Options × Printed) → IsCheck words steps flags → AreOptionsOf (subcommand_of command_line words) (Some read) → ⊥
-check_has_no_options words steps flags read asks found =
-    let none : Some read ≡ None = subst (λ o. AreOptionsOf o (Some read)) (asked_enters checking words steps flags (asked words steps flags asks)) found in
-    cc
+  -- no schedule is found of them
+  pub check_has_no_schedule : schedule_in (subcommand_of command_line words) ≡ None
+  check_has_no_schedule = asked_has_no_schedule checking words given steps flags asked
 
--- the depth and the flags that are found are those that the words ask for
-pub check_reads : (words : List Text) (steps : ℕ) (flags : Flags) (read : ℕ × Flags) → IsCheck words steps flags → IsCheckOf (subcommand_of command_line words) (Some read)
-    → (read.0 ≡ steps) × (read.1 ≡ flags)
-check_reads words steps flags read asks found =
-    let of = asked words steps flags asks in
-    let at : IsCheckIn (rows_of_given checking of.given) (Some read) = subst (λ o. IsCheckOf o (Some read)) (asked_enters checking words steps flags of) found in
-    (depth_read checking words steps flags of read.0 at.0, flags_read checking words steps flags of read.1 at.1)
+  -- and no exploration
+  pub check_has_no_options : (read : Options × Printed) → AreOptionsOf (subcommand_of command_line words) (Some read) → ⊥
+  check_has_no_options read found =
+      let none : Some read ≡ None = subst (λ o. AreOptionsOf o (Some read)) check_enters found in
+      cc
 
--- and there are some
-pub check_is_found : (words : List Text) (steps : ℕ) (flags : Flags) → IsCheck words steps flags → IsCheckOf (subcommand_of command_line words) None → ⊥
-check_is_found words steps flags asks read =
-    let of = asked words steps flags asks in
-    depth_is_read checking words steps flags of (subst (λ o. IsCheckOf o None) (asked_enters checking words steps flags of) read)
+  -- the depth and the flags that are found are those that the words ask for
+  pub check_reads : (read : ℕ × Flags) → IsCheckOf (subcommand_of command_line words) (Some read) → (read.0 ≡ steps) × (read.1 ≡ flags)
+  check_reads read found =
+      let at : IsCheckIn (rows_of_given checking given) (Some read) = subst (λ o. IsCheckOf o (Some read)) check_enters found in
+      (depth_read checking words given steps flags asked read.0 at.0, flags_read checking words given steps flags asked read.1 at.1)
+
+  -- and there are some
+  pub check_is_found : IsCheckOf (subcommand_of command_line words) None → ⊥
+  check_is_found read = depth_is_read checking words given steps flags asked (subst (λ o. IsCheckOf o None) check_enters read)
 
 -- what is found of words that are not at fault is in its range
 pub check_in_range : (words : List Text) (found : ℕ × Flags) → fault_of command_line words ≡ [] → IsCheckOf (subcommand_of command_line words) (Some found) → found.0 ≤ 400

@@ -1,5 +1,5 @@
 -- What the program makes of the words of an exploration.
-use Rattle.std.proofs.Common.{◌≡◌, ◌∙◌, ◌⊎◌, ℕ, ◌≤◌, Bool, true, false, List, [], ◌∷◌, length, map, Option, Some, None, codes, option_map, refl, sym, ap, subst, inl, inr, arith}
+use Rattle.std.proofs.Common.{◌≡◌, ◌∙◌, ◌⊎◌, ℕ, ◌≤◌, Bool, true, false, List, [], ◌∷◌, length, Option, Some, None, codes, option_map, refl, sym, ap, subst, inl, inr, arith}
 use Rattle.std.specs.Fmt.{decimal, digits}
 use Rattle.std.specs.Prelude.{MatchBool, slice_get}
 use Rattle.std.specs.Str.{bytes_eq}
@@ -9,14 +9,14 @@ use Rattle.clap.specs.declared.parser.matches.ValueSource.TheVariants.{CommandLi
 use Rattle.findings.specs.declared.flags.Flags.{Flags}
 use Rattle.findings.specs.declared.options.Options.{Options}
 use Rattle.command_words.specs.declared.words.Printed.{Printed}
-use Rattle.command_words.specs.Words.{AreInRange, Given, IsExplore, IsGivenOr, is_cover, is_explain, nodes_of, workers_of}
+use Rattle.command_words.specs.Words.{AreInRange, AreWordsOfExplore, Given, IsGivenOr, is_cover, is_explain, nodes_of, workers_of}
 use Rattle.command_words.specs.inside.CommandLine.{command_line, exploring}
 use Rattle.command_words.specs.inside.Found.{AreOptionsIn, AreOptionsOf, AreRead, IsCheckOf, ReadsNumber, schedule_in}
 use Rattle.command_words.proofs.Asked.{IsAsked, asked_enters, asked_has_no_schedule, asked_passes, at_most_once, depth_is_read, depth_read, flag_read, flags_read, number_not_read, number_read, rows_of_given}
 use Rattle.command_words.proofs.Entered.{entered_rows, number_fits}
 use Rattle.command_words.proofs.Once.{Each, lawful_by}
 use Rattle.command_words.proofs.Ranges.{depth_fits, nodes_fits, workers_fits}
-use Rattle.command_words.proofs.Rows.{cover_left, cover_row, explain_left, explain_row, nodes_left, nodes_row, row_at, row_of, row_or, row_with, text_of_row, workers_left, workers_row}
+use Rattle.command_words.proofs.Rows.{cover_left, cover_row, explain_left, explain_row, given_row, nodes_left, nodes_row, put_all, row_at, row_or, row_with, text_of_row, workers_left, workers_row}
 
 -- ---- the options of an exploration, each once and in its range
 
@@ -29,48 +29,6 @@ given_lawful : (high default n : ℕ) (counts : List ℕ) → IsGivenOr default 
 given_lawful high default n [] is least most = tt
 given_lawful high default n (m ∷ []) is least most = ((subst (λ k. 1 ≤ k) is least, subst (λ k. k ≤ high) is most), tt)
 given_lawful high default n (m ∷ (k ∷ rest)) is least most = absurd is
-
-asked : (words : List Text) (options : Options) (printed : Printed) → IsExplore words options printed → IsAsked exploring words options.depth options.flags
-asked words options printed asks = record {
-  name = asks.name;
-  given = asks.given;
-  words_are = asks.words_are;
-  depth = asks.depth;
-  allow_deadlock = asks.allow_deadlock;
-  strict_access = asks.strict_access;
-  once = record {
-    depths = omega (arith, ap length asks.depth);
-    nodes = given_once 1000000 options.nodes (nodes_of asks.given) asks.nodes;
-    workers = given_once 1 options.workers (workers_of asks.given) asks.workers;
-    allow_deadlock = at_most_once _ options.flags.allow_deadlock asks.allow_deadlock;
-    strict_access = at_most_once _ options.flags.strict_access asks.strict_access;
-    explain = at_most_once _ printed.explained asks.explain;
-    cover = at_most_once _ printed.cover asks.cover;
-  };
-  lawful = lawful_by asks.given (subst (Each (λ n. n ≤ 400)) (sym asks.depth) (asks.in_range.depth, tt))
-      (given_lawful 10000000 1000000 options.nodes (nodes_of asks.given) asks.nodes asks.in_range.least_nodes asks.in_range.most_nodes)
-      (given_lawful 16 1 options.workers (workers_of asks.given) asks.workers asks.in_range.some_workers asks.in_range.most_workers);
-  in_range = asks.in_range.depth;
-}
-
--- the words of an exploration have no fault
-pub explore_passes : (words : List Text) (options : Options) (printed : Printed) → IsExplore words options printed → fault_of command_line words ≡ []
-explore_passes words options printed asks = asked_passes exploring words options.depth options.flags (asked words options printed asks)
-
-explore_enters : (words : List Text) (options : Options) (printed : Printed) (asks : IsExplore words options printed)
-    → subcommand_of command_line words ≡ Some (codes "explore", rows_of_given exploring asks.given)
-unfolding asked
-explore_enters words options printed asks = asked_enters exploring words options.depth options.flags (asked words options printed asks)
-
--- no schedule is found of them
-pub explore_has_no_schedule : (words : List Text) (options : Options) (printed : Printed) → IsExplore words options printed → schedule_in (subcommand_of command_line words) ≡ None
-explore_has_no_schedule words options printed asks = asked_has_no_schedule exploring words options.depth options.flags (asked words options printed asks)
-
--- and no check
-pub explore_has_no_check : (words : List Text) (options : Options) (printed : Printed) (read : ℕ × Flags) → IsExplore words options printed → IsCheckOf (subcommand_of command_line words) (Some read) → ⊥
-explore_has_no_check words options printed read asks found =
-    let none : Some read ≡ None = subst (λ o. IsCheckOf o (Some read)) (explore_enters words options printed asks) found in
-    cc
 
 -- ---- the texts of its numbers
 
@@ -92,55 +50,90 @@ number_text id text default n rows (m ∷ (k ∷ rest)) spelled is row = absurd 
 nodes_text : (given : List Given) (n : ℕ) → IsGivenOr 1000000 (nodes_of given) n → one_of (codes "nodes") (rows_of_given exploring given) ≡ Some (decimal n)
 nodes_text given n is =
     number_text (codes "nodes") (codes "1000000") 1000000 n (rows_of_given exploring given) (nodes_of given) million is
-    (nodes_left (map row_of given) ∙ ap (row_or (codes "nodes") (codes "1000000")) (nodes_row given))
+    (nodes_left (put_all [] given) ∙ ap (row_or (codes "nodes") (codes "1000000")) (given_row (codes "nodes") given refl ∙ nodes_row given))
 
 workers_text : (given : List Given) (n : ℕ) → IsGivenOr 1 (workers_of given) n → one_of (codes "workers") (rows_of_given exploring given) ≡ Some (decimal n)
 workers_text given n is =
     number_text (codes "workers") (codes "1") 1 n (rows_of_given exploring given) (workers_of given) one_digit is
-    (workers_left (map row_of given) ∙ ap (row_or (codes "workers") (codes "1")) (workers_row given))
+    (workers_left (put_all [] given) ∙ ap (row_or (codes "workers") (codes "1")) (given_row (codes "workers") given refl ∙ workers_row given))
 
--- ---- the options that are read of them
+-- ---- the words of an exploration
 
-same_options : (words : List Text) (options found : Options) (printed prints : Printed) (asks : IsExplore words options printed) → AreRead (rows_of_given exploring asks.given) found prints
-    → found ≡ options
-unfolding asked
-same_options words options found printed prints asks read =
-    let range = asks.in_range in
-    let of = asked words options printed asks in
-    let depth : found.depth ≡ options.depth = depth_read exploring words options.depth options.flags of found.depth read.depth in
-    let nodes : found.nodes ≡ options.nodes = number_read _ options.nodes found.nodes (omega (arith, range.most_nodes)) (nodes_text asks.given options.nodes asks.nodes) read.nodes in
-    let budget : found.budget ≡ options.budget = read.budget ∙ sym range.budget in
-    let workers : found.workers ≡ options.workers = number_read _ options.workers found.workers (omega (arith, range.most_workers)) (workers_text asks.given options.workers asks.workers) read.workers in
-    let flags : found.flags ≡ options.flags = flags_read exploring words options.depth options.flags of found.flags read.flags in
-    (λ i. record { depth = depth i; nodes = nodes i; budget = budget i; workers = workers i; flags = flags i })
+module _ (words : List Text) (given : List Given) (options : Options) (printed : Printed) (says : AreWordsOfExplore words given options printed) where
+  asked : IsAsked exploring words given options.depth options.flags
+  asked = record {
+    name = says.name;
+    words_are = says.words_are;
+    depth = says.depth;
+    allow_deadlock = says.allow_deadlock;
+    strict_access = says.strict_access;
+    once = record {
+      depths = omega (arith, ap length says.depth);
+      nodes = given_once 1000000 options.nodes (nodes_of given) says.nodes;
+      workers = given_once 1 options.workers (workers_of given) says.workers;
+      allow_deadlock = at_most_once _ options.flags.allow_deadlock says.allow_deadlock;
+      main_deadlock = says.main_deadlock;
+      strict_access = at_most_once _ options.flags.strict_access says.strict_access;
+      explain = at_most_once _ printed.explained says.explain;
+      cover = at_most_once _ printed.cover says.cover;
+    };
+    lawful = lawful_by given (subst (Each (λ n. n ≤ 400)) (sym says.depth) (says.in_range.depth, tt))
+        (given_lawful 10000000 1000000 options.nodes (nodes_of given) says.nodes says.in_range.least_nodes says.in_range.most_nodes)
+        (given_lawful 16 1 options.workers (workers_of given) says.workers says.in_range.some_workers says.in_range.most_workers) says.normal;
+    in_range = says.in_range.depth;
+  }
 
-same_printed : (words : List Text) (options found : Options) (printed prints : Printed) (asks : IsExplore words options printed) → AreRead (rows_of_given exploring asks.given) found prints
-    → prints ≡ printed
-same_printed words options found printed prints asks read =
-    let rows = map row_of asks.given in
-    let explained : prints.explained ≡ printed.explained = flag_read exploring (codes "explain") is_explain asks.given printed.explained prints.explained asks.explain
-    (explain_left rows) (explain_row asks.given) read.prints.explained in
-    let cover : prints.cover ≡ printed.cover = flag_read exploring (codes "cover") is_cover asks.given printed.cover prints.cover asks.cover
-    (cover_left rows) (cover_row asks.given) read.prints.cover in
-    (λ i. record { explained = explained i; cover = cover i })
+  -- they have no fault
+  pub explore_passes : fault_of command_line words ≡ []
+  explore_passes = asked_passes exploring words given options.depth options.flags asked
 
--- the options that are found are those that the words ask for
-pub explore_reads : (words : List Text) (options : Options) (printed : Printed) (read : Options × Printed) → IsExplore words options printed
-    → AreOptionsOf (subcommand_of command_line words) (Some read) → (read.0 ≡ options) × (read.1 ≡ printed)
-explore_reads words options printed read asks found =
-    let at : AreRead (rows_of_given exploring asks.given) read.0 read.1 = subst (λ o. AreOptionsOf o (Some read)) (explore_enters words options printed asks) found in
-    (same_options words options read.0 printed read.1 asks at, same_printed words options read.0 printed read.1 asks at)
+  pub explore_enters : subcommand_of command_line words ≡ Some (codes "explore", rows_of_given exploring given)
+  explore_enters = asked_enters exploring words given options.depth options.flags asked
 
--- and there are some
-pub explore_is_found : (words : List Text) (options : Options) (printed : Printed) → IsExplore words options printed → AreOptionsOf (subcommand_of command_line words) None → ⊥
-unfolding asked
-explore_is_found words options printed asks read = by (subst (λ o. AreOptionsOf o None) (explore_enters words options printed asks) read)
-  where
-    by : ReadsNumber (one_of (codes "depth") (rows_of_given exploring asks.given)) None
-        ⊎ (ReadsNumber (one_of (codes "nodes") (rows_of_given exploring asks.given)) None ⊎ ReadsNumber (one_of (codes "workers") (rows_of_given exploring asks.given)) None) → ⊥
-    by (inl depth) = depth_is_read exploring words options.depth options.flags (asked words options printed asks) depth
-    by (inr (inl nodes)) = number_not_read _ options.nodes (omega (arith, asks.in_range.most_nodes)) (nodes_text asks.given options.nodes asks.nodes) nodes
-    by (inr (inr workers)) = number_not_read _ options.workers (omega (arith, asks.in_range.most_workers)) (workers_text asks.given options.workers asks.workers) workers
+  -- no schedule is found of them
+  pub explore_has_no_schedule : schedule_in (subcommand_of command_line words) ≡ None
+  explore_has_no_schedule = asked_has_no_schedule exploring words given options.depth options.flags asked
+
+  -- and no check
+  pub explore_has_no_check : (read : ℕ × Flags) → IsCheckOf (subcommand_of command_line words) (Some read) → ⊥
+  explore_has_no_check read found =
+      let none : Some read ≡ None = subst (λ o. IsCheckOf o (Some read)) explore_enters found in
+      cc
+
+  same_options : (found : Options) (prints : Printed) → AreRead (rows_of_given exploring given) found prints → found ≡ options
+  same_options found prints read =
+      let range = says.in_range in
+      let depth : found.depth ≡ options.depth = depth_read exploring words given options.depth options.flags asked found.depth read.depth in
+      let nodes : found.nodes ≡ options.nodes = number_read _ options.nodes found.nodes (omega (arith, range.most_nodes)) (nodes_text given options.nodes says.nodes) read.nodes in
+      let budget : found.budget ≡ options.budget = read.budget ∙ sym range.budget in
+      let workers : found.workers ≡ options.workers = number_read _ options.workers found.workers (omega (arith, range.most_workers)) (workers_text given options.workers says.workers) read.workers in
+      let flags : found.flags ≡ options.flags = flags_read exploring words given options.depth options.flags asked found.flags read.flags in
+      (λ i. record { depth = depth i; nodes = nodes i; budget = budget i; workers = workers i; flags = flags i })
+
+  same_printed : (found : Options) (prints : Printed) → AreRead (rows_of_given exploring given) found prints → prints ≡ printed
+  same_printed found prints read =
+      let rows = put_all [] given in
+      let explained : prints.explained ≡ printed.explained = flag_read exploring (codes "explain") is_explain given printed.explained prints.explained says.explain
+      (explain_left rows) (given_row (codes "explain") given refl ∙ explain_row given) read.prints.explained in
+      let cover : prints.cover ≡ printed.cover = flag_read exploring (codes "cover") is_cover given printed.cover prints.cover says.cover
+      (cover_left rows) (given_row (codes "cover") given refl ∙ cover_row given) read.prints.cover in
+      (λ i. record { explained = explained i; cover = cover i })
+
+  -- the options that are found are those that the words ask for
+  pub explore_reads : (read : Options × Printed) → AreOptionsOf (subcommand_of command_line words) (Some read) → (read.0 ≡ options) × (read.1 ≡ printed)
+  explore_reads read found =
+      let at : AreRead (rows_of_given exploring given) read.0 read.1 = subst (λ o. AreOptionsOf o (Some read)) explore_enters found in
+      (same_options read.0 read.1 at, same_printed read.0 read.1 at)
+
+  -- and there are some
+  pub explore_is_found : AreOptionsOf (subcommand_of command_line words) None → ⊥
+  explore_is_found read = by (subst (λ o. AreOptionsOf o None) explore_enters read)
+    where
+      by : ReadsNumber (one_of (codes "depth") (rows_of_given exploring given)) None
+          ⊎ (ReadsNumber (one_of (codes "nodes") (rows_of_given exploring given)) None ⊎ ReadsNumber (one_of (codes "workers") (rows_of_given exploring given)) None) → ⊥
+      by (inl depth) = depth_is_read exploring words given options.depth options.flags asked depth
+      by (inr (inl nodes)) = number_not_read _ options.nodes (omega (arith, says.in_range.most_nodes)) (nodes_text given options.nodes says.nodes) nodes
+      by (inr (inr workers)) = number_not_read _ options.workers (omega (arith, says.in_range.most_workers)) (workers_text given options.workers says.workers) workers
 
 -- ---- any words
 

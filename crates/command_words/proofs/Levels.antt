@@ -14,9 +14,9 @@ use Rattle.clap.specs.declared.error.kind.ErrorKind.TheVariants.{DisplayHelp, Mi
 use Rattle.clap.proofs.FaultLemmas.{stopped_fault}
 use Rattle.clap.proofs.OnLiterals.{clap_on_literals}
 use Rattle.command_words.specs.Words.{Given, depth, depths_of, words_of_all}
-use Rattle.command_words.specs.inside.CommandLine.{Level, built_of, checking, command_line, depth_rule, exploring, flag_rule, name_of, nodes_rule, workers_rule}
+use Rattle.command_words.specs.inside.CommandLine.{Level, built_of, checking, command_line, depth_rule, exploring, flag_rule, name_of, nodes_rule, normal_rule, workers_rule}
 use Rattle.command_words.proofs.Options.{AreLawful, AreNew, IsReady, both_none, options_pass, options_ready}
-use Rattle.command_words.proofs.Rows.{depth_left, depth_row, row_of, with_defaults}
+use Rattle.command_words.proofs.Rows.{depth_left, depth_row, given_row, put_all, row_of, with_defaults}
 
 -- ---- the defaults
 
@@ -35,25 +35,33 @@ defaults_pass exploring rows =
     let two = with_default one (filled nodes_rule) in
     let three = with_default two (filled workers_rule) in
     let four = with_default three (filled (flag_rule (codes "allow-deadlock"))) in
-    let five = with_default four (filled (flag_rule (codes "strict-access"))) in
-    let six = with_default five (filled (flag_rule (codes "explain"))) in
-    let seven = with_default six (filled (flag_rule (codes "cover"))) in
+    let five = with_default four (filled (flag_rule (codes "main-deadlock"))) in
+    let six = with_default five (filled normal_rule) in
+    let seven = with_default six (filled (flag_rule (codes "strict-access"))) in
+    let eight = with_default seven (filled (flag_rule (codes "explain"))) in
+    let nine = with_default eight (filled (flag_rule (codes "cover"))) in
     both_none _ _ (no_default_fault (has_row (codes "depth") rows) [])
     (both_none _ _ (no_fault (has_row (codes "nodes") one || false))
     (both_none _ _ (no_fault (has_row (codes "workers") two || false))
     (both_none _ _ (no_fault (has_row (codes "allow-deadlock") three || false))
-    (both_none _ _ (no_fault (has_row (codes "strict-access") four || false))
-    (both_none _ _ (no_fault (has_row (codes "explain") five || false))
-    (both_none _ _ (no_fault (has_row (codes "cover") six || false))
-    (both_none _ _ (no_default_fault (has_row (codes "help") seven) (DisplayHelp ∷ [])) refl)))))))
+    (both_none _ _ (no_fault (has_row (codes "main-deadlock") four || false))
+    (both_none _ _ (no_default_fault (has_row (codes "normal") five) [])
+    (both_none _ _ (no_fault (has_row (codes "strict-access") six || false))
+    (both_none _ _ (no_fault (has_row (codes "explain") seven || false))
+    (both_none _ _ (no_fault (has_row (codes "cover") eight || false))
+    (both_none _ _ (no_default_fault (has_row (codes "help") nine) (DisplayHelp ∷ [])) refl)))))))))
 defaults_pass checking rows =
     let one = with_default rows (filled depth_rule) in
     let two = with_default one (filled (flag_rule (codes "allow-deadlock"))) in
-    let three = with_default two (filled (flag_rule (codes "strict-access"))) in
+    let three = with_default two (filled (flag_rule (codes "main-deadlock"))) in
+    let four = with_default three (filled normal_rule) in
+    let five = with_default four (filled (flag_rule (codes "strict-access"))) in
     both_none _ _ (no_default_fault (has_row (codes "depth") rows) [])
     (both_none _ _ (no_fault (has_row (codes "allow-deadlock") one || false))
-    (both_none _ _ (no_fault (has_row (codes "strict-access") two || false))
-    (both_none _ _ (no_default_fault (has_row (codes "help") three) (DisplayHelp ∷ [])) refl)))
+    (both_none _ _ (no_fault (has_row (codes "main-deadlock") two || false))
+    (both_none _ _ (no_default_fault (has_row (codes "normal") three) [])
+    (both_none _ _ (no_fault (has_row (codes "strict-access") four || false))
+    (both_none _ _ (no_default_fault (has_row (codes "help") five) (DisplayHelp ∷ [])) refl)))))
 
 -- ---- the level of the command
 
@@ -77,16 +85,17 @@ ready_at_first : (level : Level) → IsReady level [] nothing_held
 ready_at_first level = record { settles = refl; rows_are = refl }
 
 module _ (level : Level) (given : List Given) (number : ℕ) (new : AreNew [] given) (lawful : AreLawful given level) (depth_is : depths_of given ≡ number ∷ []) where
-  ready : IsReady level (map row_of given) (walk (built_of level).rules [] nothing_held (words_of_all given)).held
+  ready : IsReady level (put_all [] given) (walk (built_of level).rules [] nothing_held (words_of_all given)).held
   ready = options_ready given level [] nothing_held (ready_at_first level) new lawful
 
   -- the rows are those of the options, with the defaults
-  pub rows_left : rows_after (built_of level).rules [] (words_of_all given) ≡ with_defaults level (map row_of given)
+  pub rows_left : rows_after (built_of level).rules [] (words_of_all given) ≡ with_defaults level (put_all [] given)
   rows_left = ap (with_defaults level) ready.rows_are
 
-  depth_given : is_given (codes "depth") (with_defaults level (map row_of given)) ≡ true
+  depth_given : is_given (codes "depth") (with_defaults level (put_all [] given)) ≡ true
   depth_given =
-      ap (λ o. option_map_or (λ r. explicit_source r.source) o false) (depth_left level (map row_of given) ∙ depth_row given ∙ ap (λ l. option_map (λ n. row_of (depth n)) (slice_get l 0)) depth_is)
+      ap (λ o. option_map_or (λ r. explicit_source r.source) o false)
+      (depth_left level (put_all [] given) ∙ given_row (codes "depth") given refl ∙ depth_row given ∙ ap (λ l. option_map (λ n. row_of (depth n)) (slice_get l 0)) depth_is)
 
   pub level_passes : level_fault (built_of level) [] nothing_held (words_of_all given) false [] ≡ []
   level_passes =

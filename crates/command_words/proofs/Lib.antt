@@ -2,6 +2,7 @@ pub mod Asked
 pub mod Checked
 pub mod CommandLine
 pub mod Entered
+pub mod Excusing
 pub mod Explored
 pub mod Found
 pub mod Kept
@@ -14,3 +15,5 @@ pub mod Ranges
 pub mod Reading
 pub mod Replayed
 pub mod Rows
+pub mod Texts
+pub mod Unread

@@ -1,8 +1,7 @@
 -- The walk over the options of a command, one after the other.
-use Rattle.std.proofs.Common.{◌≡◌, ◌∙◌, ◌&&◌, ℕ, ◌≤◌, true, false, List, [], ◌∷◌, ◌++◌, map, Some, None, cond, codes, refl, sym, ap, subst, arith}
+use Rattle.std.proofs.Common.{◌≡◌, ◌∙◌, ◌&&◌, ℕ, ◌≤◌, true, false, List, [], ◌∷◌, ◌++◌, Some, None, cond, codes, refl, sym, ap, subst, arith}
 use Rattle.std.specs.Fmt.{decimal}
 use Rattle.std.specs.List.{fold}
-use Rattle.std.proofs.lemmas.List.{append-nil, append_assoc}
 use Rattle.clap.specs.Faults.{react_fault, repeat_fault, settle_fault, turn_fault, use_fault, walk_fault}
 use Rattle.clap.specs.Kinds.{Kinds, or_else, value_kinds}
 use Rattle.clap.specs.Values.{refused_kind}
@@ -15,9 +14,9 @@ use Rattle.clap.specs.declared.parser.matches.ValueSource.TheVariants.{CommandLi
 use Rattle.clap.specs.ValueTests.{is_unsigned_in}
 use Rattle.command_words.proofs.Numbers.{decimal_fits, decimal_is_plain}
 use Rattle.clap.proofs.OnLiterals.{clap_on_literals}
-use Rattle.command_words.specs.Words.{Given, begins_with_hyphen, depth, nodes, workers, allow_deadlock, strict_access, explain, cover, words_of, words_of_all}
-use Rattle.command_words.specs.inside.CommandLine.{Level, built_of, checking, depth_rule, exploring, flag_rule, nodes_rule, workers_rule}
-use Rattle.command_words.proofs.Rows.{id_of, row_of, row_with, used_once}
+use Rattle.command_words.specs.Words.{Given, begins_with_hyphen, depth, nodes, workers, allow_deadlock, strict_access, explain, cover, main_deadlock, normal, words_of, words_of_all}
+use Rattle.command_words.specs.inside.CommandLine.{Level, built_of, checking, depth_rule, exploring, flag_rule, nodes_rule, normal_rule, workers_rule}
+use Rattle.command_words.proofs.Rows.{id_of, put, put_all, row_with, used_once}
 
 -- two steps pass where each does
 pub both_none : (a b : Kinds) → a ≡ [] → b ≡ [] → or_else a b ≡ []
@@ -28,7 +27,7 @@ pub record IsReady (level : Level) (rows : List Row) (h : Held) : Type 0 where
   pub settles : settle_fault (built_of level).rules false h ≡ []
   pub rows_are : (settled (built_of level).rules h).rows ≡ rows
 
--- the option is one of the command, and its number is in its range
+-- the option is one of the command, and its number is in its range, or its text begins with no hyphen
 abbrev pub IsLawful : Given → Level → Type 0
 IsLawful (depth n) level = n ≤ 400
 IsLawful (nodes n) exploring = (1 ≤ n) × (n ≤ 10000000)
@@ -36,6 +35,8 @@ IsLawful (nodes n) checking = ⊥
 IsLawful (workers n) exploring = (1 ≤ n) × (n ≤ 16)
 IsLawful (workers n) checking = ⊥
 IsLawful allow_deadlock level = Unit {0}
+IsLawful main_deadlock level = Unit {0}
+IsLawful (normal text) level = begins_with_hyphen text ≡ false
 IsLawful strict_access level = Unit {0}
 IsLawful explain exploring = Unit {0}
 IsLawful explain checking = ⊥
@@ -69,9 +70,12 @@ workers_passes value rows none fits =
     both_none (repeat_fault false (codes "workers") rows) _ (first_use (codes "workers") rows none)
     (both_none (value_kinds false (Unsigned 1 16) value) [] (value_passes 1 16 value fits) refl)
 
+normal_passes : (text : Text) (rows : List Row) → use_fault false (filled normal_rule) (text ∷ []) rows ≡ []
+normal_passes text rows = refl
+
 -- ---- the words of one option
 
--- what is held after an option that has a number, and after a flag
+-- what is held after an option that has a value, and after a flag
 abbrev with_number : Level → Text → Text → Held → Held
 with_number level id value h = record (settled (built_of level).rules h) { pending = Some (id, value ∷ []) }
 
@@ -83,11 +87,13 @@ after (depth n) level h = with_number level (codes "depth") (decimal n) h
 after (nodes n) level h = with_number level (codes "nodes") (decimal n) h
 after (workers n) level h = with_number level (codes "workers") (decimal n) h
 after allow_deadlock level h = with_flag level (codes "allow-deadlock") h
+after main_deadlock level h = with_flag level (codes "main-deadlock") h
+after (normal text) level h = with_number level (codes "normal") text h
 after strict_access level h = with_flag level (codes "strict-access") h
 after explain level h = with_flag level (codes "explain") h
 after cover level h = with_flag level (codes "cover") h
 
--- between the word of an option and its number
+-- between the word of an option and its value
 abbrev waiting_for : Level → Text → Held → Walk
 waiting_for level id h = record { held = record (settled (built_of level).rules h) { pending = Some (id, []) }; waiting = option id; position = 1; is_trailing = false; stopped = None }
 
@@ -99,6 +105,11 @@ depth_word : (level : Level) (h : Held) → met level (walk_from h) (codes "--de
 unfolding clap_on_literals
 depth_word exploring h = refl
 depth_word checking h = refl
+
+normal_word : (level : Level) (h : Held) → met level (walk_from h) (codes "--normal") ≡ waiting_for level (codes "normal") h
+unfolding clap_on_literals
+normal_word exploring h = refl
+normal_word checking h = refl
 
 nodes_word : (h : Held) → met exploring (walk_from h) (codes "--nodes") ≡ waiting_for exploring (codes "nodes") h
 unfolding clap_on_literals
@@ -112,6 +123,11 @@ allow_deadlock_word : (level : Level) (h : Held) → met level (walk_from h) (co
 unfolding clap_on_literals
 allow_deadlock_word exploring h = refl
 allow_deadlock_word checking h = refl
+
+main_deadlock_word : (level : Level) (h : Held) → met level (walk_from h) (codes "--main-deadlock") ≡ walk_from (with_flag level (codes "main-deadlock") h)
+unfolding clap_on_literals
+main_deadlock_word exploring h = refl
+main_deadlock_word checking h = refl
 
 strict_access_word : (level : Level) (h : Held) → met level (walk_from h) (codes "--strict-access") ≡ walk_from (with_flag level (codes "strict-access") h)
 unfolding clap_on_literals
@@ -134,6 +150,14 @@ depth_number exploring h (byte ∷ rest) plain = simp plain refl
 depth_number checking h [] plain = refl
 depth_number checking h (byte ∷ rest) plain = simp plain refl
 
+normal_text : (level : Level) (h : Held) (value : Text) → begins_with_hyphen value ≡ false
+    → met level (waiting_for level (codes "normal") h) value ≡ walk_from (with_number level (codes "normal") value h)
+unfolding clap_on_literals
+normal_text exploring h [] plain = refl
+normal_text exploring h (byte ∷ rest) plain = simp plain refl
+normal_text checking h [] plain = refl
+normal_text checking h (byte ∷ rest) plain = simp plain refl
+
 nodes_number : (h : Held) (value : Text) → begins_with_hyphen value ≡ false → met exploring (waiting_for exploring (codes "nodes") h) value ≡ walk_from (with_number exploring (codes "nodes") value h)
 unfolding clap_on_literals
 nodes_number h [] plain = refl
@@ -148,6 +172,11 @@ depth_word_passes : (level : Level) (h : Held) → settle_fault (built_of level)
 unfolding clap_on_literals
 depth_word_passes exploring h settles = both_none (settle_fault (built_of exploring).rules false h) [] settles refl
 depth_word_passes checking h settles = both_none (settle_fault (built_of checking).rules false h) [] settles refl
+
+normal_word_passes : (level : Level) (h : Held) → settle_fault (built_of level).rules false h ≡ [] → turn_fault (built_of level) [] (walk_from h) (codes "--normal") ≡ []
+unfolding clap_on_literals
+normal_word_passes exploring h settles = both_none (settle_fault (built_of exploring).rules false h) [] settles refl
+normal_word_passes checking h settles = both_none (settle_fault (built_of checking).rules false h) [] settles refl
 
 nodes_word_passes : (h : Held) → settle_fault (built_of exploring).rules false h ≡ [] → turn_fault (built_of exploring) [] (walk_from h) (codes "--nodes") ≡ []
 unfolding clap_on_literals
@@ -177,6 +206,14 @@ allow_deadlock_passes exploring rows h ready none =
     both_none (react_fault (built_of exploring).rules false (filled (flag_rule (codes "allow-deadlock"))) [] h) [] (reacts exploring (codes "allow-deadlock") rows h ready none) refl
 allow_deadlock_passes checking rows h ready none =
     both_none (react_fault (built_of checking).rules false (filled (flag_rule (codes "allow-deadlock"))) [] h) [] (reacts checking (codes "allow-deadlock") rows h ready none) refl
+
+main_deadlock_passes : (level : Level) (rows : List Row) (h : Held) → IsReady level rows h → has_row (codes "main-deadlock") rows ≡ false
+    → turn_fault (built_of level) [] (walk_from h) (codes "--main-deadlock") ≡ []
+unfolding clap_on_literals
+main_deadlock_passes exploring rows h ready none =
+    both_none (react_fault (built_of exploring).rules false (filled (flag_rule (codes "main-deadlock"))) [] h) [] (reacts exploring (codes "main-deadlock") rows h ready none) refl
+main_deadlock_passes checking rows h ready none =
+    both_none (react_fault (built_of checking).rules false (filled (flag_rule (codes "main-deadlock"))) [] h) [] (reacts checking (codes "main-deadlock") rows h ready none) refl
 
 strict_access_passes : (level : Level) (rows : List Row) (h : Held) → IsReady level rows h → has_row (codes "strict-access") rows ≡ false
     → turn_fault (built_of level) [] (walk_from h) (codes "--strict-access") ≡ []
@@ -211,6 +248,9 @@ option_walks (workers n) exploring h rest lawful =
     ap (λ w. fold (walked (built_of exploring).rules []) w rest) (ap (λ w. met exploring w (decimal n)) (workers_word h) ∙ workers_number h (decimal n) plain)
 option_walks (workers n) checking h rest lawful = absurd lawful
 option_walks allow_deadlock level h rest lawful = ap (λ w. fold (walked (built_of level).rules []) w rest) (allow_deadlock_word level h)
+option_walks main_deadlock level h rest lawful = ap (λ w. fold (walked (built_of level).rules []) w rest) (main_deadlock_word level h)
+option_walks (normal text) level h rest lawful =
+    ap (λ w. fold (walked (built_of level).rules []) w rest) (ap (λ w. met level w text) (normal_word level h) ∙ normal_text level h text lawful)
 option_walks strict_access level h rest lawful = ap (λ w. fold (walked (built_of level).rules []) w rest) (strict_access_word level h)
 option_walks explain exploring h rest lawful = ap (λ w. fold (walked (built_of exploring).rules []) w rest) (explain_word h)
 option_walks explain checking h rest lawful = absurd lawful
@@ -224,8 +264,13 @@ unfolding walk_fault
 passes_on level w after word rest none next =
     ap (λ x. or_else x (walk_fault (built_of level) [] (met level w word) rest)) none ∙ ap (λ v. walk_fault (built_of level) [] v rest) next
 
+-- no row is there yet of an option that is given once
+abbrev pub IsNew : Given → List Row → Type 0
+IsNew (normal text) rows = Unit {0}
+IsNew given rows = has_row (id_of given) rows ≡ false
+
 -- an option that passes
-option_passes : (given : Given) (level : Level) (rows : List Row) (h : Held) (rest : List Text) → IsReady level rows h → has_row (id_of given) rows ≡ false → IsLawful given level
+option_passes : (given : Given) (level : Level) (rows : List Row) (h : Held) (rest : List Text) → IsReady level rows h → IsNew given rows → IsLawful given level
     → walk_fault (built_of level) [] (walk_from h) (words_of given ++ rest) ≡ walk_fault (built_of level) [] (walk_from (after given level h)) rest
 option_passes (depth n) level rows h rest ready none lawful =
     let plain : begins_with_hyphen (decimal n) ≡ false = decimal_is_plain n (omega arith) in
@@ -243,6 +288,11 @@ option_passes (workers n) exploring rows h rest ready none lawful =
 option_passes (workers n) checking rows h rest ready none lawful = absurd lawful
 option_passes allow_deadlock level rows h rest ready none lawful =
     passes_on level (walk_from h) (walk_from (after allow_deadlock level h)) (codes "--allow-deadlock") rest (allow_deadlock_passes level rows h ready none) (allow_deadlock_word level h)
+option_passes main_deadlock level rows h rest ready none lawful =
+    passes_on level (walk_from h) (walk_from (after main_deadlock level h)) (codes "--main-deadlock") rest (main_deadlock_passes level rows h ready none) (main_deadlock_word level h)
+option_passes (normal text) level rows h rest ready none lawful =
+    passes_on level (walk_from h) (waiting_for level (codes "normal") h) (codes "--normal") (text ∷ rest) (normal_word_passes level h ready.settles) (normal_word level h)
+    ∙ passes_on level (waiting_for level (codes "normal") h) (walk_from (after (normal text) level h)) text rest (number_passes level (codes "normal") h text lawful) (normal_text level h text lawful)
 option_passes strict_access level rows h rest ready none lawful =
     passes_on level (walk_from h) (walk_from (after strict_access level h)) (codes "--strict-access") rest (strict_access_passes level rows h ready none) (strict_access_word level h)
 option_passes explain exploring rows h rest ready none lawful =
@@ -269,12 +319,21 @@ flag_ready level id rows h ready none = record {
   rows_are = ap (λ l. with_values id AsWritten CommandLine (codes "true" ∷ []) (without id l)) ready.rows_are ∙ used_once id (codes "true") rows none;
 }
 
+normal_ready : (level : Level) (text : Text) (rows : List Row) (h : Held) → IsReady level rows h → IsReady level (put rows (normal text)) (after (normal text) level h)
+normal_ready exploring text rows h ready = record {
+  settles = normal_passes text (settled (built_of exploring).rules h).rows;
+  rows_are = ap (λ l. put l (normal text)) ready.rows_are;
+}
+normal_ready checking text rows h ready = record {
+  settles = normal_passes text (settled (built_of checking).rules h).rows;
+  rows_are = ap (λ l. put l (normal text)) ready.rows_are;
+}
+
 -- no row among what is held is one of an option that is not there yet
 still_new : (level : Level) (id : Text) (rows : List Row) (h : Held) → IsReady level rows h → has_row id rows ≡ false → has_row id (settled (built_of level).rules h).rows ≡ false
 still_new level id rows h ready none = ap (has_row id) ready.rows_are ∙ none
 
-option_ready : (given : Given) (level : Level) (rows : List Row) (h : Held) → IsReady level rows h → has_row (id_of given) rows ≡ false → IsLawful given level
-    → IsReady level (rows ++ row_of given ∷ []) (after given level h)
+option_ready : (given : Given) (level : Level) (rows : List Row) (h : Held) → IsReady level rows h → IsNew given rows → IsLawful given level → IsReady level (put rows given) (after given level h)
 option_ready (depth n) exploring rows h ready none lawful =
     number_ready exploring (codes "depth") (decimal n) rows h ready none
     (depth_passes (decimal n) (settled (built_of exploring).rules h).rows (still_new exploring (codes "depth") rows h ready none) (decimal_fits 0 400 n (omega arith) lawful (omega arith))) refl
@@ -290,6 +349,8 @@ option_ready (workers n) exploring rows h ready none lawful =
     (workers_passes (decimal n) (settled (built_of exploring).rules h).rows (still_new exploring (codes "workers") rows h ready none) (decimal_fits 1 16 n lawful.0 lawful.1 (omega arith))) refl
 option_ready (workers n) checking rows h ready none lawful = absurd lawful
 option_ready allow_deadlock level rows h ready none lawful = flag_ready level (codes "allow-deadlock") rows h ready none
+option_ready main_deadlock level rows h ready none lawful = flag_ready level (codes "main-deadlock") rows h ready none
+option_ready (normal text) level rows h ready none lawful = normal_ready level text rows h ready
 option_ready strict_access level rows h ready none lawful = flag_ready level (codes "strict-access") rows h ready none
 option_ready explain exploring rows h ready none lawful = flag_ready exploring (codes "explain") rows h ready none
 option_ready explain checking rows h ready none lawful = absurd lawful
@@ -303,10 +364,10 @@ abbrev pub AreLawful : List Given → Level → Type 0
 AreLawful [] level = Unit {0}
 AreLawful (given ∷ rest) level = IsLawful given level × AreLawful rest level
 
--- no option has a row among these, nor among those of the options before it
+-- no option has a row among these, nor among those of the options before it, where it is given once
 abbrev pub AreNew : List Row → List Given → Type 0
 AreNew rows [] = Unit {0}
-AreNew rows (given ∷ rest) = (has_row (id_of given) rows ≡ false) × AreNew (rows ++ row_of given ∷ []) rest
+AreNew rows (given ∷ rest) = IsNew given rows × AreNew (put rows given) rest
 
 pub options_pass : (given : List Given) (level : Level) (rows : List Row) (h : Held) → IsReady level rows h → AreNew rows given → AreLawful given level
     → walk_fault (built_of level) [] (walk_from h) (words_of_all given) ≡ []
@@ -314,13 +375,12 @@ unfolding walk_fault
 options_pass [] level rows h ready new lawful = refl
 options_pass (given ∷ rest) level rows h ready new lawful =
     option_passes given level rows h (words_of_all rest) ready new.0 lawful.0
-    ∙ options_pass rest level (rows ++ row_of given ∷ []) (after given level h) (option_ready given level rows h ready new.0 lawful.0) new.1 lawful.1
+    ∙ options_pass rest level (put rows given) (after given level h) (option_ready given level rows h ready new.0 lawful.0) new.1 lawful.1
 
 pub options_ready : (given : List Given) (level : Level) (rows : List Row) (h : Held) → IsReady level rows h → AreNew rows given → AreLawful given level
-    → IsReady level (rows ++ map row_of given) (walk (built_of level).rules [] h (words_of_all given)).held
-options_ready [] level rows h ready new lawful = subst (λ l. IsReady level l h) (sym (append-nil rows)) ready
+    → IsReady level (put_all rows given) (walk (built_of level).rules [] h (words_of_all given)).held
+options_ready [] level rows h ready new lawful = ready
 options_ready (given ∷ rest) level rows h ready new lawful =
-    let later = options_ready rest level (rows ++ row_of given ∷ []) (after given level h) (option_ready given level rows h ready new.0 lawful.0) new.1 lawful.1 in
-    let same : (rows ++ row_of given ∷ []) ++ map row_of rest ≡ rows ++ map row_of (given ∷ rest) = append_assoc rows (row_of given ∷ []) (map row_of rest) in
+    let later = options_ready rest level (put rows given) (after given level h) (option_ready given level rows h ready new.0 lawful.0) new.1 lawful.1 in
     let held : walk (built_of level).rules [] h (words_of_all (given ∷ rest)) ≡ walk (built_of level).rules [] (after given level h) (words_of_all rest) = option_walks given level h (words_of_all rest) lawful.0 in
-    subst (λ w. IsReady level (rows ++ map row_of (given ∷ rest)) w.held) (sym held) (subst (λ l. IsReady level l (walk (built_of level).rules [] (after given level h) (words_of_all rest)).held) same later)
+    subst (λ w. IsReady level (put_all rows (given ∷ rest)) w.held) (sym held) later

@@ -16,7 +16,7 @@ use Rattle.clap.specs.declared.builder.value_parser.ValueParser.{ValueParser}
 use Rattle.clap.specs.declared.builder.value_parser.ValueParser.TheVariants.{Unsigned}
 use Rattle.clap.specs.declared.parser.matches.ValueSource.{ValueSource}
 use Rattle.clap.specs.declared.parser.matches.ValueSource.TheVariants.{CommandLine, DefaultValue}
-use Rattle.command_words.specs.inside.CommandLine.{Level, built_of, check_built, checking, depth_rule, explore_built, exploring, flag_rule, nodes_rule, workers_rule}
+use Rattle.command_words.specs.inside.CommandLine.{Level, built_of, check_built, checking, depth_rule, explore_built, exploring, flag_rule, nodes_rule, normal_rule, workers_rule}
 use Rattle.command_words.proofs.Kept.{both_pass, walk_leaves}
 
 -- values that are not at fault passed their parser
@@ -59,6 +59,13 @@ nodes_built = filled nodes_rule
 
 abbrev workers_built : Rule
 workers_built = filled workers_rule
+
+-- the argument is none of the options that say what counts as an error
+record AreOthers (id : Text) : Type 0 where
+  pub allow_deadlock : bytes_eq (codes "allow-deadlock") id ≡ false
+  pub main_deadlock : bytes_eq (codes "main-deadlock") id ≡ false
+  pub normal : bytes_eq (codes "normal") id ≡ false
+  pub strict_access : bytes_eq (codes "strict-access") id ≡ false
 
 -- the values of an argument are numbers in its range, and are read as they are written
 module _ (id : Text) (low high : ℕ) where
@@ -147,9 +154,9 @@ module _ (id : Text) (low high : ℕ) where
   -- each use of an option of `explore` keeps them, where one of a number does
   each_use_fits : (values : List Text) (rows : List Row) → (use_fault false depth_built values rows ≡ [] → AllFit (used depth_built values rows))
       → (use_fault false nodes_built values rows ≡ [] → AllFit (used nodes_built values rows)) → (use_fault false workers_built values rows ≡ [] → AllFit (used workers_built values rows))
-      → bytes_eq (codes "allow-deadlock") id ≡ false → bytes_eq (codes "strict-access") id ≡ false → bytes_eq (codes "explain") id ≡ false → bytes_eq (codes "cover") id ≡ false
+      → AreOthers id → bytes_eq (codes "explain") id ≡ false → bytes_eq (codes "cover") id ≡ false
       → (p : Rule → Bool) (a : Rule) → find p explore_built.rules ≡ Some a → use_fault false a values rows ≡ [] → AllFit rows → AllFit (used a values rows)
-  each_use_fits values rows depth nodes workers no_deadlock no_access no_explain no_cover p a found none fit = by (among p explore_built.rules a found)
+  each_use_fits values rows depth nodes workers others no_explain no_cover p a found none fit = by (among p explore_built.rules a found)
     where
       at : (x : Rule) → a ≡ x → (use_fault false x values rows ≡ [] → AllFit (used x values rows)) → AllFit (used a values rows)
       at x is kept = subst (λ y. use_fault false y values rows ≡ [] → AllFit (used y values rows)) (sym is) kept none
@@ -158,51 +165,58 @@ module _ (id : Text) (low high : ℕ) where
       by (inl is) = at depth_built is depth
       by (inr (inl is)) = at nodes_built is nodes
       by (inr (inr (inl is))) = at workers_built is workers
-      by (inr (inr (inr (inl is)))) = at _ is (λ none. other_used_fits (codes "allow-deadlock") AsWritten _ rows no_deadlock fit)
-      by (inr (inr (inr (inr (inl is))))) = at _ is (λ none. other_used_fits (codes "strict-access") AsWritten _ rows no_access fit)
-      by (inr (inr (inr (inr (inr (inl is)))))) = at _ is (λ none. other_used_fits (codes "explain") AsWritten _ rows no_explain fit)
-      by (inr (inr (inr (inr (inr (inr (inl is))))))) = at _ is (λ none. other_used_fits (codes "cover") AsWritten _ rows no_cover fit)
-      by (inr (inr (inr (inr (inr (inr (inr (inl is)))))))) = at _ is (λ none. fit)
-      by (inr (inr (inr (inr (inr (inr (inr (inr nothing)))))))) = absurd nothing
+      by (inr (inr (inr (inl is)))) = at _ is (λ none. other_used_fits (codes "allow-deadlock") AsWritten _ rows others.allow_deadlock fit)
+      by (inr (inr (inr (inr (inl is))))) = at _ is (λ none. other_used_fits (codes "main-deadlock") AsWritten _ rows others.main_deadlock fit)
+      by (inr (inr (inr (inr (inr (inl is)))))) = at _ is (λ none. others_fit (codes "normal") AsWritten CommandLine _ rows others.normal fit)
+      by (inr (inr (inr (inr (inr (inr (inl is))))))) = at _ is (λ none. other_used_fits (codes "strict-access") AsWritten _ rows others.strict_access fit)
+      by (inr (inr (inr (inr (inr (inr (inr (inl is)))))))) = at _ is (λ none. other_used_fits (codes "explain") AsWritten _ rows no_explain fit)
+      by (inr (inr (inr (inr (inr (inr (inr (inr (inl is))))))))) = at _ is (λ none. other_used_fits (codes "cover") AsWritten _ rows no_cover fit)
+      by (inr (inr (inr (inr (inr (inr (inr (inr (inr (inl is)))))))))) = at _ is (λ none. fit)
+      by (inr (inr (inr (inr (inr (inr (inr (inr (inr (inr nothing)))))))))) = absurd nothing
 
   -- and so does each of `check`
   each_check_use_fits : (values : List Text) (rows : List Row) → (use_fault false depth_built values rows ≡ [] → AllFit (used depth_built values rows))
-      → bytes_eq (codes "allow-deadlock") id ≡ false → bytes_eq (codes "strict-access") id ≡ false
-      → (p : Rule → Bool) (a : Rule) → find p check_built.rules ≡ Some a → use_fault false a values rows ≡ [] → AllFit rows → AllFit (used a values rows)
-  each_check_use_fits values rows depth no_deadlock no_access p a found none fit = by (among p check_built.rules a found)
+      → AreOthers id → (p : Rule → Bool) (a : Rule) → find p check_built.rules ≡ Some a → use_fault false a values rows ≡ [] → AllFit rows → AllFit (used a values rows)
+  each_check_use_fits values rows depth others p a found none fit = by (among p check_built.rules a found)
     where
       at : (x : Rule) → a ≡ x → (use_fault false x values rows ≡ [] → AllFit (used x values rows)) → AllFit (used a values rows)
       at x is kept = subst (λ y. use_fault false y values rows ≡ [] → AllFit (used y values rows)) (sym is) kept none
 
       by : Among a check_built.rules → AllFit (used a values rows)
       by (inl is) = at depth_built is depth
-      by (inr (inl is)) = at _ is (λ none. other_used_fits (codes "allow-deadlock") AsWritten _ rows no_deadlock fit)
-      by (inr (inr (inl is))) = at _ is (λ none. other_used_fits (codes "strict-access") AsWritten _ rows no_access fit)
-      by (inr (inr (inr (inl is)))) = at _ is (λ none. fit)
-      by (inr (inr (inr (inr nothing)))) = absurd nothing
+      by (inr (inl is)) = at _ is (λ none. other_used_fits (codes "allow-deadlock") AsWritten _ rows others.allow_deadlock fit)
+      by (inr (inr (inl is))) = at _ is (λ none. other_used_fits (codes "main-deadlock") AsWritten _ rows others.main_deadlock fit)
+      by (inr (inr (inr (inl is)))) = at _ is (λ none. others_fit (codes "normal") AsWritten CommandLine _ rows others.normal fit)
+      by (inr (inr (inr (inr (inl is))))) = at _ is (λ none. other_used_fits (codes "strict-access") AsWritten _ rows others.strict_access fit)
+      by (inr (inr (inr (inr (inr (inl is)))))) = at _ is (λ none. fit)
+      by (inr (inr (inr (inr (inr (inr nothing)))))) = absurd nothing
 
   -- and so does each default of `explore`
   defaults_fit : (rows : List Row) → ((rows : List Row) → AllFit rows → AllFit (with_values (codes "nodes") AsWritten DefaultValue (codes "1000000" ∷ []) rows))
       → ((rows : List Row) → AllFit rows → AllFit (with_values (codes "workers") AsWritten DefaultValue (codes "1" ∷ []) rows))
-      → bytes_eq (codes "allow-deadlock") id ≡ false → bytes_eq (codes "strict-access") id ≡ false → bytes_eq (codes "explain") id ≡ false → bytes_eq (codes "cover") id ≡ false → AllFit rows
+      → AreOthers id → bytes_eq (codes "explain") id ≡ false → bytes_eq (codes "cover") id ≡ false → AllFit rows
       → AllFit (fold with_default rows explore_built.rules)
-  defaults_fit rows nodes workers no_deadlock no_access no_explain no_cover fit =
+  defaults_fit rows nodes workers others no_explain no_cover fit =
       let one = default_fits depth_built rows fit fit in
       let two = default_fits nodes_built _ (nodes _ one) one in
       let three = default_fits workers_built _ (workers _ two) two in
-      let four = default_fits (filled (flag_rule (codes "allow-deadlock"))) _ (others_fit (codes "allow-deadlock") AsWritten DefaultValue _ _ no_deadlock three) three in
-      let five = default_fits (filled (flag_rule (codes "strict-access"))) _ (others_fit (codes "strict-access") AsWritten DefaultValue _ _ no_access four) four in
-      let six = default_fits (filled (flag_rule (codes "explain"))) _ (others_fit (codes "explain") AsWritten DefaultValue _ _ no_explain five) five in
-      let seven = default_fits (filled (flag_rule (codes "cover"))) _ (others_fit (codes "cover") AsWritten DefaultValue _ _ no_cover six) six in
-      default_fits (filled help_rule) _ seven seven
+      let four = default_fits (filled (flag_rule (codes "allow-deadlock"))) _ (others_fit (codes "allow-deadlock") AsWritten DefaultValue _ _ others.allow_deadlock three) three in
+      let five = default_fits (filled (flag_rule (codes "main-deadlock"))) _ (others_fit (codes "main-deadlock") AsWritten DefaultValue _ _ others.main_deadlock four) four in
+      let six = default_fits (filled normal_rule) _ five five in
+      let seven = default_fits (filled (flag_rule (codes "strict-access"))) _ (others_fit (codes "strict-access") AsWritten DefaultValue _ _ others.strict_access six) six in
+      let eight = default_fits (filled (flag_rule (codes "explain"))) _ (others_fit (codes "explain") AsWritten DefaultValue _ _ no_explain seven) seven in
+      let nine = default_fits (filled (flag_rule (codes "cover"))) _ (others_fit (codes "cover") AsWritten DefaultValue _ _ no_cover eight) eight in
+      default_fits (filled help_rule) _ nine nine
 
   -- and of `check`
-  check_defaults_fit : (rows : List Row) → bytes_eq (codes "allow-deadlock") id ≡ false → bytes_eq (codes "strict-access") id ≡ false → AllFit rows → AllFit (fold with_default rows check_built.rules)
-  check_defaults_fit rows no_deadlock no_access fit =
+  check_defaults_fit : (rows : List Row) → AreOthers id → AllFit rows → AllFit (fold with_default rows check_built.rules)
+  check_defaults_fit rows others fit =
       let one = default_fits depth_built rows fit fit in
-      let two = default_fits (filled (flag_rule (codes "allow-deadlock"))) _ (others_fit (codes "allow-deadlock") AsWritten DefaultValue _ _ no_deadlock one) one in
-      let three = default_fits (filled (flag_rule (codes "strict-access"))) _ (others_fit (codes "strict-access") AsWritten DefaultValue _ _ no_access two) two in
-      default_fits (filled help_rule) _ three three
+      let two = default_fits (filled (flag_rule (codes "allow-deadlock"))) _ (others_fit (codes "allow-deadlock") AsWritten DefaultValue _ _ others.allow_deadlock one) one in
+      let three = default_fits (filled (flag_rule (codes "main-deadlock"))) _ (others_fit (codes "main-deadlock") AsWritten DefaultValue _ _ others.main_deadlock two) two in
+      let four = default_fits (filled normal_rule) _ three three in
+      let five = default_fits (filled (flag_rule (codes "strict-access"))) _ (others_fit (codes "strict-access") AsWritten DefaultValue _ _ others.strict_access four) four in
+      default_fits (filled help_rule) _ five five
 
   -- what a walk without a fault leaves of an id
   left_fits : (s : Shape) (words : List Text) (text : Text)
@@ -214,19 +228,28 @@ module _ (id : Text) (low high : ℕ) where
       let second = both_pass (settle_fault s.rules s.args_override_self (walk s.rules [] nothing_held words).held) _ first.1 in
       text_fits (rows_after s.rules [] words) text (defaults _ (walk_leaves s AllFit uses [] words nothing_held first.0 second.0 tt)) reads
 
+depth_apart : AreOthers (codes "depth")
+depth_apart = record { allow_deadlock = refl; main_deadlock = refl; normal = refl; strict_access = refl }
+
+nodes_apart : AreOthers (codes "nodes")
+nodes_apart = record { allow_deadlock = refl; main_deadlock = refl; normal = refl; strict_access = refl }
+
+workers_apart : AreOthers (codes "workers")
+workers_apart = record { allow_deadlock = refl; main_deadlock = refl; normal = refl; strict_access = refl }
+
 -- where a command is not at fault, its depth is in its range
 pub depth_fits : (level : Level) (words : List Text) (text : Text) → level_fault (built_of level) [] nothing_held words false [] ≡ [] → one_of (codes "depth") (rows_after (built_of level).rules [] words) ≡ Some text
     → is_unsigned_in 0 400 text ≡ true
 depth_fits exploring words text =
     left_fits (codes "depth") 0 400 explore_built words text
     (λ p a values rows found none fit. each_use_fits (codes "depth") 0 400 values rows (λ none. used_fits (codes "depth") 0 400 _ _ _ rows none fit)
-    (λ none. other_used_fits (codes "depth") 0 400 (codes "nodes") AsWritten _ rows refl fit) (λ none. other_used_fits (codes "depth") 0 400 (codes "workers") AsWritten _ rows refl fit) refl refl refl refl p a found none fit)
+    (λ none. other_used_fits (codes "depth") 0 400 (codes "nodes") AsWritten _ rows refl fit) (λ none. other_used_fits (codes "depth") 0 400 (codes "workers") AsWritten _ rows refl fit) depth_apart refl refl p a found none fit)
     (λ rows fit. defaults_fit (codes "depth") 0 400 rows (λ rows fit. others_fit (codes "depth") 0 400 (codes "nodes") AsWritten DefaultValue _ rows refl fit)
-    (λ rows fit. others_fit (codes "depth") 0 400 (codes "workers") AsWritten DefaultValue _ rows refl fit) refl refl refl refl fit)
+    (λ rows fit. others_fit (codes "depth") 0 400 (codes "workers") AsWritten DefaultValue _ rows refl fit) depth_apart refl refl fit)
 depth_fits checking words text =
     left_fits (codes "depth") 0 400 check_built words text
-    (λ p a values rows found none fit. each_check_use_fits (codes "depth") 0 400 values rows (λ none. used_fits (codes "depth") 0 400 _ _ _ rows none fit) refl refl p a found none fit)
-    (λ rows fit. check_defaults_fit (codes "depth") 0 400 rows refl refl fit)
+    (λ p a values rows found none fit. each_check_use_fits (codes "depth") 0 400 values rows (λ none. used_fits (codes "depth") 0 400 _ _ _ rows none fit) depth_apart p a found none fit)
+    (λ rows fit. check_defaults_fit (codes "depth") 0 400 rows depth_apart fit)
 
 -- and the numbers of nodes and of workers of an exploration are in theirs
 pub nodes_fits : (words : List Text) (text : Text) → level_fault explore_built [] nothing_held words false [] ≡ [] → one_of (codes "nodes") (rows_after explore_built.rules [] words) ≡ Some text
@@ -234,15 +257,15 @@ pub nodes_fits : (words : List Text) (text : Text) → level_fault explore_built
 nodes_fits words text =
     left_fits (codes "nodes") 1 10000000 explore_built words text
     (λ p a values rows found none fit. each_use_fits (codes "nodes") 1 10000000 values rows (λ none. other_used_fits (codes "nodes") 1 10000000 (codes "depth") AsWritten _ rows refl fit)
-    (λ none. used_fits (codes "nodes") 1 10000000 _ _ _ rows none fit) (λ none. other_used_fits (codes "nodes") 1 10000000 (codes "workers") AsWritten _ rows refl fit) refl refl refl refl p a found none fit)
+    (λ none. used_fits (codes "nodes") 1 10000000 _ _ _ rows none fit) (λ none. other_used_fits (codes "nodes") 1 10000000 (codes "workers") AsWritten _ rows refl fit) nodes_apart refl refl p a found none fit)
     (λ rows fit. defaults_fit (codes "nodes") 1 10000000 rows (λ rows fit. own_fit (codes "nodes") 1 10000000 AsWritten DefaultValue _ rows refl refl fit)
-    (λ rows fit. others_fit (codes "nodes") 1 10000000 (codes "workers") AsWritten DefaultValue _ rows refl fit) refl refl refl refl fit)
+    (λ rows fit. others_fit (codes "nodes") 1 10000000 (codes "workers") AsWritten DefaultValue _ rows refl fit) nodes_apart refl refl fit)
 
 pub workers_fits : (words : List Text) (text : Text) → level_fault explore_built [] nothing_held words false [] ≡ [] → one_of (codes "workers") (rows_after explore_built.rules [] words) ≡ Some text
     → is_unsigned_in 1 16 text ≡ true
 workers_fits words text =
     left_fits (codes "workers") 1 16 explore_built words text
     (λ p a values rows found none fit. each_use_fits (codes "workers") 1 16 values rows (λ none. other_used_fits (codes "workers") 1 16 (codes "depth") AsWritten _ rows refl fit)
-    (λ none. other_used_fits (codes "workers") 1 16 (codes "nodes") AsWritten _ rows refl fit) (λ none. used_fits (codes "workers") 1 16 _ _ _ rows none fit) refl refl refl refl p a found none fit)
+    (λ none. other_used_fits (codes "workers") 1 16 (codes "nodes") AsWritten _ rows refl fit) (λ none. used_fits (codes "workers") 1 16 _ _ _ rows none fit) workers_apart refl refl p a found none fit)
     (λ rows fit. defaults_fit (codes "workers") 1 16 rows (λ rows fit. others_fit (codes "workers") 1 16 (codes "nodes") AsWritten DefaultValue _ rows refl fit)
-    (λ rows fit. own_fit (codes "workers") 1 16 AsWritten DefaultValue _ rows refl refl fit) refl refl refl refl fit)
+    (λ rows fit. own_fit (codes "workers") 1 16 AsWritten DefaultValue _ rows refl refl fit) workers_apart refl refl fit)

@@ -1,9 +1,14 @@
 -- What the words of a command line ask for.
-use Rattle.std.specs.Prelude.{◌≡◌, ℕ, ◌==◌, ◌≤◌, Bool, true, false, List, [], ◌∷◌, ◌++◌, codes, count_by, if◌then◌else◌, Result, MatchResult, string_bytes}
+use Rattle.std.specs.Prelude.{◌≡◌, ◌⊎◌, ℕ, ◌==◌, ◌<◌, ◌≤◌, ◌&&◌, Bool, true, false, List, [], ◌∷◌, ◌++◌, length, map, codes, count_by, if◌then◌else◌, Result, MatchResult, string_bytes}
 use Rattle.std.specs.Fmt.{decimal}
+use Rattle.std.specs.List.{AllByRecursion}
 use Rattle.clap.specs.Values.{kind_of}
 use Rattle.clap.specs.declared.error.Error.{Error}
 use Rattle.clap.specs.declared.error.kind.ErrorKind.TheVariants.{OutOfMemory}
+use Rattle.term_core.specs.Meaning.{Meaning, node_count}
+use Rattle.term_core.specs.TermText.{text_of_term}
+use Rattle.term_reader.specs.Lawful.{IsLawful}
+use Rattle.excuses.specs.Excuses.{Excuses, excuses_in}
 use Rattle.findings.specs.declared.flags.Flags.{Flags}
 use Rattle.findings.specs.declared.options.Options.{Options}
 use Rattle.command_words.specs.declared.words.Printed.{Printed}
@@ -27,16 +32,20 @@ pub data Given : Type 0 where
   nodes : ℕ → Given
   workers : ℕ → Given
   allow_deadlock : Given
+  main_deadlock : Given
+  normal : (text : List ℕ) → Given
   strict_access : Given
   explain : Given
   cover : Given
 
--- its words: a number is given by its decimal digits
+-- its words: a number is given by its decimal digits, a term by its text
 abbrev pub words_of : Given → List (List ℕ)
 words_of (depth n) = codes "--depth" ∷ decimal n ∷ []
 words_of (nodes n) = codes "--nodes" ∷ decimal n ∷ []
 words_of (workers n) = codes "--workers" ∷ decimal n ∷ []
 words_of allow_deadlock = codes "--allow-deadlock" ∷ []
+words_of main_deadlock = codes "--main-deadlock" ∷ []
+words_of (normal text) = codes "--normal" ∷ text ∷ []
 words_of strict_access = codes "--strict-access" ∷ []
 words_of explain = codes "--explain" ∷ []
 words_of cover = codes "--cover" ∷ []
@@ -64,10 +73,21 @@ workers_of [] = []
 workers_of (workers n ∷ rest) = n ∷ workers_of rest
 workers_of (_ ∷ rest) = workers_of rest
 
+-- the texts that are given by `--normal`, in order
+abbrev pub texts_of : List Given → List (List ℕ)
+texts_of [] = []
+texts_of (normal text ∷ rest) = text ∷ texts_of rest
+texts_of (_ ∷ rest) = texts_of rest
+
 -- whether it is the option that counts a deadlock as no error
 abbrev pub is_allow_deadlock : Given → Bool
 is_allow_deadlock allow_deadlock = true
 is_allow_deadlock _ = false
+
+-- whether it is the option that counts a deadlock as an error only where the first process waits
+abbrev pub is_main_deadlock : Given → Bool
+is_main_deadlock main_deadlock = true
+is_main_deadlock _ = false
 
 -- whether it is the option that counts as an error a call that is refused because of who makes it
 abbrev pub is_strict_access : Given → Bool
@@ -99,33 +119,97 @@ pub record AreInRange (options : Options) : Type 0 where
   pub some_workers : 1 ≤ options.workers
   pub most_workers : options.workers ≤ 16
 
--- the words are the name of the program, `explore` and options in any order: `--depth` once, each other one once or not at all
-pub record IsExplore (words : List (List ℕ)) (options : Options) (printed : Printed) : Type 0 where
+-- what is excused is in its range: at most 16 terms that a program can hold, and not both flags of deadlocks
+pub record AreExcusesInRange (flags : Flags) (excuses : Excuses) : Type 0 where
+  pub few : length excuses.normal ≤ 16
+  pub lawful : AllByRecursion IsLawful excuses.normal
+  pub apart : (flags.allow_deadlock && excuses.main_deadlock) ≡ false
+
+-- the terms have at most 10,000 nodes each, so that none is refused for its depth
+abbrev pub AreSmall : List Meaning → Type 0
+AreSmall = AllByRecursion (λ term. node_count term ≤ 10000)
+
+-- what the options excuse, beside these flags: deadlocks by a flag that is given once or not at all, and the terms with the texts that are given
+pub record AreExcusesOf (given : List Given) (flags : Flags) (excuses : Excuses) : Type 0 where
+  pub main_deadlock : count_by is_main_deadlock given ≡ (if excuses.main_deadlock then 1 else 0)
+  pub normal : texts_of given ≡ map text_of_term excuses.normal
+  pub in_range : AreExcusesInRange flags excuses
+  pub small : AreSmall excuses.normal
+
+-- no text begins with a hyphen
+abbrev pub ArePlain : List (List ℕ) → Type 0
+ArePlain = AllByRecursion (λ text. begins_with_hyphen text ≡ false)
+
+-- the words are the name of the program, `explore` and these options in any order: `--depth` once, `--normal` any number of times, each other one once or not at all
+pub record AreWordsOfExplore (words : List (List ℕ)) (given : List Given) (options : Options) (printed : Printed) : Type 0 where
   pub name : List ℕ
-  pub given : List Given
   pub words_are : words ≡ name ∷ codes "explore" ∷ words_of_all given
   pub depth : depths_of given ≡ options.depth ∷ []
   pub nodes : IsGivenOr 1000000 (nodes_of given) options.nodes
   pub workers : IsGivenOr 1 (workers_of given) options.workers
   pub allow_deadlock : count_by is_allow_deadlock given ≡ (if options.flags.allow_deadlock then 1 else 0)
+  pub main_deadlock : count_by is_main_deadlock given ≤ 1
+  pub normal : ArePlain (texts_of given)
   pub strict_access : count_by is_strict_access given ≡ (if options.flags.strict_access then 1 else 0)
   pub explain : count_by is_explain given ≡ (if printed.explained then 1 else 0)
   pub cover : count_by is_cover given ≡ (if printed.cover then 1 else 0)
   pub in_range : AreInRange options
 
--- the words are the name of the program, `check` and options in any order: `--depth` once, each of its two flags once or not at all, and no option that is of `explore` alone
-pub record IsCheck (words : List (List ℕ)) (steps : ℕ) (flags : Flags) : Type 0 where
+-- the words are the name of the program, `check` and these options in any order: `--depth` once, `--normal` any number of times, each of its flags once or not at all, and no option that is of `explore` alone
+pub record AreWordsOfCheck (words : List (List ℕ)) (given : List Given) (steps : ℕ) (flags : Flags) : Type 0 where
   pub name : List ℕ
-  pub given : List Given
   pub words_are : words ≡ name ∷ codes "check" ∷ words_of_all given
   pub depth : depths_of given ≡ steps ∷ []
   pub allow_deadlock : count_by is_allow_deadlock given ≡ (if flags.allow_deadlock then 1 else 0)
+  pub main_deadlock : count_by is_main_deadlock given ≤ 1
+  pub normal : ArePlain (texts_of given)
   pub strict_access : count_by is_strict_access given ≡ (if flags.strict_access then 1 else 0)
   pub no_nodes : nodes_of given ≡ []
   pub no_workers : workers_of given ≡ []
   pub no_explain : count_by is_explain given ≡ 0
   pub no_cover : count_by is_cover given ≡ 0
   pub in_range : steps ≤ 400
+
+-- the words are those of `explore` with these options, and excuse this
+pub record IsExplore (words : List (List ℕ)) (options : Options) (excuses : Excuses) (printed : Printed) : Type 0 where
+  pub given : List Given
+  pub says : AreWordsOfExplore words given options printed
+  pub excused : AreExcusesOf given options.flags excuses
+
+-- the words are those of `check` with these options, and excuse this
+pub record IsCheck (words : List (List ℕ)) (steps : ℕ) (flags : Flags) (excuses : Excuses) : Type 0 where
+  pub given : List Given
+  pub says : AreWordsOfCheck words given steps flags
+  pub excused : AreExcusesOf given flags excuses
+
+-- one of the texts is that of no term that a program can hold
+abbrev pub HasNoTerm : List (List ℕ) → Type 0
+HasNoTerm [] = ⊥
+HasNoTerm (text ∷ rest) = ((term : Meaning) → IsLawful term → text ≡ text_of_term term → ⊥) ⊎ HasNoTerm rest
+
+-- the options can excuse nothing: a text is that of no term, there are more than 16, or both flags of deadlocks are given
+abbrev pub ExcuseNothing : List Given → Type 0
+ExcuseNothing given = HasNoTerm (texts_of given) ⊎ ((16 < length (texts_of given)) ⊎ ((count_by is_allow_deadlock given ≡ 1) × (count_by is_main_deadlock given ≡ 1)))
+
+-- the words are those of `explore` but for what they excuse
+pub record IsNoExplore (words : List (List ℕ)) : Type 0 where
+  pub given : List Given
+  pub options : Options
+  pub printed : Printed
+  pub says : AreWordsOfExplore words given options printed
+  pub bad : ExcuseNothing given
+
+-- the words are those of `check` but for what they excuse
+pub record IsNoCheck (words : List (List ℕ)) : Type 0 where
+  pub given : List Given
+  pub steps : ℕ
+  pub flags : Flags
+  pub says : AreWordsOfCheck words given steps flags
+  pub bad : ExcuseNothing given
+
+-- the words are those of a command but for what they excuse
+abbrev pub AreUnreadable : List (List ℕ) → Type 0
+AreUnreadable words = IsNoExplore words ⊎ IsNoCheck words
 
 -- the words are the name of the program, this name of a command, and others
 pub record IsNamed (words : List (List ℕ)) (command : List ℕ) : Type 0 where
@@ -136,29 +220,29 @@ pub record IsNamed (words : List (List ℕ)) (command : List ℕ) : Type 0 where
 -- the name of the command that was read
 abbrev pub command_of : Words → List ℕ
 command_of (Replay word) = codes "replay"
-command_of (Explore options printed) = codes "explore"
-command_of (Check steps flags) = codes "check"
+command_of (Explore options excuses printed) = codes "explore"
+command_of (Check steps flags excuses) = codes "check"
 
 -- what was read is the replay of this schedule
 abbrev pub AsksReplay : List ℕ → Words → Type 0
 AsksReplay schedule (Replay word) = string_bytes word ≡ schedule
 AsksReplay schedule _ = ⊥
 
--- what was read is an exploration with these options, that prints this
-abbrev pub AsksExplore : Options → Printed → Words → Type 0
-AsksExplore options printed (Explore found prints) = (found ≡ options) × (prints ≡ printed)
-AsksExplore options printed _ = ⊥
+-- what was read is an exploration with these options, that excuses this and prints this
+abbrev pub AsksExplore : Options → Excuses → Printed → Words → Type 0
+AsksExplore options excuses printed (Explore found excused prints) = (found ≡ options) × ((excuses_in excused ≡ excuses) × (prints ≡ printed))
+AsksExplore options excuses printed _ = ⊥
 
--- what was read is the check of a cover up to this number of steps, with these flags
-abbrev pub AsksCheck : ℕ → Flags → Words → Type 0
-AsksCheck steps flags (Check found counts) = (found ≡ steps) × (counts ≡ flags)
-AsksCheck steps flags _ = ⊥
+-- what was read is the check of a cover up to this number of steps, with these flags, that excuses this
+abbrev pub AsksCheck : ℕ → Flags → Excuses → Words → Type 0
+AsksCheck steps flags excuses (Check found counts excused) = (found ≡ steps) × ((counts ≡ flags) × (excuses_in excused ≡ excuses))
+AsksCheck steps flags excuses _ = ⊥
 
--- the numbers of a command are in their ranges
+-- the numbers of a command are in their ranges, and so is what it excuses
 abbrev pub IsInRange : Words → Type 0
 IsInRange (Replay word) = Unit {0}
-IsInRange (Explore options printed) = AreInRange options
-IsInRange (Check steps flags) = steps ≤ 400
+IsInRange (Explore options excuses printed) = AreInRange options × AreExcusesInRange options.flags (excuses_in excuses)
+IsInRange (Check steps flags excuses) = (steps ≤ 400) × AreExcusesInRange flags (excuses_in excuses)
 
 -- the words were read as what they ask for, or there was no memory for them
 abbrev pub AreReadAs : (Words → Type 0) → Result Words Error → Type 0

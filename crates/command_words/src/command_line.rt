@@ -2,7 +2,7 @@
 ghost use Rattle.std.specs.Prelude.{◌≡◌, codes, option_map, IfOk, IfErr};
 ghost use Rattle.clap.specs.Values.{kind_of};
 ghost use Rattle.clap.specs.Words.{app_of, found_of, one_of, rows_of, subcommand_rows_of};
-ghost use Rattle.command_words.specs.inside.CommandLine.{IsArgument, IsMadeAs, check_command, command_line, depth_rule, explore_command, flag_rule, nodes_rule, replay_command, workers_rule};
+ghost use Rattle.command_words.specs.inside.CommandLine.{IsArgument, IsMadeAs, check_command, command_line, depth_rule, explore_command, flag_rule, nodes_rule, normal_rule, replay_command, workers_rule};
 ghost use Rattle.command_words.specs.inside.Found.{AreFlagsOf, AreOptionsOf, IsCheckOf, IsPrintedOf, ReadsNumber, schedule_in};
 
 use crate::help;
@@ -61,6 +61,8 @@ fn explore_command<'a>(alloc: Global) -> Result<Command<'a>, Error>
         .arg(nodes_option(alloc))?
         .arg(workers_option(alloc))?
         .arg(allow_deadlock_flag(alloc))?
+        .arg(main_deadlock_flag(alloc))?
+        .arg(normal_option(alloc))?
         .arg(strict_access_flag(alloc))?
         .arg(flag(
             alloc,
@@ -85,6 +87,8 @@ fn check_command<'a>(alloc: Global) -> Result<Command<'a>, Error>
         .after_help(help::OF_CHECK)
         .arg(depth_option(alloc))?
         .arg(allow_deadlock_flag(alloc))?
+        .arg(main_deadlock_flag(alloc))?
+        .arg(normal_option(alloc))?
         .arg(strict_access_flag(alloc))?;
     Ok(check)
 }
@@ -137,6 +141,28 @@ fn allow_deadlock_flag<'a>(alloc: Global) -> Arg<'a>
         "allow-deadlock",
         "Does not count a deadlock as an error",
     )
+}
+
+// `--main-deadlock`.
+fn main_deadlock_flag<'a>(alloc: Global) -> Arg<'a>
+    ensures { IsArgument (flag_rule (codes "main-deadlock")) result }
+{
+    flag(
+        alloc,
+        "main-deadlock",
+        "Counts a deadlock as an error only where P waits",
+    )
+}
+
+// `--normal TERM`.
+fn normal_option<'a>(alloc: Global) -> Arg<'a>
+    ensures { IsArgument normal_rule result }
+{
+    Arg::new(alloc, "normal")
+        .long("normal")
+        .action(ArgAction::Append)
+        .value_name("TERM")
+        .help("Does not count an end with this reason as an error,\nup to 16 times")
 }
 
 // `--strict-access`.

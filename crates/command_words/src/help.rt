@@ -40,6 +40,8 @@ Example:
 pub(crate) const OF_EXPLORE: &str = "\
 Standard input: the text of one module, at most 1048576 bytes.
 Standard output: the report, each finding with a schedule that `replay` takes.
+A TERM is written as the report prints it: 'shutdown' or {'error',1}. What is
+excused by --normal or --main-deadlock is listed all the same, as normal.
 
 Statuses:
   0   all nodes were visited, and none shows an error

@@ -2,6 +2,7 @@
 #![tactic(auto)]
 
 pub mod command_line;
+mod excused;
 mod help;
 pub mod words;
 

@@ -1,13 +1,16 @@
 // The words of a command line.
-ghost use Rattle.std.specs.Prelude.{ℕ, List, map, IfOk};
+ghost use Rattle.std.specs.Prelude.{ℕ, List, map, IfOk, IsErr};
+ghost use Rattle.excuses.specs.Excuses.{Excuses as Excused};
 ghost use Rattle.findings.specs.declared.flags.Flags.{Flags};
 ghost use Rattle.findings.specs.declared.options.Options.{Options};
 ghost use Rattle.command_words.specs.declared.words.Printed.{Printed};
-ghost use Rattle.command_words.specs.Words.{AreReadAs, AsksCheck, AsksExplore, AsksReplay, IsCheck, IsExplore, IsInRange, IsNamed, IsReplay, command_of};
+ghost use Rattle.command_words.specs.Words.{AreReadAs, AreUnreadable, AsksCheck, AsksExplore, AsksReplay, IsCheck, IsExplore, IsInRange, IsNamed, IsReplay, command_of};
 
 use crate::command_line::{NAME, command, found_check, found_options, found_schedule};
+use crate::excused::read_excuses;
 use clap::error::ErrorKind;
 use clap::{Command, Error};
+use excuses::Excuses;
 use findings::{Flags, Options};
 use std::alloc::Global;
 use std::convert::AsStr;
@@ -22,14 +25,14 @@ pub struct Printed {
 }
 
 /// What the program is asked to do.
-#[derive(Debug, Drop)]
+#[derive(Drop)]
 pub enum Words {
     /// `replay SCHEDULE`: to replay a schedule of the module on standard input.
     Replay(String),
-    /// `explore`, with its options and what it prints: to explore the schedules of the module on standard input.
-    Explore(Options, Printed),
-    /// `check`, with the depth and what counts as an error: to check the cover behind the module on standard input.
-    Check(u64, Flags),
+    /// `explore`, with its options, what it excuses and what it prints: to explore the schedules of the module on standard input.
+    Explore(Options, Excuses, Printed),
+    /// `check`, with the depth, what counts as an error and what is excused: to check the cover behind the module on standard input.
+    Check(u64, Flags, Excuses),
 }
 
 /// Reads the words of a command line, of which the first is the program's name.
@@ -37,11 +40,15 @@ pub enum Words {
 /// # Errors
 ///
 /// The parser's error where the words are not those of a command, where they ask for help, and where
-/// there was no memory.
+/// there was no memory; an error of the same form where a text of `--normal` is that of no term, where
+/// there are more than 16, and where both flags of deadlocks are given.
 pub fn read_words<S: AsStr>(alloc: Global, words: &[S]) -> Result<Words, Error>
     ensures replay { (schedule : List ℕ) → IsReplay (map S.text words.now) schedule → AreReadAs (AsksReplay schedule) result }
-    ensures explore { (options : Options) (printed : Printed) → IsExplore (map S.text words.now) options printed → AreReadAs (AsksExplore options printed) result }
-    ensures check { (depth : ℕ) (flags : Flags) → IsCheck (map S.text words.now) depth flags → AreReadAs (AsksCheck depth flags) result }
+    ensures explore { (options : Options) (excuses : Excused) (printed : Printed) → IsExplore (map S.text words.now) options excuses printed
+        → AreReadAs (AsksExplore options excuses printed) result }
+    ensures check { (depth : ℕ) (flags : Flags) (excuses : Excused) → IsCheck (map S.text words.now) depth flags excuses → AreReadAs (AsksCheck depth flags excuses) result }
+    // No text that is that of no term is skipped, nor one past the 16th, nor a flag.
+    ensures unread { AreUnreadable (map S.text words.now) → IsErr result }
     ensures range { IfOk result IsInRange }
     ensures named { IfOk result (λ read. IsNamed (map S.text words.now) (command_of read)) }
 {
@@ -51,10 +58,12 @@ pub fn read_words<S: AsStr>(alloc: Global, words: &[S]) -> Result<Words, Error>
         return Ok(Words::Replay(String::from_str(alloc, schedule)?));
     }
     if let Some((options, printed)) = found_options(&matches) {
-        return Ok(Words::Explore(options, printed));
+        let excuses = read_excuses(alloc, &matches, options.flags)?;
+        return Ok(Words::Explore(options, excuses, printed));
     }
     let Some((depth, flags)) = found_check(&matches) else {
         return Err(Command::new(alloc, NAME).error(ErrorKind::MissingSubcommand, "no command")?);
     };
-    Ok(Words::Check(depth, flags))
+    let excuses = read_excuses(alloc, &matches, flags)?;
+    Ok(Words::Check(depth, flags, excuses))
 }

@@ -2,7 +2,7 @@
 use Rattle.std.specs.Prelude.{◌≡◌, ℕ, List, [], ◌∷◌, codes, Some, true, false}
 use Rattle.clap.specs.Simple.{built_leaf, inherited, marked_built, with_leaf_noted}
 use Rattle.clap.specs.Words.{App, Rule, Shape, app_of, new_app, new_rule, rule_of, with_rule, with_subcommand}
-use Rattle.clap.specs.declared.builder.action.ArgAction.TheVariants.{Set, SetTrue}
+use Rattle.clap.specs.declared.builder.action.ArgAction.TheVariants.{Append, Set, SetTrue}
 use Rattle.clap.specs.declared.builder.arg.Arg.{Arg}
 use Rattle.clap.specs.declared.builder.command.Command.{Command}
 use Rattle.clap.specs.declared.builder.command.Command.TheViews.{out-Command}
@@ -32,15 +32,22 @@ workers_rule = record (new_rule (codes "workers")) { long = Some (codes "workers
 abbrev pub flag_rule : List ℕ → Rule
 flag_rule name = record (new_rule name) { long = Some name; action = Some SetTrue }
 
+-- `--normal TERM`, which may come several times
+abbrev pub normal_rule : Rule
+normal_rule = record (new_rule (codes "normal")) { long = Some (codes "normal"); action = Some Append; value_names = 1 }
+
+-- the options of both commands that say what counts as an error
+abbrev pub with_errors : App → App
+with_errors app = with_rule (with_rule (with_rule (with_rule app (flag_rule (codes "allow-deadlock"))) (flag_rule (codes "main-deadlock"))) normal_rule) (flag_rule (codes "strict-access"))
+
 -- `explore` with its options
 abbrev pub explore_command : App
 explore_command =
-    with_rule (with_rule (with_rule (with_rule (with_rule (with_rule (with_rule (new_app (codes "explore")) depth_rule) nodes_rule) workers_rule) (flag_rule (codes "allow-deadlock")))
-    (flag_rule (codes "strict-access"))) (flag_rule (codes "explain"))) (flag_rule (codes "cover"))
+    with_rule (with_rule (with_errors (with_rule (with_rule (with_rule (new_app (codes "explore")) depth_rule) nodes_rule) workers_rule)) (flag_rule (codes "explain"))) (flag_rule (codes "cover"))
 
 -- `check` with its options
 abbrev pub check_command : App
-check_command = with_rule (with_rule (with_rule (new_app (codes "check")) depth_rule) (flag_rule (codes "allow-deadlock"))) (flag_rule (codes "strict-access"))
+check_command = with_errors (with_rule (new_app (codes "check")) depth_rule)
 
 -- the program's name and a subcommand, which has to be there
 abbrev pub program_command : App

@@ -1,8 +1,15 @@
 -- What the program reads of what its parser found.
-use Rattle.std.specs.Prelude.{◌≡◌, ◌⊎◌, ℕ, ◌<◌, ◌^◌, Bool, true, false, List, codes, Option, Some, None, if◌then◌else◌, MatchBool}
+use Rattle.std.specs.Prelude.{◌≡◌, ◌⊎◌, ℕ, ◌<◌, ◌≤◌, ◌^◌, Bool, true, false, List, [], length, map, codes, Option, Some, None, if◌then◌else◌, MatchBool, unwrap_or}
+use Rattle.std.specs.List.{AllByRecursion}
 use Rattle.std.specs.Str.{bytes_eq}
 use Rattle.std.specs.Str.Parse.{IsNumeral, digits_value, without_leading_plus}
-use Rattle.clap.specs.Words.{Row, Text, first_of, one_of}
+use Rattle.clap.specs.Words.{Row, Text, all_of, first_of, one_of}
+use Rattle.term_core.specs.Meaning.{Meaning}
+use Rattle.term_core.specs.TermText.{text_of_term}
+use Rattle.term_reader.specs.Lawful.{IsLawful}
+use Rattle.excuses.specs.Excuses.{Excuses, excuses_in}
+use Rattle.excuses.specs.declared.excuses.Excuses as declared
+use Rattle.command_words.specs.Words.{AreExcusesInRange, AreSmall}
 use Rattle.findings.specs.declared.flags.Flags.{Flags}
 use Rattle.findings.specs.declared.options.Options.{Options}
 use Rattle.command_words.specs.declared.words.Printed.{Printed}
@@ -66,3 +73,31 @@ IsCheckIn rows (Some read) = ReadsNumber (one_of (codes "depth") rows) (Some rea
 abbrev pub IsCheckOf : Option (Text × List Row) → Option (ℕ × Flags) → Type 0
 IsCheckOf None read = read ≡ None
 IsCheckOf (Some p) read = MatchBool (bytes_eq p.0 (codes "check")) (IsCheckIn p.1 read) (read ≡ None)
+
+-- the rows of the command that was found
+abbrev pub rows_in : Option (Text × List Row) → List Row
+rows_in None = []
+rows_in (Some p) = p.1
+
+-- the texts of `--normal`
+abbrev pub texts_in : List Row → List Text
+texts_in rows = unwrap_or (all_of (codes "normal") rows) []
+
+-- the texts are those of these terms, which are at most 16 and which a program can hold
+pub record AreTextsOf (terms : List Meaning) (texts : List Text) : Type 0 where
+  pub texts_are : texts ≡ map text_of_term terms
+  pub few : length terms ≤ 16
+  pub lawful : AllByRecursion IsLawful terms
+
+-- what is excused is that of the rows, beside these flags
+pub record AreExcusesIn (flags : Flags) (rows : List Row) (read : declared.Excuses) : Type 0 where
+  pub main_deadlock : ReadsFlag (one_of (codes "main-deadlock") rows) read.main_deadlock
+  pub normal : texts_in rows ≡ map text_of_term (excuses_in read).normal
+  pub in_range : AreExcusesInRange flags (excuses_in read)
+
+-- the rows ask for this, beside these flags
+pub record AskExcuses (flags : Flags) (rows : List Row) (excuses : Excuses) : Type 0 where
+  pub main_deadlock : one_of (codes "main-deadlock") rows ≡ Some (if excuses.main_deadlock then codes "true" else codes "false")
+  pub normal : texts_in rows ≡ map text_of_term excuses.normal
+  pub in_range : AreExcusesInRange flags excuses
+  pub small : AreSmall excuses.normal

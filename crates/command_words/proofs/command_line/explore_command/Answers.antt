@@ -17,6 +17,8 @@ returns-clause-line c =
     let two = made_with _ _ _ _ _ one c.nodes_option.ensures c.in_ok-arg-2.ensures in
     let three = made_with _ _ _ _ _ two c.workers_option.ensures c.in_ok-arg-3.ensures in
     let four = made_with _ _ _ _ _ three c.allow_deadlock_flag.ensures c.in_ok-arg-4.ensures in
-    let five = made_with _ _ _ _ _ four c.strict_access_flag.ensures c.in_ok-arg-5.ensures in
-    let six = made_with _ _ _ _ _ five c.flag.ensures c.in_ok-arg-6.ensures in
-    made_with _ _ _ _ _ six c.flag-2.ensures c.in_ok-explore.ensures
+    let five = made_with _ _ _ _ _ four c.main_deadlock_flag.ensures c.in_ok-arg-5.ensures in
+    let six = made_with _ _ _ _ _ five c.normal_option.ensures c.in_ok-arg-6.ensures in
+    let seven = made_with _ _ _ _ _ six c.strict_access_flag.ensures c.in_ok-arg-7.ensures in
+    let eight = made_with _ _ _ _ _ seven c.flag.ensures c.in_ok-arg-8.ensures in
+    made_with _ _ _ _ _ eight c.flag-2.ensures c.in_ok-explore.ensures
