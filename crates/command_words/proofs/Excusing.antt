@@ -1,7 +1,7 @@
 -- What is excused by the options of a command, and by what is read of them.
-use Rattle.std.proofs.Common.{◌≡◌, ◌∙◌, ◌⊎◌, ◌&&◌, ℕ, ◌≤◌, ◌<◌, suc, Bool, true, false, List, [], ◌∷◌, length, map, Option, Some, cond, codes, refl, sym, ap, subst, inl, inr, arith, true≢false}
+use Rattle.std.proofs.Common.{◌≡◌, ◌∙◌, ◌&&◌, ℕ, Bool, true, false, List, [], ◌∷◌, length, map, Some, cond, codes, refl, sym, ap, subst, inl, inr, arith, true≢false}
 use Rattle.std.specs.List.{AllByRecursion, count_by}
-use Rattle.clap.specs.Words.{Row, Text, one_of}
+use Rattle.clap.specs.Words.{Row, one_of}
 use Rattle.term_core.specs.Meaning.{Meaning}
 use Rattle.term_core.specs.TermText.{text_of_term}
 use Rattle.term_reader.specs.Lawful.{IsLawful}
@@ -9,9 +9,9 @@ use Rattle.term_reader.proofs.OneTerm.{term_injective}
 use Rattle.excuses.specs.Excuses.{Excuses, excuses_in}
 use Rattle.excuses.specs.declared.excuses.Excuses as declared
 use Rattle.findings.specs.declared.flags.Flags.{Flags}
-use Rattle.command_words.specs.Words.{AreExcusesOf, AreSmall, ExcuseNothing, Given, HasNoTerm, is_allow_deadlock, is_main_deadlock, texts_of}
+use Rattle.command_words.specs.Words.{AreExcusesOf, ExcuseNothing, Given, HasNoTerm, is_allow_deadlock, is_main_deadlock, texts_of}
 use Rattle.command_words.specs.inside.CommandLine.{Level}
-use Rattle.command_words.specs.inside.Found.{AreExcusesIn, AreTextsOf, AskExcuses, texts_in}
+use Rattle.command_words.specs.inside.Found.{AreExcusesIn, AskExcuses, texts_in}
 use Rattle.command_words.proofs.Asked.{flag_is, flag_text, rows_of_given}
 use Rattle.command_words.proofs.Texts.{texts_length}
 use Rattle.command_words.proofs.Rows.{given_row, given_texts, main_deadlock_left, main_deadlock_row, normal_left, put_all}

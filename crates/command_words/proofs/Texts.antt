@@ -102,8 +102,15 @@ term_more items now term texts i d pushed lt few is text lawful =
 -- ---- what the parser found
 
 -- the texts of `--normal`, as its getter gives them
-pub texts_found : (f : Found) (o : Option (List Text)) → o ≡ option_map raw_values (matched_of f (codes "normal")) → texts_in (rows_of f) ≡ unwrap_or o []
-texts_found f o is = sym (ap (λ x. unwrap_or x []) (is ∙ raw_values-rows f (codes "normal")))
+module _ (f : Found) (found : Option (Bor (List (Bor Text)))) (is : option_map (λ texts. texts_behind texts.now) found ≡ option_map raw_values (matched_of f (codes "normal"))) where
+  texts_got : texts_in (rows_of f) ≡ unwrap_or (option_map (λ texts. texts_behind texts.now) found) []
+  texts_got = sym (ap (λ o. unwrap_or o []) (is ∙ raw_values-rows f (codes "normal")))
+
+  pub texts_found : (texts : Bor (List (Bor Text))) → found ≡ Some texts → texts_in (rows_of f) ≡ texts_behind texts.now
+  texts_found texts some = texts_got ∙ ap (λ (o : Option (Bor (List (Bor Text)))). unwrap_or (option_map (λ texts. texts_behind texts.now) o) []) some
+
+  pub no_texts_found : found ≡ None → texts_in (rows_of f) ≡ []
+  no_texts_found none = texts_got ∙ ap (λ (o : Option (Bor (List (Bor Text)))). unwrap_or (option_map (λ texts. texts_behind texts.now) o) []) none
 
 -- the rows of the subcommand that was found
 pub rows_found : (o : Option (Text × List Row)) (rows : List Row) → option_map (λ p. p.1) o ≡ Some rows → rows_in o ≡ rows
@@ -114,7 +121,7 @@ pub no_rows : (o : Option (Text × List Row)) → option_map (λ p. p.1) o ≡ N
 no_rows None is = refl
 no_rows (Some p) is = cc
 
-and_false : (b : Bool) → (b && false) ≡ false
+pub and_false : (b : Bool) → (b && false) ≡ false
 and_false true = refl
 and_false false = refl
 

@@ -1,5 +1,5 @@
 -- What the program makes of what a command excuses, and of words that can excuse nothing.
-use Rattle.std.proofs.Common.{◌≡◌, ◌∙◌, ◌⊎◌, ℕ, List, Option, Some, None, codes, sym, ap, subst, inl, inr}
+use Rattle.std.proofs.Common.{◌≡◌, ◌∙◌, ℕ, List, Option, Some, None, sym, ap, subst, inl, inr}
 use Rattle.std.specs.Prelude.{Result, Err}
 use Rattle.clap.specs.Values.{kind_of}
 use Rattle.clap.specs.Words.{Row, Text, subcommand_of}
@@ -12,7 +12,7 @@ use Rattle.findings.specs.declared.options.Options.{Options}
 use Rattle.command_words.specs.declared.words.Printed.{Printed}
 use Rattle.command_words.specs.declared.words.Words.{Words}
 use Rattle.command_words.specs.Words.{AreReadAs, AreUnreadable, AsksCheck, AsksExplore, IsCheck, IsExplore}
-use Rattle.command_words.specs.inside.CommandLine.{Level, checking, command_line, exploring}
+use Rattle.command_words.specs.inside.CommandLine.{checking, command_line, exploring}
 use Rattle.command_words.specs.inside.Found.{AreExcusesIn, AreOptionsOf, AskExcuses, IsCheckOf, rows_in, schedule_in}
 use Rattle.command_words.proofs.Asked.{rows_of_given}
 use Rattle.command_words.proofs.Checked.{check_enters, check_has_no_options, check_has_no_schedule, check_reads}

@@ -1,12 +1,12 @@
-use Rattle.std.proofs.Common.{◌≡◌, ◌∙◌, None, Some, ap, inl, inr, map, refl, subst, sym}
+use Rattle.std.proofs.Common.{◌≡◌, ◌∙◌, None, Some, ap, map, subst, sym}
 use Rattle.std.specs.Prelude.{Err}
 use Rattle.std.proofs.lemmas.Result.{err_from_is_err_and}
 use Rattle.clap.specs.Words.{app_of, subcommand_of, subcommand_rows_of}
-use Rattle.command_words.specs.Words.{AreUnreadable, AsksCheck, AsksExplore, AsksReplay}
+use Rattle.command_words.specs.Words.{AsksCheck, AsksExplore, AsksReplay}
 use Rattle.command_words.specs.inside.CommandLine.{command_line}
 use Rattle.command_words.specs.inside.Found.{AreOptionsOf, IsCheckOf, schedule_in}
 use Rattle.command_words.proofs.Checked.{check_has_no_options, check_has_no_schedule, check_in_range, check_is_found, check_passes, check_reads}
-use Rattle.command_words.proofs.Explored.{explore_has_no_check, explore_has_no_schedule, explore_is_found, explore_passes, explore_reads, found_in_range}
+use Rattle.command_words.proofs.Explored.{explore_has_no_schedule, explore_is_found, explore_passes, explore_reads, found_in_range}
 use Rattle.command_words.proofs.Named.{check_named, explore_named, replay_named}
 use Rattle.command_words.proofs.Reading.{entered_is, no_word_found, passes_is, refused_for_memory, word_found}
 use Rattle.command_words.proofs.Replayed.{replay_enters, replay_passes}
