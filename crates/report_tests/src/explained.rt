@@ -2,6 +2,7 @@
 use crate::transcript::pid;
 use core_reader::read_module;
 use core_tree::CallKind;
+use excuses::Excuses;
 use findings::{Cause, Extent, Findings, Flags, Identity, Outcome};
 use replay_core::{ExplainFault, write_explained_report};
 use report_text::{write_explained_first_line, write_explained_last_line};
@@ -36,7 +37,7 @@ fn turns(alloc: Global, count: usize) -> Result<Vec<Step>, AllocError> {
 }
 
 // Adds what one schedule shows.
-fn note(
+pub(super) fn note(
     alloc: Global,
     findings: &mut Findings,
     identity: Identity,
@@ -96,13 +97,13 @@ fn of_waits(alloc: Global) -> Result<Outcome, AllocError> {
     Ok(Outcome::Complete(findings, Extent { nodes: 6, cut: 0 }))
 }
 
-// Tells whether the first and the last line are these.
+// Tells whether the first and the last line are these, where nothing is excused.
 fn is_framed(alloc: Global, outcome: &Outcome, first: &str, last: &str) -> Result<(), Fail> {
     let mut sink = MemorySink::in_pieces(alloc, 1000, 1)?;
     write_explained_first_line(&mut sink, 9, outcome)?;
     same(sink.bytes.as_slice(), first.as_bytes())?;
     let mut sink = MemorySink::in_pieces(alloc, 1000, 1)?;
-    write_explained_last_line(&mut sink, 9, outcome)?;
+    write_explained_last_line(&mut sink, 9, &Excuses::none(alloc), outcome)?;
     same(sink.bytes.as_slice(), last.as_bytes())
 }
 
@@ -136,20 +137,21 @@ fn tells_of_errors_to_the_depth(rt: HostRuntime) -> Result<(), Fail> {
 
 // Tells whether the explained report is this one. Where memory is wanting it has to be a beginning of it, in a sink that
 // is sound.
-fn explains(
+pub(super) fn explains(
     alloc: Global,
     text: &str,
     depth: u64,
+    excuses: &Excuses,
     outcome: &Outcome,
-    report: &str,
+    report: &[u8],
     piece: usize,
 ) -> Result<(), Fail> {
     let program = read_module(alloc, text.as_bytes())?;
-    let mut sink = MemorySink::in_pieces(alloc, 1000, piece)?;
-    match write_explained_report(alloc, &program, depth, outcome, &mut sink) {
-        Ok(()) => same(sink.bytes.as_slice(), report.as_bytes()),
+    let mut sink = MemorySink::in_pieces(alloc, 2000, piece)?;
+    match write_explained_report(alloc, &program, depth, excuses, outcome, &mut sink) {
+        Ok(()) => same(sink.bytes.as_slice(), report),
         Err(ExplainFault::Memory) => {
-            let is_beginning = report.as_bytes().starts_with(&sink.bytes);
+            let is_beginning = report.starts_with(&sink.bytes);
             holds(is_beginning && !sink.has_failed, "it is no beginning")?;
             Err(Fail::from("there is no memory"))
         }
@@ -160,9 +162,11 @@ fn explains(
 #[test]
 fn explains_an_error_and_a_refusal(rt: HostRuntime) -> Result<(), Fail> {
     let alloc = rt.alloc();
+    let none = Excuses::none(alloc);
     let outcome = of_no_table(alloc)?;
+    let report = NO_TABLE_EXPLAINED.as_bytes();
     for piece in [1, 1000] {
-        explains(alloc, NO_TABLE, 2, &outcome, NO_TABLE_EXPLAINED, piece)?;
+        explains(alloc, NO_TABLE, 2, &none, &outcome, report, piece)?;
     }
     Ok(())
 }
@@ -170,9 +174,11 @@ fn explains_an_error_and_a_refusal(rt: HostRuntime) -> Result<(), Fail> {
 #[test]
 fn explains_a_deadlock(rt: HostRuntime) -> Result<(), Fail> {
     let alloc = rt.alloc();
+    let none = Excuses::none(alloc);
     let outcome = of_waits(alloc)?;
+    let report = WAITS_EXPLAINED.as_bytes();
     for piece in [1, 1000] {
-        explains(alloc, WAITS, 9, &outcome, WAITS_EXPLAINED, piece)?;
+        explains(alloc, WAITS, 9, &none, &outcome, report, piece)?;
     }
     Ok(())
 }
@@ -187,18 +193,20 @@ fn explains_no_step_that_is_not_enabled(rt: HostRuntime) -> Result<(), Fail> {
     let outcome = Outcome::Incomplete(Cause::NodeLimit, findings);
     let report =
         "depth 5, incomplete: node limit\nerror 1: P ends {'badarg',[]}\n  P P P P\n    1 P ets:lookup('t','a') -> badarg (2 NoTable)\n    2 P ends {'badarg',[]}\nerrors 1, refusals 0\nresult: incomplete\n";
-    explains(alloc, NO_TABLE, 5, &outcome, report, 1000)
+    let none = Excuses::none(alloc);
+    explains(alloc, NO_TABLE, 5, &none, &outcome, report.as_bytes(), 1000)
 }
 
 #[test]
 fn a_sink_that_fails_got_a_beginning(rt: HostRuntime) -> Result<(), Fail> {
     let alloc = rt.alloc();
     let program = read_module(alloc, WAITS.as_bytes())?;
+    let none = Excuses::none(alloc);
     let outcome = of_waits(alloc)?;
     let report = WAITS_EXPLAINED.as_bytes();
     for room in 0..report.len() {
         let mut sink = MemorySink::with_room(alloc, room)?;
-        let written = write_explained_report(alloc, &program, 9, &outcome, &mut sink);
+        let written = write_explained_report(alloc, &program, 9, &none, &outcome, &mut sink);
         assert_eq!(rt; written, Err(ExplainFault::Write), "at {room}");
         assert_eq!(rt; sink.bytes.len(), room);
         assert!(rt; report.starts_with(&sink.bytes), "at {room}");

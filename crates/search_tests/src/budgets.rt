@@ -3,6 +3,7 @@ ghost use Rattle.std.specs.Prelude.{◌≡◌, ◌≤◌};
 
 use crate::modules::{INSERTS, LINE, MAKERS, MESSAGES, MIXED, WRITERS};
 use core_reader::{Module, read_module};
+use excuses::Excuses;
 use findings::{Extent, Flags, Options, Outcome};
 use report_text::write_report;
 use search_crew::{Gate, Unwatched, search};
@@ -30,10 +31,10 @@ pub(crate) fn options(depth: u64, budget: u64) -> Options
     }
 }
 
-/// The text of a report.
+/// The text of a report in which nothing is excused.
 pub(crate) fn text_of(alloc: Global, depth: u64, outcome: &Outcome) -> Result<Vec<u8>, WriteFault> {
     let mut sink = Output::new(Vec::new(alloc));
-    write_report(&mut sink, depth, outcome)?;
+    write_report(&mut sink, depth, &Excuses::none(alloc), outcome)?;
     Ok(sink.writer)
 }
 
