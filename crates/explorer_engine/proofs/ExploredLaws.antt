@@ -16,7 +16,7 @@ use Rattle.coverage.specs.Covers.{ShowsNothing}
 use Rattle.coverage.specs.Findings.{Finding, IsFound}
 use Rattle.coverage.specs.Shown.{IsShown}
 use Rattle.excuses.specs.Excuses.{Excuses, counted, counts}
-use Rattle.excuses.specs.Laws.{JudgedAreExact}
+use Rattle.excuses.specs.Laws.{JudgedAreExact, JudgedAreWhole}
 use Rattle.findings.specs.Identities.{flags_in}
 use Rattle.findings.specs.declared.options.Options.{Options}
 use Rattle.findings.specs.declared.outcome.Outcome.{Outcome}
@@ -53,14 +53,14 @@ not_begun (Some all) bytes options x what contents failed m fault r e is spelt s
     subst (λ (r : Result Verdict RunFault). IsExplorationOf all options x what contents contents failed r) (sym e) (record { program = m; module_text = spells_all all bytes m is spelt; quiet = record { same = refl; sound = sound } })
 
 -- what is judged of what was listed
-judged : (e : ExplorationSeen) (x : Excuses) (outcome : Outcome) → JudgedAreExact → IsExact e outcome → IsWhole e outcome → IsJudged e x outcome
+judged : (e : ExplorationSeen) (x : Excuses) (outcome : Outcome) → JudgedAreExact × JudgedAreWhole → IsExact e outcome → IsWhole e outcome → IsJudged e x outcome
 judged e x (outcomes.Complete findings extent) law exact whole = (
-  law e.flags x (IsShown (program_in e) e.depth) findings.errors (λ i. (exact i).errors),
-  λ uncut. law e.flags x (IsEverShown (program_in e)) findings.errors (λ i. (whole uncut i).errors),
+  law.0 e.flags x (program_in e) e.depth findings.errors (λ i. (exact i).errors),
+  λ uncut. law.1 e.flags x (program_in e) findings.errors (λ i. (whole uncut i).errors),
 )
 judged e x (outcomes.Incomplete cause findings) law exact whole = tt
 
-abbrev explored : (all bytes : List ℕ) (options : Options) (x : Excuses) (m : ModuleTree) (outcome : Outcome) → JudgedAreExact
+abbrev explored : (all bytes : List ℕ) (options : Options) (x : Excuses) (m : ModuleTree) (outcome : Outcome) → JudgedAreExact × JudgedAreWhole
     → IsInputOf 1048576 all bytes → SpellsModule bytes m → IsOutcome (explored_by m options) options.nodes outcome → IsExact (explored_by m options) outcome → IsWhole (explored_by m options) outcome → IsExplored all options x outcome
 explored all bytes options x m outcome law is spelt comes exact whole = record {
   program = m;
@@ -89,7 +89,7 @@ clean_of_all all bytes options x m outcome once is spelt judged clean k spells =
 -- a report that was written
 pub reported : (remaining : Option (List ℕ)) (bytes : List ℕ) (options : Options) (x : Excuses) (what : Printed) (old new : Option (List ℕ)) (failed : Bool) (m : ModuleTree) (outcome : Outcome) (verdict : Verdict)
     → ((text : List ℕ) (a b : ModuleTree) → SpellsModule text a → SpellsModule text b → a ≡ b)
-    → IfSome remaining (λ all. IsInputOf 1048576 all bytes) → SpellsModule bytes m → IsOutcome (explored_by m options) options.nodes outcome → JudgedAreExact → IsExact (explored_by m options) outcome → IsWhole (explored_by m options) outcome
+    → IfSome remaining (λ all. IsInputOf 1048576 all bytes) → SpellsModule bytes m → IsOutcome (explored_by m options) options.nodes outcome → JudgedAreExact × JudgedAreWhole → IsExact (explored_by m options) outcome → IsWhole (explored_by m options) outcome
     → WritesAll old new failed (text_of_print (print_of what (program_of m) options.depth x outcome)) → verdict ≡ verdict_of x outcome → IfSome remaining (λ input. IsExplorationOf input options x what old new failed (Ok verdict))
 reported None bytes options x what old new failed m outcome verdict once is spelt comes law exact whole written told = tt
 reported (Some all) bytes options x what old new failed m outcome verdict once is spelt comes law exact whole written told = record {
@@ -108,7 +108,7 @@ broken_by all options x what old new failed outcome is printing.CoverCutOff part
 broken_by all options x what old new failed outcome is printing.Write part = record { outcome = outcome; explored = is; stops = part }
 
 pub broken : (remaining : Option (List ℕ)) (bytes : List ℕ) (options : Options) (x : Excuses) (what : Printed) (old new : Option (List ℕ)) (failed : Bool) (m : ModuleTree) (outcome : Outcome) (fault : PrintFault) (r : Result Verdict RunFault)
-    → r ≡ Err (refusal_of_printing fault) → IfSome remaining (λ all. IsInputOf 1048576 all bytes) → SpellsModule bytes m → IsOutcome (explored_by m options) options.nodes outcome → JudgedAreExact → IsExact (explored_by m options) outcome → IsWhole (explored_by m options) outcome
+    → r ≡ Err (refusal_of_printing fault) → IfSome remaining (λ all. IsInputOf 1048576 all bytes) → SpellsModule bytes m → IsOutcome (explored_by m options) options.nodes outcome → JudgedAreExact × JudgedAreWhole → IsExact (explored_by m options) outcome → IsWhole (explored_by m options) outcome
     → IsPrinted (print_of what (program_of m) options.depth x outcome) old new failed (Err fault) → IfSome remaining (λ input. IsExplorationOf input options x what old new failed r)
 broken None bytes options x what old new failed m outcome fault r e is spelt comes law exact whole part = tt
 broken (Some all) bytes options x what old new failed m outcome fault r e is spelt comes law exact whole part =
@@ -127,7 +127,7 @@ none_found e x (outcomes.Incomplete cause findings) judged is i error shown = ab
 
 pub clean_means_none : (remaining : Option (List ℕ)) (bytes : List ℕ) (options : Options) (x : Excuses) (m : ModuleTree) (outcome : Outcome) (verdict : Verdict)
     → ((text : List ℕ) (a b : ModuleTree) → SpellsModule text a → SpellsModule text b → a ≡ b)
-    → IfSome remaining (λ all. IsInputOf 1048576 all bytes) → SpellsModule bytes m → JudgedAreExact → IsExact (explored_by m options) outcome → IsWhole (explored_by m options) outcome → verdict ≡ verdict_of x outcome
+    → IfSome remaining (λ all. IsInputOf 1048576 all bytes) → SpellsModule bytes m → JudgedAreExact × JudgedAreWhole → IsExact (explored_by m options) outcome → IsWhole (explored_by m options) outcome → verdict ≡ verdict_of x outcome
     → IfSome remaining (λ input. IsCleanIfSaid input options x (Ok verdict))
 clean_means_none None bytes options x m outcome verdict once is spelt law exact whole told = tt
 clean_means_none (Some all) bytes options x m outcome verdict once is spelt law exact whole told = λ said k spells.

@@ -27,18 +27,18 @@ returns-in_err-print_and_flush-clause-run g c =
     broken (g.R.Source.remaining c.args.source.now) c.in_ok-text.text.items c.args.options.now (excuses_in c.args.excuses.now) c.args.printed (g.W.Sink.contents c.args.sink.now) (g.W.Sink.contents c.print_and_flush.new.sink) (g.W.Sink.has_failed c.print_and_flush.new.sink)
     c.in_ok-program.program c.in_ok-outcome.outcome c.in_err-print_and_flush.field-0.0 c.from_residual-in_err-print_and_flush.result (p.1 ∙ ap Err p.2) c.in_ok-text.ensures.input
     (subst (λ (t : List ℕ). SpellsModule t c.in_ok-program.program) c.deref.ensures.value c.in_ok-program.ensures.spelt)
-    c.in_ok-outcome.ensures.outcome c.judged_are_exact.ensures c.in_ok-outcome.ensures.exact c.in_ok-outcome.ensures.whole c.in_err-print_and_flush.ensures.written
+    c.in_ok-outcome.ensures.outcome (c.judged_are_exact.ensures.bounded, c.judged_are_exact.ensures.all) c.in_ok-outcome.ensures.exact c.in_ok-outcome.ensures.whole c.in_err-print_and_flush.ensures.written
 
 pub returns-clause-run : goal.returns-clause-run
 returns-clause-run g c =
     reported (g.R.Source.remaining c.args.source.now) c.in_ok-text.text.items c.args.options.now (excuses_in c.args.excuses.now) c.args.printed (g.W.Sink.contents c.args.sink.now) (g.W.Sink.contents c.print_and_flush.new.sink) (g.W.Sink.has_failed c.print_and_flush.new.sink)
     c.in_ok-program.program c.in_ok-outcome.outcome c.verdict_of.result c.texts_say_one_module.ensures c.in_ok-text.ensures.input
     (subst (λ (t : List ℕ). SpellsModule t c.in_ok-program.program) c.deref.ensures.value c.in_ok-program.ensures.spelt)
-    c.in_ok-outcome.ensures.outcome c.judged_are_exact.ensures c.in_ok-outcome.ensures.exact c.in_ok-outcome.ensures.whole c.in_ok-print_and_flush.ensures.written c.verdict_of.ensures
+    c.in_ok-outcome.ensures.outcome (c.judged_are_exact.ensures.bounded, c.judged_are_exact.ensures.all) c.in_ok-outcome.ensures.exact c.in_ok-outcome.ensures.whole c.in_ok-print_and_flush.ensures.written c.verdict_of.ensures
 
 pub returns-clause-clean : goal.returns-clause-clean
 returns-clause-clean g c =
     clean_means_none (g.R.Source.remaining c.args.source.now) c.in_ok-text.text.items c.args.options.now (excuses_in c.args.excuses.now) c.in_ok-program.program c.in_ok-outcome.outcome c.verdict_of.result
     c.texts_say_one_module.ensures c.in_ok-text.ensures.input
     (subst (λ (t : List ℕ). SpellsModule t c.in_ok-program.program) c.deref.ensures.value c.in_ok-program.ensures.spelt)
-    c.judged_are_exact.ensures c.in_ok-outcome.ensures.exact c.in_ok-outcome.ensures.whole c.verdict_of.ensures
+    (c.judged_are_exact.ensures.bounded, c.judged_are_exact.ensures.all) c.in_ok-outcome.ensures.exact c.in_ok-outcome.ensures.whole c.verdict_of.ensures
