@@ -1,8 +1,10 @@
 // The words of the command line.
+use excuses::Excuses;
 use explorer_engine::{NAME, Printed, Words, read_words, run, run_to_exit};
 use sleep_tree::Unwatched;
 use std::process::ExitCode;
 use std::test::Fail;
+use term_core::write_term;
 use test_support::{MemorySink, MemorySource, same};
 
 // Blanks stand as they are.
@@ -146,8 +148,110 @@ fn reads_the_words_of_a_check(rt: HostRuntime) -> Result<(), Fail> {
     Ok(())
 }
 
+// Words that excuse something: whether deadlocks count only where the first process waits, and the texts of the reasons.
+const EXCUSES: [(&[&str], bool, &[&str]); 4] = [
+    (
+        &[NAME, "explore", "--depth", "1", "--main-deadlock"],
+        true,
+        &[],
+    ),
+    (
+        &[NAME, "explore", "--normal", "'boom'", "--depth", "1"],
+        false,
+        &["'boom'"],
+    ),
+    (
+        &[
+            NAME,
+            "check",
+            "--normal",
+            "{'shutdown',[1,2|'x']}",
+            "--depth",
+            "1",
+            "--main-deadlock",
+            "--normal",
+            "[]",
+            "--normal",
+            "{'shutdown',[1,2|'x']}",
+        ],
+        true,
+        &["{'shutdown',[1,2|'x']}", "[]", "{'shutdown',[1,2|'x']}"],
+    ),
+    (
+        &[NAME, "check", "--depth", "1", "--normal", "[]", "--normal", "[]", "--normal", "[]", "--normal", "[]", "--normal", "[]", "--normal", "[]", "--normal", "[]", "--normal", "[]", "--normal", "[]", "--normal", "[]", "--normal", "[]", "--normal", "[]", "--normal", "[]", "--normal", "[]", "--normal", "[]", "--normal", "[]"],
+        false,
+        &["[]", "[]", "[]", "[]", "[]", "[]", "[]", "[]", "[]", "[]", "[]", "[]", "[]", "[]", "[]", "[]"],
+    ),
+];
+
+// What words excuse.
+fn excuses_of(words: Words) -> Option<Excuses> {
+    match words {
+        Words::Explore(_, excuses, _) => Some(excuses),
+        Words::Check(_, _, excuses) => Some(excuses),
+        Words::Replay(_) => None,
+    }
+}
+
+#[test]
+fn reads_what_is_excused(rt: HostRuntime) -> Result<(), Fail> {
+    for (words, main_deadlock, texts) in EXCUSES {
+        let Some(excuses) = excuses_of(read_words(rt.alloc(), words)?) else {
+            return Err(Fail::from("the words are no exploration and no check"));
+        };
+        assert_eq!(rt; excuses.main_deadlock, main_deadlock);
+        assert_eq!(rt; excuses.normal.len(), texts.len());
+        for (term, text) in excuses.normal.iter().zip(texts) {
+            let mut sink = MemorySink::with_room(rt.alloc(), 100)?;
+            write_term(term, &mut sink)?;
+            same(sink.bytes.as_slice(), text.as_bytes())?;
+        }
+    }
+    Ok(())
+}
+
+// Words that excuse nothing, and the first line of what is said of them.
+const NO_EXCUSES: [(&[&str], &str); 6] = [
+    (
+        &[NAME, "explore", "--depth", "1", "--normal", "boom"],
+        "error: 'boom' is no term: see its byte 1\n",
+    ),
+    (
+        &[NAME, "check", "--depth", "1", "--normal", "[]", "--normal", "{'late'"],
+        "error: '{'late'' is no term: see its byte 8\n",
+    ),
+    (
+        &[NAME, "explore", "--depth", "1", "--normal", ""],
+        "error: '' is no term: see its byte 1\n",
+    ),
+    (
+        &[NAME, "explore", "--depth", "1", "--normal", "9223372036854775808"],
+        "error: '9223372036854775808' is no term: see its byte 1\n",
+    ),
+    (
+        &[NAME, "explore", "--main-deadlock", "--depth", "1", "--allow-deadlock"],
+        "error: the argument '--main-deadlock' cannot be used with '--allow-deadlock'\n",
+    ),
+    (
+        &[NAME, "check", "--depth", "1", "--normal", "[]", "--normal", "[]", "--normal", "[]", "--normal", "[]", "--normal", "[]", "--normal", "[]", "--normal", "[]", "--normal", "[]", "--normal", "[]", "--normal", "[]", "--normal", "[]", "--normal", "[]", "--normal", "[]", "--normal", "[]", "--normal", "[]", "--normal", "[]", "--normal", "[]"],
+        "error: the argument '--normal' cannot be used more than 16 times\n",
+    ),
+];
+
+#[test]
+fn tells_why_nothing_is_excused(rt: HostRuntime) -> Result<(), Fail> {
+    for (words, line) in NO_EXCUSES {
+        let Err(error) = read_words(rt.alloc(), words) else {
+            return Err(Fail::from("the words are those of a command"));
+        };
+        let text = format!(in rt.alloc(); "{error}")?;
+        assert!(rt; text.starts_with(line), "{text}");
+    }
+    Ok(())
+}
+
 // Words of no command.
-const REFUSED: [&[&str]; 15] = [
+const REFUSED: [&[&str]; 18] = [
     &[NAME],
     &[NAME, "replay"],
     &[NAME, "replay", "P", "P"],
@@ -160,6 +264,9 @@ const REFUSED: [&[&str]; 15] = [
     &[NAME, "check"],
     &[NAME, "check", "--depth", "401"],
     &[NAME, "check", "--depth", "3", "--cover"],
+    &[NAME, "explore", "--depth", "1", "--normal"],
+    &[NAME, "check", "--depth", "1", "--main-deadlock", "--main-deadlock"],
+    &[NAME, "replay", "P", "--normal", "[]"],
     &[NAME, "help"],
     &[NAME, "--help"],
     &[NAME, "replay", "--help"],
