@@ -64,7 +64,7 @@ written_broken p old mid new failed after r w k fault = record { beginning = beg
 
 -- what stopped an explained report stops its form
 pub report_stops : (explained : Bool) (text : List ℕ) (old new : Option (List ℕ)) (failed : Bool) (fault : ExplainFault) → explained ≡ true → IsExplained text old new failed (Err fault) → IsReportWritten explained text old new failed (Err (stop_of_report fault))
-report_stops explained text old new failed explain.Memory e w = (e, w)
+report_stops explained text old new failed explain.Memory e w = (e, w.0, w.1)
 report_stops explained text old new failed explain.Write e w = w
 
 -- what stopped the report stops the printing

@@ -1,5 +1,5 @@
 -- What a stream of the program got.
-use Rattle.std.proofs.Common.{◌⊎◌, ℕ, Bool, List, Option, inl, inr}
+use Rattle.std.proofs.Common.{◌⊎◌, ℕ, Bool, List, Option, None, Some, IfSome, inl, inr}
 use Rattle.std.specs.Prelude.{Result, Ok, Err}
 use Rattle.term_core.specs.Stream.{Writes, WritesAll, BreaksOff}
 
@@ -7,3 +7,8 @@ use Rattle.term_core.specs.Stream.{Writes, WritesAll, BreaksOff}
 pub gets : {T E : Type 0} (old new : Option (List ℕ)) (failed : Bool) (r : Result T E) (text : List ℕ) → Writes old new failed r text → WritesAll old new failed text ⊎ BreaksOff old new failed text
 gets old new failed (Ok done) text all = inl all
 gets old new failed (Err fault) text part = inr part
+
+-- what is so of the input, and what is so of it besides
+pub both_if_some : (input : Option (List ℕ)) (P Q : List ℕ → Type 0) → IfSome input P → IfSome input Q → IfSome input (λ bytes. P bytes × Q bytes)
+both_if_some None P Q p q = tt
+both_if_some (Some bytes) P Q p q = (p, q)
