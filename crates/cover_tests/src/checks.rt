@@ -382,7 +382,15 @@ fn answer_of(
 ) -> Result<(Vec<u8>, Vec<u8>, u8), AllocError> {
     let mut source = MemorySource::in_pieces(bytes, read, u64::MAX);
     let mut sink = MemorySink::in_pieces(alloc, 10_000, write)?;
-    let outcome = run_check(alloc, &mut source, depth, flags, &Excuses::none(alloc), &Unwatched, &mut sink);
+    let outcome = run_check(
+        alloc,
+        &mut source,
+        depth,
+        flags,
+        &Excuses::none(alloc),
+        &Unwatched,
+        &mut sink,
+    );
     let line = line_of(alloc, &outcome)?;
     Ok((sink.bytes, line, status(&outcome)))
 }

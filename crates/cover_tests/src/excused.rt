@@ -246,11 +246,7 @@ const ROWS: [(
 ];
 
 // What is excused; the reasons are atoms.
-fn excuses_of(
-    alloc: Global,
-    main_deadlock: bool,
-    reasons: &[&str],
-) -> Result<Excuses, AllocError> {
+fn excuses_of(alloc: Global, main_deadlock: bool, reasons: &[&str]) -> Result<Excuses, AllocError> {
     let mut excuses = Excuses::none(alloc);
     excuses.main_deadlock = main_deadlock;
     for reason in reasons {

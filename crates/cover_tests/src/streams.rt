@@ -27,7 +27,15 @@ fn a_read_that_fails_writes_nothing(rt: HostRuntime) -> Result<(), Fail> {
     for reads in [0, 1, 2, 100, text.len() as u64] {
         let mut source = MemorySource::in_pieces(text.as_bytes(), 1, reads);
         let mut sink = MemorySink::with_room(alloc, 1000)?;
-        let outcome = run_check(alloc, &mut source, 3, PLAIN, &Excuses::none(alloc), &Unwatched, &mut sink);
+        let outcome = run_check(
+            alloc,
+            &mut source,
+            3,
+            PLAIN,
+            &Excuses::none(alloc),
+            &Unwatched,
+            &mut sink,
+        );
         assert_eq!(rt; outcome, Err(RunFault::ReadFailed), "at {reads}");
         assert!(rt; sink.bytes.is_empty());
     }
@@ -42,14 +50,30 @@ fn a_write_that_fails_leaves_what_was_written(rt: HostRuntime) -> Result<(), Fai
     for room in 0..ANSWER.len() {
         let mut source = MemorySource::new(text.as_bytes());
         let mut sink = MemorySink::with_room(alloc, room)?;
-        let outcome = run_check(alloc, &mut source, 3, PLAIN, &Excuses::none(alloc), &Unwatched, &mut sink);
+        let outcome = run_check(
+            alloc,
+            &mut source,
+            3,
+            PLAIN,
+            &Excuses::none(alloc),
+            &Unwatched,
+            &mut sink,
+        );
         assert_eq!(rt; outcome, Err(RunFault::Output), "at {room}");
         assert_eq!(rt; sink.bytes.len(), room);
         assert!(rt; ANSWER.as_bytes().starts_with(&sink.bytes), "at {room}");
     }
     let mut source = MemorySource::new(text.as_bytes());
     let mut sink = MemorySink::with_flushes(alloc, ANSWER.len(), 0)?;
-    let outcome = run_check(alloc, &mut source, 3, PLAIN, &Excuses::none(alloc), &Unwatched, &mut sink);
+    let outcome = run_check(
+        alloc,
+        &mut source,
+        3,
+        PLAIN,
+        &Excuses::none(alloc),
+        &Unwatched,
+        &mut sink,
+    );
     assert_eq!(rt; outcome, Err(RunFault::Output));
     assert_eq!(rt; sink.bytes.as_slice(), ANSWER.as_bytes());
     Ok(())
@@ -87,7 +111,15 @@ fn a_long_module_is_refused(rt: HostRuntime) -> Result<(), Fail> {
     let blanks = " ".repeat(alloc, 1_048_577)?;
     let mut source = MemorySource::new(blanks.as_bytes());
     let mut sink = MemorySink::with_room(alloc, 100)?;
-    let outcome = run_check(alloc, &mut source, 3, PLAIN, &Excuses::none(alloc), &Unwatched, &mut sink);
+    let outcome = run_check(
+        alloc,
+        &mut source,
+        3,
+        PLAIN,
+        &Excuses::none(alloc),
+        &Unwatched,
+        &mut sink,
+    );
     assert_eq!(rt;
         outcome,
         Err(RunFault::Input(ReadFault::TooLong(1_048_576)))
@@ -104,7 +136,15 @@ fn a_long_cover_is_read(rt: HostRuntime) -> Result<(), Fail> {
     let text = joined(alloc, front.as_str(), ends.as_str())?;
     let mut source = MemorySource::new(text.as_bytes());
     let mut sink = MemorySink::with_room(alloc, 100)?;
-    let outcome = run_check(alloc, &mut source, 3, PLAIN, &Excuses::none(alloc), &Unwatched, &mut sink);
+    let outcome = run_check(
+        alloc,
+        &mut source,
+        3,
+        PLAIN,
+        &Excuses::none(alloc),
+        &Unwatched,
+        &mut sink,
+    );
     assert_eq!(rt; outcome, Err(RunFault::Cover(CoverFault::Long(6))));
     Ok(())
 }

@@ -158,7 +158,15 @@ fn accepts_what_it_writes(rt: HostRuntime) -> Result<(), Fail> {
         let mut source = MemorySource::new(text.as_bytes());
         let mut answer = MemorySink::with_room(alloc, 100)?;
         let flags = options(depth, 1, 1).flags;
-        let outcome = run_check(alloc, &mut source, depth, flags, &Excuses::none(alloc), &Unwatched, &mut answer);
+        let outcome = run_check(
+            alloc,
+            &mut source,
+            depth,
+            flags,
+            &Excuses::none(alloc),
+            &Unwatched,
+            &mut answer,
+        );
         assert_eq!(rt; outcome, Ok(Verdict::Done));
     }
     Ok(())

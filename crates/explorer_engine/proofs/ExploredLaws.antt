@@ -14,7 +14,6 @@ use Rattle.world_model.specs.Asking.{program_of}
 use Rattle.world_model.specs.Shown.{Identity}
 use Rattle.coverage.specs.Covers.{ShowsNothing}
 use Rattle.coverage.specs.Findings.{Finding, IsFound}
-use Rattle.coverage.specs.Shown.{IsShown}
 use Rattle.excuses.specs.Excuses.{Excuses, counted, counts}
 use Rattle.excuses.specs.Laws.{JudgedAreExact, JudgedAreWhole}
 use Rattle.findings.specs.Identities.{flags_in}

@@ -178,9 +178,17 @@ const EXCUSES: [(&[&str], bool, &[&str]); 4] = [
         &["{'shutdown',[1,2|'x']}", "[]", "{'shutdown',[1,2|'x']}"],
     ),
     (
-        &[NAME, "check", "--depth", "1", "--normal", "[]", "--normal", "[]", "--normal", "[]", "--normal", "[]", "--normal", "[]", "--normal", "[]", "--normal", "[]", "--normal", "[]", "--normal", "[]", "--normal", "[]", "--normal", "[]", "--normal", "[]", "--normal", "[]", "--normal", "[]", "--normal", "[]", "--normal", "[]"],
+        &[
+            NAME, "check", "--depth", "1", "--normal", "[]", "--normal", "[]", "--normal", "[]",
+            "--normal", "[]", "--normal", "[]", "--normal", "[]", "--normal", "[]", "--normal",
+            "[]", "--normal", "[]", "--normal", "[]", "--normal", "[]", "--normal", "[]",
+            "--normal", "[]", "--normal", "[]", "--normal", "[]", "--normal", "[]",
+        ],
         false,
-        &["[]", "[]", "[]", "[]", "[]", "[]", "[]", "[]", "[]", "[]", "[]", "[]", "[]", "[]", "[]", "[]"],
+        &[
+            "[]", "[]", "[]", "[]", "[]", "[]", "[]", "[]", "[]", "[]", "[]", "[]", "[]", "[]",
+            "[]", "[]",
+        ],
     ),
 ];
 
@@ -217,7 +225,9 @@ const NO_EXCUSES: [(&[&str], &str); 6] = [
         "error: 'boom' is no term: see its byte 1\n",
     ),
     (
-        &[NAME, "check", "--depth", "1", "--normal", "[]", "--normal", "{'late'"],
+        &[
+            NAME, "check", "--depth", "1", "--normal", "[]", "--normal", "{'late'",
+        ],
         "error: '{'late'' is no term: see its byte 8\n",
     ),
     (
@@ -225,15 +235,35 @@ const NO_EXCUSES: [(&[&str], &str); 6] = [
         "error: '' is no term: see its byte 1\n",
     ),
     (
-        &[NAME, "explore", "--depth", "1", "--normal", "9223372036854775808"],
+        &[
+            NAME,
+            "explore",
+            "--depth",
+            "1",
+            "--normal",
+            "9223372036854775808",
+        ],
         "error: '9223372036854775808' is no term: see its byte 1\n",
     ),
     (
-        &[NAME, "explore", "--main-deadlock", "--depth", "1", "--allow-deadlock"],
+        &[
+            NAME,
+            "explore",
+            "--main-deadlock",
+            "--depth",
+            "1",
+            "--allow-deadlock",
+        ],
         "error: the argument '--main-deadlock' cannot be used with '--allow-deadlock'\n",
     ),
     (
-        &[NAME, "check", "--depth", "1", "--normal", "[]", "--normal", "[]", "--normal", "[]", "--normal", "[]", "--normal", "[]", "--normal", "[]", "--normal", "[]", "--normal", "[]", "--normal", "[]", "--normal", "[]", "--normal", "[]", "--normal", "[]", "--normal", "[]", "--normal", "[]", "--normal", "[]", "--normal", "[]", "--normal", "[]"],
+        &[
+            NAME, "check", "--depth", "1", "--normal", "[]", "--normal", "[]", "--normal", "[]",
+            "--normal", "[]", "--normal", "[]", "--normal", "[]", "--normal", "[]", "--normal",
+            "[]", "--normal", "[]", "--normal", "[]", "--normal", "[]", "--normal", "[]",
+            "--normal", "[]", "--normal", "[]", "--normal", "[]", "--normal", "[]", "--normal",
+            "[]",
+        ],
         "error: the argument '--normal' cannot be used more than 16 times\n",
     ),
 ];
@@ -265,7 +295,14 @@ const REFUSED: [&[&str]; 18] = [
     &[NAME, "check", "--depth", "401"],
     &[NAME, "check", "--depth", "3", "--cover"],
     &[NAME, "explore", "--depth", "1", "--normal"],
-    &[NAME, "check", "--depth", "1", "--main-deadlock", "--main-deadlock"],
+    &[
+        NAME,
+        "check",
+        "--depth",
+        "1",
+        "--main-deadlock",
+        "--main-deadlock",
+    ],
     &[NAME, "replay", "P", "--normal", "[]"],
     &[NAME, "help"],
     &[NAME, "--help"],
