@@ -52,8 +52,8 @@ call(Text) ->
 
 whole(Text) -> {Term, []} = report_term:read(Text), Term.
 
-%% The findings of a report, errors before refusals before ends that are taken as normal, each with its kind, number, identity and schedule; and the first
-%% line and the last two.
+%% The findings of a report, errors before refusals and these before what is taken as normal, each with its kind,
+%% number, identity and schedule; and the first line and the last two.
 report(Text) ->
     [First | Lines] = lines(Text),
     {Findings, Last} = findings(Lines, []),
