@@ -8,6 +8,8 @@ use Rattle.world_model.specs.Shown.{Identity, End, Deadlock, Runaway, RefusedCal
 use Rattle.coverage.specs.Covers.{is_empty}
 use Rattle.coverage.specs.Findings.{Finding}
 use Rattle.excuses.specs.declared.excuses.Excuses as declared
+use Rattle.excuses.specs.declared.standing.Standing.{Standing}
+use Rattle.excuses.specs.declared.standing.Standing.TheVariants.{Counts, Normal}
 
 -- a deadlock in which the first process does not wait, where only those of the first process count; and ends with one of these reasons
 pub record Excuses : Type 0 where
@@ -48,10 +50,19 @@ is_normal flags x i = is_error flags i && is_excused x i
 
 -- ---- of the errors that were found
 
+-- one stands so: it counts where it is not excused, and is normal where it is
+abbrev pub stands : Excuses → Standing → Identity → Bool
+stands x Counts i = not (is_excused x i)
+stands x Normal i = is_excused x i
+
+-- those that stand so
+abbrev pub those_that : Excuses → Standing → List Finding → List Finding
+those_that x standing = filter (λ f. stands x standing f.identity)
+
 -- those that count
 abbrev pub counted : Excuses → List Finding → List Finding
-counted x = filter (λ f. not (is_excused x f.identity))
+counted x = those_that x Counts
 
 -- those that are taken as normal
 abbrev pub taken : Excuses → List Finding → List Finding
-taken x = filter (λ f. is_excused x f.identity)
+taken x = those_that x Normal

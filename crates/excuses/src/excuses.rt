@@ -4,8 +4,9 @@ ghost use Rattle.std.specs.List.{list_any};
 ghost use Rattle.findings.specs.Identities.{flags_in, identity_in};
 ghost use Rattle.term_core.specs.Term.{meaning_of};
 ghost use Rattle.world_model.specs.Names.{same_term};
-ghost use Rattle.excuses.specs.Excuses.{are_any, counted, counts, excuses_in, has_first, is_excused, no_excuses, taken};
+ghost use Rattle.excuses.specs.Excuses.{are_any, counts, excuses_in, has_first, is_excused, no_excuses, those_that};
 
+use crate::standing::Standing;
 use findings::{FindingList, Flags, Identity};
 use std::alloc::Global;
 use term_core::{Pid, Term};
@@ -91,26 +92,13 @@ impl Excuses {
         identity.is_error(flags) && !self.excuses(identity)
     }
 
-    /// How many of the errors that were found count. It takes no memory.
-    pub fn count_counted(&self, errors: &FindingList) -> usize
-        ensures { result ≡ length (counted (excuses_in self.now) errors.now) }
+    /// How many of the errors that were found stand so. It takes no memory.
+    pub fn count(&self, standing: Standing, errors: &FindingList) -> usize
+        ensures { result ≡ length (those_that (excuses_in self.now) standing errors.now) }
     {
         let mut count = 0;
         for finding in errors.as_slice() {
-            if !self.excuses(&finding.identity) {
-                count += 1;
-            }
-        }
-        count
-    }
-
-    /// How many of the errors that were found are taken as normal. It takes no memory.
-    pub fn count_taken(&self, errors: &FindingList) -> usize
-        ensures { result ≡ length (taken (excuses_in self.now) errors.now) }
-    {
-        let mut count = 0;
-        for finding in errors.as_slice() {
-            if self.excuses(&finding.identity) {
+            if standing.is_of(self, &finding.identity) {
                 count += 1;
             }
         }

@@ -4,5 +4,7 @@
 
 pub mod excuses;
 pub mod laws;
+pub mod standing;
 
 pub use excuses::Excuses;
+pub use standing::Standing;

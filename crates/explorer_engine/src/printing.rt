@@ -12,7 +12,7 @@ use crate::watched::Watched;
 use command_words::Printed;
 use core_tree::Module;
 use cover_check::write_cover;
-use excuses::Excuses;
+use excuses::{Excuses, Standing};
 use findings::{FindingList, Outcome};
 use replay_core::write_explained_report;
 use report_text::write_report;
@@ -107,7 +107,7 @@ pub(crate) fn print_and_flush<G: Gate, W: Sink>(
 fn complete_verdict(excuses: &Excuses, errors: &FindingList) -> Verdict
     ensures { result ≡ complete_verdict (counted (excuses_in excuses.now) errors.now) }
 {
-    if excuses.count_counted(errors) == 0 {
+    if excuses.count(Standing::Counts, errors) == 0 {
         return Verdict::Clean;
     }
     Verdict::Errors

@@ -1,11 +1,11 @@
 // The explained report: below each finding stand the lines of its schedule and, at a deadlock, who waits.
 ghost use Rattle.std.specs.Prelude.{◌≡◌, [], false, OnOk, codes};
 ghost use Rattle.term_core.specs.Stream.{Writes};
-ghost use Rattle.excuses.specs.Excuses.{excuses_in};
+ghost use Rattle.excuses.specs.Excuses.{excuses_in, those_that};
 ghost use Rattle.findings.specs.Found.{finding_in};
 ghost use Rattle.step_plans.specs.Deeds.{event_in};
 ghost use Rattle.report_text.specs.EventText.{text_of_event};
-ghost use Rattle.report_text.specs.Standing.{those_that, word_of};
+ghost use Rattle.report_text.specs.Standing.{word_of};
 ghost use Rattle.world_core.specs.Seen.{program_in};
 ghost use Rattle.world_model.specs.Asking.{program_of};
 ghost use Rattle.replay_core.specs.Explained.{ExplanationsAreOfRuns, IsExplained, explained_finding, explained_findings, explained_from, indented, text_of_explained_report, text_of_explanation, text_of_steps};
@@ -15,10 +15,10 @@ ghost use Rattle.replay_core.specs.inside.ExplainedSteps.{ExplainsStep};
 use crate::explain_fault::ExplainFault;
 use crate::waiting::write_waits;
 use core_tree::Module;
-use excuses::Excuses;
+use excuses::{Excuses, Standing};
 use findings::{Finding, FindingList, Findings, Outcome};
 use report_text::{
-    Standing, findings_in, write_counts, write_event, write_explained_first_line,
+    findings_in, word_of, write_counts, write_event, write_explained_first_line,
     write_explained_last_line, write_finding,
 };
 use std::alloc::Global;
@@ -92,7 +92,7 @@ fn write_explained_errors<W: Sink>(
     requires { W.has_failed sink.old ≡ false }
     ensures { IsExplained (explained_from (program_of program.now) (word_of standing) 1 (those_that (excuses_in excuses.now) standing errors.now)) (W.contents sink.old) (W.contents sink.new) (W.has_failed sink.new) result }
 {
-    let kind = standing.word();
+    let kind = word_of(standing);
     let mut number = 0;
     for finding in errors.as_slice() {
         if standing.is_of(excuses, &finding.identity) {

@@ -13,4 +13,4 @@ pub use event_text::write_event;
 pub use explained_lines::{write_explained_first_line, write_explained_last_line};
 pub use identity_text::write_identity;
 pub use report::{findings_in, write_counts, write_finding, write_report};
-pub use standing::Standing;
+pub use standing::word_of;

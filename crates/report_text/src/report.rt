@@ -1,14 +1,14 @@
 // The report: what an exploration comes to. No write takes memory.
 ghost use Rattle.std.specs.Prelude.{◌≡◌, false, map};
 ghost use Rattle.term_core.specs.Stream.{Writes};
-ghost use Rattle.excuses.specs.Excuses.{counted, excuses_in, taken};
+ghost use Rattle.excuses.specs.Excuses.{counted, excuses_in, taken, those_that};
 ghost use Rattle.findings.specs.Found.{finding_in};
 ghost use Rattle.report_text.specs.ReportText.{findings_in, text_of_cause, text_of_nodes, text_of_incomplete, text_of_extent, first_line, text_of_finding, text_of_findings, text_of_all, text_of_counts, text_of_normal, text_of_taken, complete_result, text_of_result, last_line, text_of_report};
-ghost use Rattle.report_text.specs.Standing.{those_that, word_of};
+ghost use Rattle.report_text.specs.Standing.{word_of};
 
 use crate::identity_text::write_identity;
-use crate::standing::Standing;
-use excuses::Excuses;
+use crate::standing::word_of;
+use excuses::{Excuses, Standing};
 use findings::{Cause, Finding, FindingList, Findings, Outcome};
 use term_core::{Sink, WriteFault, write_all, write_number, write_schedule};
 
@@ -121,7 +121,7 @@ fn write_errors<W: Sink>(
     requires { W.has_failed sink.old ≡ false }
     ensures { Writes (W.contents sink.old) (W.contents sink.new) (W.has_failed sink.new) result (text_of_findings (word_of standing) (those_that (excuses_in excuses.now) standing errors.now)) }
 {
-    let kind = standing.word();
+    let kind = word_of(standing);
     let mut number = 0;
     for finding in errors.as_slice() {
         if standing.is_of(excuses, &finding.identity) {
@@ -182,7 +182,7 @@ pub fn write_counts<W: Sink>(
     ensures { Writes (W.contents sink.old) (W.contents sink.new) (W.has_failed sink.new) result (text_of_counts (excuses_in excuses.now) findings.now) }
 {
     let errors = findings.errors();
-    let counted = excuses.count_counted(errors) as u64;
+    let counted = excuses.count(Standing::Counts, errors) as u64;
     let refusals = findings.refusals().len() as u64;
     write_all(sink, b"errors ")?;
     write_number(counted, sink)?;
@@ -217,7 +217,7 @@ fn write_taken<W: Sink>(
     requires { W.has_failed sink.old ≡ false }
     ensures { Writes (W.contents sink.old) (W.contents sink.new) (W.has_failed sink.new) result (text_of_taken (taken (excuses_in excuses.now) errors.now)) }
 {
-    let taken = excuses.count_taken(errors) as u64;
+    let taken = excuses.count(Standing::Normal, errors) as u64;
     write_all(sink, b", taken as normal ")?;
     write_number(taken, sink)
 }
@@ -260,7 +260,7 @@ pub(crate) fn write_complete_result<W: Sink>(
     requires { W.has_failed sink.old ≡ false }
     ensures { Writes (W.contents sink.old) (W.contents sink.new) (W.has_failed sink.new) result (complete_result (counted (excuses_in excuses.now) errors.now)) }
 {
-    if excuses.count_counted(errors) == 0 {
+    if excuses.count(Standing::Counts, errors) == 0 {
         write_all(sink, b"clean")
     } else {
         write_all(sink, b"errors")

@@ -1,7 +1,7 @@
 use Rattle.coverage.specs.Findings as coverage
-use Rattle.excuses.specs.Excuses.{excuses_in}
+use Rattle.excuses.specs.Excuses.{excuses_in, stands, those_that}
 use Rattle.report_text.proofs.Listing.{ListedSoFar}
-use Rattle.report_text.specs.Standing.{stands, those_that, word_of}
+use Rattle.report_text.specs.Standing.{word_of}
 use Rattle.world_model.specs.Asking.{program_of}
 use Rattle.replay_core.specs.Explained.{explained_from}
 use Rattle.replay_core.proofs.explained.write_explained_errors.Given as goal

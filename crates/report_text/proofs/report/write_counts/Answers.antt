@@ -10,25 +10,25 @@ use Rattle.report_text.proofs.report.write_counts.Goals as goal
 pub returns-in_err-write_all : goal.returns-in_err-write_all
 returns-in_err-write_all g c =
     let p = err_from_is_err_and c.from_residual.result c.from_residual.ensures.1 in
-    breaks_at _ _ _ _ _ _ p.1 (owes_break_in _ _ _ _ (codes "errors ") _ _ (owes_same _ _ _ _ _ (text_of_counts-numbers (excuses_in c.args.excuses.now) c.args.findings.now _ _ _ c.errors-errors.ensures c.count_counted-counted.ensures (c.len-refusals.ensures ∙ ap length c.refusals.ensures)) (owes_all _ _)) c.in_err-write_all.ensures)
+    breaks_at _ _ _ _ _ _ p.1 (owes_break_in _ _ _ _ (codes "errors ") _ _ (owes_same _ _ _ _ _ (text_of_counts-numbers (excuses_in c.args.excuses.now) c.args.findings.now _ _ _ c.errors-errors.ensures c.count-counted.ensures (c.len-refusals.ensures ∙ ap length c.refusals.ensures)) (owes_all _ _)) c.in_err-write_all.ensures)
 
 pub returns-in_err-write_number : goal.returns-in_err-write_number
 returns-in_err-write_number g c =
     let p = err_from_is_err_and c.from_residual-in_err-write_number.result c.from_residual-in_err-write_number.ensures.1 in
-    let o1 = owes_less _ _ _ (codes "errors ") _ _ (owes_same _ _ _ _ _ (text_of_counts-numbers (excuses_in c.args.excuses.now) c.args.findings.now _ _ _ c.errors-errors.ensures c.count_counted-counted.ensures (c.len-refusals.ensures ∙ ap length c.refusals.ensures)) (owes_all _ _)) c.in_ok-write_all.ensures.appends in
+    let o1 = owes_less _ _ _ (codes "errors ") _ _ (owes_same _ _ _ _ _ (text_of_counts-numbers (excuses_in c.args.excuses.now) c.args.findings.now _ _ _ c.errors-errors.ensures c.count-counted.ensures (c.len-refusals.ensures ∙ ap length c.refusals.ensures)) (owes_all _ _)) c.in_ok-write_all.ensures.appends in
     breaks_at _ _ _ _ _ _ p.1 (owes_break_in _ _ _ _ _ _ _ o1 c.in_err-write_number.ensures)
 
 pub returns-in_err-write_all-2 : goal.returns-in_err-write_all-2
 returns-in_err-write_all-2 g c =
     let p = err_from_is_err_and c.from_residual-in_err-write_all-2.result c.from_residual-in_err-write_all-2.ensures.1 in
-    let o1 = owes_less _ _ _ (codes "errors ") _ _ (owes_same _ _ _ _ _ (text_of_counts-numbers (excuses_in c.args.excuses.now) c.args.findings.now _ _ _ c.errors-errors.ensures c.count_counted-counted.ensures (c.len-refusals.ensures ∙ ap length c.refusals.ensures)) (owes_all _ _)) c.in_ok-write_all.ensures.appends in
+    let o1 = owes_less _ _ _ (codes "errors ") _ _ (owes_same _ _ _ _ _ (text_of_counts-numbers (excuses_in c.args.excuses.now) c.args.findings.now _ _ _ c.errors-errors.ensures c.count-counted.ensures (c.len-refusals.ensures ∙ ap length c.refusals.ensures)) (owes_all _ _)) c.in_ok-write_all.ensures.appends in
     let o2 = owes_less _ _ _ _ _ _ o1 c.in_ok-write_number.ensures.appends in
     breaks_at _ _ _ _ _ _ p.1 (owes_break_in _ _ _ _ (codes ", refusals ") _ _ o2 c.in_err-write_all-2.ensures)
 
 pub returns-in_err-write_number-2 : goal.returns-in_err-write_number-2
 returns-in_err-write_number-2 g c =
     let p = err_from_is_err_and c.from_residual-in_err-write_number-2.result c.from_residual-in_err-write_number-2.ensures.1 in
-    let o1 = owes_less _ _ _ (codes "errors ") _ _ (owes_same _ _ _ _ _ (text_of_counts-numbers (excuses_in c.args.excuses.now) c.args.findings.now _ _ _ c.errors-errors.ensures c.count_counted-counted.ensures (c.len-refusals.ensures ∙ ap length c.refusals.ensures)) (owes_all _ _)) c.in_ok-write_all.ensures.appends in
+    let o1 = owes_less _ _ _ (codes "errors ") _ _ (owes_same _ _ _ _ _ (text_of_counts-numbers (excuses_in c.args.excuses.now) c.args.findings.now _ _ _ c.errors-errors.ensures c.count-counted.ensures (c.len-refusals.ensures ∙ ap length c.refusals.ensures)) (owes_all _ _)) c.in_ok-write_all.ensures.appends in
     let o2 = owes_less _ _ _ _ _ _ o1 c.in_ok-write_number.ensures.appends in
     let o3 = owes_less _ _ _ (codes ", refusals ") _ _ o2 c.in_ok-write_all-2.ensures.appends in
     breaks_at _ _ _ _ _ _ p.1 (owes_break_in _ _ _ _ _ _ _ o3 c.in_err-write_number-2.ensures)
@@ -36,7 +36,7 @@ returns-in_err-write_number-2 g c =
 pub returns-in_err-write_normal : goal.returns-in_err-write_normal
 returns-in_err-write_normal g c =
     let p = err_from_is_err_and c.from_residual-in_err-write_normal.result c.from_residual-in_err-write_normal.ensures.1 in
-    let o1 = owes_less _ _ _ (codes "errors ") _ _ (owes_same _ _ _ _ _ (text_of_counts-numbers (excuses_in c.args.excuses.now) c.args.findings.now _ _ _ c.errors-errors.ensures c.count_counted-counted.ensures (c.len-refusals.ensures ∙ ap length c.refusals.ensures)) (owes_all _ _)) c.in_ok-write_all.ensures.appends in
+    let o1 = owes_less _ _ _ (codes "errors ") _ _ (owes_same _ _ _ _ _ (text_of_counts-numbers (excuses_in c.args.excuses.now) c.args.findings.now _ _ _ c.errors-errors.ensures c.count-counted.ensures (c.len-refusals.ensures ∙ ap length c.refusals.ensures)) (owes_all _ _)) c.in_ok-write_all.ensures.appends in
     let o2 = owes_less _ _ _ _ _ _ o1 c.in_ok-write_number.ensures.appends in
     let o3 = owes_less _ _ _ (codes ", refusals ") _ _ o2 c.in_ok-write_all-2.ensures.appends in
     let o4 = owes_less _ _ _ _ _ _ o3 c.in_ok-write_number-2.ensures.appends in
@@ -44,7 +44,7 @@ returns-in_err-write_normal g c =
 
 pub returns : goal.returns
 returns g c =
-    let o1 = owes_less _ _ _ (codes "errors ") _ _ (owes_same _ _ _ _ _ (text_of_counts-numbers (excuses_in c.args.excuses.now) c.args.findings.now _ _ _ c.errors-errors.ensures c.count_counted-counted.ensures (c.len-refusals.ensures ∙ ap length c.refusals.ensures)) (owes_all _ _)) c.in_ok-write_all.ensures.appends in
+    let o1 = owes_less _ _ _ (codes "errors ") _ _ (owes_same _ _ _ _ _ (text_of_counts-numbers (excuses_in c.args.excuses.now) c.args.findings.now _ _ _ c.errors-errors.ensures c.count-counted.ensures (c.len-refusals.ensures ∙ ap length c.refusals.ensures)) (owes_all _ _)) c.in_ok-write_all.ensures.appends in
     let o2 = owes_less _ _ _ _ _ _ o1 c.in_ok-write_number.ensures.appends in
     let o3 = owes_less _ _ _ (codes ", refusals ") _ _ o2 c.in_ok-write_all-2.ensures.appends in
     let o4 = owes_less _ _ _ _ _ _ o3 c.in_ok-write_number-2.ensures.appends in

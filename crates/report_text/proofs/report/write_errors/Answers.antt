@@ -2,9 +2,9 @@ use Rattle.std.proofs.Common.{◌∙◌, ap, sym}
 use Rattle.std.proofs.lemmas.Result.{err_from_is_err_and}
 use Rattle.term_core.specs.inside.Writing.{owes_break_in, breaks_at}
 use Rattle.coverage.specs.Findings as coverage
-use Rattle.excuses.specs.Excuses.{excuses_in}
+use Rattle.excuses.specs.Excuses.{excuses_in, stands, those_that}
 use Rattle.report_text.specs.ReportText.{findings_from, text_of_finding, text_of_findings}
-use Rattle.report_text.specs.Standing.{stands, those_that, word_of}
+use Rattle.report_text.specs.Standing.{word_of}
 use Rattle.report_text.proofs.Listing.{listing_begins, listing_ends, listing_goes_on, listing_skips, owes_listed}
 use Rattle.report_text.proofs.ReportTexts.{is_listing}
 use Rattle.report_text.proofs.report.write_errors.Goals as goal
@@ -12,19 +12,19 @@ use Rattle.report_text.proofs.report.write_errors.Goals.{then-is_of+in_ok-write_
 
 pub loop-finding-init : goal.loop-finding-init
 loop-finding-init g c =
-    listing_begins (findings_from c.word-kind.result.now) (text_of_finding c.word-kind.result.now) (λ (f : coverage.Finding). stands (excuses_in c.args.excuses.now) c.args.standing f.identity)
+    listing_begins (findings_from c.word_of-kind.result.now) (text_of_finding c.word_of-kind.result.now) (λ (f : coverage.Finding). stands (excuses_in c.args.excuses.now) c.args.standing f.identity)
     c.as_slice-finding-items.result.now (g.W.Sink.contents c.args.sink.now) (g.W.Sink.has_failed c.args.sink.now) c.args.errors.now
     (text_of_findings (word_of c.args.standing) (those_that (excuses_in c.args.excuses.now) c.args.standing c.args.errors.now))
     c.as_slice-finding-items.ensures.all
-    (ap (λ k. findings_from k 1 (those_that (excuses_in c.args.excuses.now) c.args.standing c.args.errors.now)) (sym c.word-kind.ensures)) c.requires
+    (ap (λ k. findings_from k 1 (those_that (excuses_in c.args.excuses.now) c.args.standing c.args.errors.now)) (sym c.word_of-kind.ensures)) c.requires
 
 pub returns-in_err-write_finding : goal.returns-in_err-write_finding
 returns-in_err-write_finding g c =
     let p = err_from_is_err_and c.from_residual.result c.from_residual.ensures.1 in
     breaks_at _ _ _ _ _ _ p.1
     (owes_break_in _ _ _ _ _ _ _
-    (owes_listed (findings_from c.word-kind.result.now) (text_of_finding c.word-kind.result.now) (λ (f : coverage.Finding). stands (excuses_in c.args.excuses.now) c.args.standing f.identity)
-    c.as_slice-finding-items.result.now (is_listing c.word-kind.result.now) (g.W.Sink.contents c.args.sink.now) (g.W.Sink.contents c.loop-finding.sink) (g.W.Sink.has_failed c.loop-finding.sink)
+    (owes_listed (findings_from c.word_of-kind.result.now) (text_of_finding c.word_of-kind.result.now) (λ (f : coverage.Finding). stands (excuses_in c.args.excuses.now) c.args.standing f.identity)
+    c.as_slice-finding-items.result.now (is_listing c.word_of-kind.result.now) (g.W.Sink.contents c.args.sink.now) (g.W.Sink.contents c.loop-finding.sink) (g.W.Sink.has_failed c.loop-finding.sink)
     (text_of_findings (word_of c.args.standing) (those_that (excuses_in c.args.excuses.now) c.args.standing c.args.errors.now))
     c.loop-finding.finding-index c.loop-finding.number c.finding-item.result c.finding-item.result c.loop-finding.invariant c.loop-finding-test.true c.finding-item.is (sym c.is_of.ensures ∙ c.if-is_of.true))
     c.in_err-write_finding.ensures)
@@ -33,15 +33,15 @@ pub loop-finding-preserved : goal.loop-finding-preserved
 loop-finding-preserved g c =
     elim c.if-is_of.branch [
       | then-is_of+in_ok-write_finding w ↦
-          listing_goes_on (findings_from c.word-kind.result.now) (text_of_finding c.word-kind.result.now) (λ (f : coverage.Finding). stands (excuses_in c.args.excuses.now) c.args.standing f.identity)
-          c.as_slice-finding-items.result.now (is_listing c.word-kind.result.now)
+          listing_goes_on (findings_from c.word_of-kind.result.now) (text_of_finding c.word_of-kind.result.now) (λ (f : coverage.Finding). stands (excuses_in c.args.excuses.now) c.args.standing f.identity)
+          c.as_slice-finding-items.result.now (is_listing c.word_of-kind.result.now)
           (g.W.Sink.contents c.args.sink.now) (g.W.Sink.contents c.loop-finding.sink) (g.W.Sink.contents w.write_finding.new.sink) (g.W.Sink.contents c.if-is_of.sink)
           (g.W.Sink.has_failed c.loop-finding.sink) (g.W.Sink.has_failed w.write_finding.new.sink) (g.W.Sink.has_failed c.if-is_of.sink)
           (text_of_findings (word_of c.args.standing) (those_that (excuses_in c.args.excuses.now) c.args.standing c.args.errors.now))
           c.loop-finding.finding-index c.loop-finding.number c.if-is_of.number c.finding-item.result c.finding-item.result c.loop-finding.invariant c.loop-finding-test.true c.finding-item.is (sym c.is_of.ensures ∙ w.if-is_of.true)
           w.number-is w.in_ok-write_finding.ensures (ap g.W.Sink.contents w.sink-is) (ap g.W.Sink.has_failed w.sink-is)
       | else-is_of w ↦
-          listing_skips (findings_from c.word-kind.result.now) (text_of_finding c.word-kind.result.now) (λ (f : coverage.Finding). stands (excuses_in c.args.excuses.now) c.args.standing f.identity)
+          listing_skips (findings_from c.word_of-kind.result.now) (text_of_finding c.word_of-kind.result.now) (λ (f : coverage.Finding). stands (excuses_in c.args.excuses.now) c.args.standing f.identity)
           c.as_slice-finding-items.result.now
           (g.W.Sink.contents c.args.sink.now) (g.W.Sink.contents c.loop-finding.sink) (g.W.Sink.contents c.if-is_of.sink)
           (g.W.Sink.has_failed c.loop-finding.sink) (g.W.Sink.has_failed c.if-is_of.sink)
@@ -52,7 +52,7 @@ loop-finding-preserved g c =
 
 pub returns : goal.returns
 returns g c =
-    listing_ends (findings_from c.word-kind.result.now) (text_of_finding c.word-kind.result.now) (λ (f : coverage.Finding). stands (excuses_in c.args.excuses.now) c.args.standing f.identity)
-    c.as_slice-finding-items.result.now (is_listing c.word-kind.result.now) (g.W.Sink.contents c.args.sink.now) (g.W.Sink.contents c.loop-finding.sink) (g.W.Sink.has_failed c.loop-finding.sink)
+    listing_ends (findings_from c.word_of-kind.result.now) (text_of_finding c.word_of-kind.result.now) (λ (f : coverage.Finding). stands (excuses_in c.args.excuses.now) c.args.standing f.identity)
+    c.as_slice-finding-items.result.now (is_listing c.word_of-kind.result.now) (g.W.Sink.contents c.args.sink.now) (g.W.Sink.contents c.loop-finding.sink) (g.W.Sink.has_failed c.loop-finding.sink)
     (text_of_findings (word_of c.args.standing) (those_that (excuses_in c.args.excuses.now) c.args.standing c.args.errors.now))
     c.loop-finding.finding-index c.loop-finding.number c.loop-finding.invariant c.loop-finding-test.false

@@ -1,7 +1,7 @@
 use Rattle.coverage.specs.Findings as coverage
-use Rattle.excuses.specs.Excuses.{excuses_in}
+use Rattle.excuses.specs.Excuses.{excuses_in, stands, those_that}
 use Rattle.report_text.specs.ReportText.{findings_from, text_of_findings}
-use Rattle.report_text.specs.Standing.{stands, those_that, word_of}
+use Rattle.report_text.specs.Standing.{word_of}
 use Rattle.report_text.proofs.Listing.{ListedSoFar}
 use Rattle.report_text.proofs.report.write_errors.Given as goal
 
