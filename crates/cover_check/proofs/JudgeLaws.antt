@@ -1,39 +1,24 @@
 -- What a line comes to, by the steps that are enabled.
 use Rattle.std.proofs.Common.{◌≡◌, ℕ, zero, suc, Bool, true, false, ◌&&◌, ◌||◌, not, List, [], ◌∷◌, ◌++◌, refl, sym, ap, ◌∙◌}
-use Rattle.std.proofs.lemmas.Cmp.{tied_itself}
 use Rattle.std.specs.List.{list_all}
-use Rattle.std.specs.Ordering.{is_eq}
-use Rattle.term_core.specs.inside.StepOrderLaws.{steps_total}
 use Rattle.term_core.specs.declared.step.Step.{Step}
 use Rattle.world_model.specs.Events.{History}
 use Rattle.world_model.specs.Names.{IsAmong}
 use Rattle.world_model.specs.Requests.{Program}
 use Rattle.world_model.specs.Run.{next_event, is_enabled, enabled_steps}
 use Rattle.world_model.specs.Shown.{Identity}
-use Rattle.world_model.proofs.Opened.{enabled_listed, listed_enabled}
+use Rattle.world_model.proofs.Opened.{listed_enabled}
+use Rattle.world_sleep.proofs.Listed.{listed}
 use Rattle.coverage.specs.Covers.{is_one_of, are_once, is_clean}
 use Rattle.coverage.specs.Explored.{same_step}
 use Rattle.coverage.specs.Jobs.{taken_steps}
-use Rattle.coverage.proofs.CoverLaws.{one_of}
-use Rattle.coverage.proofs.Lists.{found_by, from_theory, both_second, all_true, kept_passes}
+use Rattle.coverage.proofs.Lists.{both_second, all_true, kept_passes}
 use Rattle.cover_check.specs.Judging.{Place, are_enabled_once, are_all_there, judgement, judgement_of}
 use Rattle.cover_check.specs.inside.Frames.{AreEnabled}
 use Rattle.cover_check.proofs.FrameLaws.{is_no_event}
 use Rattle.cover_check.specs.declared.judging.Judgement.TheVariants.{Good, Missing, Strange}
 
-itself : (s : Step) → same_step s s ≡ true
-itself s = ap is_eq (tied_itself steps_total s)
-
--- ---- a step is enabled where it is listed
-
-listed : (a : Program) (h : History) (s : Step) → is_one_of (enabled_steps a h) s ≡ is_enabled a h s
-listed a h s = go (is_one_of (enabled_steps a h) s) (is_enabled a h s) refl refl
-  where
-    go : (x y : Bool) → is_one_of (enabled_steps a h) s ≡ x → is_enabled a h s ≡ y → x ≡ y
-    go true true e f = refl
-    go false false e f = refl
-    go true false e f = sym (listed_enabled a h s (from_theory (enabled_steps a h) s (one_of (enabled_steps a h) s e))) ∙ f
-    go false true e f = sym e ∙ found_by same_step itself (enabled_steps a h) s (enabled_listed a h s f)
+-- ---- steps that are enabled
 
 all_same : {X : Type 0} (p q : X → Bool) → ((x : X) → p x ≡ q x) → (xs : List X) → list_all p xs ≡ list_all q xs
 all_same p q same [] = refl

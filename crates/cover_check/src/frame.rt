@@ -6,7 +6,7 @@ ghost use Rattle.cover_check.specs.inside.Frames.{AreEnabled, AreFramesOf, place
 ghost use Rattle.world_model.specs.Asking.{program_of};
 
 use crate::node::Node;
-use crate::sleeping::sleep_below;
+use crate::sleeping::sleep_within;
 use std::alloc::Global;
 use std::marker::Model;
 use term_core::Step;
@@ -84,7 +84,7 @@ pub(crate) fn next_child<'m>(
         after,
         left,
     } = frame;
-    let asleep = sleep_below(alloc, &world, slept.as_slice(), &next, left)?;
+    let asleep = sleep_within(alloc, &world, slept.as_slice(), &next, left)?;
     let mut after = after;
     let Some(following) = after.pop() else {
         return Node::below(alloc, world, asleep, &next, left);

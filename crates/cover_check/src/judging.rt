@@ -12,12 +12,12 @@ ghost use Rattle.world_model.specs.Requests.{Program};
 ghost use Rattle.world_model.specs.Run.{enabled_steps};
 
 use crate::node::Node;
-use crate::sleeping::is_one_of;
 use excuses::Excuses;
 use findings::{Flags, Identity};
 use std::alloc::Global;
 use term_core::Step;
 use world_core::WorldFault;
+use world_sleep::is_one_of;
 
 /// What a line comes to.
 #[derive(Clone, Copy, Debug, PartialEq, Eq)]

@@ -2,9 +2,10 @@
 ghost use Rattle.std.specs.Prelude.{◌≡◌, false, None, Some, IfOk};
 ghost use Rattle.core_tree.specs.Syntax.{ModuleTree};
 ghost use Rattle.cover_check.specs.Faults.{root_place};
-ghost use Rattle.cover_check.specs.inside.Frames.{IsReached, place_of};
+ghost use Rattle.cover_check.specs.inside.Frames.{place_of};
 ghost use Rattle.world_core.specs.Seen.{program_in};
 ghost use Rattle.world_model.specs.Run.{extended, next_event};
+ghost use Rattle.world_sleep.specs.Reached.{IsReached};
 
 use core_tree::Module;
 use std::alloc::Global;
@@ -22,7 +23,8 @@ pub(crate) struct Node<'m> {
 
 impl<'m> Model for Node<'m> {
     ghost use Rattle.cover_check.specs.inside.Codes.{coded_node};
-    ghost use Rattle.cover_check.specs.inside.Frames.{IsReached, NodeSeen};
+    ghost use Rattle.cover_check.specs.inside.Frames.{NodeSeen};
+    ghost use Rattle.world_sleep.specs.Reached.{IsReached};
 
     ghost Value = { NodeSeen };
 

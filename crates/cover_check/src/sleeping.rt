@@ -1,50 +1,18 @@
-// Which steps sleep, and which are awake.
-ghost use Rattle.std.specs.Prelude.{◌≡◌, filter, not, IfOk};
-ghost use Rattle.coverage.specs.Covers.{is_one_of};
+// What sleeps at the nodes of a tree that is cut at its depth.
+ghost use Rattle.std.specs.Prelude.{◌≡◌, IfOk};
 ghost use Rattle.coverage.specs.Jobs.{asleep_below};
 ghost use Rattle.cover_check.specs.Faults.{sleeping};
-ghost use Rattle.cover_check.specs.inside.Frames.{IsReached};
 ghost use Rattle.world_core.specs.Seen.{program_in};
+ghost use Rattle.world_sleep.specs.Reached.{IsReached};
 
 use std::alloc::{AllocError, Global};
-use step_plans::asleep_below;
-use step_plans::laws::{footprints_are_of_histories, names_mean_tables};
 use term_core::Step;
 use world_core::World;
+use world_sleep::sleep_below;
 
-/// Whether a step is one of these.
-pub(crate) fn is_one_of(steps: &[Step], step: &Step) -> bool
-    ensures { result ≡ is_one_of steps.now step.now }
-{
-    for other in steps {
-        if *other == *step {
-            return true;
-        }
-    }
-    false
-}
-
-/// Those of the enabled steps that do not sleep, in their order. `AllocError` if there is no memory for them.
-pub(crate) fn awake(
-    alloc: Global,
-    enabled: Vec<Step>,
-    slept: &[Step],
-) -> Result<Vec<Step>, AllocError>
-    ensures { IfOk result (λ awake. awake.items ≡ filter (λ s. not (is_one_of slept.now s)) enabled.items) }
-{
-    let mut awake = Vec::new(alloc);
-    for step in enabled {
-        if !is_one_of(slept, &step) {
-            awake.push(step)?;
-        }
-    }
-    Ok(awake)
-}
-
-/// The steps that sleep below a step: those that are independent of it (the paper on sleep sets). Where no step may
-/// follow, none has to sleep, and no footprint is computed. `AllocError` if there is no memory for the cells, for the
-/// steps, or for the search of a mailbox.
-pub(crate) fn sleep_below(
+/// The steps that sleep below a step. Where no step may follow, none has to sleep, and no footprint is computed.
+/// `AllocError` as `sleep_below` has it.
+pub(crate) fn sleep_within(
     alloc: Global,
     world: &World<'_>,
     slept: &[Step],
@@ -57,8 +25,5 @@ pub(crate) fn sleep_below(
     if left == 0 {
         return Ok(Vec::new(alloc));
     }
-    footprints_are_of_histories();
-    names_mean_tables();
-    let asleep = asleep_below(world.records(), alloc, slept, step)?;
-    Ok(asleep)
+    sleep_below(alloc, world, slept, step)
 }

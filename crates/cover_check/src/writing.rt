@@ -11,12 +11,12 @@ ghost use Rattle.world_model.specs.Asking.{program_of};
 use crate::fault::WriteCoverFault;
 use crate::node::Node;
 use crate::observer::Observer;
-use crate::sleeping::awake;
 use crate::walk::Walk;
 use core_tree::Module;
 use std::alloc::Global;
 use term_core::{Sink, Step, WriteFault, write_all, write_schedule};
 use world_core::WorldFault;
+use world_sleep::awake;
 
 // The steps that the search takes at a node: those that are enabled and awake, and none at the depth.
 fn taken(alloc: Global, node: &Node<'_>) -> Result<Vec<Step>, WorldFault>

@@ -1,6 +1,6 @@
 -- The walk over the nodes of a tree: nodes that were visited, and whose children were not all.
 use Rattle.std.specs.List.{AllByRecursion}
-use Rattle.std.specs.Prelude.{◌≡◌, ℕ, false, List, [], ◌∷◌, ◌++◌, Option, Some, None}
+use Rattle.std.specs.Prelude.{◌≡◌, ℕ, List, [], ◌∷◌, ◌++◌, Option, Some, None}
 use Rattle.core_tree.specs.Syntax.{ModuleTree}
 use Rattle.term_core.specs.declared.step.Step.{Step}
 use Rattle.world_core.specs.Seen.{Seen, program_in}
@@ -8,14 +8,10 @@ use Rattle.world_model.specs.Asking.{program_of}
 use Rattle.world_model.specs.Events.{History}
 use Rattle.world_model.specs.Names.{IsAmong}
 use Rattle.world_model.specs.Requests.{Program}
-use Rattle.world_model.specs.Run.{next_event, IsRun}
+use Rattle.world_model.specs.Run.{next_event}
+use Rattle.world_sleep.specs.Reached.{IsReached}
 use Rattle.cover_check.specs.Faults.{places_along, root_place}
 use Rattle.cover_check.specs.Judging.{Place}
-
--- a live world of what really happened
-pub record IsReached (w : Seen) : Type 0 where
-  pub lives : w.spent ≡ false
-  pub is_run : IsRun (program_in w) w.history
 
 -- each step of a line can be taken
 abbrev pub AreEnabled : Program → History → List Step → Type 0

@@ -1,6 +1,6 @@
 use Rattle.std.proofs.Common.{◌≡◌, filter, not}
 use Rattle.coverage.specs.Covers.{is_one_of}
-use Rattle.cover_check.proofs.sleeping.awake.Given as goal
+use Rattle.world_sleep.proofs.sleeping.awake.Given as goal
 
 -- those so far that are awake
 abbrev pub invariant-loop-step : goal.invariant-loop-step

@@ -1,6 +1,6 @@
 use Rattle.std.proofs.Common.{◌≡◌, drop}
 use Rattle.coverage.specs.Covers.{is_one_of}
-use Rattle.cover_check.proofs.sleeping.is_one_of.Given as goal
+use Rattle.world_sleep.proofs.sleeping.is_one_of.Given as goal
 
 -- it is not among those so far
 abbrev pub invariant-loop-other : goal.invariant-loop-other

@@ -1,0 +1,5 @@
+pub mod JobText
+pub mod Reading
+pub mod Faults
+pub mod JobLineLaws
+pub mod inside
