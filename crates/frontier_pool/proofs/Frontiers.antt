@@ -5,7 +5,7 @@ use Rattle.std.proofs.Math.Seq.{take-length, drop-length}
 use Rattle.std.proofs.lemmas.List.{map-append, take-append-le, drop-append-le, append-nil, get_or_push}
 use Rattle.std.specs.List.{AllByRecursion, remove}
 use Rattle.coverage.specs.Findings.{Findings}
-use Rattle.coverage.specs.Jobs.{Job, root}
+use Rattle.coverage.specs.Jobs.{Job}
 use Rattle.findings.specs.Merging.{merged_findings, nothing}
 use Rattle.findings.specs.declared.extent.Extent.{Extent}
 use Rattle.findings.specs.declared.outcome.Cause.{Cause}
@@ -91,9 +91,9 @@ cause_of_after limit nodes place (Some s) b h = refl
 abbrev pub none_yet : Extent
 none_yet = record { nodes = 0; cut = 0 }
 
--- the job of the whole tree is open, and nothing was done
-pub opens_standing : (todo : List JobSeen) (job : JobSeen) (out : List TicketSeen) (f : Findings) → todo ≡ job ∷ [] → job.name ≡ root → out ≡ [] → f ≡ nothing → standing_of todo out f none_yet 0 None ≡ opening
-opens_standing todo job out f is_todo is_name is_out is_f = λ i. record {
+-- one job is open, and nothing was done
+pub opens_standing : (start : Job) (todo : List JobSeen) (job : JobSeen) (out : List TicketSeen) (f : Findings) → todo ≡ job ∷ [] → job.name ≡ start → out ≡ [] → f ≡ nothing → standing_of todo out f none_yet 0 None ≡ opening start
+opens_standing start todo job out f is_todo is_name is_out is_f = λ i. record {
   todo = (ap names_of is_todo ∙ ap (λ (n : Job). n ∷ []) is_name) i;
   out = is_out i;
   findings = is_f i;
@@ -105,9 +105,9 @@ opens_standing todo job out f is_todo is_name is_out is_f = λ i. record {
 pub opens_with : (e : ExplorationSeen) (todo : List JobSeen) (job : JobSeen) → todo ≡ job ∷ [] → job.exploration ≡ e → AreJobsOf e todo
 opens_with e todo job is own = subst (AreJobsOf e) (sym is) (subst (λ (x : ExplorationSeen). AreOne x e) (sym own) (one_itself e), tt)
 
-pub frontier_opens : (e : ExplorationSeen) (limit : ℕ) (todo : List JobSeen) (out : List TicketSeen) (f : Findings) (events : List PoolEvent) → standing_of todo out f none_yet 0 None ≡ opening → events ≡ [] → out ≡ [] → AreJobsOf e todo → IsFrontier e limit todo out f none_yet 0 events None
-frontier_opens e limit todo out f events is none none_out all = record {
-  legal = subst (λ (l : List PoolEvent). IsLegal e limit (entries l) (standing_of todo out f none_yet 0 None)) (sym none) is;
+pub frontier_opens : (e : ExplorationSeen) (start : Job) (limit : ℕ) (todo : List JobSeen) (out : List TicketSeen) (f : Findings) (events : List PoolEvent) → standing_of todo out f none_yet 0 None ≡ opening start → events ≡ [] → out ≡ [] → AreJobsOf e todo → IsFrontier e start limit todo out f none_yet 0 events None
+frontier_opens e start limit todo out f events is none none_out all = record {
+  legal = subst (λ (l : List PoolEvent). IsLegal e start limit (entries l) (standing_of todo out f none_yet 0 None)) (sym none) is;
   placed = tt;
   carried = all;
   rising = subst AreRising (sym none_out) (λ i j d lt within. absurd (omega arith));
@@ -131,15 +131,15 @@ takes_last todo job out f x taken = record {
   leaves = ap (λ (l : List Job). record { todo = l; out = out ++ ticket_for taken job ∷ []; findings = f; extent = x; taken = taken + 1; cause = None }) (sym (append-nil (names_of todo)));
 }
 
-frontier_takes : (e : ExplorationSeen) (limit : ℕ) (todo : List JobSeen) (job : JobSeen) (out : List TicketSeen) (f : Findings) (x : Extent) (taken : ℕ) (events : List PoolEvent)
-    → IsFrontier e limit (todo ++ job ∷ []) out f x taken events None
-    → IsFrontier e limit todo (out ++ ticket_for taken job ∷ []) f x (taken + 1) (events ++ Took (taken + 1) ∷ []) None
-frontier_takes e limit todo job out f x taken events p =
+frontier_takes : (e : ExplorationSeen) (start : Job) (limit : ℕ) (todo : List JobSeen) (job : JobSeen) (out : List TicketSeen) (f : Findings) (x : Extent) (taken : ℕ) (events : List PoolEvent)
+    → IsFrontier e start limit (todo ++ job ∷ []) out f x taken events None
+    → IsFrontier e start limit todo (out ++ ticket_for taken job ∷ []) f x (taken + 1) (events ++ Took (taken + 1) ∷ []) None
+frontier_takes e start limit todo job out f x taken events p =
     let t = ticket_for taken job in
     let event = Took (taken + 1) in
     let to = standing_of todo (out ++ t ∷ []) f x (taken + 1) None in
     record {
-      legal = subst (λ (l : List Entry). IsLegal e limit l to) (sym (entries-append events (event ∷ []))) (leads_more e limit opening (entries events) (standing_of (todo ++ job ∷ []) out f x taken None) (Enters event) to p.legal (t, refl, takes_last todo job out f x taken));
+      legal = subst (λ (l : List Entry). IsLegal e start limit l to) (sym (entries-append events (event ∷ []))) (leads_more e limit (opening start) (entries events) (standing_of (todo ++ job ∷ []) out f x taken None) (Enters event) to p.legal (t, refl, takes_last todo job out f x taken));
       placed = tt;
       carried = all_front (IsOf e) todo (job ∷ []) p.carried;
       rising = rising_push out t taken p.rising p.given (omega arith);
@@ -153,17 +153,17 @@ pub last_is : (xs ys : List JobSeen) (job last : JobSeen) (at : ℕ) → xs ≡ 
 last_is xs ys job last at is there read = read ∙ ap (λ (l : List JobSeen). get_or l at last) is ∙ get_or_push ys job last at there
 
 -- by the fields before and after
-pub take_kept : (e : ExplorationSeen) (limit : ℕ) (todo todo' : List JobSeen) (job : JobSeen) (out out' : List TicketSeen) (f : Findings) (x : Extent) (taken : ℕ) (events events' : List PoolEvent) (s : Option Stop)
+pub take_kept : (e : ExplorationSeen) (start : Job) (limit : ℕ) (todo todo' : List JobSeen) (job : JobSeen) (out out' : List TicketSeen) (f : Findings) (x : Extent) (taken : ℕ) (events events' : List PoolEvent) (s : Option Stop)
     → todo ≡ todo' ++ job ∷ [] → out' ≡ out ++ ticket_for taken job ∷ [] → events' ≡ events ++ Took (taken + 1) ∷ [] → s ≡ None
-    → IsFrontier e limit todo out f x taken events s → IsFrontier e limit todo' out' f x (taken + 1) events' s
-take_kept e limit todo todo' job out out' f x taken events events' s is_todo is_out is_events is_s p =
-    rw (is_out, is_events, is_s) (frontier_takes e limit todo' job out f x taken events (rw (is_todo, is_s) at p))
+    → IsFrontier e start limit todo out f x taken events s → IsFrontier e start limit todo' out' f x (taken + 1) events' s
+take_kept e start limit todo todo' job out out' f x taken events events' s is_todo is_out is_events is_s p =
+    rw (is_out, is_events, is_s) (frontier_takes e start limit todo' job out f x taken events (rw (is_todo, is_s) at p))
 
-pub take_done : (e : ExplorationSeen) (limit : ℕ) (todo todo' : List JobSeen) (job : JobSeen) (out out' : List TicketSeen) (f : Findings) (x : Extent) (taken : ℕ) (events events' : List PoolEvent) (s : Option Stop)
+pub take_done : (e : ExplorationSeen) (start : Job) (limit : ℕ) (todo todo' : List JobSeen) (job : JobSeen) (out out' : List TicketSeen) (f : Findings) (x : Extent) (taken : ℕ) (events events' : List PoolEvent) (s : Option Stop)
     → todo ≡ todo' ++ job ∷ [] → out' ≡ out ++ ticket_for taken job ∷ [] → events' ≡ events ++ Took (taken + 1) ∷ [] → s ≡ None
     → AreJobsOf e todo
-    → HandsOut (seen_of e limit todo out f x taken events s) (ticket_for taken job) (record { exploration = job.exploration; name = job.name; number = taken + 1 }) (seen_of e limit todo' out' f x (taken + 1) events' s)
-take_done e limit todo todo' job out out' f x taken events events' s is_todo is_out is_events is_s carried =
+    → HandsOut (seen_of e start limit todo out f x taken events s) (ticket_for taken job) (record { exploration = job.exploration; name = job.name; number = taken + 1 }) (seen_of e start limit todo' out' f x (taken + 1) events' s)
+take_done e start limit todo todo' job out out' f x taken events events' s is_todo is_out is_events is_s carried =
     let t = ticket_for taken job in
     let to = standing_of todo' out' f x (taken + 1) s in
     record {
@@ -175,22 +175,22 @@ take_done e limit todo todo' job out out' f x taken events events' s is_todo is_
         name = refl;
         number = refl;
       };
-      leaves = ap (λ (l : List PoolEvent). record { exploration = e; limit = limit; standing = to; events = l; stop = s }) is_events;
+      leaves = ap (λ (l : List PoolEvent). record { exploration = e; start = start; limit = limit; standing = to; events = l; stop = s }) is_events;
     }
 
 -- ---- a stop where there was none
 
-frontier_stops : (e : ExplorationSeen) (limit : ℕ) (todo : List JobSeen) (out : List TicketSeen) (f : Findings) (x : Extent) (taken : ℕ) (events : List PoolEvent)
-    → IsFrontier e limit todo out f x taken events None
-    → IsFrontier e limit todo out f x taken events (Some (record { cause = Memory; place = length events }))
-frontier_stops e limit todo out f x taken events p =
+frontier_stops : (e : ExplorationSeen) (start : Job) (limit : ℕ) (todo : List JobSeen) (out : List TicketSeen) (f : Findings) (x : Extent) (taken : ℕ) (events : List PoolEvent)
+    → IsFrontier e start limit todo out f x taken events None
+    → IsFrontier e start limit todo out f x taken events (Some (record { cause = Memory; place = length events }))
+frontier_stops e start limit todo out f x taken events p =
     let s : Stop = record { cause = Memory; place = length events } in
     let to = standing_of todo out f x taken (Some s) in
     let list : listed events (Some s) ≡ entries events ++ Stops ∷ [] =
     ap (λ (l : List PoolEvent). entries l ++ Stops ∷ entries (drop (length events) events)) (take-length events)
     ∙ ap (λ (l : List PoolEvent). entries events ++ Stops ∷ entries l) (drop-length events) in
     record {
-      legal = subst (λ (l : List Entry). IsLegal e limit l to) (sym list) (leads_more e limit opening (entries events) (standing_of todo out f x taken None) Stops to p.legal (refl, refl));
+      legal = subst (λ (l : List Entry). IsLegal e start limit l to) (sym list) (leads_more e limit (opening start) (entries events) (standing_of todo out f x taken None) Stops to p.legal (refl, refl));
       placed = omega arith;
       carried = p.carried;
       rising = p.rising;
@@ -199,9 +199,9 @@ frontier_stops e limit todo out f x taken events p =
       numbered = p.numbered;
     }
 
-pub stop_kept : (e : ExplorationSeen) (limit : ℕ) (todo : List JobSeen) (out : List TicketSeen) (f : Findings) (x : Extent) (taken : ℕ) (events : List PoolEvent) (s : Option Stop) (place : ℕ)
-    → s ≡ None → place ≡ length events → IsFrontier e limit todo out f x taken events s → IsFrontier e limit todo out f x taken events (Some (record { cause = Memory; place = place }))
-stop_kept e limit todo out f x taken events s place is_s is_place p = rw is_place (frontier_stops e limit todo out f x taken events (rw is_s at p))
+pub stop_kept : (e : ExplorationSeen) (start : Job) (limit : ℕ) (todo : List JobSeen) (out : List TicketSeen) (f : Findings) (x : Extent) (taken : ℕ) (events : List PoolEvent) (s : Option Stop) (place : ℕ)
+    → s ≡ None → place ≡ length events → IsFrontier e start limit todo out f x taken events s → IsFrontier e start limit todo out f x taken events (Some (record { cause = Memory; place = place }))
+stop_kept e start limit todo out f x taken events s place is_s is_place p = rw is_place (frontier_stops e start limit todo out f x taken events (rw is_s at p))
 
 -- ---- a piece comes back
 
@@ -216,11 +216,11 @@ standing_given todo rest out f f' x y taken limit place out' s =
     ap (λ (l : List Job). record { todo = l; out = out'; findings = merged_findings f f'; extent = sum_of x y; taken = taken; cause = cause_of (stop_after limit (x.nodes + y.nodes) place s) }) (names-append todo (reverse rest) ∙ ap (λ (l : List Job). names_of todo ++ l) (names-reverse rest))
     ∙ ap (λ (c : Option Cause). record { todo = names_of todo ++ reverse (names_of rest); out = out'; findings = merged_findings f f'; extent = sum_of x y; taken = taken; cause = c }) (cause_of_after limit (x.nodes + y.nodes) place s (nat_lt limit (x.nodes + y.nodes)) refl)
 
-frontier_gives : (e : ExplorationSeen) (limit : ℕ) (todo : List JobSeen) (out : List TicketSeen) (f : Findings) (x : Extent) (taken : ℕ) (events : List PoolEvent) (s : Option Stop)
+frontier_gives : (e : ExplorationSeen) (start : Job) (limit : ℕ) (todo : List JobSeen) (out : List TicketSeen) (f : Findings) (x : Extent) (taken : ℕ) (events : List PoolEvent) (s : Option Stop)
     (at : ℕ) (ticket : TicketSeen) (e' : ExplorationSeen) (f' : Findings) (y : Extent) (rest : List JobSeen)
-    → IsFrontier e limit todo out f x taken events s → at < length out → out ≡ take at out ++ ticket ∷ drop (suc at) out → AreOne e' e → IsPiece e' ticket.name f' y rest → y.nodes ≤ 2 ^ 64
-    → IsFrontier e limit (todo ++ reverse rest) (remove out at) (merged_findings f f') (sum_of x y) taken (events ++ Gave ticket.number ∷ []) (stop_after limit (x.nodes + y.nodes) (length events + 1) s)
-frontier_gives e limit todo out f x taken events s at ticket e' f' y rest p lt is one piece small =
+    → IsFrontier e start limit todo out f x taken events s → at < length out → out ≡ take at out ++ ticket ∷ drop (suc at) out → AreOne e' e → IsPiece e' ticket.name f' y rest → y.nodes ≤ 2 ^ 64
+    → IsFrontier e start limit (todo ++ reverse rest) (remove out at) (merged_findings f f') (sum_of x y) taken (events ++ Gave ticket.number ∷ []) (stop_after limit (x.nodes + y.nodes) (length events + 1) s)
+frontier_gives e start limit todo out f x taken events s at ticket e' f' y rest p lt is one piece small =
     let event = Gave ticket.number in
     let from = standing_of todo out f x taken s in
     let place = length events + 1 in
@@ -238,7 +238,7 @@ frontier_gives e limit todo out f x taken events s at ticket e' f' y rest p lt i
     } in
     let list : listed (events ++ event ∷ []) (stop_after limit nodes place s) ≡ listed events s ++ Enters event ∷ [] = listed_after (events ++ event ∷ []) limit nodes place s (nat_lt limit nodes) refl ∙ listed_more events event s p.placed in
     record {
-      legal = subst (λ (l : List Entry). IsLegal e limit l to) (sym list) (leads_more e limit opening (listed events s) from (Enters event) to p.legal (ticket, refl, gives));
+      legal = subst (λ (l : List Entry). IsLegal e start limit l to) (sym list) (leads_more e limit (opening start) (listed events s) from (Enters event) to p.legal (ticket, refl, gives));
       placed = placed_after (events ++ event ∷ []) limit nodes place s (nat_lt limit nodes) refl (omega (arith, length-append events (event ∷ []))) (placed_more events event s p.placed);
       carried = all_append (IsOf e) todo (reverse rest) p.carried (all_reverse (IsOf e) rest (jobs_of e' e rest one piece.are_of));
       rising = rising_remove out at lt p.rising;
@@ -248,32 +248,32 @@ frontier_gives e limit todo out f x taken events s at ticket e' f' y rest p lt i
     }
 
 -- by the fields before and after
-pub give_kept : (e : ExplorationSeen) (limit : ℕ) (todo todo' : List JobSeen) (out out' : List TicketSeen) (f f'' : Findings) (x x' : Extent) (taken : ℕ) (events events' : List PoolEvent) (s s' : Option Stop)
+pub give_kept : (e : ExplorationSeen) (start : Job) (limit : ℕ) (todo todo' : List JobSeen) (out out' : List TicketSeen) (f f'' : Findings) (x x' : Extent) (taken : ℕ) (events events' : List PoolEvent) (s s' : Option Stop)
     (at : ℕ) (ticket : TicketSeen) (piece : PieceSeen) (place : ℕ)
     → at < length out → get_or out at ticket ≡ ticket → piece.ticket ≡ ticket → AreOne piece.exploration e
     → todo' ≡ todo ++ reverse piece.rest → out' ≡ remove out at → f'' ≡ merged_findings f piece.findings → x' ≡ sum_of x piece.extent → events' ≡ events ++ Gave ticket.number ∷ [] → place ≡ length events + 1 → s' ≡ stop_after limit x'.nodes place s
     → IsPiece piece.exploration piece.ticket.name piece.findings piece.extent piece.rest → piece.extent.nodes ≤ 2 ^ 64
-    → IsFrontier e limit todo out f x taken events s → IsFrontier e limit todo' out' f'' x' taken events' s'
-give_kept e limit todo todo' out out' f f'' x x' taken events events' s s' at ticket piece place lt is is_ticket one is_todo is_out is_f is_x is_events is_place is_s made small p =
+    → IsFrontier e start limit todo out f x taken events s → IsFrontier e start limit todo' out' f'' x' taken events' s'
+give_kept e start limit todo todo' out out' f f'' x x' taken events events' s s' at ticket piece place lt is is_ticket one is_todo is_out is_f is_x is_events is_place is_s made small p =
     let own : IsPiece piece.exploration ticket.name piece.findings piece.extent piece.rest = subst (λ (t : TicketSeen). IsPiece piece.exploration t.name piece.findings piece.extent piece.rest) is_ticket made in
     rw (is_s, is_todo, is_out, is_f, is_x, is_events, is_place)
-    (frontier_gives e limit todo out f x taken events s at ticket piece.exploration piece.findings piece.extent piece.rest p lt (out_at out ticket at lt is) one own small)
+    (frontier_gives e start limit todo out f x taken events s at ticket piece.exploration piece.findings piece.extent piece.rest p lt (out_at out ticket at lt is) one own small)
 
-pub give_done : (e : ExplorationSeen) (limit : ℕ) (todo todo' : List JobSeen) (out out' : List TicketSeen) (f f'' : Findings) (x x' : Extent) (taken : ℕ) (events events' : List PoolEvent) (s s' : Option Stop)
+pub give_done : (e : ExplorationSeen) (start : Job) (limit : ℕ) (todo todo' : List JobSeen) (out out' : List TicketSeen) (f f'' : Findings) (x x' : Extent) (taken : ℕ) (events events' : List PoolEvent) (s s' : Option Stop)
     (at : ℕ) (ticket : TicketSeen) (piece : PieceSeen) (place : ℕ)
     → at < length out → get_or out at ticket ≡ ticket → piece.ticket ≡ ticket → AreOne piece.exploration e
     → todo' ≡ todo ++ reverse piece.rest → out' ≡ remove out at → f'' ≡ merged_findings f piece.findings → x' ≡ sum_of x piece.extent → events' ≡ events ++ Gave ticket.number ∷ [] → place ≡ length events + 1 → s' ≡ stop_after limit x'.nodes place s
-    → Accepts (seen_of e limit todo out f x taken events s) ticket piece (seen_of e limit todo' out' f'' x' taken events' s')
-give_done e limit todo todo' out out' f f'' x x' taken events events' s s' at ticket piece place lt is is_ticket one is_todo is_out is_f is_x is_events is_place is_s =
-    let from = seen_of e limit todo out f x taken events s in
+    → Accepts (seen_of e start limit todo out f x taken events s) ticket piece (seen_of e start limit todo' out' f'' x' taken events' s')
+give_done e start limit todo todo' out out' f f'' x x' taken events events' s s' at ticket piece place lt is is_ticket one is_todo is_out is_f is_x is_events is_place is_s =
+    let from = seen_of e start limit todo out f x taken events s in
     let stop = stop_after limit (x.nodes + piece.extent.nodes) (length events + 1) s in
-    let to = seen_of e limit (todo ++ reverse piece.rest) (remove out at) (merged_findings f piece.findings) (sum_of x piece.extent) taken (events ++ Gave ticket.number ∷ []) stop in
+    let to = seen_of e start limit (todo ++ reverse piece.rest) (remove out at) (merged_findings f piece.findings) (sum_of x piece.extent) taken (events ++ Gave ticket.number ∷ []) stop in
     let accepts : Accepts from ticket piece to = record {
       front = take at out;
       back = drop (suc at) out;
       is_out = out_at out ticket at lt is;
       is_for = (is_ticket, one);
-      leaves = ap (λ (x : Standing). record { exploration = e; limit = limit; standing = x; events = events ++ Gave ticket.number ∷ []; stop = stop })
+      leaves = ap (λ (x : Standing). record { exploration = e; start = start; limit = limit; standing = x; events = events ++ Gave ticket.number ∷ []; stop = stop })
           (standing_given todo piece.rest out f piece.findings x piece.extent taken limit (length events + 1) (remove out at) s);
     } in
     rw (is_s, is_todo, is_out, is_f, is_x, is_events, is_place) accepts

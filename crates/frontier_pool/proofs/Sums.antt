@@ -1,4 +1,4 @@
--- In a legal list, what is done, open and out adds up to the tree.
+-- In a legal list, what is done, open and out adds up to the job at its beginning.
 use Rattle.std.proofs.Common.{◌≡◌, ℕ, zero, suc, ◌+◌, ◌<◌, ◌≤◌, inl, inr, get_or, Bool, true, false, List, [], ◌∷◌, ◌++◌, Option, Some, None, if◌then◌else◌, reverse, length, refl, subst, sym, ◌∙◌, ap, arith, nat_lt, append_assoc, append-nil, length-append}
 use Rattle.std.specs.List.{Contains}
 use Rattle.std.specs.List.Sorted.{IsPermutation}
@@ -9,7 +9,7 @@ use Rattle.coverage.proofs.FindingLaws.{least}
 use Rattle.coverage.proofs.JobLaws.{map_join}
 use Rattle.coverage.proofs.Lists.{among_left}
 use Rattle.coverage.specs.Findings.{Finding, Findings, IsLeast, found, findings_among}
-use Rattle.coverage.specs.Jobs.{Job, Node, root, schedules_of}
+use Rattle.coverage.specs.Jobs.{Job, Node, schedules_of}
 use Rattle.findings.proofs.Schedules.{any_order, lists_merged}
 use Rattle.findings.specs.declared.extent.Extent.{Extent}
 use Rattle.findings.specs.Merging.{merged_findings}
@@ -28,11 +28,11 @@ use Rattle.frontier_pool.specs.Sums.{names_out, nodes_left, AddsUp, SumsUp, Lega
 use Rattle.frontier_pool.specs.declared.entry.PoolEvent.TheVariants.{Took, Gave}
 use Rattle.frontier_pool.proofs.Jobs.{nodes-append, nodes_middle, nodes_reversed, to_front}
 
-opening_adds_up : (e : ExplorationSeen) (limit : ℕ) → AddsUp e limit opening
-opening_adds_up e limit = record {
+opening_adds_up : (e : ExplorationSeen) (start : Job) (limit : ℕ) → AddsUp e start limit (opening start)
+opening_adds_up e start limit = record {
   visited = [];
   is_done = record { found = refl; counted = refl };
-  made_up = subst (IsPermutation (nodes_of e root)) (sym (append-nil (nodes_of e root))) (IsPermutation-refl (nodes_of e root));
+  made_up = subst (IsPermutation (nodes_of e start)) (sym (append-nil (nodes_of e start))) (IsPermutation-refl (nodes_of e start));
   limited = λ c. absurd (cc);
   within = λ c. omega arith;
 }
@@ -57,16 +57,16 @@ take_left e todo front back out ticket is =
     (subst (λ l. IsPermutation (nodes_of_jobs e (front ++ name ∷ (back ++ o))) (nodes_of_jobs e l)) (sym after)
     (IsPermutation-trans _ _ _ (nodes_middle e front (back ++ o) name) (IsPermutation-sym _ _ second)))
 
-takes_add_up : (e : ExplorationSeen) (limit : ℕ) (s : Standing) (ticket : TicketSeen) (t : Standing) → AddsUp e limit s → Takes s ticket t → AddsUp e limit t
-takes_add_up e limit s ticket t p h =
-    let made : AddsUp e limit (after_take s ticket (h.front ++ h.back)) = record {
+takes_add_up : (e : ExplorationSeen) (start : Job) (limit : ℕ) (s : Standing) (ticket : TicketSeen) (t : Standing) → AddsUp e start limit s → Takes s ticket t → AddsUp e start limit t
+takes_add_up e start limit s ticket t p h =
+    let made : AddsUp e start limit (after_take s ticket (h.front ++ h.back)) = record {
       visited = p.visited;
       is_done = p.is_done;
       made_up = IsPermutation-trans _ _ _ p.made_up (IsPermutation-append_right p.visited _ _ (take_left e s.todo h.front h.back s.out ticket h.is_open));
       limited = p.limited;
       within = p.within;
     } in
-    subst (AddsUp e limit) (sym h.leaves) made
+    subst (AddsUp e start limit) (sym h.leaves) made
 
 -- ---- its piece comes back
 
@@ -110,27 +110,27 @@ within_after limit nodes None true is now = let none : Some NodeLimit ≡ None =
 within_after limit nodes None false is now = grind (arith, nat_tests)
 within_after limit nodes (Some c) b is now = absurd (cc)
 
-gives_add_up : (e : ExplorationSeen) (limit : ℕ) (s : Standing) (ticket : TicketSeen) (t : Standing) → AddsUp e limit s → Gives e limit s ticket t → AddsUp e limit t
-gives_add_up e limit s ticket t p h =
+gives_add_up : (e : ExplorationSeen) (start : Job) (limit : ℕ) (s : Standing) (ticket : TicketSeen) (t : Standing) → AddsUp e start limit s → Gives e limit s ticket t → AddsUp e start limit t
+gives_add_up e start limit s ticket t p h =
     let m = h.made_up in
     let u = after_give limit s (h.front ++ h.back) h.findings h.extent h.rest in
-    let made : AddsUp e limit u = record {
+    let made : AddsUp e start limit u = record {
       visited = p.visited ++ m.visited;
       is_done = record {
         found = (λ i. merged_findings (p.is_done.found i) (m.is_done.found i)) ∙ sym (shows_both e p.visited m.visited);
         counted = (λ i. sum_of (p.is_done.counted i) (m.is_done.counted i)) ∙ sym (counts_both e p.visited m.visited);
       };
-      made_up = subst (IsPermutation (nodes_of e root)) (sym (append_assoc p.visited m.visited (nodes_left e u)))
+      made_up = subst (IsPermutation (nodes_of e start)) (sym (append_assoc p.visited m.visited (nodes_left e u)))
           (IsPermutation-trans _ _ _ p.made_up (IsPermutation-append_right p.visited _ _ (give_left e s.todo h.rest s.out h.front h.back ticket m.visited h.is_out m.made_up)));
       limited = limited_after limit s.extent.nodes (s.extent.nodes + h.extent.nodes) s.cause (nat_lt limit (s.extent.nodes + h.extent.nodes)) refl (omega arith) p.limited;
       within = within_after limit (s.extent.nodes + h.extent.nodes) s.cause (nat_lt limit (s.extent.nodes + h.extent.nodes)) refl;
     } in
-    subst (AddsUp e limit) (sym h.leaves) made
+    subst (AddsUp e start limit) (sym h.leaves) made
 
 -- ---- lists of entries
 
-stop_adds_up : (e : ExplorationSeen) (limit : ℕ) (s : Standing) → AddsUp e limit s → AddsUp e limit (stopped s)
-stop_adds_up e limit s p = record {
+stop_adds_up : (e : ExplorationSeen) (start : Job) (limit : ℕ) (s : Standing) → AddsUp e start limit s → AddsUp e start limit (stopped s)
+stop_adds_up e start limit s p = record {
   visited = p.visited;
   is_done = p.is_done;
   made_up = p.made_up;
@@ -138,17 +138,17 @@ stop_adds_up e limit s p = record {
   within = λ c. absurd (cc);
 }
 
-step_adds_up : (e : ExplorationSeen) (limit : ℕ) (s : Standing) (x : Entry) (t : Standing) → AddsUp e limit s → StepsBy e limit s x t → AddsUp e limit t
-step_adds_up e limit s (Enters (Took number)) t p h = takes_add_up e limit s h.0 t p h.2
-step_adds_up e limit s (Enters (Gave number)) t p h = gives_add_up e limit s h.0 t p h.2
-step_adds_up e limit s Stops t p h = subst (AddsUp e limit) (sym h.1) (stop_adds_up e limit s p)
+step_adds_up : (e : ExplorationSeen) (start : Job) (limit : ℕ) (s : Standing) (x : Entry) (t : Standing) → AddsUp e start limit s → StepsBy e limit s x t → AddsUp e start limit t
+step_adds_up e start limit s (Enters (Took number)) t p h = takes_add_up e start limit s h.0 t p h.2
+step_adds_up e start limit s (Enters (Gave number)) t p h = gives_add_up e start limit s h.0 t p h.2
+step_adds_up e start limit s Stops t p h = subst (AddsUp e start limit) (sym h.1) (stop_adds_up e start limit s p)
 
-leads_add_up : (e : ExplorationSeen) (limit : ℕ) (xs : List Entry) (s t : Standing) → AddsUp e limit s → Leads e limit s xs t → AddsUp e limit t
-leads_add_up e limit [] s t p h = subst (AddsUp e limit) (sym h) p
-leads_add_up e limit (x ∷ xs) s t p h = leads_add_up e limit xs h.0 t (step_adds_up e limit s x h.0 p h.1) h.2
+leads_add_up : (e : ExplorationSeen) (start : Job) (limit : ℕ) (xs : List Entry) (s t : Standing) → AddsUp e start limit s → Leads e limit s xs t → AddsUp e start limit t
+leads_add_up e start limit [] s t p h = subst (AddsUp e start limit) (sym h) p
+leads_add_up e start limit (x ∷ xs) s t p h = leads_add_up e start limit xs h.0 t (step_adds_up e start limit s x h.0 p h.1) h.2
 
 pub legal_adds_up : LegalAddsUp
-legal_adds_up e limit xs s h = leads_add_up e limit xs opening s (opening_adds_up e limit) h
+legal_adds_up e start limit xs s h = leads_add_up e start limit xs (opening start) s (opening_adds_up e start limit) h
 
 -- ---- what that comes to
 
@@ -167,21 +167,21 @@ among_permuted xs ys x same there =
     let c : Contains xs x = Contains-permutation ys xs x (IsPermutation-sym xs ys same) (to_contains ys x there) in
     from_contains xs x c.0 c.1 c.2
 
-shown_of : (e : ExplorationSeen) (test : Identity → Bool) (visited left : List Node) (fs : List Finding) → IsPermutation (nodes_of e root) (visited ++ left) → fs ≡ found test (program_in e) (schedules_of visited) → AreShown test e root fs
-shown_of e test visited left fs made_up is f there =
+shown_of : (e : ExplorationSeen) (start : Job) (test : Identity → Bool) (visited left : List Node) (fs : List Finding) → IsPermutation (nodes_of e start) (visited ++ left) → fs ≡ found test (program_in e) (schedules_of visited) → AreShown test e start fs
+shown_of e start test visited left fs made_up is f there =
     let there_too : IsAmong f (found test (program_in e) (schedules_of visited)) = subst (IsAmong f) is there in
     let l : IsLeast (program_in e) (schedules_of visited) f = least test (program_in e) (schedules_of visited) f there_too in
     let schedule = λ (v : Node). v.schedule in
     let among : IsAmong f.schedule (schedules_of (visited ++ left)) = subst (IsAmong f.schedule) (sym (map_join schedule visited left)) (among_left (schedules_of visited) (schedules_of left) f.schedule l.is_among) in (
       found_passes test (program_in e) (schedules_of visited) f there_too,
-      among_permuted (schedules_of (nodes_of e root)) (schedules_of (visited ++ left)) f.schedule (IsPermutation-map schedule (nodes_of e root) (visited ++ left) made_up) among,
+      among_permuted (schedules_of (nodes_of e start)) (schedules_of (visited ++ left)) f.schedule (IsPermutation-map schedule (nodes_of e start) (visited ++ left) made_up) among,
       l.shows,
     )
 
-pub all_shown : (e : ExplorationSeen) (limit : ℕ) (s : Standing) → AddsUp e limit s → AreOfJob e root s.findings
-all_shown e limit s p = (
-  shown_of e (is_error e.flags) p.visited (nodes_left e s) s.findings.errors p.made_up (ap (λ (x : Findings). x.errors) p.is_done.found),
-  shown_of e is_refusal p.visited (nodes_left e s) s.findings.refusals p.made_up (ap (λ (x : Findings). x.refusals) p.is_done.found),
+pub all_shown : (e : ExplorationSeen) (start : Job) (limit : ℕ) (s : Standing) → AddsUp e start limit s → AreOfJob e start s.findings
+all_shown e start limit s p = (
+  shown_of e start (is_error e.flags) p.visited (nodes_left e s) s.findings.errors p.made_up (ap (λ (x : Findings). x.errors) p.is_done.found),
+  shown_of e start is_refusal p.visited (nodes_left e s) s.findings.refusals p.made_up (ap (λ (x : Findings). x.refusals) p.is_done.found),
 )
 
 -- what nodes show does not depend on their order
@@ -202,12 +202,12 @@ done_fewer e done f x is_done =
     let fewer : (extent_of e done).cut ≤ (extent_of e done).nodes = omega (arith, some, length-map done (λ (v : Node). v.schedule)) in
     subst (λ (y : Extent). y.cut ≤ y.nodes) (sym is_done.counted) fewer
 
-pub sums_up : (e : ExplorationSeen) (limit : ℕ) (s : Standing) → AddsUp e limit s → SumsUp e s
-sums_up e limit s p = record {
-  found = shows_the_same e (nodes_of e root) (p.visited ++ nodes_left e s) p.made_up ∙ shows_both e p.visited (nodes_left e s) ∙ ap (λ f. merged_findings f (findings_of e (nodes_left e s))) (sym p.is_done.found);
-  counted = counts_the_same e (nodes_of e root) (p.visited ++ nodes_left e s) p.made_up ∙ counts_both e p.visited (nodes_left e s) ∙ ap (λ x. sum_of x (extent_of e (nodes_left e s))) (sym p.is_done.counted);
-  shown = all_shown e limit s p;
+pub sums_up : (e : ExplorationSeen) (start : Job) (limit : ℕ) (s : Standing) → AddsUp e start limit s → SumsUp e start s
+sums_up e start limit s p = record {
+  found = shows_the_same e (nodes_of e start) (p.visited ++ nodes_left e s) p.made_up ∙ shows_both e p.visited (nodes_left e s) ∙ ap (λ f. merged_findings f (findings_of e (nodes_left e s))) (sym p.is_done.found);
+  counted = counts_the_same e (nodes_of e start) (p.visited ++ nodes_left e s) p.made_up ∙ counts_both e p.visited (nodes_left e s) ∙ ap (λ x. sum_of x (extent_of e (nodes_left e s))) (sym p.is_done.counted);
+  shown = all_shown e start limit s p;
 }
 
 pub legal_sums_up : LegalSumsUp
-legal_sums_up e limit xs s h = sums_up e limit s (legal_adds_up e limit xs s h)
+legal_sums_up e start limit xs s h = sums_up e start limit s (legal_adds_up e start limit xs s h)

@@ -1,7 +1,7 @@
 -- What the calls of a pool do.
 use Rattle.std.specs.List.{Contains}
 use Rattle.std.specs.Prelude.{◌≡◌, ◌≢◌, ℕ, ◌+◌, List, [], ◌∷◌, ◌++◌, ◌<◌, ◌≤◌, Option, Some, None, length, if◌then◌else◌, nat_lt}
-use Rattle.coverage.specs.Jobs.{root}
+use Rattle.coverage.specs.Jobs.{Job}
 use Rattle.findings.specs.declared.outcome.Cause.TheVariants.{NodeLimit}
 use Rattle.findings.specs.declared.outcome.Cause.TheVariants as cause
 use Rattle.findings.specs.declared.outcome.Outcome.{Outcome}
@@ -24,9 +24,9 @@ use Rattle.frontier_pool.specs.declared.answer.Wake.TheVariants.{Everybody, Nobo
 use Rattle.frontier_pool.specs.declared.entry.PoolEvent.TheVariants.{Took, Gave}
 use Rattle.frontier_pool.specs.declared.entry.Stop.{Stop}
 
--- a pool at its beginning
-abbrev pub opened : ExplorationSeen → ℕ → Seen
-opened e limit = record { exploration = e; limit = limit; standing = opening; events = []; stop = None }
+-- a pool at its beginning with a job
+abbrev pub opened : ExplorationSeen → Job → ℕ → Seen
+opened e start limit = record { exploration = e; start = start; limit = limit; standing = opening start; events = []; stop = None }
 
 -- ---- take
 
@@ -34,7 +34,7 @@ opened e limit = record { exploration = e; limit = limit; standing = opening; ev
 pub record HandsOut (s : Seen) (ticket : TicketSeen) (job : JobSeen) (t : Seen) : Type 0 where
   pub takes : Takes s.standing ticket t.standing
   pub is_job : IsJobOf s.exploration ticket job
-  pub leaves : t ≡ record { exploration = s.exploration; limit = s.limit; standing = t.standing; events = s.events ++ Took ticket.number ∷ []; stop = s.stop }
+  pub leaves : t ≡ record { exploration = s.exploration; start = s.start; limit = s.limit; standing = t.standing; events = s.events ++ Took ticket.number ∷ []; stop = s.stop }
 
 -- no job is open, some are out, and nothing has stopped it
 abbrev pub IsIdle : Seen → Type 0
@@ -81,7 +81,7 @@ stopped_by s (Some stop) = s
 
 -- what a stop for want of memory leaves
 abbrev pub stopped_seen : Seen → Seen
-stopped_seen s = record { exploration = s.exploration; limit = s.limit; standing = stopped_by s.standing s.stop; events = s.events; stop = memory_stop (length s.events) s.stop }
+stopped_seen s = record { exploration = s.exploration; start = s.start; limit = s.limit; standing = stopped_by s.standing s.stop; events = s.events; stop = memory_stop (length s.events) s.stop }
 
 -- ---- give
 
@@ -102,6 +102,7 @@ pub record Accepts (s : Seen) (ticket : TicketSeen) (piece : PieceSeen) (t : See
   pub is_for : IsFor s.exploration ticket piece
   pub leaves : t ≡ record {
     exploration = s.exploration;
+    start = s.start;
     limit = s.limit;
     standing = after_give s.limit s.standing (front ++ back) piece.findings piece.extent (names_of piece.rest);
     events = s.events ++ Gave ticket.number ∷ [];
@@ -131,11 +132,12 @@ HandsBack piece refused.Memory = Unit {0}
 abbrev pub IsDone : Seen → Type 0
 IsDone s = s.stop ≡ None → (s.standing.todo ≡ []) × (s.standing.out ≡ [])
 
--- the pool explores this, within this limit of nodes
-abbrev pub IsOwn : Seen → ExplorationSeen → ℕ → Type 0
-IsOwn s e limit = AreOne s.exploration e × (s.limit ≡ limit)
+-- the pool explores this, began with this job, and has this limit of nodes
+abbrev pub IsOwn : Seen → ExplorationSeen → Job → ℕ → Type 0
+IsOwn s e start limit = AreOne s.exploration e × (s.start ≡ start) × (s.limit ≡ limit)
 
--- what it comes to: all that the tree shows, how many nodes it has, and at how many of them it is cut; or why it stopped, and what was found by then, which is what the visited nodes show
+-- what it comes to: all that the first job shows, how many nodes it has, and at how many of them the tree is cut; or why it stopped, and what was found by then, which is what the visited nodes show
 abbrev pub ComesTo : Seen → Outcome → Type 0
-ComesTo s (Complete findings extent) = (s.stop ≡ None) × (findings ≡ findings_of s.exploration (nodes_of s.exploration root)) × (extent ≡ extent_of s.exploration (nodes_of s.exploration root)) × (extent.nodes ≤ s.limit)
-ComesTo s (Incomplete why findings) = (cause_of s.stop ≡ Some why) × (findings ≡ s.standing.findings) × AreOfJob s.exploration root findings × (why ≡ NodeLimit → s.limit < length (nodes_of s.exploration root)) × VisitsSome s.exploration s.limit why findings
+ComesTo s (Complete findings extent) = (s.stop ≡ None) × (findings ≡ findings_of s.exploration (nodes_of s.exploration s.start)) × (extent ≡ extent_of s.exploration (nodes_of s.exploration s.start)) × (extent.nodes ≤ s.limit)
+ComesTo s (Incomplete why findings) =
+    (cause_of s.stop ≡ Some why) × (findings ≡ s.standing.findings) × AreOfJob s.exploration s.start findings × (why ≡ NodeLimit → s.limit < length (nodes_of s.exploration s.start)) × VisitsSome s.exploration s.start s.limit why findings

@@ -1,7 +1,7 @@
 -- The pool of open jobs as a machine: its states, how one follows another, and which lists of entries are legal.
 use Rattle.std.specs.Prelude.{◌≡◌, ℕ, ◌+◌, List, [], ◌∷◌, ◌++◌, Option, Some, None, if◌then◌else◌, nat_lt, reverse}
 use Rattle.coverage.specs.Findings.{Findings}
-use Rattle.coverage.specs.Jobs.{Job, Node, root}
+use Rattle.coverage.specs.Jobs.{Job, Node}
 use Rattle.findings.specs.Merging.{merged_findings, nothing}
 use Rattle.findings.specs.declared.outcome.Cause.{Cause}
 use Rattle.findings.specs.declared.outcome.Cause.TheVariants.{NodeLimit, Memory}
@@ -26,9 +26,9 @@ pub data Entry : Type 0 where
   Enters : PoolEvent → Entry
   Stops : Entry
 
--- at the beginning the job of the whole tree is open, and nothing was done
-abbrev pub opening : Standing
-opening = record { todo = root ∷ []; out = []; findings = nothing; extent = record { nodes = 0; cut = 0 }; taken = 0; cause = None }
+-- at the beginning one job is open, and nothing was done
+abbrev pub opening : Job → Standing
+opening start = record { todo = start ∷ []; out = []; findings = nothing; extent = record { nodes = 0; cut = 0 }; taken = 0; cause = None }
 
 -- ---- a job is handed out
 
@@ -107,6 +107,6 @@ abbrev pub Leads : ExplorationSeen → ℕ → Standing → List Entry → Stand
 Leads e limit s [] t = t ≡ s
 Leads e limit s (x ∷ xs) t = (m : Standing) × StepsBy e limit s x m × Leads e limit m xs t
 
--- a legal list leads there from the beginning
-abbrev pub IsLegal : ExplorationSeen → ℕ → List Entry → Standing → Type 0
-IsLegal e limit entries s = Leads e limit opening entries s
+-- a legal list leads there from the beginning with this job
+abbrev pub IsLegal : ExplorationSeen → Job → ℕ → List Entry → Standing → Type 0
+IsLegal e start limit entries s = Leads e limit (opening start) entries s

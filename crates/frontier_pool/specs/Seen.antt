@@ -1,6 +1,7 @@
 -- What contracts see of a pool.
 use Rattle.std.specs.Prelude.{ℕ, List, ◌∷◌, ◌++◌, Option, Some, None, take, drop, map, option_map}
 use Rattle.coverage.specs.Findings.{Findings}
+use Rattle.coverage.specs.Jobs.{Job}
 use Rattle.findings.specs.declared.outcome.Cause.{Cause}
 use Rattle.findings.specs.declared.outcome.Cause.TheVariants.{NodeLimit, Memory}
 use Rattle.findings.specs.declared.extent.Extent.{Extent}
@@ -9,9 +10,10 @@ use Rattle.frontier_pool.specs.Machine.{Standing, Entry, Enters, Stops}
 use Rattle.frontier_pool.specs.declared.entry.PoolEvent.{PoolEvent}
 use Rattle.frontier_pool.specs.declared.entry.Stop.{Stop}
 
--- what is explored, how many nodes may be visited, the state of the machine, what happened so far, and the stop, if there is one
+-- what is explored, the job that the pool began with, how many nodes may be visited, the state of the machine, what happened so far, and the stop, if there is one
 pub record Seen : Type 0 where
   pub exploration : ExplorationSeen
+  pub start : Job
   pub limit : ℕ
   pub standing : Standing
   pub events : List PoolEvent
@@ -40,5 +42,5 @@ abbrev pub standing_of : List JobSeen → List TicketSeen → Findings → Exten
 standing_of todo out findings extent taken stop = record { todo = names_of todo; out = out; findings = findings; extent = extent; taken = taken; cause = cause_of stop }
 
 -- and the pool
-abbrev pub seen_of : ExplorationSeen → ℕ → List JobSeen → List TicketSeen → Findings → Extent → ℕ → List PoolEvent → Option Stop → Seen
-seen_of e limit todo out findings extent taken events stop = record { exploration = e; limit = limit; standing = standing_of todo out findings extent taken stop; events = events; stop = stop }
+abbrev pub seen_of : ExplorationSeen → Job → ℕ → List JobSeen → List TicketSeen → Findings → Extent → ℕ → List PoolEvent → Option Stop → Seen
+seen_of e start limit todo out findings extent taken events stop = record { exploration = e; start = start; limit = limit; standing = standing_of todo out findings extent taken stop; events = events; stop = stop }

@@ -34,7 +34,7 @@ pub enum GiveFault<'m> {
     Memory,
 }
 
-/// A pool is not finished: it is of another exploration or another limit, a seat is wanting, or a job is open or out and
-/// nothing stopped it.
+/// A pool is not finished: it is of another exploration, began with another job or has another limit, a seat is wanting, or
+/// a job is open or out and nothing stopped it.
 #[derive(Clone, Copy, Debug, PartialEq, Eq)]
 pub struct StrangePool;

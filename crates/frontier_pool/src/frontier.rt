@@ -1,7 +1,6 @@
 // The jobs that are open and out, and what is done: a pool without its seats.
 ghost use Rattle.std.specs.Prelude.{◌≡◌, ℕ, ◌+◌, ◌^◌, ◌<◌, ◌≤◌, true, false, length, [], None, IfOk, IfErr, OnOk, OnErr};
 ghost use Rattle.frontier_pool.specs.Calls.{Accepts, ComesTo, IsDone, IsIdle, IsOwn, RefusesTo, TakesTo, opened, stop_after, stopped_seen};
-ghost use Rattle.sleep_jobs.specs.Explorations.{explored_by};
 ghost use Rattle.frontier_pool.specs.Machine.{IsLegal};
 ghost use Rattle.frontier_pool.specs.Seen.{listed};
 ghost use Rattle.frontier_pool.specs.Sums.{AddsUp, SumsUp};
@@ -10,18 +9,19 @@ use crate::answer::{GiveFault, StrangePool, Taken};
 use crate::entry::{PoolEvent, Stop};
 use crate::numbered::place_of;
 use crate::room::{put, take_in};
-use crate::sameness::{are_one, is_for};
-use core_tree::Module;
+use crate::sameness::{is_for, is_start};
 use findings::{Cause, Extent, Findings, Options, Outcome};
-use sleep_jobs::{Exploration, Job, Piece, Ticket};
+use sleep_jobs::{Exploration, Job, JobName, Piece, Ticket};
 use std::alloc::{AllocError, Global};
 use std::marker::Model;
 
-/// The jobs that are open and those that are out, what the others show, how many nodes they have and at how many of them
-/// the tree is cut, and how it came about. Contracts see it as a state of the machine, which a legal list leads to.
+/// What the job is called that it began with, the jobs that are open and those that are out, what the others show, how many
+/// nodes they have and at how many of them the tree is cut, and how it came about. Contracts see it as a state of the
+/// machine, which a legal list leads to.
 #[derive(Drop)]
 pub struct Frontier<'m> {
     exploration: Exploration<'m>,
+    start: JobName,
     limit: u64,
     todo: Vec<Job<'m>>,
     out: Vec<Ticket>,
@@ -43,9 +43,9 @@ impl<'m> Model for Frontier<'m> {
 
     ghost coded = { coded_seen };
 
-    ghost view = { λ f. seen_of (exploration_in f.exploration) f.limit f.todo.items f.out.items f.findings (record { nodes = f.nodes; cut = f.cut }) f.taken f.events.items f.stop };
+    ghost view = { λ f. seen_of (exploration_in f.exploration) f.start f.limit f.todo.items f.out.items f.findings (record { nodes = f.nodes; cut = f.cut }) f.taken f.events.items f.stop };
 
-    ghost invariant = { λ f. IsFrontier (exploration_in f.exploration) f.limit f.todo.items f.out.items f.findings (record { nodes = f.nodes; cut = f.cut }) f.taken f.events.items f.stop };
+    ghost invariant = { λ f. IsFrontier (exploration_in f.exploration) f.start f.limit f.todo.items f.out.items f.findings (record { nodes = f.nodes; cut = f.cut }) f.taken f.events.items f.stop };
 }
 
 /// The ticket of a job under a number, for whom takes it and for the pool. `AllocError` if there is no memory for them.
@@ -97,27 +97,24 @@ fn limited(stop: Option<Stop>, limit: u64, nodes: u128, place: usize) -> Option<
 }
 
 impl<'m> Frontier<'m> {
-    /// The job of the whole tree is open, and nothing was done.
+    /// This job is open, and nothing was done. Of the options only the limit of nodes counts.
     ///
     /// # Errors
     ///
     /// `AllocError` if there is no memory.
-    pub fn open(
-        alloc: Global,
-        program: &'m Module,
-        options: &Options,
-    ) -> Result<Frontier<'m>, AllocError>
-        ensures { IfOk result (λ frontier. frontier ≡ opened (explored_by program.now options.now) options.now.nodes) }
+    pub fn open(alloc: Global, job: Job<'m>, options: &Options) -> Result<Frontier<'m>, AllocError>
+        ensures { IfOk result (λ frontier. frontier ≡ opened job.entry.exploration job.entry.name options.now.nodes) }
     {
-        let exploration = Exploration::of(program, options);
-        let root = Job::root(alloc, program, options);
+        let exploration = job.exploration();
+        let start = job.name().copy(alloc)?;
         let mut todo = Vec::new(alloc);
-        todo.push(root)?;
+        todo.push(job)?;
         let out = Vec::new(alloc);
         let findings = Findings::new(alloc);
         let events = Vec::new(alloc);
         Ok(Frontier {
             exploration,
+            start,
             limit: options.nodes,
             todo,
             out,
@@ -226,18 +223,18 @@ impl<'m> Frontier<'m> {
         self.events.len()
     }
 
-    /// What it came to, if it explores this module as the options ask, and is finished or stopped. It takes no memory.
+    /// What it came to, if it began with this job and has this limit of nodes, and is finished or stopped. It takes no
+    /// memory.
     ///
     /// # Errors
     ///
     /// `StrangePool` where it does not, or a job is open or out and nothing stopped it.
-    pub fn outcome(self, program: &Module, options: &Options) -> Result<Outcome, StrangePool>
+    pub fn outcome(self, job: &Job<'_>, options: &Options) -> Result<Outcome, StrangePool>
         ensures outcome { IfOk result (λ outcome. ComesTo self.entry outcome) }
-        ensures own { OnOk result (IsOwn self.entry (explored_by program.now options.now) options.now.nodes) }
-        ensures strange { OnErr result (IsOwn self.entry (explored_by program.now options.now) options.now.nodes × IsDone self.entry → ⊥) }
+        ensures own { OnOk result (IsOwn self.entry job.now.exploration job.now.name options.now.nodes) }
+        ensures strange { OnErr result (IsOwn self.entry job.now.exploration job.now.name options.now.nodes × IsDone self.entry → ⊥) }
     {
-        let asked = Exploration::of(program, options);
-        if !(self.limit == options.nodes && are_one(&self.exploration, &asked)) {
+        if !(self.limit == options.nodes && is_start(job, &self.exploration, &self.start)) {
             return Err(StrangePool);
         }
         if let Some(stop) = self.stop {
@@ -262,12 +259,12 @@ impl<'m> Frontier<'m> {
         self.todo.is_empty() && !self.out.is_empty()
     }
 
-    /// Its list is legal and leads to where it stands, and what is done, open and out adds up to the tree. It changes
-    /// nothing.
+    /// Its list is legal and leads to where it stands, and what is done, open and out adds up to the job that it began with.
+    /// It changes nothing.
     pub fn adds_up(&self)
-        ensures legal { IsLegal self.now.exploration self.now.limit (listed self.now.events self.now.stop) self.now.standing }
-        ensures nodes { AddsUp self.now.exploration self.now.limit self.now.standing }
-        ensures sums { SumsUp self.now.exploration self.now.standing }
+        ensures legal { IsLegal self.now.exploration self.now.start self.now.limit (listed self.now.events self.now.stop) self.now.standing }
+        ensures nodes { AddsUp self.now.exploration self.now.start self.now.limit self.now.standing }
+        ensures sums { SumsUp self.now.exploration self.now.start self.now.standing }
     {
         let _taken = self.taken;
     }

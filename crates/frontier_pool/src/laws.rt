@@ -2,7 +2,7 @@
 ghost use Rattle.frontier_pool.specs.Explorations.{OneHasTheSameNodes, OneShowsTheSame};
 ghost use Rattle.frontier_pool.specs.Sums.{LegalAddsUp, LegalSumsUp};
 
-/// Wherever a legal list leads, what is done, open and out adds up to the tree.
+/// Wherever a legal list leads, what is done, open and out adds up to the job at its beginning.
 pub fn legal_lists_add_up()
     ensures nodes { LegalAddsUp }
     ensures sums { LegalSumsUp }

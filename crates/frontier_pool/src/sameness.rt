@@ -8,7 +8,7 @@ ghost use Rattle.frontier_pool.specs.Explorations.{AreOne};
 
 use core_tree::Module;
 use findings::Flags;
-use sleep_jobs::{Exploration, JobName, Piece, Ticket};
+use sleep_jobs::{Exploration, Job, JobName, Piece, Ticket};
 use term_core::Step;
 use term_core::order::steps::compare_schedules;
 
@@ -29,7 +29,7 @@ fn same_flags(a: Flags, b: Flags) -> bool
 }
 
 /// Whether two explorations are one. Modules are compared by value.
-pub(crate) fn are_one(a: &Exploration<'_>, b: &Exploration<'_>) -> bool
+fn are_one(a: &Exploration<'_>, b: &Exploration<'_>) -> bool
     ensures yes { result ≡ true → AreOne (exploration_in a.now) (exploration_in b.now) }
     ensures no { result ≡ false → AreOne (exploration_in a.now) (exploration_in b.now) → ⊥ }
 {
@@ -67,4 +67,12 @@ pub(crate) fn is_for(piece: &Piece<'_>, ticket: &Ticket, exploration: &Explorati
     ensures no { result ≡ false → IsFor (exploration_in exploration.now) ticket.now piece.now → ⊥ }
 {
     is_ticket(piece.ticket(), ticket) && are_one(&piece.exploration(), exploration)
+}
+
+/// Whether a job is the one that a pool of an exploration began with, by its name there.
+pub(crate) fn is_start(job: &Job<'_>, exploration: &Exploration<'_>, start: &JobName) -> bool
+    ensures yes { result ≡ true → AreOne (exploration_in exploration.now) job.now.exploration × (start.now ≡ job.now.name) }
+    ensures no { result ≡ false → AreOne (exploration_in exploration.now) job.now.exploration × (start.now ≡ job.now.name) → ⊥ }
+{
+    same_name(start, job.name()) && are_one(exploration, &job.exploration())
 }

@@ -1,18 +1,16 @@
 // What lies under the lock of a pool.
 ghost use Rattle.std.specs.Prelude.{◌≡◌, ℕ, ◌+◌, ◌≤◌, true, false, [], None, IfOk, IfErr, OnOk, OnErr, length, sum, vec_len};
 ghost use Rattle.frontier_pool.specs.Calls.{Accepts, ComesTo, IsDone, IsIdle, IsOfProgram, IsOwn, RefusesTo, TakesTo, WakesTo, entries_in, opened, stopped_seen};
-ghost use Rattle.sleep_jobs.specs.Explorations.{explored_by};
+ghost use Rattle.sleep_jobs.specs.Explorations.{program_in};
 ghost use Rattle.frontier_pool.specs.Machine.{IsLegal};
 ghost use Rattle.frontier_pool.specs.Seen.{listed};
 ghost use Rattle.frontier_pool.specs.Sums.{AddsUp, SumsUp};
-ghost use Rattle.world_model.specs.Asking.{program_of};
 
 use crate::answer::{GiveFault, StrangePool, Taken, Wake};
 use crate::frontier::Frontier;
 use crate::seat::{PoolName, Seat};
-use core_tree::Module;
 use findings::{Options, Outcome};
-use sleep_jobs::{Piece, Ticket};
+use sleep_jobs::{Job, Piece, Ticket};
 use std::alloc::{AllocError, Global};
 use std::marker::Model;
 use std::sync::ledger::{Blank, Book, Share};
@@ -91,7 +89,8 @@ fn gathered<N: PoolName>(left: Share<N>, seats: Vec<Seat<N>>) -> Share<N>
 }
 
 impl<'m, N: PoolName> PoolState<'m, N> {
-    /// A pool in which the job of the whole tree is open, and one seat for each worker.
+    /// A pool in which this job is open, and one seat for each worker. The job says what is explored; whatever number it has,
+    /// it gets that of a ticket when it is handed out. Of the options the number of workers and the limit of nodes count.
     ///
     /// # Errors
     ///
@@ -99,18 +98,18 @@ impl<'m, N: PoolName> PoolState<'m, N> {
     pub fn open(
         alloc: Global,
         blank: Blank,
-        program: &'m Module,
+        job: Job<'m>,
         options: &Options,
     ) -> Result<(PoolState<'m, N>, Vec<Seat<N>>), AllocError>
         requires name { blank.name ≡ N.name }
         requires parts { blank.parts ≡ N.parts }
         requires seats { (N.seats ≡ N.parts) × (options.now.workers ≡ N.seats) }
-        requires program { program_of program.now ≡ N.program }
-        ensures state { IfOk result (λ r. r.0 ≡ opened (explored_by program.now options.now) options.now.nodes) }
+        requires program { program_in job.exploration ≡ N.program }
+        ensures state { IfOk result (λ r. r.0 ≡ opened job.entry.exploration job.entry.name options.now.nodes) }
         ensures seats { IfOk result (λ r. (vec_len r.1 ≡ options.now.workers) × (sum r.1.items ≡ 0)) }
     {
         let (book, whole) = blank.open::<N>();
-        let frontier = Frontier::open(alloc, program, options)?;
+        let frontier = Frontier::open(alloc, job, options)?;
         let (seats, left) = seats_of(alloc, whole, options.workers)?;
         let state = PoolState {
             frontier,
@@ -185,19 +184,19 @@ impl<'m, N: PoolName> PoolState<'m, N> {
     ///
     /// # Errors
     ///
-    /// `StrangePool` where the pool is of another exploration or another limit, a seat is wanting, or a job is open or
-    /// out and nothing stopped it.
+    /// `StrangePool` where the pool is of another exploration, began with another job or has another limit, a seat is
+    /// wanting, or a job is open or out and nothing stopped it.
     pub fn finish(
         self,
         seats: Vec<Seat<N>>,
-        program: &Module,
+        job: &Job<'_>,
         options: &Options,
     ) -> Result<Outcome, StrangePool>
         requires { N.seats ≡ N.parts }
         ensures counted { OnOk result (length self.entry.events ≡ sum seats.items) }
         ensures outcome { IfOk result (λ outcome. ComesTo self.entry outcome) }
-        ensures own { OnOk result (IsOwn self.entry (explored_by program.now options.now) options.now.nodes) }
-        ensures strange { OnErr result ((vec_len seats ≡ N.seats) × IsOwn self.entry (explored_by program.now options.now) options.now.nodes × IsDone self.entry → ⊥) }
+        ensures own { OnOk result (IsOwn self.entry job.now.exploration job.now.name options.now.nodes) }
+        ensures strange { OnErr result ((vec_len seats ≡ N.seats) × IsOwn self.entry job.now.exploration job.now.name options.now.nodes × IsDone self.entry → ⊥) }
     {
         if seats.len() as u64 != self.seats {
             return Err(StrangePool);
@@ -210,7 +209,7 @@ impl<'m, N: PoolName> PoolState<'m, N> {
         } = self;
         let mut all = gathered(left, seats);
         book.audit(&mut all);
-        frontier.outcome(program, options)
+        frontier.outcome(job, options)
     }
 
     /// Whether a `take` would answer `Idle`. It takes no memory.
@@ -222,11 +221,11 @@ impl<'m, N: PoolName> PoolState<'m, N> {
     }
 
     /// Whenever the lock is free, the list is legal and leads to where the pool stands, and what is done, open and out
-    /// adds up to the tree. It changes nothing.
+    /// adds up to the job that it began with. It changes nothing.
     pub fn adds_up(&self)
-        ensures legal { IsLegal self.now.exploration self.now.limit (listed self.now.events self.now.stop) self.now.standing }
-        ensures nodes { AddsUp self.now.exploration self.now.limit self.now.standing }
-        ensures sums { SumsUp self.now.exploration self.now.standing }
+        ensures legal { IsLegal self.now.exploration self.now.start self.now.limit (listed self.now.events self.now.stop) self.now.standing }
+        ensures nodes { AddsUp self.now.exploration self.now.start self.now.limit self.now.standing }
+        ensures sums { SumsUp self.now.exploration self.now.start self.now.standing }
     {
         self.frontier.adds_up();
     }

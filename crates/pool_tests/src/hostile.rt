@@ -1,4 +1,4 @@
-// What a pool answers to whom it should not trust.
+// What a pool comes to that begins with a job, and what it answers to whom it should not trust.
 ghost use Rattle.std.specs.Prelude.{◌≡◌, ◌≤◌, IfOk};
 ghost use Rattle.sleep_jobs.specs.Explorations.{program_in};
 ghost use Rattle.world_model.specs.Asking.{program_of};
@@ -57,7 +57,21 @@ impl<N: PoolName> Drop for Bench<'_, N> {
 }
 
 impl<'m, N: PoolName> Bench<'m, N> {
-    // A new pool.
+    // A new pool that begins with a job, which says all but the limit of nodes and the number of seats.
+    fn begin(alloc: Global, blank: Blank, job: Job<'m>) -> Result<Bench<'m, N>, Fail>
+        requires name { blank.name ≡ N.name }
+        requires parts { blank.parts ≡ N.parts }
+        requires seats { (N.seats ≡ N.parts) × (N.seats ≡ 1) }
+        requires program { program_in job.exploration ≡ N.program }
+    {
+        let (state, mut seats) = PoolState::<'m, N>::open(alloc, blank, job, &options(0))?;
+        match seats.pop() {
+            Some(seat) => Ok(Bench { state, seat }),
+            None => Err(Fail::from("there is no seat")),
+        }
+    }
+
+    // A new pool of the whole tree.
     fn open(
         alloc: Global,
         blank: Blank,
@@ -69,11 +83,7 @@ impl<'m, N: PoolName> Bench<'m, N> {
         requires seats { (N.seats ≡ N.parts) × (N.seats ≡ 1) }
         requires program { program_of program.now ≡ N.program }
     {
-        let (state, mut seats) = PoolState::<'m, N>::open(alloc, blank, program, &options(depth))?;
-        match seats.pop() {
-            Some(seat) => Ok(Bench { state, seat }),
-            None => Err(Fail::from("there is no seat")),
-        }
+        Bench::<N>::begin(alloc, blank, Job::root(alloc, program, &options(depth)))
     }
 
     // A job is handed out.
@@ -139,7 +149,19 @@ impl<'m, N: PoolName> Bench<'m, N> {
         Ok(matches!(self.state.take(alloc, &mut self.seat)?, Taken::Stopped))
     }
 
-    // The pool ends as the exploration to a depth.
+    // The pool ends as that of a job.
+    fn finish_as(self, alloc: Global, job: &Job<'_>) -> Result<Result<Outcome, StrangePool>, Fail>
+        requires { N.seats ≡ N.parts }
+    {
+        let Bench { state, seat } = self;
+        let mut seats = Vec::new(alloc);
+        if let Err(_) = seats.push(seat) {
+            return Err(Fail::from("there is no memory"));
+        }
+        Ok(state.finish(seats, job, &options(0)))
+    }
+
+    // The pool ends as that of the whole tree to a depth.
     fn finish(
         self,
         alloc: Global,
@@ -148,12 +170,7 @@ impl<'m, N: PoolName> Bench<'m, N> {
     ) -> Result<Result<Outcome, StrangePool>, Fail>
         requires { N.seats ≡ N.parts }
     {
-        let Bench { state, seat } = self;
-        let mut seats = Vec::new(alloc);
-        if let Err(_) = seats.push(seat) {
-            return Err(Fail::from("there is no memory"));
-        }
-        Ok(state.finish(seats, program, &options(depth)))
+        self.finish_as(alloc, &Job::root(alloc, program, &options(depth)))
     }
 
     // Whether the pool ended for want of memory.
@@ -177,6 +194,51 @@ impl<'m, N: PoolName> Bench<'m, N> {
             Ok(Outcome::Complete(_, extent)) => Ok(extent.nodes),
             _ => Err(Fail::from("the pool is not complete")),
         }
+    }
+}
+
+// Two jobs of the pool of the whole tree that are out at the same time: those of the third ticket and of the fourth.
+fn two_jobs<N: PoolName>(
+    alloc: Global,
+    blank: Blank,
+    program: &Module,
+) -> Result<(Job<'_>, Job<'_>), Fail>
+    requires name { blank.name ≡ N.name }
+    requires parts { blank.parts ≡ N.parts }
+    requires seats { (N.seats ≡ N.parts) × (N.seats ≡ 1) }
+    requires program { program_of program.now ≡ N.program }
+{
+    let mut bench = Bench::<N>::open(alloc, blank, program, 5)?;
+    bench.work(alloc, program)?;
+    bench.work(alloc, program)?;
+    let (_, third) = bench.take(alloc)?;
+    let (_, fourth) = bench.take(alloc)?;
+    Ok((third, fourth))
+}
+
+// A pool begins with a job, works to its end, and is finished as that of another.
+fn ends_as<N: PoolName>(
+    alloc: Global,
+    blank: Blank,
+    job: &Job<'_>,
+    other: &Job<'_>,
+) -> Result<Result<Outcome, StrangePool>, Fail>
+    requires name { blank.name ≡ N.name }
+    requires parts { blank.parts ≡ N.parts }
+    requires seats { (N.seats ≡ N.parts) × (N.seats ≡ 1) }
+    requires program { program_in job.now.exploration ≡ N.program }
+{
+    let program = job.exploration().program;
+    let mut bench = Bench::<N>::begin(alloc, blank, job.copy(alloc)?)?;
+    bench.work_out(alloc, program)?;
+    bench.finish_as(alloc, other)
+}
+
+// How many nodes a pool came to that has ended.
+fn nodes_of(ended: Result<Outcome, StrangePool>) -> Result<u64, Fail> {
+    match ended {
+        Ok(Outcome::Complete(_, extent)) => Ok(extent.nodes),
+        _ => Err(Fail::from("the pool is not complete")),
     }
 }
 
@@ -339,6 +401,33 @@ fn gives<N: PoolName>(alloc: Global, blank: Blank, program: &Module) -> Result<b
     }
     bench.accept(&fifth, last)?;
     Ok(bench.nodes(alloc, program)? == 10)
+}
+
+// The third ticket's job is that of the first process's second step, the fourth's that of the second process's first one,
+// below which the first process sleeps. Six of the ten schedules begin with the steps of the one, two with those of the
+// other, by hand. The jobs have the numbers of their tickets, which are other ones in a pool of their own.
+#[test]
+fn a_pool_begins_with_any_job(rt: HostRuntime) -> Result<(), Fail> {
+    let program = read_module(rt.alloc(), TABLES.as_bytes())?;
+    let root = Job::root(rt.alloc(), &program, &options(5));
+    let (third, fourth) = two_jobs::<Brand>(rt.alloc(), Blank::new(1), &program)?;
+    for (job, nodes) in [(&root, 10), (&third, 6), (&fourth, 2)] {
+        let ended = ends_as::<Brand>(rt.alloc(), Blank::new(1), job, job)?;
+        assert_eq!(rt; nodes_of(ended)?, nodes);
+    }
+    Ok(())
+}
+
+#[test]
+fn a_pool_is_finished_as_that_of_its_job(rt: HostRuntime) -> Result<(), Fail> {
+    let program = read_module(rt.alloc(), TABLES.as_bytes())?;
+    let root = Job::root(rt.alloc(), &program, &options(5));
+    let (third, fourth) = two_jobs::<Brand>(rt.alloc(), Blank::new(1), &program)?;
+    for (job, other) in [(&third, &fourth), (&third, &root), (&root, &third)] {
+        let ended = ends_as::<Brand>(rt.alloc(), Blank::new(1), job, other)?;
+        assert!(rt; ended.is_err());
+    }
+    Ok(())
 }
 
 #[test]

@@ -80,7 +80,7 @@ job_send a = view_send _ _ _ _ _ (declared_send (JobInside.the_type a) (search (
 -- ---- the pool
 
 frontier_send : (a : NamedLft) → IsSend (Frontier.the_row a)
-frontier_send a = view_send _ _ _ _ _ (declared_send (FrontierInside.the_type a) (search (exploration_send, sendable) depth 20, (search sendable, (search (job_send, crosses, maps.crosses, sendable) depth 20, (search (ticket_send, crosses, maps.crosses, sendable) depth 20, (search (findings_send, sendable) depth 20, (search sendable, (search sendable, (search sendable, (search (entry.the_send, crosses, maps.crosses, sendable) depth 20, (search (stop.the_send, sendable) depth 20, tt)))))))))))
+frontier_send a = view_send _ _ _ _ _ (declared_send (FrontierInside.the_type a) (search (exploration_send, sendable) depth 20, (search (job_name_send, sendable) depth 20, (search sendable, (search (job_send, crosses, maps.crosses, sendable) depth 20, (search (ticket_send, crosses, maps.crosses, sendable) depth 20, (search (findings_send, sendable) depth 20, (search sendable, (search sendable, (search sendable, (search (entry.the_send, crosses, maps.crosses, sendable) depth 20, (search (stop.the_send, sendable) depth 20, tt))))))))))))
 
 module _ (N : RattleType) (g : PoolName.Ghosts N.Denot) (l : Ledger.Ghosts N.Denot) where
   pool_state_send : (a : NamedLft) → IsSend (PoolState.the_row a N g l)

@@ -3,15 +3,26 @@ use Rattle.std.specs.Prelude.{◌≡◌, ◌≤◌, ◌<◌, ◌↔◌, ℕ, Boo
 use Rattle.world_model.specs.Names.{IsAmong}
 use Rattle.world_model.specs.Shown.{Identity, is_error, is_refusal}
 use Rattle.coverage.specs.Findings.{Finding, Findings, IsFound, findings_of}
-use Rattle.coverage.specs.Jobs.{node_count, root}
+use Rattle.coverage.specs.Jobs.{Job, node_count, root}
 use Rattle.coverage.specs.Shown.{IsShown, RunShows}
 use Rattle.findings.specs.declared.extent.Extent.{Extent}
 use Rattle.findings.specs.declared.outcome.Cause.TheVariants.{NodeLimit, Memory}
 use Rattle.findings.specs.declared.outcome.Outcome.{Outcome}
 use Rattle.findings.specs.declared.outcome.Outcome.TheVariants.{Complete, Incomplete}
 use Rattle.frontier_pool.specs.Sums.{VisitsSome}
-use Rattle.sleep_jobs.specs.Explorations.{ExplorationSeen, program_in}
+use Rattle.sleep_jobs.specs.Explorations as jobs
+use Rattle.sleep_jobs.specs.Explorations.{ExplorationSeen, nodes_of, program_in}
+use Rattle.sleep_jobs.specs.Meanings.{AreOfJob}
+use Rattle.sleep_jobs.specs.Pieces.{extent_of}
 use Rattle.tree_cuts.specs.Cuts.{IsEverShown, cuts_of}
+
+-- a search of a job within a limit of nodes: complete, it found what the nodes of the job show, and counted them, which the limit allows, and those at which the tree is cut; it stopped at the limit only where the nodes are more, and what it lists then, or where memory was wanting, is what the visited nodes show, each with the schedule of a node of the job
+abbrev pub IsOutcomeOf : ExplorationSeen → Job → ℕ → Outcome → Type 0
+IsOutcomeOf e name limit (Complete findings extent) = (findings ≡ jobs.findings_of e (nodes_of e name)) × (extent ≡ extent_of e (nodes_of e name)) × (extent.nodes ≤ limit)
+IsOutcomeOf e name limit (Incomplete NodeLimit findings) = (limit < length (nodes_of e name)) × AreOfJob e name findings × VisitsSome e name limit NodeLimit findings
+IsOutcomeOf e name limit (Incomplete Memory findings) = AreOfJob e name findings × VisitsSome e name limit Memory findings
+
+-- ---- of the whole tree
 
 -- what all nodes of the tree show, how many they are, and at how many of them it is cut
 abbrev pub all_findings : ExplorationSeen → Findings
@@ -30,11 +41,11 @@ AreShown is_of_kind e found = (f : Finding) → IsAmong f found → (is_of_kind 
 abbrev pub AllAreShown : ExplorationSeen → Findings → Type 0
 AllAreShown e findings = AreShown (is_error e.flags) e findings.errors × AreShown is_refusal e findings.refusals
 
--- a search within a limit of nodes: complete, it found what the nodes show, and counted them, which the limit allows, and those at which the tree is cut; it stopped at the limit only where the nodes are more, and what it lists then, or where memory was wanting, is what the visited nodes show
+-- a search of the tree within a limit of nodes: complete, it found what the nodes show, and counted them, which the limit allows, and those at which the tree is cut; it stopped at the limit only where the nodes are more, and what it lists then, or where memory was wanting, is what the visited nodes show
 abbrev pub IsOutcome : ExplorationSeen → ℕ → Outcome → Type 0
 IsOutcome e limit (Complete findings extent) = (findings ≡ all_findings e) × (extent ≡ whole_extent e) × (extent.nodes ≤ limit)
-IsOutcome e limit (Incomplete NodeLimit findings) = (limit < all_nodes e) × AllAreShown e findings × VisitsSome e limit NodeLimit findings
-IsOutcome e limit (Incomplete Memory findings) = AllAreShown e findings × VisitsSome e limit Memory findings
+IsOutcome e limit (Incomplete NodeLimit findings) = (limit < all_nodes e) × AllAreShown e findings × VisitsSome e root limit NodeLimit findings
+IsOutcome e limit (Incomplete Memory findings) = AllAreShown e findings × VisitsSome e root limit Memory findings
 
 -- an error is listed exactly where some schedule shows it of at most so many steps, and a refusal
 pub record IsListedOf (e : ExplorationSeen) (findings : Findings) (i : Identity) : Type 0 where

@@ -1,8 +1,9 @@
 // A search by several workers.
 ghost use Rattle.std.specs.Prelude.{◌≡◌, ◌+◌, ◌<◌, ◌≤◌, IfOk, vec_len, vec_capacity};
 ghost use Rattle.std.specs.Thread.{IsSend, IsSync};
-ghost use Rattle.search_crew.specs.Outcomes.{IsExact, IsOutcome, IsWhole};
-ghost use Rattle.sleep_jobs.specs.Explorations.{explored_by};
+ghost use Rattle.coverage.specs.Jobs.{root};
+ghost use Rattle.search_crew.specs.Outcomes.{IsExact, IsOutcome, IsOutcomeOf, IsWhole};
+ghost use Rattle.sleep_jobs.specs.Explorations.{program_in};
 ghost use Rattle.world_model.specs.Asking.{program_of};
 
 use crate::fault::SearchFault;
@@ -11,7 +12,7 @@ use core_tree::Module;
 use findings::{Options, Outcome};
 use frontier_pool::laws::places_do_not_matter;
 use frontier_pool::{Pool, PoolName, PoolState, Seat};
-use sleep_tree::Gate;
+use sleep_tree::{Gate, Job};
 use std::alloc::Global;
 use std::marker::Brand;
 use std::sync::Wait;
@@ -94,7 +95,7 @@ fn searched<N: PoolName + Send + Sync, R: Threads + Wait + Sync, G: Gate + Sync>
     rt: &R,
     alloc: Global,
     blank: Blank,
-    program: &Module,
+    job: &Job<'_>,
     options: &Options,
     gate: &G,
 ) -> Result<Outcome, SearchFault>
@@ -102,35 +103,40 @@ fn searched<N: PoolName + Send + Sync, R: Threads + Wait + Sync, G: Gate + Sync>
     requires parts { blank.parts ≡ N.parts }
     requires seats { (N.seats ≡ N.parts) × (options.now.workers ≡ N.seats) }
     requires budget { 1 ≤ options.now.budget }
-    requires program { program_of program.now ≡ N.program }
-    ensures outcome { IfOk result (λ outcome. IsOutcome (explored_by program.now options.now) options.now.nodes outcome) }
-    ensures exact { IfOk result (λ outcome. IsExact (explored_by program.now options.now) outcome) }
-    ensures whole { IfOk result (λ outcome. IsWhole (explored_by program.now options.now) outcome) }
+    requires program { program_in job.now.exploration ≡ N.program }
+    ensures of_job { IfOk result (λ outcome. IsOutcomeOf job.now.exploration job.now.name options.now.nodes outcome) }
+    ensures outcome { job.now.name ≡ root → IfOk result (λ outcome. IsOutcome job.now.exploration options.now.nodes outcome) }
+    ensures exact { job.now.name ≡ root → IfOk result (λ outcome. IsExact job.now.exploration outcome) }
+    ensures whole { job.now.name ≡ root → IfOk result (λ outcome. IsWhole job.now.exploration outcome) }
 {
     places_do_not_matter();
-    let (state, seats) = PoolState::<'_, N>::open(alloc, blank, program, options)?;
+    let program = job.exploration().program;
+    let first = job.copy(alloc)?;
+    let (state, seats) = PoolState::<'_, N>::open(alloc, blank, first, options)?;
     let pool = Pool::new(state);
     let seats = work_together(rt, alloc, &pool, seats, program, options.budget, gate)?;
     let state = pool.into_state();
-    match state.finish(seats, program, options) {
+    match state.finish(seats, job, options) {
         Ok(outcome) => Ok(outcome),
         Err(_) => Err(SearchFault::StrangePool),
     }
 }
 
-/// Visits the nodes of the tree of schedules with sleep sets (Godefroid, "Partial-Order Methods for the Verification of
-/// Concurrent Systems"), each once, by so many workers: what they show, how many they are, and at how many of them the
-/// tree is cut at its depth. Each worker is a thread of its own, and has a module of its own, a copy; it takes a job from
-/// a pool, expands it while no lock is held, and gives back what it found and the jobs that are left. Of its first job it
-/// visits at most as many nodes as the budget says, and of the next ones twice as many from job to job, up to 64 times as
-/// many, until a worker waits for work: then it begins again. The gate is told of each node before it is visited, and of
-/// each job after its piece was accepted; jobs are numbered from 1.
+/// Visits the nodes of a job of the tree of schedules with sleep sets (Godefroid, "Partial-Order Methods for the
+/// Verification of Concurrent Systems"), each once, by so many workers: what they show, how many they are, and at how many
+/// of them the tree is cut at its depth. What is explored, to which depth and under which flags, the job says; of the
+/// options only the limit of nodes, the budget and the number of workers count. The nodes of the job `root` are those of
+/// the whole tree. Each worker is a thread of its own, and has a module of its own, a copy; it takes a job from a pool,
+/// expands it while no lock is held, and gives back what it found and the jobs that are left. Of its first job it visits at
+/// most as many nodes as the budget says, and of the next ones twice as many from job to job, up to 64 times as many, until
+/// a worker waits for work: then it begins again. The gate is told of each node before it is visited, and of each job after
+/// its piece was accepted; jobs are numbered from 1.
 ///
-/// It is `Complete` where all nodes were visited, which are at most as many as may be; where the tree is cut at none of
-/// them, it tells of all schedules, of whatever length. It is `Incomplete` for `NodeLimit` only where they are more, and
-/// for `Memory` where there was none: then each finding is shown by its schedule. How many workers there are, and how
-/// many nodes of a job one visits before it gives the job back, change nothing of a complete search. It returns when all
-/// workers have ended.
+/// It is `Complete` where all nodes of the job were visited, which are at most as many as may be; where these are those of
+/// the whole tree, which is cut at none of them, it tells of all schedules, of whatever length. It is `Incomplete` for
+/// `NodeLimit` only where they are more, and for `Memory` where there was none: then each finding is shown by its schedule.
+/// How many workers there are, and how many nodes of a job one visits before it gives the job back, change nothing of a
+/// complete search. It returns when all workers have ended.
 ///
 /// # Errors
 ///
@@ -139,21 +145,15 @@ fn searched<N: PoolName + Send + Sync, R: Threads + Wait + Sync, G: Gate + Sync>
 pub fn search<R: Threads + Wait + Sync, G: Gate + Sync>(
     rt: &R,
     alloc: Global,
-    program: &Module,
+    job: &Job<'_>,
     options: &Options,
     gate: &G,
 ) -> Result<Outcome, SearchFault>
     requires some { 1 ≤ options.now.budget }
-    ensures outcome { IfOk result (λ outcome. IsOutcome (explored_by program.now options.now) options.now.nodes outcome) }
-    ensures exact { IfOk result (λ outcome. IsExact (explored_by program.now options.now) outcome) }
-    ensures whole { IfOk result (λ outcome. IsWhole (explored_by program.now options.now) outcome) }
+    ensures of_job { IfOk result (λ outcome. IsOutcomeOf job.now.exploration job.now.name options.now.nodes outcome) }
+    ensures outcome { job.now.name ≡ root → IfOk result (λ outcome. IsOutcome job.now.exploration options.now.nodes outcome) }
+    ensures exact { job.now.name ≡ root → IfOk result (λ outcome. IsExact job.now.exploration outcome) }
+    ensures whole { job.now.name ≡ root → IfOk result (λ outcome. IsWhole job.now.exploration outcome) }
 {
-    searched::<Brand, R, G>(
-        rt,
-        alloc,
-        Blank::new(options.workers),
-        program,
-        options,
-        gate,
-    )
+    searched::<Brand, R, G>(rt, alloc, Blank::new(options.workers), job, options, gate)
 }

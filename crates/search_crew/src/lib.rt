@@ -8,4 +8,4 @@ mod worker;
 
 pub use crew::search;
 pub use fault::SearchFault;
-pub use sleep_tree::{Gate, Unwatched};
+pub use sleep_tree::{Gate, Job, Unwatched};

@@ -6,7 +6,7 @@ use core_reader::{Module, read_module};
 use excuses::Excuses;
 use findings::{Extent, Flags, Options, Outcome};
 use report_text::write_report;
-use search_crew::{Gate, Unwatched, search};
+use search_crew::{Gate, Job, SearchFault, Unwatched, search};
 use std::alloc::Global;
 use std::sync::Wait;
 use std::sync::atomic::{AtomicU64, Ordering};
@@ -38,6 +38,25 @@ pub(crate) fn text_of(alloc: Global, depth: u64, outcome: &Outcome) -> Result<Ve
     Ok(sink.writer)
 }
 
+/// What the search of the whole tree comes to.
+pub(crate) fn searched<T: Threads + Wait + Sync, G: Gate + Sync>(
+    rt: &T,
+    alloc: Global,
+    program: &Module,
+    options: &Options,
+    gate: &G,
+) -> Result<Outcome, SearchFault>
+    requires { 1 ≤ options.now.budget }
+{
+    search(
+        rt,
+        alloc,
+        &Job::root(alloc, program, options),
+        options,
+        gate,
+    )
+}
+
 // The report with a budget.
 fn reported<T: Threads + Wait + Sync>(
     rt: &T,
@@ -48,7 +67,7 @@ fn reported<T: Threads + Wait + Sync>(
 ) -> Result<Vec<u8>, Fail>
     requires { 1 ≤ budget }
 {
-    let Ok(outcome) = search(rt, alloc, program, &options(depth, budget), &Unwatched) else {
+    let Ok(outcome) = searched(rt, alloc, program, &options(depth, budget), &Unwatched) else {
         return Err(Fail::from("the search was not begun"));
     };
     let text = text_of(alloc, depth, &outcome)?;
@@ -97,7 +116,7 @@ fn counted<T: Threads + Wait + Sync>(
 ) -> Result<Extent, Fail>
     requires { 1 ≤ budget }
 {
-    match search(rt, alloc, program, &options(depth, budget), &Unwatched) {
+    match searched(rt, alloc, program, &options(depth, budget), &Unwatched) {
         Ok(Outcome::Complete(found, extent)) => {
             if found.errors().len() == 0 && found.refusals().len() == 0 {
                 return Ok(extent);
@@ -155,7 +174,7 @@ fn pieces_of<T: Threads + Wait + Sync>(
     let gate = Pieces {
         given: AtomicU64::new(0),
     };
-    match search(rt, alloc, program, &options(40, budget), &gate) {
+    match searched(rt, alloc, program, &options(40, budget), &gate) {
         Ok(Outcome::Complete(_, Extent { nodes: 22, cut: 0 })) => Ok(
             gate.given.load(Ordering::SeqCst),
         ),

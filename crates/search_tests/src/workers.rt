@@ -1,11 +1,11 @@
 // Searches by several workers: they are at work at the same time, and change nothing of the report.
 ghost use Rattle.std.specs.Prelude.{◌≡◌, ◌≤◌};
 
-use crate::budgets::text_of;
+use crate::budgets::{searched, text_of};
 use crate::modules::{DEEP, INSERTS, MAKERS, MESSAGES, MIXED, STRANGER};
 use core_reader::{Module, read_module};
 use findings::{Extent, Flags, Options, Outcome};
-use search_crew::{Gate, SearchFault, Unwatched, search};
+use search_crew::{Gate, SearchFault, Unwatched};
 use std::alloc::Global;
 use std::sync::Wait;
 use std::sync::atomic::{AtomicU64, Ordering};
@@ -14,8 +14,8 @@ use std::thread;
 use std::thread::Threads;
 use test_support::{holds, same};
 
-// What is explored by so many workers.
-fn options(depth: u64, budget: u64, workers: u64) -> Options
+/// What is explored by so many workers.
+pub(crate) fn options(depth: u64, budget: u64, workers: u64) -> Options
     ensures budget { result.budget ≡ budget }
     ensures workers { result.workers ≡ workers }
 {
@@ -75,7 +75,7 @@ impl Gate for Meeting {
 fn met_by<T: Threads + Wait + Sync>(rt: &T, alloc: Global, workers: u64) -> Result<u64, Fail> {
     let program = read_module(alloc, MAKERS.as_bytes())?;
     let gate = Meeting::new();
-    match search(rt, alloc, &program, &options(5, 1, workers), &gate) {
+    match searched(rt, alloc, &program, &options(5, 1, workers), &gate) {
         Ok(Outcome::Complete(_, Extent { nodes: 10, cut: 0 })) => Ok(
             gate.met.load(Ordering::SeqCst),
         ),
@@ -103,7 +103,7 @@ fn reported<T: Threads + Wait + Sync>(
     depth: u64,
     workers: u64,
 ) -> Result<Vec<u8>, Fail> {
-    let Ok(outcome) = search(rt, alloc, program, &options(depth, 4, workers), &Unwatched) else {
+    let Ok(outcome) = searched(rt, alloc, program, &options(depth, 4, workers), &Unwatched) else {
         return Err(Fail::from("the search has no outcome"));
     };
     let text = text_of(alloc, depth, &outcome)?;
@@ -148,7 +148,7 @@ fn workers_change_nothing(rt: HostRuntime) -> Result<(), Fail> {
 #[test]
 fn no_worker_is_no_search(rt: HostRuntime) -> Result<(), Fail> {
     let program = read_module(rt.alloc(), MAKERS.as_bytes())?;
-    let outcome = search(&rt, rt.alloc(), &program, &options(5, 1, 0), &Unwatched);
+    let outcome = searched(&rt, rt.alloc(), &program, &options(5, 1, 0), &Unwatched);
     holds(
         matches!(outcome, Err(SearchFault::StrangePool)),
         "nobody was there",

@@ -46,11 +46,11 @@ coded_standing =
     (λ _. refl)
 
 abbrev SeenParts : Type 0
-SeenParts = ExplorationSeen × (ℕ × (Standing × (List PoolEvent × Option Stop)))
+SeenParts = ExplorationSeen × (Job × (ℕ × (Standing × (List PoolEvent × Option Stop))))
 
 abbrev pub coded_seen : Coded Seen
 coded_seen =
-    code_by SeenParts (coded× coded_exploration (coded× coded_ℕ (coded× coded_standing (coded× (coded_list coded_event) (coded_option coded_stop)))))
-    (λ s. (s.exploration, (s.limit, (s.standing, (s.events, s.stop)))))
-    (λ p. record { exploration = p.0; limit = p.1.0; standing = p.1.1.0; events = p.1.1.1.0; stop = p.1.1.1.1 })
+    code_by SeenParts (coded× coded_exploration (coded× coded_name (coded× coded_ℕ (coded× coded_standing (coded× (coded_list coded_event) (coded_option coded_stop))))))
+    (λ s. (s.exploration, (s.start, (s.limit, (s.standing, (s.events, s.stop))))))
+    (λ p. record { exploration = p.0; start = p.1.0; limit = p.1.1.0; standing = p.1.1.1.0; events = p.1.1.1.1.0; stop = p.1.1.1.1.1 })
     (λ _. refl)

@@ -1,6 +1,7 @@
 -- What holds of the fields of a pool.
 use Rattle.std.specs.Prelude.{ℕ, ◌*◌, ◌^◌, ◌<◌, ◌≤◌, List, Option, Some, None, length, slice_index_or}
 use Rattle.coverage.specs.Findings.{Findings}
+use Rattle.coverage.specs.Jobs.{Job}
 use Rattle.findings.specs.declared.extent.Extent.{Extent}
 use Rattle.sleep_jobs.specs.Explorations.{ExplorationSeen, JobSeen, TicketSeen}
 use Rattle.frontier_pool.specs.Explorations.{AreJobsOf}
@@ -23,8 +24,8 @@ abbrev pub AreAtMost : ℕ → List TicketSeen → Type 0
 AreAtMost taken out = (i : ℕ) (d : TicketSeen) → i < length out → (slice_index_or out i d).number ≤ taken
 
 -- the list is legal and leads there; each open job is of the exploration; the tickets that are out stand in their order; and the counts fit
-pub record IsFrontier (e : ExplorationSeen) (limit : ℕ) (todo : List JobSeen) (out : List TicketSeen) (findings : Findings) (extent : Extent) (taken : ℕ) (events : List PoolEvent) (stop : Option Stop) : Type 0 where
-  pub legal : IsLegal e limit (listed events stop) (standing_of todo out findings extent taken stop)
+pub record IsFrontier (e : ExplorationSeen) (start : Job) (limit : ℕ) (todo : List JobSeen) (out : List TicketSeen) (findings : Findings) (extent : Extent) (taken : ℕ) (events : List PoolEvent) (stop : Option Stop) : Type 0 where
+  pub legal : IsLegal e start limit (listed events stop) (standing_of todo out findings extent taken stop)
   pub placed : IsPlaced events stop
   pub carried : AreJobsOf e todo
   pub rising : AreRising out

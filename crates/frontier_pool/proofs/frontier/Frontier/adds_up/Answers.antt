@@ -12,7 +12,7 @@ pub returns-clause-nodes : goal.returns-clause-nodes
 returns-clause-nodes c =
     let f = c.self.inside in
     let x : Extent = record { nodes = f.nodes; cut = f.cut } in
-    rw (← c.self.view_is) (adds_up (exploration_in f.exploration) f.limit f.todo.items f.out.items f.findings x f.taken f.events.items f.stop c.self.invariant)
+    rw (← c.self.view_is) (adds_up (exploration_in f.exploration) f.start f.limit f.todo.items f.out.items f.findings x f.taken f.events.items f.stop c.self.invariant)
 
 pub returns-clause-sums : goal.returns-clause-sums
 returns-clause-sums c =
@@ -20,4 +20,4 @@ returns-clause-sums c =
     let x : Extent = record { nodes = f.nodes; cut = f.cut } in
     let e = exploration_in f.exploration in
     let s = standing_of f.todo.items f.out.items f.findings x f.taken f.stop in
-    rw (← c.self.view_is) (sums_up e f.limit s (adds_up e f.limit f.todo.items f.out.items f.findings x f.taken f.events.items f.stop c.self.invariant))
+    rw (← c.self.view_is) (sums_up e f.start f.limit s (adds_up e f.start f.limit f.todo.items f.out.items f.findings x f.taken f.events.items f.stop c.self.invariant))

@@ -13,7 +13,7 @@ pub overflow_add-self-2 : goal.overflow_add-self-2
 overflow_add-self-2 c =
     let f = c.self.inside in
     let x : Extent = record { nodes = f.nodes; cut = f.cut } in
-    let fewer : f.cut ≤ f.nodes = fewer_cuts (exploration_in f.exploration) f.limit f.todo.items f.out.items f.findings x f.taken f.events.items f.stop c.self.invariant in
+    let fewer : f.cut ≤ f.nodes = fewer_cuts (exploration_in f.exploration) f.start f.limit f.todo.items f.out.items f.findings x f.taken f.events.items f.stop c.self.invariant in
     grind (arith, fewer, c.self.invariant.bounded, c.widened-cut.ensures.small)
 
 pub invariant_of-self-2 : goal.invariant_of-self-2
@@ -40,7 +40,7 @@ invariant_of-self-2 c =
     c.put.ensures.items ∙ ap (λ (l : List PoolEvent). l ++ Gave c.ticket.inside.number ∷ []) taken.ensures.events ∙ ap (λ (t : TicketSeen). f.events.items ++ Gave t.number ∷ []) c.ticket.view_is in
     let place : c.len.result ≡ length f.events.items + 1 = omega (arith, ap length is_events, length-append f.events.items (Gave ticket.number ∷ [])) in
     let small : piece.extent.nodes ≤ 2 ^ 64 = omega (arith, nodes, c.widened-visited.ensures.small) in
-    give_kept (exploration_in f.exploration) f.limit f.todo.items _ f.out.items _ f.findings _ x _ f.taken f.events.items _ f.stop _
+    give_kept (exploration_in f.exploration) f.start f.limit f.todo.items _ f.out.items _ f.findings _ x _ f.taken f.events.items _ f.stop _
     at ticket piece c.len.result
     lt is same.0 same.1 is_todo c.remove.ensures.items is_found is_extent is_events place c.limited-self-inside.ensures
     c.into_parts-more.ensures.piece small c.self.invariant
@@ -69,6 +69,6 @@ returns-clause-given c =
     c.put.ensures.items ∙ ap (λ (l : List PoolEvent). l ++ Gave c.ticket.inside.number ∷ []) taken.ensures.events ∙ ap (λ (t : TicketSeen). f.events.items ++ Gave t.number ∷ []) c.ticket.view_is in
     let place : c.len.result ≡ length f.events.items + 1 = omega (arith, ap length is_events, length-append f.events.items (Gave ticket.number ∷ [])) in
     rw (← c.self.view_is)
-    (give_done (exploration_in f.exploration) f.limit f.todo.items _ f.out.items _ f.findings _ x _ f.taken f.events.items _ f.stop _
+    (give_done (exploration_in f.exploration) f.start f.limit f.todo.items _ f.out.items _ f.findings _ x _ f.taken f.events.items _ f.stop _
     at ticket piece c.len.result
     lt is same.0 same.1 is_todo c.remove.ensures.items is_found is_extent is_events place c.limited-self-inside.ensures)

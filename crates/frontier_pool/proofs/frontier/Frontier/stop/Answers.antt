@@ -9,4 +9,4 @@ invariant_of-self c =
     let f = c.self.inside in
     let x : Extent = record { nodes = f.nodes; cut = f.cut } in
     let place : c.len.result ≡ length f.events.items = omega arith in
-    stop_kept (exploration_in f.exploration) f.limit f.todo.items f.out.items f.findings x f.taken f.events.items f.stop _ c.in-None.is place c.self.invariant
+    stop_kept (exploration_in f.exploration) f.start f.limit f.todo.items f.out.items f.findings x f.taken f.events.items f.stop _ c.in-None.is place c.self.invariant
