@@ -8,9 +8,9 @@ use Rattle.clap.specs.Words.{Row, Text, fault_of, one_of, subcommand_of}
 use Rattle.clap.specs.declared.parser.matches.ValueSource.TheVariants.{CommandLine, DefaultValue}
 use Rattle.findings.specs.declared.flags.Flags.{Flags}
 use Rattle.command_words.specs.Words.{Given, depths_of, is_allow_deadlock, is_strict_access, words_of_all}
-use Rattle.command_words.specs.inside.CommandLine.{Level, checking, command_line, exploring, name_of}
+use Rattle.command_words.specs.inside.CommandLine.{Level, checking, command_line, exploring, listing, name_of}
 use Rattle.command_words.specs.inside.Found.{AreFlagsOf, ReadsFlag, ReadsNumber, schedule_in}
-use Rattle.command_words.proofs.Levels.{level_passes, line_enters, line_passes, rows_left}
+use Rattle.command_words.proofs.Levels.{HasPlace, level_passes, line_enters, line_passes, rows_left}
 use Rattle.command_words.proofs.Numbers.{decimal_is_number, decimal_value}
 use Rattle.command_words.proofs.Once.{AreOnce, once_are_new}
 use Rattle.command_words.proofs.Options.{AreLawful}
@@ -25,6 +25,8 @@ pub record IsAsked (level : Level) (words : List Text) (given : List Given) (ste
   pub strict_access : count_by is_strict_access given ≡ cond flags.strict_access 1 0
   pub once : AreOnce given
   pub lawful : AreLawful given level
+  pub place : ℕ
+  pub has_place : HasPlace level given place
   pub in_range : steps ≤ 400
 
 -- the rows of what is given, with the defaults
@@ -36,18 +38,19 @@ module _ (level : Level) (words : List Text) (given : List Given) (steps : ℕ) 
   pub asked_passes : fault_of command_line words ≡ []
   asked_passes =
       ap (fault_of command_line) asks.words_are
-      ∙ line_passes level asks.name (words_of_all given) (level_passes level given steps (once_are_new given asks.once) asks.lawful asks.depth)
+      ∙ line_passes level asks.name (words_of_all given) (level_passes level given steps asks.place (once_are_new given asks.once) asks.lawful asks.depth asks.has_place)
 
   pub asked_enters : subcommand_of command_line words ≡ Some (name_of level, rows_of_given level given)
   asked_enters =
       ap (subcommand_of command_line) asks.words_are ∙ line_enters level asks.name (words_of_all given)
-      ∙ ap (λ (rows : List Row). Some (name_of level, rows)) (rows_left level given steps (once_are_new given asks.once) asks.lawful asks.depth)
+      ∙ ap (λ (rows : List Row). Some (name_of level, rows)) (rows_left level given steps asks.place (once_are_new given asks.once) asks.lawful asks.depth asks.has_place)
 
 -- no schedule is found of them
 pub asked_has_no_schedule : (level : Level) (words : List Text) (given : List Given) (steps : ℕ) (flags : Flags) → IsAsked level words given steps flags
     → schedule_in (subcommand_of command_line words) ≡ None
 asked_has_no_schedule exploring words given steps flags asks = ap schedule_in (asked_enters exploring words given steps flags asks)
 asked_has_no_schedule checking words given steps flags asks = ap schedule_in (asked_enters checking words given steps flags asks)
+asked_has_no_schedule listing words given steps flags asks = ap schedule_in (asked_enters listing words given steps flags asks)
 
 -- ---- the text of a number, as it is read
 

@@ -6,16 +6,26 @@ use Rattle.std.proofs.lemmas.Slice.Eq.{bytes_eq-Decides}
 use Rattle.clap.specs.Words.{Row, Text, fault_of, one_of, subcommand_of}
 use Rattle.findings.specs.declared.flags.Flags.{Flags}
 use Rattle.findings.specs.declared.options.Options.{Options}
+use Rattle.command_words.specs.declared.command_line.Listing.{Listing}
 use Rattle.command_words.specs.declared.words.Printed.{Printed}
 use Rattle.command_words.specs.Words.{AreWordsOfCheck, Given}
 use Rattle.command_words.specs.inside.CommandLine.{checking, command_line}
-use Rattle.command_words.specs.inside.Found.{AreOptionsOf, IsCheckIn, IsCheckOf, schedule_in}
+use Rattle.command_words.specs.inside.Found.{AreJobsOf, AreOptionsOf, IsCheckIn, IsCheckOf, schedule_in}
 use Rattle.command_words.proofs.Asked.{IsAsked, asked_enters, asked_has_no_schedule, asked_passes, at_most_once, depth_is_read, depth_read, flags_read, rows_of_given}
 use Rattle.command_words.proofs.Entered.{entered_rows, number_fits}
-use Rattle.command_words.proofs.Once.{Each, check_lawful_by}
+use Rattle.command_words.proofs.Once.{AreOfNoExploration, Each, check_lawful_by}
 use Rattle.command_words.proofs.Ranges.{depth_fits}
 
 module _ (words : List Text) (given : List Given) (steps : ℕ) (flags : Flags) (says : AreWordsOfCheck words given steps flags) where
+  none : AreOfNoExploration given
+  none = record {
+    nodes = omega (arith, ap length says.no_nodes);
+    workers = omega (arith, ap length says.no_workers);
+    explain = omega (arith, says.no_explain);
+    cover = omega (arith, says.no_cover);
+    jobs = omega (arith, ap length says.no_job);
+  }
+
   -- the options of a check, each once, but for `--normal`, and in its range
   asked : IsAsked checking words given steps flags
   asked = record {
@@ -33,9 +43,12 @@ module _ (words : List Text) (given : List Given) (steps : ℕ) (flags : Flags) 
       strict_access = at_most_once _ flags.strict_access says.strict_access;
       explain = omega (arith, says.no_explain);
       cover = omega (arith, says.no_cover);
+      ats = omega (arith, ap length says.no_at);
+      jobs = omega (arith, ap length says.no_job);
     };
-    lawful = check_lawful_by given (subst (Each (λ n. n ≤ 400)) (sym says.depth) (says.in_range, tt)) (omega (arith, ap length says.no_nodes)) (omega (arith, ap length says.no_workers))
-        (omega (arith, says.no_explain)) (omega (arith, says.no_cover)) says.normal;
+    lawful = check_lawful_by given (subst (Each (λ n. n ≤ 400)) (sym says.depth) (says.in_range, tt)) (omega (arith, ap length says.no_at)) none says.normal;
+    place = 0;
+    has_place = tt;
     in_range = says.in_range;
   }
 
@@ -54,6 +67,12 @@ module _ (words : List Text) (given : List Given) (steps : ℕ) (flags : Flags) 
   pub check_has_no_options : (read : Options × Printed) → AreOptionsOf (subcommand_of command_line words) (Some read) → ⊥
   check_has_no_options read found =
       let none : Some read ≡ None = subst (λ o. AreOptionsOf o (Some read)) check_enters found in
+      cc
+
+  -- and no jobs
+  pub check_has_no_jobs : (read : Listing) → AreJobsOf (subcommand_of command_line words) (Some read) → ⊥
+  check_has_no_jobs read found =
+      let none : Some read ≡ None = subst (λ o. AreJobsOf o (Some read)) check_enters found in
       cc
 
   -- the depth and the flags that are found are those that the words ask for

@@ -1,22 +1,23 @@
 -- What the program makes of the words of an exploration.
 use Rattle.std.proofs.Common.{◌≡◌, ◌∙◌, ◌⊎◌, ℕ, ◌≤◌, Bool, true, false, List, [], ◌∷◌, length, Option, Some, None, codes, option_map, refl, sym, ap, subst, inl, inr, arith}
 use Rattle.std.specs.Fmt.{decimal, digits}
-use Rattle.std.specs.Prelude.{MatchBool, slice_get}
+use Rattle.std.specs.Prelude.{MatchBool, option_and_then, slice_get}
 use Rattle.std.specs.Str.{bytes_eq}
 use Rattle.std.proofs.lemmas.Slice.Eq.{bytes_eq-Decides}
-use Rattle.clap.specs.Words.{Row, Text, fault_of, one_of, subcommand_of}
+use Rattle.clap.specs.Words.{Row, Text, fault_of, first_of, one_of, subcommand_of}
 use Rattle.clap.specs.declared.parser.matches.ValueSource.TheVariants.{CommandLine, DefaultValue}
 use Rattle.findings.specs.declared.flags.Flags.{Flags}
 use Rattle.findings.specs.declared.options.Options.{Options}
+use Rattle.command_words.specs.declared.command_line.Listing.{Listing}
 use Rattle.command_words.specs.declared.words.Printed.{Printed}
-use Rattle.command_words.specs.Words.{AreInRange, AreWordsOfExplore, Given, IsGivenOr, is_cover, is_explain, nodes_of, workers_of}
+use Rattle.command_words.specs.Words.{AreInRange, AreWordsOfExplore, Given, IsGivenOr, is_cover, is_explain, job, jobs_of, nodes_of, workers_of}
 use Rattle.command_words.specs.inside.CommandLine.{command_line, exploring}
-use Rattle.command_words.specs.inside.Found.{AreOptionsIn, AreOptionsOf, AreRead, IsCheckOf, ReadsNumber, schedule_in}
+use Rattle.command_words.specs.inside.Found.{AreJobsOf, AreOptionsIn, AreOptionsOf, AreRead, IsCheckOf, ReadsNumber, job_in, schedule_in}
 use Rattle.command_words.proofs.Asked.{IsAsked, asked_enters, asked_has_no_schedule, asked_passes, at_most_once, depth_is_read, depth_read, flag_read, flags_read, number_not_read, number_read, rows_of_given}
 use Rattle.command_words.proofs.Entered.{entered_rows, number_fits}
 use Rattle.command_words.proofs.Once.{Each, lawful_by}
 use Rattle.command_words.proofs.Ranges.{depth_fits, nodes_fits, workers_fits}
-use Rattle.command_words.proofs.Rows.{cover_left, cover_row, explain_left, explain_row, given_row, nodes_left, nodes_row, put_all, row_at, row_or, row_with, text_of_row, workers_left, workers_row}
+use Rattle.command_words.proofs.Rows.{cover_left, cover_row, explain_left, explain_row, given_row, job_left, job_row, nodes_left, nodes_row, put_all, row_at, row_of, row_or, row_with, text_of_row, workers_left, workers_row}
 
 -- ---- the options of an exploration, each once and in its range
 
@@ -57,6 +58,15 @@ workers_text given n is =
     number_text (codes "workers") (codes "1") 1 n (rows_of_given exploring given) (workers_of given) one_digit is
     (workers_left (put_all [] given) ∙ ap (row_or (codes "workers") (codes "1")) (given_row (codes "workers") given refl ∙ workers_row given))
 
+-- ---- the line of its job
+
+job_given : (given : List Given) → first_of (codes "job") (rows_of_given exploring given) ≡ slice_get (jobs_of given) 0
+job_given given = ap (option_and_then (λ (r : Row). slice_get r.values 0)) (job_left (put_all [] given) ∙ given_row (codes "job") given refl ∙ job_row given) ∙ by (slice_get (jobs_of given) 0)
+  where
+    by : (o : Option Text) → option_and_then (λ (r : Row). slice_get r.values 0) (option_map (λ line. row_of (job line)) o) ≡ o
+    by None = refl
+    by (Some line) = refl
+
 -- ---- the words of an exploration
 
 module _ (words : List Text) (given : List Given) (options : Options) (printed : Printed) (says : AreWordsOfExplore words given options printed) where
@@ -76,10 +86,15 @@ module _ (words : List Text) (given : List Given) (options : Options) (printed :
       strict_access = at_most_once _ options.flags.strict_access says.strict_access;
       explain = at_most_once _ printed.explained says.explain;
       cover = at_most_once _ printed.cover says.cover;
+      ats = omega (arith, ap length says.no_at);
+      jobs = says.job;
     };
     lawful = lawful_by given (subst (Each (λ n. n ≤ 400)) (sym says.depth) (says.in_range.depth, tt))
         (given_lawful 10000000 1000000 options.nodes (nodes_of given) says.nodes says.in_range.least_nodes says.in_range.most_nodes)
-        (given_lawful 16 1 options.workers (workers_of given) says.workers says.in_range.some_workers says.in_range.most_workers) says.normal;
+        (given_lawful 16 1 options.workers (workers_of given) says.workers says.in_range.some_workers says.in_range.most_workers)
+        (omega (arith, ap length says.no_at)) says.normal says.line;
+    place = 0;
+    has_place = tt;
     in_range = says.in_range.depth;
   }
 
@@ -99,6 +114,16 @@ module _ (words : List Text) (given : List Given) (options : Options) (printed :
   explore_has_no_check read found =
       let none : Some read ≡ None = subst (λ o. IsCheckOf o (Some read)) explore_enters found in
       cc
+
+  -- and no jobs
+  pub explore_has_no_jobs : (read : Listing) → AreJobsOf (subcommand_of command_line words) (Some read) → ⊥
+  explore_has_no_jobs read found =
+      let none : Some read ≡ None = subst (λ o. AreJobsOf o (Some read)) explore_enters found in
+      cc
+
+  -- the job that is found is the one that is given
+  pub explore_job : job_in (subcommand_of command_line words) ≡ slice_get (jobs_of given) 0
+  explore_job = ap job_in explore_enters ∙ job_given given
 
   same_options : (found : Options) (prints : Printed) → AreRead (rows_of_given exploring given) found prints → found ≡ options
   same_options found prints read =

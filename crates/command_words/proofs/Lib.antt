@@ -7,6 +7,7 @@ pub mod Explored
 pub mod Found
 pub mod Kept
 pub mod Levels
+pub mod Listed
 pub mod Named
 pub mod Numbers
 pub mod Once

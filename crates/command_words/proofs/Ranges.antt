@@ -16,7 +16,7 @@ use Rattle.clap.specs.declared.builder.value_parser.ValueParser.{ValueParser}
 use Rattle.clap.specs.declared.builder.value_parser.ValueParser.TheVariants.{Unsigned}
 use Rattle.clap.specs.declared.parser.matches.ValueSource.{ValueSource}
 use Rattle.clap.specs.declared.parser.matches.ValueSource.TheVariants.{CommandLine, DefaultValue}
-use Rattle.command_words.specs.inside.CommandLine.{Level, built_of, check_built, checking, depth_rule, explore_built, exploring, flag_rule, nodes_rule, normal_rule, workers_rule}
+use Rattle.command_words.specs.inside.CommandLine.{Level, at_rule, built_of, check_built, checking, depth_rule, explore_built, exploring, flag_rule, job_rule, jobs_built, listing, nodes_rule, normal_rule, workers_rule}
 use Rattle.command_words.proofs.Kept.{both_pass, walk_leaves}
 
 -- values that are not at fault passed their parser
@@ -59,6 +59,9 @@ nodes_built = filled nodes_rule
 
 abbrev workers_built : Rule
 workers_built = filled workers_rule
+
+abbrev at_built : Rule
+at_built = filled at_rule
 
 -- the argument is none of the options that say what counts as an error
 record AreOthers (id : Text) : Type 0 where
@@ -116,6 +119,12 @@ module _ (id : Text) (low high : ℕ) where
       by true = fit
       by false = given
 
+  kept_default : (a : Rule) (rows : List Row) → (AllFit rows → AllFit (default_rows a.id (reading_by a) a.defaults rows)) → AllFit rows → AllFit (with_default rows a)
+  kept_default a rows given fit = default_fits a rows (given fit) fit
+
+  flag_default : (name : Text) (rows : List Row) → bytes_eq name id ≡ false → AllFit rows → AllFit (with_default rows (filled (flag_rule name)))
+  flag_default name rows differs fit = default_fits (filled (flag_rule name)) rows (others_fit name AsWritten DefaultValue (codes "false" ∷ []) rows differs fit) fit
+
   -- a text that is read of them is one of these numbers
   text_fits : (rows : List Row) (text : Text) → AllFit rows → one_of id rows ≡ Some text → is_unsigned_in low high text ≡ true
   text_fits [] text fit reads = cc
@@ -154,9 +163,9 @@ module _ (id : Text) (low high : ℕ) where
   -- each use of an option of `explore` keeps them, where one of a number does
   each_use_fits : (values : List Text) (rows : List Row) → (use_fault false depth_built values rows ≡ [] → AllFit (used depth_built values rows))
       → (use_fault false nodes_built values rows ≡ [] → AllFit (used nodes_built values rows)) → (use_fault false workers_built values rows ≡ [] → AllFit (used workers_built values rows))
-      → AreOthers id → bytes_eq (codes "explain") id ≡ false → bytes_eq (codes "cover") id ≡ false
+      → AreOthers id → bytes_eq (codes "explain") id ≡ false → bytes_eq (codes "cover") id ≡ false → bytes_eq (codes "job") id ≡ false
       → (p : Rule → Bool) (a : Rule) → find p explore_built.rules ≡ Some a → use_fault false a values rows ≡ [] → AllFit rows → AllFit (used a values rows)
-  each_use_fits values rows depth nodes workers others no_explain no_cover p a found none fit = by (among p explore_built.rules a found)
+  each_use_fits values rows depth nodes workers others no_explain no_cover no_job p a found none fit = by (among p explore_built.rules a found)
     where
       at : (x : Rule) → a ≡ x → (use_fault false x values rows ≡ [] → AllFit (used x values rows)) → AllFit (used a values rows)
       at x is kept = subst (λ y. use_fault false y values rows ≡ [] → AllFit (used y values rows)) (sym is) kept none
@@ -171,8 +180,9 @@ module _ (id : Text) (low high : ℕ) where
       by (inr (inr (inr (inr (inr (inr (inl is))))))) = at _ is (λ none. other_used_fits (codes "strict-access") AsWritten _ rows others.strict_access fit)
       by (inr (inr (inr (inr (inr (inr (inr (inl is)))))))) = at _ is (λ none. other_used_fits (codes "explain") AsWritten _ rows no_explain fit)
       by (inr (inr (inr (inr (inr (inr (inr (inr (inl is))))))))) = at _ is (λ none. other_used_fits (codes "cover") AsWritten _ rows no_cover fit)
-      by (inr (inr (inr (inr (inr (inr (inr (inr (inr (inl is)))))))))) = at _ is (λ none. fit)
-      by (inr (inr (inr (inr (inr (inr (inr (inr (inr (inr nothing)))))))))) = absurd nothing
+      by (inr (inr (inr (inr (inr (inr (inr (inr (inr (inl is)))))))))) = at _ is (λ none. other_used_fits (codes "job") AsWritten _ rows no_job fit)
+      by (inr (inr (inr (inr (inr (inr (inr (inr (inr (inr (inl is))))))))))) = at _ is (λ none. fit)
+      by (inr (inr (inr (inr (inr (inr (inr (inr (inr (inr (inr nothing))))))))))) = absurd nothing
 
   -- and so does each of `check`
   each_check_use_fits : (values : List Text) (rows : List Row) → (use_fault false depth_built values rows ≡ [] → AllFit (used depth_built values rows))
@@ -191,32 +201,63 @@ module _ (id : Text) (low high : ℕ) where
       by (inr (inr (inr (inr (inr (inl is)))))) = at _ is (λ none. fit)
       by (inr (inr (inr (inr (inr (inr nothing)))))) = absurd nothing
 
+  -- and of `jobs`
+  each_jobs_use_fits : (values : List Text) (rows : List Row) → (use_fault false depth_built values rows ≡ [] → AllFit (used depth_built values rows))
+      → (use_fault false at_built values rows ≡ [] → AllFit (used at_built values rows))
+      → AreOthers id → (p : Rule → Bool) (a : Rule) → find p jobs_built.rules ≡ Some a → use_fault false a values rows ≡ [] → AllFit rows → AllFit (used a values rows)
+  each_jobs_use_fits values rows depth place others p a found none fit = by (among p jobs_built.rules a found)
+    where
+      at : (x : Rule) → a ≡ x → (use_fault false x values rows ≡ [] → AllFit (used x values rows)) → AllFit (used a values rows)
+      at x is kept = subst (λ y. use_fault false y values rows ≡ [] → AllFit (used y values rows)) (sym is) kept none
+
+      by : Among a jobs_built.rules → AllFit (used a values rows)
+      by (inl is) = at depth_built is depth
+      by (inr (inl is)) = at at_built is place
+      by (inr (inr (inl is))) = at _ is (λ none. other_used_fits (codes "allow-deadlock") AsWritten _ rows others.allow_deadlock fit)
+      by (inr (inr (inr (inl is)))) = at _ is (λ none. other_used_fits (codes "main-deadlock") AsWritten _ rows others.main_deadlock fit)
+      by (inr (inr (inr (inr (inl is))))) = at _ is (λ none. others_fit (codes "normal") AsWritten CommandLine _ rows others.normal fit)
+      by (inr (inr (inr (inr (inr (inl is)))))) = at _ is (λ none. other_used_fits (codes "strict-access") AsWritten _ rows others.strict_access fit)
+      by (inr (inr (inr (inr (inr (inr (inl is))))))) = at _ is (λ none. fit)
+      by (inr (inr (inr (inr (inr (inr (inr nothing))))))) = absurd nothing
+
   -- and so does each default of `explore`
   defaults_fit : (rows : List Row) → ((rows : List Row) → AllFit rows → AllFit (with_values (codes "nodes") AsWritten DefaultValue (codes "1000000" ∷ []) rows))
       → ((rows : List Row) → AllFit rows → AllFit (with_values (codes "workers") AsWritten DefaultValue (codes "1" ∷ []) rows))
       → AreOthers id → bytes_eq (codes "explain") id ≡ false → bytes_eq (codes "cover") id ≡ false → AllFit rows
       → AllFit (fold with_default rows explore_built.rules)
   defaults_fit rows nodes workers others no_explain no_cover fit =
-      let one = default_fits depth_built rows fit fit in
-      let two = default_fits nodes_built _ (nodes _ one) one in
-      let three = default_fits workers_built _ (workers _ two) two in
-      let four = default_fits (filled (flag_rule (codes "allow-deadlock"))) _ (others_fit (codes "allow-deadlock") AsWritten DefaultValue _ _ others.allow_deadlock three) three in
-      let five = default_fits (filled (flag_rule (codes "main-deadlock"))) _ (others_fit (codes "main-deadlock") AsWritten DefaultValue _ _ others.main_deadlock four) four in
-      let six = default_fits (filled normal_rule) _ five five in
-      let seven = default_fits (filled (flag_rule (codes "strict-access"))) _ (others_fit (codes "strict-access") AsWritten DefaultValue _ _ others.strict_access six) six in
-      let eight = default_fits (filled (flag_rule (codes "explain"))) _ (others_fit (codes "explain") AsWritten DefaultValue _ _ no_explain seven) seven in
-      let nine = default_fits (filled (flag_rule (codes "cover"))) _ (others_fit (codes "cover") AsWritten DefaultValue _ _ no_cover eight) eight in
-      default_fits (filled help_rule) _ nine nine
+      let one = kept_default depth_built rows (λ fit. fit) fit in
+      let two = kept_default nodes_built _ (nodes _) one in
+      let three = kept_default workers_built _ (workers _) two in
+      let four = flag_default (codes "allow-deadlock") _ others.allow_deadlock three in
+      let five = flag_default (codes "main-deadlock") _ others.main_deadlock four in
+      let six = kept_default (filled normal_rule) _ (λ fit. fit) five in
+      let seven = flag_default (codes "strict-access") _ others.strict_access six in
+      let eight = flag_default (codes "explain") _ no_explain seven in
+      let nine = flag_default (codes "cover") _ no_cover eight in
+      let ten = kept_default (filled job_rule) _ (λ fit. fit) nine in
+      kept_default (filled help_rule) _ (λ fit. fit) ten
 
   -- and of `check`
   check_defaults_fit : (rows : List Row) → AreOthers id → AllFit rows → AllFit (fold with_default rows check_built.rules)
   check_defaults_fit rows others fit =
-      let one = default_fits depth_built rows fit fit in
-      let two = default_fits (filled (flag_rule (codes "allow-deadlock"))) _ (others_fit (codes "allow-deadlock") AsWritten DefaultValue _ _ others.allow_deadlock one) one in
-      let three = default_fits (filled (flag_rule (codes "main-deadlock"))) _ (others_fit (codes "main-deadlock") AsWritten DefaultValue _ _ others.main_deadlock two) two in
-      let four = default_fits (filled normal_rule) _ three three in
-      let five = default_fits (filled (flag_rule (codes "strict-access"))) _ (others_fit (codes "strict-access") AsWritten DefaultValue _ _ others.strict_access four) four in
-      default_fits (filled help_rule) _ five five
+      let one = kept_default depth_built rows (λ fit. fit) fit in
+      let two = flag_default (codes "allow-deadlock") _ others.allow_deadlock one in
+      let three = flag_default (codes "main-deadlock") _ others.main_deadlock two in
+      let four = kept_default (filled normal_rule) _ (λ fit. fit) three in
+      let five = flag_default (codes "strict-access") _ others.strict_access four in
+      kept_default (filled help_rule) _ (λ fit. fit) five
+
+  -- and of `jobs`
+  jobs_defaults_fit : (rows : List Row) → AreOthers id → AllFit rows → AllFit (fold with_default rows jobs_built.rules)
+  jobs_defaults_fit rows others fit =
+      let one = kept_default depth_built rows (λ fit. fit) fit in
+      let two = kept_default at_built _ (λ fit. fit) one in
+      let three = flag_default (codes "allow-deadlock") _ others.allow_deadlock two in
+      let four = flag_default (codes "main-deadlock") _ others.main_deadlock three in
+      let five = kept_default (filled normal_rule) _ (λ fit. fit) four in
+      let six = flag_default (codes "strict-access") _ others.strict_access five in
+      kept_default (filled help_rule) _ (λ fit. fit) six
 
   -- what a walk without a fault leaves of an id
   left_fits : (s : Shape) (words : List Text) (text : Text)
@@ -237,19 +278,36 @@ nodes_apart = record { allow_deadlock = refl; main_deadlock = refl; normal = ref
 workers_apart : AreOthers (codes "workers")
 workers_apart = record { allow_deadlock = refl; main_deadlock = refl; normal = refl; strict_access = refl }
 
+at_apart : AreOthers (codes "at")
+at_apart = record { allow_deadlock = refl; main_deadlock = refl; normal = refl; strict_access = refl }
+
 -- where a command is not at fault, its depth is in its range
 pub depth_fits : (level : Level) (words : List Text) (text : Text) → level_fault (built_of level) [] nothing_held words false [] ≡ [] → one_of (codes "depth") (rows_after (built_of level).rules [] words) ≡ Some text
     → is_unsigned_in 0 400 text ≡ true
 depth_fits exploring words text =
     left_fits (codes "depth") 0 400 explore_built words text
     (λ p a values rows found none fit. each_use_fits (codes "depth") 0 400 values rows (λ none. used_fits (codes "depth") 0 400 _ _ _ rows none fit)
-    (λ none. other_used_fits (codes "depth") 0 400 (codes "nodes") AsWritten _ rows refl fit) (λ none. other_used_fits (codes "depth") 0 400 (codes "workers") AsWritten _ rows refl fit) depth_apart refl refl p a found none fit)
+    (λ none. other_used_fits (codes "depth") 0 400 (codes "nodes") AsWritten _ rows refl fit) (λ none. other_used_fits (codes "depth") 0 400 (codes "workers") AsWritten _ rows refl fit) depth_apart refl refl refl p a found none fit)
     (λ rows fit. defaults_fit (codes "depth") 0 400 rows (λ rows fit. others_fit (codes "depth") 0 400 (codes "nodes") AsWritten DefaultValue _ rows refl fit)
     (λ rows fit. others_fit (codes "depth") 0 400 (codes "workers") AsWritten DefaultValue _ rows refl fit) depth_apart refl refl fit)
 depth_fits checking words text =
     left_fits (codes "depth") 0 400 check_built words text
     (λ p a values rows found none fit. each_check_use_fits (codes "depth") 0 400 values rows (λ none. used_fits (codes "depth") 0 400 _ _ _ rows none fit) depth_apart p a found none fit)
     (λ rows fit. check_defaults_fit (codes "depth") 0 400 rows depth_apart fit)
+depth_fits listing words text =
+    left_fits (codes "depth") 0 400 jobs_built words text
+    (λ p a values rows found none fit. each_jobs_use_fits (codes "depth") 0 400 values rows (λ none. used_fits (codes "depth") 0 400 _ _ _ rows none fit)
+    (λ none. other_used_fits (codes "depth") 0 400 (codes "at") AsWritten _ rows refl fit) depth_apart p a found none fit)
+    (λ rows fit. jobs_defaults_fit (codes "depth") 0 400 rows depth_apart fit)
+
+-- and so is the depth of jobs
+pub at_fits : (words : List Text) (text : Text) → level_fault jobs_built [] nothing_held words false [] ≡ [] → one_of (codes "at") (rows_after jobs_built.rules [] words) ≡ Some text
+    → is_unsigned_in 0 400 text ≡ true
+at_fits words text =
+    left_fits (codes "at") 0 400 jobs_built words text
+    (λ p a values rows found none fit. each_jobs_use_fits (codes "at") 0 400 values rows (λ none. other_used_fits (codes "at") 0 400 (codes "depth") AsWritten _ rows refl fit)
+    (λ none. used_fits (codes "at") 0 400 _ _ _ rows none fit) at_apart p a found none fit)
+    (λ rows fit. jobs_defaults_fit (codes "at") 0 400 rows at_apart fit)
 
 -- and the numbers of nodes and of workers of an exploration are in theirs
 pub nodes_fits : (words : List Text) (text : Text) → level_fault explore_built [] nothing_held words false [] ≡ [] → one_of (codes "nodes") (rows_after explore_built.rules [] words) ≡ Some text
@@ -257,7 +315,7 @@ pub nodes_fits : (words : List Text) (text : Text) → level_fault explore_built
 nodes_fits words text =
     left_fits (codes "nodes") 1 10000000 explore_built words text
     (λ p a values rows found none fit. each_use_fits (codes "nodes") 1 10000000 values rows (λ none. other_used_fits (codes "nodes") 1 10000000 (codes "depth") AsWritten _ rows refl fit)
-    (λ none. used_fits (codes "nodes") 1 10000000 _ _ _ rows none fit) (λ none. other_used_fits (codes "nodes") 1 10000000 (codes "workers") AsWritten _ rows refl fit) nodes_apart refl refl p a found none fit)
+    (λ none. used_fits (codes "nodes") 1 10000000 _ _ _ rows none fit) (λ none. other_used_fits (codes "nodes") 1 10000000 (codes "workers") AsWritten _ rows refl fit) nodes_apart refl refl refl p a found none fit)
     (λ rows fit. defaults_fit (codes "nodes") 1 10000000 rows (λ rows fit. own_fit (codes "nodes") 1 10000000 AsWritten DefaultValue _ rows refl refl fit)
     (λ rows fit. others_fit (codes "nodes") 1 10000000 (codes "workers") AsWritten DefaultValue _ rows refl fit) nodes_apart refl refl fit)
 
@@ -266,6 +324,6 @@ pub workers_fits : (words : List Text) (text : Text) → level_fault explore_bui
 workers_fits words text =
     left_fits (codes "workers") 1 16 explore_built words text
     (λ p a values rows found none fit. each_use_fits (codes "workers") 1 16 values rows (λ none. other_used_fits (codes "workers") 1 16 (codes "depth") AsWritten _ rows refl fit)
-    (λ none. other_used_fits (codes "workers") 1 16 (codes "nodes") AsWritten _ rows refl fit) (λ none. used_fits (codes "workers") 1 16 _ _ _ rows none fit) workers_apart refl refl p a found none fit)
+    (λ none. other_used_fits (codes "workers") 1 16 (codes "nodes") AsWritten _ rows refl fit) (λ none. used_fits (codes "workers") 1 16 _ _ _ rows none fit) workers_apart refl refl refl p a found none fit)
     (λ rows fit. defaults_fit (codes "workers") 1 16 rows (λ rows fit. others_fit (codes "workers") 1 16 (codes "nodes") AsWritten DefaultValue _ rows refl fit)
     (λ rows fit. own_fit (codes "workers") 1 16 AsWritten DefaultValue _ rows refl refl fit) workers_apart refl refl fit)

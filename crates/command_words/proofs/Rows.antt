@@ -12,8 +12,8 @@ use Rattle.clap.specs.declared.builder.value_parser.Reading.{Reading}
 use Rattle.clap.specs.declared.builder.value_parser.Reading.TheVariants.{AsWritten}
 use Rattle.clap.specs.declared.parser.matches.ValueSource.{ValueSource}
 use Rattle.clap.specs.declared.parser.matches.ValueSource.TheVariants.{CommandLine, DefaultValue}
-use Rattle.command_words.specs.Words.{Given, depth, nodes, workers, allow_deadlock, strict_access, explain, cover, main_deadlock, normal, depths_of, nodes_of, workers_of, texts_of, is_allow_deadlock, is_main_deadlock, is_strict_access, is_explain, is_cover}
-use Rattle.command_words.specs.inside.CommandLine.{Level, built_of, checking, exploring}
+use Rattle.command_words.specs.Words.{Given, depth, nodes, workers, allow_deadlock, strict_access, explain, cover, main_deadlock, normal, at, job, depths_of, nodes_of, workers_of, texts_of, ats_of, jobs_of, is_allow_deadlock, is_main_deadlock, is_strict_access, is_explain, is_cover}
+use Rattle.command_words.specs.inside.CommandLine.{Level, built_of, checking, exploring, listing}
 use Rattle.command_words.specs.inside.Found.{texts_in}
 
 -- the row of one value
@@ -38,6 +38,8 @@ id_of (normal text) = codes "normal"
 id_of strict_access = codes "strict-access"
 id_of explain = codes "explain"
 id_of cover = codes "cover"
+id_of (at n) = codes "at"
+id_of (job line) = codes "job"
 
 abbrev pub value_of : Given → Text
 value_of (depth n) = decimal n
@@ -49,6 +51,8 @@ value_of (normal text) = text
 value_of strict_access = codes "true"
 value_of explain = codes "true"
 value_of cover = codes "true"
+value_of (at n) = decimal n
+value_of (job line) = line
 
 -- the row of an option that is given
 abbrev pub row_of : Given → Row
@@ -150,6 +154,8 @@ put_apart id rows main_deadlock differs = row_at-more id rows (row_of main_deadl
 put_apart id rows strict_access differs = row_at-more id rows (row_of strict_access) differs
 put_apart id rows explain differs = row_at-more id rows (row_of explain) differs
 put_apart id rows cover differs = row_at-more id rows (row_of cover) differs
+put_apart id rows (at n) differs = row_at-more id rows (row_of (at n)) differs
+put_apart id rows (job line) differs = row_at-more id rows (row_of (job line)) differs
 
 put_row : (id : Text) (rows : List Row) (option : Given) → bytes_eq (codes "normal") id ≡ false → row_at id (put rows option) ≡ row_at id (rows ++ row_of option ∷ [])
 put_row id rows (normal text) differs =
@@ -162,6 +168,8 @@ put_row id rows main_deadlock differs = refl
 put_row id rows strict_access differs = refl
 put_row id rows explain differs = refl
 put_row id rows cover differs = refl
+put_row id rows (at n) differs = refl
+put_row id rows (job line) differs = refl
 
 -- the row of an option that is not `--normal` is that of the first one
 put_rows : (id : Text) (rows : List Row) (given : List Given) → bytes_eq (codes "normal") id ≡ false → row_at id (put_all rows given) ≡ row_at id (rows ++ map row_of given)
@@ -208,6 +216,8 @@ put_texts rows (main_deadlock ∷ rest) = other_put rows main_deadlock rest refl
 put_texts rows (strict_access ∷ rest) = other_put rows strict_access rest refl (put_texts (put rows strict_access) rest)
 put_texts rows (explain ∷ rest) = other_put rows explain rest refl (put_texts (put rows explain) rest)
 put_texts rows (cover ∷ rest) = other_put rows cover rest refl (put_texts (put rows cover) rest)
+put_texts rows (at n ∷ rest) = other_put rows (at n) rest refl (put_texts (put rows (at n)) rest)
+put_texts rows (job line ∷ rest) = other_put rows (job line) rest refl (put_texts (put rows (job line)) rest)
 
 -- all texts that are given are in the rows, in their order
 pub given_texts : (given : List Given) → texts_in (put_all [] given) ≡ texts_of given
@@ -224,6 +234,8 @@ depth_row (explain ∷ rest) = depth_row rest
 depth_row (cover ∷ rest) = depth_row rest
 depth_row (main_deadlock ∷ rest) = depth_row rest
 depth_row (normal text ∷ rest) = depth_row rest
+depth_row (at n ∷ rest) = depth_row rest
+depth_row (job line ∷ rest) = depth_row rest
 
 pub nodes_row : (given : List Given) → row_at (codes "nodes") (map row_of given) ≡ option_map (λ n. row_of (nodes n)) (slice_get (nodes_of given) 0)
 nodes_row [] = refl
@@ -236,6 +248,8 @@ nodes_row (explain ∷ rest) = nodes_row rest
 nodes_row (cover ∷ rest) = nodes_row rest
 nodes_row (main_deadlock ∷ rest) = nodes_row rest
 nodes_row (normal text ∷ rest) = nodes_row rest
+nodes_row (at n ∷ rest) = nodes_row rest
+nodes_row (job line ∷ rest) = nodes_row rest
 
 pub workers_row : (given : List Given) → row_at (codes "workers") (map row_of given) ≡ option_map (λ n. row_of (workers n)) (slice_get (workers_of given) 0)
 workers_row [] = refl
@@ -248,6 +262,8 @@ workers_row (explain ∷ rest) = workers_row rest
 workers_row (cover ∷ rest) = workers_row rest
 workers_row (main_deadlock ∷ rest) = workers_row rest
 workers_row (normal text ∷ rest) = workers_row rest
+workers_row (at n ∷ rest) = workers_row rest
+workers_row (job line ∷ rest) = workers_row rest
 
 pub allow_deadlock_row : (given : List Given) → row_at (codes "allow-deadlock") (map row_of given) ≡ cond (list_any is_allow_deadlock given) (Some (row_of allow_deadlock)) None
 allow_deadlock_row [] = refl
@@ -260,6 +276,8 @@ allow_deadlock_row (explain ∷ rest) = allow_deadlock_row rest
 allow_deadlock_row (cover ∷ rest) = allow_deadlock_row rest
 allow_deadlock_row (main_deadlock ∷ rest) = allow_deadlock_row rest
 allow_deadlock_row (normal text ∷ rest) = allow_deadlock_row rest
+allow_deadlock_row (at n ∷ rest) = allow_deadlock_row rest
+allow_deadlock_row (job line ∷ rest) = allow_deadlock_row rest
 
 pub main_deadlock_row : (given : List Given) → row_at (codes "main-deadlock") (map row_of given) ≡ cond (list_any is_main_deadlock given) (Some (row_of main_deadlock)) None
 main_deadlock_row [] = refl
@@ -272,6 +290,8 @@ main_deadlock_row (explain ∷ rest) = main_deadlock_row rest
 main_deadlock_row (cover ∷ rest) = main_deadlock_row rest
 main_deadlock_row (allow_deadlock ∷ rest) = main_deadlock_row rest
 main_deadlock_row (normal text ∷ rest) = main_deadlock_row rest
+main_deadlock_row (at n ∷ rest) = main_deadlock_row rest
+main_deadlock_row (job line ∷ rest) = main_deadlock_row rest
 
 pub strict_access_row : (given : List Given) → row_at (codes "strict-access") (map row_of given) ≡ cond (list_any is_strict_access given) (Some (row_of strict_access)) None
 strict_access_row [] = refl
@@ -284,6 +304,8 @@ strict_access_row (explain ∷ rest) = strict_access_row rest
 strict_access_row (cover ∷ rest) = strict_access_row rest
 strict_access_row (main_deadlock ∷ rest) = strict_access_row rest
 strict_access_row (normal text ∷ rest) = strict_access_row rest
+strict_access_row (at n ∷ rest) = strict_access_row rest
+strict_access_row (job line ∷ rest) = strict_access_row rest
 
 pub explain_row : (given : List Given) → row_at (codes "explain") (map row_of given) ≡ cond (list_any is_explain given) (Some (row_of explain)) None
 explain_row [] = refl
@@ -296,6 +318,8 @@ explain_row (strict_access ∷ rest) = explain_row rest
 explain_row (cover ∷ rest) = explain_row rest
 explain_row (main_deadlock ∷ rest) = explain_row rest
 explain_row (normal text ∷ rest) = explain_row rest
+explain_row (at n ∷ rest) = explain_row rest
+explain_row (job line ∷ rest) = explain_row rest
 
 pub cover_row : (given : List Given) → row_at (codes "cover") (map row_of given) ≡ cond (list_any is_cover given) (Some (row_of cover)) None
 cover_row [] = refl
@@ -308,6 +332,36 @@ cover_row (strict_access ∷ rest) = cover_row rest
 cover_row (explain ∷ rest) = cover_row rest
 cover_row (main_deadlock ∷ rest) = cover_row rest
 cover_row (normal text ∷ rest) = cover_row rest
+cover_row (at n ∷ rest) = cover_row rest
+cover_row (job line ∷ rest) = cover_row rest
+
+pub at_option_row : (given : List Given) → row_at (codes "at") (map row_of given) ≡ option_map (λ n. row_of (at n)) (slice_get (ats_of given) 0)
+at_option_row [] = refl
+at_option_row (at n ∷ rest) = refl
+at_option_row (depth n ∷ rest) = at_option_row rest
+at_option_row (nodes n ∷ rest) = at_option_row rest
+at_option_row (workers n ∷ rest) = at_option_row rest
+at_option_row (allow_deadlock ∷ rest) = at_option_row rest
+at_option_row (strict_access ∷ rest) = at_option_row rest
+at_option_row (explain ∷ rest) = at_option_row rest
+at_option_row (cover ∷ rest) = at_option_row rest
+at_option_row (main_deadlock ∷ rest) = at_option_row rest
+at_option_row (normal text ∷ rest) = at_option_row rest
+at_option_row (job line ∷ rest) = at_option_row rest
+
+pub job_row : (given : List Given) → row_at (codes "job") (map row_of given) ≡ option_map (λ line. row_of (job line)) (slice_get (jobs_of given) 0)
+job_row [] = refl
+job_row (job line ∷ rest) = refl
+job_row (depth n ∷ rest) = job_row rest
+job_row (nodes n ∷ rest) = job_row rest
+job_row (workers n ∷ rest) = job_row rest
+job_row (allow_deadlock ∷ rest) = job_row rest
+job_row (strict_access ∷ rest) = job_row rest
+job_row (explain ∷ rest) = job_row rest
+job_row (cover ∷ rest) = job_row rest
+job_row (main_deadlock ∷ rest) = job_row rest
+job_row (normal text ∷ rest) = job_row rest
+job_row (at n ∷ rest) = job_row rest
 
 -- ---- the defaults
 
@@ -373,6 +427,13 @@ row_or id value row = Some (unwrap_or row (row_with DefaultValue id value))
 pub depth_left : (level : Level) (rows : List Row) → row_at (codes "depth") (with_defaults level rows) ≡ row_at (codes "depth") rows
 depth_left exploring rows = all_left (codes "depth") (built_of exploring).rules rows
 depth_left checking rows = all_left (codes "depth") (built_of checking).rules rows
+depth_left listing rows = all_left (codes "depth") (built_of listing).rules rows
+
+pub at_left : (rows : List Row) → row_at (codes "at") (with_defaults listing rows) ≡ row_at (codes "at") rows
+at_left rows = all_left (codes "at") (built_of listing).rules rows
+
+pub job_left : (rows : List Row) → row_at (codes "job") (with_defaults exploring rows) ≡ row_at (codes "job") rows
+job_left rows = all_left (codes "job") (built_of exploring).rules rows
 
 pub nodes_left : (rows : List Row) → row_at (codes "nodes") (with_defaults exploring rows) ≡ row_or (codes "nodes") (codes "1000000") (row_at (codes "nodes") rows)
 nodes_left rows = all_left (codes "nodes") (built_of exploring).rules rows
@@ -384,16 +445,19 @@ pub allow_deadlock_left : (level : Level) (rows : List Row)
     → row_at (codes "allow-deadlock") (with_defaults level rows) ≡ row_or (codes "allow-deadlock") (codes "false") (row_at (codes "allow-deadlock") rows)
 allow_deadlock_left exploring rows = all_left (codes "allow-deadlock") (built_of exploring).rules rows
 allow_deadlock_left checking rows = all_left (codes "allow-deadlock") (built_of checking).rules rows
+allow_deadlock_left listing rows = all_left (codes "allow-deadlock") (built_of listing).rules rows
 
 pub main_deadlock_left : (level : Level) (rows : List Row)
     → row_at (codes "main-deadlock") (with_defaults level rows) ≡ row_or (codes "main-deadlock") (codes "false") (row_at (codes "main-deadlock") rows)
 main_deadlock_left exploring rows = all_left (codes "main-deadlock") (built_of exploring).rules rows
 main_deadlock_left checking rows = all_left (codes "main-deadlock") (built_of checking).rules rows
+main_deadlock_left listing rows = all_left (codes "main-deadlock") (built_of listing).rules rows
 
 pub strict_access_left : (level : Level) (rows : List Row)
     → row_at (codes "strict-access") (with_defaults level rows) ≡ row_or (codes "strict-access") (codes "false") (row_at (codes "strict-access") rows)
 strict_access_left exploring rows = all_left (codes "strict-access") (built_of exploring).rules rows
 strict_access_left checking rows = all_left (codes "strict-access") (built_of checking).rules rows
+strict_access_left listing rows = all_left (codes "strict-access") (built_of listing).rules rows
 
 pub explain_left : (rows : List Row) → row_at (codes "explain") (with_defaults exploring rows) ≡ row_or (codes "explain") (codes "false") (row_at (codes "explain") rows)
 explain_left rows = all_left (codes "explain") (built_of exploring).rules rows
@@ -405,6 +469,7 @@ cover_left rows = all_left (codes "cover") (built_of exploring).rules rows
 pub normal_left : (level : Level) (rows : List Row) → texts_in (with_defaults level rows) ≡ texts_in rows
 normal_left exploring rows = ap texts_of_row (all_left (codes "normal") (built_of exploring).rules rows)
 normal_left checking rows = ap texts_of_row (all_left (codes "normal") (built_of checking).rules rows)
+normal_left listing rows = ap texts_of_row (all_left (codes "normal") (built_of listing).rules rows)
 
 -- the text that is read of a row
 pub text_of_row : (id value : Text) (source : ValueSource) (rows : List Row) → row_at id rows ≡ Some (row_with source id value) → one_of id rows ≡ Some value

@@ -1,91 +1,317 @@
--- What the program makes of what a command excuses, and of words that can excuse nothing.
-use Rattle.std.proofs.Common.{◌≡◌, ◌∙◌, ℕ, List, Option, Some, None, sym, ap, subst, inl, inr}
-use Rattle.std.specs.Prelude.{Result, Err}
-use Rattle.clap.specs.Values.{kind_of}
-use Rattle.clap.specs.Words.{Row, Text, subcommand_of}
-use Rattle.clap.specs.declared.error.Error.{Error}
-use Rattle.clap.specs.declared.error.kind.ErrorKind.TheVariants.{OutOfMemory}
-use Rattle.excuses.specs.Excuses.{Excuses, excuses_in}
+-- What is read of a command is what its words say, and nothing is read of words that are unreadable.
+use Rattle.std.proofs.Common.{◌≡◌, ◌∙◌, ◌⊎◌, ◌||◌, ℕ, ◌<◌, ◌≤◌, Bool, true, false, List, [], ◌∷◌, length, Option, Some, None, cond, codes, refl, sym, ap, subst, inl, inr, arith, true≢false}
+use Rattle.std.specs.Prelude.{slice_get, string_bytes}
+use Rattle.std.specs.Str.{bytes_eq}
+use Rattle.std.proofs.lemmas.Slice.Eq.{bytes_eq-Decides}
+use Rattle.clap.specs.Words.{Row, Text, fault_of, first_of, subcommand_of}
+use Rattle.excuses.specs.Excuses.{Excuses}
 use Rattle.excuses.specs.declared.excuses.Excuses as declared
 use Rattle.findings.specs.declared.flags.Flags.{Flags}
 use Rattle.findings.specs.declared.options.Options.{Options}
+use Rattle.command_words.specs.declared.command_line.Listing.{Listing}
 use Rattle.command_words.specs.declared.words.Printed.{Printed}
 use Rattle.command_words.specs.declared.words.Words.{Words}
-use Rattle.command_words.specs.Words.{AreReadAs, AreUnreadable, AsksCheck, AsksExplore, IsCheck, IsExplore}
-use Rattle.command_words.specs.inside.CommandLine.{checking, command_line, exploring}
-use Rattle.command_words.specs.inside.Found.{AreExcusesIn, AreOptionsOf, AskExcuses, IsCheckOf, rows_in, schedule_in}
+use Rattle.command_words.specs.declared.words.Words.TheVariants.{Replay, Explore, ExploreJob, Check, Jobs}
+use Rattle.command_words.specs.Words.{AreExcusesOf, AreUnreadable, AreWordsOfCheck, AreWordsOfExplore, AreWordsOfJobs, AskMoreOfJob, AsksCheck, AsksExplore, AsksExploreJob, AsksJobs, AsksReplay, ExcuseNothing, Given, IsCheck, IsExplore, IsExploreJob, IsInRange, IsJobs, IsNamed, IsReplay, command_of, jobs_of, report_alone}
+use Rattle.command_words.specs.inside.CommandLine.{checking, command_line, exploring, listing}
+use Rattle.command_words.specs.inside.Found.{AreExcusesIn, AreJobsOf, AreOptionsOf, AskExcuses, AsksForOne, IsCheckOf, IsReadOf, rows_in, schedule_in}
 use Rattle.command_words.proofs.Asked.{rows_of_given}
-use Rattle.command_words.proofs.Checked.{check_enters, check_has_no_options, check_has_no_schedule, check_reads}
+use Rattle.command_words.proofs.Checked.{check_enters, check_has_no_jobs, check_has_no_options, check_has_no_schedule, check_in_range, check_is_found, check_reads}
 use Rattle.command_words.proofs.Excusing.{excuses_same, given_asks, nothing_is_read}
-use Rattle.command_words.proofs.Explored.{explore_enters, explore_has_no_schedule, explore_is_found, explore_reads}
+use Rattle.command_words.proofs.Explored.{explore_enters, explore_has_no_check, explore_has_no_jobs, explore_has_no_schedule, explore_is_found, explore_job, explore_reads, found_in_range}
+use Rattle.command_words.proofs.Listed.{jobs_are_found, jobs_enter, jobs_have_no_check, jobs_have_no_options, jobs_have_no_schedule, jobs_in_range, jobs_read}
+use Rattle.command_words.proofs.Named.{check_named, explore_named, jobs_named, replay_named}
+use Rattle.command_words.proofs.Replayed.{replay_enters}
+
+-- what was found of a command line, as its parser answers
+abbrev found_in : List Text → Option (Text × List Row)
+found_in words = subcommand_of command_line words
+
+-- ---- a replay
+
+-- `replay` was found
+record IsReplayed (o : Option (Text × List Row)) : Type 0 where
+  pub rows : List Row
+  pub is : o ≡ Some (codes "replay", rows)
+
+replayed : (o : Option (Text × List Row)) (schedule : Text) → schedule_in o ≡ Some schedule → IsReplayed o
+replayed None schedule is = cc
+replayed (Some p) schedule is = by (bytes_eq p.0 (codes "replay")) refl is
+  where
+    by : (b : Bool) → bytes_eq p.0 (codes "replay") ≡ b → cond b (first_of (codes "SCHEDULE") p.1) None ≡ Some schedule → IsReplayed (Some p)
+    by false name found = cc
+    by true name found = record { rows = p.1; is = ap (λ (n : Text). Some (n, p.1)) ((bytes_eq-Decides p.0 (codes "replay")).0 name) }
+
+module _ (words : List Text) (schedule : Text) (asks : IsReplay words schedule) where
+  replay_found : IsReplayed (found_in words)
+  replay_found = replayed (found_in words) schedule (replay_enters words schedule asks)
+
+  replay_has_no_options : (found : Options × Printed) → AreOptionsOf (found_in words) (Some found) → ⊥
+  replay_has_no_options found of =
+      let none : Some found ≡ None = subst (λ o. AreOptionsOf o (Some found)) replay_found.is of in
+      cc
+
+  replay_has_no_check : (found : ℕ × Flags) → IsCheckOf (found_in words) (Some found) → ⊥
+  replay_has_no_check found of =
+      let none : Some found ≡ None = subst (λ o. IsCheckOf o (Some found)) replay_found.is of in
+      cc
+
+  replay_has_no_jobs : (found : Listing) → AreJobsOf (found_in words) (Some found) → ⊥
+  replay_has_no_jobs found of =
+      let none : Some found ≡ None = subst (λ o. AreJobsOf o (Some found)) replay_found.is of in
+      cc
+
+  replay_is_found : schedule_in (found_in words) ≡ None → ⊥
+  replay_is_found none =
+      let both : Some schedule ≡ None = sym (replay_enters words schedule asks) ∙ none in
+      cc
+
+  pub replay_asks : AsksForOne (found_in words)
+  replay_asks = record {
+    explore = λ found of. absurd (replay_has_no_options found of);
+    job = λ found of line has. absurd (replay_has_no_options found of);
+    check = λ found of. absurd (replay_has_no_check found of);
+    jobs = λ found of. absurd (replay_has_no_jobs found of);
+    within = λ found of. absurd (replay_has_no_jobs found of);
+    some = λ none options check jobs. replay_is_found none;
+  }
+
+  pub replay_reads : (w : Words) → IsReadOf (found_in words) w → AsksReplay schedule w
+  replay_reads (Replay word) is =
+      let same : Some (string_bytes word) ≡ Some schedule = sym is ∙ replay_enters words schedule asks in
+      cc
+  replay_reads (Explore options excuses printed) is = replay_has_no_options (options, printed) is.0
+  replay_reads (ExploreJob options excuses line) is = replay_has_no_options (options, report_alone) is.0
+  replay_reads (Check steps flags excuses) is = replay_has_no_check (steps, flags) is.0
+  replay_reads (Jobs place) is = replay_has_no_jobs is.listing is.jobs
 
 -- ---- an exploration
 
-module _ (words : List Text) (options : Options) (excuses : Excuses) (printed : Printed) (asks : IsExplore words options excuses printed) (found : Options × Printed)
-    (is : AreOptionsOf (subcommand_of command_line words) (Some found)) (o : Option (Text × List Row)) (entered : o ≡ subcommand_of command_line words) where
-  explore_rows : rows_in o ≡ rows_of_given exploring asks.given
-  explore_rows = ap rows_in (entered ∙ explore_enters words asks.given options printed asks.says)
+no_schedule : (words : List Text) (word : Text) → schedule_in (found_in words) ≡ None → schedule_in (found_in words) ≡ Some word → ⊥
+no_schedule words word none is =
+    let both : Some word ≡ None = sym is ∙ none in
+    cc
 
-  explore_flags : found.0.flags ≡ options.flags
-  explore_flags = ap (λ (x : Options). x.flags) (explore_reads words asks.given options printed asks.says found is).0
+-- one line of a job is given
+has_line : (lines : List Text) → length lines ≡ 1 → slice_get lines 0 ≡ None → ⊥
+has_line [] one none = absurd (omega arith)
+has_line (line ∷ rest) one none = cc
 
-  explore_asks : AskExcuses found.0.flags (rows_in o) excuses
-  explore_asks =
-      subst (λ flags. AskExcuses flags (rows_in o) excuses) (sym explore_flags)
-      (subst (λ rows. AskExcuses options.flags rows excuses) (sym explore_rows) (given_asks exploring asks.given options.flags excuses asks.excused))
+module _ (words : List Text) (given : List Given) (options : Options) (printed : Printed) (says : AreWordsOfExplore words given options printed) where
+  explore_rows : rows_in (found_in words) ≡ rows_of_given exploring given
+  explore_rows = ap rows_in (explore_enters words given options printed says)
 
-  -- what is read of an exploration is what its words excuse
-  pub explore_excuses : (read : declared.Excuses) → AreExcusesIn found.0.flags (rows_in o) read → excuses_in read ≡ excuses
-  explore_excuses read ok = excuses_same found.0.flags (rows_in o) excuses read explore_asks ok
+  module _ (found : Options × Printed) (of : AreOptionsOf (found_in words) (Some found)) where
+    explore_flags : found.0.flags ≡ options.flags
+    explore_flags = ap (λ (x : Options). x.flags) (explore_reads words given options printed says found of).0
 
-  -- and it is refused only for want of memory
-  pub explore_refused : (e : Error) → ((x : Excuses) → AskExcuses found.0.flags (rows_in o) x → kind_of e ≡ OutOfMemory) → (r : Result Words Error) → r ≡ Err e
-      → AreReadAs (AsksExplore options excuses printed) r
-  explore_refused e refused r err = subst (AreReadAs (AsksExplore options excuses printed)) (sym err) (refused excuses explore_asks)
+    -- the rows ask for what the words excuse
+    explore_excuses : (excuses : Excuses) → AreExcusesOf given options.flags excuses → AskExcuses found.0.flags (rows_in (found_in words)) excuses
+    explore_excuses excuses excused =
+        subst (λ flags. AskExcuses flags (rows_in (found_in words)) excuses) (sym explore_flags)
+        (subst (λ rows. AskExcuses options.flags rows excuses) (sym explore_rows) (given_asks exploring given options.flags excuses excused))
+
+    -- and where that is nothing, nothing was read
+    explore_excuses_nothing : (read : declared.Excuses) → AreExcusesIn found.0.flags (rows_in (found_in words)) read → ExcuseNothing given → ⊥
+    explore_excuses_nothing read excused bad =
+        nothing_is_read exploring given options.flags read says.allow_deadlock
+        (subst (λ flags. AreExcusesIn flags (rows_of_given exploring given) read) explore_flags (subst (λ rows. AreExcusesIn found.0.flags rows read) explore_rows excused)) bad
+
+  pub explore_asks : (excuses : Excuses) → AreExcusesOf given options.flags excuses → ((line : Text) → slice_get (jobs_of given) 0 ≡ Some line → (printed.explained || printed.cover) ≡ false)
+      → AsksForOne (found_in words)
+  explore_asks excuses excused plain = record {
+    explore = λ found of. record { excuses = excuses; asks = explore_excuses found of excuses excused };
+    job = λ found of line has.
+        ap (λ (x : Printed). x.explained || x.cover) (explore_reads words given options printed says found of).1 ∙ plain line (sym (explore_job words given options printed says) ∙ has);
+    check = λ found of. absurd (explore_has_no_check words given options printed says found of);
+    jobs = λ found of. absurd (explore_has_no_jobs words given options printed says found of);
+    within = λ found of. absurd (explore_has_no_jobs words given options printed says found of);
+    some = λ none found check jobs. explore_is_found words given options printed says found;
+  }
+
+  -- what is read of an exploration of all jobs
+  all_jobs_read : (excuses : Excuses) → AreExcusesOf given options.flags excuses → jobs_of given ≡ [] → (w : Words) → IsReadOf (found_in words) w → AsksExplore options excuses printed w
+  all_jobs_read excuses excused none (Replay word) is = no_schedule words (string_bytes word) (explore_has_no_schedule words given options printed says) is
+  all_jobs_read excuses excused none (Explore found read prints) is =
+      let reads = explore_reads words given options printed says (found, prints) is.0 in
+      (reads.0, (excuses_same found.flags (rows_in (found_in words)) excuses read (explore_excuses (found, prints) is.0 excuses excused) is.1.0, reads.1))
+  all_jobs_read excuses excused none (ExploreJob found read line) is =
+      let both : Some (string_bytes line) ≡ None = sym is.1.1 ∙ explore_job words given options printed says ∙ ap (λ l. slice_get l 0) none in
+      cc
+  all_jobs_read excuses excused none (Check steps flags read) is = explore_has_no_check words given options printed says (steps, flags) is.0
+  all_jobs_read excuses excused none (Jobs place) is = explore_has_no_jobs words given options printed says is.listing is.jobs
+
+  -- and of one job alone
+  one_job_read : (excuses : Excuses) (line : Text) → AreExcusesOf given options.flags excuses → jobs_of given ≡ line ∷ [] → (w : Words) → IsReadOf (found_in words) w → AsksExploreJob options excuses line w
+  one_job_read excuses line excused one (Replay word) is = no_schedule words (string_bytes word) (explore_has_no_schedule words given options printed says) is
+  one_job_read excuses line excused one (Explore found read prints) is =
+      let both : Some line ≡ None = sym (ap (λ l. slice_get l 0) one) ∙ sym (explore_job words given options printed says) ∙ is.1.1 in
+      cc
+  one_job_read excuses line excused one (ExploreJob found read word) is =
+      let reads = explore_reads words given options printed says (found, report_alone) is.0 in
+      let same : Some (string_bytes word) ≡ Some line = sym is.1.1 ∙ explore_job words given options printed says ∙ ap (λ l. slice_get l 0) one in
+      let text : string_bytes word ≡ line = cc in
+      (reads.0, (excuses_same found.flags (rows_in (found_in words)) excuses read (explore_excuses (found, report_alone) is.0 excuses excused) is.1.0, text))
+  one_job_read excuses line excused one (Check steps flags read) is = explore_has_no_check words given options printed says (steps, flags) is.0
+  one_job_read excuses line excused one (Jobs place) is = explore_has_no_jobs words given options printed says is.listing is.jobs
+
+  -- nothing is read of an exploration that excuses nothing, or asks for more of a job
+  explore_unread : ExcuseNothing given ⊎ AskMoreOfJob given printed → (w : Words) → IsReadOf (found_in words) w → ⊥
+  explore_unread bad (Replay word) is = no_schedule words (string_bytes word) (explore_has_no_schedule words given options printed says) is
+  explore_unread (inl bad) (Explore found read prints) is = explore_excuses_nothing (found, prints) is.0 read is.1.0 bad
+  explore_unread (inr more) (Explore found read prints) is = has_line (jobs_of given) more.0 (sym (explore_job words given options printed says) ∙ is.1.1)
+  explore_unread (inl bad) (ExploreJob found read line) is = explore_excuses_nothing (found, report_alone) is.0 read is.1.0 bad
+  explore_unread (inr more) (ExploreJob found read line) is =
+      let same : report_alone ≡ printed = (explore_reads words given options printed says (found, report_alone) is.0).1 in
+      true≢false (sym more.1 ∙ sym (ap (λ (x : Printed). x.explained || x.cover) same))
+  explore_unread bad (Check steps flags read) is = explore_has_no_check words given options printed says (steps, flags) is.0
+  explore_unread bad (Jobs place) is = explore_has_no_jobs words given options printed says is.listing is.jobs
+
+pub all_jobs_ask : (words : List Text) (options : Options) (excuses : Excuses) (printed : Printed) → IsExplore words options excuses printed → AsksForOne (found_in words)
+all_jobs_ask words options excuses printed asks =
+    explore_asks words asks.given options printed asks.says excuses asks.excused
+    (λ line is. let both : None ≡ Some line = sym (ap (λ l. slice_get l 0) asks.no_job) ∙ is in cc)
+
+pub all_jobs_reads : (words : List Text) (options : Options) (excuses : Excuses) (printed : Printed) → IsExplore words options excuses printed → (w : Words) → IsReadOf (found_in words) w
+    → AsksExplore options excuses printed w
+all_jobs_reads words options excuses printed asks = all_jobs_read words asks.given options printed asks.says excuses asks.excused asks.no_job
+
+pub one_job_asks : (words : List Text) (options : Options) (excuses : Excuses) (line : Text) → IsExploreJob words options excuses line → AsksForOne (found_in words)
+one_job_asks words options excuses line asks = explore_asks words asks.given options report_alone asks.says excuses asks.excused (λ line is. refl)
+
+pub one_job_reads : (words : List Text) (options : Options) (excuses : Excuses) (line : Text) → IsExploreJob words options excuses line → (w : Words) → IsReadOf (found_in words) w
+    → AsksExploreJob options excuses line w
+one_job_reads words options excuses line asks = one_job_read words asks.given options report_alone asks.says excuses line asks.excused asks.job
 
 -- ---- a check
 
-module _ (words : List Text) (steps : ℕ) (flags : Flags) (excuses : Excuses) (asks : IsCheck words steps flags excuses) (found : ℕ × Flags)
-    (is : IsCheckOf (subcommand_of command_line words) (Some found)) (o : Option (Text × List Row)) (entered : o ≡ subcommand_of command_line words) where
-  check_rows : rows_in o ≡ rows_of_given checking asks.given
-  check_rows = ap rows_in (entered ∙ check_enters words asks.given steps flags asks.says)
+module _ (words : List Text) (given : List Given) (steps : ℕ) (flags : Flags) (says : AreWordsOfCheck words given steps flags) where
+  check_rows : rows_in (found_in words) ≡ rows_of_given checking given
+  check_rows = ap rows_in (check_enters words given steps flags says)
 
-  check_asks : AskExcuses found.1 (rows_in o) excuses
-  check_asks =
-      subst (λ flags. AskExcuses flags (rows_in o) excuses) (sym (check_reads words asks.given steps flags asks.says found is).1)
-      (subst (λ rows. AskExcuses flags rows excuses) (sym check_rows) (given_asks checking asks.given flags excuses asks.excused))
+  module _ (found : ℕ × Flags) (of : IsCheckOf (found_in words) (Some found)) where
+    check_excuses : (excuses : Excuses) → AreExcusesOf given flags excuses → AskExcuses found.1 (rows_in (found_in words)) excuses
+    check_excuses excuses excused =
+        subst (λ flags. AskExcuses flags (rows_in (found_in words)) excuses) (sym (check_reads words given steps flags says found of).1)
+        (subst (λ rows. AskExcuses flags rows excuses) (sym check_rows) (given_asks checking given flags excuses excused))
 
-  pub check_excuses : (read : declared.Excuses) → AreExcusesIn found.1 (rows_in o) read → excuses_in read ≡ excuses
-  check_excuses read ok = excuses_same found.1 (rows_in o) excuses read check_asks ok
+    check_excuses_nothing : (read : declared.Excuses) → AreExcusesIn found.1 (rows_in (found_in words)) read → ExcuseNothing given → ⊥
+    check_excuses_nothing read excused bad =
+        nothing_is_read checking given flags read says.allow_deadlock
+        (subst (λ flags. AreExcusesIn flags (rows_of_given checking given) read) (check_reads words given steps flags says found of).1 (subst (λ rows. AreExcusesIn found.1 rows read) check_rows excused)) bad
 
-  pub check_refused : (e : Error) → ((x : Excuses) → AskExcuses found.1 (rows_in o) x → kind_of e ≡ OutOfMemory) → (r : Result Words Error) → r ≡ Err e
-      → AreReadAs (AsksCheck steps flags excuses) r
-  check_refused e refused r err = subst (AreReadAs (AsksCheck steps flags excuses)) (sym err) (refused excuses check_asks)
+  check_asked : (excuses : Excuses) → AreExcusesOf given flags excuses → AsksForOne (found_in words)
+  check_asked excuses excused = record {
+    explore = λ found of. absurd (check_has_no_options words given steps flags says found of);
+    job = λ found of line has. absurd (check_has_no_options words given steps flags says found of);
+    check = λ found of. record { excuses = excuses; asks = check_excuses found of excuses excused };
+    jobs = λ found of. absurd (check_has_no_jobs words given steps flags says found of);
+    within = λ found of. absurd (check_has_no_jobs words given steps flags says found of);
+    some = λ none options found jobs. check_is_found words given steps flags says found;
+  }
 
--- ---- words that can excuse nothing
+  check_read : (excuses : Excuses) → AreExcusesOf given flags excuses → (w : Words) → IsReadOf (found_in words) w → AsksCheck steps flags excuses w
+  check_read excuses excused (Replay word) is = no_schedule words (string_bytes word) (check_has_no_schedule words given steps flags says) is
+  check_read excuses excused (Explore options read printed) is = check_has_no_options words given steps flags says (options, printed) is.0
+  check_read excuses excused (ExploreJob options read line) is = check_has_no_options words given steps flags says (options, report_alone) is.0
+  check_read excuses excused (Check found counts read) is =
+      let reads = check_reads words given steps flags says (found, counts) is.0 in
+      (reads.0, (reads.1, excuses_same counts (rows_in (found_in words)) excuses read (check_excuses (found, counts) is.0 excuses excused) is.1))
+  check_read excuses excused (Jobs place) is = check_has_no_jobs words given steps flags says is.listing is.jobs
 
-pub unread_is_no_replay : (words : List Text) (schedule : Text) → AreUnreadable words → schedule_in (subcommand_of command_line words) ≡ Some schedule → ⊥
-unread_is_no_replay words schedule (inl it) found =
-    let same : Some schedule ≡ None = sym found ∙ explore_has_no_schedule words it.given it.options it.printed it.says in
-    cc
-unread_is_no_replay words schedule (inr it) found =
-    let same : Some schedule ≡ None = sym found ∙ check_has_no_schedule words it.given it.steps it.flags it.says in
-    cc
+  check_unread : ExcuseNothing given → (w : Words) → IsReadOf (found_in words) w → ⊥
+  check_unread bad (Replay word) is = no_schedule words (string_bytes word) (check_has_no_schedule words given steps flags says) is
+  check_unread bad (Explore options read printed) is = check_has_no_options words given steps flags says (options, printed) is.0
+  check_unread bad (ExploreJob options read line) is = check_has_no_options words given steps flags says (options, report_alone) is.0
+  check_unread bad (Check found counts read) is = check_excuses_nothing (found, counts) is.0 read is.1 bad
+  check_unread bad (Jobs place) is = check_has_no_jobs words given steps flags says is.listing is.jobs
 
-pub unread_is_no_explore : (words : List Text) (found : Options × Printed) → AreUnreadable words → AreOptionsOf (subcommand_of command_line words) (Some found)
-    → (o : Option (Text × List Row)) → o ≡ subcommand_of command_line words → (read : declared.Excuses) → AreExcusesIn found.0.flags (rows_in o) read → ⊥
-unread_is_no_explore words found (inl it) is o entered read ok =
-    let rows : rows_in o ≡ rows_of_given exploring it.given = ap rows_in (entered ∙ explore_enters words it.given it.options it.printed it.says) in
-    let flags : found.0.flags ≡ it.options.flags = ap (λ (x : Options). x.flags) (explore_reads words it.given it.options it.printed it.says found is).0 in
-    nothing_is_read exploring it.given it.options.flags read it.says.allow_deadlock
-    (subst (λ flags. AreExcusesIn flags (rows_of_given exploring it.given) read) flags (subst (λ rows. AreExcusesIn found.0.flags rows read) rows ok)) it.bad
-unread_is_no_explore words found (inr it) is o entered read ok = check_has_no_options words it.given it.steps it.flags it.says found is
+pub check_asks : (words : List Text) (steps : ℕ) (flags : Flags) (excuses : Excuses) → IsCheck words steps flags excuses → AsksForOne (found_in words)
+check_asks words steps flags excuses asks = check_asked words asks.given steps flags asks.says excuses asks.excused
 
-pub unread_is_no_check : (words : List Text) (found : ℕ × Flags) → AreUnreadable words → AreOptionsOf (subcommand_of command_line words) None → IsCheckOf (subcommand_of command_line words) (Some found)
-    → (o : Option (Text × List Row)) → o ≡ subcommand_of command_line words → (read : declared.Excuses) → AreExcusesIn found.1 (rows_in o) read → ⊥
-unread_is_no_check words found (inl it) none is o entered read ok = explore_is_found words it.given it.options it.printed it.says none
-unread_is_no_check words found (inr it) none is o entered read ok =
-    let rows : rows_in o ≡ rows_of_given checking it.given = ap rows_in (entered ∙ check_enters words it.given it.steps it.flags it.says) in
-    let flags : found.1 ≡ it.flags = (check_reads words it.given it.steps it.flags it.says found is).1 in
-    nothing_is_read checking it.given it.flags read it.says.allow_deadlock
-    (subst (λ flags. AreExcusesIn flags (rows_of_given checking it.given) read) flags (subst (λ rows. AreExcusesIn found.1 rows read) rows ok)) it.bad
+pub check_is_read : (words : List Text) (steps : ℕ) (flags : Flags) (excuses : Excuses) → IsCheck words steps flags excuses → (w : Words) → IsReadOf (found_in words) w → AsksCheck steps flags excuses w
+check_is_read words steps flags excuses asks = check_read words asks.given steps flags asks.says excuses asks.excused
+
+-- ---- jobs
+
+module _ (words : List Text) (given : List Given) (steps place : ℕ) (flags : Flags) (says : AreWordsOfJobs words given steps place flags) where
+  jobs_rows : rows_in (found_in words) ≡ rows_of_given listing given
+  jobs_rows = ap rows_in (jobs_enter words given steps place flags says)
+
+  module _ (found : Listing) (of : AreJobsOf (found_in words) (Some found)) where
+    jobs_excuses : (excuses : Excuses) → AreExcusesOf given flags excuses → AskExcuses found.flags (rows_in (found_in words)) excuses
+    jobs_excuses excuses excused =
+        subst (λ flags. AskExcuses flags (rows_in (found_in words)) excuses) (sym (jobs_read words given steps place flags says found of).1.1)
+        (subst (λ rows. AskExcuses flags rows excuses) (sym jobs_rows) (given_asks listing given flags excuses excused))
+
+    jobs_excuse_nothing : (read : declared.Excuses) → AreExcusesIn found.flags (rows_in (found_in words)) read → ExcuseNothing given → ⊥
+    jobs_excuse_nothing read excused bad =
+        nothing_is_read listing given flags read says.allow_deadlock
+        (subst (λ flags. AreExcusesIn flags (rows_of_given listing given) read) (jobs_read words given steps place flags says found of).1.1
+        (subst (λ rows. AreExcusesIn found.flags rows read) jobs_rows excused)) bad
+
+    -- they are no deeper than the tree where the words say so
+    jobs_within : place ≤ steps → found.at ≤ found.depth
+    jobs_within within =
+        let reads = jobs_read words given steps place flags says found of in
+        omega (arith, within, reads.0, reads.1.0)
+
+    jobs_past : steps < place → found.at ≤ found.depth → ⊥
+    jobs_past past within =
+        let reads = jobs_read words given steps place flags says found of in
+        absurd (omega (arith, past, within, reads.0, reads.1.0))
+
+  jobs_asked : (excuses : Excuses) → AreExcusesOf given flags excuses → place ≤ steps → AsksForOne (found_in words)
+  jobs_asked excuses excused within = record {
+    explore = λ found of. absurd (jobs_have_no_options words given steps place flags says found of);
+    job = λ found of line has. absurd (jobs_have_no_options words given steps place flags says found of);
+    check = λ found of. absurd (jobs_have_no_check words given steps place flags says found of);
+    jobs = λ found of. record { excuses = excuses; asks = jobs_excuses found of excuses excused };
+    within = λ found of. jobs_within found of within;
+    some = λ none options check found. jobs_are_found words given steps place flags says found;
+  }
+
+  jobs_are_read : (w : Words) → IsReadOf (found_in words) w → AsksJobs place w
+  jobs_are_read (Replay word) is = no_schedule words (string_bytes word) (jobs_have_no_schedule words given steps place flags says) is
+  jobs_are_read (Explore options read printed) is = jobs_have_no_options words given steps place flags says (options, printed) is.0
+  jobs_are_read (ExploreJob options read line) is = jobs_have_no_options words given steps place flags says (options, report_alone) is.0
+  jobs_are_read (Check found counts read) is = jobs_have_no_check words given steps place flags says (found, counts) is.0
+  jobs_are_read (Jobs found) is = is.place_is ∙ (jobs_read words given steps place flags says is.listing is.jobs).1.0
+
+  jobs_unread : ExcuseNothing given ⊎ (steps < place) → (w : Words) → IsReadOf (found_in words) w → ⊥
+  jobs_unread bad (Replay word) is = no_schedule words (string_bytes word) (jobs_have_no_schedule words given steps place flags says) is
+  jobs_unread bad (Explore options read printed) is = jobs_have_no_options words given steps place flags says (options, printed) is.0
+  jobs_unread bad (ExploreJob options read line) is = jobs_have_no_options words given steps place flags says (options, report_alone) is.0
+  jobs_unread bad (Check found counts read) is = jobs_have_no_check words given steps place flags says (found, counts) is.0
+  jobs_unread (inl bad) (Jobs found) is = jobs_excuse_nothing is.listing is.jobs is.excuses is.excused bad
+  jobs_unread (inr past) (Jobs found) is = jobs_past is.listing is.jobs past is.within
+
+pub jobs_ask : (words : List Text) (place : ℕ) → IsJobs words place → AsksForOne (found_in words)
+jobs_ask words place asks = jobs_asked words asks.given asks.steps place asks.flags asks.says asks.excuses asks.excused asks.within
+
+pub jobs_reads : (words : List Text) (place : ℕ) → IsJobs words place → (w : Words) → IsReadOf (found_in words) w → AsksJobs place w
+jobs_reads words place asks = jobs_are_read words asks.given asks.steps place asks.flags asks.says
+
+-- ---- any words
+
+pub nothing_unread : (words : List Text) → AreUnreadable words → (w : Words) → IsReadOf (found_in words) w → ⊥
+nothing_unread words (inl it) w is = explore_unread words it.given it.options it.printed it.says it.bad w is
+nothing_unread words (inr (inl it)) w is = check_unread words it.given it.steps it.flags it.says it.bad w is
+nothing_unread words (inr (inr it)) w is = jobs_unread words it.given it.steps it.place it.flags it.says it.bad w is
+
+module _ (words : List Text) (none : fault_of command_line words ≡ []) where
+  -- what is read of words that are not at fault is in its range
+  pub read_in_range : (w : Words) → IsReadOf (found_in words) w → IsInRange w
+  read_in_range (Replay word) is = tt
+  read_in_range (Explore options excuses printed) is = (found_in_range words (options, printed) none is.0, is.1.0.in_range)
+  read_in_range (ExploreJob options excuses line) is = (found_in_range words (options, report_alone) none is.0, is.1.0.in_range)
+  read_in_range (Check steps flags excuses) is = (check_in_range words (steps, flags) none is.0, is.1.in_range)
+  read_in_range (Jobs place) is = subst (λ n. n ≤ 400) (sym is.place_is) (jobs_in_range words is.listing none is.jobs)
+
+  -- and they begin with its name
+  pub read_is_named : (w : Words) → IsReadOf (found_in words) w → IsNamed words (command_of w)
+  read_is_named (Replay word) is = replay_named words (string_bytes word) none is
+  read_is_named (Explore options excuses printed) is = explore_named words (options, printed) none is.0
+  read_is_named (ExploreJob options excuses line) is = explore_named words (options, report_alone) none is.0
+  read_is_named (Check steps flags excuses) is = check_named words (steps, flags) none is.0
+  read_is_named (Jobs place) is = jobs_named words is.listing none is.jobs

@@ -1,5 +1,5 @@
 -- What the words of a command line ask for.
-use Rattle.std.specs.Prelude.{◌≡◌, ◌⊎◌, ℕ, ◌==◌, ◌<◌, ◌≤◌, ◌&&◌, Bool, true, false, List, [], ◌∷◌, ◌++◌, length, map, codes, count_by, if◌then◌else◌, Result, MatchResult, string_bytes}
+use Rattle.std.specs.Prelude.{◌≡◌, ◌⊎◌, ℕ, ◌==◌, ◌<◌, ◌≤◌, ◌&&◌, ◌||◌, Bool, true, false, List, [], ◌∷◌, ◌++◌, length, map, codes, count_by, if◌then◌else◌, Result, MatchResult, string_bytes}
 use Rattle.std.specs.Fmt.{decimal}
 use Rattle.std.specs.List.{AllByRecursion}
 use Rattle.clap.specs.Values.{kind_of}
@@ -13,7 +13,7 @@ use Rattle.findings.specs.declared.flags.Flags.{Flags}
 use Rattle.findings.specs.declared.options.Options.{Options}
 use Rattle.command_words.specs.declared.words.Printed.{Printed}
 use Rattle.command_words.specs.declared.words.Words.{Words}
-use Rattle.command_words.specs.declared.words.Words.TheVariants.{Replay, Explore, Check}
+use Rattle.command_words.specs.declared.words.Words.TheVariants.{Replay, Explore, ExploreJob, Check, Jobs}
 
 -- a word that begins with a hyphen, which the parser may take for an option
 abbrev pub begins_with_hyphen : List ℕ → Bool
@@ -26,7 +26,7 @@ pub record IsReplay (words : List (List ℕ)) (schedule : List ℕ) : Type 0 whe
   pub words_are : words ≡ name ∷ codes "replay" ∷ schedule ∷ []
   pub plain : begins_with_hyphen schedule ≡ false
 
--- an option of `explore` or of `check`, as it may be given
+-- an option of `explore`, of `check` or of `jobs`, as it may be given
 pub data Given : Type 0 where
   depth : ℕ → Given
   nodes : ℕ → Given
@@ -37,8 +37,10 @@ pub data Given : Type 0 where
   strict_access : Given
   explain : Given
   cover : Given
+  at : ℕ → Given
+  job : (line : List ℕ) → Given
 
--- its words: a number is given by its decimal digits, a term by its text
+-- its words: a number is given by its decimal digits, a term by its text, and a job by its line
 abbrev pub words_of : Given → List (List ℕ)
 words_of (depth n) = codes "--depth" ∷ decimal n ∷ []
 words_of (nodes n) = codes "--nodes" ∷ decimal n ∷ []
@@ -49,6 +51,8 @@ words_of (normal text) = codes "--normal" ∷ text ∷ []
 words_of strict_access = codes "--strict-access" ∷ []
 words_of explain = codes "--explain" ∷ []
 words_of cover = codes "--cover" ∷ []
+words_of (at n) = codes "--at" ∷ decimal n ∷ []
+words_of (job line) = codes "--job" ∷ line ∷ []
 
 -- the words of one option after another
 abbrev pub words_of_all : List Given → List (List ℕ)
@@ -78,6 +82,18 @@ abbrev pub texts_of : List Given → List (List ℕ)
 texts_of [] = []
 texts_of (normal text ∷ rest) = text ∷ texts_of rest
 texts_of (_ ∷ rest) = texts_of rest
+
+-- the numbers that are given by `--at`
+abbrev pub ats_of : List Given → List ℕ
+ats_of [] = []
+ats_of (at n ∷ rest) = n ∷ ats_of rest
+ats_of (_ ∷ rest) = ats_of rest
+
+-- the lines that are given by `--job`
+abbrev pub jobs_of : List Given → List (List ℕ)
+jobs_of [] = []
+jobs_of (job line ∷ rest) = line ∷ jobs_of rest
+jobs_of (_ ∷ rest) = jobs_of rest
 
 -- whether it is the option that counts a deadlock as no error
 abbrev pub is_allow_deadlock : Given → Bool
@@ -140,7 +156,7 @@ pub record AreExcusesOf (given : List Given) (flags : Flags) (excuses : Excuses)
 abbrev pub ArePlain : List (List ℕ) → Type 0
 ArePlain = AllByRecursion (λ text. begins_with_hyphen text ≡ false)
 
--- the words are the name of the program, `explore` and these options in any order: `--depth` once, `--normal` any number of times, each other one once or not at all
+-- the words are the name of the program, `explore` and these options in any order: `--depth` once, `--normal` any number of times, each other one once or not at all, and no `--at`
 pub record AreWordsOfExplore (words : List (List ℕ)) (given : List Given) (options : Options) (printed : Printed) : Type 0 where
   pub name : List ℕ
   pub words_are : words ≡ name ∷ codes "explore" ∷ words_of_all given
@@ -153,9 +169,12 @@ pub record AreWordsOfExplore (words : List (List ℕ)) (given : List Given) (opt
   pub strict_access : count_by is_strict_access given ≡ (if options.flags.strict_access then 1 else 0)
   pub explain : count_by is_explain given ≡ (if printed.explained then 1 else 0)
   pub cover : count_by is_cover given ≡ (if printed.cover then 1 else 0)
+  pub job : length (jobs_of given) ≤ 1
+  pub line : ArePlain (jobs_of given)
+  pub no_at : ats_of given ≡ []
   pub in_range : AreInRange options
 
--- the words are the name of the program, `check` and these options in any order: `--depth` once, `--normal` any number of times, each of its flags once or not at all, and no option that is of `explore` alone
+-- the words are the name of the program, `check` and these options in any order: `--depth` once, `--normal` any number of times, each of its flags once or not at all, and no option that is of another command alone
 pub record AreWordsOfCheck (words : List (List ℕ)) (given : List Given) (steps : ℕ) (flags : Flags) : Type 0 where
   pub name : List ℕ
   pub words_are : words ≡ name ∷ codes "check" ∷ words_of_all given
@@ -168,19 +187,61 @@ pub record AreWordsOfCheck (words : List (List ℕ)) (given : List Given) (steps
   pub no_workers : workers_of given ≡ []
   pub no_explain : count_by is_explain given ≡ 0
   pub no_cover : count_by is_cover given ≡ 0
+  pub no_at : ats_of given ≡ []
+  pub no_job : jobs_of given ≡ []
   pub in_range : steps ≤ 400
 
--- the words are those of `explore` with these options, and excuse this
+-- the words are the name of the program, `jobs` and these options in any order: `--depth` and `--at` once each, `--normal` any number of times, each of its flags once or not at all, and no option that is of `explore` alone
+pub record AreWordsOfJobs (words : List (List ℕ)) (given : List Given) (steps place : ℕ) (flags : Flags) : Type 0 where
+  pub name : List ℕ
+  pub words_are : words ≡ name ∷ codes "jobs" ∷ words_of_all given
+  pub depth : depths_of given ≡ steps ∷ []
+  pub at : ats_of given ≡ place ∷ []
+  pub allow_deadlock : count_by is_allow_deadlock given ≡ (if flags.allow_deadlock then 1 else 0)
+  pub main_deadlock : count_by is_main_deadlock given ≤ 1
+  pub normal : ArePlain (texts_of given)
+  pub strict_access : count_by is_strict_access given ≡ (if flags.strict_access then 1 else 0)
+  pub no_nodes : nodes_of given ≡ []
+  pub no_workers : workers_of given ≡ []
+  pub no_explain : count_by is_explain given ≡ 0
+  pub no_cover : count_by is_cover given ≡ 0
+  pub no_job : jobs_of given ≡ []
+  pub in_range : steps ≤ 400
+  pub at_in_range : place ≤ 400
+
+-- what is printed where neither option asks for more: the report alone
+abbrev pub report_alone : Printed
+report_alone = record { explained = false; cover = false }
+
+-- the words are those of `explore` with these options and without a job, and excuse this
 pub record IsExplore (words : List (List ℕ)) (options : Options) (excuses : Excuses) (printed : Printed) : Type 0 where
   pub given : List Given
   pub says : AreWordsOfExplore words given options printed
   pub excused : AreExcusesOf given options.flags excuses
+  pub no_job : jobs_of given ≡ []
+
+-- the words are those of `explore` with these options and the job of this line, of which the report alone is printed, and excuse this
+pub record IsExploreJob (words : List (List ℕ)) (options : Options) (excuses : Excuses) (line : List ℕ) : Type 0 where
+  pub given : List Given
+  pub says : AreWordsOfExplore words given options report_alone
+  pub excused : AreExcusesOf given options.flags excuses
+  pub job : jobs_of given ≡ line ∷ []
 
 -- the words are those of `check` with these options, and excuse this
 pub record IsCheck (words : List (List ℕ)) (steps : ℕ) (flags : Flags) (excuses : Excuses) : Type 0 where
   pub given : List Given
   pub says : AreWordsOfCheck words given steps flags
   pub excused : AreExcusesOf given flags excuses
+
+-- the words are those of `jobs` for this depth, which is at most that of the tree, and excuse something or nothing
+pub record IsJobs (words : List (List ℕ)) (place : ℕ) : Type 0 where
+  pub given : List Given
+  pub steps : ℕ
+  pub flags : Flags
+  pub excuses : Excuses
+  pub says : AreWordsOfJobs words given steps place flags
+  pub excused : AreExcusesOf given flags excuses
+  pub within : place ≤ steps
 
 -- one of the texts is that of no term that a program can hold
 abbrev pub HasNoTerm : List (List ℕ) → Type 0
@@ -191,13 +252,17 @@ HasNoTerm (text ∷ rest) = ((term : Meaning) → IsLawful term → text ≡ tex
 abbrev pub ExcuseNothing : List Given → Type 0
 ExcuseNothing given = HasNoTerm (texts_of given) ⊎ ((16 < length (texts_of given)) ⊎ ((count_by is_allow_deadlock given ≡ 1) × (count_by is_main_deadlock given ≡ 1)))
 
--- the words are those of `explore` but for what they excuse
+-- a job is given, and with it what is printed of no job alone
+abbrev pub AskMoreOfJob : List Given → Printed → Type 0
+AskMoreOfJob given printed = (length (jobs_of given) ≡ 1) × ((printed.explained || printed.cover) ≡ true)
+
+-- the words are those of `explore` but for what they excuse, or what they print of a job
 pub record IsNoExplore (words : List (List ℕ)) : Type 0 where
   pub given : List Given
   pub options : Options
   pub printed : Printed
   pub says : AreWordsOfExplore words given options printed
-  pub bad : ExcuseNothing given
+  pub bad : ExcuseNothing given ⊎ AskMoreOfJob given printed
 
 -- the words are those of `check` but for what they excuse
 pub record IsNoCheck (words : List (List ℕ)) : Type 0 where
@@ -207,9 +272,18 @@ pub record IsNoCheck (words : List (List ℕ)) : Type 0 where
   pub says : AreWordsOfCheck words given steps flags
   pub bad : ExcuseNothing given
 
--- the words are those of a command but for what they excuse
+-- the words are those of `jobs` but for what they excuse, or for a depth past that of the tree
+pub record IsNoJobs (words : List (List ℕ)) : Type 0 where
+  pub given : List Given
+  pub steps : ℕ
+  pub place : ℕ
+  pub flags : Flags
+  pub says : AreWordsOfJobs words given steps place flags
+  pub bad : ExcuseNothing given ⊎ (steps < place)
+
+-- the words are those of a command but for what they excuse, what they print of a job, or where they look for jobs
 abbrev pub AreUnreadable : List (List ℕ) → Type 0
-AreUnreadable words = IsNoExplore words ⊎ IsNoCheck words
+AreUnreadable words = IsNoExplore words ⊎ (IsNoCheck words ⊎ IsNoJobs words)
 
 -- the words are the name of the program, this name of a command, and others
 pub record IsNamed (words : List (List ℕ)) (command : List ℕ) : Type 0 where
@@ -221,7 +295,9 @@ pub record IsNamed (words : List (List ℕ)) (command : List ℕ) : Type 0 where
 abbrev pub command_of : Words → List ℕ
 command_of (Replay word) = codes "replay"
 command_of (Explore options excuses printed) = codes "explore"
+command_of (ExploreJob options excuses line) = codes "explore"
 command_of (Check steps flags excuses) = codes "check"
+command_of (Jobs place) = codes "jobs"
 
 -- what was read is the replay of this schedule
 abbrev pub AsksReplay : List ℕ → Words → Type 0
@@ -233,16 +309,28 @@ abbrev pub AsksExplore : Options → Excuses → Printed → Words → Type 0
 AsksExplore options excuses printed (Explore found excused prints) = (found ≡ options) × ((excuses_in excused ≡ excuses) × (prints ≡ printed))
 AsksExplore options excuses printed _ = ⊥
 
+-- what was read is an exploration of the job of this line with these options, that excuses this
+abbrev pub AsksExploreJob : Options → Excuses → List ℕ → Words → Type 0
+AsksExploreJob options excuses line (ExploreJob found excused text) = (found ≡ options) × ((excuses_in excused ≡ excuses) × (string_bytes text ≡ line))
+AsksExploreJob options excuses line _ = ⊥
+
 -- what was read is the check of a cover up to this number of steps, with these flags, that excuses this
 abbrev pub AsksCheck : ℕ → Flags → Excuses → Words → Type 0
 AsksCheck steps flags excuses (Check found counts excused) = (found ≡ steps) × ((counts ≡ flags) × (excuses_in excused ≡ excuses))
 AsksCheck steps flags excuses _ = ⊥
 
+-- what was read asks for the jobs at this depth
+abbrev pub AsksJobs : ℕ → Words → Type 0
+AsksJobs place (Jobs found) = found ≡ place
+AsksJobs place _ = ⊥
+
 -- the numbers of a command are in their ranges, and so is what it excuses
 abbrev pub IsInRange : Words → Type 0
 IsInRange (Replay word) = Unit {0}
 IsInRange (Explore options excuses printed) = AreInRange options × AreExcusesInRange options.flags (excuses_in excuses)
+IsInRange (ExploreJob options excuses line) = AreInRange options × AreExcusesInRange options.flags (excuses_in excuses)
 IsInRange (Check steps flags excuses) = (steps ≤ 400) × AreExcusesInRange flags (excuses_in excuses)
+IsInRange (Jobs place) = place ≤ 400
 
 -- the words were read as what they ask for, or there was no memory for them
 abbrev pub AreReadAs : (Words → Type 0) → Result Words Error → Type 0

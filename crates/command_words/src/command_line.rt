@@ -2,8 +2,8 @@
 ghost use Rattle.std.specs.Prelude.{◌≡◌, codes, option_map, IfOk, IfErr};
 ghost use Rattle.clap.specs.Values.{kind_of};
 ghost use Rattle.clap.specs.Words.{app_of, found_of, one_of, rows_of, subcommand_rows_of};
-ghost use Rattle.command_words.specs.inside.CommandLine.{IsArgument, IsMadeAs, check_command, command_line, depth_rule, explore_command, flag_rule, nodes_rule, normal_rule, replay_command, workers_rule};
-ghost use Rattle.command_words.specs.inside.Found.{AreFlagsOf, AreOptionsOf, IsCheckOf, IsPrintedOf, ReadsNumber, schedule_in};
+ghost use Rattle.command_words.specs.inside.CommandLine.{IsArgument, IsMadeAs, at_rule, check_command, command_line, depth_rule, explore_command, flag_rule, job_rule, jobs_command, nodes_rule, normal_rule, replay_command, workers_rule};
+ghost use Rattle.command_words.specs.inside.Found.{AreFlagsOf, AreJobsOf, AreOptionsOf, IsCheckOf, IsPrintedOf, ReadsNumber, job_in, schedule_in};
 
 use crate::help;
 use crate::words::Printed;
@@ -18,6 +18,17 @@ pub const NAME: &str = "schedule_explorer";
 /// How many nodes a worker visits before it hands the rest back.
 pub const BUDGET: u64 = 64;
 
+// What is read of the words of `jobs`.
+#[derive(Clone, Copy)]
+pub(crate) struct Listing {
+    // How deep the tree is.
+    pub depth: u64,
+    // How deep the jobs stand in it.
+    pub at: u64,
+    // What counts as an error.
+    pub flags: Flags,
+}
+
 // The program's command line.
 pub(crate) fn command<'a>(alloc: Global) -> Result<Command<'a>, Error>
     ensures line { IfOk result (λ made. app_of made ≡ command_line) }
@@ -29,7 +40,8 @@ pub(crate) fn command<'a>(alloc: Global) -> Result<Command<'a>, Error>
         .subcommand_required(true)
         .subcommand(replay_command(alloc)?)?
         .subcommand(explore_command(alloc)?)?
-        .subcommand(check_command(alloc)?)?;
+        .subcommand(check_command(alloc)?)?
+        .subcommand(jobs_command(alloc)?)?;
     Ok(explorer)
 }
 
@@ -73,7 +85,8 @@ fn explore_command<'a>(alloc: Global) -> Result<Command<'a>, Error>
             alloc,
             "cover",
             "Prints behind a clean report its cover, for `check`",
-        ))?;
+        ))?
+        .arg(job_option(alloc))?;
     Ok(explore)
 }
 
@@ -93,6 +106,23 @@ fn check_command<'a>(alloc: Global) -> Result<Command<'a>, Error>
     Ok(check)
 }
 
+// `jobs` and its options.
+fn jobs_command<'a>(alloc: Global) -> Result<Command<'a>, Error>
+    ensures line { IfOk result (λ made. IsMadeAs jobs_command made) }
+    ensures memory { IfErr result (λ e. kind_of e ≡ ErrorKind.OutOfMemory) }
+{
+    let jobs = Command::new(alloc, "jobs")
+        .about("Lists the jobs that stand at one depth of the tree of schedules")
+        .after_help(help::OF_JOBS)
+        .arg(depth_option(alloc))?
+        .arg(at_option(alloc))?
+        .arg(allow_deadlock_flag(alloc))?
+        .arg(main_deadlock_flag(alloc))?
+        .arg(normal_option(alloc))?
+        .arg(strict_access_flag(alloc))?;
+    Ok(jobs)
+}
+
 // `--depth N`.
 fn depth_option<'a>(alloc: Global) -> Arg<'a>
     ensures { IsArgument depth_rule result }
@@ -104,6 +134,19 @@ fn depth_option<'a>(alloc: Global) -> Arg<'a>
         .value_name("N")
         .value_parser(value_parser!(u64).range(0..=400))
         .help("How many steps a schedule may have, from 0 to 400")
+}
+
+// `--at D`.
+fn at_option<'a>(alloc: Global) -> Arg<'a>
+    ensures { IsArgument at_rule result }
+{
+    Arg::new(alloc, "at")
+        .long("at")
+        .required(true)
+        .action(ArgAction::Set)
+        .value_name("D")
+        .value_parser(value_parser!(u64).range(0..=400))
+        .help("How many steps lead to each of the jobs, from 0 to N")
 }
 
 // `--nodes N`.
@@ -165,6 +208,19 @@ fn normal_option<'a>(alloc: Global) -> Arg<'a>
         .help("Does not count an end with this reason as an error,\nup to 16 times")
 }
 
+// `--job LINE`.
+fn job_option<'a>(alloc: Global) -> Arg<'a>
+    ensures { IsArgument job_rule result }
+{
+    Arg::new(alloc, "job")
+        .long("job")
+        .action(ArgAction::Set)
+        .value_name("LINE")
+        .help(
+            "Explores the nodes of one job alone, whose line `jobs`\nprints; not with --explain, and not with --cover",
+        )
+}
+
 // `--strict-access`.
 fn strict_access_flag<'a>(alloc: Global) -> Arg<'a>
     ensures { IsArgument (flag_rule (codes "strict-access")) result }
@@ -214,6 +270,27 @@ pub(crate) fn found_check(matches: &ArgMatches<'_>) -> Option<(u64, Flags)>
 {
     let given = matches.subcommand_matches("check")?;
     Some((found_number(given, "depth")?, found_flags(given)))
+}
+
+// The depth of the tree whose jobs are listed, that of the jobs, and what counts as an error.
+pub(crate) fn found_jobs(matches: &ArgMatches<'_>) -> Option<Listing>
+    ensures { AreJobsOf (subcommand_rows_of matches.now) result }
+{
+    let given = matches.subcommand_matches("jobs")?;
+    let depth = found_number(given, "depth")?;
+    let at = found_number(given, "at")?;
+    Some(Listing {
+        depth,
+        at,
+        flags: found_flags(given),
+    })
+}
+
+// The line of the job that is explored alone.
+pub(crate) fn found_job<'a>(matches: &ArgMatches<'a>) -> Option<&'a str>
+    ensures { option_map (λ line. line.now) result ≡ job_in (subcommand_rows_of matches.now) }
+{
+    matches.subcommand_matches("explore")?.get_str("job")
 }
 
 // What counts as an error.

@@ -8,9 +8,10 @@ its cover stands behind it. A refusal is one line on standard error.
 
 Statuses:
   0   the schedule was replayed, or all nodes were visited and none shows an
-      error, or the cover is good
+      error, or the cover is good, or the jobs were listed
   1   all nodes were visited, and some show errors
-  2   the module, the schedule or the cover was refused, or a read failed
+  2   the module, the schedule, the cover or the job was refused, or a read
+      failed
   3   memory was wanting, or not all nodes were visited
   4   the output failed
   64  the words were refused, or ask for help
@@ -42,11 +43,13 @@ Standard input: the text of one module, at most 1048576 bytes.
 Standard output: the report, each finding with a schedule that `replay` takes.
 A TERM is written as the report prints it: 'shutdown' or {'error',1}. What is
 excused by --normal or --main-deadlock is listed all the same, as normal.
+A LINE is one that `jobs` prints for this module and depth. With --job the nodes
+of that job are all nodes: its own, and those below it.
 
 Statuses:
   0   all nodes were visited, and none shows an error
   1   all nodes were visited, and some show errors
-  2   the module was refused, or a read failed
+  2   the module or the job was refused, or a read failed
   3   memory was wanting, or not all nodes were visited
   4   the output failed
   64  the words were refused, or ask for help
@@ -71,3 +74,24 @@ Example:
   schedule_explorer explore --depth 12 --cover < m.core > m.report
   { cat m.core; echo; sed -n '/^%%cover$/,$p' m.report; } > m.cover
   schedule_explorer check --depth 12 < m.cover";
+
+/// Of `jobs`.
+pub(crate) const OF_JOBS: &str = "\
+Standard input: the text of one module, at most 1048576 bytes.
+Standard output: a line for each job, SCHEDULE | SLEEPING: the D steps that lead
+to its node, and the steps that sleep there. `explore --job LINE` explores its
+nodes alone. The nodes of all these jobs are those of the tree, but for the ones
+that fewer than D steps lead to.
+The options that say what counts as an error are read as `check` reads them, so
+that one list of options does for all commands. They change no job.
+
+Statuses:
+  0   all jobs at depth D were listed, or there are none
+  2   the module was refused, or a read failed
+  3   memory was wanting
+  4   the output failed
+  64  the words were refused, or ask for help
+
+Example:
+  schedule_explorer jobs --depth 20 --at 4 < m.core > m.jobs
+  schedule_explorer explore --depth 20 --job \"$(head -n 1 m.jobs)\" < m.core";

@@ -1,18 +1,23 @@
 // The words of a command line.
-ghost use Rattle.std.specs.Prelude.{ℕ, List, map, IfOk, IsErr};
+ghost use Rattle.std.specs.Prelude.{◌≡◌, ℕ, List, map, IfOk, IfErr, IsErr};
+ghost use Rattle.clap.specs.Values.{kind_of};
+ghost use Rattle.clap.specs.Words.{subcommand_rows_of};
 ghost use Rattle.excuses.specs.Excuses.{Excuses as Excused};
 ghost use Rattle.findings.specs.declared.flags.Flags.{Flags};
 ghost use Rattle.findings.specs.declared.options.Options.{Options};
 ghost use Rattle.command_words.specs.declared.words.Printed.{Printed};
-ghost use Rattle.command_words.specs.Words.{AreReadAs, AreUnreadable, AsksCheck, AsksExplore, AsksReplay, IsCheck, IsExplore, IsInRange, IsNamed, IsReplay, command_of};
+ghost use Rattle.command_words.specs.Words.{AreReadAs, AreUnreadable, AsksCheck, AsksExplore, AsksExploreJob, AsksJobs, AsksReplay, IsCheck, IsExplore, IsExploreJob, IsInRange, IsJobs, IsNamed, IsReplay, command_of};
+ghost use Rattle.command_words.specs.inside.Found.{AreJobsReadOf, AsksForOne, IsCheckReadOf, IsExploreReadOf, IsReadOf, IsReplayReadOf};
 
-use crate::command_line::{NAME, command, found_check, found_options, found_schedule};
+use crate::command_line::{
+    Listing, NAME, command, found_check, found_job, found_jobs, found_options, found_schedule,
+};
 use crate::excused::read_excuses;
 use clap::error::ErrorKind;
-use clap::{Command, Error};
+use clap::{ArgMatches, Command, Error};
 use excuses::Excuses;
 use findings::{Flags, Options};
-use std::alloc::Global;
+use std::alloc::{AllocError, Global};
 use std::convert::AsStr;
 
 /// What an exploration prints with its report.
@@ -31,8 +36,12 @@ pub enum Words {
     Replay(String),
     /// `explore`, with its options, what it excuses and what it prints: to explore the schedules of the module on standard input.
     Explore(Options, Excuses, Printed),
+    /// `explore --job LINE`, with its options, what it excuses and the line of the job: to explore the nodes of this job alone.
+    ExploreJob(Options, Excuses, String),
     /// `check`, with the depth, what counts as an error and what is excused: to check the cover behind the module on standard input.
     Check(u64, Flags, Excuses),
+    /// `jobs`, with the depth of the jobs, which are no deeper than their tree: to list the jobs of the module on standard input.
+    Jobs(u64),
 }
 
 /// Reads the words of a command line, of which the first is the program's name.
@@ -41,29 +50,111 @@ pub enum Words {
 ///
 /// The parser's error where the words are not those of a command, where they ask for help, and where
 /// there was no memory; an error of the same form where a text of `--normal` is that of no term, where
-/// there are more than 16, and where both flags of deadlocks are given.
+/// there are more than 16, where both flags of deadlocks are given, where a job is given with `--explain`
+/// or `--cover`, and where `--at` is greater than `--depth`.
 pub fn read_words<S: AsStr>(alloc: Global, words: &[S]) -> Result<Words, Error>
     ensures replay { (schedule : List ℕ) → IsReplay (map S.text words.now) schedule → AreReadAs (AsksReplay schedule) result }
     ensures explore { (options : Options) (excuses : Excused) (printed : Printed) → IsExplore (map S.text words.now) options excuses printed
         → AreReadAs (AsksExplore options excuses printed) result }
+    ensures explore_job { (options : Options) (excuses : Excused) (line : List ℕ) → IsExploreJob (map S.text words.now) options excuses line
+        → AreReadAs (AsksExploreJob options excuses line) result }
     ensures check { (depth : ℕ) (flags : Flags) (excuses : Excused) → IsCheck (map S.text words.now) depth flags excuses → AreReadAs (AsksCheck depth flags excuses) result }
-    // No text that is that of no term is skipped, nor one past the 16th, nor a flag.
+    ensures jobs { (place : ℕ) → IsJobs (map S.text words.now) place → AreReadAs (AsksJobs place) result }
+    // No text that is that of no term is skipped, nor one past the 16th, nor a flag, nor a job, nor a depth past that of the tree.
     ensures unread { AreUnreadable (map S.text words.now) → IsErr result }
     ensures range { IfOk result IsInRange }
     ensures named { IfOk result (λ read. IsNamed (map S.text words.now) (command_of read)) }
 {
     let command = command(alloc)?;
     let matches = command.try_get_matches_from(words)?;
-    if let Some(schedule) = found_schedule(&matches) {
-        return Ok(Words::Replay(String::from_str(alloc, schedule)?));
+    read_command(alloc, &matches)
+}
+
+// What the command that was found asks for.
+fn read_command(alloc: Global, matches: &ArgMatches<'_>) -> Result<Words, Error>
+    ensures ok { IfOk result (IsReadOf (subcommand_rows_of matches.now)) }
+    ensures refused { IfErr result (λ e. AsksForOne (subcommand_rows_of matches.now) → kind_of e ≡ ErrorKind.OutOfMemory) }
+{
+    if let Some(replay) = read_replay(alloc, matches)? {
+        return Ok(replay);
     }
-    if let Some((options, printed)) = found_options(&matches) {
-        let excuses = read_excuses(alloc, &matches, options.flags)?;
-        return Ok(Words::Explore(options, excuses, printed));
+    if let Some(exploration) = read_exploration(alloc, matches)? {
+        return Ok(exploration);
     }
-    let Some((depth, flags)) = found_check(&matches) else {
-        return Err(Command::new(alloc, NAME).error(ErrorKind::MissingSubcommand, "no command")?);
+    if let Some(check) = read_check(alloc, matches)? {
+        return Ok(check);
+    }
+    if let Some(jobs) = read_jobs(alloc, matches)? {
+        return Ok(jobs);
+    }
+    Err(Command::new(alloc, NAME).error(ErrorKind::MissingSubcommand, "no command")?)
+}
+
+// A replay, where it was found.
+fn read_replay(alloc: Global, matches: &ArgMatches<'_>) -> Result<Option<Words>, AllocError>
+    ensures { IfOk result (IsReplayReadOf (subcommand_rows_of matches.now)) }
+{
+    let Some(schedule) = found_schedule(matches) else {
+        return Ok(None);
     };
-    let excuses = read_excuses(alloc, &matches, flags)?;
-    Ok(Words::Check(depth, flags, excuses))
+    Ok(Some(Words::Replay(String::from_str(alloc, schedule)?)))
+}
+
+// An exploration, where it was found: of one job, of which the report alone is printed, or of all.
+fn read_exploration(alloc: Global, matches: &ArgMatches<'_>) -> Result<Option<Words>, Error>
+    ensures ok { IfOk result (IsExploreReadOf (subcommand_rows_of matches.now)) }
+    ensures refused { IfErr result (λ e. AsksForOne (subcommand_rows_of matches.now) → kind_of e ≡ ErrorKind.OutOfMemory) }
+{
+    let Some((options, printed)) = found_options(matches) else {
+        return Ok(None);
+    };
+    let excuses = read_excuses(alloc, matches, options.flags)?;
+    let Some(line) = found_job(matches) else {
+        return Ok(Some(Words::Explore(options, excuses, printed)));
+    };
+    if printed.explained || printed.cover {
+        return Err(Command::new(alloc, NAME).error(
+            ErrorKind::ArgumentConflict,
+            "the argument '--job' cannot be used with '--explain' or '--cover'",
+        )?);
+    }
+    let line = String::from_str(alloc, line)?;
+    Ok(Some(Words::ExploreJob(options, excuses, line)))
+}
+
+// A check, where it was found.
+fn read_check(alloc: Global, matches: &ArgMatches<'_>) -> Result<Option<Words>, Error>
+    ensures ok { IfOk result (IsCheckReadOf (subcommand_rows_of matches.now)) }
+    ensures refused { IfErr result (λ e. AsksForOne (subcommand_rows_of matches.now) → kind_of e ≡ ErrorKind.OutOfMemory) }
+{
+    let Some((depth, flags)) = found_check(matches) else {
+        return Ok(None);
+    };
+    let excuses = read_excuses(alloc, matches, flags)?;
+    Ok(Some(Words::Check(depth, flags, excuses)))
+}
+
+// The depth of jobs, where `jobs` was found. What is excused changes no job, but its words are read as those of the others.
+fn read_jobs(alloc: Global, matches: &ArgMatches<'_>) -> Result<Option<Words>, Error>
+    ensures ok { IfOk result (AreJobsReadOf (subcommand_rows_of matches.now)) }
+    ensures refused { IfErr result (λ e. AsksForOne (subcommand_rows_of matches.now) → kind_of e ≡ ErrorKind.OutOfMemory) }
+{
+    let Some(listing) = found_jobs(matches) else {
+        return Ok(None);
+    };
+    let _excuses = read_excuses(alloc, matches, listing.flags)?;
+    if listing.at > listing.depth {
+        return Err(too_deep(alloc, listing)?);
+    }
+    Ok(Some(Words::Jobs(listing.at)))
+}
+
+// What is said of jobs that are deeper than their tree.
+fn too_deep(alloc: Global, listing: Listing) -> Result<Error, AllocError> {
+    let at = listing.at;
+    let depth = listing.depth;
+    let message = format!(in alloc;
+        "invalid value '{at}' for '--at <D>': {at} is not in 0..={depth}"
+    )?;
+    Command::new(alloc, NAME).error(ErrorKind::ValueValidation, message.as_str())
 }

@@ -148,8 +148,113 @@ fn reads_the_words_of_a_check(rt: HostRuntime) -> Result<(), Fail> {
     Ok(())
 }
 
+// Words of an exploration of one job, and its depth, what it excuses, and the line of the job.
+const ONE_JOB: [(&[&str], u64, bool, &str); 5] = [
+    (
+        &[NAME, "explore", "--depth", "4", "--job", "P P.1 | P"],
+        4,
+        false,
+        "P P.1 | P",
+    ),
+    (
+        &[
+            NAME,
+            "explore",
+            "--job",
+            " | ",
+            "--main-deadlock",
+            "--depth",
+            "400",
+        ],
+        400,
+        true,
+        " | ",
+    ),
+    (
+        &[NAME, "explore", "--depth", "4", "--job", "P>P.1 |  | P "],
+        4,
+        false,
+        "P>P.1 |  | P ",
+    ),
+    (
+        &[NAME, "explore", "--depth", "0", "--job", "no line"],
+        0,
+        false,
+        "no line",
+    ),
+    (
+        &[NAME, "explore", "--depth", "0", "--job", ""],
+        0,
+        false,
+        "",
+    ),
+];
+
+// The line stands as it is.
+#[test]
+fn reads_the_words_of_one_job(rt: HostRuntime) -> Result<(), Fail> {
+    for (words, depth, main_deadlock, wanted) in ONE_JOB {
+        let Words::ExploreJob(options, excuses, line) = read_words(rt.alloc(), words)? else {
+            return Err(Fail::from("the words are no exploration of a job"));
+        };
+        assert_eq!(rt; options.depth, depth);
+        assert_eq!(rt; options.nodes, 1_000_000);
+        assert_eq!(rt; options.workers, 1);
+        assert_eq!(rt; excuses.main_deadlock, main_deadlock);
+        assert_eq!(rt; line.as_str(), wanted);
+    }
+    Ok(())
+}
+
+// Words that ask for jobs, and their depth.
+const JOBS: [(&[&str], u64); 5] = [
+    (&[NAME, "jobs", "--depth", "0", "--at", "0"], 0),
+    (&[NAME, "jobs", "--at", "400", "--depth", "400"], 400),
+    (&[NAME, "jobs", "--depth", "400", "--at", "0"], 0),
+    (
+        &[
+            NAME,
+            "jobs",
+            "--allow-deadlock",
+            "--depth",
+            "12",
+            "--normal",
+            "'boom'",
+            "--at",
+            "3",
+            "--strict-access",
+            "--normal",
+            "[]",
+        ],
+        3,
+    ),
+    (
+        &[
+            NAME,
+            "jobs",
+            "--main-deadlock",
+            "--at",
+            "11",
+            "--depth",
+            "12",
+        ],
+        11,
+    ),
+];
+
+#[test]
+fn reads_the_words_of_jobs(rt: HostRuntime) -> Result<(), Fail> {
+    for (words, depth) in JOBS {
+        let Words::Jobs(found) = read_words(rt.alloc(), words)? else {
+            return Err(Fail::from("the words ask for no jobs"));
+        };
+        assert_eq!(rt; found, depth);
+    }
+    Ok(())
+}
+
 // Words that excuse something: whether deadlocks count only where the first process waits, and the texts of the reasons.
-const EXCUSES: [(&[&str], bool, &[&str]); 4] = [
+const EXCUSES: [(&[&str], bool, &[&str]); 5] = [
     (
         &[NAME, "explore", "--depth", "1", "--main-deadlock"],
         true,
@@ -159,6 +264,13 @@ const EXCUSES: [(&[&str], bool, &[&str]); 4] = [
         &[NAME, "explore", "--normal", "'boom'", "--depth", "1"],
         false,
         &["'boom'"],
+    ),
+    (
+        &[
+            NAME, "explore", "--normal", "'boom'", "--depth", "1", "--job", "P | ", "--normal", "7",
+        ],
+        false,
+        &["'boom'", "7"],
     ),
     (
         &[
@@ -196,8 +308,9 @@ const EXCUSES: [(&[&str], bool, &[&str]); 4] = [
 fn excuses_of(words: Words) -> Option<Excuses> {
     match words {
         Words::Explore(_, excuses, _) => Some(excuses),
+        Words::ExploreJob(_, excuses, _) => Some(excuses),
         Words::Check(_, _, excuses) => Some(excuses),
-        Words::Replay(_) => None,
+        Words::Replay(_) | Words::Jobs(_) => None,
     }
 }
 
@@ -218,8 +331,9 @@ fn reads_what_is_excused(rt: HostRuntime) -> Result<(), Fail> {
     Ok(())
 }
 
-// Words that excuse nothing, and the first line of what is said of them.
-const NO_EXCUSES: [(&[&str], &str); 6] = [
+// Words of a command but for what they excuse, what they print of a job, or where they look for jobs, and the first
+// line of what is said of them.
+const UNREADABLE: [(&[&str], &str); 12] = [
     (
         &[NAME, "explore", "--depth", "1", "--normal", "boom"],
         "error: 'boom' is no term: see its byte 1\n",
@@ -266,11 +380,56 @@ const NO_EXCUSES: [(&[&str], &str); 6] = [
         ],
         "error: the argument '--normal' cannot be used more than 16 times\n",
     ),
+    (
+        &[
+            NAME, "explore", "--depth", "1", "--job", " | ", "--normal", "boom",
+        ],
+        "error: 'boom' is no term: see its byte 1\n",
+    ),
+    (
+        &[
+            NAME,
+            "explore",
+            "--depth",
+            "1",
+            "--job",
+            "P | ",
+            "--explain",
+        ],
+        "error: the argument '--job' cannot be used with '--explain' or '--cover'\n",
+    ),
+    (
+        &[NAME, "explore", "--cover", "--depth", "1", "--job", ""],
+        "error: the argument '--job' cannot be used with '--explain' or '--cover'\n",
+    ),
+    (
+        &[NAME, "jobs", "--depth", "3", "--at", "4"],
+        "error: invalid value '4' for '--at <D>': 4 is not in 0..=3\n",
+    ),
+    (
+        &[
+            NAME, "jobs", "--depth", "1", "--at", "0", "--normal", "boom",
+        ],
+        "error: 'boom' is no term: see its byte 1\n",
+    ),
+    (
+        &[
+            NAME,
+            "jobs",
+            "--main-deadlock",
+            "--depth",
+            "1",
+            "--allow-deadlock",
+            "--at",
+            "1",
+        ],
+        "error: the argument '--main-deadlock' cannot be used with '--allow-deadlock'\n",
+    ),
 ];
 
 #[test]
-fn tells_why_nothing_is_excused(rt: HostRuntime) -> Result<(), Fail> {
-    for (words, line) in NO_EXCUSES {
+fn tells_why_words_are_unreadable(rt: HostRuntime) -> Result<(), Fail> {
+    for (words, line) in UNREADABLE {
         let Err(error) = read_words(rt.alloc(), words) else {
             return Err(Fail::from("the words are those of a command"));
         };
@@ -281,7 +440,7 @@ fn tells_why_nothing_is_excused(rt: HostRuntime) -> Result<(), Fail> {
 }
 
 // Words of no command.
-const REFUSED: [&[&str]; 18] = [
+const REFUSED: [&[&str]; 35] = [
     &[NAME],
     &[NAME, "replay"],
     &[NAME, "replay", "P", "P"],
@@ -303,6 +462,25 @@ const REFUSED: [&[&str]; 18] = [
         "--main-deadlock",
         "--main-deadlock",
     ],
+    &[NAME, "explore", "--depth", "3", "--job"],
+    &[NAME, "explore", "--depth", "3", "--job", "-P | "],
+    &[
+        NAME, "explore", "--depth", "3", "--job", "P | ", "--job", "P | ",
+    ],
+    &[NAME, "explore", "--depth", "3", "--at", "1"],
+    &[NAME, "check", "--depth", "3", "--job", "P | "],
+    &[NAME, "check", "--depth", "3", "--at", "1"],
+    &[NAME, "jobs"],
+    &[NAME, "jobs", "--depth", "3"],
+    &[NAME, "jobs", "--at", "3"],
+    &[NAME, "jobs", "--depth", "401", "--at", "3"],
+    &[NAME, "jobs", "--depth", "400", "--at", "401"],
+    &[NAME, "jobs", "--depth", "3", "--at", "-1"],
+    &[NAME, "jobs", "--depth", "3", "--at", "1", "--at", "1"],
+    &[NAME, "jobs", "--depth", "3", "--at", "1", "--nodes", "5"],
+    &[NAME, "jobs", "--depth", "3", "--at", "1", "--cover"],
+    &[NAME, "jobs", "--depth", "3", "--at", "1", "--job", "P | "],
+    &[NAME, "jobs", "--help"],
     &[NAME, "replay", "P", "--normal", "[]"],
     &[NAME, "help"],
     &[NAME, "--help"],

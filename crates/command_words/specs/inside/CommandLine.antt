@@ -36,18 +36,30 @@ flag_rule name = record (new_rule name) { long = Some name; action = Some SetTru
 abbrev pub normal_rule : Rule
 normal_rule = record (new_rule (codes "normal")) { long = Some (codes "normal"); action = Some Append; value_names = 1 }
 
--- the options of both commands that say what counts as an error
+-- `--at D`, which has to be there
+abbrev pub at_rule : Rule
+at_rule = record (new_rule (codes "at")) { long = Some (codes "at"); required = true; action = Some Set; value_names = 1; parser = Some (Unsigned 0 400) }
+
+-- `--job LINE`
+abbrev pub job_rule : Rule
+job_rule = record (new_rule (codes "job")) { long = Some (codes "job"); action = Some Set; value_names = 1 }
+
+-- the options of these commands that say what counts as an error
 abbrev pub with_errors : App → App
 with_errors app = with_rule (with_rule (with_rule (with_rule app (flag_rule (codes "allow-deadlock"))) (flag_rule (codes "main-deadlock"))) normal_rule) (flag_rule (codes "strict-access"))
 
 -- `explore` with its options
 abbrev pub explore_command : App
 explore_command =
-    with_rule (with_rule (with_errors (with_rule (with_rule (with_rule (new_app (codes "explore")) depth_rule) nodes_rule) workers_rule)) (flag_rule (codes "explain"))) (flag_rule (codes "cover"))
+    with_rule (with_rule (with_rule (with_errors (with_rule (with_rule (with_rule (new_app (codes "explore")) depth_rule) nodes_rule) workers_rule)) (flag_rule (codes "explain"))) (flag_rule (codes "cover"))) job_rule
 
 -- `check` with its options
 abbrev pub check_command : App
 check_command = with_errors (with_rule (new_app (codes "check")) depth_rule)
+
+-- `jobs` with its options
+abbrev pub jobs_command : App
+jobs_command = with_errors (with_rule (with_rule (new_app (codes "jobs")) depth_rule) at_rule)
 
 -- the program's name and a subcommand, which has to be there
 abbrev pub program_command : App
@@ -55,7 +67,7 @@ program_command = record (new_app (codes "schedule_explorer")) { top = record (n
 
 -- the whole
 abbrev pub command_line : App
-command_line = with_subcommand (with_subcommand (with_subcommand program_command replay_command.top) explore_command.top) check_command.top
+command_line = with_subcommand (with_subcommand (with_subcommand (with_subcommand program_command replay_command.top) explore_command.top) check_command.top) jobs_command.top
 
 -- the command is this one, and has no argument that its subcommands have too
 pub record IsMadeAs (app : App) (made : Command) : Type 0 where
@@ -79,17 +91,24 @@ explore_built = built_leaf (inherited program_built explore_command.top)
 abbrev pub check_built : Shape
 check_built = built_leaf (inherited program_built check_command.top)
 
+-- `jobs` when it is built
+abbrev pub jobs_built : Shape
+jobs_built = built_leaf (inherited program_built jobs_command.top)
+
 -- the commands that have options
 pub data Level : Type 0 where
   exploring : Level
   checking : Level
+  listing : Level
 
 -- the name of such a command
 abbrev pub name_of : Level → List ℕ
 name_of exploring = codes "explore"
 name_of checking = codes "check"
+name_of listing = codes "jobs"
 
 -- such a command when it is built
 abbrev pub built_of : Level → Shape
 built_of exploring = explore_built
 built_of checking = check_built
+built_of listing = jobs_built

@@ -1,5 +1,5 @@
 -- What the program reads of what its parser found.
-use Rattle.std.specs.Prelude.{◌≡◌, ◌⊎◌, ℕ, ◌<◌, ◌≤◌, ◌^◌, Bool, true, false, List, [], length, map, codes, Option, Some, None, if◌then◌else◌, MatchBool, unwrap_or}
+use Rattle.std.specs.Prelude.{◌≡◌, ◌⊎◌, ℕ, ◌<◌, ◌≤◌, ◌^◌, ◌||◌, Bool, true, false, List, [], length, map, codes, Option, Some, None, if◌then◌else◌, MatchBool, string_bytes, unwrap_or}
 use Rattle.std.specs.List.{AllByRecursion}
 use Rattle.std.specs.Str.{bytes_eq}
 use Rattle.std.specs.Str.Parse.{IsNumeral, digits_value, without_leading_plus}
@@ -9,10 +9,13 @@ use Rattle.term_core.specs.TermText.{text_of_term}
 use Rattle.term_reader.specs.Lawful.{IsLawful}
 use Rattle.excuses.specs.Excuses.{Excuses, excuses_in}
 use Rattle.excuses.specs.declared.excuses.Excuses as declared
-use Rattle.command_words.specs.Words.{AreExcusesInRange, AreSmall}
+use Rattle.command_words.specs.Words.{AreExcusesInRange, AreSmall, report_alone}
 use Rattle.findings.specs.declared.flags.Flags.{Flags}
 use Rattle.findings.specs.declared.options.Options.{Options}
+use Rattle.command_words.specs.declared.command_line.Listing.{Listing}
 use Rattle.command_words.specs.declared.words.Printed.{Printed}
+use Rattle.command_words.specs.declared.words.Words.{Words}
+use Rattle.command_words.specs.declared.words.Words.TheVariants.{Replay, Explore, ExploreJob, Check, Jobs}
 
 -- the word of the schedule, where `replay` was found
 abbrev pub schedule_in : Option (Text × List Row) → Option Text
@@ -74,6 +77,21 @@ abbrev pub IsCheckOf : Option (Text × List Row) → Option (ℕ × Flags) → T
 IsCheckOf None read = read ≡ None
 IsCheckOf (Some p) read = MatchBool (bytes_eq p.0 (codes "check")) (IsCheckIn p.1 read) (read ≡ None)
 
+-- what `jobs` asks for is read where both depths are there
+abbrev pub AreJobsIn : List Row → Option Listing → Type 0
+AreJobsIn rows None = ReadsNumber (one_of (codes "depth") rows) None ⊎ ReadsNumber (one_of (codes "at") rows) None
+AreJobsIn rows (Some read) = ReadsNumber (one_of (codes "depth") rows) (Some read.depth) × (ReadsNumber (one_of (codes "at") rows) (Some read.at) × AreFlagsOf rows read.flags)
+
+-- and where `jobs` was found
+abbrev pub AreJobsOf : Option (Text × List Row) → Option Listing → Type 0
+AreJobsOf None read = read ≡ None
+AreJobsOf (Some p) read = MatchBool (bytes_eq p.0 (codes "jobs")) (AreJobsIn p.1 read) (read ≡ None)
+
+-- the line of the job, where `explore` was found
+abbrev pub job_in : Option (Text × List Row) → Option Text
+job_in None = None
+job_in (Some p) = if bytes_eq p.0 (codes "explore") then first_of (codes "job") p.1 else None
+
 -- the rows of the command that was found
 abbrev pub rows_in : Option (Text × List Row) → List Row
 rows_in None = []
@@ -101,3 +119,51 @@ pub record AskExcuses (flags : Flags) (rows : List Row) (excuses : Excuses) : Ty
   pub normal : texts_in rows ≡ map text_of_term excuses.normal
   pub in_range : AreExcusesInRange flags excuses
   pub small : AreSmall excuses.normal
+
+-- the depth of jobs is read of the command that was found, beside what it excuses, and is at most that of the tree
+pub record AreJobsRead (entered : Option (Text × List Row)) (place : ℕ) : Type 0 where
+  pub listing : Listing
+  pub excuses : declared.Excuses
+  pub jobs : AreJobsOf entered (Some listing)
+  pub excused : AreExcusesIn listing.flags (rows_in entered) excuses
+  pub within : listing.at ≤ listing.depth
+  pub place_is : place ≡ listing.at
+
+-- the words are read of the command that was found
+abbrev pub IsReadOf : Option (Text × List Row) → Words → Type 0
+IsReadOf entered (Replay word) = schedule_in entered ≡ Some (string_bytes word)
+IsReadOf entered (Explore options excuses printed) = AreOptionsOf entered (Some (options, printed)) × (AreExcusesIn options.flags (rows_in entered) excuses × (job_in entered ≡ None))
+IsReadOf entered (ExploreJob options excuses line) = AreOptionsOf entered (Some (options, report_alone)) × (AreExcusesIn options.flags (rows_in entered) excuses × (job_in entered ≡ Some (string_bytes line)))
+IsReadOf entered (Check steps flags excuses) = IsCheckOf entered (Some (steps, flags)) × AreExcusesIn flags (rows_in entered) excuses
+IsReadOf entered (Jobs place) = AreJobsRead entered place
+
+-- words are read where this command was found, or it was not found
+abbrev pub IsReplayReadOf : Option (Text × List Row) → Option Words → Type 0
+IsReplayReadOf entered None = schedule_in entered ≡ None
+IsReplayReadOf entered (Some words) = IsReadOf entered words
+
+abbrev pub IsExploreReadOf : Option (Text × List Row) → Option Words → Type 0
+IsExploreReadOf entered None = AreOptionsOf entered None
+IsExploreReadOf entered (Some words) = IsReadOf entered words
+
+abbrev pub IsCheckReadOf : Option (Text × List Row) → Option Words → Type 0
+IsCheckReadOf entered None = IsCheckOf entered None
+IsCheckReadOf entered (Some words) = IsReadOf entered words
+
+abbrev pub AreJobsReadOf : Option (Text × List Row) → Option Words → Type 0
+AreJobsReadOf entered None = AreJobsOf entered None
+AreJobsReadOf entered (Some words) = IsReadOf entered words
+
+-- the rows ask for something to be excused, or for nothing
+pub record CanExcuse (flags : Flags) (rows : List Row) : Type 0 where
+  pub excuses : Excuses
+  pub asks : AskExcuses flags rows excuses
+
+-- the command that was found asks for something: whatever is found of it can be excused, has nothing that is printed of no job alone, and looks for jobs no deeper than its tree
+pub record AsksForOne (entered : Option (Text × List Row)) : Type 0 where
+  pub explore : (found : Options × Printed) → AreOptionsOf entered (Some found) → CanExcuse found.0.flags (rows_in entered)
+  pub job : (found : Options × Printed) → AreOptionsOf entered (Some found) → (line : Text) → job_in entered ≡ Some line → (found.1.explained || found.1.cover) ≡ false
+  pub check : (found : ℕ × Flags) → IsCheckOf entered (Some found) → CanExcuse found.1 (rows_in entered)
+  pub jobs : (found : Listing) → AreJobsOf entered (Some found) → CanExcuse found.flags (rows_in entered)
+  pub within : (found : Listing) → AreJobsOf entered (Some found) → found.at ≤ found.depth
+  pub some : schedule_in entered ≡ None → AreOptionsOf entered None → IsCheckOf entered None → AreJobsOf entered None → ⊥

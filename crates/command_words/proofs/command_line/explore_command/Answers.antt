@@ -21,4 +21,5 @@ returns-clause-line c =
     let six = made_with _ _ _ _ _ five c.normal_option.ensures c.in_ok-arg-6.ensures in
     let seven = made_with _ _ _ _ _ six c.strict_access_flag.ensures c.in_ok-arg-7.ensures in
     let eight = made_with _ _ _ _ _ seven c.flag.ensures c.in_ok-arg-8.ensures in
-    made_with _ _ _ _ _ eight c.flag-2.ensures c.in_ok-explore.ensures
+    let nine = made_with _ _ _ _ _ eight c.flag-2.ensures c.in_ok-arg-9.ensures in
+    made_with _ _ _ _ _ nine c.job_option.ensures c.in_ok-explore.ensures
