@@ -1,5 +1,5 @@
 -- What a search came to, and what of its report was written, says what an exploration comes to.
-use Rattle.std.proofs.Common.{◌≡◌, ℕ, Bool, true, false, List, [], ◌∷◌, Option, Some, None, IfSome, refl, sym, subst}
+use Rattle.std.proofs.Common.{◌≡◌, ℕ, Bool, true, false, List, [], ◌∷◌, Option, Some, None, IfSome, refl, sym, ap, subst}
 use Rattle.std.specs.Prelude.{Result, Ok, Err}
 use Rattle.core_tree.specs.Syntax.{ModuleTree}
 use Rattle.core_reader.specs.ModuleText.{SpellsModule}
@@ -14,13 +14,14 @@ use Rattle.world_model.specs.Asking.{program_of}
 use Rattle.world_model.specs.Shown.{Identity}
 use Rattle.coverage.specs.Covers.{ShowsNothing}
 use Rattle.coverage.specs.Findings.{Finding, IsFound}
+use Rattle.coverage.specs.Jobs.{root}
 use Rattle.excuses.specs.Excuses.{Excuses, counted, counts}
 use Rattle.excuses.specs.Laws.{JudgedAreExact, JudgedAreWhole}
 use Rattle.findings.specs.Identities.{flags_in}
 use Rattle.findings.specs.declared.options.Options.{Options}
 use Rattle.findings.specs.declared.outcome.Outcome.{Outcome}
 use Rattle.findings.specs.declared.outcome.Outcome.TheVariants as outcomes
-use Rattle.sleep_jobs.specs.Explorations.{ExplorationSeen, explored_by, program_in}
+use Rattle.sleep_jobs.specs.Explorations.{ExplorationSeen, JobSeen, explored_by, program_in}
 use Rattle.report_text.specs.Clean.{IsCleanOfAll}
 use Rattle.search_crew.specs.Outcomes.{IsOutcome, IsExact, IsWhole}
 use Rattle.tree_cuts.specs.Cuts.{IsEverShown}
@@ -50,6 +51,10 @@ pub not_begun : (remaining : Option (List ℕ)) (bytes : List ℕ) (options : Op
 not_begun None bytes options x what contents failed m fault r e is spelt sound = tt
 not_begun (Some all) bytes options x what contents failed m fault r e is spelt sound =
     subst (λ (r : Result Verdict RunFault). IsExplorationOf all options x what contents contents failed r) (sym e) (record { program = m; module_text = spells_all all bytes m is spelt; quiet = record { same = refl; sound = sound } })
+
+-- what holds of a job that is the whole tree holds of what the options ask for
+pub of_whole_tree : (P : ExplorationSeen → Type 0) (job : JobSeen) (m : ModuleTree) (options : Options) → job ≡ record { exploration = explored_by m options; name = root; number = 0 } → (job.name ≡ root → P job.exploration) → P (explored_by m options)
+of_whole_tree P job m options is told = subst P (ap (λ (j : JobSeen). j.exploration) is) (told (ap (λ (j : JobSeen). j.name) is))
 
 -- what is judged of what was listed
 judged : (e : ExplorationSeen) (x : Excuses) (outcome : Outcome) → JudgedAreExact × JudgedAreWhole → IsExact e outcome → IsWhole e outcome → IsJudged e x outcome

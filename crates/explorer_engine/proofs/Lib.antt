@@ -2,5 +2,6 @@ pub mod CheckLaws
 pub mod EngineLaws
 pub mod ExploredLaws
 pub mod InputLaws
+pub mod JobLaws
 pub mod ReportLaws
 pub mod RunLaws

@@ -8,6 +8,8 @@ use Rattle.term_core.specs.declared.schedule.ScheduleFault.TheVariants as schedu
 use Rattle.replay_core.specs.declared.replay_fault.ReplayFault.{ReplayFault}
 use Rattle.replay_core.specs.declared.replay_fault.ReplayFault.TheVariants as replay
 use Rattle.search_crew.specs.declared.fault.SearchFault.TheVariants as search
+use Rattle.job_lines.specs.declared.fault.JobFault.{JobFault}
+use Rattle.job_lines.specs.declared.fault.JobFault.TheVariants as job
 use Rattle.cover_check.specs.declared.fault.CoverFault.{CoverFault}
 use Rattle.cover_check.specs.declared.fault.CoverFault.TheVariants as cover
 use Rattle.explorer_engine.specs.declared.verdict.RunFault.{RunFault}
@@ -57,6 +59,16 @@ text_of_cover_fault (cover.ErrorFound line) = placed (codes "cover: 5 ErrorFound
 text_of_cover_fault (cover.BadLine line) = placed (codes "cover: 6 BadLine at line ") line
 text_of_cover_fault cover.Memory = codes "cover: 7 Memory\n"
 
+-- the refusal of a job's line, by the byte or the step that it is about
+abbrev pub text_of_job_fault : JobFault → List ℕ
+text_of_job_fault job.NoBar = codes "job: 1 NoBar\n"
+text_of_job_fault (job.BadStep at) = placed (codes "job: 2 BadStep at ") at
+text_of_job_fault (job.BadSleeper at) = placed (codes "job: 3 BadSleeper at ") at
+text_of_job_fault job.TooLong = codes "job: 4 TooLong\n"
+text_of_job_fault (job.NotEnabled step) = placed (codes "job: 5 NotEnabled at step ") step
+text_of_job_fault (job.NotAsleep step) = placed (codes "job: 6 NotAsleep at step ") step
+text_of_job_fault job.Memory = codes "job: 7 Memory\n"
+
 -- the line of a run's refusal
 abbrev pub text_of_fault : RunFault → List ℕ
 text_of_fault (run.Input fault) = text_of_read_fault fault
@@ -67,6 +79,7 @@ text_of_fault (run.Explore search.Memory) = codes "explore: 1 Memory\n"
 text_of_fault (run.Explore search.NoThread) = codes "explore: 2 NoThread\n"
 text_of_fault (run.Explore search.StrangePool) = codes "explore: 3 StrangePool\n"
 text_of_fault (run.Cover fault) = text_of_cover_fault fault
+text_of_fault (run.Job fault) = text_of_job_fault fault
 text_of_fault run.ReportCutOff = codes "explore: 1 Memory\n"
 text_of_fault run.CoverCutOff = codes "cover: 7 Memory\n"
 text_of_fault run.Output = codes "output failed\n"

@@ -7,4 +7,5 @@ pub mod Refusals
 pub mod Engine
 pub mod Explored
 pub mod Checked
+pub mod JobRuns
 pub mod Program

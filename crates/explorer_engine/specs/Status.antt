@@ -7,6 +7,8 @@ use Rattle.term_core.specs.declared.schedule.ScheduleFault.TheVariants as schedu
 use Rattle.replay_core.specs.declared.replay_fault.ReplayFault.{ReplayFault}
 use Rattle.replay_core.specs.declared.replay_fault.ReplayFault.TheVariants as replay
 use Rattle.search_crew.specs.declared.fault.SearchFault.TheVariants as search
+use Rattle.job_lines.specs.declared.fault.JobFault.{JobFault}
+use Rattle.job_lines.specs.declared.fault.JobFault.TheVariants as job
 use Rattle.cover_check.specs.declared.fault.CoverFault.{CoverFault}
 use Rattle.cover_check.specs.declared.fault.CoverFault.TheVariants as cover
 use Rattle.explorer_engine.specs.declared.verdict.RunFault.{RunFault}
@@ -35,6 +37,11 @@ abbrev pub status_of_cover_fault : CoverFault → ℕ
 status_of_cover_fault cover.Memory = 3
 status_of_cover_fault _ = 2
 
+-- a job that was refused, or the lack of memory
+abbrev pub status_of_job_fault : JobFault → ℕ
+status_of_job_fault job.Memory = 3
+status_of_job_fault _ = 2
+
 -- of a refusal
 abbrev pub status_of_fault : RunFault → ℕ
 status_of_fault (run.Input fault) = status_of_read_fault fault
@@ -45,6 +52,7 @@ status_of_fault (run.Explore search.Memory) = 3
 status_of_fault (run.Explore search.NoThread) = 3
 status_of_fault (run.Explore search.StrangePool) = 3
 status_of_fault (run.Cover fault) = status_of_cover_fault fault
+status_of_fault (run.Job fault) = status_of_job_fault fault
 status_of_fault run.ReportCutOff = 3
 status_of_fault run.CoverCutOff = 3
 status_of_fault run.Output = 4

@@ -15,7 +15,7 @@ use core_reader::read_module;
 use excuses::Excuses;
 use excuses::laws::judged_are_exact;
 use findings::Options;
-use search_crew::{Gate, search};
+use search_crew::{Gate, Job, search};
 use std::alloc::Global;
 use std::sync::Wait;
 use std::thread::Threads;
@@ -70,7 +70,8 @@ pub fn run_explore<T: Threads + Wait + Sync, R: Source, G: Gate + Sync, W: Sink>
     judged_are_exact();
     let text = read_input(alloc, source)?;
     let program = read_module(alloc, &text)?;
-    let outcome = search(rt, alloc, &program, options, gate)?;
+    let whole = Job::root(alloc, &program, options);
+    let outcome = search(rt, alloc, &whole, options, gate)?;
     print_and_flush(
         alloc,
         &program,

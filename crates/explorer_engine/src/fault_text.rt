@@ -1,11 +1,12 @@
 // The line by which a refusal is reported. No write takes memory.
 ghost use Rattle.std.specs.Prelude.{◌≡◌, false};
 ghost use Rattle.term_core.specs.Stream.{Writes};
-ghost use Rattle.explorer_engine.specs.FaultText.{placed, text_of_read_fault, text_of_schedule_fault, text_of_replay_fault, text_of_cover_fault, text_of_fault};
+ghost use Rattle.explorer_engine.specs.FaultText.{placed, text_of_read_fault, text_of_schedule_fault, text_of_replay_fault, text_of_cover_fault, text_of_job_fault, text_of_fault};
 
 use crate::verdict::RunFault;
 use core_reader::ReadFault;
 use cover_check::CoverFault;
+use job_lines::JobFault;
 use replay_core::ReplayFault;
 use search_crew::SearchFault;
 use term_core::{ScheduleFault, Sink, WriteFault, write_all, write_number};
@@ -26,6 +27,7 @@ pub fn write_fault<W: Sink>(sink: &mut W, fault: &RunFault) -> Result<(), WriteF
         RunFault::Explore(SearchFault::NoThread) => write_all(sink, b"explore: 2 NoThread\n"),
         RunFault::Explore(SearchFault::StrangePool) => write_all(sink, b"explore: 3 StrangePool\n"),
         RunFault::Cover(fault) => write_cover_fault(sink, fault),
+        RunFault::Job(fault) => write_job_fault(sink, fault),
         RunFault::ReportCutOff => write_all(sink, b"explore: 1 Memory\n"),
         RunFault::CoverCutOff => write_all(sink, b"cover: 7 Memory\n"),
         RunFault::Output => write_all(sink, b"output failed\n"),
@@ -99,6 +101,30 @@ fn write_cover_fault<W: Sink>(sink: &mut W, fault: &CoverFault) -> Result<(), Wr
         CoverFault::ErrorFound(line) => write_placed(sink, b"cover: 5 ErrorFound at line ", *line),
         CoverFault::BadLine(line) => write_placed(sink, b"cover: 6 BadLine at line ", *line),
         CoverFault::Memory => write_all(sink, b"cover: 7 Memory\n"),
+    }
+}
+
+// Writes the line of a job's refusal.
+fn write_job_fault<W: Sink>(sink: &mut W, fault: &JobFault) -> Result<(), WriteFault>
+    requires { W.has_failed sink.old ≡ false }
+    ensures { Writes (W.contents sink.old) (W.contents sink.new) (W.has_failed sink.new) result (text_of_job_fault fault.now) }
+{
+    match fault {
+        JobFault::NoBar => write_all(sink, b"job: 1 NoBar\n"),
+        JobFault::BadStep(at) => write_placed(sink, b"job: 2 BadStep at ", *at),
+        JobFault::BadSleeper(at) => write_placed(sink, b"job: 3 BadSleeper at ", *at),
+        JobFault::TooLong => write_all(sink, b"job: 4 TooLong\n"),
+        JobFault::NotEnabled(step) => write_placed(
+            sink,
+            b"job: 5 NotEnabled at step ",
+            *step as usize,
+        ),
+        JobFault::NotAsleep(step) => write_placed(
+            sink,
+            b"job: 6 NotAsleep at step ",
+            *step as usize,
+        ),
+        JobFault::Memory => write_all(sink, b"job: 7 Memory\n"),
     }
 }
 

@@ -1,5 +1,5 @@
 // What the program does between its words and its exit status: it reads a module, replays a schedule of it, explores
-// all of them up to a depth, or checks a cover of them, and writes what happened, or why it was refused.
+// all of them up to a depth or those of a job, lists jobs, or checks a cover, and writes what happened, or why it was refused.
 #![tactic(auto)]
 
 pub mod check;
@@ -7,6 +7,8 @@ pub mod engine;
 pub mod explore;
 pub mod fault_text;
 pub mod input;
+pub mod job;
+pub mod jobs;
 pub mod print_fault;
 mod printing;
 pub mod program;
@@ -19,6 +21,8 @@ pub use engine::run_replay;
 pub use explore::run_explore;
 pub use fault_text::write_fault;
 pub use input::{INPUT_LIMIT, InputFault, PIECE_LIMIT, READ_LIMIT, read_input, read_whole};
+pub use job::run_job;
+pub use jobs::run_jobs;
 pub use program::{WORDS_REFUSED, run, run_to_exit};
 pub use replay_core::ReplayFault;
 pub use verdict::{RunFault, Verdict, status};

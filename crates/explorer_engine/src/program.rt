@@ -12,6 +12,8 @@ use crate::check::run_check;
 use crate::engine::run_replay;
 use crate::explore::run_explore;
 use crate::fault_text::write_fault;
+use crate::job::run_job;
+use crate::jobs::run_jobs;
 use crate::verdict::{RunFault, Verdict, status};
 use clap::Error;
 use clap::error::ErrorKind;
@@ -76,7 +78,7 @@ pub fn run_to_exit<
 }
 
 /// Does what the words of a command line ask for, of which the first is the program's name, and gives
-/// the exit status: replays a schedule in the module that the input has, or explores its schedules, or checks the cover
+/// the exit status: replays a schedule in the module that the input has, or explores its schedules or those of a job, or lists jobs, or checks the cover
 /// that stands behind it, writes the transcript, the report or the answer to the output and flushes that, and reports a
 /// refusal by its line on the third stream, which it does not flush. The gate is told of the work of an exploration or a
 /// check. Where the words are refused, with status 64, the third stream gets the parser's text, and the output nothing.
@@ -139,6 +141,17 @@ fn run_asked<T: Threads + Wait + Sync, R: Source, G: Gate + Sync, W: Sink>(
         Words::Explore(options, excuses, printed) => run_explore(
             rt, alloc, input, options, excuses, *printed, gate, output,
         ),
+        Words::ExploreJob(options, excuses, line) => run_job(
+            rt,
+            alloc,
+            input,
+            options,
+            excuses,
+            line.as_str(),
+            gate,
+            output,
+        ),
+        Words::Jobs(depth) => run_jobs(alloc, input, *depth, output),
         Words::Check(depth, flags, excuses) => {
             run_check(alloc, input, *depth, *flags, excuses, gate, output)
         }

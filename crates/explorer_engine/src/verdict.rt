@@ -1,11 +1,12 @@
 // How a run ends: its verdict or its refusal, and the exit status that reports it.
 ghost use Rattle.std.specs.Prelude.{◌≡◌};
-ghost use Rattle.explorer_engine.specs.Status.{status_of, status_of_verdict, status_of_fault, status_of_read_fault, status_of_schedule_fault, status_of_replay_fault, status_of_cover_fault};
+ghost use Rattle.explorer_engine.specs.Status.{status_of, status_of_verdict, status_of_fault, status_of_read_fault, status_of_schedule_fault, status_of_replay_fault, status_of_cover_fault, status_of_job_fault};
 
 use crate::input::InputFault;
 use crate::print_fault::PrintFault;
 use core_reader::ReadFault;
 use cover_check::CoverFault;
+use job_lines::JobFault;
 use replay_core::ReplayFault;
 use search_crew::SearchFault;
 use term_core::{ScheduleFault, WriteFault};
@@ -13,7 +14,7 @@ use term_core::{ScheduleFault, WriteFault};
 /// What a run that was not refused came to.
 #[derive(Clone, Copy, Debug, PartialEq, Eq)]
 pub enum Verdict {
-    /// The whole schedule was replayed, or the cover is good.
+    /// The whole schedule was replayed, the jobs were listed, or the cover is good.
     Done,
     /// All nodes were visited, and none shows an error.
     Clean,
@@ -38,6 +39,8 @@ pub enum RunFault {
     Explore(SearchFault),
     /// The cover that came with the module was refused.
     Cover(CoverFault),
+    /// The line of a job was refused, or there was no memory for jobs.
+    Job(JobFault),
     /// There was no memory to explain a report to its end. A beginning of the report was written.
     ReportCutOff,
     /// There was no memory to write a cover to its end. The report, and a beginning of the cover, were written.
@@ -112,6 +115,16 @@ impl From<CoverFault> for RunFault {
     }
 }
 
+impl From<JobFault> for RunFault {
+    ghost use Rattle.explorer_engine.specs.declared.verdict.RunFault.TheVariants as run;
+
+    ghost from_gives = { λ fault refusal. refusal ≡ run.Job fault };
+
+    fn from(fault: JobFault) -> RunFault {
+        RunFault::Job(fault)
+    }
+}
+
 impl From<PrintFault> for RunFault {
     ghost use Rattle.explorer_engine.specs.Refusals.{refusal_of_printing};
 
@@ -173,6 +186,7 @@ fn fault_status(fault: &RunFault) -> u8
         RunFault::Explore(SearchFault::NoThread) => 3,
         RunFault::Explore(SearchFault::StrangePool) => 3,
         RunFault::Cover(fault) => cover_status(fault),
+        RunFault::Job(fault) => job_status(fault),
         RunFault::ReportCutOff => 3,
         RunFault::CoverCutOff => 3,
         RunFault::Output => 4,
@@ -216,6 +230,16 @@ fn cover_status(fault: &CoverFault) -> u8
 {
     match fault {
         CoverFault::Memory => 3,
+        _ => 2,
+    }
+}
+
+// The exit status where the line of a job was refused.
+fn job_status(fault: &JobFault) -> u8
+    ensures { result ≡ status_of_job_fault fault.now }
+{
+    match fault {
+        JobFault::Memory => 3,
         _ => 2,
     }
 }

@@ -8,4 +8,6 @@ mod explained;
 #[cfg(test)]
 mod input;
 #[cfg(test)]
+mod jobs;
+#[cfg(test)]
 mod replays;

@@ -7,6 +7,8 @@ returns-in-Ok-clause-run g c ran = record {
   asked = c.in-Ok.asked;
   replay = c.in-Ok.ensures.replay;
   explore = c.in-Ok.ensures.explore;
+  explore_job = c.in-Ok.ensures.explore_job;
+  jobs = c.in-Ok.ensures.jobs;
   check = c.in-Ok.ensures.check;
   named = c.in-Ok.ensures.named;
   in_range = c.in-Ok.ensures.range;
@@ -27,5 +29,7 @@ returns-in-Err-clause-refused g c refused = record {
   told = gets _ _ _ _ _ c.write_words_error.ensures.2;
   no_replay = λ schedule asks. c.write_words_error.ensures.1 (c.in-Err.ensures.replay schedule asks);
   no_exploration = λ options x what asks. c.write_words_error.ensures.1 (c.in-Err.ensures.explore options x what asks);
+  no_job = λ options x line asks. c.write_words_error.ensures.1 (c.in-Err.ensures.explore_job options x line asks);
+  no_jobs = λ depth asks. c.write_words_error.ensures.1 (c.in-Err.ensures.jobs depth asks);
   no_check = λ depth flags x asks. c.write_words_error.ensures.1 (c.in-Err.ensures.check depth flags x asks);
 }
