@@ -18,9 +18,9 @@ use Rattle.world_model.specs.Run.{is_enabled, enabled_steps}
 use Rattle.world_model.specs.Signals.{waiting_in}
 use Rattle.world_model.specs.Steps.{next_deed}
 use Rattle.world_model.specs.World.{contents}
-use Rattle.world_core.proofs.Listed.{listed}
-use Rattle.world_core.proofs.Worlds.{names_mean}
-use Rattle.world_core.specs.inside.Enabling.{turns_of, deliveries_of, is_enabled_at}
+use Rattle.world_steps.proofs.Listed.{listed}
+use Rattle.world_steps.proofs.Names.{names_mean}
+use Rattle.world_steps.specs.inside.Enabling.{turns_of, deliveries_of, is_enabled_at}
 use Rattle.world_records.specs.Records.{Agrees}
 use Rattle.world_records.specs.declared.records.Records.{Records}
 use Rattle.step_plans.specs.Plans.{NamesMeanTables, actor_of}

@@ -3,7 +3,7 @@ ghost use Rattle.std.specs.Prelude.{◌≡◌, ◌∷◌, [], OnOk};
 ghost use Rattle.std.specs.List.Sorted.{IsStrictlySortedBy};
 ghost use Rattle.term_core.specs.Order.{order_of_lists};
 ghost use Rattle.step_agenda.specs.inside.Planning.{PutsPlans, step_in};
-ghost use Rattle.world_core.specs.inside.Enabling.{turns_of, deliveries_of};
+ghost use Rattle.world_steps.specs.inside.Enabling.{turns_of, deliveries_of};
 
 use crate::above::Above;
 use crate::lent::{LentStep, step_of};

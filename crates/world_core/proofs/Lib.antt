@@ -1,4 +1,3 @@
-pub mod Listed
 pub mod Living
 pub mod Showing
 pub mod Worlds

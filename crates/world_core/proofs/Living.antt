@@ -19,8 +19,8 @@ use Rattle.world_model.specs.World.{alive, contents}
 use Rattle.world_model.proofs.Opened.{enabled_listed, listed_enabled, listed_in_order}
 use Rattle.coverage.proofs.Steps as steps
 use Rattle.coverage.proofs.Steps.{everyone, living_in}
-use Rattle.world_core.specs.inside.Enabling.{turns_of}
-use Rattle.world_core.proofs.Listed.{key_among, turn_among, turns_in_order}
+use Rattle.world_steps.specs.inside.Enabling.{turns_of}
+use Rattle.world_steps.proofs.Listed.{key_among, turn_among, turns_in_order}
 
 -- the turns among some steps
 abbrev turns_among : List Step → List Step

@@ -1,6 +1,6 @@
 -- The world after a step.
 use Rattle.std.proofs.Common.{◌≡◌, ◌∷◌, [], ◌∙◌, Option, Some, None, is_some, false, true≢false, refl, sym, ap, subst, option_map, arith, ◌+◌}
-use Rattle.std.specs.Prelude.{IfSome, IsSome}
+use Rattle.std.specs.Prelude.{IfSome}
 use Rattle.core_tree.specs.Syntax.{ModuleTree}
 use Rattle.term_core.specs.declared.step.Step.{Step}
 use Rattle.term_core.specs.declared.step.Step.TheVariants.{Turn, Deliver}
@@ -13,25 +13,20 @@ use Rattle.world_model.specs.Run.{IsRun, next_event, extended}
 use Rattle.world_model.specs.Steps.{next_deed}
 use Rattle.world_model.specs.World.{beginning, contents, turns}
 use Rattle.world_model.proofs.Fresh.{names_new}
-use Rattle.world_model.proofs.Named.{names_mean_theirs}
 use Rattle.world_records.specs.Records.{Agrees, AreAlike}
 use Rattle.world_records.specs.declared.records.Records.{Records}
 use Rattle.step_plans.specs.Deeds.{deed_in}
-use Rattle.step_plans.specs.Plans.{IsNewFor, NamesMeanTables, actor_of, left}
+use Rattle.step_plans.specs.Plans.{IsNewFor, actor_of, left}
 use Rattle.step_plans.specs.Turns.{IsPlan}
 use Rattle.step_plans.specs.declared.deed.Deed.{Deed}
 use Rattle.step_plans.specs.declared.plan.Plan.{Plan}
 use Rattle.step_plans.proofs.Apart.{dead_off}
-use Rattle.world_core.specs.inside.Enabling.{IsWorld}
+use Rattle.world_core.specs.inside.Worlds.{IsWorld}
 
 -- what a process creates next is new
 pub new_for : (a : Program) (h : History) (step : Step) → IsRun a h → IsNewFor (contents h) step
 new_for a h (Turn p) run = (names_new a h p (turns h p + 1) run (omega arith)).table
 new_for a h (Deliver s r) run = tt
-
--- each name that means a table means one that is there
-pub names_mean : (a : Program) (h : History) → IsRun a h → NamesMeanTables (contents h)
-names_mean a h run name t means = subst IsSome (sym (names_mean_theirs a h name t run means).1) refl
 
 -- the event that a step adds
 pub next_is : (m : ModuleTree) (h : History) (step : Step) (deed : events.Deed) → Some deed ≡ next_deed (program_of m) (contents h) step → next_event (program_of m) h step ≡ Some (event step deed)

@@ -1,3 +1,3 @@
 pub mod EventCodes
-pub mod Enabling
+pub mod Worlds
 pub mod Showing

@@ -14,7 +14,6 @@ ghost use Rattle.step_plans.specs.Deeds.{event_in};
 ghost use Rattle.step_plans.specs.Turns.{IsPlan};
 ghost use Rattle.world_model.specs.Events.{Event as Happening};
 
-use crate::enabled::enabled_steps;
 use crate::events::Events;
 use crate::fault::WorldFault;
 use crate::shows::shown_by_world;
@@ -25,6 +24,7 @@ use std::marker::Model;
 use step_plans::{Event, Plan, copy_deed, perform, plan_step};
 use term_core::{Pid, Step};
 use world_records::Records;
+use world_steps::enabled_steps;
 
 /// A world: what the processes of a module, their signals and their tables are after what happened so far, and what
 /// happened. Contracts see the module, the events, the latest first, and whether memory was wanting once; all else is
@@ -56,7 +56,7 @@ impl<'m> Model for World<'m> {
 
     ghost coded = { coded_seen };
 
-    ghost use Rattle.world_core.specs.inside.Enabling.{IsWorld};
+    ghost use Rattle.world_core.specs.inside.Worlds.{IsWorld};
     ghost use Rattle.world_core.specs.Shared.{events_in};
 
     ghost view = { λ w. record { program = w.program.now; history = events_in w.events; spent = w.is_spent } };

@@ -1,8 +1,8 @@
 use Rattle.std.proofs.Common.{◌++◌, ◌∙◌, [], sym, ap, subst}
 use Rattle.proc_machines.specs.Processes.{lives_in}
 use Rattle.proc_signals.specs.Channels.{between}
-use Rattle.world_core.proofs.Listed.{key_among}
-use Rattle.world_core.specs.inside.Enabling.{turns_of, deliveries_of}
+use Rattle.world_steps.proofs.Listed.{key_among}
+use Rattle.world_steps.specs.inside.Enabling.{turns_of, deliveries_of}
 use Rattle.world_model.specs.Asking.{program_of}
 use Rattle.step_agenda.specs.inside.Planning.{HasPlans, PutsPlans}
 use Rattle.step_agenda.proofs.Putting.{all_enabled, puts_more}

@@ -1,4 +1,4 @@
-use Rattle.world_core.specs.inside.Enabling.{deliveries_of}
+use Rattle.world_steps.specs.inside.Enabling.{deliveries_of}
 use Rattle.step_agenda.specs.inside.Planning.{PutsPlans}
 use Rattle.step_agenda.proofs.planning.put_deliveries.Given as goal
 

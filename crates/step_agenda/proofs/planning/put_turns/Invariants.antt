@@ -1,5 +1,5 @@
 use Rattle.std.proofs.Common.{map}
-use Rattle.world_core.specs.inside.Enabling.{turns_of}
+use Rattle.world_steps.specs.inside.Enabling.{turns_of}
 use Rattle.step_agenda.specs.inside.Planning.{PutsPlans}
 use Rattle.step_agenda.proofs.planning.put_turns.Given as goal
 

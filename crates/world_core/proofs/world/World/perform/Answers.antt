@@ -6,7 +6,7 @@ use Rattle.world_model.specs.World.{contents}
 use Rattle.step_plans.specs.Deeds.{deed_in}
 use Rattle.step_plans.specs.Turns.{IsPlan}
 use Rattle.world_core.specs.Seen.{Seen, program_in}
-use Rattle.world_core.specs.inside.Enabling.{IsWorld}
+use Rattle.world_core.specs.inside.Worlds.{IsWorld}
 use Rattle.world_core.specs.Shared.{events_in}
 use Rattle.world_core.proofs.Worlds.{grown_history, grown_world, new_for, next_is, not_none, planned_next, planned_none}
 use Rattle.world_core.proofs.world.World.perform.Goals as goal

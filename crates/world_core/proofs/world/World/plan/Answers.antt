@@ -5,7 +5,8 @@ use Rattle.world_model.specs.Asking.{program_of}
 use Rattle.world_model.specs.World.{contents}
 use Rattle.world_core.specs.Seen.{Seen, program_in}
 use Rattle.world_core.specs.Shared.{events_in}
-use Rattle.world_core.proofs.Worlds.{if_some, names_mean}
+use Rattle.world_core.proofs.Worlds.{if_some}
+use Rattle.world_steps.proofs.Names.{names_mean}
 use Rattle.world_core.proofs.world.World.plan.Goals as goal
 
 pub returns-clause-plan : goal.returns-clause-plan

@@ -1,6 +1,6 @@
 use Rattle.std.proofs.Common.{map}
-use Rattle.world_core.specs.inside.Enabling.{PutsEnabled, turns_of}
-use Rattle.world_core.proofs.enabled.push_turns.Given as goal
+use Rattle.world_steps.specs.inside.Enabling.{PutsEnabled, turns_of}
+use Rattle.world_steps.proofs.enabled.push_turns.Given as goal
 
 -- the turns so far are put behind the others, those that are enabled
 abbrev pub invariant-loop-pid : goal.invariant-loop-pid

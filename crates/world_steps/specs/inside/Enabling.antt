@@ -1,4 +1,4 @@
--- Records that are what a history leaves, and which of some steps are enabled in them.
+-- Which of some steps are enabled in the records of a world.
 use Rattle.std.specs.List.{filter}
 use Rattle.std.specs.Prelude.{◌≡◌, ◌++◌, List, Bool, is_some, map}
 use Rattle.core_tree.specs.Syntax.{ModuleTree}
@@ -6,18 +6,10 @@ use Rattle.term_core.specs.declared.step.Step.{Step}
 use Rattle.term_core.specs.declared.step.Step.TheVariants.{Turn, Deliver}
 use Rattle.world_model.specs.Asking.{program_of}
 use Rattle.world_model.specs.Cells.{Contents}
-use Rattle.world_model.specs.Events.{History}
 use Rattle.world_model.specs.Names.{Pid}
-use Rattle.world_model.specs.Run.{IsRun}
 use Rattle.world_model.specs.Steps.{next_deed}
-use Rattle.world_model.specs.World.{contents}
 use Rattle.world_records.specs.Records.{Agrees}
 use Rattle.world_records.specs.declared.records.Records.{Records}
-
--- the records are what a history leaves, and the history is a run
-pub record IsWorld (m : ModuleTree) (h : History) (records : Records) : Type 0 where
-  pub agrees : Agrees m records (contents h)
-  pub is_run : IsRun (program_of m) h
 
 -- whether a step is enabled where the cells contain this
 abbrev pub is_enabled_at : ModuleTree → Contents → Step → Bool

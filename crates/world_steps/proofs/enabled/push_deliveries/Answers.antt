@@ -1,5 +1,5 @@
-use Rattle.world_core.proofs.Listed.{puts_none, puts_delivery}
-use Rattle.world_core.proofs.enabled.push_deliveries.Goals as goal
+use Rattle.world_steps.proofs.Listed.{puts_none, puts_delivery}
+use Rattle.world_steps.proofs.enabled.push_deliveries.Goals as goal
 
 pub loop-from-init : goal.loop-from-init
 loop-from-init c = puts_none _ _

@@ -25,7 +25,7 @@ use Rattle.world_model.specs.Steps.{deed_delivered, next_deed}
 use Rattle.world_model.specs.World.{contents}
 use Rattle.world_model.proofs.Opened.{enabled_listed, listed_enabled, listed_in_order}
 use Rattle.coverage.proofs.Steps as steps
-use Rattle.world_core.specs.inside.Enabling.{PutsEnabled, is_enabled_at, turns_of, deliveries_of}
+use Rattle.world_steps.specs.inside.Enabling.{PutsEnabled, is_enabled_at, turns_of, deliveries_of}
 use Rattle.world_records.specs.Records.{Agrees}
 use Rattle.world_records.specs.declared.records.Records.{Records}
 use Rattle.std.proofs.lemmas.List.{append_assoc, append-nil, map-append}

@@ -3,7 +3,7 @@ ghost use Rattle.std.specs.Prelude.{◌≡◌, ◌∷◌, [], IfOk, OnOk};
 ghost use Rattle.std.specs.List.Sorted.{IsStrictlySortedBy};
 ghost use Rattle.core_tree.specs.Syntax.{ModuleTree};
 ghost use Rattle.term_core.specs.Order.{order_of_lists};
-ghost use Rattle.world_core.specs.inside.Enabling.{PutsEnabled, turns_of, deliveries_of};
+ghost use Rattle.world_steps.specs.inside.Enabling.{PutsEnabled, turns_of, deliveries_of};
 ghost use Rattle.world_model.specs.Asking.{program_of};
 ghost use Rattle.world_model.specs.Events.{History};
 ghost use Rattle.world_model.specs.Run.{enabled_steps};

@@ -1,5 +1,5 @@
-use Rattle.world_core.proofs.Listed.{puts_none, puts_turn}
-use Rattle.world_core.proofs.enabled.push_turns.Goals as goal
+use Rattle.world_steps.proofs.Listed.{puts_none, puts_turn}
+use Rattle.world_steps.proofs.enabled.push_turns.Goals as goal
 
 pub loop-pid-init : goal.loop-pid-init
 loop-pid-init c = puts_none _ _

@@ -1,5 +1,5 @@
-use Rattle.world_core.specs.inside.Enabling.{PutsEnabled, deliveries_of}
-use Rattle.world_core.proofs.enabled.push_deliveries.Given as goal
+use Rattle.world_steps.specs.inside.Enabling.{PutsEnabled, deliveries_of}
+use Rattle.world_steps.proofs.enabled.push_deliveries.Given as goal
 
 -- the deliveries so far are put behind the others, those that are enabled
 abbrev pub invariant-loop-from : goal.invariant-loop-from

@@ -4,9 +4,9 @@ use Rattle.term_core.specs.Order.{order_of_lists}
 use Rattle.proc_machines.specs.Processes.{lives_in}
 use Rattle.proc_signals.specs.Channels.{between}
 use Rattle.world_model.specs.World.{contents}
-use Rattle.world_core.specs.inside.Enabling.{PutsEnabled, turns_of, deliveries_of}
-use Rattle.world_core.proofs.Listed.{key_among, listed, puts_both}
-use Rattle.world_core.proofs.enabled.enabled_steps.Goals as goal
+use Rattle.world_steps.specs.inside.Enabling.{PutsEnabled, turns_of, deliveries_of}
+use Rattle.world_steps.proofs.Listed.{key_among, listed, puts_both}
+use Rattle.world_steps.proofs.enabled.enabled_steps.Goals as goal
 
 pub returns : goal.returns
 returns c = λ m h told.
