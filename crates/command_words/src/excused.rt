@@ -86,6 +86,7 @@ fn read_terms(alloc: Global, texts: &[&str]) -> Result<Vec<Term>, Error>
 }
 
 // The term of a text.
+#[tactic(auto, using(term_reader::proofs::Heights::height_below_nodes))]
 fn read_text(alloc: Global, text: &str) -> Result<Term, Error>
     ensures ok { IfOk result (λ read. IsLawful (meaning_of read) × (text.now ≡ text_of_term (meaning_of read))) }
     ensures refused { IfErr result (λ e. (term : Meaning) → IsLawful term → node_count term ≤ 10000 → text.now ≡ text_of_term term → kind_of e ≡ ErrorKind.OutOfMemory) }

@@ -51,6 +51,13 @@ impl Findings {
         }
     }
 
+    /// These errors and these refusals. It takes no memory.
+    pub fn of(errors: FindingList, refusals: FindingList) -> Findings
+        ensures { result ≡ record { errors = errors; refusals = refusals } }
+    {
+        Findings { errors, refusals }
+    }
+
     /// The errors.
     pub fn errors(&self) -> &FindingList
         ensures { result.now ≡ self.now.errors }

@@ -8,3 +8,4 @@ pub mod LeafLaws
 pub mod LeafReads
 pub mod Marks
 pub mod OneTerm
+pub mod Heights

@@ -2,12 +2,13 @@
 use Rattle.std.proofs.Common.{◌≡◌, ◌≢◌, inl, inr, ℕ, ◌+◌, ◌≤◌, ◌<◌, true, List, [], ◌∷◌, ◌++◌, length, get_or, slice_index, ap, sym, refl, ◌∙◌, subst, arith, append_assoc, append-nil, Result, Ok, Err, IfOk, IfErr, MatchResult, ℤ, pos, length-append}
 use Rattle.std.specs.Fmt.{signed_decimal}
 use Rattle.term_core.specs.Integers.{has_64_bits}
-use Rattle.term_core.specs.Meaning.{Meaning, Meanings, Int, Atom, Ref, Pid, Tuple, Nil, Cons, NoMore, Also, meanings_of, node_count, node_counts}
+use Rattle.term_core.specs.Meaning.{Meaning, Meanings, Int, Atom, Ref, Pid, Tuple, Nil, Cons, NoMore, Also, meanings_of}
 use Rattle.term_core.specs.Term.{meaning_of, list_onto}
 use Rattle.term_core.specs.TermText.{text_of_term, text_of_tail, text_of_tuple, text_of_others}
 use Rattle.term_reader.proofs.IntegerTexts.{integer_first, zero_text}
 use Rattle.term_reader.proofs.Items.{alike_after, alike_index, alike_items, alike_other, alike_self, alike_under, item_none}
 use Rattle.term_reader.proofs.LeafLaws.{leaf_byte}
+use Rattle.term_reader.specs.Height.{height, height_over}
 use Rattle.term_reader.specs.Lawful.{IsLawful, AreLawful, MayRefuse, IsPlace, IsFault, HasPlace, item_of}
 use Rattle.term_reader.specs.inside.Leaves.{Ends, IsAlike, IsLeaf, Reads, NoLeaf}
 use Rattle.term_reader.specs.inside.Marks.{Opened, InTuple, InList, InTail, opened_in, open_in, parts_onto, Continues, AtEnd, AmongParts, AmongHeads, AsTail, Begins, IsSame, IsLike, Means, MeansAt, rest_of, GoesOn, LiesAt, BadAt, Lies, Refuses, Follows, IsTooMuch, IsBefore, GoesIn}
@@ -417,32 +418,23 @@ no_leaf_begins outer rest h j none other m item p =
 
 -- DEPTH
 
-node_count-pos : (x : Meaning) → 1 ≤ node_count x
-node_count-pos (Int n) = omega arith
-node_count-pos (Atom t) = omega arith
-node_count-pos (Ref p n) = omega arith
-node_count-pos (Pid p) = omega arith
-node_count-pos (Tuple parts) = omega arith
-node_count-pos Nil = omega arith
-node_count-pos (Cons h t) = omega arith
+parts_onto_high : (ps : List Meaning) (ms : Meanings) → height_over ms ≤ height_over (parts_onto ps ms)
+parts_onto_high [] ms = omega arith
+parts_onto_high (p ∷ ps) ms = omega (arith, parts_onto_high ps ms)
 
-parts_onto_nodes : (ps : List Meaning) (ms : Meanings) → node_counts ms ≤ node_counts (parts_onto ps ms)
-parts_onto_nodes [] ms = omega arith
-parts_onto_nodes (p ∷ ps) ms = omega (arith, parts_onto_nodes ps ms)
+list_onto_high : (hs : List Meaning) (t : Meaning) → height t ≤ height (list_onto hs t)
+list_onto_high [] t = omega arith
+list_onto_high (h ∷ hs) t = omega (arith, list_onto_high hs t)
 
-list_onto_nodes : (hs : List Meaning) (t : Meaning) → node_count t ≤ node_count (list_onto hs t)
-list_onto_nodes [] t = omega arith
-list_onto_nodes (h ∷ hs) t = omega (arith, list_onto_nodes hs t)
+-- the whole is higher by all that is open
+depth : {outer : List Opened} {x : Meaning} {rest : List ℕ} {m : Meaning} → Continues outer x rest m → length outer + height x ≤ height m
+depth (AtEnd w e) = omega (arith, ap height w)
+depth (AmongParts {parts = ps} {term = x} o b l e k) = omega (arith, depth k, parts_onto_high ps (Also x o))
+depth (AmongHeads {heads = hs} {term = x} t b l e k) = omega (arith, depth k, list_onto_high hs (Cons x t))
+depth (AsTail {heads = hs} {head = h} {term = x} b e k) = omega (arith, depth k, list_onto_high hs (Cons h x))
 
--- what is open has a node each
-depth : {outer : List Opened} {x : Meaning} {rest : List ℕ} {m : Meaning} → Continues outer x rest m → length outer + node_count x ≤ node_count m
-depth (AtEnd w e) = omega (arith, ap node_count w)
-depth (AmongParts {parts = ps} {term = x} o b l e k) = omega (arith, depth k, parts_onto_nodes ps (Also x o))
-depth (AmongHeads {heads = hs} {term = x} t b l e k) = omega (arith, depth k, list_onto_nodes hs (Cons x t))
-depth (AsTail {heads = hs} {head = h} {term = x} b e k) = omega (arith, depth k, list_onto_nodes hs (Cons h x))
-
-deep : (o : Opened) (outer : List Opened) (rest : List ℕ) (m : Meaning) → Begins (o ∷ outer) rest m → 10000 ≤ length outer → 10000 < node_count m
-deep o outer rest m p h = omega (arith, depth p.next, node_count-pos p.term)
+deep : (o : Opened) (outer : List Opened) (rest : List ℕ) (m : Meaning) → Begins (o ∷ outer) rest m → 10000 ≤ length outer → 10000 < height m
+deep o outer rest m p h = omega (arith, depth p.next)
 
 -- WHERE READING CAN GO ON
 

@@ -2,8 +2,9 @@
 use Rattle.std.specs.Prelude.{◌≡◌, ◌==◌, ◌||◌, if◌then◌else◌, ℕ, ◌+◌, ◌<◌, ◌^◌, Bool, true, List, [], ◌∷◌, ◌++◌, length, IsUtf8}
 use Rattle.std.specs.List.{AllByRecursion, before_first}
 use Rattle.term_core.specs.Integers.{has_64_bits}
-use Rattle.term_core.specs.Meaning.{Meaning, Meanings, Int, Atom, Ref, Pid, Tuple, Nil, Cons, NoMore, Also, node_count}
+use Rattle.term_core.specs.Meaning.{Meaning, Meanings, Int, Atom, Ref, Pid, Tuple, Nil, Cons, NoMore, Also}
 use Rattle.term_core.specs.TermText.{text_of_term}
+use Rattle.term_reader.specs.Height.{height}
 use Rattle.term_reader.specs.declared.fault.TermFault.{TermFault}
 use Rattle.term_reader.specs.declared.fault.TermFault.TheVariants.{BadTerm, TooDeep, Memory}
 
@@ -26,10 +27,10 @@ abbrev mutual
   AreLawful NoMore = Unit {0}
   AreLawful (Also first others) = IsLawful first × AreLawful others
 
--- the text of a lawful term is refused only for want of memory, or where the term has more than 10,000 nodes
+-- the text of a lawful term is refused only for want of memory, or where the term is higher than 10,000
 abbrev pub MayRefuse : Meaning → TermFault → Type 0
 MayRefuse m (BadTerm at) = ⊥
-MayRefuse m (TooDeep at) = 10000 < node_count m
+MayRefuse m (TooDeep at) = 10000 < height m
 MayRefuse m Memory = Unit {0}
 
 -- the marks that can stand behind a term: `,`, `]`, `|` and `}`

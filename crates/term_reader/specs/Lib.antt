@@ -1,2 +1,3 @@
+pub mod Height
 pub mod Lawful
 pub mod inside

@@ -6,8 +6,9 @@ mod brackets;
 mod bytes;
 pub mod fault;
 mod leaves;
-mod numbers;
+pub mod numbers;
 pub mod reader;
 
 pub use fault::TermFault;
+pub use numbers::read_number;
 pub use reader::{read_term, texts_say_one_term};

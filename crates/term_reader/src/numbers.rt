@@ -36,8 +36,9 @@ fn read_positive(digits: &[u8]) -> Option<u64>
     str::from_utf8(digits).ok()?.parse().ok()
 }
 
-/// The number that these digits are, or `None` where they are none.
-fn read_number(digits: &[u8]) -> Option<u64>
+/// The number that these digits are, as `write_number` writes it: without needless zeros; `None` where they
+/// are no number below 2^64. It takes no memory.
+pub fn read_number(digits: &[u8]) -> Option<u64>
     ensures { MatchOption result
         ((n : ℕ) → n < 2 ^ 64 → digits.now ≡ decimal n → ⊥)
         (λ n. (n < 2 ^ 64) × (digits.now ≡ decimal n)) }

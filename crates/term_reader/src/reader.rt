@@ -27,8 +27,8 @@ pub fn texts_say_one_term()
 ///
 /// `BadTerm` where the text is the text of no term, with the place of the first item that cannot stand
 /// where it does: a mark, a number, a pid, a reference or an atom, or the end of the text. `TooDeep` where
-/// more than 10,000 brackets and braces would be open at once, so that a term with this text has more than
-/// 10,000 nodes, with the place of the first too many. `Memory` where there was no memory for the term.
+/// more than 10,000 brackets and braces would be open at once, so that a term with this text is higher than
+/// 10,000, with the place of the first too many. `Memory` where there was no memory for the term.
 /// What was read is dropped.
 pub fn read_term(alloc: Global, text: &[u8]) -> Result<Term, TermFault>
     // What is read has this text.
