@@ -1,0 +1,10 @@
+pub mod Lists
+pub mod Ascii
+pub mod Marks
+pub mod ProcessTexts
+pub mod CallNames
+pub mod RuleTexts
+pub mod ReasonTexts
+pub mod ArgumentTexts
+pub mod CallPieces
+pub mod IdentityTexts

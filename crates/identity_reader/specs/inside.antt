@@ -1,0 +1,4 @@
+pub mod Cuts
+pub mod Rules
+pub mod CallPieces
+pub mod Reading
