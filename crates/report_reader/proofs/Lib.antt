@@ -1,0 +1,12 @@
+pub mod Cuts
+pub mod LineTexts
+pub mod LinePlaces
+pub mod FindingTexts
+pub mod FirstLines
+pub mod Fronts
+pub mod ListLaws
+pub mod Listing
+pub mod ReportTexts
+pub mod ReportReads
+pub mod MergeLaws
+pub mod ReportsLaws

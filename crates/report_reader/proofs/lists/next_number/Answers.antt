@@ -1,0 +1,7 @@
+use Rattle.std.proofs.Common.{ap, length, arith}
+use Rattle.std.proofs.lemmas.List.{length-map}
+use Rattle.findings.specs.Found.{finding_in}
+use Rattle.report_reader.proofs.lists.next_number.Goals as goal
+
+pub returns : goal.returns
+returns c = omega (arith, ap length c.as_slice.ensures.all, length-map c.as_slice.result.now finding_in)

@@ -1,0 +1,147 @@
+// Reports read back from their texts.
+ghost use Rattle.std.specs.Prelude.{◌≡◌, ◌++◌, ℕ, List, IfErr, IfOk, MatchOption, MatchResult};
+ghost use Rattle.excuses.specs.Excuses.{excuses_in};
+ghost use Rattle.findings.specs.Identities.{flags_in};
+ghost use Rattle.findings.specs.declared.outcome.Outcome.{Outcome};
+ghost use Rattle.report_text.specs.ReportText.{text_of_report};
+ghost use Rattle.report_reader.specs.Lawful.{HasLine, IsLawfulOutcome, IsTooHigh, MayRefuse};
+ghost use Rattle.report_reader.specs.inside.Reading.{EndsAt, IsRead, Lists, ListsAreHigh, Refuses, SaysLists, SaysNoEnd, SaysReport, lists_in, outcome_of};
+
+use crate::ends::{behind_counts, behind_result};
+use crate::fault::{ReportFault, Stop};
+use crate::first_line::{Reach, read_first_line};
+use crate::kinds::Kind;
+use crate::lists::read_findings;
+use crate::places::fault_of;
+use excuses::Excuses;
+use findings::{Extent, FindingList, Findings, Flags, Outcome};
+use std::alloc::{AllocError, Global};
+
+/// What a report lists.
+#[derive(Drop)]
+struct Listed {
+    /// The errors that count.
+    errors: FindingList,
+    /// The refusals.
+    refusals: FindingList,
+    /// The errors that are taken as normal.
+    normal: FindingList,
+}
+
+/// Reads the three lists of a report.
+fn read_lists<'t>(
+    alloc: Global,
+    flags: Flags,
+    excuses: &Excuses,
+    text: &'t [u8],
+) -> Result<(Listed, &'t [u8]), Stop>
+    ensures { MatchResult result
+        (λ p. IsRead (SaysLists (flags_in flags) (excuses_in excuses.now) text.now) (lists_in p.0) p.1.now)
+        (λ stop. Refuses ListsAreHigh (SaysLists (flags_in flags) (excuses_in excuses.now) text.now) stop) }
+{
+    let (errors, rest) = read_findings(alloc, Kind::Error, flags, excuses, text)?;
+    let (refusals, rest) = read_findings(alloc, Kind::Refusal, flags, excuses, rest)?;
+    let (normal, rest) = read_findings(alloc, Kind::Normal, flags, excuses, rest)?;
+    Ok((
+        Listed {
+            errors,
+            refusals,
+            normal,
+        },
+        rest,
+    ))
+}
+
+/// What stands behind the last two lines of a report that came so far and lists this.
+fn read_end<'t>(
+    excuses: &Excuses,
+    reach: Reach,
+    listed: &Listed,
+    text: &'t [u8],
+) -> Result<&'t [u8], Stop>
+    ensures { MatchResult result
+        (λ rest. EndsAt (excuses_in excuses.now) reach (lists_in listed.now) text.now rest.now)
+        (λ stop. SaysNoEnd (excuses_in excuses.now) reach (lists_in listed.now) text.now stop) }
+{
+    let errors = listed.errors.len();
+    let refusals = listed.refusals.len();
+    let normal = listed.normal.len();
+    let Some(last) = behind_counts(text, excuses, errors, refusals, normal) else {
+        return Err(Stop::Bad(text.len()));
+    };
+    let Some(rest) = behind_result(last, reach, errors) else {
+        return Err(Stop::Bad(last.len()));
+    };
+    Ok(rest)
+}
+
+/// The outcome that came so far and lists this.
+fn outcome_of(reach: Reach, listed: Listed) -> Result<Outcome, AllocError>
+    ensures { IfOk result (λ outcome. outcome ≡ outcome_of reach (lists_in listed)) }
+{
+    let Listed {
+        mut errors,
+        refusals,
+        normal,
+    } = listed;
+    errors.merge(normal)?;
+    let findings = Findings::of(errors, refusals);
+    match reach {
+        Reach::Whole(nodes) => Ok(Outcome::Complete(findings, Extent { nodes, cut: 0 })),
+        Reach::Stopped(cause) => Ok(Outcome::Incomplete(cause, findings)),
+    }
+}
+
+/// Reads the report at the beginning of a text.
+pub(crate) fn read_first<'t>(
+    alloc: Global,
+    depth: u64,
+    flags: Flags,
+    excuses: &Excuses,
+    text: &'t [u8],
+) -> Result<(Outcome, &'t [u8]), Stop>
+    ensures { MatchResult result
+        (λ p. IsRead (SaysReport depth (flags_in flags) (excuses_in excuses.now) text.now) p.0 p.1.now)
+        (λ stop. Refuses IsTooHigh (SaysReport depth (flags_in flags) (excuses_in excuses.now) text.now) stop) }
+{
+    let Some((reach, rest)) = read_first_line(depth, text) else {
+        return Err(Stop::Bad(text.len()));
+    };
+    let (listed, rest) = read_lists(alloc, flags, excuses, rest)?;
+    let rest = read_end(excuses, reach, &listed, rest)?;
+    let outcome = outcome_of(reach, listed)?;
+    Ok((outcome, rest))
+}
+
+/// Reads the report at the beginning of a text, as `write_report` writes it, and tells what stands behind it. The
+/// depth, the flags and the excuses are those of the exploration: what counts as an error and what is taken as normal
+/// is not in the text, and the errors of both kinds are put together. At how many nodes the tree is cut is not told
+/// either, and is read as 0.
+///
+/// # Errors
+///
+/// `BadLine` with the line, counted from 1, at which the text is no report of this depth, these flags and these
+/// excuses; `TooDeep` with the line of a term in which more than 10,000 brackets and braces are open; `Memory` where
+/// there was no memory for what is read. What was read is dropped.
+pub fn read_report<'t>(
+    alloc: Global,
+    depth: u64,
+    flags: Flags,
+    excuses: &Excuses,
+    text: &'t [u8],
+) -> Result<(Outcome, &'t [u8]), ReportFault>
+    // What is read has this text.
+    ensures read { IfOk result (λ r. (text.now ≡ text_of_report depth (excuses_in excuses.now) r.0 ++ r.1.now) × IsLawfulOutcome (flags_in flags) r.0) }
+
+    // The report of an outcome is read as that outcome, unless a term is too deep or memory runs out.
+    ensures only { (o : Outcome) (rest : List ℕ) → IsLawfulOutcome (flags_in flags) o → text.now ≡ text_of_report depth (excuses_in excuses.now) o ++ rest
+        → MatchResult result (λ r. (r.0 ≡ o) × (r.1.now ≡ rest)) (λ fault. MayRefuse o fault) }
+
+    // The line of a fault is one of the text.
+    ensures line { IfErr result (λ fault. HasLine text.now fault) }
+{
+    match read_first(alloc, depth, flags, excuses, text) {
+        Ok((outcome, rest)) => Ok((outcome, rest)),
+        Err(stop) => Err(fault_of(text, stop)),
+    }
+}

@@ -1,0 +1,76 @@
+// The reports of a whole text, read one after another and put together.
+ghost use Rattle.std.specs.Prelude.{◌≡◌, List, ◌∷◌, IfErr, IfOk, MatchResult};
+ghost use Rattle.std.specs.List.{AllByRecursion};
+ghost use Rattle.excuses.specs.Excuses.{excuses_in};
+ghost use Rattle.findings.specs.Identities.{flags_in};
+ghost use Rattle.findings.specs.declared.outcome.Outcome.{Outcome};
+ghost use Rattle.report_reader.specs.Lawful.{HasLine, IsLawfulOutcome};
+ghost use Rattle.report_reader.specs.Merged.{AreReportsOf, MayRefuseAll, fault_of_merge, merged_all, text_of_reports};
+
+use crate::fault::{MergeFault, ReportFault};
+use crate::merging::merge_outcomes;
+use crate::places::fault_of;
+use crate::reading::read_first;
+use excuses::Excuses;
+use findings::{Flags, Outcome};
+use std::alloc::Global;
+
+/// What is answered where outcomes cannot be put together.
+fn fault_of_merge(fault: MergeFault) -> ReportFault
+    ensures { result ≡ fault_of_merge fault }
+{
+    match fault {
+        MergeFault::TooManyNodes => ReportFault::TooManyNodes,
+        MergeFault::Memory => ReportFault::Memory,
+    }
+}
+
+/// What the reports of a whole text come to, which stand there one after another: at least one. Where a depth is
+/// given for the first, that is its depth, and the other depth that of all others; else all are of one depth.
+///
+/// # Errors
+///
+/// `BadLine`, `TooDeep` and `Memory` as `read_report`, with lines counted through the whole text; a text without a report
+/// is bad at line 1. `TooManyNodes` where the nodes of the reports are 2^64 or more. What was read is dropped.
+pub fn merge_reports(
+    alloc: Global,
+    above: Option<u64>,
+    depth: u64,
+    flags: Flags,
+    excuses: &Excuses,
+    text: &[u8],
+) -> Result<Outcome, ReportFault>
+    // The text is that of reports, and what is answered is what they come to.
+    ensures ok { IfOk result (λ whole. AreReportsOf above depth (flags_in flags) (excuses_in excuses.now) text.now whole) }
+
+    // Reports are read as what they come to, unless a term is too deep, they have too many nodes, or memory runs out.
+    ensures only { (first : Outcome) (others : List Outcome) → AllByRecursion (IsLawfulOutcome (flags_in flags)) (first ∷ others)
+        → text.now ≡ text_of_reports above depth (excuses_in excuses.now) (first ∷ others)
+        → MatchResult result (λ whole. whole ≡ merged_all first others) (λ fault. MayRefuseAll (first ∷ others) fault) }
+
+    // The line of a fault is one of the text.
+    ensures line { IfErr result (λ fault. HasLine text.now fault) }
+{
+    let (mut whole, mut rest) = match read_first(
+        alloc,
+        above.unwrap_or(depth),
+        flags,
+        excuses,
+        text,
+    ) {
+        Ok((outcome, rest)) => (outcome, rest),
+        Err(stop) => return Err(fault_of(text, stop)),
+    };
+    'reports: while !rest.is_empty() {
+        let (outcome, next) = match read_first(alloc, depth, flags, excuses, rest) {
+            Ok((outcome, next)) => (outcome, next),
+            Err(stop) => return Err(fault_of(text, stop)),
+        };
+        whole = match merge_outcomes(whole, outcome) {
+            Ok(both) => both,
+            Err(fault) => return Err(fault_of_merge(fault)),
+        };
+        rest = next;
+    }
+    Ok(whole)
+}
