@@ -8,7 +8,7 @@ use Rattle.clap.specs.Words.{Row, Text, fault_of, one_of, subcommand_of}
 use Rattle.clap.specs.declared.parser.matches.ValueSource.TheVariants.{CommandLine, DefaultValue}
 use Rattle.findings.specs.declared.flags.Flags.{Flags}
 use Rattle.command_words.specs.Words.{Given, depths_of, is_allow_deadlock, is_strict_access, words_of_all}
-use Rattle.command_words.specs.inside.CommandLine.{Level, checking, command_line, exploring, listing, name_of}
+use Rattle.command_words.specs.inside.CommandLine.{Level, checking, command_line, exploring, listing, merging, name_of, splitting}
 use Rattle.command_words.specs.inside.Found.{AreFlagsOf, ReadsFlag, ReadsNumber, schedule_in}
 use Rattle.command_words.proofs.Levels.{HasPlace, level_passes, line_enters, line_passes, rows_left}
 use Rattle.command_words.proofs.Numbers.{decimal_is_number, decimal_value}
@@ -50,7 +50,8 @@ pub asked_has_no_schedule : (level : Level) (words : List Text) (given : List Gi
     → schedule_in (subcommand_of command_line words) ≡ None
 asked_has_no_schedule exploring words given steps flags asks = ap schedule_in (asked_enters exploring words given steps flags asks)
 asked_has_no_schedule checking words given steps flags asks = ap schedule_in (asked_enters checking words given steps flags asks)
-asked_has_no_schedule listing words given steps flags asks = ap schedule_in (asked_enters listing words given steps flags asks)
+asked_has_no_schedule (splitting listing) words given steps flags asks = ap schedule_in (asked_enters (splitting listing) words given steps flags asks)
+asked_has_no_schedule (splitting merging) words given steps flags asks = ap schedule_in (asked_enters (splitting merging) words given steps flags asks)
 
 -- ---- the text of a number, as it is read
 

@@ -6,11 +6,10 @@ use Rattle.std.proofs.lemmas.Slice.Eq.{bytes_eq-Decides}
 use Rattle.clap.specs.Words.{Row, Text, fault_of, one_of, subcommand_of}
 use Rattle.findings.specs.declared.flags.Flags.{Flags}
 use Rattle.findings.specs.declared.options.Options.{Options}
-use Rattle.command_words.specs.declared.command_line.Listing.{Listing}
 use Rattle.command_words.specs.declared.words.Printed.{Printed}
 use Rattle.command_words.specs.Words.{AreWordsOfCheck, Given}
 use Rattle.command_words.specs.inside.CommandLine.{checking, command_line}
-use Rattle.command_words.specs.inside.Found.{AreJobsOf, AreOptionsOf, IsCheckIn, IsCheckOf, schedule_in}
+use Rattle.command_words.specs.inside.Found.{AreOptionsOf, IsCheckIn, IsCheckOf, schedule_in}
 use Rattle.command_words.proofs.Asked.{IsAsked, asked_enters, asked_has_no_schedule, asked_passes, at_most_once, depth_is_read, depth_read, flags_read, rows_of_given}
 use Rattle.command_words.proofs.Entered.{entered_rows, number_fits}
 use Rattle.command_words.proofs.Once.{AreOfNoExploration, Each, check_lawful_by}
@@ -67,12 +66,6 @@ module _ (words : List Text) (given : List Given) (steps : ℕ) (flags : Flags) 
   pub check_has_no_options : (read : Options × Printed) → AreOptionsOf (subcommand_of command_line words) (Some read) → ⊥
   check_has_no_options read found =
       let none : Some read ≡ None = subst (λ o. AreOptionsOf o (Some read)) check_enters found in
-      cc
-
-  -- and no jobs
-  pub check_has_no_jobs : (read : Listing) → AreJobsOf (subcommand_of command_line words) (Some read) → ⊥
-  check_has_no_jobs read found =
-      let none : Some read ≡ None = subst (λ o. AreJobsOf o (Some read)) check_enters found in
       cc
 
   -- the depth and the flags that are found are those that the words ask for

@@ -8,11 +8,10 @@ use Rattle.clap.specs.Words.{Row, Text, fault_of, first_of, one_of, subcommand_o
 use Rattle.clap.specs.declared.parser.matches.ValueSource.TheVariants.{CommandLine, DefaultValue}
 use Rattle.findings.specs.declared.flags.Flags.{Flags}
 use Rattle.findings.specs.declared.options.Options.{Options}
-use Rattle.command_words.specs.declared.command_line.Listing.{Listing}
 use Rattle.command_words.specs.declared.words.Printed.{Printed}
 use Rattle.command_words.specs.Words.{AreInRange, AreWordsOfExplore, Given, IsGivenOr, is_cover, is_explain, job, jobs_of, nodes_of, workers_of}
 use Rattle.command_words.specs.inside.CommandLine.{command_line, exploring}
-use Rattle.command_words.specs.inside.Found.{AreJobsOf, AreOptionsIn, AreOptionsOf, AreRead, IsCheckOf, ReadsNumber, job_in, schedule_in}
+use Rattle.command_words.specs.inside.Found.{AreOptionsIn, AreOptionsOf, AreRead, IsCheckOf, ReadsNumber, job_in, schedule_in}
 use Rattle.command_words.proofs.Asked.{IsAsked, asked_enters, asked_has_no_schedule, asked_passes, at_most_once, depth_is_read, depth_read, flag_read, flags_read, number_not_read, number_read, rows_of_given}
 use Rattle.command_words.proofs.Entered.{entered_rows, number_fits}
 use Rattle.command_words.proofs.Once.{Each, lawful_by}
@@ -113,12 +112,6 @@ module _ (words : List Text) (given : List Given) (options : Options) (printed :
   pub explore_has_no_check : (read : ℕ × Flags) → IsCheckOf (subcommand_of command_line words) (Some read) → ⊥
   explore_has_no_check read found =
       let none : Some read ≡ None = subst (λ o. IsCheckOf o (Some read)) explore_enters found in
-      cc
-
-  -- and no jobs
-  pub explore_has_no_jobs : (read : Listing) → AreJobsOf (subcommand_of command_line words) (Some read) → ⊥
-  explore_has_no_jobs read found =
-      let none : Some read ≡ None = subst (λ o. AreJobsOf o (Some read)) explore_enters found in
       cc
 
   -- the job that is found is the one that is given

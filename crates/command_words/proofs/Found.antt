@@ -1,8 +1,9 @@
 -- What the parser's getters read, as the rows of its matches say it.
 use Rattle.std.proofs.Common.{◌≡◌, ◌∙◌, ℕ, Bool, true, false, List, Option, Some, None, codes, option_map, refl, sym, subst}
-use Rattle.std.specs.Prelude.{Result, Ok, Err, Box}
+use Rattle.std.specs.Prelude.{MatchBool, Result, Ok, Err, Box}
 use Rattle.std.specs.Box.{box_value}
 use Rattle.std.specs.Str.Parse.{ParsesUnsigned}
+use Rattle.std.proofs.lemmas.Slice.Eq.{bytes_eq-Decides}
 use Rattle.clap.specs.Matches.{one_text}
 use Rattle.clap.specs.Simple.{subcommand_rows}
 use Rattle.clap.specs.Words.{ReadsOne, Row, Text, one_of, rows_of, subcommand_name_of, subcommand_rows_of}
@@ -11,7 +12,8 @@ use Rattle.clap.specs.declared.parser.matches.ArgMatches.TheViews.{out-ArgMatche
 use Rattle.clap.specs.declared.parser.matches.Found.{Found}
 use Rattle.clap.specs.declared.parser.matches.SubCommand.{SubCommand}
 use Rattle.clap.proofs.WalkLemmas.{one_text-rows}
-use Rattle.command_words.specs.inside.Found.{ReadsFlag, ReadsNumber}
+use Rattle.command_words.specs.declared.command_line.Split.{Split}
+use Rattle.command_words.specs.inside.Found.{IsSplitIn, IsSplitOf, ReadsFlag, ReadsNumber}
 
 module _ {Z : Type 0} where
   named : (o : Option (Box SubCommand Z)) → option_map (λ p. p.0) (subcommand_rows o) ≡ option_map (λ b. (out-SubCommand (box_value b)).name.now) o
@@ -47,3 +49,7 @@ number_of E G f id r none value only = subst (λ o. ReadsNumber o r) (one_text-r
 pub flag_of : (f : Found) (id : Text) (r : Bool) → (one_text f id ≡ Some (codes "true") → r ≡ true) → (one_text f id ≡ Some (codes "false") → r ≡ false)
     → ReadsFlag (one_of id (rows_of f)) r
 flag_of f id r set unset = record { set = λ e. set (one_text-rows f id ∙ e); unset = λ e. unset (one_text-rows f id ∙ e) }
+
+-- what is read of the rows of this command is read of it
+pub split_of : (command : Text) (rows : List Row) (read : Option Split) → IsSplitIn rows read → IsSplitOf command (Some (command, rows)) read
+split_of command rows read is = subst (λ (b : Bool). MatchBool b (IsSplitIn rows read) (read ≡ None)) (sym ((bytes_eq-Decides command command).1 refl)) is

@@ -14,7 +14,7 @@ use Rattle.clap.specs.declared.error.kind.ErrorKind.TheVariants.{DisplayHelp, Mi
 use Rattle.clap.proofs.FaultLemmas.{stopped_fault}
 use Rattle.clap.proofs.OnLiterals.{clap_on_literals}
 use Rattle.command_words.specs.Words.{Given, at, ats_of, depth, depths_of, words_of_all}
-use Rattle.command_words.specs.inside.CommandLine.{Level, at_rule, built_of, checking, command_line, depth_rule, exploring, flag_rule, job_rule, listing, name_of, nodes_rule, normal_rule, workers_rule}
+use Rattle.command_words.specs.inside.CommandLine.{Level, at_rule, built_of, checking, command_line, depth_rule, exploring, flag_rule, job_rule, listing, merging, name_of, nodes_rule, normal_rule, splitting, workers_rule}
 use Rattle.command_words.proofs.Options.{AreLawful, AreNew, IsReady, both_none, options_pass, options_ready}
 use Rattle.command_words.proofs.Rows.{at_left, at_option_row, depth_left, depth_row, given_row, put_all, row_of, with_defaults}
 
@@ -64,7 +64,7 @@ defaults_pass checking rows =
     (both_none _ _ (no_default_fault (has_row (codes "normal") three) [])
     (both_none _ _ (no_fault (has_row (codes "strict-access") four || false))
     (both_none _ _ (no_default_fault (has_row (codes "help") five) (DisplayHelp ∷ [])) refl)))))
-defaults_pass listing rows =
+defaults_pass (splitting which) rows =
     let one = with_default rows (filled depth_rule) in
     let two = with_default one (filled at_rule) in
     let three = with_default two (filled (flag_rule (codes "allow-deadlock"))) in
@@ -83,13 +83,13 @@ defaults_pass listing rows =
 
 -- where `--at` has to be there, it is given
 abbrev IsThere : Level → List Row → Type 0
-IsThere listing rows = is_given (codes "at") rows ≡ true
+IsThere (splitting which) rows = is_given (codes "at") rows ≡ true
 IsThere level rows = Unit {0}
 
 checks : (level : Level) (rows : List Row) → is_given (codes "depth") rows ≡ true → IsThere level rows → check_fault (built_of level) rows false ≡ []
 checks exploring rows is there = ap (λ b. cond (not b || false) (MissingRequiredArgument ∷ []) []) is
 checks checking rows is there = ap (λ b. cond (not b || false) (MissingRequiredArgument ∷ []) []) is
-checks listing rows is there = ap₂ (λ b c. cond (not b || (not c || false)) (MissingRequiredArgument ∷ []) []) is there
+checks (splitting which) rows is there = ap₂ (λ b c. cond (not b || (not c || false)) (MissingRequiredArgument ∷ []) []) is there
 
 -- the words of a level have no fault where none of its four steps has one
 all_pass : (level : Level) (words : List Text) → walk_fault (built_of level) [] (walk_from nothing_held) words ≡ []
@@ -101,9 +101,9 @@ all_pass exploring words walks settles is there =
 all_pass checking words walks settles is there =
     both_none _ _ walks (both_none _ _ settles (both_none _ _ (defaults_pass checking (settled (built_of checking).rules (walk (built_of checking).rules [] nothing_held words).held).rows)
     (checks checking (rows_after (built_of checking).rules [] words) is there)))
-all_pass listing words walks settles is there =
-    both_none _ _ walks (both_none _ _ settles (both_none _ _ (defaults_pass listing (settled (built_of listing).rules (walk (built_of listing).rules [] nothing_held words).held).rows)
-    (checks listing (rows_after (built_of listing).rules [] words) is there)))
+all_pass (splitting which) words walks settles is there =
+    both_none _ _ walks (both_none _ _ settles (both_none _ _ (defaults_pass (splitting which) (settled (built_of (splitting which)).rules (walk (built_of (splitting which)).rules [] nothing_held words).held).rows)
+    (checks (splitting which) (rows_after (built_of (splitting which)).rules [] words) is there)))
 
 -- nothing is held at first
 ready_at_first : (level : Level) → IsReady level [] nothing_held
@@ -111,15 +111,15 @@ ready_at_first level = record { settles = refl; rows_are = refl }
 
 -- `--at` is given once where it has to be there
 abbrev pub HasPlace : Level → List Given → ℕ → Type 0
-HasPlace listing given place = ats_of given ≡ place ∷ []
+HasPlace (splitting which) given place = ats_of given ≡ place ∷ []
 HasPlace level given place = Unit {0}
 
 is_there : (level : Level) (given : List Given) (place : ℕ) → HasPlace level given place → IsThere level (with_defaults level (put_all [] given))
 is_there exploring given place has = tt
 is_there checking given place has = tt
-is_there listing given place has =
+is_there (splitting which) given place has =
     ap (λ o. option_map_or (λ r. explicit_source r.source) o false)
-    (at_left (put_all [] given) ∙ given_row (codes "at") given refl ∙ at_option_row given ∙ ap (λ l. option_map (λ n. row_of (at n)) (slice_get l 0)) has)
+    (at_left which (put_all [] given) ∙ given_row (codes "at") given refl ∙ at_option_row given ∙ ap (λ l. option_map (λ n. row_of (at n)) (slice_get l 0)) has)
 
 module _ (level : Level) (given : List Given) (number place : ℕ) (new : AreNew [] given) (lawful : AreLawful given level) (depth_is : depths_of given ≡ number ∷ []) (has : HasPlace level given place) where
   ready : IsReady level (put_all [] given) (walk (built_of level).rules [] nothing_held (words_of_all given)).held
@@ -157,19 +157,22 @@ line_walk : (level : Level) (words : List Text) → walk (built command_line).to
 unfolding clap_on_literals
 line_walk exploring words = stopped_walk (built command_line).top.rules (names_of (built command_line)) (walk_from nothing_held) (codes "explore") [] words
 line_walk checking words = stopped_walk (built command_line).top.rules (names_of (built command_line)) (walk_from nothing_held) (codes "check") [] words
-line_walk listing words = stopped_walk (built command_line).top.rules (names_of (built command_line)) (walk_from nothing_held) (codes "jobs") [] words
+line_walk (splitting listing) words = stopped_walk (built command_line).top.rules (names_of (built command_line)) (walk_from nothing_held) (codes "jobs") [] words
+line_walk (splitting merging) words = stopped_walk (built command_line).top.rules (names_of (built command_line)) (walk_from nothing_held) (codes "merge") [] words
 
 -- the rows of the command are what its words leave
 pub line_enters : (level : Level) (name : Text) (words : List Text) → subcommand_of command_line (name ∷ name_of level ∷ words) ≡ Some (name_of level, rows_after (built_of level).rules [] words)
 line_enters exploring name words = ap (λ (w : Walk). entered (built command_line) w.stopped) (line_walk exploring words)
 line_enters checking name words = ap (λ (w : Walk). entered (built command_line) w.stopped) (line_walk checking words)
-line_enters listing name words = ap (λ (w : Walk). entered (built command_line) w.stopped) (line_walk listing words)
+line_enters (splitting listing) name words = ap (λ (w : Walk). entered (built command_line) w.stopped) (line_walk (splitting listing) words)
+line_enters (splitting merging) name words = ap (λ (w : Walk). entered (built command_line) w.stopped) (line_walk (splitting merging) words)
 
 word_passes : (level : Level) (words : List Text) → walk_fault (built command_line).top (names_of (built command_line)) (walk_from nothing_held) (name_of level ∷ words) ≡ []
 unfolding clap_on_literals
 word_passes exploring words = stopped_fault (built command_line).top (names_of (built command_line)) (walk_from nothing_held) (codes "explore", []) words
 word_passes checking words = stopped_fault (built command_line).top (names_of (built command_line)) (walk_from nothing_held) (codes "check", []) words
-word_passes listing words = stopped_fault (built command_line).top (names_of (built command_line)) (walk_from nothing_held) (codes "jobs", []) words
+word_passes (splitting listing) words = stopped_fault (built command_line).top (names_of (built command_line)) (walk_from nothing_held) (codes "jobs", []) words
+word_passes (splitting merging) words = stopped_fault (built command_line).top (names_of (built command_line)) (walk_from nothing_held) (codes "merge", []) words
 
 -- the line is at fault where the level of the command is
 abbrev fault_at : Level → List Text → Walk → Kinds
@@ -187,6 +190,9 @@ line_passes exploring name words none =
 line_passes checking name words none =
     let whole : fault_of command_line (name ∷ codes "check" ∷ words) ≡ fault_at checking words (ended checking words) = ap (fault_at checking words) (line_walk checking words) in
     whole ∙ both_none (walk_fault (built command_line).top (names_of (built command_line)) (walk_from nothing_held) (codes "check" ∷ words)) _ (word_passes checking words) (both_none _ [] none refl)
-line_passes listing name words none =
-    let whole : fault_of command_line (name ∷ codes "jobs" ∷ words) ≡ fault_at listing words (ended listing words) = ap (fault_at listing words) (line_walk listing words) in
-    whole ∙ both_none (walk_fault (built command_line).top (names_of (built command_line)) (walk_from nothing_held) (codes "jobs" ∷ words)) _ (word_passes listing words) (both_none _ [] none refl)
+line_passes (splitting listing) name words none =
+    let whole : fault_of command_line (name ∷ codes "jobs" ∷ words) ≡ fault_at (splitting listing) words (ended (splitting listing) words) = ap (fault_at (splitting listing) words) (line_walk (splitting listing) words) in
+    whole ∙ both_none (walk_fault (built command_line).top (names_of (built command_line)) (walk_from nothing_held) (codes "jobs" ∷ words)) _ (word_passes (splitting listing) words) (both_none _ [] none refl)
+line_passes (splitting merging) name words none =
+    let whole : fault_of command_line (name ∷ codes "merge" ∷ words) ≡ fault_at (splitting merging) words (ended (splitting merging) words) = ap (fault_at (splitting merging) words) (line_walk (splitting merging) words) in
+    whole ∙ both_none (walk_fault (built command_line).top (names_of (built command_line)) (walk_from nothing_held) (codes "merge" ∷ words)) _ (word_passes (splitting merging) words) (both_none _ [] none refl)

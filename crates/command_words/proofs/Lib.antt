@@ -7,7 +7,6 @@ pub mod Explored
 pub mod Found
 pub mod Kept
 pub mod Levels
-pub mod Listed
 pub mod Named
 pub mod Numbers
 pub mod Once
@@ -16,5 +15,6 @@ pub mod Ranges
 pub mod Reading
 pub mod Replayed
 pub mod Rows
+pub mod Splitting
 pub mod Texts
 pub mod Unread

@@ -6,7 +6,7 @@ use Rattle.std.specs.Str.{bytes_eq}
 use Rattle.std.proofs.lemmas.List.Sums.{sum_by-cons}
 use Rattle.clap.specs.Walk.{Row, Text, has_row}
 use Rattle.command_words.specs.Words.{Given, depth, nodes, workers, allow_deadlock, strict_access, explain, cover, main_deadlock, normal, at, job, depths_of, nodes_of, workers_of, texts_of, ats_of, jobs_of, is_allow_deadlock, is_main_deadlock, is_strict_access, is_explain, is_cover, ArePlain}
-use Rattle.command_words.specs.inside.CommandLine.{checking, exploring, listing}
+use Rattle.command_words.specs.inside.CommandLine.{Splitter, checking, exploring, splitting}
 use Rattle.command_words.proofs.Options.{AreLawful, AreNew, IsNew}
 use Rattle.command_words.proofs.Rows.{has_row-at, id_of, put, put_apart}
 
@@ -394,17 +394,17 @@ check_lawful_by (cover ∷ rest) depths ats none plain = absurd (omega (arith, n
 check_lawful_by (at n ∷ rest) depths ats none plain = absurd (omega arith)
 check_lawful_by (job line ∷ rest) depths ats none plain = absurd (omega (arith, none.jobs))
 
--- options of `jobs`
-pub jobs_lawful_by : (given : List Given) → Each (λ n. n ≤ 400) (depths_of given) → Each (λ n. n ≤ 400) (ats_of given) → AreOfNoExploration given → ArePlain (texts_of given) → AreLawful given listing
-jobs_lawful_by [] depths ats none plain = tt
-jobs_lawful_by (depth n ∷ rest) depths ats none plain = (depths.0, jobs_lawful_by rest depths.1 ats (rest_of_none (depth n) rest none) plain)
-jobs_lawful_by (nodes n ∷ rest) depths ats none plain = absurd (omega (arith, none.nodes))
-jobs_lawful_by (workers n ∷ rest) depths ats none plain = absurd (omega (arith, none.workers))
-jobs_lawful_by (allow_deadlock ∷ rest) depths ats none plain = (tt, jobs_lawful_by rest depths ats (rest_of_none allow_deadlock rest none) plain)
-jobs_lawful_by (main_deadlock ∷ rest) depths ats none plain = (tt, jobs_lawful_by rest depths ats (rest_of_none main_deadlock rest none) plain)
-jobs_lawful_by (normal text ∷ rest) depths ats none plain = (plain.0, jobs_lawful_by rest depths ats (rest_of_none (normal text) rest none) plain.1)
-jobs_lawful_by (strict_access ∷ rest) depths ats none plain = (tt, jobs_lawful_by rest depths ats (rest_of_none strict_access rest none) plain)
-jobs_lawful_by (explain ∷ rest) depths ats none plain = absurd (omega (arith, none.explain, counted is_explain explain rest))
-jobs_lawful_by (cover ∷ rest) depths ats none plain = absurd (omega (arith, none.cover, counted is_cover cover rest))
-jobs_lawful_by (at n ∷ rest) depths ats none plain = (ats.0, jobs_lawful_by rest depths ats.1 (rest_of_none (at n) rest none) plain)
-jobs_lawful_by (job line ∷ rest) depths ats none plain = absurd (omega (arith, none.jobs))
+-- options of a command that splits the tree
+pub split_lawful_by : (which : Splitter) (given : List Given) → Each (λ n. n ≤ 400) (depths_of given) → Each (λ n. n ≤ 400) (ats_of given) → AreOfNoExploration given → ArePlain (texts_of given) → AreLawful given (splitting which)
+split_lawful_by which [] depths ats none plain = tt
+split_lawful_by which (depth n ∷ rest) depths ats none plain = (depths.0, split_lawful_by which rest depths.1 ats (rest_of_none (depth n) rest none) plain)
+split_lawful_by which (nodes n ∷ rest) depths ats none plain = absurd (omega (arith, none.nodes))
+split_lawful_by which (workers n ∷ rest) depths ats none plain = absurd (omega (arith, none.workers))
+split_lawful_by which (allow_deadlock ∷ rest) depths ats none plain = (tt, split_lawful_by which rest depths ats (rest_of_none allow_deadlock rest none) plain)
+split_lawful_by which (main_deadlock ∷ rest) depths ats none plain = (tt, split_lawful_by which rest depths ats (rest_of_none main_deadlock rest none) plain)
+split_lawful_by which (normal text ∷ rest) depths ats none plain = (plain.0, split_lawful_by which rest depths ats (rest_of_none (normal text) rest none) plain.1)
+split_lawful_by which (strict_access ∷ rest) depths ats none plain = (tt, split_lawful_by which rest depths ats (rest_of_none strict_access rest none) plain)
+split_lawful_by which (explain ∷ rest) depths ats none plain = absurd (omega (arith, none.explain, counted is_explain explain rest))
+split_lawful_by which (cover ∷ rest) depths ats none plain = absurd (omega (arith, none.cover, counted is_cover cover rest))
+split_lawful_by which (at n ∷ rest) depths ats none plain = (ats.0, split_lawful_by which rest depths ats.1 (rest_of_none (at n) rest none) plain)
+split_lawful_by which (job line ∷ rest) depths ats none plain = absurd (omega (arith, none.jobs))

@@ -15,7 +15,7 @@ use Rattle.clap.specs.ValueTests.{is_unsigned_in}
 use Rattle.command_words.proofs.Numbers.{decimal_fits, decimal_is_plain}
 use Rattle.clap.proofs.OnLiterals.{clap_on_literals}
 use Rattle.command_words.specs.Words.{Given, begins_with_hyphen, depth, nodes, workers, allow_deadlock, strict_access, explain, cover, main_deadlock, normal, at, job, words_of, words_of_all}
-use Rattle.command_words.specs.inside.CommandLine.{Level, at_rule, built_of, checking, depth_rule, exploring, flag_rule, job_rule, listing, nodes_rule, normal_rule, workers_rule}
+use Rattle.command_words.specs.inside.CommandLine.{Level, Splitter, at_rule, built_of, checking, depth_rule, exploring, flag_rule, job_rule, nodes_rule, normal_rule, splitting, workers_rule}
 use Rattle.command_words.proofs.Rows.{id_of, put, put_all, row_with, used_once}
 
 -- two steps pass where each does
@@ -32,26 +32,26 @@ abbrev pub IsLawful : Given → Level → Type 0
 IsLawful (depth n) level = n ≤ 400
 IsLawful (nodes n) exploring = (1 ≤ n) × (n ≤ 10000000)
 IsLawful (nodes n) checking = ⊥
-IsLawful (nodes n) listing = ⊥
+IsLawful (nodes n) (splitting which) = ⊥
 IsLawful (workers n) exploring = (1 ≤ n) × (n ≤ 16)
 IsLawful (workers n) checking = ⊥
-IsLawful (workers n) listing = ⊥
+IsLawful (workers n) (splitting which) = ⊥
 IsLawful allow_deadlock level = Unit {0}
 IsLawful main_deadlock level = Unit {0}
 IsLawful (normal text) level = begins_with_hyphen text ≡ false
 IsLawful strict_access level = Unit {0}
 IsLawful explain exploring = Unit {0}
 IsLawful explain checking = ⊥
-IsLawful explain listing = ⊥
+IsLawful explain (splitting which) = ⊥
 IsLawful cover exploring = Unit {0}
 IsLawful cover checking = ⊥
-IsLawful cover listing = ⊥
+IsLawful cover (splitting which) = ⊥
 IsLawful (at n) exploring = ⊥
 IsLawful (at n) checking = ⊥
-IsLawful (at n) listing = n ≤ 400
+IsLawful (at n) (splitting which) = n ≤ 400
 IsLawful (job line) exploring = begins_with_hyphen line ≡ false
 IsLawful (job line) checking = ⊥
-IsLawful (job line) listing = ⊥
+IsLawful (job line) (splitting which) = ⊥
 
 -- ---- one use of an option
 
@@ -124,13 +124,13 @@ depth_word : (level : Level) (h : Held) → met level (walk_from h) (codes "--de
 unfolding clap_on_literals
 depth_word exploring h = refl
 depth_word checking h = refl
-depth_word listing h = refl
+depth_word (splitting which) h = refl
 
 normal_word : (level : Level) (h : Held) → met level (walk_from h) (codes "--normal") ≡ waiting_for level (codes "normal") h
 unfolding clap_on_literals
 normal_word exploring h = refl
 normal_word checking h = refl
-normal_word listing h = refl
+normal_word (splitting which) h = refl
 
 nodes_word : (h : Held) → met exploring (walk_from h) (codes "--nodes") ≡ waiting_for exploring (codes "nodes") h
 unfolding clap_on_literals
@@ -140,9 +140,9 @@ workers_word : (h : Held) → met exploring (walk_from h) (codes "--workers") �
 unfolding clap_on_literals
 workers_word h = refl
 
-at_word : (h : Held) → met listing (walk_from h) (codes "--at") ≡ waiting_for listing (codes "at") h
+at_word : (which : Splitter) (h : Held) → met (splitting which) (walk_from h) (codes "--at") ≡ waiting_for (splitting which) (codes "at") h
 unfolding clap_on_literals
-at_word h = refl
+at_word which h = refl
 
 job_word : (h : Held) → met exploring (walk_from h) (codes "--job") ≡ waiting_for exploring (codes "job") h
 unfolding clap_on_literals
@@ -152,19 +152,19 @@ allow_deadlock_word : (level : Level) (h : Held) → met level (walk_from h) (co
 unfolding clap_on_literals
 allow_deadlock_word exploring h = refl
 allow_deadlock_word checking h = refl
-allow_deadlock_word listing h = refl
+allow_deadlock_word (splitting which) h = refl
 
 main_deadlock_word : (level : Level) (h : Held) → met level (walk_from h) (codes "--main-deadlock") ≡ walk_from (with_flag level (codes "main-deadlock") h)
 unfolding clap_on_literals
 main_deadlock_word exploring h = refl
 main_deadlock_word checking h = refl
-main_deadlock_word listing h = refl
+main_deadlock_word (splitting which) h = refl
 
 strict_access_word : (level : Level) (h : Held) → met level (walk_from h) (codes "--strict-access") ≡ walk_from (with_flag level (codes "strict-access") h)
 unfolding clap_on_literals
 strict_access_word exploring h = refl
 strict_access_word checking h = refl
-strict_access_word listing h = refl
+strict_access_word (splitting which) h = refl
 
 explain_word : (h : Held) → met exploring (walk_from h) (codes "--explain") ≡ walk_from (with_flag exploring (codes "explain") h)
 unfolding clap_on_literals
@@ -181,8 +181,8 @@ depth_number exploring h [] plain = refl
 depth_number exploring h (byte ∷ rest) plain = simp plain refl
 depth_number checking h [] plain = refl
 depth_number checking h (byte ∷ rest) plain = simp plain refl
-depth_number listing h [] plain = refl
-depth_number listing h (byte ∷ rest) plain = simp plain refl
+depth_number (splitting which) h [] plain = refl
+depth_number (splitting which) h (byte ∷ rest) plain = simp plain refl
 
 normal_text : (level : Level) (h : Held) (value : Text) → begins_with_hyphen value ≡ false
     → met level (waiting_for level (codes "normal") h) value ≡ walk_from (with_number level (codes "normal") value h)
@@ -191,8 +191,8 @@ normal_text exploring h [] plain = refl
 normal_text exploring h (byte ∷ rest) plain = simp plain refl
 normal_text checking h [] plain = refl
 normal_text checking h (byte ∷ rest) plain = simp plain refl
-normal_text listing h [] plain = refl
-normal_text listing h (byte ∷ rest) plain = simp plain refl
+normal_text (splitting which) h [] plain = refl
+normal_text (splitting which) h (byte ∷ rest) plain = simp plain refl
 
 nodes_number : (h : Held) (value : Text) → begins_with_hyphen value ≡ false → met exploring (waiting_for exploring (codes "nodes") h) value ≡ walk_from (with_number exploring (codes "nodes") value h)
 unfolding clap_on_literals
@@ -204,10 +204,10 @@ unfolding clap_on_literals
 workers_number h [] plain = refl
 workers_number h (byte ∷ rest) plain = simp plain refl
 
-at_number : (h : Held) (value : Text) → begins_with_hyphen value ≡ false → met listing (waiting_for listing (codes "at") h) value ≡ walk_from (with_number listing (codes "at") value h)
+at_number : (which : Splitter) (h : Held) (value : Text) → begins_with_hyphen value ≡ false → met (splitting which) (waiting_for (splitting which) (codes "at") h) value ≡ walk_from (with_number (splitting which) (codes "at") value h)
 unfolding clap_on_literals
-at_number h [] plain = refl
-at_number h (byte ∷ rest) plain = simp plain refl
+at_number which h [] plain = refl
+at_number which h (byte ∷ rest) plain = simp plain refl
 
 job_line : (h : Held) (value : Text) → begins_with_hyphen value ≡ false → met exploring (waiting_for exploring (codes "job") h) value ≡ walk_from (with_number exploring (codes "job") value h)
 unfolding clap_on_literals
@@ -218,13 +218,13 @@ depth_word_passes : (level : Level) (h : Held) → settle_fault (built_of level)
 unfolding clap_on_literals
 depth_word_passes exploring h settles = both_none (settle_fault (built_of exploring).rules false h) [] settles refl
 depth_word_passes checking h settles = both_none (settle_fault (built_of checking).rules false h) [] settles refl
-depth_word_passes listing h settles = both_none (settle_fault (built_of listing).rules false h) [] settles refl
+depth_word_passes (splitting which) h settles = both_none (settle_fault (built_of (splitting which)).rules false h) [] settles refl
 
 normal_word_passes : (level : Level) (h : Held) → settle_fault (built_of level).rules false h ≡ [] → turn_fault (built_of level) [] (walk_from h) (codes "--normal") ≡ []
 unfolding clap_on_literals
 normal_word_passes exploring h settles = both_none (settle_fault (built_of exploring).rules false h) [] settles refl
 normal_word_passes checking h settles = both_none (settle_fault (built_of checking).rules false h) [] settles refl
-normal_word_passes listing h settles = both_none (settle_fault (built_of listing).rules false h) [] settles refl
+normal_word_passes (splitting which) h settles = both_none (settle_fault (built_of (splitting which)).rules false h) [] settles refl
 
 nodes_word_passes : (h : Held) → settle_fault (built_of exploring).rules false h ≡ [] → turn_fault (built_of exploring) [] (walk_from h) (codes "--nodes") ≡ []
 unfolding clap_on_literals
@@ -234,9 +234,9 @@ workers_word_passes : (h : Held) → settle_fault (built_of exploring).rules fal
 unfolding clap_on_literals
 workers_word_passes h settles = both_none (settle_fault (built_of exploring).rules false h) [] settles refl
 
-at_word_passes : (h : Held) → settle_fault (built_of listing).rules false h ≡ [] → turn_fault (built_of listing) [] (walk_from h) (codes "--at") ≡ []
+at_word_passes : (which : Splitter) (h : Held) → settle_fault (built_of (splitting which)).rules false h ≡ [] → turn_fault (built_of (splitting which)) [] (walk_from h) (codes "--at") ≡ []
 unfolding clap_on_literals
-at_word_passes h settles = both_none (settle_fault (built_of listing).rules false h) [] settles refl
+at_word_passes which h settles = both_none (settle_fault (built_of (splitting which)).rules false h) [] settles refl
 
 job_word_passes : (h : Held) → settle_fault (built_of exploring).rules false h ≡ [] → turn_fault (built_of exploring) [] (walk_from h) (codes "--job") ≡ []
 unfolding clap_on_literals
@@ -248,8 +248,8 @@ number_passes exploring id h [] plain = refl
 number_passes exploring id h (byte ∷ rest) plain = simp plain refl
 number_passes checking id h [] plain = refl
 number_passes checking id h (byte ∷ rest) plain = simp plain refl
-number_passes listing id h [] plain = refl
-number_passes listing id h (byte ∷ rest) plain = simp plain refl
+number_passes (splitting which) id h [] plain = refl
+number_passes (splitting which) id h (byte ∷ rest) plain = simp plain refl
 
 -- the use of a flag at what is held
 reacts : (level : Level) (name : Text) (rows : List Row) (h : Held) → IsReady level rows h → has_row name rows ≡ false → react_fault (built_of level).rules false (filled (flag_rule name)) [] h ≡ []
@@ -264,8 +264,8 @@ allow_deadlock_passes exploring rows h ready none =
     both_none (react_fault (built_of exploring).rules false (filled (flag_rule (codes "allow-deadlock"))) [] h) [] (reacts exploring (codes "allow-deadlock") rows h ready none) refl
 allow_deadlock_passes checking rows h ready none =
     both_none (react_fault (built_of checking).rules false (filled (flag_rule (codes "allow-deadlock"))) [] h) [] (reacts checking (codes "allow-deadlock") rows h ready none) refl
-allow_deadlock_passes listing rows h ready none =
-    both_none (react_fault (built_of listing).rules false (filled (flag_rule (codes "allow-deadlock"))) [] h) [] (reacts listing (codes "allow-deadlock") rows h ready none) refl
+allow_deadlock_passes (splitting which) rows h ready none =
+    both_none (react_fault (built_of (splitting which)).rules false (filled (flag_rule (codes "allow-deadlock"))) [] h) [] (reacts (splitting which) (codes "allow-deadlock") rows h ready none) refl
 
 main_deadlock_passes : (level : Level) (rows : List Row) (h : Held) → IsReady level rows h → has_row (codes "main-deadlock") rows ≡ false
     → turn_fault (built_of level) [] (walk_from h) (codes "--main-deadlock") ≡ []
@@ -274,8 +274,8 @@ main_deadlock_passes exploring rows h ready none =
     both_none (react_fault (built_of exploring).rules false (filled (flag_rule (codes "main-deadlock"))) [] h) [] (reacts exploring (codes "main-deadlock") rows h ready none) refl
 main_deadlock_passes checking rows h ready none =
     both_none (react_fault (built_of checking).rules false (filled (flag_rule (codes "main-deadlock"))) [] h) [] (reacts checking (codes "main-deadlock") rows h ready none) refl
-main_deadlock_passes listing rows h ready none =
-    both_none (react_fault (built_of listing).rules false (filled (flag_rule (codes "main-deadlock"))) [] h) [] (reacts listing (codes "main-deadlock") rows h ready none) refl
+main_deadlock_passes (splitting which) rows h ready none =
+    both_none (react_fault (built_of (splitting which)).rules false (filled (flag_rule (codes "main-deadlock"))) [] h) [] (reacts (splitting which) (codes "main-deadlock") rows h ready none) refl
 
 strict_access_passes : (level : Level) (rows : List Row) (h : Held) → IsReady level rows h → has_row (codes "strict-access") rows ≡ false
     → turn_fault (built_of level) [] (walk_from h) (codes "--strict-access") ≡ []
@@ -284,8 +284,8 @@ strict_access_passes exploring rows h ready none =
     both_none (react_fault (built_of exploring).rules false (filled (flag_rule (codes "strict-access"))) [] h) [] (reacts exploring (codes "strict-access") rows h ready none) refl
 strict_access_passes checking rows h ready none =
     both_none (react_fault (built_of checking).rules false (filled (flag_rule (codes "strict-access"))) [] h) [] (reacts checking (codes "strict-access") rows h ready none) refl
-strict_access_passes listing rows h ready none =
-    both_none (react_fault (built_of listing).rules false (filled (flag_rule (codes "strict-access"))) [] h) [] (reacts listing (codes "strict-access") rows h ready none) refl
+strict_access_passes (splitting which) rows h ready none =
+    both_none (react_fault (built_of (splitting which)).rules false (filled (flag_rule (codes "strict-access"))) [] h) [] (reacts (splitting which) (codes "strict-access") rows h ready none) refl
 
 explain_passes : (rows : List Row) (h : Held) → IsReady exploring rows h → has_row (codes "explain") rows ≡ false → turn_fault (built_of exploring) [] (walk_from h) (codes "--explain") ≡ []
 unfolding clap_on_literals
@@ -307,12 +307,12 @@ option_walks (nodes n) exploring h rest lawful =
     let plain : begins_with_hyphen (decimal n) ≡ false = decimal_is_plain n (omega arith) in
     ap (λ w. fold (walked (built_of exploring).rules []) w rest) (ap (λ w. met exploring w (decimal n)) (nodes_word h) ∙ nodes_number h (decimal n) plain)
 option_walks (nodes n) checking h rest lawful = absurd lawful
-option_walks (nodes n) listing h rest lawful = absurd lawful
+option_walks (nodes n) (splitting which) h rest lawful = absurd lawful
 option_walks (workers n) exploring h rest lawful =
     let plain : begins_with_hyphen (decimal n) ≡ false = decimal_is_plain n (omega arith) in
     ap (λ w. fold (walked (built_of exploring).rules []) w rest) (ap (λ w. met exploring w (decimal n)) (workers_word h) ∙ workers_number h (decimal n) plain)
 option_walks (workers n) checking h rest lawful = absurd lawful
-option_walks (workers n) listing h rest lawful = absurd lawful
+option_walks (workers n) (splitting which) h rest lawful = absurd lawful
 option_walks allow_deadlock level h rest lawful = ap (λ w. fold (walked (built_of level).rules []) w rest) (allow_deadlock_word level h)
 option_walks main_deadlock level h rest lawful = ap (λ w. fold (walked (built_of level).rules []) w rest) (main_deadlock_word level h)
 option_walks (normal text) level h rest lawful =
@@ -320,19 +320,19 @@ option_walks (normal text) level h rest lawful =
 option_walks strict_access level h rest lawful = ap (λ w. fold (walked (built_of level).rules []) w rest) (strict_access_word level h)
 option_walks explain exploring h rest lawful = ap (λ w. fold (walked (built_of exploring).rules []) w rest) (explain_word h)
 option_walks explain checking h rest lawful = absurd lawful
-option_walks explain listing h rest lawful = absurd lawful
+option_walks explain (splitting which) h rest lawful = absurd lawful
 option_walks cover exploring h rest lawful = ap (λ w. fold (walked (built_of exploring).rules []) w rest) (cover_word h)
 option_walks cover checking h rest lawful = absurd lawful
-option_walks cover listing h rest lawful = absurd lawful
+option_walks cover (splitting which) h rest lawful = absurd lawful
 option_walks (at n) exploring h rest lawful = absurd lawful
 option_walks (at n) checking h rest lawful = absurd lawful
-option_walks (at n) listing h rest lawful =
+option_walks (at n) (splitting which) h rest lawful =
     let plain : begins_with_hyphen (decimal n) ≡ false = decimal_is_plain n (omega arith) in
-    ap (λ w. fold (walked (built_of listing).rules []) w rest) (ap (λ w. met listing w (decimal n)) (at_word h) ∙ at_number h (decimal n) plain)
+    ap (λ w. fold (walked (built_of (splitting which)).rules []) w rest) (ap (λ w. met (splitting which) w (decimal n)) (at_word which h) ∙ at_number which h (decimal n) plain)
 option_walks (job line) exploring h rest lawful =
     ap (λ w. fold (walked (built_of exploring).rules []) w rest) (ap (λ w. met exploring w line) (job_word h) ∙ job_line h line lawful)
 option_walks (job line) checking h rest lawful = absurd lawful
-option_walks (job line) listing h rest lawful = absurd lawful
+option_walks (job line) (splitting which) h rest lawful = absurd lawful
 
 -- a word that passes
 passes_on : (level : Level) (w after : Walk) (word : Text) (rest : List Text) → turn_fault (built_of level) [] w word ≡ [] → met level w word ≡ after
@@ -358,13 +358,13 @@ option_passes (nodes n) exploring rows h rest ready none lawful =
     passes_on exploring (walk_from h) (waiting_for exploring (codes "nodes") h) (codes "--nodes") (decimal n ∷ rest) (nodes_word_passes h ready.settles) (nodes_word h)
     ∙ passes_on exploring (waiting_for exploring (codes "nodes") h) (walk_from (after (nodes n) exploring h)) (decimal n) rest (number_passes exploring (codes "nodes") h (decimal n) plain) (nodes_number h (decimal n) plain)
 option_passes (nodes n) checking rows h rest ready none lawful = absurd lawful
-option_passes (nodes n) listing rows h rest ready none lawful = absurd lawful
+option_passes (nodes n) (splitting which) rows h rest ready none lawful = absurd lawful
 option_passes (workers n) exploring rows h rest ready none lawful =
     let plain : begins_with_hyphen (decimal n) ≡ false = decimal_is_plain n (omega arith) in
     passes_on exploring (walk_from h) (waiting_for exploring (codes "workers") h) (codes "--workers") (decimal n ∷ rest) (workers_word_passes h ready.settles) (workers_word h)
     ∙ passes_on exploring (waiting_for exploring (codes "workers") h) (walk_from (after (workers n) exploring h)) (decimal n) rest (number_passes exploring (codes "workers") h (decimal n) plain) (workers_number h (decimal n) plain)
 option_passes (workers n) checking rows h rest ready none lawful = absurd lawful
-option_passes (workers n) listing rows h rest ready none lawful = absurd lawful
+option_passes (workers n) (splitting which) rows h rest ready none lawful = absurd lawful
 option_passes allow_deadlock level rows h rest ready none lawful =
     passes_on level (walk_from h) (walk_from (after allow_deadlock level h)) (codes "--allow-deadlock") rest (allow_deadlock_passes level rows h ready none) (allow_deadlock_word level h)
 option_passes main_deadlock level rows h rest ready none lawful =
@@ -377,22 +377,22 @@ option_passes strict_access level rows h rest ready none lawful =
 option_passes explain exploring rows h rest ready none lawful =
     passes_on exploring (walk_from h) (walk_from (after explain exploring h)) (codes "--explain") rest (explain_passes rows h ready none) (explain_word h)
 option_passes explain checking rows h rest ready none lawful = absurd lawful
-option_passes explain listing rows h rest ready none lawful = absurd lawful
+option_passes explain (splitting which) rows h rest ready none lawful = absurd lawful
 option_passes cover exploring rows h rest ready none lawful =
     passes_on exploring (walk_from h) (walk_from (after cover exploring h)) (codes "--cover") rest (cover_passes rows h ready none) (cover_word h)
 option_passes cover checking rows h rest ready none lawful = absurd lawful
-option_passes cover listing rows h rest ready none lawful = absurd lawful
+option_passes cover (splitting which) rows h rest ready none lawful = absurd lawful
 option_passes (at n) exploring rows h rest ready none lawful = absurd lawful
 option_passes (at n) checking rows h rest ready none lawful = absurd lawful
-option_passes (at n) listing rows h rest ready none lawful =
+option_passes (at n) (splitting which) rows h rest ready none lawful =
     let plain : begins_with_hyphen (decimal n) ≡ false = decimal_is_plain n (omega arith) in
-    passes_on listing (walk_from h) (waiting_for listing (codes "at") h) (codes "--at") (decimal n ∷ rest) (at_word_passes h ready.settles) (at_word h)
-    ∙ passes_on listing (waiting_for listing (codes "at") h) (walk_from (after (at n) listing h)) (decimal n) rest (number_passes listing (codes "at") h (decimal n) plain) (at_number h (decimal n) plain)
+    passes_on (splitting which) (walk_from h) (waiting_for (splitting which) (codes "at") h) (codes "--at") (decimal n ∷ rest) (at_word_passes which h ready.settles) (at_word which h)
+    ∙ passes_on (splitting which) (waiting_for (splitting which) (codes "at") h) (walk_from (after (at n) (splitting which) h)) (decimal n) rest (number_passes (splitting which) (codes "at") h (decimal n) plain) (at_number which h (decimal n) plain)
 option_passes (job line) exploring rows h rest ready none lawful =
     passes_on exploring (walk_from h) (waiting_for exploring (codes "job") h) (codes "--job") (line ∷ rest) (job_word_passes h ready.settles) (job_word h)
     ∙ passes_on exploring (waiting_for exploring (codes "job") h) (walk_from (after (job line) exploring h)) line rest (number_passes exploring (codes "job") h line lawful) (job_line h line lawful)
 option_passes (job line) checking rows h rest ready none lawful = absurd lawful
-option_passes (job line) listing rows h rest ready none lawful = absurd lawful
+option_passes (job line) (splitting which) rows h rest ready none lawful = absurd lawful
 
 -- what is held after an option, with its row
 number_ready : (level : Level) (id value : Text) (rows : List Row) (h : Held) → IsReady level rows h → has_row id rows ≡ false
@@ -420,8 +420,8 @@ normal_ready checking text rows h ready = record {
   settles = normal_passes text (settled (built_of checking).rules h).rows;
   rows_are = ap (λ l. put l (normal text)) ready.rows_are;
 }
-normal_ready listing text rows h ready = record {
-  settles = normal_passes text (settled (built_of listing).rules h).rows;
+normal_ready (splitting which) text rows h ready = record {
+  settles = normal_passes text (settled (built_of (splitting which)).rules h).rows;
   rows_are = ap (λ l. put l (normal text)) ready.rows_are;
 }
 
@@ -436,38 +436,38 @@ option_ready (depth n) exploring rows h ready none lawful =
 option_ready (depth n) checking rows h ready none lawful =
     number_ready checking (codes "depth") (decimal n) rows h ready none
     (depth_passes (decimal n) (settled (built_of checking).rules h).rows (still_new checking (codes "depth") rows h ready none) (decimal_fits 0 400 n (omega arith) lawful (omega arith))) refl
-option_ready (depth n) listing rows h ready none lawful =
-    number_ready listing (codes "depth") (decimal n) rows h ready none
-    (depth_passes (decimal n) (settled (built_of listing).rules h).rows (still_new listing (codes "depth") rows h ready none) (decimal_fits 0 400 n (omega arith) lawful (omega arith))) refl
+option_ready (depth n) (splitting which) rows h ready none lawful =
+    number_ready (splitting which) (codes "depth") (decimal n) rows h ready none
+    (depth_passes (decimal n) (settled (built_of (splitting which)).rules h).rows (still_new (splitting which) (codes "depth") rows h ready none) (decimal_fits 0 400 n (omega arith) lawful (omega arith))) refl
 option_ready (nodes n) exploring rows h ready none lawful =
     number_ready exploring (codes "nodes") (decimal n) rows h ready none
     (nodes_passes (decimal n) (settled (built_of exploring).rules h).rows (still_new exploring (codes "nodes") rows h ready none) (decimal_fits 1 10000000 n lawful.0 lawful.1 (omega arith))) refl
 option_ready (nodes n) checking rows h ready none lawful = absurd lawful
-option_ready (nodes n) listing rows h ready none lawful = absurd lawful
+option_ready (nodes n) (splitting which) rows h ready none lawful = absurd lawful
 option_ready (workers n) exploring rows h ready none lawful =
     number_ready exploring (codes "workers") (decimal n) rows h ready none
     (workers_passes (decimal n) (settled (built_of exploring).rules h).rows (still_new exploring (codes "workers") rows h ready none) (decimal_fits 1 16 n lawful.0 lawful.1 (omega arith))) refl
 option_ready (workers n) checking rows h ready none lawful = absurd lawful
-option_ready (workers n) listing rows h ready none lawful = absurd lawful
+option_ready (workers n) (splitting which) rows h ready none lawful = absurd lawful
 option_ready allow_deadlock level rows h ready none lawful = flag_ready level (codes "allow-deadlock") rows h ready none
 option_ready main_deadlock level rows h ready none lawful = flag_ready level (codes "main-deadlock") rows h ready none
 option_ready (normal text) level rows h ready none lawful = normal_ready level text rows h ready
 option_ready strict_access level rows h ready none lawful = flag_ready level (codes "strict-access") rows h ready none
 option_ready explain exploring rows h ready none lawful = flag_ready exploring (codes "explain") rows h ready none
 option_ready explain checking rows h ready none lawful = absurd lawful
-option_ready explain listing rows h ready none lawful = absurd lawful
+option_ready explain (splitting which) rows h ready none lawful = absurd lawful
 option_ready cover exploring rows h ready none lawful = flag_ready exploring (codes "cover") rows h ready none
 option_ready cover checking rows h ready none lawful = absurd lawful
-option_ready cover listing rows h ready none lawful = absurd lawful
+option_ready cover (splitting which) rows h ready none lawful = absurd lawful
 option_ready (at n) exploring rows h ready none lawful = absurd lawful
 option_ready (at n) checking rows h ready none lawful = absurd lawful
-option_ready (at n) listing rows h ready none lawful =
-    number_ready listing (codes "at") (decimal n) rows h ready none
-    (at_passes (decimal n) (settled (built_of listing).rules h).rows (still_new listing (codes "at") rows h ready none) (decimal_fits 0 400 n (omega arith) lawful (omega arith))) refl
+option_ready (at n) (splitting which) rows h ready none lawful =
+    number_ready (splitting which) (codes "at") (decimal n) rows h ready none
+    (at_passes (decimal n) (settled (built_of (splitting which)).rules h).rows (still_new (splitting which) (codes "at") rows h ready none) (decimal_fits 0 400 n (omega arith) lawful (omega arith))) refl
 option_ready (job line) exploring rows h ready none lawful =
     number_ready exploring (codes "job") line rows h ready none (job_passes line (settled (built_of exploring).rules h).rows (still_new exploring (codes "job") rows h ready none)) refl
 option_ready (job line) checking rows h ready none lawful = absurd lawful
-option_ready (job line) listing rows h ready none lawful = absurd lawful
+option_ready (job line) (splitting which) rows h ready none lawful = absurd lawful
 
 -- ---- all options
 

@@ -16,7 +16,7 @@ use Rattle.clap.specs.declared.builder.value_parser.ValueParser.{ValueParser}
 use Rattle.clap.specs.declared.builder.value_parser.ValueParser.TheVariants.{Unsigned}
 use Rattle.clap.specs.declared.parser.matches.ValueSource.{ValueSource}
 use Rattle.clap.specs.declared.parser.matches.ValueSource.TheVariants.{CommandLine, DefaultValue}
-use Rattle.command_words.specs.inside.CommandLine.{Level, at_rule, built_of, check_built, checking, depth_rule, explore_built, exploring, flag_rule, job_rule, jobs_built, listing, nodes_rule, normal_rule, workers_rule}
+use Rattle.command_words.specs.inside.CommandLine.{Level, at_rule, built_of, check_built, checking, depth_rule, explore_built, exploring, flag_rule, job_rule, nodes_rule, normal_rule, split_built, split_name, splitting, workers_rule}
 use Rattle.command_words.proofs.Kept.{both_pass, walk_leaves}
 
 -- values that are not at fault passed their parser
@@ -201,16 +201,16 @@ module _ (id : Text) (low high : ℕ) where
       by (inr (inr (inr (inr (inr (inl is)))))) = at _ is (λ none. fit)
       by (inr (inr (inr (inr (inr (inr nothing)))))) = absurd nothing
 
-  -- and of `jobs`
-  each_jobs_use_fits : (values : List Text) (rows : List Row) → (use_fault false depth_built values rows ≡ [] → AllFit (used depth_built values rows))
+  -- and of a command that splits the tree
+  each_split_use_fits : (name : Text) (values : List Text) (rows : List Row) → (use_fault false depth_built values rows ≡ [] → AllFit (used depth_built values rows))
       → (use_fault false at_built values rows ≡ [] → AllFit (used at_built values rows))
-      → AreOthers id → (p : Rule → Bool) (a : Rule) → find p jobs_built.rules ≡ Some a → use_fault false a values rows ≡ [] → AllFit rows → AllFit (used a values rows)
-  each_jobs_use_fits values rows depth place others p a found none fit = by (among p jobs_built.rules a found)
+      → AreOthers id → (p : Rule → Bool) (a : Rule) → find p (split_built name).rules ≡ Some a → use_fault false a values rows ≡ [] → AllFit rows → AllFit (used a values rows)
+  each_split_use_fits name values rows depth place others p a found none fit = by (among p (split_built name).rules a found)
     where
       at : (x : Rule) → a ≡ x → (use_fault false x values rows ≡ [] → AllFit (used x values rows)) → AllFit (used a values rows)
       at x is kept = subst (λ y. use_fault false y values rows ≡ [] → AllFit (used y values rows)) (sym is) kept none
 
-      by : Among a jobs_built.rules → AllFit (used a values rows)
+      by : Among a (split_built name).rules → AllFit (used a values rows)
       by (inl is) = at depth_built is depth
       by (inr (inl is)) = at at_built is place
       by (inr (inr (inl is))) = at _ is (λ none. other_used_fits (codes "allow-deadlock") AsWritten _ rows others.allow_deadlock fit)
@@ -248,9 +248,9 @@ module _ (id : Text) (low high : ℕ) where
       let five = flag_default (codes "strict-access") _ others.strict_access four in
       kept_default (filled help_rule) _ (λ fit. fit) five
 
-  -- and of `jobs`
-  jobs_defaults_fit : (rows : List Row) → AreOthers id → AllFit rows → AllFit (fold with_default rows jobs_built.rules)
-  jobs_defaults_fit rows others fit =
+  -- and of a command that splits the tree
+  split_defaults_fit : (name : Text) (rows : List Row) → AreOthers id → AllFit rows → AllFit (fold with_default rows (split_built name).rules)
+  split_defaults_fit name rows others fit =
       let one = kept_default depth_built rows (λ fit. fit) fit in
       let two = kept_default at_built _ (λ fit. fit) one in
       let three = flag_default (codes "allow-deadlock") _ others.allow_deadlock two in
@@ -278,9 +278,6 @@ nodes_apart = record { allow_deadlock = refl; main_deadlock = refl; normal = ref
 workers_apart : AreOthers (codes "workers")
 workers_apart = record { allow_deadlock = refl; main_deadlock = refl; normal = refl; strict_access = refl }
 
-at_apart : AreOthers (codes "at")
-at_apart = record { allow_deadlock = refl; main_deadlock = refl; normal = refl; strict_access = refl }
-
 -- where a command is not at fault, its depth is in its range
 pub depth_fits : (level : Level) (words : List Text) (text : Text) → level_fault (built_of level) [] nothing_held words false [] ≡ [] → one_of (codes "depth") (rows_after (built_of level).rules [] words) ≡ Some text
     → is_unsigned_in 0 400 text ≡ true
@@ -294,20 +291,11 @@ depth_fits checking words text =
     left_fits (codes "depth") 0 400 check_built words text
     (λ p a values rows found none fit. each_check_use_fits (codes "depth") 0 400 values rows (λ none. used_fits (codes "depth") 0 400 _ _ _ rows none fit) depth_apart p a found none fit)
     (λ rows fit. check_defaults_fit (codes "depth") 0 400 rows depth_apart fit)
-depth_fits listing words text =
-    left_fits (codes "depth") 0 400 jobs_built words text
-    (λ p a values rows found none fit. each_jobs_use_fits (codes "depth") 0 400 values rows (λ none. used_fits (codes "depth") 0 400 _ _ _ rows none fit)
+depth_fits (splitting which) words text =
+    left_fits (codes "depth") 0 400 (split_built (split_name which)) words text
+    (λ p a values rows found none fit. each_split_use_fits (codes "depth") 0 400 (split_name which) values rows (λ none. used_fits (codes "depth") 0 400 _ _ _ rows none fit)
     (λ none. other_used_fits (codes "depth") 0 400 (codes "at") AsWritten _ rows refl fit) depth_apart p a found none fit)
-    (λ rows fit. jobs_defaults_fit (codes "depth") 0 400 rows depth_apart fit)
-
--- and so is the depth of jobs
-pub at_fits : (words : List Text) (text : Text) → level_fault jobs_built [] nothing_held words false [] ≡ [] → one_of (codes "at") (rows_after jobs_built.rules [] words) ≡ Some text
-    → is_unsigned_in 0 400 text ≡ true
-at_fits words text =
-    left_fits (codes "at") 0 400 jobs_built words text
-    (λ p a values rows found none fit. each_jobs_use_fits (codes "at") 0 400 values rows (λ none. other_used_fits (codes "at") 0 400 (codes "depth") AsWritten _ rows refl fit)
-    (λ none. used_fits (codes "at") 0 400 _ _ _ rows none fit) at_apart p a found none fit)
-    (λ rows fit. jobs_defaults_fit (codes "at") 0 400 rows at_apart fit)
+    (λ rows fit. split_defaults_fit (codes "depth") 0 400 (split_name which) rows depth_apart fit)
 
 -- and the numbers of nodes and of workers of an exploration are in theirs
 pub nodes_fits : (words : List Text) (text : Text) → level_fault explore_built [] nothing_held words false [] ≡ [] → one_of (codes "nodes") (rows_after explore_built.rules [] words) ≡ Some text

@@ -13,7 +13,7 @@ use Rattle.clap.specs.declared.builder.value_parser.Reading.TheVariants.{AsWritt
 use Rattle.clap.specs.declared.parser.matches.ValueSource.{ValueSource}
 use Rattle.clap.specs.declared.parser.matches.ValueSource.TheVariants.{CommandLine, DefaultValue}
 use Rattle.command_words.specs.Words.{Given, depth, nodes, workers, allow_deadlock, strict_access, explain, cover, main_deadlock, normal, at, job, depths_of, nodes_of, workers_of, texts_of, ats_of, jobs_of, is_allow_deadlock, is_main_deadlock, is_strict_access, is_explain, is_cover}
-use Rattle.command_words.specs.inside.CommandLine.{Level, built_of, checking, exploring, listing}
+use Rattle.command_words.specs.inside.CommandLine.{Level, Splitter, built_of, checking, exploring, splitting}
 use Rattle.command_words.specs.inside.Found.{texts_in}
 
 -- the row of one value
@@ -427,10 +427,10 @@ row_or id value row = Some (unwrap_or row (row_with DefaultValue id value))
 pub depth_left : (level : Level) (rows : List Row) → row_at (codes "depth") (with_defaults level rows) ≡ row_at (codes "depth") rows
 depth_left exploring rows = all_left (codes "depth") (built_of exploring).rules rows
 depth_left checking rows = all_left (codes "depth") (built_of checking).rules rows
-depth_left listing rows = all_left (codes "depth") (built_of listing).rules rows
+depth_left (splitting which) rows = all_left (codes "depth") (built_of (splitting which)).rules rows
 
-pub at_left : (rows : List Row) → row_at (codes "at") (with_defaults listing rows) ≡ row_at (codes "at") rows
-at_left rows = all_left (codes "at") (built_of listing).rules rows
+pub at_left : (which : Splitter) (rows : List Row) → row_at (codes "at") (with_defaults (splitting which) rows) ≡ row_at (codes "at") rows
+at_left which rows = all_left (codes "at") (built_of (splitting which)).rules rows
 
 pub job_left : (rows : List Row) → row_at (codes "job") (with_defaults exploring rows) ≡ row_at (codes "job") rows
 job_left rows = all_left (codes "job") (built_of exploring).rules rows
@@ -445,19 +445,19 @@ pub allow_deadlock_left : (level : Level) (rows : List Row)
     → row_at (codes "allow-deadlock") (with_defaults level rows) ≡ row_or (codes "allow-deadlock") (codes "false") (row_at (codes "allow-deadlock") rows)
 allow_deadlock_left exploring rows = all_left (codes "allow-deadlock") (built_of exploring).rules rows
 allow_deadlock_left checking rows = all_left (codes "allow-deadlock") (built_of checking).rules rows
-allow_deadlock_left listing rows = all_left (codes "allow-deadlock") (built_of listing).rules rows
+allow_deadlock_left (splitting which) rows = all_left (codes "allow-deadlock") (built_of (splitting which)).rules rows
 
 pub main_deadlock_left : (level : Level) (rows : List Row)
     → row_at (codes "main-deadlock") (with_defaults level rows) ≡ row_or (codes "main-deadlock") (codes "false") (row_at (codes "main-deadlock") rows)
 main_deadlock_left exploring rows = all_left (codes "main-deadlock") (built_of exploring).rules rows
 main_deadlock_left checking rows = all_left (codes "main-deadlock") (built_of checking).rules rows
-main_deadlock_left listing rows = all_left (codes "main-deadlock") (built_of listing).rules rows
+main_deadlock_left (splitting which) rows = all_left (codes "main-deadlock") (built_of (splitting which)).rules rows
 
 pub strict_access_left : (level : Level) (rows : List Row)
     → row_at (codes "strict-access") (with_defaults level rows) ≡ row_or (codes "strict-access") (codes "false") (row_at (codes "strict-access") rows)
 strict_access_left exploring rows = all_left (codes "strict-access") (built_of exploring).rules rows
 strict_access_left checking rows = all_left (codes "strict-access") (built_of checking).rules rows
-strict_access_left listing rows = all_left (codes "strict-access") (built_of listing).rules rows
+strict_access_left (splitting which) rows = all_left (codes "strict-access") (built_of (splitting which)).rules rows
 
 pub explain_left : (rows : List Row) → row_at (codes "explain") (with_defaults exploring rows) ≡ row_or (codes "explain") (codes "false") (row_at (codes "explain") rows)
 explain_left rows = all_left (codes "explain") (built_of exploring).rules rows
@@ -469,7 +469,7 @@ cover_left rows = all_left (codes "cover") (built_of exploring).rules rows
 pub normal_left : (level : Level) (rows : List Row) → texts_in (with_defaults level rows) ≡ texts_in rows
 normal_left exploring rows = ap texts_of_row (all_left (codes "normal") (built_of exploring).rules rows)
 normal_left checking rows = ap texts_of_row (all_left (codes "normal") (built_of checking).rules rows)
-normal_left listing rows = ap texts_of_row (all_left (codes "normal") (built_of listing).rules rows)
+normal_left (splitting which) rows = ap texts_of_row (all_left (codes "normal") (built_of (splitting which)).rules rows)
 
 -- the text that is read of a row
 pub text_of_row : (id value : Text) (source : ValueSource) (rows : List Row) → row_at id rows ≡ Some (row_with source id value) → one_of id rows ≡ Some value

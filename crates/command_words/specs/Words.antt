@@ -13,7 +13,7 @@ use Rattle.findings.specs.declared.flags.Flags.{Flags}
 use Rattle.findings.specs.declared.options.Options.{Options}
 use Rattle.command_words.specs.declared.words.Printed.{Printed}
 use Rattle.command_words.specs.declared.words.Words.{Words}
-use Rattle.command_words.specs.declared.words.Words.TheVariants.{Replay, Explore, ExploreJob, Check, Jobs}
+use Rattle.command_words.specs.declared.words.Words.TheVariants.{Replay, Explore, ExploreJob, Check, Jobs, Merge}
 
 -- a word that begins with a hyphen, which the parser may take for an option
 abbrev pub begins_with_hyphen : List ℕ → Bool
@@ -26,7 +26,7 @@ pub record IsReplay (words : List (List ℕ)) (schedule : List ℕ) : Type 0 whe
   pub words_are : words ≡ name ∷ codes "replay" ∷ schedule ∷ []
   pub plain : begins_with_hyphen schedule ≡ false
 
--- an option of `explore`, of `check` or of `jobs`, as it may be given
+-- an option of `explore`, of `check`, of `jobs` or of `merge`, as it may be given
 pub data Given : Type 0 where
   depth : ℕ → Given
   nodes : ℕ → Given
@@ -191,10 +191,10 @@ pub record AreWordsOfCheck (words : List (List ℕ)) (given : List Given) (steps
   pub no_job : jobs_of given ≡ []
   pub in_range : steps ≤ 400
 
--- the words are the name of the program, `jobs` and these options in any order: `--depth` and `--at` once each, `--normal` any number of times, each of its flags once or not at all, and no option that is of `explore` alone
-pub record AreWordsOfJobs (words : List (List ℕ)) (given : List Given) (steps place : ℕ) (flags : Flags) : Type 0 where
+-- the words are the name of the program, this command, which names one level of the tree, and these options in any order: `--depth` and `--at` once each, `--normal` any number of times, each of its flags once or not at all, and no option that is of `explore` alone
+pub record AreWordsOfLevel (words : List (List ℕ)) (command : List ℕ) (given : List Given) (steps place : ℕ) (flags : Flags) : Type 0 where
   pub name : List ℕ
-  pub words_are : words ≡ name ∷ codes "jobs" ∷ words_of_all given
+  pub words_are : words ≡ name ∷ command ∷ words_of_all given
   pub depth : depths_of given ≡ steps ∷ []
   pub at : ats_of given ≡ place ∷ []
   pub allow_deadlock : count_by is_allow_deadlock given ≡ (if flags.allow_deadlock then 1 else 0)
@@ -239,7 +239,14 @@ pub record IsJobs (words : List (List ℕ)) (place : ℕ) : Type 0 where
   pub steps : ℕ
   pub flags : Flags
   pub excuses : Excuses
-  pub says : AreWordsOfJobs words given steps place flags
+  pub says : AreWordsOfLevel words (codes "jobs") given steps place flags
+  pub excused : AreExcusesOf given flags excuses
+  pub within : place ≤ steps
+
+-- the words are those of `merge` for a tree of this depth and its jobs at this one, which is at most that of the tree, with these flags, and excuse this
+pub record IsMerge (words : List (List ℕ)) (steps place : ℕ) (flags : Flags) (excuses : Excuses) : Type 0 where
+  pub given : List Given
+  pub says : AreWordsOfLevel words (codes "merge") given steps place flags
   pub excused : AreExcusesOf given flags excuses
   pub within : place ≤ steps
 
@@ -272,18 +279,26 @@ pub record IsNoCheck (words : List (List ℕ)) : Type 0 where
   pub says : AreWordsOfCheck words given steps flags
   pub bad : ExcuseNothing given
 
--- the words are those of `jobs` but for what they excuse, or for a depth past that of the tree
-pub record IsNoJobs (words : List (List ℕ)) : Type 0 where
+-- the words are those of this command, which names one level of the tree, but for what they excuse, or for a depth past that of the tree
+pub record IsNoLevel (words : List (List ℕ)) (command : List ℕ) : Type 0 where
   pub given : List Given
   pub steps : ℕ
   pub place : ℕ
   pub flags : Flags
-  pub says : AreWordsOfJobs words given steps place flags
+  pub says : AreWordsOfLevel words command given steps place flags
   pub bad : ExcuseNothing given ⊎ (steps < place)
+
+-- the words are those of `jobs` but for that
+abbrev pub IsNoJobs : List (List ℕ) → Type 0
+IsNoJobs words = IsNoLevel words (codes "jobs")
+
+-- the words are those of `merge` but for that
+abbrev pub IsNoMerge : List (List ℕ) → Type 0
+IsNoMerge words = IsNoLevel words (codes "merge")
 
 -- the words are those of a command but for what they excuse, what they print of a job, or where they look for jobs
 abbrev pub AreUnreadable : List (List ℕ) → Type 0
-AreUnreadable words = IsNoExplore words ⊎ (IsNoCheck words ⊎ IsNoJobs words)
+AreUnreadable words = IsNoExplore words ⊎ (IsNoCheck words ⊎ (IsNoJobs words ⊎ IsNoMerge words))
 
 -- the words are the name of the program, this name of a command, and others
 pub record IsNamed (words : List (List ℕ)) (command : List ℕ) : Type 0 where
@@ -298,6 +313,7 @@ command_of (Explore options excuses printed) = codes "explore"
 command_of (ExploreJob options excuses line) = codes "explore"
 command_of (Check steps flags excuses) = codes "check"
 command_of (Jobs place) = codes "jobs"
+command_of (Merge steps place flags excuses) = codes "merge"
 
 -- what was read is the replay of this schedule
 abbrev pub AsksReplay : List ℕ → Words → Type 0
@@ -324,6 +340,11 @@ abbrev pub AsksJobs : ℕ → Words → Type 0
 AsksJobs place (Jobs found) = found ≡ place
 AsksJobs place _ = ⊥
 
+-- what was read is the merge of the reports of a tree of this depth and of its jobs at this one, with these flags, that excuses this
+abbrev pub AsksMerge : ℕ → ℕ → Flags → Excuses → Words → Type 0
+AsksMerge steps place flags excuses (Merge found level counts excused) = (found ≡ steps) × ((level ≡ place) × ((counts ≡ flags) × (excuses_in excused ≡ excuses)))
+AsksMerge steps place flags excuses _ = ⊥
+
 -- the numbers of a command are in their ranges, and so is what it excuses
 abbrev pub IsInRange : Words → Type 0
 IsInRange (Replay word) = Unit {0}
@@ -331,6 +352,7 @@ IsInRange (Explore options excuses printed) = AreInRange options × AreExcusesIn
 IsInRange (ExploreJob options excuses line) = AreInRange options × AreExcusesInRange options.flags (excuses_in excuses)
 IsInRange (Check steps flags excuses) = (steps ≤ 400) × AreExcusesInRange flags (excuses_in excuses)
 IsInRange (Jobs place) = place ≤ 400
+IsInRange (Merge steps place flags excuses) = (steps ≤ 400) × (place ≤ steps) × AreExcusesInRange flags (excuses_in excuses)
 
 -- the words were read as what they ask for, or there was no memory for them
 abbrev pub AreReadAs : (Words → Type 0) → Result Words Error → Type 0

@@ -2,8 +2,8 @@
 ghost use Rattle.std.specs.Prelude.{◌≡◌, codes, option_map, IfOk, IfErr};
 ghost use Rattle.clap.specs.Values.{kind_of};
 ghost use Rattle.clap.specs.Words.{app_of, found_of, one_of, rows_of, subcommand_rows_of};
-ghost use Rattle.command_words.specs.inside.CommandLine.{IsArgument, IsMadeAs, at_rule, check_command, command_line, depth_rule, explore_command, flag_rule, job_rule, jobs_command, nodes_rule, normal_rule, replay_command, workers_rule};
-ghost use Rattle.command_words.specs.inside.Found.{AreFlagsOf, AreJobsOf, AreOptionsOf, IsCheckOf, IsPrintedOf, ReadsNumber, job_in, schedule_in};
+ghost use Rattle.command_words.specs.inside.CommandLine.{IsArgument, IsMadeAs, at_rule, check_command, command_line, depth_rule, explore_command, flag_rule, job_rule, jobs_command, merge_command, nodes_rule, normal_rule, replay_command, split_command, workers_rule};
+ghost use Rattle.command_words.specs.inside.Found.{AreFlagsOf, AreOptionsOf, IsCheckOf, IsPrintedOf, IsSplitOf, ReadsNumber, job_in, schedule_in};
 
 use crate::help;
 use crate::words::Printed;
@@ -18,9 +18,9 @@ pub const NAME: &str = "schedule_explorer";
 /// How many nodes a worker visits before it hands the rest back.
 pub const BUDGET: u64 = 64;
 
-// What is read of the words of `jobs`.
+// Where a command splits the tree: into the jobs at one level, and what stands above them.
 #[derive(Clone, Copy)]
-pub(crate) struct Listing {
+pub(crate) struct Split {
     // How deep the tree is.
     pub depth: u64,
     // How deep the jobs stand in it.
@@ -41,7 +41,8 @@ pub(crate) fn command<'a>(alloc: Global) -> Result<Command<'a>, Error>
         .subcommand(replay_command(alloc)?)?
         .subcommand(explore_command(alloc)?)?
         .subcommand(check_command(alloc)?)?
-        .subcommand(jobs_command(alloc)?)?;
+        .subcommand(jobs_command(alloc)?)?
+        .subcommand(merge_command(alloc)?)?;
     Ok(explorer)
 }
 
@@ -111,16 +112,47 @@ fn jobs_command<'a>(alloc: Global) -> Result<Command<'a>, Error>
     ensures line { IfOk result (λ made. IsMadeAs jobs_command made) }
     ensures memory { IfErr result (λ e. kind_of e ≡ ErrorKind.OutOfMemory) }
 {
-    let jobs = Command::new(alloc, "jobs")
-        .about("Lists the jobs that stand at one depth of the tree of schedules")
-        .after_help(help::OF_JOBS)
+    split_command(
+        alloc,
+        "jobs",
+        "Lists the jobs that stand at one depth of the tree of schedules",
+        help::OF_JOBS,
+    )
+}
+
+// `merge` and its options.
+fn merge_command<'a>(alloc: Global) -> Result<Command<'a>, Error>
+    ensures line { IfOk result (λ made. IsMadeAs merge_command made) }
+    ensures memory { IfErr result (λ e. kind_of e ≡ ErrorKind.OutOfMemory) }
+{
+    split_command(
+        alloc,
+        "merge",
+        "Puts the reports of the tree above a depth and of its jobs together",
+        help::OF_MERGE,
+    )
+}
+
+// A command that splits the tree, and its options.
+fn split_command<'a>(
+    alloc: Global,
+    name: &'a str,
+    about: &'a str,
+    after_help: &'a str,
+) -> Result<Command<'a>, Error>
+    ensures line { IfOk result (λ made. IsMadeAs (split_command name.entry.now) made) }
+    ensures memory { IfErr result (λ e. kind_of e ≡ ErrorKind.OutOfMemory) }
+{
+    let split = Command::new(alloc, name)
+        .about(about)
+        .after_help(after_help)
         .arg(depth_option(alloc))?
         .arg(at_option(alloc))?
         .arg(allow_deadlock_flag(alloc))?
         .arg(main_deadlock_flag(alloc))?
         .arg(normal_option(alloc))?
         .arg(strict_access_flag(alloc))?;
-    Ok(jobs)
+    Ok(split)
 }
 
 // `--depth N`.
@@ -272,14 +304,14 @@ pub(crate) fn found_check(matches: &ArgMatches<'_>) -> Option<(u64, Flags)>
     Some((found_number(given, "depth")?, found_flags(given)))
 }
 
-// The depth of the tree whose jobs are listed, that of the jobs, and what counts as an error.
-pub(crate) fn found_jobs(matches: &ArgMatches<'_>) -> Option<Listing>
-    ensures { AreJobsOf (subcommand_rows_of matches.now) result }
+// The depth of the tree that this command splits, that of its jobs, and what counts as an error.
+pub(crate) fn found_split(matches: &ArgMatches<'_>, command: &str) -> Option<Split>
+    ensures { IsSplitOf command.now (subcommand_rows_of matches.now) result }
 {
-    let given = matches.subcommand_matches("jobs")?;
+    let given = matches.subcommand_matches(command)?;
     let depth = found_number(given, "depth")?;
     let at = found_number(given, "at")?;
-    Some(Listing {
+    Some(Split {
         depth,
         at,
         flags: found_flags(given),

@@ -3,15 +3,16 @@
 /// Of the program.
 pub(crate) const OF_THE_PROGRAM: &str = "\
 Standard input is the text of one module, at most 1048576 bytes; for `check`
-its cover stands behind it. A refusal is one line on standard error.
+its cover stands behind it, and for `merge` there are reports and no module.
+A refusal is one line on standard error.
 `schedule_explorer COMMAND --help` says more of each command.
 
 Statuses:
   0   the schedule was replayed, or all nodes were visited and none shows an
       error, or the cover is good, or the jobs were listed
   1   all nodes were visited, and some show errors
-  2   the module, the schedule, the cover or the job was refused, or a read
-      failed
+  2   the module, the schedule, the cover, the job or a report was refused, or
+      a read failed
   3   memory was wanting, or not all nodes were visited
   4   the output failed
   64  the words were refused, or ask for help
@@ -95,3 +96,28 @@ Statuses:
 Example:
   schedule_explorer jobs --depth 20 --at 4 < m.core > m.jobs
   schedule_explorer explore --depth 20 --job \"$(head -n 1 m.jobs)\" < m.core";
+
+/// Of `merge`.
+pub(crate) const OF_MERGE: &str = "\
+Standard input: reports of `explore`, one behind another: first that of the tree
+to depth D - 1, unless D is 0, and then those of the jobs at depth D, in any
+order, each explored with --job to depth N. All were made with the options that
+say here what counts as an error, and none with --explain or --cover.
+Standard output: one report, that of the tree to depth N if no job is missing.
+How many jobs there are the reports do not tell.
+
+Statuses:
+  0   all nodes were visited, and none shows an error
+  1   all nodes were visited, and some show errors
+  2   a report was refused, or a read failed
+  3   memory was wanting, or not all nodes were visited
+  4   the output failed
+  64  the words were refused, or ask for help
+
+Example:
+  schedule_explorer explore --depth 3 < m.core > m.reports
+  schedule_explorer jobs --depth 20 --at 4 < m.core > m.jobs
+  while IFS= read -r JOB; do
+    schedule_explorer explore --depth 20 --job \"$JOB\" < m.core >> m.reports
+  done < m.jobs
+  schedule_explorer merge --depth 20 --at 4 < m.reports";

@@ -6,11 +6,11 @@ ghost use Rattle.excuses.specs.Excuses.{Excuses as Excused};
 ghost use Rattle.findings.specs.declared.flags.Flags.{Flags};
 ghost use Rattle.findings.specs.declared.options.Options.{Options};
 ghost use Rattle.command_words.specs.declared.words.Printed.{Printed};
-ghost use Rattle.command_words.specs.Words.{AreReadAs, AreUnreadable, AsksCheck, AsksExplore, AsksExploreJob, AsksJobs, AsksReplay, IsCheck, IsExplore, IsExploreJob, IsInRange, IsJobs, IsNamed, IsReplay, command_of};
-ghost use Rattle.command_words.specs.inside.Found.{AreJobsReadOf, AsksForOne, IsCheckReadOf, IsExploreReadOf, IsReadOf, IsReplayReadOf};
+ghost use Rattle.command_words.specs.Words.{AreReadAs, AreUnreadable, AsksCheck, AsksExplore, AsksExploreJob, AsksJobs, AsksMerge, AsksReplay, IsCheck, IsExplore, IsExploreJob, IsInRange, IsJobs, IsMerge, IsNamed, IsReplay, command_of};
+ghost use Rattle.command_words.specs.inside.Found.{AreJobsReadOf, AsksForOne, AsksForSplit, IsCheckReadOf, IsExploreReadOf, IsMergeReadOf, IsReadOf, IsReplayReadOf, IsSplitReadOf};
 
 use crate::command_line::{
-    Listing, NAME, command, found_check, found_job, found_jobs, found_options, found_schedule,
+    NAME, Split, command, found_check, found_job, found_options, found_schedule, found_split,
 };
 use crate::excused::read_excuses;
 use clap::error::ErrorKind;
@@ -42,6 +42,8 @@ pub enum Words {
     Check(u64, Flags, Excuses),
     /// `jobs`, with the depth of the jobs, which are no deeper than their tree: to list the jobs of the module on standard input.
     Jobs(u64),
+    /// `merge`, with the depth of the tree, that of its jobs, which are no deeper, what counts as an error and what is excused: to put the reports on standard input together.
+    Merge(u64, u64, Flags, Excuses),
 }
 
 /// Reads the words of a command line, of which the first is the program's name.
@@ -60,6 +62,8 @@ pub fn read_words<S: AsStr>(alloc: Global, words: &[S]) -> Result<Words, Error>
         → AreReadAs (AsksExploreJob options excuses line) result }
     ensures check { (depth : ℕ) (flags : Flags) (excuses : Excused) → IsCheck (map S.text words.now) depth flags excuses → AreReadAs (AsksCheck depth flags excuses) result }
     ensures jobs { (place : ℕ) → IsJobs (map S.text words.now) place → AreReadAs (AsksJobs place) result }
+    ensures merge { (steps place : ℕ) (flags : Flags) (excuses : Excused) → IsMerge (map S.text words.now) steps place flags excuses
+        → AreReadAs (AsksMerge steps place flags excuses) result }
     // No text that is that of no term is skipped, nor one past the 16th, nor a flag, nor a job, nor a depth past that of the tree.
     ensures unread { AreUnreadable (map S.text words.now) → IsErr result }
     ensures range { IfOk result IsInRange }
@@ -86,6 +90,9 @@ fn read_command(alloc: Global, matches: &ArgMatches<'_>) -> Result<Words, Error>
     }
     if let Some(jobs) = read_jobs(alloc, matches)? {
         return Ok(jobs);
+    }
+    if let Some(merge) = read_merge(alloc, matches)? {
+        return Ok(merge);
     }
     Err(Command::new(alloc, NAME).error(ErrorKind::MissingSubcommand, "no command")?)
 }
@@ -139,20 +146,47 @@ fn read_jobs(alloc: Global, matches: &ArgMatches<'_>) -> Result<Option<Words>, E
     ensures ok { IfOk result (AreJobsReadOf (subcommand_rows_of matches.now)) }
     ensures refused { IfErr result (λ e. AsksForOne (subcommand_rows_of matches.now) → kind_of e ≡ ErrorKind.OutOfMemory) }
 {
-    let Some(listing) = found_jobs(matches) else {
+    let Some((split, _excuses)) = read_split(alloc, matches, "jobs")? else {
         return Ok(None);
     };
-    let _excuses = read_excuses(alloc, matches, listing.flags)?;
-    if listing.at > listing.depth {
-        return Err(too_deep(alloc, listing)?);
+    Ok(Some(Words::Jobs(split.at)))
+}
+
+// A merge, where it was found.
+fn read_merge(alloc: Global, matches: &ArgMatches<'_>) -> Result<Option<Words>, Error>
+    ensures ok { IfOk result (IsMergeReadOf (subcommand_rows_of matches.now)) }
+    ensures refused { IfErr result (λ e. AsksForOne (subcommand_rows_of matches.now) → kind_of e ≡ ErrorKind.OutOfMemory) }
+{
+    let Some((split, excuses)) = read_split(alloc, matches, "merge")? else {
+        return Ok(None);
+    };
+    let merge = Words::Merge(split.depth, split.at, split.flags, excuses);
+    Ok(Some(merge))
+}
+
+// Where this command splits the tree, and what it excuses, if it was found.
+fn read_split(
+    alloc: Global,
+    matches: &ArgMatches<'_>,
+    command: &str,
+) -> Result<Option<(Split, Excuses)>, Error>
+    ensures ok { IfOk result (IsSplitReadOf command.now (subcommand_rows_of matches.now)) }
+    ensures refused { IfErr result (λ e. AsksForSplit command.now (subcommand_rows_of matches.now) → kind_of e ≡ ErrorKind.OutOfMemory) }
+{
+    let Some(split) = found_split(matches, command) else {
+        return Ok(None);
+    };
+    let excuses = read_excuses(alloc, matches, split.flags)?;
+    if split.at > split.depth {
+        return Err(too_deep(alloc, split)?);
     }
-    Ok(Some(Words::Jobs(listing.at)))
+    Ok(Some((split, excuses)))
 }
 
 // What is said of jobs that are deeper than their tree.
-fn too_deep(alloc: Global, listing: Listing) -> Result<Error, AllocError> {
-    let at = listing.at;
-    let depth = listing.depth;
+fn too_deep(alloc: Global, split: Split) -> Result<Error, AllocError> {
+    let at = split.at;
+    let depth = split.depth;
     let message = format!(in alloc;
         "invalid value '{at}' for '--at <D>': {at} is not in 0..={depth}"
     )?;

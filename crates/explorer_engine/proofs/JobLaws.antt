@@ -9,7 +9,6 @@ use Rattle.coverage.specs.Jobs.{Job}
 use Rattle.excuses.specs.Excuses.{Excuses}
 use Rattle.findings.specs.declared.options.Options.{Options}
 use Rattle.findings.specs.declared.outcome.Outcome.{Outcome}
-use Rattle.job_lines.specs.JobText.{text_of_jobs}
 use Rattle.job_lines.specs.Faults.{IsJobFault}
 use Rattle.job_lines.specs.Reading.{IsJobLine}
 use Rattle.job_lines.specs.declared.fault.JobFault.{JobFault}

@@ -67,6 +67,7 @@ IsCheckOf input depth counts old new failed (Err (run.Replay fault)) = ⊥
 IsCheckOf input depth counts old new failed (Err (run.Explore fault)) = ⊥
 IsCheckOf input depth counts old new failed (Err (run.Cover fault)) = IsRefusedCover input depth counts fault × WritesNothing old new failed
 IsCheckOf input depth counts old new failed (Err (run.Job fault)) = ⊥
+IsCheckOf input depth counts old new failed (Err (run.Report fault)) = ⊥
 IsCheckOf input depth counts old new failed (Err run.ReportCutOff) = ⊥
 IsCheckOf input depth counts old new failed (Err run.CoverCutOff) = ⊥
 IsCheckOf input depth counts old new failed (Err run.Output) = IsGood input depth counts × BreaksOff old new failed (text_of_good depth)

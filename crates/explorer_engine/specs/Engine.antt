@@ -59,11 +59,12 @@ IsRunOf input word old new failed (Err (run.Replay fault)) = IsReplayed input wo
 IsRunOf input word old new failed (Err (run.Explore fault)) = ⊥
 IsRunOf input word old new failed (Err (run.Cover fault)) = ⊥
 IsRunOf input word old new failed (Err (run.Job fault)) = ⊥
+IsRunOf input word old new failed (Err (run.Report fault)) = ⊥
 IsRunOf input word old new failed (Err run.ReportCutOff) = ⊥
 IsRunOf input word old new failed (Err run.CoverCutOff) = ⊥
 IsRunOf input word old new failed (Err run.Output) = IsReplayed input word (λ m steps. BreaksOff old new failed (transcript (program_of m) steps))
 
--- the run was refused before anything was written: its input could not be read, or is no module, or the word is no schedule, or the cover or the job is refused, or there was no memory to begin
+-- the run was refused before anything was written: its input could not be read, or is no module, or the word is no schedule, or the cover, the job or a report is refused, or there was no memory to begin
 abbrev pub IsRefusedBefore : Result Verdict RunFault → Type 0
 IsRefusedBefore (Ok verdict) = ⊥
 IsRefusedBefore (Err (run.Input fault)) = Unit {0}
@@ -73,6 +74,7 @@ IsRefusedBefore (Err (run.Replay fault)) = ⊥
 IsRefusedBefore (Err (run.Explore fault)) = Unit {0}
 IsRefusedBefore (Err (run.Cover fault)) = Unit {0}
 IsRefusedBefore (Err (run.Job fault)) = Unit {0}
+IsRefusedBefore (Err (run.Report fault)) = Unit {0}
 IsRefusedBefore (Err run.ReportCutOff) = ⊥
 IsRefusedBefore (Err run.CoverCutOff) = ⊥
 IsRefusedBefore (Err run.Output) = ⊥
@@ -87,6 +89,7 @@ IsHandedOn (Err (run.Replay fault)) flushed = flushed ≡ true
 IsHandedOn (Err (run.Explore fault)) flushed = Unit {0}
 IsHandedOn (Err (run.Cover fault)) flushed = Unit {0}
 IsHandedOn (Err (run.Job fault)) flushed = Unit {0}
+IsHandedOn (Err (run.Report fault)) flushed = Unit {0}
 IsHandedOn (Err run.ReportCutOff) flushed = flushed ≡ true
 IsHandedOn (Err run.CoverCutOff) flushed = flushed ≡ true
 IsHandedOn (Err run.Output) flushed = Unit {0}

@@ -114,6 +114,7 @@ IsExplorationOf input options x what old new failed (Err (run.Replay fault)) = �
 IsExplorationOf input options x what old new failed (Err (run.Explore fault)) = HasNoOutcome input old new failed
 IsExplorationOf input options x what old new failed (Err (run.Cover fault)) = ⊥
 IsExplorationOf input options x what old new failed (Err (run.Job fault)) = ⊥
+IsExplorationOf input options x what old new failed (Err (run.Report fault)) = ⊥
 IsExplorationOf input options x what old new failed (Err run.ReportCutOff) = IsStopped input options x what (λ p. IsReportCutOff p old new failed)
 IsExplorationOf input options x what old new failed (Err run.CoverCutOff) = IsStopped input options x what (λ p. IsCoverCutOff p old new failed)
 IsExplorationOf input options x what old new failed (Err run.Output) = IsStopped input options x what (λ p. BreaksOff old new failed (text_of_print p))

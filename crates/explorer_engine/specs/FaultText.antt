@@ -12,6 +12,8 @@ use Rattle.job_lines.specs.declared.fault.JobFault.{JobFault}
 use Rattle.job_lines.specs.declared.fault.JobFault.TheVariants as job
 use Rattle.cover_check.specs.declared.fault.CoverFault.{CoverFault}
 use Rattle.cover_check.specs.declared.fault.CoverFault.TheVariants as cover
+use Rattle.report_reader.specs.declared.fault.ReportFault.{ReportFault}
+use Rattle.report_reader.specs.declared.fault.ReportFault.TheVariants as report
 use Rattle.explorer_engine.specs.declared.verdict.RunFault.{RunFault}
 use Rattle.explorer_engine.specs.declared.verdict.RunFault.TheVariants as run
 
@@ -69,6 +71,13 @@ text_of_job_fault (job.NotEnabled step) = placed (codes "job: 5 NotEnabled at st
 text_of_job_fault (job.NotAsleep step) = placed (codes "job: 6 NotAsleep at step ") step
 text_of_job_fault job.Memory = codes "job: 7 Memory\n"
 
+-- the refusal of reports, by the line that it is about
+abbrev pub text_of_report_fault : ReportFault → List ℕ
+text_of_report_fault (report.BadLine line) = placed (codes "report: 1 BadLine at line ") line
+text_of_report_fault (report.TooDeep line) = placed (codes "report: 2 TooDeep at line ") line
+text_of_report_fault report.Memory = codes "report: 3 Memory\n"
+text_of_report_fault report.TooManyNodes = codes "report: 4 TooManyNodes\n"
+
 -- the line of a run's refusal
 abbrev pub text_of_fault : RunFault → List ℕ
 text_of_fault (run.Input fault) = text_of_read_fault fault
@@ -80,6 +89,7 @@ text_of_fault (run.Explore search.NoThread) = codes "explore: 2 NoThread\n"
 text_of_fault (run.Explore search.StrangePool) = codes "explore: 3 StrangePool\n"
 text_of_fault (run.Cover fault) = text_of_cover_fault fault
 text_of_fault (run.Job fault) = text_of_job_fault fault
+text_of_fault (run.Report fault) = text_of_report_fault fault
 text_of_fault run.ReportCutOff = codes "explore: 1 Memory\n"
 text_of_fault run.CoverCutOff = codes "cover: 7 Memory\n"
 text_of_fault run.Output = codes "output failed\n"

@@ -8,4 +8,5 @@ pub mod Engine
 pub mod Explored
 pub mod Checked
 pub mod JobRuns
+pub mod MergeRuns
 pub mod Program

@@ -5,16 +5,17 @@ use Rattle.excuses.specs.Excuses.{Excuses, counts, excuses_in}
 use Rattle.findings.specs.Identities.{flags_in}
 use Rattle.findings.specs.declared.flags.Flags.{Flags}
 use Rattle.findings.specs.declared.options.Options.{Options}
-use Rattle.command_words.specs.Words.{AsksCheck, AsksExplore, AsksExploreJob, AsksJobs, AsksReplay, IsCheck, IsExplore, IsExploreJob, IsInRange, IsJobs, IsNamed, IsReplay, command_of}
+use Rattle.command_words.specs.Words.{AsksCheck, AsksExplore, AsksExploreJob, AsksJobs, AsksMerge, AsksReplay, IsCheck, IsExplore, IsExploreJob, IsInRange, IsJobs, IsMerge, IsNamed, IsReplay, command_of}
 use Rattle.command_words.specs.declared.words.Words.{Words}
 use Rattle.command_words.specs.declared.words.Printed.{Printed}
-use Rattle.command_words.specs.declared.words.Words.TheVariants.{Replay, Explore, ExploreJob, Jobs, Check}
+use Rattle.command_words.specs.declared.words.Words.TheVariants.{Replay, Explore, ExploreJob, Jobs, Merge, Check}
 use Rattle.explorer_engine.specs.Engine.{IsRunOf, IsRefusedBefore, IsHandedOn, WritesNothing}
 use Rattle.explorer_engine.specs.FaultText.{text_of_fault}
 use Rattle.explorer_engine.specs.Status.{status_of}
 use Rattle.explorer_engine.specs.Checked.{IsCheckOf}
 use Rattle.explorer_engine.specs.Explored.{IsExplorationOf, IsCleanIfSaid}
 use Rattle.explorer_engine.specs.JobRuns.{IsJobRunOf, IsListingOf}
+use Rattle.explorer_engine.specs.MergeRuns.{ComesToTree, IsMergeOf}
 use Rattle.explorer_engine.specs.Input.{IsUnread}
 use Rattle.explorer_engine.specs.declared.verdict.RunFault.{RunFault}
 use Rattle.explorer_engine.specs.declared.verdict.RunFault.TheVariants as faults
@@ -44,12 +45,13 @@ abbrev pub IsReported : Written → Result Verdict RunFault → Type 0
 IsReported errors (Ok verdict) = IsUntouched errors
 IsReported errors (Err fault) = Gets errors (text_of_fault fault)
 
--- what was asked for was done with the input: a schedule was replayed, or the schedules were explored, all of them or those of a job, or jobs were listed, or a cover was checked
+-- what was asked for was done with the input: a schedule was replayed, or the schedules were explored, all of them or those of a job, or jobs were listed, or reports were put together, which come to that of a tree where they are those of its parts, or a cover was checked
 abbrev pub IsDone : Words → List ℕ → (old new : Option (List ℕ)) → Bool → Result Verdict RunFault → Type 0
 IsDone (Replay schedule) input old new failed outcome = IsRunOf input (string_bytes schedule) old new failed outcome
 IsDone (Explore options x what) input old new failed outcome = IsExplorationOf input options (excuses_in x) what old new failed outcome × IsCleanIfSaid input options (excuses_in x) outcome
 IsDone (ExploreJob options x line) input old new failed outcome = IsJobRunOf input (string_bytes line) options (excuses_in x) old new failed outcome
 IsDone (Jobs depth) input old new failed outcome = IsListingOf input depth old new failed outcome
+IsDone (Merge depth at flags x) input old new failed outcome = IsMergeOf input depth at (flags_in flags) (excuses_in x) old new failed outcome × ComesToTree input depth at (flags_in flags) (excuses_in x) old new failed outcome
 IsDone (Check depth flags x) input old new failed outcome = IsCheckOf input depth (counts (flags_in flags) (excuses_in x)) old new failed outcome
 
 -- the input could not be read: a read has failed, or, where it is read whole, the reads are used up
@@ -58,6 +60,7 @@ CannotBeRead (Replay schedule) input failed = failed ≡ true
 CannotBeRead (Explore options x what) input failed = failed ≡ true
 CannotBeRead (ExploreJob options x line) input failed = failed ≡ true
 CannotBeRead (Jobs depth) input failed = failed ≡ true
+CannotBeRead (Merge depth at flags x) input failed = IsUnread input failed
 CannotBeRead (Check depth flags x) input failed = IsUnread input failed
 
 -- what the words ask for was done with the input, a read of which may have failed: what it wrote to the output was flushed, the third stream got the line of a refusal or nothing, and the status is that of its end
@@ -67,6 +70,7 @@ pub record IsRun (words : List (List ℕ)) (input : Option (List ℕ)) (failed :
   pub explore : (options : Options) (x : Excuses) (what : Printed) → IsExplore words options x what → AsksExplore options x what asked
   pub explore_job : (options : Options) (x : Excuses) (line : List ℕ) → IsExploreJob words options x line → AsksExploreJob options x line asked
   pub jobs : (depth : ℕ) → IsJobs words depth → AsksJobs depth asked
+  pub merge : (depth at : ℕ) (flags : Flags) (x : Excuses) → IsMerge words depth at flags x → AsksMerge depth at flags x asked
   pub check : (depth : ℕ) (flags : Flags) (x : Excuses) → IsCheck words depth flags x → AsksCheck depth flags x asked
   pub named : IsNamed words (command_of asked)
   pub in_range : IsInRange asked
@@ -88,6 +92,7 @@ pub record AreRefused (words : List (List ℕ)) (output errors : Written) : Type
   pub no_exploration : (options : Options) (x : Excuses) (what : Printed) → IsExplore words options x what → text ≡ codes "error: out of memory\n"
   pub no_job : (options : Options) (x : Excuses) (line : List ℕ) → IsExploreJob words options x line → text ≡ codes "error: out of memory\n"
   pub no_jobs : (depth : ℕ) → IsJobs words depth → text ≡ codes "error: out of memory\n"
+  pub no_merge : (depth at : ℕ) (flags : Flags) (x : Excuses) → IsMerge words depth at flags x → text ≡ codes "error: out of memory\n"
   pub no_check : (depth : ℕ) (flags : Flags) (x : Excuses) → IsCheck words depth flags x → text ≡ codes "error: out of memory\n"
 
 -- there was no memory for the words: the output got nothing, and the third stream the parser's text for that

@@ -11,6 +11,8 @@ use Rattle.job_lines.specs.declared.fault.JobFault.{JobFault}
 use Rattle.job_lines.specs.declared.fault.JobFault.TheVariants as job
 use Rattle.cover_check.specs.declared.fault.CoverFault.{CoverFault}
 use Rattle.cover_check.specs.declared.fault.CoverFault.TheVariants as cover
+use Rattle.report_reader.specs.declared.fault.ReportFault.{ReportFault}
+use Rattle.report_reader.specs.declared.fault.ReportFault.TheVariants as report
 use Rattle.explorer_engine.specs.declared.verdict.RunFault.{RunFault}
 use Rattle.explorer_engine.specs.declared.verdict.RunFault.TheVariants as run
 use Rattle.explorer_engine.specs.declared.verdict.Verdict.{Verdict}
@@ -42,6 +44,11 @@ abbrev pub status_of_job_fault : JobFault → ℕ
 status_of_job_fault job.Memory = 3
 status_of_job_fault _ = 2
 
+-- a report that was refused, or the lack of memory
+abbrev pub status_of_report_fault : ReportFault → ℕ
+status_of_report_fault report.Memory = 3
+status_of_report_fault _ = 2
+
 -- of a refusal
 abbrev pub status_of_fault : RunFault → ℕ
 status_of_fault (run.Input fault) = status_of_read_fault fault
@@ -53,6 +60,7 @@ status_of_fault (run.Explore search.NoThread) = 3
 status_of_fault (run.Explore search.StrangePool) = 3
 status_of_fault (run.Cover fault) = status_of_cover_fault fault
 status_of_fault (run.Job fault) = status_of_job_fault fault
+status_of_fault (run.Report fault) = status_of_report_fault fault
 status_of_fault run.ReportCutOff = 3
 status_of_fault run.CoverCutOff = 3
 status_of_fault run.Output = 4

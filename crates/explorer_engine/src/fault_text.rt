@@ -1,13 +1,14 @@
 // The line by which a refusal is reported. No write takes memory.
 ghost use Rattle.std.specs.Prelude.{◌≡◌, false};
 ghost use Rattle.term_core.specs.Stream.{Writes};
-ghost use Rattle.explorer_engine.specs.FaultText.{placed, text_of_read_fault, text_of_schedule_fault, text_of_replay_fault, text_of_cover_fault, text_of_job_fault, text_of_fault};
+ghost use Rattle.explorer_engine.specs.FaultText.{placed, text_of_read_fault, text_of_schedule_fault, text_of_replay_fault, text_of_cover_fault, text_of_job_fault, text_of_report_fault, text_of_fault};
 
 use crate::verdict::RunFault;
 use core_reader::ReadFault;
 use cover_check::CoverFault;
 use job_lines::JobFault;
 use replay_core::ReplayFault;
+use report_reader::ReportFault;
 use search_crew::SearchFault;
 use term_core::{ScheduleFault, Sink, WriteFault, write_all, write_number};
 
@@ -28,6 +29,7 @@ pub fn write_fault<W: Sink>(sink: &mut W, fault: &RunFault) -> Result<(), WriteF
         RunFault::Explore(SearchFault::StrangePool) => write_all(sink, b"explore: 3 StrangePool\n"),
         RunFault::Cover(fault) => write_cover_fault(sink, fault),
         RunFault::Job(fault) => write_job_fault(sink, fault),
+        RunFault::Report(fault) => write_report_fault(sink, fault),
         RunFault::ReportCutOff => write_all(sink, b"explore: 1 Memory\n"),
         RunFault::CoverCutOff => write_all(sink, b"cover: 7 Memory\n"),
         RunFault::Output => write_all(sink, b"output failed\n"),
@@ -125,6 +127,27 @@ fn write_job_fault<W: Sink>(sink: &mut W, fault: &JobFault) -> Result<(), WriteF
             *step as usize,
         ),
         JobFault::Memory => write_all(sink, b"job: 7 Memory\n"),
+    }
+}
+
+// Writes the line of the refusal of reports.
+fn write_report_fault<W: Sink>(sink: &mut W, fault: &ReportFault) -> Result<(), WriteFault>
+    requires { W.has_failed sink.old ≡ false }
+    ensures { Writes (W.contents sink.old) (W.contents sink.new) (W.has_failed sink.new) result (text_of_report_fault fault.now) }
+{
+    match fault {
+        ReportFault::BadLine(line) => write_placed(
+            sink,
+            b"report: 1 BadLine at line ",
+            *line as usize,
+        ),
+        ReportFault::TooDeep(line) => write_placed(
+            sink,
+            b"report: 2 TooDeep at line ",
+            *line as usize,
+        ),
+        ReportFault::Memory => write_all(sink, b"report: 3 Memory\n"),
+        ReportFault::TooManyNodes => write_all(sink, b"report: 4 TooManyNodes\n"),
     }
 }
 

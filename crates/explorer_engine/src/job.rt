@@ -5,23 +5,20 @@ ghost use Rattle.explorer_engine.specs.Engine.{IsRefusedBefore, IsHandedOn, Writ
 ghost use Rattle.explorer_engine.specs.Input.{IsReadWithin};
 ghost use Rattle.explorer_engine.specs.JobRuns.{IsJobRunOf};
 ghost use Rattle.explorer_engine.specs.Status.{status_of};
-ghost use Rattle.report_text.specs.ReportText.{text_of_report};
-ghost use Rattle.term_core.specs.Stream.{Writes};
 
 use crate::input::read_input;
-use crate::printing::verdict_of;
+use crate::printing::{verdict_of, write_and_flush};
 use crate::verdict::{RunFault, Verdict};
 use core_reader::read_module;
 use excuses::Excuses;
-use findings::{Options, Outcome};
+use findings::Options;
 use job_lines::read_job;
-use report_text::write_report;
 use search_crew::{Gate, search};
 use sleep_jobs::Exploration;
 use std::alloc::Global;
 use std::sync::Wait;
 use std::thread::Threads;
-use term_core::{Sink, Source, WriteFault};
+use term_core::{Sink, Source};
 
 /// Reads a module from the source, visits the nodes of one job of its tree, and writes their report to the sink, which is
 /// flushed: what these nodes show and no others, each with the least schedule of them that shows it. The job is that of a
@@ -70,22 +67,4 @@ pub fn run_job<T: Threads + Wait + Sync, R: Source, G: Gate + Sync, W: Sink>(
     let outcome = search(rt, alloc, &job, options, gate)?;
     write_and_flush(sink, options.depth, excuses, &outcome)?;
     Ok(verdict_of(excuses, &outcome))
-}
-
-// Writes the report, and flushes the sink.
-fn write_and_flush<W: Sink>(
-    sink: &mut W,
-    depth: u64,
-    excuses: &Excuses,
-    outcome: &Outcome,
-) -> Result<(), WriteFault>
-    requires { W.has_failed sink.old ≡ false }
-    ensures written { Writes (W.contents sink.old) (W.contents sink.new) (W.has_failed sink.new) result (text_of_report depth (excuses_in excuses.now) outcome.now) }
-    ensures flushed { OnOk result (W.is_flushed sink.new ≡ true) }
-{
-    write_report(sink, depth, excuses, outcome)?;
-    if sink.flush().is_err() {
-        return Err(WriteFault);
-    }
-    Ok(())
 }

@@ -1,9 +1,11 @@
 // What an exploration prints: its report and, where that is asked for and no error was found, the cover of the tree.
-ghost use Rattle.std.specs.Prelude.{◌≡◌, true, false};
+ghost use Rattle.std.specs.Prelude.{◌≡◌, true, false, OnOk};
 ghost use Rattle.excuses.specs.Excuses.{counted, excuses_in};
 ghost use Rattle.explorer_engine.specs.Explored.{complete_verdict, has_cover, print_of, text_of_form, verdict_of};
 ghost use Rattle.explorer_engine.specs.Printing.{IsPrinted};
 ghost use Rattle.explorer_engine.specs.inside.Forms.{IsReportWritten};
+ghost use Rattle.report_text.specs.ReportText.{text_of_report};
+ghost use Rattle.term_core.specs.Stream.{Writes};
 ghost use Rattle.world_model.specs.Asking.{program_of};
 
 use crate::print_fault::PrintFault;
@@ -18,7 +20,7 @@ use replay_core::write_explained_report;
 use report_text::write_report;
 use search_crew::Gate;
 use std::alloc::Global;
-use term_core::Sink;
+use term_core::{Sink, WriteFault};
 
 // Writes the report, explained where that is asked for.
 fn write_form<W: Sink>(
@@ -101,6 +103,25 @@ pub(crate) fn print_and_flush<G: Gate, W: Sink>(
         return Err(PrintFault::Write);
     }
     outcome
+}
+
+/// Writes the report alone, and flushes the sink. `WriteFault` comes only where the sink has failed, at a write or at the
+/// flush: then a beginning was written.
+pub(crate) fn write_and_flush<W: Sink>(
+    sink: &mut W,
+    depth: u64,
+    excuses: &Excuses,
+    outcome: &Outcome,
+) -> Result<(), WriteFault>
+    requires { W.has_failed sink.old ≡ false }
+    ensures written { Writes (W.contents sink.old) (W.contents sink.new) (W.has_failed sink.new) result (text_of_report depth (excuses_in excuses.now) outcome.now) }
+    ensures flushed { OnOk result (W.is_flushed sink.new ≡ true) }
+{
+    write_report(sink, depth, excuses, outcome)?;
+    if sink.flush().is_err() {
+        return Err(WriteFault);
+    }
+    Ok(())
 }
 
 // Whether a search of all nodes found errors that count.

@@ -14,6 +14,7 @@ use crate::explore::run_explore;
 use crate::fault_text::write_fault;
 use crate::job::run_job;
 use crate::jobs::run_jobs;
+use crate::merge::run_merge;
 use crate::verdict::{RunFault, Verdict, status};
 use clap::Error;
 use clap::error::ErrorKind;
@@ -78,8 +79,8 @@ pub fn run_to_exit<
 }
 
 /// Does what the words of a command line ask for, of which the first is the program's name, and gives
-/// the exit status: replays a schedule in the module that the input has, or explores its schedules or those of a job, or lists jobs, or checks the cover
-/// that stands behind it, writes the transcript, the report or the answer to the output and flushes that, and reports a
+/// the exit status: replays a schedule in the module that the input has, or explores its schedules or those of a job, or lists jobs, or puts the reports together that the input has instead, or checks
+/// the cover that stands behind the module, writes the transcript, the report or the answer to the output and flushes that, and reports a
 /// refusal by its line on the third stream, which it does not flush. The gate is told of the work of an exploration or a
 /// check. Where the words are refused, with status 64, the third stream gets the parser's text, and the output nothing.
 pub fn run<T: Threads + Wait + Sync, S: AsStr, R: Source, W: Sink, E: Sink, G: Gate + Sync>(
@@ -152,6 +153,9 @@ fn run_asked<T: Threads + Wait + Sync, R: Source, G: Gate + Sync, W: Sink>(
             output,
         ),
         Words::Jobs(depth) => run_jobs(alloc, input, *depth, output),
+        Words::Merge(depth, at, flags, excuses) => {
+            run_merge(alloc, input, *depth, *at, *flags, excuses, output)
+        }
         Words::Check(depth, flags, excuses) => {
             run_check(alloc, input, *depth, *flags, excuses, gate, output)
         }

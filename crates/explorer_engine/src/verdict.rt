@@ -1,6 +1,6 @@
 // How a run ends: its verdict or its refusal, and the exit status that reports it.
 ghost use Rattle.std.specs.Prelude.{◌≡◌};
-ghost use Rattle.explorer_engine.specs.Status.{status_of, status_of_verdict, status_of_fault, status_of_read_fault, status_of_schedule_fault, status_of_replay_fault, status_of_cover_fault, status_of_job_fault};
+ghost use Rattle.explorer_engine.specs.Status.{status_of, status_of_verdict, status_of_fault, status_of_read_fault, status_of_schedule_fault, status_of_replay_fault, status_of_cover_fault, status_of_job_fault, status_of_report_fault};
 
 use crate::input::InputFault;
 use crate::print_fault::PrintFault;
@@ -8,6 +8,7 @@ use core_reader::ReadFault;
 use cover_check::CoverFault;
 use job_lines::JobFault;
 use replay_core::ReplayFault;
+use report_reader::ReportFault;
 use search_crew::SearchFault;
 use term_core::{ScheduleFault, WriteFault};
 
@@ -41,6 +42,8 @@ pub enum RunFault {
     Cover(CoverFault),
     /// The line of a job was refused, or there was no memory for jobs.
     Job(JobFault),
+    /// A report was refused, or there was no memory for what the reports come to.
+    Report(ReportFault),
     /// There was no memory to explain a report to its end. A beginning of the report was written.
     ReportCutOff,
     /// There was no memory to write a cover to its end. The report, and a beginning of the cover, were written.
@@ -125,6 +128,16 @@ impl From<JobFault> for RunFault {
     }
 }
 
+impl From<ReportFault> for RunFault {
+    ghost use Rattle.explorer_engine.specs.declared.verdict.RunFault.TheVariants as run;
+
+    ghost from_gives = { λ fault refusal. refusal ≡ run.Report fault };
+
+    fn from(fault: ReportFault) -> RunFault {
+        RunFault::Report(fault)
+    }
+}
+
 impl From<PrintFault> for RunFault {
     ghost use Rattle.explorer_engine.specs.Refusals.{refusal_of_printing};
 
@@ -187,6 +200,7 @@ fn fault_status(fault: &RunFault) -> u8
         RunFault::Explore(SearchFault::StrangePool) => 3,
         RunFault::Cover(fault) => cover_status(fault),
         RunFault::Job(fault) => job_status(fault),
+        RunFault::Report(fault) => report_status(fault),
         RunFault::ReportCutOff => 3,
         RunFault::CoverCutOff => 3,
         RunFault::Output => 4,
@@ -240,6 +254,16 @@ fn job_status(fault: &JobFault) -> u8
 {
     match fault {
         JobFault::Memory => 3,
+        _ => 2,
+    }
+}
+
+// The exit status where a report was refused.
+fn report_status(fault: &ReportFault) -> u8
+    ensures { result ≡ status_of_report_fault fault.now }
+{
+    match fault {
+        ReportFault::Memory => 3,
         _ => 2,
     }
 }

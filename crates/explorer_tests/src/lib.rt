@@ -10,4 +10,6 @@ mod input;
 #[cfg(test)]
 mod jobs;
 #[cfg(test)]
+mod merge;
+#[cfg(test)]
 mod replays;

@@ -253,8 +253,87 @@ fn reads_the_words_of_jobs(rt: HostRuntime) -> Result<(), Fail> {
     Ok(())
 }
 
+// Words of a merge, and the depth of its tree, that of its jobs, and its flags.
+const MERGES: [(&[&str], u64, u64, bool, bool); 5] = [
+    (
+        &[NAME, "merge", "--depth", "0", "--at", "0"],
+        0,
+        0,
+        false,
+        false,
+    ),
+    (
+        &[NAME, "merge", "--at", "400", "--depth", "400"],
+        400,
+        400,
+        false,
+        false,
+    ),
+    (
+        &[
+            NAME,
+            "merge",
+            "--depth",
+            "400",
+            "--strict-access",
+            "--at",
+            "0",
+        ],
+        400,
+        0,
+        false,
+        true,
+    ),
+    (
+        &[
+            NAME,
+            "merge",
+            "--allow-deadlock",
+            "--depth",
+            "12",
+            "--at",
+            "3",
+        ],
+        12,
+        3,
+        true,
+        false,
+    ),
+    (
+        &[
+            NAME,
+            "merge",
+            "--at",
+            "11",
+            "--strict-access",
+            "--allow-deadlock",
+            "--depth",
+            "12",
+        ],
+        12,
+        11,
+        true,
+        true,
+    ),
+];
+
+#[test]
+fn reads_the_words_of_a_merge(rt: HostRuntime) -> Result<(), Fail> {
+    for (words, depth, at, allow_deadlock, strict_access) in MERGES {
+        let Words::Merge(steps, place, flags, excuses) = read_words(rt.alloc(), words)? else {
+            return Err(Fail::from("the words are no merge"));
+        };
+        assert_eq!(rt; steps, depth);
+        assert_eq!(rt; place, at);
+        assert_eq!(rt; flags.allow_deadlock, allow_deadlock);
+        assert_eq!(rt; flags.strict_access, strict_access);
+        assert!(rt; !excuses.are_any());
+    }
+    Ok(())
+}
+
 // Words that excuse something: whether deadlocks count only where the first process waits, and the texts of the reasons.
-const EXCUSES: [(&[&str], bool, &[&str]); 5] = [
+const EXCUSES: [(&[&str], bool, &[&str]); 6] = [
     (
         &[NAME, "explore", "--depth", "1", "--main-deadlock"],
         true,
@@ -302,6 +381,23 @@ const EXCUSES: [(&[&str], bool, &[&str]); 5] = [
             "[]", "[]",
         ],
     ),
+    (
+        &[
+            NAME,
+            "merge",
+            "--normal",
+            "{'shutdown',[1,2|'x']}",
+            "--main-deadlock",
+            "--at",
+            "1",
+            "--depth",
+            "2",
+            "--normal",
+            "'boom'",
+        ],
+        true,
+        &["{'shutdown',[1,2|'x']}", "'boom'"],
+    ),
 ];
 
 // What words excuse.
@@ -310,6 +406,7 @@ fn excuses_of(words: Words) -> Option<Excuses> {
         Words::Explore(_, excuses, _) => Some(excuses),
         Words::ExploreJob(_, excuses, _) => Some(excuses),
         Words::Check(_, _, excuses) => Some(excuses),
+        Words::Merge(_, _, _, excuses) => Some(excuses),
         Words::Replay(_) | Words::Jobs(_) => None,
     }
 }
@@ -318,7 +415,7 @@ fn excuses_of(words: Words) -> Option<Excuses> {
 fn reads_what_is_excused(rt: HostRuntime) -> Result<(), Fail> {
     for (words, main_deadlock, texts) in EXCUSES {
         let Some(excuses) = excuses_of(read_words(rt.alloc(), words)?) else {
-            return Err(Fail::from("the words are no exploration and no check"));
+            return Err(Fail::from("the words excuse nothing"));
         };
         assert_eq!(rt; excuses.main_deadlock, main_deadlock);
         assert_eq!(rt; excuses.normal.len(), texts.len());
@@ -333,7 +430,7 @@ fn reads_what_is_excused(rt: HostRuntime) -> Result<(), Fail> {
 
 // Words of a command but for what they excuse, what they print of a job, or where they look for jobs, and the first
 // line of what is said of them.
-const UNREADABLE: [(&[&str], &str); 12] = [
+const UNREADABLE: [(&[&str], &str); 16] = [
     (
         &[NAME, "explore", "--depth", "1", "--normal", "boom"],
         "error: 'boom' is no term: see its byte 1\n",
@@ -425,6 +522,39 @@ const UNREADABLE: [(&[&str], &str); 12] = [
         ],
         "error: the argument '--main-deadlock' cannot be used with '--allow-deadlock'\n",
     ),
+    (
+        &[NAME, "merge", "--at", "400", "--depth", "399"],
+        "error: invalid value '400' for '--at <D>': 400 is not in 0..=399\n",
+    ),
+    (
+        &[
+            NAME, "merge", "--depth", "2", "--at", "1", "--normal", "{'late'",
+        ],
+        "error: '{'late'' is no term: see its byte 8\n",
+    ),
+    (
+        &[
+            NAME,
+            "merge",
+            "--allow-deadlock",
+            "--at",
+            "1",
+            "--main-deadlock",
+            "--depth",
+            "1",
+        ],
+        "error: the argument '--main-deadlock' cannot be used with '--allow-deadlock'\n",
+    ),
+    (
+        &[
+            NAME, "merge", "--depth", "1", "--at", "1", "--normal", "[]", "--normal", "[]",
+            "--normal", "[]", "--normal", "[]", "--normal", "[]", "--normal", "[]", "--normal",
+            "[]", "--normal", "[]", "--normal", "[]", "--normal", "[]", "--normal", "[]",
+            "--normal", "[]", "--normal", "[]", "--normal", "[]", "--normal", "[]", "--normal",
+            "[]", "--normal", "[]",
+        ],
+        "error: the argument '--normal' cannot be used more than 16 times\n",
+    ),
 ];
 
 #[test]
@@ -440,7 +570,7 @@ fn tells_why_words_are_unreadable(rt: HostRuntime) -> Result<(), Fail> {
 }
 
 // Words of no command.
-const REFUSED: [&[&str]; 35] = [
+const REFUSED: [&[&str]; 48] = [
     &[NAME],
     &[NAME, "replay"],
     &[NAME, "replay", "P", "P"],
@@ -481,6 +611,19 @@ const REFUSED: [&[&str]; 35] = [
     &[NAME, "jobs", "--depth", "3", "--at", "1", "--cover"],
     &[NAME, "jobs", "--depth", "3", "--at", "1", "--job", "P | "],
     &[NAME, "jobs", "--help"],
+    &[NAME, "merge"],
+    &[NAME, "merge", "--depth", "3"],
+    &[NAME, "merge", "--at", "3"],
+    &[NAME, "merge", "--depth", "401", "--at", "3"],
+    &[NAME, "merge", "--depth", "400", "--at", "401"],
+    &[NAME, "merge", "--depth", "3", "--at", "1", "--depth", "3"],
+    &[NAME, "merge", "--depth", "3", "--at", "1", "--at", "1"],
+    &[NAME, "merge", "--depth", "3", "--at", "1", "--nodes", "5"],
+    &[NAME, "merge", "--depth", "3", "--at", "1", "--workers", "2"],
+    &[NAME, "merge", "--depth", "3", "--at", "1", "--explain"],
+    &[NAME, "merge", "--depth", "3", "--at", "1", "--job", "P | "],
+    &[NAME, "merge", "--depth", "3", "--at", "1", "m.reports"],
+    &[NAME, "merge", "--help"],
     &[NAME, "replay", "P", "--normal", "[]"],
     &[NAME, "help"],
     &[NAME, "--help"],

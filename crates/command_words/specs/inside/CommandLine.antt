@@ -57,9 +57,17 @@ explore_command =
 abbrev pub check_command : App
 check_command = with_errors (with_rule (new_app (codes "check")) depth_rule)
 
+-- the command of this name that splits the tree at a level, with its options
+abbrev pub split_command : List ℕ → App
+split_command name = with_errors (with_rule (with_rule (new_app name) depth_rule) at_rule)
+
 -- `jobs` with its options
 abbrev pub jobs_command : App
-jobs_command = with_errors (with_rule (with_rule (new_app (codes "jobs")) depth_rule) at_rule)
+jobs_command = split_command (codes "jobs")
+
+-- `merge` with its options
+abbrev pub merge_command : App
+merge_command = split_command (codes "merge")
 
 -- the program's name and a subcommand, which has to be there
 abbrev pub program_command : App
@@ -67,7 +75,8 @@ program_command = record (new_app (codes "schedule_explorer")) { top = record (n
 
 -- the whole
 abbrev pub command_line : App
-command_line = with_subcommand (with_subcommand (with_subcommand (with_subcommand program_command replay_command.top) explore_command.top) check_command.top) jobs_command.top
+command_line =
+    with_subcommand (with_subcommand (with_subcommand (with_subcommand (with_subcommand program_command replay_command.top) explore_command.top) check_command.top) jobs_command.top) merge_command.top
 
 -- the command is this one, and has no argument that its subcommands have too
 pub record IsMadeAs (app : App) (made : Command) : Type 0 where
@@ -91,24 +100,34 @@ explore_built = built_leaf (inherited program_built explore_command.top)
 abbrev pub check_built : Shape
 check_built = built_leaf (inherited program_built check_command.top)
 
--- `jobs` when it is built
-abbrev pub jobs_built : Shape
-jobs_built = built_leaf (inherited program_built jobs_command.top)
+-- the command of this name that splits the tree at a level, when it is built
+abbrev pub split_built : List ℕ → Shape
+split_built name = built_leaf (inherited program_built (split_command name).top)
+
+-- the commands that split the tree at a level: into its jobs there and what stands above them
+pub data Splitter : Type 0 where
+  listing : Splitter
+  merging : Splitter
+
+-- the name of such a command
+abbrev pub split_name : Splitter → List ℕ
+split_name listing = codes "jobs"
+split_name merging = codes "merge"
 
 -- the commands that have options
 pub data Level : Type 0 where
   exploring : Level
   checking : Level
-  listing : Level
+  splitting : Splitter → Level
 
 -- the name of such a command
 abbrev pub name_of : Level → List ℕ
 name_of exploring = codes "explore"
 name_of checking = codes "check"
-name_of listing = codes "jobs"
+name_of (splitting which) = split_name which
 
 -- such a command when it is built
 abbrev pub built_of : Level → Shape
 built_of exploring = explore_built
 built_of checking = check_built
-built_of listing = jobs_built
+built_of (splitting which) = split_built (split_name which)

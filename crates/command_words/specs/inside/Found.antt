@@ -12,10 +12,10 @@ use Rattle.excuses.specs.declared.excuses.Excuses as declared
 use Rattle.command_words.specs.Words.{AreExcusesInRange, AreSmall, report_alone}
 use Rattle.findings.specs.declared.flags.Flags.{Flags}
 use Rattle.findings.specs.declared.options.Options.{Options}
-use Rattle.command_words.specs.declared.command_line.Listing.{Listing}
+use Rattle.command_words.specs.declared.command_line.Split.{Split}
 use Rattle.command_words.specs.declared.words.Printed.{Printed}
 use Rattle.command_words.specs.declared.words.Words.{Words}
-use Rattle.command_words.specs.declared.words.Words.TheVariants.{Replay, Explore, ExploreJob, Check, Jobs}
+use Rattle.command_words.specs.declared.words.Words.TheVariants.{Replay, Explore, ExploreJob, Check, Jobs, Merge}
 
 -- the word of the schedule, where `replay` was found
 abbrev pub schedule_in : Option (Text × List Row) → Option Text
@@ -77,15 +77,15 @@ abbrev pub IsCheckOf : Option (Text × List Row) → Option (ℕ × Flags) → T
 IsCheckOf None read = read ≡ None
 IsCheckOf (Some p) read = MatchBool (bytes_eq p.0 (codes "check")) (IsCheckIn p.1 read) (read ≡ None)
 
--- what `jobs` asks for is read where both depths are there
-abbrev pub AreJobsIn : List Row → Option Listing → Type 0
-AreJobsIn rows None = ReadsNumber (one_of (codes "depth") rows) None ⊎ ReadsNumber (one_of (codes "at") rows) None
-AreJobsIn rows (Some read) = ReadsNumber (one_of (codes "depth") rows) (Some read.depth) × (ReadsNumber (one_of (codes "at") rows) (Some read.at) × AreFlagsOf rows read.flags)
+-- a split of the tree is read where both depths are there
+abbrev pub IsSplitIn : List Row → Option Split → Type 0
+IsSplitIn rows None = ReadsNumber (one_of (codes "depth") rows) None ⊎ ReadsNumber (one_of (codes "at") rows) None
+IsSplitIn rows (Some read) = ReadsNumber (one_of (codes "depth") rows) (Some read.depth) × (ReadsNumber (one_of (codes "at") rows) (Some read.at) × AreFlagsOf rows read.flags)
 
--- and where `jobs` was found
-abbrev pub AreJobsOf : Option (Text × List Row) → Option Listing → Type 0
-AreJobsOf None read = read ≡ None
-AreJobsOf (Some p) read = MatchBool (bytes_eq p.0 (codes "jobs")) (AreJobsIn p.1 read) (read ≡ None)
+-- and where this command was found
+abbrev pub IsSplitOf : Text → Option (Text × List Row) → Option Split → Type 0
+IsSplitOf command None read = read ≡ None
+IsSplitOf command (Some p) read = MatchBool (bytes_eq p.0 command) (IsSplitIn p.1 read) (read ≡ None)
 
 -- the line of the job, where `explore` was found
 abbrev pub job_in : Option (Text × List Row) → Option Text
@@ -120,14 +120,23 @@ pub record AskExcuses (flags : Flags) (rows : List Row) (excuses : Excuses) : Ty
   pub in_range : AreExcusesInRange flags excuses
   pub small : AreSmall excuses.normal
 
--- the depth of jobs is read of the command that was found, beside what it excuses, and is at most that of the tree
+-- a split of the tree is read of this command, beside what it excuses, and its jobs stand no deeper than the tree
+pub record IsSplitRead (command : Text) (entered : Option (Text × List Row)) (split : Split) (excuses : declared.Excuses) : Type 0 where
+  pub found : IsSplitOf command entered (Some split)
+  pub excused : AreExcusesIn split.flags (rows_in entered) excuses
+  pub within : split.at ≤ split.depth
+
+-- or this command was not found
+abbrev pub IsSplitReadOf : Text → Option (Text × List Row) → Option (Split × declared.Excuses) → Type 0
+IsSplitReadOf command entered None = IsSplitOf command entered None
+IsSplitReadOf command entered (Some read) = IsSplitRead command entered read.0 read.1
+
+-- the depth of jobs is that of a split, whatever it excuses
 pub record AreJobsRead (entered : Option (Text × List Row)) (place : ℕ) : Type 0 where
-  pub listing : Listing
+  pub split : Split
   pub excuses : declared.Excuses
-  pub jobs : AreJobsOf entered (Some listing)
-  pub excused : AreExcusesIn listing.flags (rows_in entered) excuses
-  pub within : listing.at ≤ listing.depth
-  pub place_is : place ≡ listing.at
+  pub read : IsSplitRead (codes "jobs") entered split excuses
+  pub place_is : place ≡ split.at
 
 -- the words are read of the command that was found
 abbrev pub IsReadOf : Option (Text × List Row) → Words → Type 0
@@ -136,6 +145,7 @@ IsReadOf entered (Explore options excuses printed) = AreOptionsOf entered (Some 
 IsReadOf entered (ExploreJob options excuses line) = AreOptionsOf entered (Some (options, report_alone)) × (AreExcusesIn options.flags (rows_in entered) excuses × (job_in entered ≡ Some (string_bytes line)))
 IsReadOf entered (Check steps flags excuses) = IsCheckOf entered (Some (steps, flags)) × AreExcusesIn flags (rows_in entered) excuses
 IsReadOf entered (Jobs place) = AreJobsRead entered place
+IsReadOf entered (Merge steps place flags excuses) = IsSplitRead (codes "merge") entered (record { depth = steps; at = place; flags = flags }) excuses
 
 -- words are read where this command was found, or it was not found
 abbrev pub IsReplayReadOf : Option (Text × List Row) → Option Words → Type 0
@@ -151,19 +161,28 @@ IsCheckReadOf entered None = IsCheckOf entered None
 IsCheckReadOf entered (Some words) = IsReadOf entered words
 
 abbrev pub AreJobsReadOf : Option (Text × List Row) → Option Words → Type 0
-AreJobsReadOf entered None = AreJobsOf entered None
+AreJobsReadOf entered None = IsSplitOf (codes "jobs") entered None
 AreJobsReadOf entered (Some words) = IsReadOf entered words
+
+abbrev pub IsMergeReadOf : Option (Text × List Row) → Option Words → Type 0
+IsMergeReadOf entered None = IsSplitOf (codes "merge") entered None
+IsMergeReadOf entered (Some words) = IsReadOf entered words
 
 -- the rows ask for something to be excused, or for nothing
 pub record CanExcuse (flags : Flags) (rows : List Row) : Type 0 where
   pub excuses : Excuses
   pub asks : AskExcuses flags rows excuses
 
+-- whatever this command is found to split can be excused, and its jobs stand no deeper than the tree
+pub record AsksForSplit (command : Text) (entered : Option (Text × List Row)) : Type 0 where
+  pub excused : (found : Split) → IsSplitOf command entered (Some found) → CanExcuse found.flags (rows_in entered)
+  pub within : (found : Split) → IsSplitOf command entered (Some found) → found.at ≤ found.depth
+
 -- the command that was found asks for something: whatever is found of it can be excused, has nothing that is printed of no job alone, and looks for jobs no deeper than its tree
 pub record AsksForOne (entered : Option (Text × List Row)) : Type 0 where
   pub explore : (found : Options × Printed) → AreOptionsOf entered (Some found) → CanExcuse found.0.flags (rows_in entered)
   pub job : (found : Options × Printed) → AreOptionsOf entered (Some found) → (line : Text) → job_in entered ≡ Some line → (found.1.explained || found.1.cover) ≡ false
   pub check : (found : ℕ × Flags) → IsCheckOf entered (Some found) → CanExcuse found.1 (rows_in entered)
-  pub jobs : (found : Listing) → AreJobsOf entered (Some found) → CanExcuse found.flags (rows_in entered)
-  pub within : (found : Listing) → AreJobsOf entered (Some found) → found.at ≤ found.depth
-  pub some : schedule_in entered ≡ None → AreOptionsOf entered None → IsCheckOf entered None → AreJobsOf entered None → ⊥
+  pub jobs : AsksForSplit (codes "jobs") entered
+  pub merge : AsksForSplit (codes "merge") entered
+  pub some : schedule_in entered ≡ None → AreOptionsOf entered None → IsCheckOf entered None → IsSplitOf (codes "jobs") entered None → IsSplitOf (codes "merge") entered None → ⊥

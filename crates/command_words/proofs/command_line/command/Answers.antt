@@ -11,4 +11,5 @@ returns-clause-line c =
     let one = line_with program_command _ _ _ _ none c.in_ok-replay_command.ensures.line c.in_ok-subcommand.ensures in
     let two = line_with _ _ _ _ _ one c.in_ok-explore_command.ensures.line c.in_ok-subcommand-2.ensures in
     let three = line_with _ _ _ _ _ two c.in_ok-check_command.ensures.line c.in_ok-subcommand-3.ensures in
-    line_with _ _ _ _ _ three c.in_ok-jobs_command.ensures.line c.in_ok-explorer.ensures
+    let four = line_with _ _ _ _ _ three c.in_ok-jobs_command.ensures.line c.in_ok-subcommand-4.ensures in
+    line_with _ _ _ _ _ four c.in_ok-merge_command.ensures.line c.in_ok-explorer.ensures

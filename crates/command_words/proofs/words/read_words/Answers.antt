@@ -2,14 +2,15 @@ use Rattle.std.proofs.Common.{◌∙◌, ap, map}
 use Rattle.std.specs.Prelude.{Err}
 use Rattle.std.proofs.lemmas.Result.{err_from_is_err_and}
 use Rattle.clap.specs.Words.{app_of, subcommand_rows_of}
-use Rattle.command_words.specs.Words.{AsksCheck, AsksExplore, AsksExploreJob, AsksJobs, AsksReplay, IsInRange, IsNamed, command_of, report_alone}
+use Rattle.command_words.specs.inside.CommandLine.{listing, merging}
+use Rattle.command_words.specs.Words.{AsksCheck, AsksExplore, AsksExploreJob, AsksJobs, AsksMerge, AsksReplay, IsInRange, IsNamed, command_of, report_alone}
 use Rattle.command_words.specs.declared.words.Words.{Words}
 use Rattle.command_words.proofs.Checked.{check_passes}
 use Rattle.command_words.proofs.Explored.{explore_passes}
-use Rattle.command_words.proofs.Listed.{jobs_pass}
 use Rattle.command_words.proofs.Reading.{entered_is, passes_is, read_as, read_fails, read_holds, refused_for_memory}
 use Rattle.command_words.proofs.Replayed.{replay_passes}
-use Rattle.command_words.proofs.Unread.{all_jobs_ask, all_jobs_reads, check_asks, check_is_read, jobs_ask, jobs_reads, nothing_unread, one_job_asks, one_job_reads, read_in_range, read_is_named, replay_asks, replay_reads}
+use Rattle.command_words.proofs.Splitting.{split_passes}
+use Rattle.command_words.proofs.Unread.{all_jobs_ask, all_jobs_reads, check_asks, check_is_read, jobs_ask, jobs_reads, merge_asks, merge_reads, nothing_unread, one_job_asks, one_job_reads, read_in_range, read_is_named, replay_asks, replay_reads}
 use Rattle.command_words.proofs.words.read_words.Goals as goal
 
 pub returns-in_err-matches-clause-replay : goal.returns-in_err-matches-clause-replay
@@ -45,7 +46,14 @@ returns-in_err-matches-clause-jobs g c place asks =
     let words = map g.S.AsStr.text c.args.words.now in
     let p = err_from_is_err_and c.from_residual-in_err-matches.result c.from_residual-in_err-matches.ensures.1 in
     refused_for_memory (app_of c.in_ok-command.command) words (AsksJobs place) c.in_err-matches.field-0.0 c.from_residual-in_err-matches.result
-    c.in_ok-command.ensures.line (jobs_pass words asks.given asks.steps place asks.flags asks.says) c.in_err-matches.ensures.kinds (p.1 ∙ ap Err p.2)
+    c.in_ok-command.ensures.line (split_passes listing words asks.given asks.steps place asks.flags asks.says) c.in_err-matches.ensures.kinds (p.1 ∙ ap Err p.2)
+
+pub returns-in_err-matches-clause-merge : goal.returns-in_err-matches-clause-merge
+returns-in_err-matches-clause-merge g c steps place flags excuses asks =
+    let words = map g.S.AsStr.text c.args.words.now in
+    let p = err_from_is_err_and c.from_residual-in_err-matches.result c.from_residual-in_err-matches.ensures.1 in
+    refused_for_memory (app_of c.in_ok-command.command) words (AsksMerge steps place flags excuses) c.in_err-matches.field-0.0 c.from_residual-in_err-matches.result
+    c.in_ok-command.ensures.line (split_passes merging words asks.given steps place flags asks.says) c.in_err-matches.ensures.kinds (p.1 ∙ ap Err p.2)
 
 pub returns-clause-replay : goal.returns-clause-replay
 returns-clause-replay g c schedule asks =
@@ -81,6 +89,13 @@ returns-clause-jobs g c place asks =
     let found = subcommand_rows_of c.in_ok-matches.matches in
     let entered = entered_is (app_of c.in_ok-command.command) words found c.in_ok-command.ensures.line c.in_ok-matches.ensures.matches in
     read_as words found entered c.read_command.result c.read_command.ensures.ok (AsksJobs place) c.read_command.ensures.refused (jobs_reads words place asks) (jobs_ask words place asks)
+
+pub returns-clause-merge : goal.returns-clause-merge
+returns-clause-merge g c steps place flags excuses asks =
+    let words = map g.S.AsStr.text c.args.words.now in
+    let found = subcommand_rows_of c.in_ok-matches.matches in
+    let entered = entered_is (app_of c.in_ok-command.command) words found c.in_ok-command.ensures.line c.in_ok-matches.ensures.matches in
+    read_as words found entered c.read_command.result c.read_command.ensures.ok (AsksMerge steps place flags excuses) c.read_command.ensures.refused (merge_reads words steps place flags excuses asks) (merge_asks words steps place flags excuses asks)
 
 pub returns-clause-unread : goal.returns-clause-unread
 returns-clause-unread g c bad =

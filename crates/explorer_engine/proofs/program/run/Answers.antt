@@ -9,6 +9,7 @@ returns-in-Ok-clause-run g c ran = record {
   explore = c.in-Ok.ensures.explore;
   explore_job = c.in-Ok.ensures.explore_job;
   jobs = c.in-Ok.ensures.jobs;
+  merge = c.in-Ok.ensures.merge;
   check = c.in-Ok.ensures.check;
   named = c.in-Ok.ensures.named;
   in_range = c.in-Ok.ensures.range;
@@ -31,5 +32,6 @@ returns-in-Err-clause-refused g c refused = record {
   no_exploration = λ options x what asks. c.write_words_error.ensures.1 (c.in-Err.ensures.explore options x what asks);
   no_job = λ options x line asks. c.write_words_error.ensures.1 (c.in-Err.ensures.explore_job options x line asks);
   no_jobs = λ depth asks. c.write_words_error.ensures.1 (c.in-Err.ensures.jobs depth asks);
+  no_merge = λ depth at flags x asks. c.write_words_error.ensures.1 (c.in-Err.ensures.merge depth at flags x asks);
   no_check = λ depth flags x asks. c.write_words_error.ensures.1 (c.in-Err.ensures.check depth flags x asks);
 }

@@ -2,7 +2,7 @@ use Rattle.std.proofs.Common.{rules, ◌≡◌, true}
 use Rattle.excuses.specs.Excuses.{excuses_in}
 use Rattle.report_text.specs.ReportText.{text_of_report}
 use Rattle.explorer_engine.proofs.ReportLaws.{none_flushed}
-use Rattle.explorer_engine.proofs.job.write_and_flush.Goals as goal
+use Rattle.explorer_engine.proofs.printing.write_and_flush.Goals as goal
 
 pub returns-then-is_err-clause-written : goal.returns-then-is_err-clause-written
 returns-then-is_err-clause-written g c =
