@@ -227,7 +227,7 @@ impl CallKind {
         }
     }
 
-    /// Whether the call has these names and so many arguments.
+    // Whether the call has these names and so many arguments.
     fn has_signature(self, module_name: &str, function_name: &str, arity: usize) -> bool
         ensures { result ≡ has_signature module_name.now function_name.now arity (signature self) }
     {

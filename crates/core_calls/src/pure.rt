@@ -3,9 +3,9 @@ ghost use Rattle.std.specs.Prelude.{◌≡◌};
 ghost use Rattle.core_calls.specs.Calls.{has_signature};
 ghost use Rattle.core_calls.specs.PureCalls.{pure_signature, pure_call_with};
 
-/// A call that takes part in no exchange with the world: its value, or what it raises, is reported by its
-/// arguments alone (Erlang reference manual, modules `erlang` and `lists`), but for `erlang:self/0`, which
-/// gives the pid of the process.
+/// A call that takes part in no exchange with the world: its value, or what it raises, depends on its arguments alone
+/// (Erlang reference manual, modules `erlang` and `lists`), except for `erlang:self/0`, which gives the pid of the
+/// process.
 #[derive(Clone, Copy, Debug, PartialEq, Eq, PartialOrd, Ord, Hash)]
 pub enum PureCall {
     /// `erlang:+/2`: the sum of two integers.
@@ -40,13 +40,13 @@ pub enum PureCall {
     Same,
     /// `erlang:=/=/2`: whether two terms are not the same.
     NotSame,
-    /// `erlang:</2`: whether a term stands before another.
+    /// `erlang:</2`: whether a term comes before another.
     Less,
-    /// `erlang:=</2`: whether a term stands before another or is equal to it.
+    /// `erlang:=</2`: whether a term comes before another or is equal to it.
     AtMost,
-    /// `erlang:>/2`: whether a term stands after another.
+    /// `erlang:>/2`: whether a term comes after another.
     Greater,
-    /// `erlang:>=/2`: whether a term stands after another or is equal to it.
+    /// `erlang:>=/2`: whether a term comes after another or is equal to it.
     AtLeast,
     /// `erlang:and/2`: whether both of two booleans are true.
     And,
@@ -290,7 +290,7 @@ impl PureCall {
         }
     }
 
-    /// Whether the call has these names and so many arguments.
+    // Whether the call has these names and so many arguments.
     fn has_signature(self, module_name: &str, function_name: &str, arity: usize) -> bool
         ensures { result ≡ has_signature module_name.now function_name.now arity (pure_signature self) }
     {

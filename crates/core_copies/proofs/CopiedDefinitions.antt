@@ -19,7 +19,7 @@ holds_of : (P : Function → Type 0) (xs : List Function) (k : Function) (ys : L
 holds_of P [] k ys h = h.0
 holds_of P (x ∷ xs) k ys h = holds_of P xs k ys h.1
 
--- a key that stands behind others, all different, is not among them
+-- a key that comes after others, all different, is not among them
 is_new : (es : List (Function × Definition)) (k : Function) (ys : List Function) → IsDistinct same_function (keys_in es ++ k ∷ ys) → lookup (same_function k) es ≡ None
 is_new [] k ys h = refl
 is_new (e ∷ es) k ys h =

@@ -32,7 +32,7 @@ fn copy_onto_const(alloc: Global, onto: &OntoConst) -> Result<OntoConst, AllocEr
     })
 }
 
-/// The same constants in order.
+// The same constants in order.
 #[cycle(constants)]
 fn copy_consts(alloc: Global, constants: &Consts) -> Result<Consts, AllocError>
     ensures { IfOk result (λ copied. copied ≡ constants.now) }

@@ -111,7 +111,7 @@ fn copy_clause(alloc: Global, clause: &Clause) -> Result<Clause, AllocError>
     })
 }
 
-/// The same clauses in order.
+// The same clauses in order.
 #[cycle(expressions)]
 fn copy_clauses(alloc: Global, clauses: &Clauses) -> Result<Clauses, AllocError>
     ensures { IfOk result (λ copied. copied ≡ clauses.now) }
@@ -147,7 +147,7 @@ fn copy_catch(alloc: Global, caught: &Catch) -> Result<Catch, AllocError>
     })
 }
 
-/// The same expressions in order.
+// The same expressions in order.
 #[cycle(expressions)]
 fn copy_exprs(alloc: Global, exprs: &Exprs) -> Result<Exprs, AllocError>
     ensures { IfOk result (λ copied. copied ≡ exprs.now) }

@@ -10,7 +10,7 @@ use core_tree::{Attribute, Definition, FunctionName, Module, NamedFunction};
 use indexmap::IndexMap;
 use std::alloc::{AllocError, Global};
 
-/// The same exports in order.
+// The same exports in order.
 fn copy_exports(alloc: Global, exports: &[NamedFunction]) -> Result<Vec<NamedFunction>, AllocError>
     ensures { IfOk result (λ copied. copied.items ≡ exports.now) }
 {
@@ -30,7 +30,7 @@ fn copy_attribute(alloc: Global, attribute: &Attribute) -> Result<Attribute, All
     })
 }
 
-/// The same attributes in order.
+// The same attributes in order.
 fn copy_attributes(alloc: Global, attributes: &[Attribute]) -> Result<Vec<Attribute>, AllocError>
     ensures { IfOk result (λ copied. copied.items ≡ attributes.now) }
 {
@@ -51,7 +51,7 @@ fn copy_definition(alloc: Global, definition: &Definition) -> Result<Definition,
     })
 }
 
-/// The same definitions by the same names, in order.
+// The same definitions by the same names, in order.
 fn copy_definitions(
     alloc: Global,
     definitions: &IndexMap<FunctionName, Definition>,

@@ -6,7 +6,7 @@ use crate::names::{copy_atom, copy_characters, copy_variable};
 use core_tree::{Alias, OntoPattern, Pattern, Patterns};
 use std::alloc::{AllocError, Global};
 
-/// The same pattern.
+// The same pattern.
 #[cycle(patterns)]
 fn copy_pattern(alloc: Global, pattern: &Pattern) -> Result<Pattern, AllocError>
     ensures { IfOk result (λ copied. pattern_of copied ≡ pattern_of pattern.now) }

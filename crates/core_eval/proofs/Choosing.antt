@@ -7,7 +7,7 @@ use Rattle.core_tree.specs.inside.Sizes.{size_of, size_of_clause_list}
 use Rattle.term_core.specs.Meaning.{Meaning}
 use Rattle.core_eval.specs.declared.control.Control.{Control}
 use Rattle.core_stack.specs.Matching.{Environment, match_each}
-use Rattle.eval_rules.specs.Evaluation.{State, Outcome, Setting, evaluate, choose, guarded, no_clause, taken}
+use Rattle.core_semantics.specs.Evaluation.{State, Outcome, Setting, evaluate, choose, guarded, no_clause, taken}
 use Rattle.core_stack.specs.Holes.{Hole, scope}
 use Rattle.core_eval.specs.Filled.{through}
 use Rattle.core_eval.specs.inside.Steps.{going, load, work, GoesOn, Judges}

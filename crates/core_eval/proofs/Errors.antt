@@ -5,7 +5,7 @@ use Rattle.std.specs.declared.alloc.AllocError.{AllocError}
 use Rattle.term_core.specs.Meaning.{Meaning, Tuple, meanings_of, node_count}
 use Rattle.core_eval.specs.declared.control.Control.{Control}
 use Rattle.core_stack.specs.Matching.{Environment}
-use Rattle.eval_rules.specs.Evaluation.{State, Outcome, Setting, Yields, error, limited, limited_error, node_limit, one, class_in}
+use Rattle.core_semantics.specs.Evaluation.{State, Outcome, Setting, Yields, error, limited, limited_error, node_limit, one, class_in}
 use Rattle.core_stack.specs.Holes.{Hole}
 use Rattle.core_eval.specs.Filled.{filled, through}
 use Rattle.core_stack.specs.Holes as holes

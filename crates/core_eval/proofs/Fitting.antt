@@ -1,10 +1,10 @@
--- Clauses of a receive whose pattern a message matches or not.
+-- Clauses of a receive, by whether a message matches their pattern.
 use Rattle.std.proofs.Common.{◌≡◌, ◌∙◌, ◌≤◌, Bool, true, false, List, [], ◌∷◌, ◌++◌, ◌||◌, length, refl, ap, sym, arith}
 use Rattle.std.specs.Prelude.{Option, Some, None, is_some, codes}
 use Rattle.core_tree.specs.Syntax.{ClauseTree, Patterns, Pattern, Tree, clauses_of, patterns_of}
 use Rattle.core_tree.specs.Expression as trees
 use Rattle.term_core.specs.Meaning.{Meaning}
-use Rattle.eval_rules.specs.Evaluation.{Outcome, Setting, at_rest, evaluate, holds, is_taken, selects}
+use Rattle.core_semantics.specs.Evaluation.{Outcome, Setting, at_rest, evaluate, holds, is_taken, selects}
 use Rattle.core_stack.specs.Matching.{Environment, and_then, match, match_each}
 
 then_none : (o : Option Environment) → false ≡ is_some (and_then o (λ so_far. None))
@@ -35,7 +35,7 @@ pub unmatched_is_not : (o : Option Environment) (env : Environment) (guard : Env
 unmatched_is_not None env guard is = refl
 unmatched_is_not (Some bindings) env guard is = absurd (cc is)
 
--- the clauses of which this one is the first that is left
+-- the clauses, of which this one is the first that is left
 module _ (setting : Setting) (all left others : List ClauseTree) (d : ClauseTree) (env : Environment) (m : Meaning) (first : left ≡ d ∷ others) (same : selects setting (clauses_of left) env m ≡ selects setting (clauses_of all) env m) (taken : Bool) (is : taken ≡ is_taken (match_each (patterns_of d.patterns) (m ∷ []) []) env (λ inner. evaluate setting d.guard inner at_rest)) where
   whole : (taken || selects setting (clauses_of others) env m) ≡ selects setting (clauses_of all) env m
   whole = ap (λ (b : Bool). b || selects setting (clauses_of others) env m) is ∙ sym (ap (λ (ds : List ClauseTree). selects setting (clauses_of ds) env m) first) ∙ same

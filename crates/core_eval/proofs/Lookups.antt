@@ -6,7 +6,7 @@ use Rattle.core_tree.specs.Syntax.{Mention, Tree, Function}
 use Rattle.core_tree.specs.Functions.{same_function}
 use Rattle.core_tree.specs.Definitions.{definition_of}
 use Rattle.core_tree.specs.declared.module.Definition.{Definition}
-use Rattle.eval_rules.specs.Applications.{definition}
+use Rattle.core_semantics.specs.Applications.{definition}
 use Rattle.core_eval.specs.inside.Functions.{function_in}
 
 chosen : (b : Bool) (d : Definition) (r : Option Definition) (o : Option (List Mention × Tree)) → option_map function_in r ≡ o → option_map function_in (if b then Some d else r) ≡ (if b then Some (function_in d) else o)

@@ -4,14 +4,14 @@ use Rattle.std.proofs.lemmas.Bool.{lt-ltb, le-ltb}
 use Rattle.core_tree.specs.Syntax.{Function, ModuleTree}
 use Rattle.term_core.specs.Meaning.{Meaning}
 use Rattle.core_eval.specs.declared.control.Control.{Control}
-use Rattle.eval_rules.specs.Asked.{Asked, Runaway}
-use Rattle.eval_rules.specs.Ask.{request_of}
-use Rattle.eval_rules.specs.Evaluation.{State, Stops}
-use Rattle.eval_rules.specs.Applications.{definition, body_with, limit, counted, apply_of, setting_of}
+use Rattle.core_semantics.specs.Asked.{Asked, Runaway}
+use Rattle.core_semantics.specs.Ask.{request_of}
+use Rattle.core_semantics.specs.Evaluation.{State, Stops}
+use Rattle.core_semantics.specs.Applications.{definition, body_with, limit, counted, apply_of, setting_of}
 use Rattle.core_stack.specs.Holes.{Hole}
 use Rattle.core_eval.specs.Filled.{through}
 use Rattle.core_eval.specs.inside.Steps.{going, Begins}
-use Rattle.eval_rules.proofs.ApplyLaw.{apply_law}
+use Rattle.core_semantics.proofs.ApplyLaw.{apply_law}
 use Rattle.core_eval.proofs.Stops.{through-stops}
 
 module _ (m : ModuleTree) (own : List ℕ) (f : Function) (vs : List Meaning) (s : State) where

@@ -8,12 +8,12 @@ use Rattle.term_core.specs.Meaning.{Meaning}
 use Rattle.core_eval.specs.declared.control.Halt.TheVariants as halts
 use Rattle.core_eval.specs.declared.control.Pause.{Pause}
 use Rattle.core_eval.specs.declared.control.Pause.TheVariants as pauses
-use Rattle.eval_rules.specs.Applications.{setting_of}
-use Rattle.eval_rules.specs.Ask.{request_of}
-use Rattle.eval_rules.specs.Asked.{Asked, Call, Receive, Runaway}
+use Rattle.core_semantics.specs.Applications.{setting_of}
+use Rattle.core_semantics.specs.Ask.{request_of}
+use Rattle.core_semantics.specs.Asked.{Asked, Call, Receive, Runaway}
 use Rattle.core_eval.specs.Told.{Told, is_selected}
 use Rattle.core_eval.specs.Told as told
-use Rattle.eval_rules.specs.Evaluation.{before, Setting, Stops, at_rest, evaluate, holds, selects}
+use Rattle.core_semantics.specs.Evaluation.{before, Setting, Stops, at_rest, evaluate, holds, selects}
 use Rattle.core_stack.specs.Holes.{Hole, Wait, receive_on, scope}
 use Rattle.core_eval.specs.Filled.{standing, through, waiting}
 use Rattle.core_stack.specs.Holes as holes
@@ -39,7 +39,7 @@ judged_apart m own stack (pauses.Halt (halts.Wait waits)) = waits_apart (setting
 judged_apart m own stack (pauses.Application function arguments) =
     ap (λ got. holds (through (setting_of m own) stack got)) (runs_away m own function.now arguments at_rest (omega arith)) ∙ stopped (setting_of m own) stack Runaway
 
--- its variables hide none but those further out
+-- its variables hide only those further out
 pub apart : (setting : Setting) (empty outer both : List Hole) (guard : Tree) (bindings variables env : Environment) → empty ≡ [] → outer ≡ holes.Kept variables ∷ empty → both ≡ holes.Kept bindings ∷ outer → variables ≡ env
     → through setting both (evaluate setting guard (scope both) at_rest) ≡ evaluate setting guard (bindings ++ env) at_rest
 apart setting empty outer both guard bindings variables env none one two same =
@@ -74,7 +74,7 @@ takes setting stack (told.Call kind arguments) message = ap (λ got. is_selected
 takes setting stack (told.End reason) message = refl
 takes setting stack told.Runaway message = refl
 
--- what a machine answers that stands there
+-- what a machine at this place answers
 pub takes_as : (setting : Setting) (stack : List Hole) (request : Told) (message : Meaning) (o : Option (List ClauseTree)) → o ≡ stands_in stack request → taken_by setting (scope stack) o message ≡ is_selected (standing setting stack request []) message
 takes_as setting stack request message o e = ap (λ p. taken_by setting (scope stack) p message) e ∙ sym (takes setting stack request message)
 

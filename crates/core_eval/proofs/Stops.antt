@@ -2,16 +2,16 @@
 use Rattle.std.proofs.Common.{◌≡◌, Bool, List, [], ◌∷◌, refl, ap}
 use Rattle.std.specs.Prelude.{Option, Some, None}
 use Rattle.core_tree.specs.Syntax.{clauses_of}
-use Rattle.eval_rules.specs.Asked.{Asked}
-use Rattle.eval_rules.specs.Asked as asked
-use Rattle.eval_rules.specs.Ask.{request_of}
+use Rattle.core_semantics.specs.Asked.{Asked}
+use Rattle.core_semantics.specs.Asked as asked
+use Rattle.core_semantics.specs.Ask.{request_of}
 use Rattle.core_eval.specs.Told.{Told, Call, Receive, End, Runaway, told}
-use Rattle.eval_rules.specs.Evaluation.{State, before, Setting, Stops, selects}
+use Rattle.core_semantics.specs.Evaluation.{State, before, Setting, Stops, selects}
 use Rattle.core_stack.specs.Holes.{Hole, Wait, receive_on, scope}
 use Rattle.core_eval.specs.Filled.{waiting, through, standing}
 use Rattle.core_stack.specs.Holes as holes
 
--- nothing goes on behind a request that is not answered
+-- nothing goes on after a request that is not answered
 pub through-stops : (setting : Setting) (holes : List Hole) (request : Asked) → through setting holes (Stops request) ≡ Stops request
 through-stops setting [] request = refl
 through-stops setting (holes.Parts purpose done later ∷ holes) request = through-stops setting holes request
@@ -30,7 +30,7 @@ waiting-none : (setting : Setting) (o : Option Wait) (waits : Bool) → told (re
 waiting-none setting None waits = refl
 waiting-none setting (Some w) waits = ap (λ got. told (request_of got)) (through-stops setting w.below (asked.Receive waits (λ m. selects setting (clauses_of w.clauses) (scope w.below) m)))
 
--- with no further answer a machine asks the request that it stands at
+-- with no further answer a machine asks the request that it waits at
 pub standing-none : (setting : Setting) (holes : List Hole) (request : Told) → told (standing setting holes request []) ≡ request
 standing-none setting holes (Call kind arguments) = ap (λ got. told (request_of got)) (through-stops setting holes (asked.Call kind arguments))
 standing-none setting holes (Receive waits) = waiting-none setting (receive_on holes) waits

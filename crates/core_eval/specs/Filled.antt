@@ -7,12 +7,12 @@ use Rattle.core_stack.specs.Holes.{Hole, Parts, Tail, Body, Second, Clauses, Gua
 use Rattle.core_stack.specs.Matching.{Environment, bound}
 use Rattle.core_stack.specs.Purposes.{Purpose}
 use Rattle.core_stack.specs.Purposes as purposes
-use Rattle.eval_rules.specs.Asked.{Asked, Answered}
-use Rattle.eval_rules.specs.Asked as asked
+use Rattle.core_semantics.specs.Asked.{Asked, Answered}
+use Rattle.core_semantics.specs.Asked as asked
 use Rattle.core_eval.specs.Told.{Told}
 use Rattle.core_eval.specs.Told as told
-use Rattle.eval_rules.specs.Evaluation.{State, before, Outcome, Yields, Stops, Setting, then_do, handled, one, limited, called, caught, caught_values, called_with, within, guarded, waits_with, timed, evaluate, evaluate_all, choose, receive}
-use Rattle.eval_rules.specs.Ask.{request_of}
+use Rattle.core_semantics.specs.Evaluation.{State, before, Outcome, Yields, Stops, Setting, then_do, handled, one, limited, called, caught, caught_values, called_with, within, guarded, waits_with, timed, evaluate, evaluate_all, choose, receive}
+use Rattle.core_semantics.specs.Ask.{request_of}
 
 -- what the values become
 abbrev pub finish : Setting → Purpose → Environment → List Meaning → State → Outcome
@@ -49,7 +49,7 @@ abbrev pub waiting : Setting → Option Wait → Bool → State → Outcome
 waiting setting None waits s = Stops (asked.Receive waits (λ m. false))
 waiting setting (Some w) waits s = through setting w.below (receive setting waits (clauses_of w.clauses) w.action (scope w.below) s)
 
--- what a stack that stands at a request asks after these answers; an end and a runaway are for ever
+-- what a stack that waits at a request asks after these answers; an end and a runaway are final
 abbrev pub standing : Setting → List Hole → Told → List Answered → Asked
 standing setting holes (told.Call kind arguments) answers = request_of (through setting holes (called kind arguments (before answers)))
 standing setting holes (told.Receive waits) answers = request_of (waiting setting (receive_on holes) waits (before answers))

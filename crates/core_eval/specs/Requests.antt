@@ -4,10 +4,10 @@ use Rattle.core_eval.specs.declared.request.Request.{Request}
 use Rattle.core_eval.specs.declared.request.Request.TheVariants as requests
 use Rattle.core_eval.specs.declared.request.Answer.{Answer}
 use Rattle.core_eval.specs.declared.request.Answer.TheVariants as answers
-use Rattle.eval_rules.specs.Asked.{Answered, Value, Raise, Message, TimedOut}
+use Rattle.core_semantics.specs.Asked.{Answered, Value, Raise, Message, TimedOut}
 use Rattle.core_eval.specs.Told.{Told, Call, Receive, End, Runaway}
 
--- what a request tells, without where it lies in memory
+-- what a request says, without where it lies in memory
 abbrev pub told_by : Request → Told
 told_by (requests.Call kind arguments) = Call kind arguments.value
 told_by (requests.Receive waits) = Receive waits

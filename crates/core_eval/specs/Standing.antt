@@ -1,17 +1,17 @@
--- A machine as callers see it: where it stands, and what it asks after further answers.
+-- A machine as callers see it: where it is, and what it asks after further answers.
 use Rattle.std.specs.Prelude.{◌≡◌, ℕ, Bool, false, List, [], refl}
 use Rattle.std.specs.Coded.{Coded, code_by, coded×, coded_list, coded_ℕ, coded_bool}
 use Rattle.core_tree.specs.Syntax.{ModuleTree}
 use Rattle.core_tree.specs.inside.SyntaxCodes.{coded_module}
-use Rattle.eval_rules.specs.Applications.{setting_of}
-use Rattle.eval_rules.specs.Asked.{Asked, Answered}
+use Rattle.core_semantics.specs.Applications.{setting_of}
+use Rattle.core_semantics.specs.Asked.{Asked, Answered}
 use Rattle.core_eval.specs.Told.{Told}
 use Rattle.core_stack.specs.Holes.{Hole}
 use Rattle.core_eval.specs.Filled.{standing}
 use Rattle.core_stack.specs.inside.HoleCodes.{coded_hole}
 use Rattle.core_eval.specs.inside.ToldCodes.{coded_told}
 
--- the module and the pid of the process, what is still to do, the request that is not answered yet, and whether memory was wanting once
+-- the module and the pid of the process, what is still to do, the request that is not answered yet, and whether memory ran out once
 pub record Standing : Type 0 where
   pub program : ModuleTree
   pub own : List ℕ
@@ -28,11 +28,11 @@ coded_standing = code_by ((ModuleTree × List ℕ) × (List Hole × (Told × Boo
 abbrev pub after : Standing → List Answered → Asked
 after m answers = standing (setting_of m.program m.own) m.holes m.told answers
 
--- the request that a machine stands at
+-- the request that a machine waits at
 abbrev pub stands_at : Standing → Asked
 stands_at m = after m []
 
--- whether a machine wanted memory once, and answers nothing more
+-- whether a machine ran out of memory once, and answers nothing more
 abbrev pub is_spent : Standing → Bool
 is_spent m = m.spent
 

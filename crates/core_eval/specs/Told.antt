@@ -1,9 +1,9 @@
--- What a request tells by itself, and which messages it takes.
+-- What a request says by itself, and which messages it takes.
 use Rattle.std.specs.Prelude.{Bool, false, List}
 use Rattle.core_calls.specs.declared.call.CallKind.{CallKind}
 use Rattle.term_core.specs.Meaning.{Meaning}
-use Rattle.eval_rules.specs.Asked.{Asked}
-use Rattle.eval_rules.specs.Asked as asked
+use Rattle.core_semantics.specs.Asked.{Asked}
+use Rattle.core_semantics.specs.Asked as asked
 
 -- a request without which messages a receive takes
 pub data Told : Type 0 where
@@ -12,7 +12,7 @@ pub data Told : Type 0 where
   End : (reason : Meaning) → Told
   Runaway : Told
 
--- what a request tells
+-- what a request says
 abbrev pub told : Asked → Told
 told (asked.Call kind arguments) = Call kind arguments
 told (asked.Receive waits selects) = Receive waits

@@ -3,18 +3,18 @@ ghost use Rattle.std.specs.Prelude.{◌≡◌, ◌≤◌, ◌++◌, ◌∷◌, [
 ghost use Rattle.term_core.specs.Meaning.{Tuple, meanings_of};
 ghost use Rattle.term_core.specs.Term.{meaning_of};
 ghost use Rattle.term_core.specs.Words.{text_of_word};
-ghost use Rattle.eval_rules.specs.Evaluation.{error, limited, limited_error};
+ghost use Rattle.core_semantics.specs.Evaluation.{error, limited, limited_error};
 ghost use Rattle.core_eval.specs.inside.Steps.{Means, load};
 
 use crate::control::Control;
-use pure_calls::Class;
+use core_pure_calls::Class;
 use std::alloc::{AllocError, Global};
 use term_core::{Term, Terms, Word};
 
 /// The most nodes of a term that is built in evaluation.
 const NODE_LIMIT: u64 = 10_000;
 
-/// An error whose reason is this atom.
+/// An error with this atom as its reason.
 pub(crate) fn error<'m>(word: Word) -> Control<'m>
     ensures same { Means result (error (text_of_word word)) }
     ensures less { load result ≡ 0 }

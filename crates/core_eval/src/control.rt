@@ -1,6 +1,6 @@
 // What is on top of the stack of a machine that runs, and where it pauses.
+use core_pure_calls::Class;
 use core_tree::{CallKind, Expr, FunctionName, PureCall};
-use pure_calls::Class;
 use term_core::{Term, Terms};
 
 /// What is to be done next.
@@ -37,7 +37,7 @@ pub(crate) enum Halt {
     Wait(bool),
 }
 
-/// Where the evaluation of a body comes to by itself.
+/// What the evaluation of a body reaches by itself.
 #[derive(Drop)]
 pub(crate) enum Pause<'m> {
     /// It stops here.

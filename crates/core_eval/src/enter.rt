@@ -5,7 +5,7 @@ ghost use Rattle.core_tree.specs.Expression as trees;
 ghost use Rattle.core_tree.specs.Callee as callees;
 ghost use Rattle.core_tree.specs.Tree.{callee_of, tree_of};
 ghost use Rattle.term_core.specs.Term.{meaning_of};
-ghost use Rattle.eval_rules.specs.Evaluation.{called_with, limited, value_or_error};
+ghost use Rattle.core_semantics.specs.Evaluation.{called_with, limited, value_or_error};
 ghost use Rattle.core_stack.specs.Matching.{lookup, text_of};
 ghost use Rattle.core_stack.specs.inside.Frames.{purpose_of};
 ghost use Rattle.core_stack.specs.Holes.{scope};
@@ -14,9 +14,9 @@ ghost use Rattle.core_eval.specs.inside.Steps.{GoesOn, Means, MeansIn, Enters, G
 use crate::build::{error, limited};
 use crate::control::Control;
 use crate::exception::{match_reason, raise_again};
+use core_pure_calls::Class;
 use core_stack::{Frame, Purpose, Stack};
 use core_tree::{Call, Callee, Case, Catch, Do, Expr, Let, Onto, Receive, Try, Variable};
-use pure_calls::Class;
 use std::alloc::{AllocError, Global};
 use term_core::{Term, Terms, Word, list_onto};
 
@@ -48,7 +48,7 @@ pub(crate) fn enter<'m>(
     }
 }
 
-/// Into the first of several expressions.
+// Into the first of several expressions.
 fn enter_parts<'m>(
     alloc: Global,
     stack: &mut Stack<'m>,
@@ -62,7 +62,7 @@ fn enter_parts<'m>(
     gather(alloc, stack, purpose, Terms::from_vec(room), parts)
 }
 
-/// The value of a variable.
+// The value of a variable.
 fn value_of<'m>(stack: &mut Stack<'m>, variable: &'m Variable) -> Result<Control<'m>, AllocError>
     ensures { IfOk result (λ next.
         GoesOn stack.old stack.new next (λ setting s. value_or_error (lookup variable.now.name (scope stack.old)) s) 3) }
@@ -73,7 +73,7 @@ fn value_of<'m>(stack: &mut Stack<'m>, variable: &'m Variable) -> Result<Control
     }
 }
 
-/// Into the first items of a list that goes on.
+// Into the first items of a list that goes on.
 fn enter_onto<'m>(
     alloc: Global,
     stack: &mut Stack<'m>,
@@ -89,7 +89,7 @@ fn enter_onto<'m>(
     )
 }
 
-/// Into the value of a `let`.
+// Into the value of a `let`.
 fn enter_let<'m>(stack: &mut Stack<'m>, inner: &'m Let) -> Result<Control<'m>, AllocError>
     ensures { IfOk result (λ next. Enters stack.old stack.new next (trees.Let inner.now.0 inner.now.1 inner.now.2)) }
 {
@@ -97,7 +97,7 @@ fn enter_let<'m>(stack: &mut Stack<'m>, inner: &'m Let) -> Result<Control<'m>, A
     Ok(Control::Evaluate(&inner.value))
 }
 
-/// Into the first expression of a `do`.
+// Into the first expression of a `do`.
 fn enter_do<'m>(stack: &mut Stack<'m>, both: &'m Do) -> Result<Control<'m>, AllocError>
     ensures { IfOk result (λ next. Enters stack.old stack.new next (trees.Do both.now.0 both.now.1)) }
 {
@@ -105,7 +105,7 @@ fn enter_do<'m>(stack: &mut Stack<'m>, both: &'m Do) -> Result<Control<'m>, Allo
     Ok(Control::Evaluate(&both.first))
 }
 
-/// Into the expression whose values the clauses of a `case` match.
+// Into the expression whose values the clauses of a `case` match.
 fn enter_case<'m>(stack: &mut Stack<'m>, case: &'m Case) -> Result<Control<'m>, AllocError>
     ensures { IfOk result (λ next. Enters stack.old stack.new next (trees.Case case.now.0 case.now.1 (clauses_of case.now.2))) }
 {
@@ -113,7 +113,7 @@ fn enter_case<'m>(stack: &mut Stack<'m>, case: &'m Case) -> Result<Control<'m>, 
     Ok(Control::Evaluate(&case.value))
 }
 
-/// Into the timeout of a receive.
+// Into the timeout of a receive.
 fn enter_receive<'m>(stack: &mut Stack<'m>, receive: &'m Receive) -> Result<Control<'m>, AllocError>
     ensures { IfOk result (λ next.
         Enters stack.old stack.new next (trees.Receive receive.now.0 (clauses_of receive.now.1) receive.now.2 receive.now.3)) }
@@ -122,7 +122,7 @@ fn enter_receive<'m>(stack: &mut Stack<'m>, receive: &'m Receive) -> Result<Cont
     Ok(Control::Evaluate(&receive.timeout))
 }
 
-/// Into the expression that a `try` protects.
+// Into the expression that a `try` protects.
 fn enter_try<'m>(stack: &mut Stack<'m>, protected: &'m Try) -> Result<Control<'m>, AllocError>
     ensures { IfOk result (λ next.
         Enters stack.old stack.new next (trees.Try protected.now.0 protected.now.1 protected.now.2 protected.now.3 protected.now.4 protected.now.5)) }
@@ -131,7 +131,7 @@ fn enter_try<'m>(stack: &mut Stack<'m>, protected: &'m Try) -> Result<Control<'m
     Ok(Control::Evaluate(&protected.value))
 }
 
-/// Into the expression that a `catch` protects.
+// Into the expression that a `catch` protects.
 fn enter_catch<'m>(stack: &mut Stack<'m>, protected: &'m Catch) -> Result<Control<'m>, AllocError>
     ensures { IfOk result (λ next. Enters stack.old stack.new next (trees.Catch protected.now.0 protected.now.1)) }
 {
@@ -139,7 +139,7 @@ fn enter_catch<'m>(stack: &mut Stack<'m>, protected: &'m Catch) -> Result<Contro
     Ok(Control::Evaluate(&protected.value))
 }
 
-/// The list of the numbers of a string's characters.
+// The list of the numbers of a string's characters.
 fn text<'m>(alloc: Global, characters: &[char]) -> Result<Control<'m>, AllocError>
     ensures same { IfOk result (λ next. Means next (limited (text_of characters.now))) }
     ensures less { IfOk result (λ next. load next ≤ 2) }
@@ -151,7 +151,7 @@ fn text<'m>(alloc: Global, characters: &[char]) -> Result<Control<'m>, AllocErro
     Ok(limited(list_onto(alloc, numbers, Term::Nil)?))
 }
 
-/// Into the arguments of what is called.
+// Into the arguments of what is called.
 fn enter_call<'m>(
     alloc: Global,
     stack: &mut Stack<'m>,
@@ -180,7 +180,7 @@ pub(crate) fn gather<'m>(
     enter_next(alloc, stack, purpose, done, left)
 }
 
-/// Adds the values of the first expressions that are simple, and gives the others.
+// Adds the values of the first expressions that are simple, and gives the others.
 fn take_simple<'m>(
     stack: &Stack<'m>,
     done: &mut Terms,
@@ -199,7 +199,7 @@ fn take_simple<'m>(
     Ok(left)
 }
 
-/// The value of a number, an atom, or a variable that is bound.
+// The value of a number, an atom, or a variable that is bound.
 fn simple_value(stack: &Stack<'_>, expression: &Expr) -> Result<Option<Term>, AllocError>
     ensures { IfOk result (λ found. IfSome found (λ value. IsValueOf (scope stack.now) (tree_of expression.now) (meaning_of value))) }
 {
@@ -215,7 +215,7 @@ fn simple_value(stack: &Stack<'_>, expression: &Expr) -> Result<Option<Term>, Al
     }
 }
 
-/// Into the next of several expressions, or to what their values are for.
+// Into the next of several expressions, or to what their values are for.
 fn enter_next<'m>(
     alloc: Global,
     stack: &mut Stack<'m>,
@@ -235,7 +235,7 @@ fn enter_next<'m>(
     }
 }
 
-/// To what several values are for.
+// To what several values are for.
 fn complete<'m>(
     alloc: Global,
     stack: &mut Stack<'m>,
@@ -257,7 +257,7 @@ fn complete<'m>(
     }
 }
 
-/// What is called, applied to its arguments.
+// What is called, applied to its arguments.
 fn dispatch<'m>(callee: &'m Callee, arguments: Terms) -> Control<'m>
     ensures same { MeansIn result (λ setting s. called_with setting (callee_of callee.now) arguments s) }
     ensures less { load result ≤ 3 }
@@ -272,7 +272,7 @@ fn dispatch<'m>(callee: &'m Callee, arguments: Terms) -> Control<'m>
     }
 }
 
-/// `primop 'match_fail'`: the error that its one argument reports.
+// `primop 'match_fail'`: the error that its one argument reports.
 fn fail_match<'m>(arguments: Terms) -> Control<'m>
     ensures same { MeansIn result (λ setting s. called_with setting callees.MatchFail arguments s) }
     ensures less { load result ≤ 2 }
@@ -284,7 +284,7 @@ fn fail_match<'m>(arguments: Terms) -> Control<'m>
     }
 }
 
-/// `primop 'raise'`: the exception that its two arguments tell, the trace and the reason.
+// `primop 'raise'`: the exception given by its two arguments, the trace and the reason.
 fn raise<'m>(arguments: Terms) -> Control<'m>
     ensures same { MeansIn result (λ setting s. called_with setting callees.Raise arguments s) }
     ensures less { load result ≤ 2 }

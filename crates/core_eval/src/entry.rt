@@ -1,7 +1,7 @@
 // Where a process begins, and what it applies.
 ghost use Rattle.std.specs.Prelude.{◌≡◌, true, false, IfOk, OnOk, option_map, option_copied};
-ghost use Rattle.eval_rules.specs.Applications.{definition};
-ghost use Rattle.eval_rules.specs.Ask.{entry, first_function, is_exported};
+ghost use Rattle.core_semantics.specs.Applications.{definition};
+ghost use Rattle.core_semantics.specs.Ask.{entry, first_function, is_exported};
 ghost use Rattle.core_eval.specs.inside.Functions.{function_in};
 ghost use Rattle.core_eval.specs.inside.Steps.{Begins, IsBared, keeps_once};
 ghost use Rattle.core_stack.specs.Holes.{keeps_on_top};
@@ -13,8 +13,8 @@ use core_tree::{Definition, FunctionName, Module, NamedFunction};
 use std::alloc::{AllocError, Global};
 use term_core::{Atom, Pid, Terms, Word};
 
-/// The definition of the function that a process begins with: in this module, and but for the first
-/// process one that it exports.
+/// The definition of the function that a process begins with: in this module, and one that it exports, except for the
+/// first process.
 pub(crate) fn first_definition<'m>(
     program: &'m Module,
     pid: &Pid,
@@ -42,14 +42,14 @@ pub(crate) fn first_definition<'m>(
     }
 }
 
-/// Whether a function stands among the exports.
+// Whether a function is among the exports.
 fn is_exported(exports: &[NamedFunction], function: &FunctionName) -> bool
     ensures { result ≡ is_exported function.now exports.now }
 {
     exports.iter().any(|export| *function == export.function)
 }
 
-/// The definition of a function.
+// The definition of a function.
 fn definition_of<'m>(program: &'m Module, function: &FunctionName) -> Option<&'m Definition>
     ensures { option_map function_in (option_copied result) ≡ definition function.now program.now.definitions }
 {
@@ -80,8 +80,8 @@ pub(crate) fn begin<'m>(
     }
 }
 
-/// Pops the scope frames on top: a function body does not see its caller's variables. `AllocError` as
-/// `Stack::pop`.
+// Pops the scope frames on top: a function body does not see its caller's variables. `AllocError` as
+// `Stack::pop`.
 fn bare(alloc: Global, stack: &mut Stack<'_>) -> Result<(), AllocError>
     ensures { OnOk result (IsBared stack.old stack.new) }
 {

@@ -1,18 +1,17 @@
-// Exceptions (Erlang reference manual, "Errors and Error Handling"): their classes, and the terms that tell
-// of them.
+// Exceptions (Erlang reference manual, "Errors and Error Handling"): their classes, and the terms that report them.
 ghost use Rattle.std.specs.Prelude.{◌≡◌, ◌≤◌, IfOk};
 ghost use Rattle.term_core.specs.Term.{meaning_of};
-ghost use Rattle.eval_rules.specs.Ask.{reason_of};
-ghost use Rattle.eval_rules.specs.Evaluation.{begins_with, caught, caught_values, class_in, class_name, class_named, match_reason, raised_again, trace_of};
+ghost use Rattle.core_semantics.specs.Ask.{reason_of};
+ghost use Rattle.core_semantics.specs.Evaluation.{begins_with, caught, caught_values, class_in, class_name, class_named, match_reason, raised_again, trace_of};
 ghost use Rattle.core_eval.specs.inside.Steps.{Means, load};
 
 use crate::build::{error, limited, pair};
 use crate::control::Control;
-use pure_calls::Class;
+use core_pure_calls::Class;
 use std::alloc::{AllocError, Global};
 use term_core::{Term, Terms, Word};
 
-/// Whether the value is a tuple that begins with the atom of this text.
+// Whether the value is a tuple that begins with the atom of this text.
 fn begins_with(value: &Term, text: &str) -> bool
     ensures { result ≡ begins_with text.now (meaning_of value.now) }
 {
@@ -25,7 +24,7 @@ fn begins_with(value: &Term, text: &str) -> bool
     }
 }
 
-/// The atom of a class.
+// The atom of a class.
 fn class_name(class: Class) -> Term
     ensures { meaning_of result ≡ class_name class }
 {
@@ -36,7 +35,7 @@ fn class_name(class: Class) -> Term
     }
 }
 
-/// The class of this name.
+// The class of this name.
 fn class_named(name: &Term) -> Option<Class>
     ensures { result ≡ class_named (meaning_of name.now) }
 {
@@ -51,14 +50,14 @@ fn class_named(name: &Term) -> Option<Class>
     }
 }
 
-/// The trace of an exception, which reports its class.
+// The trace of an exception, which reports its class.
 fn trace_of(alloc: Global, class: Class) -> Result<Term, AllocError>
     ensures { IfOk result (λ trace. meaning_of trace ≡ trace_of class) }
 {
     pair(alloc, Term::word(Word::TraceTag), class_name(class))
 }
 
-/// The class that a trace reports.
+// The class that a trace reports.
 fn class_in(trace: &Term) -> Option<Class>
     ensures { result ≡ class_in (meaning_of trace.now) }
 {

@@ -6,7 +6,7 @@ ghost use Rattle.core_tree.specs.Syntax.{clauses_of};
 ghost use Rattle.core_tree.specs.inside.Sizes.{size_of_clause_list};
 ghost use Rattle.core_tree.specs.Tree.{tree_of};
 ghost use Rattle.term_core.specs.Term.{meaning_of};
-ghost use Rattle.eval_rules.specs.Evaluation.{Raises, Yields, as_one, choose, no_clause};
+ghost use Rattle.core_semantics.specs.Evaluation.{Raises, Yields, as_one, choose, no_clause};
 ghost use Rattle.core_stack.specs.inside.Frames.{hole_of};
 ghost use Rattle.core_stack.specs.Holes.{scope};
 ghost use Rattle.core_eval.specs.Filled.{filled};
@@ -17,9 +17,9 @@ use crate::control::Control;
 use crate::enter::gather;
 use crate::exception::{caught, caught_values};
 use crate::receiving::wait;
+use core_pure_calls::Class;
 use core_stack::{Bindings, Frame, Stack, matches_each};
 use core_tree::{Clause, Expr, Try, Variable};
-use pure_calls::Class;
 use std::alloc::{AllocError, Global};
 use term_core::{Term, Terms, Word, list_onto};
 
@@ -58,7 +58,7 @@ pub(crate) fn leave<'m>(
     }
 }
 
-/// Out of an expression with its values, of which there may be any number.
+/// Out of an expression with its values; there may be any number of them.
 pub(crate) fn leave_with<'m>(
     alloc: Global,
     stack: &mut Stack<'m>,
@@ -79,7 +79,7 @@ pub(crate) fn leave_with<'m>(
     leave(alloc, stack, frame, value)
 }
 
-/// Out of an expression with no value or with more than one.
+// Out of an expression with no value or with more than one.
 fn leave_several<'m>(
     alloc: Global,
     stack: &mut Stack<'m>,
@@ -132,7 +132,7 @@ pub(crate) fn leave_raised<'m>(
     }
 }
 
-/// Into the body of a `try` with the values that it protected; what the body raises is not handled there.
+// Into the body of a `try` with the values that it protected; what the body raises is not handled there.
 fn enter_body<'m>(
     alloc: Global,
     stack: &mut Stack<'m>,
@@ -168,7 +168,7 @@ pub(crate) fn choose<'m>(
     no_clause(alloc, values)
 }
 
-/// Into the guard of a clause that the values match, or where that is `'true'` into its body.
+// Into the guard of a clause that the values match, or where that is `'true'` into its body.
 fn judge<'m>(
     stack: &mut Stack<'m>,
     bindings: Bindings<'m>,
@@ -196,7 +196,7 @@ pub(crate) fn is_true(expression: &Expr) -> bool
     }
 }
 
-/// The error that no clause is taken: its reason reports the values.
+// The error that no clause is taken: its reason reports the values.
 fn no_clause<'m>(alloc: Global, values: Terms) -> Result<Control<'m>, AllocError>
     ensures same { IfOk result (λ next. Means next (no_clause values)) }
     ensures less { IfOk result (λ next. load next ≡ 0) }
@@ -206,7 +206,7 @@ fn no_clause<'m>(alloc: Global, values: Terms) -> Result<Control<'m>, AllocError
     Ok(limited_error(reason))
 }
 
-/// Several values as one: what is one already, else the tuple of them.
+// Several values as one: what is one already, else the tuple of them.
 fn as_one(alloc: Global, values: Terms) -> Result<Term, AllocError>
     ensures { IfOk result (λ whole. meaning_of whole ≡ as_one values) }
 {
@@ -219,7 +219,7 @@ fn as_one(alloc: Global, values: Terms) -> Result<Term, AllocError>
     Ok(value)
 }
 
-/// Into a body with these values as its variables; another number of values than variables is an error.
+// Into a body with these values as its variables; another number of values than variables is an error.
 fn bind<'m>(
     alloc: Global,
     stack: &mut Stack<'m>,
@@ -238,7 +238,7 @@ fn bind<'m>(
     }
 }
 
-/// Into a body with this one value, as `bind`: for one variable it makes no list of values.
+// Into a body with this one value, as `bind`: for one variable it makes no list of values.
 fn bind_one<'m>(
     alloc: Global,
     stack: &mut Stack<'m>,

@@ -1,7 +1,7 @@
 // The machine of one process.
 ghost use Rattle.std.specs.Prelude.{◌≡◌, ◌∷◌, true, false, List, IfOk, OnOk, OnErr, IsErr, option_map};
-ghost use Rattle.eval_rules.specs.Ask.{ask, entry};
-ghost use Rattle.eval_rules.specs.Asked.{Answered};
+ghost use Rattle.core_semantics.specs.Ask.{ask, entry};
+ghost use Rattle.core_semantics.specs.Asked.{Answered};
 ghost use Rattle.core_eval.specs.Requests.{told_by, answered_of};
 ghost use Rattle.core_eval.specs.Standing.{StandsAt, after, is_spent, stands_at};
 ghost use Rattle.core_eval.specs.Told.{is_selected, told};
@@ -19,8 +19,8 @@ use std::alloc::{AllocError, Global};
 use std::marker::Model;
 use term_core::{Atom, Pid, Term, Terms};
 
-/// A process of a module, which stands at a request. Contracts see where it stands: `after` of it
-/// says what it asks after any further answers, and `is_spent` whether memory was wanting in `resume`.
+/// A process of a module, which waits at a request. Contracts see where it waits: `after` of it says what it asks after
+/// any further answers, and `is_spent` whether memory ran out in `resume`.
 pub struct Machine<'m> {
     program: &'m Module,
     pid: Pid,
@@ -60,12 +60,11 @@ impl<'m> Model for Machine<'m> {
     } };
 }
 
-/// The process `pid` of the module, run to its first request: it begins with the function
-/// `function_name` of the module `module_name`, applied to the arguments (the dynamic semantics of
-/// Core Erlang 1.0.3; the Erlang manual, `erlang:spawn/3`). Where these name no function that the
-/// module exports, it stands at the end `{'undef',[]}`; the first process may begin with any function
-/// of the module, and is to begin with `main/0`. The arguments and the pid are taken over; the machine
-/// holds on to the module. `AllocError` if there is no memory for it.
+/// The process `pid` of the module, run to its first request: it begins with the function `function_name` of the module
+/// `module_name`, applied to the arguments (the dynamic semantics of Core Erlang 1.0.3; the Erlang manual,
+/// `erlang:spawn/3`). Where these name no function that the module exports, it is at the end `{'undef',[]}`; the first
+/// process may begin with any function of the module, and is to begin with `main/0`. The arguments and the pid are
+/// taken over; the machine holds on to the module. `AllocError` if there is no memory for it.
 pub fn start<'m>(
     alloc: Global,
     program: &'m Module,
@@ -92,17 +91,17 @@ pub fn start<'m>(
 }
 
 impl<'m> Machine<'m> {
-    /// The request that it stands at. It takes no memory. On a spent machine this
-    /// is the last request, whose answer was lost.
+    /// The request that it waits at. It takes no memory. On a spent machine this is the last request, whose answer was
+    /// lost.
     pub fn request(&self) -> &Request
         ensures { told_by result.now ≡ told (stands_at self.now) }
     {
         &self.request
     }
 
-    /// Runs on with an answer to the next request or the end. An answer that does not fit the request
-    /// changes nothing, nor does any answer at an end. `AllocError` if there is no memory for it, and then the
-    /// machine is spent: from then on `resume` and `copy` answer `AllocError`.
+    /// Runs on with an answer to the next request or the end. An answer that does not fit the request changes nothing,
+    /// and neither does any answer at an end. `AllocError` if there is no memory for it, and then the machine is spent:
+    /// from then on `resume` and `copy` answer `AllocError`.
     pub fn resume(&mut self, alloc: Global, answer: Answer) -> Result<(), AllocError>
         ensures goes_on { OnOk result ((later : List Answered) →
             after self.new later ≡ after self.old (answered_of answer ∷ later)) }
@@ -144,7 +143,7 @@ impl<'m> Machine<'m> {
         }
     }
 
-    /// The receive that it stands at.
+    // The receive that it waits at.
     fn receive(&self) -> Option<&'m Receive>
         ensures { option_map (λ receive. receive.now.1) result ≡ stands_in self.now.holes self.now.told }
     {

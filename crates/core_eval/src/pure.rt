@@ -1,13 +1,13 @@
 // The calls that a process answers by itself.
 ghost use Rattle.std.specs.Prelude.{◌≤◌, IfOk};
-ghost use Rattle.pure_calls.specs.Calls.{answer_of};
-ghost use Rattle.eval_rules.specs.Evaluation.{limited_answer};
+ghost use Rattle.core_pure_calls.specs.Calls.{answer_of};
+ghost use Rattle.core_semantics.specs.Evaluation.{limited_answer};
 ghost use Rattle.core_eval.specs.inside.Steps.{Means, load};
 
 use crate::build::limited;
 use crate::control::Control;
+use core_pure_calls::{Outcome, answer};
 use core_tree::PureCall;
-use pure_calls::{Outcome, answer};
 use std::alloc::{AllocError, Global};
 use term_core::{Pid, Terms};
 

@@ -1,30 +1,28 @@
 // Receiving (Core Erlang 1.0.3, "Receive"): from its timeout to the request, and from the answer on.
 ghost use Rattle.std.specs.Prelude.{◌≡◌, List, IfOk};
 ghost use Rattle.core_calls.specs.declared.call.CallKind.{CallKind};
-ghost use Rattle.core_tree.specs.Syntax.{clauses_of};
 ghost use Rattle.term_core.specs.Meaning.{Meaning};
 ghost use Rattle.term_core.specs.Term.{meaning_of};
-ghost use Rattle.eval_rules.specs.Evaluation as evaluation;
-ghost use Rattle.eval_rules.specs.Evaluation.{timed, waits_with};
-ghost use Rattle.core_stack.specs.Holes.{Hole, scope};
+ghost use Rattle.core_semantics.specs.Evaluation.{waits_with};
+ghost use Rattle.core_stack.specs.Holes.{Hole};
 ghost use Rattle.core_eval.specs.Requests.{answered_of, told_by};
 ghost use Rattle.core_eval.specs.Told as told;
-ghost use Rattle.core_eval.specs.inside.Steps.{Answers, GoesOn};
+ghost use Rattle.core_eval.specs.inside.Steps.{Answers, EntersReceive};
 
 use crate::build::{error, single};
 use crate::control::Control;
 use crate::leave::choose;
 use crate::request::{Answer, Request};
+use core_pure_calls::Class;
 use core_stack::{Frame, Stack};
 use core_tree::Receive;
-use pure_calls::Class;
 use std::alloc::{AllocError, Global};
 use term_core::{Term, Word};
 
 /// The longest timeout, in milliseconds.
 const LONGEST_TIMEOUT: i64 = 4_294_967_295;
 
-/// Whether a receive with this timeout waits for ever; none where it is no timeout.
+// Whether a receive with this timeout waits for ever; none where it is no timeout.
 fn waits_with(timeout: &Term) -> Option<bool>
     ensures { result ≡ waits_with (meaning_of timeout.now) }
 {
@@ -46,16 +44,13 @@ fn waits_with(timeout: &Term) -> Option<bool>
     }
 }
 
-/// To the request of a receive with this timeout, or to the error that it is none.
+/// To the request of a receive with this timeout, or to the error that this is no timeout.
 pub(crate) fn wait<'m>(
     stack: &mut Stack<'m>,
     receive: &'m Receive,
     timeout: &Term,
 ) -> Result<Control<'m>, AllocError>
-    ensures { IfOk result (λ next.
-        GoesOn stack.old stack.new next
-        (λ setting s. timed (waits_with (meaning_of timeout.now)) (λ waits s'. evaluation.receive setting waits (clauses_of receive.now.1) receive.now.3 (scope stack.old) s') s)
-        3) }
+    ensures { IfOk result (λ next. EntersReceive stack.old stack.new next (meaning_of timeout.now) receive.now.1 receive.now.3) }
 {
     match waits_with(timeout) {
         Some(waits) => {
@@ -66,8 +61,8 @@ pub(crate) fn wait<'m>(
     }
 }
 
-/// What a process goes on with that stands at a request and is answered, or none where the answer does not
-/// fit; then the stack stays as it is. `AllocError` if there is no memory for it, and then the stack is lost.
+/// What a process that waits at a request goes on with when it is answered, or none where the answer does not fit; then
+/// the stack stays as it is. `AllocError` if there is no memory for it, and then the stack is lost.
 pub(crate) fn take<'m>(
     alloc: Global,
     stack: &mut Stack<'m>,
@@ -83,7 +78,7 @@ pub(crate) fn take<'m>(
     }
 }
 
-/// What goes on behind a call.
+// What goes on after a call.
 fn take_reply<'m>(answer: Answer) -> Option<Control<'m>>
     ensures { (kind : CallKind) (arguments : List Meaning) (holes : List Hole) → Answers holes holes (told.Call kind arguments) (answered_of answer) result }
 {
@@ -94,7 +89,7 @@ fn take_reply<'m>(answer: Answer) -> Option<Control<'m>>
     }
 }
 
-/// What goes on behind the receive on top of the stack.
+// What goes on after the receive on top of the stack.
 fn take_message<'m>(
     alloc: Global,
     stack: &mut Stack<'m>,

@@ -12,8 +12,7 @@ use term_core::{Term, Terms};
 pub enum Request {
     /// A call of a process or of a table, with its arguments, as many as the call has.
     Call(CallKind, Arc<Terms>),
-    /// A receive; it waits for ever where its timeout is `'infinity'`. Which messages it takes is told by
-    /// `Machine::selects`.
+    /// A receive; it waits for ever where its timeout is `'infinity'`. `Machine::selects` says which messages it takes.
     Receive { waits: bool },
     /// The process has ended, with this reason.
     End(Term),

@@ -1,13 +1,12 @@
 // The run of a machine to its next request.
 ghost use Rattle.std.specs.Prelude.{◌≡◌, List, IfOk};
-ghost use Rattle.eval_rules.specs.Applications.{setting_of};
-ghost use Rattle.eval_rules.specs.Asked.{Answered};
-ghost use Rattle.eval_rules.specs.Ask.{request_of};
-ghost use Rattle.eval_rules.specs.Evaluation.{Setting, State, before};
+ghost use Rattle.core_semantics.specs.Applications.{setting_of};
+ghost use Rattle.core_semantics.specs.Ask.{request_of};
+ghost use Rattle.core_semantics.specs.Evaluation.{Setting, State};
 ghost use Rattle.core_stack.specs.Holes.{Hole};
 ghost use Rattle.core_eval.specs.Filled.{standing};
 ghost use Rattle.core_eval.specs.Requests.{told_by};
-ghost use Rattle.core_eval.specs.inside.Steps.{going, halted, paused};
+ghost use Rattle.core_eval.specs.inside.Steps.{AsksNext, going, halted, paused};
 
 use crate::build::single;
 use crate::control::{Control, Halt, Pause};
@@ -35,9 +34,7 @@ pub(crate) fn run<'m>(
     stack: &mut Stack<'m>,
     control: Control<'m>,
 ) -> Result<Request, AllocError>
-    ensures { IfOk result (λ request. (answers : List Answered) →
-        standing (setting_of program.now own.now) stack.new (told_by request) answers
-        ≡ request_of (going (setting_of program.now own.now) stack.old control.entry (before answers))) }
+    ensures { IfOk result (λ request. AsksNext (setting_of program.now own.now) stack.old control.entry stack.new (told_by request)) }
 {
     let mut control = control;
     'applications: for _made in 0..APPLICATION_LIMIT {
@@ -54,7 +51,7 @@ pub(crate) fn run<'m>(
     }
 }
 
-/// The request of a process whose evaluation stops there: one that gives values ends normally.
+// The request of a process whose evaluation stops there: one that gives values ends normally.
 fn request_at(alloc: Global, halt: Halt) -> Result<Request, AllocError>
     ensures { IfOk result (λ request. (setting : Setting) (holes : List Hole) (s : State) →
         standing setting holes (told_by request) s.answers ≡ request_of (halted setting holes halt s)) }

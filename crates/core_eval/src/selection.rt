@@ -3,11 +3,11 @@ ghost use Rattle.std.specs.Prelude.{◌≡◌, ◌++◌, ◌∷◌, [], IfOk, is
 ghost use Rattle.core_tree.specs.Syntax.{ModuleTree, clauses_of, patterns_of};
 ghost use Rattle.core_tree.specs.Tree.{tree_of};
 ghost use Rattle.term_core.specs.Term.{meaning_of};
-ghost use Rattle.eval_rules.specs.Applications.{setting_of};
-ghost use Rattle.eval_rules.specs.Evaluation.{at_rest, evaluate, holds, is_taken, is_true, selects};
+ghost use Rattle.core_semantics.specs.Applications.{setting_of};
+ghost use Rattle.core_semantics.specs.Evaluation.{at_rest, evaluate, holds, is_true, selects};
 ghost use Rattle.core_stack.specs.Holes.{scope};
 ghost use Rattle.core_stack.specs.Matching.{match_each};
-ghost use Rattle.core_eval.specs.inside.Steps.{gave_true};
+ghost use Rattle.core_eval.specs.inside.Steps.{gave_true, is_selected_by};
 
 use crate::build::single;
 use crate::control::{Control, Halt, Pause};
@@ -40,7 +40,7 @@ pub(crate) fn selects<'m>(
     Ok(false)
 }
 
-/// Whether there is one pattern, and the message matches it.
+// Whether there is one pattern, and the message matches it.
 fn fits_alone(patterns: &Patterns, message: &Term) -> bool
     ensures { result ≡ is_some (match_each (patterns_of patterns.now) (meaning_of message.now ∷ []) []) }
 {
@@ -50,7 +50,7 @@ fn fits_alone(patterns: &Patterns, message: &Term) -> bool
     }
 }
 
-/// Whether the message matches a clause whose guard holds. Where that is `'true'` nothing is bound.
+// Whether the message matches a clause whose guard holds. Where that is `'true'` nothing is bound.
 fn takes<'m>(
     alloc: Global,
     own: &Pid,
@@ -59,7 +59,7 @@ fn takes<'m>(
     message: &Term,
 ) -> Result<bool, AllocError>
     ensures { IfOk result (λ held. (m : ModuleTree) →
-        held ≡ is_taken (match_each (patterns_of clause.now.patterns) (meaning_of message.now ∷ []) []) (scope stack.now) (λ inner. evaluate (setting_of m own.now) clause.now.guard inner at_rest)) }
+        held ≡ is_selected_by (setting_of m own.now) (scope stack.now) clause.now (meaning_of message.now)) }
 {
     if !fits_alone(&clause.patterns, message) {
         return Ok(false);
@@ -75,8 +75,8 @@ fn takes<'m>(
     holds(alloc, own, stack, bindings, &clause.guard)
 }
 
-/// Whether a guard gives `'true'`, with these variables on top of those in the scope of the stack. It is evaluated
-/// apart, where it can neither ask for anything nor apply a function.
+// Whether a guard gives `'true'`, with these variables on top of those in the scope of the stack. It is evaluated
+// apart, where it can neither ask for anything nor apply a function.
 fn holds<'m>(
     alloc: Global,
     own: &Pid,
@@ -94,7 +94,7 @@ fn holds<'m>(
     Ok(gave_true(&pause))
 }
 
-/// Whether an evaluation that comes there gave `'true'` and nothing else.
+// Whether an evaluation that comes there gave `'true'` and nothing else.
 fn gave_true(pause: &Pause) -> bool
     ensures { result ≡ gave_true pause.now }
 {
@@ -105,7 +105,7 @@ fn gave_true(pause: &Pause) -> bool
     }
 }
 
-/// Whether these values are `'true'` and nothing else.
+// Whether these values are `'true'` and nothing else.
 fn are_true(values: &Terms) -> bool
     ensures { result ≡ is_true values.now }
 {

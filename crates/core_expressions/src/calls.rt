@@ -14,7 +14,7 @@ use core_tree::{Call, CallKind, Callee, Expr, Exprs, FunctionName, NamedFunction
 use term_core::Atom;
 
 impl<'a> FormReader<'a> {
-    /// What stands after the `apply` at `at`.
+    /// What follows the `apply` at `at`.
     #[cycle(expressions)]
     #[tactic(auto, unfolding(core_grammar::specs::inside::DecoderForms::apply_at))]
     pub(crate) fn apply(&mut self, own: &Atom, levels: u16, at: usize) -> Result<Expr, ReadFault>
@@ -31,7 +31,7 @@ impl<'a> FormReader<'a> {
         }))
     }
 
-    /// So many expressions, with commas between them.
+    // So many expressions, with commas between them.
     #[cycle(expressions)]
     fn arguments(&mut self, own: &Atom, levels: u16, arity: u8) -> Result<Vec<Expr>, ReadFault>
         ensures { MovesUnlessMemory (λ v. map tree_of v.items) result (state_in self.new) (exactly_at (expression_at own.now levels) true arity (state_in self.old)) }
@@ -44,7 +44,7 @@ impl<'a> FormReader<'a> {
         Ok(arguments)
     }
 
-    /// What stands after the `call` at `at`.
+    /// What follows the `call` at `at`.
     #[cycle(expressions)]
     #[tactic(auto, unfolding(core_grammar::specs::inside::DecoderForms::call_at))]
     pub(crate) fn call(&mut self, own: &Atom, levels: u16, at: usize) -> Result<Expr, ReadFault>
@@ -62,7 +62,7 @@ impl<'a> FormReader<'a> {
         )
     }
 
-    /// What stands after the `primop` at `at`.
+    /// What follows the `primop` at `at`.
     #[cycle(expressions)]
     #[tactic(auto, unfolding(core_grammar::specs::inside::DecoderForms::primop_at))]
     pub(crate) fn primop(&mut self, own: &Atom, levels: u16, at: usize) -> Result<Expr, ReadFault>

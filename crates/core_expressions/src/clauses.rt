@@ -5,9 +5,9 @@ ghost use Rattle.core_tokens.specs.declared.token.Mark.TheVariants.{Less};
 ghost use Rattle.core_tree.specs.Syntax.{clauses_of};
 ghost use Rattle.core_tree.specs.Expression as trees;
 ghost use Rattle.core_tree.specs.Tree.{pattern_of, tree_of};
-ghost use Rattle.core_grammar.specs.inside.Decoder.{BuildsUnlessMemory, MovesUnlessMemory, word_behind, after_word, in_note_at, constant_at};
+ghost use Rattle.core_grammar.specs.inside.Decoder.{BuildsUnlessMemory, MovesUnlessMemory, word_behind, after_word};
 ghost use Rattle.core_grammar.specs.inside.DecoderForms.{guarded_at, behind_patterns_at, clause_of, started, inside_start_at, aliased, noted_start_at, angles_at, bare_start_at, start_at, clause_at, clauses_at, choices_at, case_at, expiry_at, receive_at, expression_at};
-ghost use Rattle.core_expressions.specs.inside.FormView.{state_in, start_of};
+ghost use Rattle.core_expressions.specs.inside.FormView.{start_in_note_at, start_of, state_in};
 
 use crate::form_reader::FormReader;
 use core_grammar::Subject;
@@ -72,7 +72,7 @@ fn case_of(alloc: Global, at: usize, value: Expr, clauses: Vec<Clause>) -> Resul
 }
 
 impl<'a> FormReader<'a> {
-    /// The guard of a clause and its body: `when expr -> expr`.
+    // The guard of a clause and its body: `when expr -> expr`.
     #[cycle(expressions)]
     #[tactic(auto, unfolding(core_grammar::specs::inside::DecoderForms::guarded_at))]
     fn guarded(&mut self, own: &Atom, levels: u16) -> Result<(Expr, Expr), ReadFault>
@@ -84,7 +84,7 @@ impl<'a> FormReader<'a> {
         Ok((guard, body))
     }
 
-    /// What stands after the patterns of a clause.
+    // What follows the patterns of a clause.
     #[cycle(expressions)]
     fn behind_patterns(
         &mut self,
@@ -102,7 +102,7 @@ impl<'a> FormReader<'a> {
         })
     }
 
-    /// The start of a clause as a clause.
+    // The start of a clause as a clause.
     #[cycle(expressions)]
     fn clause_of(&mut self, own: &Atom, levels: u16, start: Start) -> Result<Clause, ReadFault>
         ensures { MovesUnlessMemory (λ c. c) result (state_in self.new) (clause_of own.now levels (expression_at own.now levels) (start_of start) (state_in self.old)) }
@@ -117,8 +117,8 @@ impl<'a> FormReader<'a> {
         }
     }
 
-    /// The start of a clause in the parentheses of an annotation: with `when` after its patterns it is the
-    /// whole clause.
+    // The start of a clause in the parentheses of an annotation: with `when` after its patterns it is the
+    // whole clause.
     #[cycle(expressions)]
     fn started(&mut self, own: &Atom, levels: u16, start: Start) -> Result<Start, ReadFault>
         ensures { MovesUnlessMemory start_of result (state_in self.new) (started own.now levels (expression_at own.now levels) (start_of start) (after_word When (state_in self.old).pieces) (state_in self.old)) }
@@ -129,7 +129,7 @@ impl<'a> FormReader<'a> {
         Ok(Start::Whole(self.clause_of(own, levels, start)?))
     }
 
-    /// What stands in the parentheses of an annotation of a clause or of its patterns.
+    // What is in the parentheses of an annotation of a clause or of its patterns.
     #[cycle(expressions)]
     #[tactic(auto, unfolding(core_grammar::specs::inside::DecoderForms::inside_start_at))]
     fn inside_start(
@@ -144,7 +144,7 @@ impl<'a> FormReader<'a> {
         Ok(self.started(own, levels, start)?)
     }
 
-    /// The start of a clause after the parentheses of an annotation: a variable may be that of an alias.
+    // The start of a clause after the parentheses of an annotation: a variable may be that of an alias.
     fn aliased(&mut self, own: &Atom, levels: u16, start: Start) -> Result<Start, ReadFault>
         ensures { MovesUnlessMemory start_of result (state_in self.new) (aliased own.now levels (expression_at own.now levels) (start_of start) (state_in self.old)) }
     {
@@ -155,7 +155,7 @@ impl<'a> FormReader<'a> {
         }
     }
 
-    /// A start of a clause in the parentheses of an annotation, and the end of the annotation.
+    // A start of a clause in the parentheses of an annotation, and the end of the annotation.
     #[cycle(expressions)]
     #[tactic(auto, unfolding(core_grammar::specs::inside::Decoder::in_note_at))]
     fn start_in_note(
@@ -164,13 +164,13 @@ impl<'a> FormReader<'a> {
         levels: u16,
         subject: Subject,
     ) -> Result<Start, ReadFault>
-        ensures { MovesUnlessMemory start_of result (state_in self.new) (in_note_at (constant_at levels) (inside_start_at own.now levels (expression_at own.now levels) (start_at own.now levels subject)) (state_in self.old)) }
+        ensures { MovesUnlessMemory start_of result (state_in self.new) (start_in_note_at own.now levels subject (state_in self.old)) }
     {
         let start = self.inside_start(own, levels, subject)?;
         self.parser.note(levels).and(Ok(start))
     }
 
-    /// A start of a clause in the parentheses of an annotation, whose parts stand at so many levels.
+    // A start of a clause in the parentheses of an annotation, whose parts are at so many levels.
     #[cycle(expressions)]
     #[tactic(auto, unfolding(core_grammar::specs::inside::DecoderForms::noted_start_at))]
     fn noted_start(&mut self, own: &Atom, levels: u16, subject: Subject) -> Result<Start, ReadFault>
@@ -180,7 +180,7 @@ impl<'a> FormReader<'a> {
         Ok(self.aliased(own, levels, start)?)
     }
 
-    /// What stands after the angle of patterns: any number of them for values, one for a message.
+    // What follows the angle of patterns: any number of them for values, one for a message.
     #[tactic(auto, unfolding(core_grammar::specs::inside::DecoderForms::angles_at, core_grammar::specs::inside::Decoder::exactly_at))]
     fn angles(&mut self, levels: u16, subject: Subject) -> Result<Vec<Pattern>, ReadFault>
         ensures { MovesUnlessMemory (λ v. map pattern_of v.items) result (state_in self.new) (angles_at levels subject (state_in self.old)) }
@@ -195,7 +195,7 @@ impl<'a> FormReader<'a> {
         }
     }
 
-    /// Patterns that no parenthesis stands before.
+    // Patterns without a parenthesis before them.
     #[tactic(auto, unfolding(core_grammar::specs::inside::DecoderForms::bare_start_at))]
     fn bare_start(&mut self, levels: u16, subject: Subject) -> Result<Start, ReadFault>
         ensures { MovesUnlessMemory start_of result (state_in self.new) (bare_start_at levels subject (state_in self.old)) }
@@ -206,7 +206,7 @@ impl<'a> FormReader<'a> {
         Ok(Start::One(self.parser.pattern(levels)?))
     }
 
-    /// What a clause begins with, annotated in at most so many levels.
+    // What a clause begins with, annotated in at most so many levels.
     #[cycle(expressions)]
     fn start(&mut self, own: &Atom, levels: u16, subject: Subject) -> Result<Start, ReadFault>
         ensures { MovesUnlessMemory start_of result (state_in self.new) (start_at own.now levels subject (state_in self.old)) }
@@ -217,7 +217,7 @@ impl<'a> FormReader<'a> {
         Ok(self.noted_start(own, levels - 1, subject)?)
     }
 
-    /// A clause whose parts have at most so many levels.
+    // A clause whose parts have at most so many levels.
     #[cycle(expressions)]
     #[tactic(auto, unfolding(core_grammar::specs::inside::DecoderForms::clause_at))]
     fn clause(&mut self, own: &Atom, levels: u16, subject: Subject) -> Result<Clause, ReadFault>
@@ -227,7 +227,7 @@ impl<'a> FormReader<'a> {
         Ok(self.clause_of(own, levels, start)?)
     }
 
-    /// The clauses as far as the keyword after them, of which these were read before.
+    // The clauses as far as the keyword after them, when these were read before.
     #[cycle(expressions)]
     fn clauses(
         &mut self,
@@ -249,7 +249,7 @@ impl<'a> FormReader<'a> {
         Err(self.parser.fault())
     }
 
-    /// What stands after the value of a `case`.
+    // What follows the value of a `case`.
     #[cycle(expressions)]
     #[tactic(auto, unfolding(core_grammar::specs::inside::DecoderForms::choices_at))]
     fn choices(&mut self, own: &Atom, levels: u16) -> Result<Vec<Clause>, ReadFault>
@@ -263,7 +263,7 @@ impl<'a> FormReader<'a> {
         Ok(clauses)
     }
 
-    /// What stands after the `case` at `at`.
+    /// What follows the `case` at `at`.
     #[cycle(expressions)]
     pub(crate) fn case(&mut self, own: &Atom, levels: u16, at: usize) -> Result<Expr, ReadFault>
         ensures { MovesUnlessMemory tree_of result (state_in self.new) (case_at own.now levels (expression_at own.now levels) (start_at own.now levels) at (state_in self.old)) }
@@ -273,7 +273,7 @@ impl<'a> FormReader<'a> {
         Ok(case_of(self.parser.alloc, at, value, clauses)?)
     }
 
-    /// The timeout of a `receive`, and what is done then.
+    // The timeout of a `receive`, and what is done then.
     #[cycle(expressions)]
     #[tactic(auto, unfolding(core_grammar::specs::inside::DecoderForms::expiry_at))]
     fn expiry(&mut self, own: &Atom, levels: u16) -> Result<(Expr, Expr), ReadFault>
@@ -285,7 +285,7 @@ impl<'a> FormReader<'a> {
         Ok((timeout, action))
     }
 
-    /// What stands after the `receive` at `at`.
+    /// What follows the `receive` at `at`.
     #[cycle(expressions)]
     pub(crate) fn receive(&mut self, own: &Atom, levels: u16, at: usize) -> Result<Expr, ReadFault>
         ensures { MovesUnlessMemory tree_of result (state_in self.new) (receive_at own.now levels (expression_at own.now levels) (start_at own.now levels) at (state_in self.old)) }

@@ -1,4 +1,4 @@
-// Expressions (Core Erlang 1.0.3, "Expressions"), but for calls and clauses.
+// Expressions (Core Erlang 1.0.3, "Expressions"), except calls and clauses.
 ghost use Rattle.std.specs.Prelude.{◌≡◌, map};
 ghost use Rattle.core_tokens.specs.Piece.{shape_of, pieces};
 ghost use Rattle.core_tokens.specs.Piece as lexemes;
@@ -6,9 +6,9 @@ ghost use Rattle.core_tokens.specs.declared.token.Mark.TheVariants.{Slash};
 ghost use Rattle.core_tree.specs.Syntax.{trees_of};
 ghost use Rattle.core_tree.specs.Expression as trees;
 ghost use Rattle.core_tree.specs.Tree.{tree_of};
-ghost use Rattle.core_grammar.specs.inside.Decoder.{BuildsUnlessMemory, MovesUnlessMemory, items_at, closed_at, in_note_at, constant_at, after_mark, place_of};
+ghost use Rattle.core_grammar.specs.inside.Decoder.{BuildsUnlessMemory, MovesUnlessMemory, items_at, closed_at, in_note_at, constant_at, after_mark};
 ghost use Rattle.core_grammar.specs.inside.DecoderForms.{is_function, begins_expression, deep_expression_of, expression_fault_of, deep_expression, expression_fault, name_by, tuple_at, list_at, values_at, body_at, in_at, bound_at, let_at, do_at, success_at, handler_at, branches_at, try_at, catch_at, form_by, form_at, expression_at, start_at};
-ghost use Rattle.core_expressions.specs.inside.FormView.{state_in, branch_of};
+ghost use Rattle.core_expressions.specs.inside.FormView.{branch_of, mark_form_at, state_in};
 
 use crate::form_reader::FormReader;
 use core_parser::variable_of;
@@ -101,7 +101,7 @@ impl<'a> FormReader<'a> {
         }
     }
 
-    /// An expression whose parts have at most so many levels.
+    // An expression whose parts have at most so many levels.
     #[cycle(expressions)]
     #[tactic(auto, unfolding(core_grammar::specs::inside::DecoderForms::form_at))]
     fn form(&mut self, own: &Atom, levels: u16) -> Result<Expr, ReadFault>
@@ -136,7 +136,7 @@ impl<'a> FormReader<'a> {
         }
     }
 
-    /// An expression that begins with a mark, with these tokens after it.
+    // An expression that begins with a mark, with these tokens after it.
     #[cycle(expressions)]
     fn mark_form(
         &mut self,
@@ -145,7 +145,7 @@ impl<'a> FormReader<'a> {
         mark: Mark,
         rest: &'a [Token],
     ) -> Result<Expr, ReadFault>
-        ensures { MovesUnlessMemory tree_of result (state_in self.new) (form_by own.now levels (expression_at own.now levels) (start_at own.now levels) (place_of (state_in self.old).stop (state_in self.old).pieces) (lexemes.Mark mark) (pieces rest.now) (state_in self.old)) }
+        ensures { MovesUnlessMemory tree_of result (state_in self.new) (mark_form_at own.now levels mark (pieces rest.now) (state_in self.old)) }
     {
         let fault = self.parser.expression_fault();
         self.parser.tokens = rest;
@@ -158,7 +158,7 @@ impl<'a> FormReader<'a> {
         }
     }
 
-    /// An expression that begins with the keyword at `at`, with these tokens after it.
+    // An expression that begins with the keyword at `at`, with these tokens after it.
     #[cycle(expressions)]
     fn word_form(
         &mut self,
@@ -186,7 +186,7 @@ impl<'a> FormReader<'a> {
         }
     }
 
-    /// An atom with these tokens after it, if it begins no function's name.
+    // An atom with these tokens after it, if it begins no function's name.
     fn name(&mut self, atom: &Atom, rest: &'a [Token]) -> Result<Expr, ReadFault>
         ensures { MovesUnlessMemory tree_of result (state_in self.new) (name_by (after_mark Slash (pieces rest.now)) atom.now (pieces rest.now) (state_in self.old)) }
     {
@@ -206,7 +206,7 @@ impl<'a> FormReader<'a> {
         Ok(Expr::Atom(atom.copy()?))
     }
 
-    /// What stands in the parentheses of an annotated expression, and the end of the annotation.
+    // What is in the parentheses of an annotated expression, and the end of the annotation.
     #[cycle(expressions)]
     #[tactic(auto, unfolding(core_grammar::specs::inside::Decoder::in_note_at))]
     fn expression_in_note(&mut self, own: &Atom, levels: u16) -> Result<Expr, ReadFault>
@@ -217,7 +217,7 @@ impl<'a> FormReader<'a> {
         Ok(expression)
     }
 
-    /// What stands after the brace of a tuple.
+    // What follows the brace of a tuple.
     #[cycle(expressions)]
     #[tactic(auto, unfolding(core_grammar::specs::inside::DecoderForms::tuple_at))]
     fn tuple(&mut self, own: &Atom, levels: u16) -> Result<Expr, ReadFault>
@@ -227,7 +227,7 @@ impl<'a> FormReader<'a> {
         Ok(Expr::Tuple(Exprs(items)))
     }
 
-    /// What stands after the bracket of a list.
+    // What follows the bracket of a list.
     #[cycle(expressions)]
     #[tactic(auto, unfolding(core_grammar::specs::inside::DecoderForms::list_at, core_grammar::specs::inside::Decoder::brackets_at))]
     fn list(&mut self, own: &Atom, levels: u16) -> Result<Expr, ReadFault>
@@ -246,7 +246,7 @@ impl<'a> FormReader<'a> {
         Ok(Expr::List(Exprs(items)))
     }
 
-    /// What stands after the angle of a list of values.
+    // What follows the angle of a list of values.
     #[cycle(expressions)]
     #[tactic(auto, unfolding(core_grammar::specs::inside::DecoderForms::values_at))]
     fn values(&mut self, own: &Atom, levels: u16) -> Result<Expr, ReadFault>
@@ -266,7 +266,7 @@ impl<'a> FormReader<'a> {
         Ok(self.expression(own, levels)?)
     }
 
-    /// The body of a `let`, and the `in` before it.
+    // The body of a `let`, and the `in` before it.
     #[cycle(expressions)]
     #[tactic(auto, unfolding(core_grammar::specs::inside::DecoderForms::in_at))]
     fn behind_in(&mut self, own: &Atom, levels: u16) -> Result<Expr, ReadFault>
@@ -276,7 +276,7 @@ impl<'a> FormReader<'a> {
         Ok(self.expression(own, levels)?)
     }
 
-    /// The value of a `let` and its body.
+    // The value of a `let` and its body.
     #[cycle(expressions)]
     #[tactic(auto, unfolding(core_grammar::specs::inside::DecoderForms::bound_at))]
     fn bound(&mut self, own: &Atom, levels: u16) -> Result<(Expr, Expr), ReadFault>
@@ -288,7 +288,7 @@ impl<'a> FormReader<'a> {
         Ok((value, body))
     }
 
-    /// What stands after a `let`.
+    // What follows a `let`.
     #[cycle(expressions)]
     fn let_in(&mut self, own: &Atom, levels: u16) -> Result<Expr, ReadFault>
         ensures { MovesUnlessMemory tree_of result (state_in self.new) (let_at own.now levels (expression_at own.now levels) (state_in self.old)) }
@@ -298,7 +298,7 @@ impl<'a> FormReader<'a> {
         Ok(let_of(self.parser.alloc, variables, value, body)?)
     }
 
-    /// What stands after a `do`.
+    // What follows a `do`.
     #[cycle(expressions)]
     #[tactic(auto, unfolding(core_grammar::specs::inside::DecoderForms::do_at))]
     fn do_then(&mut self, own: &Atom, levels: u16) -> Result<Expr, ReadFault>
@@ -309,7 +309,7 @@ impl<'a> FormReader<'a> {
         Ok(do_both(self.parser.alloc, first, second)?)
     }
 
-    /// What a `try` does with its value.
+    // What a `try` does with its value.
     #[cycle(expressions)]
     #[tactic(auto, unfolding(core_grammar::specs::inside::DecoderForms::success_at))]
     fn success(&mut self, own: &Atom, levels: u16) -> Result<Branch, ReadFault>
@@ -321,7 +321,7 @@ impl<'a> FormReader<'a> {
         Ok(Branch { variables, body })
     }
 
-    /// What a `try` does with an exception.
+    // What a `try` does with an exception.
     #[cycle(expressions)]
     #[tactic(auto, unfolding(core_grammar::specs::inside::DecoderForms::handler_at))]
     fn handler(&mut self, own: &Atom, levels: u16) -> Result<Branch, ReadFault>
@@ -333,7 +333,7 @@ impl<'a> FormReader<'a> {
         Ok(Branch { variables, body })
     }
 
-    /// What a `try` does with its value, and with an exception.
+    // What a `try` does with its value, and with an exception.
     #[cycle(expressions)]
     #[tactic(auto, unfolding(core_grammar::specs::inside::DecoderForms::branches_at))]
     fn branches(&mut self, own: &Atom, levels: u16) -> Result<(Branch, Branch), ReadFault>
@@ -344,7 +344,7 @@ impl<'a> FormReader<'a> {
         Ok((success, handler))
     }
 
-    /// What stands after the `try` at `at`.
+    // What follows the `try` at `at`.
     #[cycle(expressions)]
     fn try_in(&mut self, own: &Atom, levels: u16, at: usize) -> Result<Expr, ReadFault>
         ensures { MovesUnlessMemory tree_of result (state_in self.new) (try_at own.now levels (expression_at own.now levels) at (state_in self.old)) }
@@ -354,7 +354,7 @@ impl<'a> FormReader<'a> {
         Ok(try_of(self.parser.alloc, at, value, success, handler)?)
     }
 
-    /// What stands after the `catch` at `at`.
+    // What follows the `catch` at `at`.
     #[cycle(expressions)]
     #[tactic(auto, unfolding(core_grammar::specs::inside::DecoderForms::catch_at))]
     fn catch(&mut self, own: &Atom, levels: u16, at: usize) -> Result<Expr, ReadFault>
@@ -383,7 +383,7 @@ impl<'a> FormReader<'a> {
         Ok(items)
     }
 
-    /// Expressions with commas between them.
+    // Expressions with commas between them.
     #[cycle(expressions)]
     fn expression_items(&mut self, own: &Atom, levels: u16) -> Result<Vec<Expr>, ReadFault>
         ensures { MovesUnlessMemory (λ v. map tree_of v.items) result (state_in self.new) (items_at (expression_at own.now levels) (state_in self.old)) }

@@ -108,7 +108,7 @@ pattern_level (suc n) ps q rest h d = aliased_level n (PatternIn n) (pattern_lev
 abbrev pub Walks : {X : Type 0} → (State → Read X) → Type 0
 Walks {X = X} item = (s : State) (x : X) (t : State) → item s ≡ Ok (x, t) → (d : ℕ) → commas d s.pieces ≡ commas d t.pieces
 
--- the same of what is read behind an opening bracket, its closing bracket included
+-- the same of what is read after an opening bracket, its closing bracket included
 abbrev pub WalksOut : {X : Type 0} → (State → Read X) → Type 0
 WalksOut {X = X} item = (s : State) (x : X) (t : State) → item s ≡ Ok (x, t) → (d : ℕ) → commas (suc d) s.pieces ≡ commas d t.pieces
 
@@ -236,7 +236,7 @@ module _ {X : Type 0} (item : State → Read X) (walks : Walks item) where
   more_count n None s xs t again is e = subst (λ (r : List X × State). commas 0 r.1.pieces ≡ 0 → commas 0 s.pieces ≡ length r.0) (ok_is ([], s) (xs, t) e) (λ none. none)
   more_count n (Some ps) s xs t again is e = λ none. let f = after_mark_found m.Comma s.pieces ps is in ap (commas 0) f.1 ∙ again (with_pieces s ps) xs t e none
 
-  -- where no comma stands behind the items, there is one more of them than commas
+  -- where no comma follows the items, there is one more of them than commas
   commas_count : (n : ℕ) (s : State) (xs : List X) (t : State) → commas_at item n s ≡ Ok (xs, t) → commas 0 t.pieces ≡ 0 → suc (commas 0 s.pieces) ≡ length xs
   unfolding commas_at
   commas_count zero s xs t e = absurd cc
@@ -266,7 +266,7 @@ module _ {X : Type 0} (item : State → Read X) (walks : Walks item) where
       let step = mark_steps m.RightParenthesis a.0.1 b.0 b.1 in
       items_count s.pieces s a.0.0 a.0.1 refl is a.1 (stepped step 0) ∙ ap (λ (r : List X × State). length r.0) same
 
-  -- as many arguments as stand in front
+  -- as many arguments as come first
   pub closed_count : (s : State) (xs : List X) (t : State) → closed_at item m.RightParenthesis s ≡ Ok (xs, t) → arguments s.pieces ≡ length xs
   unfolding closed_at
   closed_count s xs t e = closed_by_count (after_mark m.RightParenthesis s.pieces) s xs t refl e

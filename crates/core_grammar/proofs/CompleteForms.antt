@@ -174,11 +174,11 @@ no_slash_again (p ∷ ps) h = by p.shape h
     by (lexemes.Mark m.Slash) h = absurd h
     by shape h = refl
 
--- what stands behind an annotation's `-|` is no guard
+-- what follows an annotation's `-|` is no guard
 no_when : (ps : List Piece) → NoteFront ps → after_word k.When ps ≡ None
 no_when ps f = rw f.is refl
 
--- a pattern begins with neither mark, or stands in the parentheses of an annotation
+-- a pattern begins with neither mark, or is in the parentheses of an annotation
 form_front : (n : ℕ) (ps : List Piece) (q : Pattern) (rest : List Piece) → PatternForm (PatternIn n) (ConstantIn n) ps q rest → ((after_mark m.LeftParenthesis ps ≡ None) × (after_mark m.Less ps ≡ None)) ⊎ InNote (PatternIn n) (ConstantIn n) ps q rest
 form_front n ps q rest matches_integer = inl (refl, refl)
 form_front n ps q rest matches_character = inl (refl, refl)

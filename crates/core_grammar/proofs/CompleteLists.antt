@@ -123,13 +123,13 @@ module _ {X : Type 0} (item : State → Read X) (Item : List Piece → X → Lis
   all_again stop ps xs rest (spells_one {x = x} h) = rw (each stop ps x rest h) refl
   all_again stop ps xs rest (spells_next {more = more} {at = bt} {x = x} {xs = ys} h g) = rw (each stop ps x (mark bt m.Comma ∷ more) h, others_again stop bt more ys rest g) refl
 
-  -- exactly as many items as there are, and what stands before the closing mark
+  -- exactly as many items as there are, and what comes before the closing mark
   pub exactly_complete : (close : Mark) (stop : ℕ) (ps : List Piece) (xs : List X) (rest : List Piece) → Enclosed Item close ps xs rest → (at : ℕ) × (exactly_at item true (length xs) (start stop ps) ≡ Ok (xs, start stop (mark at close ∷ rest)))
   unfolding exactly_at
   exactly_complete close stop ps xs rest (spells_none {at = at}) = (at, refl)
   exactly_complete close stop ps xs rest (spells_some {at = at} h) = (at, all_again stop ps xs (mark at close ∷ rest) h)
 
--- ---- items one behind the other
+-- ---- items one after the other
 
 -- no item begins with a keyword
 abbrev pub BeginsNoWord : {X : Type 0} → (List Piece → X → List Piece → Type 0) → Type 0

@@ -68,7 +68,7 @@ behind_name_complete : (own : List ℕ) (n stop at : ℕ) (named : NamedAt) (vs 
 unfolding behind_name_at mark_at
 behind_name_complete own n stop at named vs b p1 rest h count = rw (fun_complete own named.function.arity n stop p1 (vs, b) rest h count) refl
 
--- what stands behind an annotation's `-|` is no `=`
+-- what follows an annotation's `-|` is no `=`
 no_equals : (ps : List Piece) → NoteFront ps → after_mark m.Equals ps ≡ None
 no_equals ps f = rw f.is refl
 

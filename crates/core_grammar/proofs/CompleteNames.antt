@@ -16,7 +16,7 @@ note_take Item takes ps rest (is_note {ps = qs} {ct = ct} {cs = cs} h) = omega (
 pub in_note_take : {X : Type 0} (Inner : List Piece → X → List Piece → Type 0) (Item : List Piece → Constant → List Piece → Type 0) → TakesOne Inner → TakesOne Item → TakesOne (InNote Inner Item)
 in_note_take Inner Item takes notes ps x rest (in_note {ps = qs} {more = more} h g) = omega (arith, takes qs x more h, note_take Item notes more rest g)
 
--- behind what is annotated stands its mark
+-- what is annotated is followed by its mark
 pub record NoteFront (ps : List Piece) : Type 0 where
   pub at : ℕ
   pub more : List Piece
@@ -30,7 +30,7 @@ module _ (inner : State → Read Constant) (Inner : List Piece → Constant → 
   unfolding note_at mark_at
   note_complete stop ps rest (is_note {ps = qs} {ct = ct} {cs = cs} h) = rw (closed_complete inner Inner each takes begins m.RightBracket closing_bracket stop qs cs (mark ct m.RightParenthesis ∷ rest) h) refl
 
-  -- what stands in the parentheses of an annotation, behind the first of them
+  -- what is in the parentheses of an annotation, after the first of them
   pub in_note_complete : {X : Type 0} (item : State → Read X) (stop : ℕ) (ps : List Piece) (x : X) (more rest : List Piece) → item (start stop ps) ≡ Ok (x, start stop more) → Note Inner more rest → in_note_at inner item (start stop ps) ≡ Ok (x, start stop rest)
   unfolding in_note_at
   in_note_complete item stop ps x more rest e g = rw (e, note_complete stop more rest g) refl

@@ -77,7 +77,7 @@ module _ (n : ℕ) (each : Complete (pattern_at n) (PatternIn n)) where
   pattern_form_complete stop ps c rest (matches_join {ps = qs} {more = more} {bt = bt} {ct = ct} {qs = us} {q = d} h g) = rw (join_complete (pattern_at n) (PatternIn n) each (pattern_takes n) (pattern_begins n) stop bt ct qs more us d rest h g) refl
   pattern_form_complete stop ps c rest (matches_noted h) = noted_pattern stop ps c rest h
 
-  -- a pattern that stands alone stays as it is
+  -- a pattern that is alone stays as it is
   pub alone_again : (stop : ℕ) (q : Pattern) (rest : List Piece) → StandsAlone q rest → alias_at (pattern_at n) (constant_at n) q (start stop rest) ≡ Ok (q, start stop rest)
   unfolding alias_at
   alone_again stop (patterns.Variable v) rest h = rw (no_equals_again rest h) refl
@@ -90,7 +90,7 @@ module _ (n : ℕ) (each : Complete (pattern_at n) (PatternIn n)) where
   alone_again stop (patterns.Onto i j) rest h = refl
   alone_again stop (patterns.Alias i j) rest h = refl
 
-  -- a variable with `=` behind it names the pattern behind that
+  -- a variable with `=` after it names the pattern after that
   pub alias_again : (stop at : ℕ) (v : Mention) (more : List Piece) (q : Pattern) (rest : List Piece) → PatternIn n more q rest → alias_at (pattern_at n) (constant_at n) (patterns.Variable v) (start stop (mark at m.Equals ∷ more)) ≡ Ok (patterns.Alias v q, start stop rest)
   unfolding alias_at
   alias_again stop at v more q rest h = rw (each stop more q rest h) refl

@@ -1,4 +1,4 @@
--- Where reading stops at a construct past the last level: expressions, but for their clauses.
+-- Where reading stops at a construct past the last level: expressions, except for their clauses.
 use Rattle.std.proofs.Common.{◌≡◌, ℕ, Bool, true, false, cond, List, [], ◌∷◌, Option, Some, None, Result, Ok, refl, subst}
 use Rattle.std.specs.Prelude.{◌||◌}
 use Rattle.core_tokens.specs.declared.fault.ReadFault.{ReadFault}

@@ -66,7 +66,7 @@ past_form x Rest bt ps qs e h = rw e (passes_mark h)
 past_word_form : (x : Keyword) (Rest : List Piece → Type 0) (bt : ℕ) (ps qs : List Piece) → ps ≡ word bt x ∷ qs → Rest qs → PastWord x Rest ps
 past_word_form x Rest bt ps qs e h = rw e (passes_word h)
 
--- behind a mark that was found
+-- after a mark that was found
 pub past_found : (x : Mark) (Rest : List Piece → Type 0) (ps qs : List Piece) → after_mark x ps ≡ Some qs → Rest qs → PastMark x Rest ps
 past_found x Rest ps qs e h = let f = after_mark_found x ps qs e in past_form x Rest f.0 ps qs f.1 h
 
@@ -145,7 +145,7 @@ module _ (at : ℕ) where
   unfolding bare_name_at
   bare_name_never s = never_bind (placed_atom_at s) _ (placed_atom_never s) (λ a. behind_atom_never a.0.0 a.0.1 a.1)
 
-  -- ---- steps one behind the other
+  -- ---- steps one after the other
 
   -- the second step does not stop at a level
   pub first_falls : {A B : Type 0} (r : Result A ReadFault) (f : A → Result B ReadFault) (s : State) (Deep : List Piece → Type 0) → Fall r s Deep → ((x : A) → Never (f x)) → Fall (r >>= f) s Deep
@@ -267,7 +267,7 @@ module _ (at : ℕ) where
         by (inl i) = let d = exactly_falls n s i in (d.0, goes_inside d.1)
         by (inr i) = last i.0.0 i.0.1 i.1 (bind_err (mark_at close i.0.1) (f i.0) (TooDeep at) i.2)
 
-    -- ---- items one behind the other
+    -- ---- items one after the other
 
     in_row : (ps : List Piece) → Part Item Deep (InRow Item Deep) ps → InRow Item Deep ps
     in_row ps (goes_inside d) = goes_in_row ends_here d

@@ -31,7 +31,7 @@ module _ (at : ℕ) where
   module _ (own : List ℕ) where
     -- ---- functions
 
-    -- behind the parenthesis of a function's variables
+    -- after the parenthesis of a function's variables
     abbrev BehindParenthesis : ℕ → ℕ → List Piece → Type 0
     BehindParenthesis arity n ps = Part (Exactly (Variable n) m.RightParenthesis arity) (InItems (Variable n) (DeepVariable at n) arity) (PastMark m.Arrow (DeepExpression at own n)) ps
 
@@ -63,7 +63,7 @@ module _ (at : ℕ) where
     abbrev DeepInside : ℕ → List Piece → Type 0
     DeepInside n ps = DeepName at n ps ⊎ DeepDefinition at own n ps
 
-    -- behind a name that stands in front of these tokens
+    -- after a name that comes before these tokens
     abbrev BehindName : ℕ → NamedAt → List Piece → List Piece → Type 0
     BehindName n named ps rest = FunctionName n ps named rest → DeepBareDefinition at own n ps
 
@@ -141,11 +141,11 @@ module _ (at : ℕ) where
 
   -- ---- modules
 
-  -- behind the name
+  -- after the name
   abbrev BehindAtom : ℕ → List ℕ → List Piece → Type 0
   BehindAtom n name ps = PastMark m.LeftBracket (Part (Enclosed (FunctionName n) m.RightBracket) (InCommas (FunctionName n) (DeepName at n)) (BehindExports at n name)) ps
 
-  -- behind the brackets of the exports, and of the attributes
+  -- after the brackets of the exports, and of the attributes
   abbrev InExports : ℕ → List ℕ → List Piece → Type 0
   InExports n name ps = Part (Enclosed (FunctionName n) m.RightBracket) (InCommas (FunctionName n) (DeepName at n)) (BehindExports at n name) ps
 
@@ -170,7 +170,7 @@ module _ (at : ℕ) where
       first_falls at (rows_at (definition_at name n) k.End s7) _ s7 (InDefinitions n name) (rows_falls at (definition_at name n) (Definition name n) (DeepDefinition at name n) (definition_sound name n) (definition_falls name n) k.End s7) (λ ds.
       never_bind at (word_at k.End ds.1) _ (word_never at k.End ds.1) (λ s8. ok_never at _))))))))))))))))
 
-  -- the place of the last `end` is told apart from how a module is spelt
+  -- the place of the last `end` is separated from how a module is spelt
   to_module : (n : ℕ) (ps : List Piece) → DeepAnnotated at IsModule (DeepBareModule at) n ps → DeepAnnotated at BareModule (DeepBareModule at) n ps
   to_module zero ps h = h
   to_module (suc n) ps (passes_mark (goes_inside (inl d))) = passes_mark (goes_inside (inl d))

@@ -181,7 +181,7 @@ module _ (all : List Piece) (end : ℕ) where
 
   -- ---- what may be annotated
 
-  -- behind all the `(` of annotations stands this
+  -- after all the `(` of annotations comes this
   module _ {X : Type 0} (bare : ℕ → State → Read X) (Q : X → Type 0) (start : List Piece)
       (each : (n : ℕ) (s : State) → Good' s → after_mark m.LeftParenthesis s.pieces ≡ None → within s.pieces ≡ start → Fine' (bare n s) (λ x. Q x.0 × Good' x.1)) where
     noted_last_fine : (o : Option (List Piece)) (s : State) → after_mark m.LeftParenthesis s.pieces ≡ o → within s.pieces ≡ start → Good' s → Fine' (noted_last bare o s) (λ x. Q x.0 × Good' x.1)
@@ -379,7 +379,7 @@ module _ (all : List Piece) (end : ℕ) where
 
   -- ---- names of calls
 
-  -- where no atom and no `(` stands in front of what begins an expression, the name is missing
+  -- where no atom and no `(` comes before what begins an expression, the name is missing
   lacks_name : (shape : Shape) (at : ℕ) (ps : List Piece) → atom_in shape ≡ None → cond (is_mark m.LeftParenthesis shape) (Some ps) None ≡ None → (is_function shape [] || begins_expression shape) ≡ true → LacksName (within (record { at = at; shape = shape } ∷ ps))
   unfolding beginning
   lacks_name (lexemes.Integer n) at ps e none is = tt
@@ -423,13 +423,13 @@ module _ (all : List Piece) (end : ℕ) where
   unfolding bare_callee_at callee_fault
   bare_callee_fine at s g none h = callee_of_fine at s.pieces s g g.inside none h
 
-  -- where no name stands, the call is not served
+  -- where there is no name, the call is not served
   callee_fine : (at n : ℕ) (s : State) → Good' s → (LacksName (within s.pieces) → Fault' (UnsupportedCall at)) → Fine' (callee_at at n s) (λ x. Any' x.0 × Good' x.1)
   unfolding callee_at
   callee_fine at n s g h =
       noted_from_fine (λ _. bare_callee_at at) Any' (within s.pieces) (λ l s1 g1 none w. bare_callee_fine at s1 g1 none (λ lacks. h (subst (λ (qs : List Piece). LacksName qs) w lacks))) n s refl g
 
-  -- an atom of a call and the mark behind it
+  -- an atom of a call and the mark after it
   atom_then : (x : Mark) (at n : ℕ) (s : State) (a : List ℕ) (t u : State) → callee_at at n s ≡ Ok (a, t) → mark_at x t ≡ Ok u → (bt : ℕ) × AtomIn n s.pieces a (mark bt x ∷ u.pieces)
   atom_then x at n s a t u e f =
       let step = mark_steps x t u f in
@@ -464,14 +464,14 @@ module _ (all : List Piece) (end : ℕ) where
   no_name_applied OfAtom ps h = absurd h
   no_name_applied b ps h = h
 
-  -- where no atom and no `(` stands in front of what begins an expression, a value is applied
+  -- where no atom and no `(` comes before what begins an expression, a value is applied
   value_applied : (p : Piece) (ps : List Piece) → after_mark m.LeftParenthesis (p ∷ ps) ≡ None → LacksName (within (p ∷ ps)) → Front BeginsApplied p.at (within (p ∷ ps))
   value_applied p ps none lacks =
       let bare = within_bare p.shape p.at ps none in
       let nameless : IsNoName p.shape = subst (λ (qs : List Piece). LacksName qs) bare lacks in
       subst (λ (qs : List Piece). Front BeginsApplied p.at qs) (sym bare) (refl, no_name_applied (beginning p.shape) ps nameless)
 
-  -- so is an atom with its arguments behind it
+  -- so is an atom with its arguments after it
   atom_applied : (shape : Shape) (at : ℕ) (ps : List Piece) (x : ℕ × List ℕ) → named_by at shape ≡ Some x → HasMark m.LeftParenthesis ps → Front BeginsApplied x.0 (within (record { at = at; shape = shape } ∷ ps))
   unfolding beginning
   atom_applied (lexemes.Atom t) at ps x e h = let same : (at, t) ≡ x = cc in (ap (λ (y : ℕ × List ℕ). y.0) same, h)
@@ -481,7 +481,7 @@ module _ (all : List Piece) (end : ℕ) where
   no_atom at (lexemes.Atom t) e = absurd cc
   no_atom at shape e = refl
 
-  -- an atom that stands at a place, and is a value where its arguments stand behind it
+  -- an atom at a place, which is a value where its arguments follow it
   abbrev AtomApplied : (ℕ × List ℕ) × State → Type 0
   AtomApplied x = Place' x.0.0 × Good' x.1 × (HasMark m.LeftParenthesis x.1.pieces → HigherOrderAt all x.0.0)
 

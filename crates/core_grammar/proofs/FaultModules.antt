@@ -162,7 +162,7 @@ module _ (all : List Piece) (end : ℕ) where
   fine_ok : {A : Type 0} (r : Result A ReadFault) (x : A) (P : A → Type 0) → r ≡ Ok x → Fine' r P → P x
   fine_ok {A = A} r x P e h = subst (λ (q : Result A ReadFault). Fine' q P) e h
 
-  -- the place that is read with a module is that of an `end`, and nothing of the module stands behind it
+  -- the place that is read with a module is that of an `end`, and nothing of the module follows it
   pub bare_module_ends : (n : ℕ) (s : State) (x : ModuleTree × ℕ) (t : State) → Good' s → within s.pieces ≡ within all → bare_module_at n s ≡ Ok (x, t) → (before : List Piece) × (all ≡ before ++ word x.1 k.End ∷ t.pieces)
   unfolding bare_module_at
   bare_module_ends n s x t g w e =

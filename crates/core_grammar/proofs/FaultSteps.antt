@@ -116,7 +116,7 @@ module _ (all : List Piece) (end : ℕ) where
   foreign_by true p ps inside e = unread_here p ps inside (foreign_begins p.shape ps e)
   foreign_by false p ps inside e = here p ps inside
 
-  -- the fault at a token that cannot stand here
+  -- the fault at a token that cannot be here
   pub foreign_fine : (p : Piece) (ps : List Piece) → Inside (p ∷ ps) → Fault (cond (is_foreign p.shape) (UnsupportedForm p.at) (Expected p.at))
   foreign_fine p ps inside = foreign_by (is_foreign p.shape) p ps inside refl
 

@@ -1,4 +1,4 @@
--- The `end` of a module is the last of the text: behind it stand annotations alone, and these hold no keyword.
+-- The `end` of a module is the last of the text: only annotations follow it, and these hold no keyword.
 use Rattle.std.proofs.Common.{◌≡◌, ℕ, zero, suc, List, [], ◌∷◌, ◌++◌, Option, Some, None, Ok, refl, sym, ap, subst, inl}
 use Rattle.std.specs.Prelude.{IfSome}
 use Rattle.core_tokens.specs.declared.token.Mark.{Mark}
@@ -69,7 +69,7 @@ last_end_stands ps at h = subst (λ (qs : List Piece). IsOne qs (word at k.End))
 behind_token : (p : Piece) (ps : List Piece) (at : ℕ) → IsLastEnd ps at → IsLastEnd (p ∷ ps) at
 behind_token p ps at h = record { before = p ∷ h.before; behind = h.behind; stands = ap (λ (qs : List Piece). p ∷ qs) h.stands; last = h.last }
 
--- an `end` at the place that is read with a module, and behind it what the module leaves
+-- an `end` at the place that is read with a module, and after it what the module leaves
 abbrev EndsThere : List Piece → ModuleTree × ℕ → List Piece → Type 0
 EndsThere ps x rest = (before : List Piece) × (ps ≡ before ++ word x.1 k.End ∷ rest)
 

@@ -1,4 +1,4 @@
--- Where a fault of scopes stands: what breaks a module whose parts are placed breaks it at a place.
+-- The place of a fault of scopes: what breaks a module with placed parts breaks it at a place.
 use Rattle.std.proofs.Common.{◌≡◌, ℕ, List, [], ◌∷◌, ◌++◌, sym, subst, inl, inr}
 use Rattle.std.specs.Prelude.{Contains}
 use Rattle.core_tokens.specs.declared.fault.ReadFault.{ReadFault}
@@ -24,7 +24,7 @@ module _ (all : List Piece) (end : ℕ) where
   abbrev Vars : List Mention → Type 0
   Vars vs = Each all end (MentionAt' all end) vs
 
-  -- where a fault of scopes stands
+  -- the place of a fault of scopes
   abbrev pub Stands : ReadFault → Type 0
   Stands (Unbound at) = Stand at
   Stands (DuplicateVariable at) = Stand at
@@ -146,7 +146,7 @@ module _ (all : List Piece) (end : ℕ) where
   module_stands m at f h (inl r) = exports_stand (functions m.definitions) m.exports f h.0 r
   module_stands m at f h (inr r) = definitions_stand (setting_of m) [] m.definitions f h.1 r
 
-  -- what a fault of the last pass says of a module whose last `end` stands at a place
+  -- what a fault of the last pass says of a module whose last `end` is at a place
   abbrev pub Says : ModuleTree → ReadFault → Type 0
   Says m (NoMain at) = IsLastEnd all at × ¬ (Contains (functions m.definitions) main_function)
   Says m f = ModuleBreaks m f × Stands f

@@ -65,7 +65,7 @@ module _ {left : Option Unserved} {X : Type 0} (item : State → Read X) (Item :
   unfolding closed_at
   closed_sound close s xs t e done = closed_by_sound close (after_mark close s.pieces) s xs t refl e done
 
-  -- what stands behind the bracket of a list
+  -- what follows the bracket of a list
   abbrev pub Bracketed : List Piece → List X × Option X → List Piece → Type 0
   Bracketed ps (xs, None) rest = Enclosed Item m.RightBracket ps xs rest
   Bracketed ps (xs, Some x) rest = (more : List Piece) × (at bt : ℕ) × Commas Item ps xs (mark at m.Bar ∷ more) × Item more x (mark bt m.RightBracket ∷ rest)
@@ -159,7 +159,7 @@ module _ {left : Option Unserved} {X : Type 0} (item : State → Read X) (Item :
       let g = each s a.0.0 a.0.1 a.1 h.0 in
       (g.0, exactly_form close step.at s.pieces a.0.1.pieces b.0.1.pieces u.pieces a.0.0 b.0.0 g.1 h.1 step.pieces, ap suc h.2)) ends
 
-  -- ---- items one behind the other
+  -- ---- items one after the other
 
   row_by_sound : (close : Keyword) (n : ℕ) (o : Option (List Piece)) (s : State) (xs : List X) (t : State)
       → ((s1 : State) (ys : List X) (u : State) → row_at item close n s1 ≡ Ok (ys, u) → u.refused ≡ left → (s1.refused ≡ left) × Row Item s1.pieces ys u.pieces)

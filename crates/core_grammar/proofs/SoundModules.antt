@@ -58,7 +58,7 @@ bare_fun_sound own arity n s x t e done =
     let vars = exactly_sound (variable_at n) (Variable n) (variable_sound n) m.RightParenthesis arity b.0 v.0.0 v.0.1 c.0 v.1 s3 (s4.back body.0) in
     (s0.back (s1.back vars.0), (fun_form own n s0.at s1.at s4.at s.pieces a.0.pieces b.0.pieces c.0.pieces d.0.pieces y.0.1.pieces v.0.0 y.0.0 s0.pieces s1.pieces vars.1 s4.pieces body.1, vars.2))) done
 
--- the number of variables is told apart from how they are spelt
+-- the number of variables is separated from how they are spelt
 either_fun : (own : List ℕ) (arity n : ℕ) (ps : List Piece) (f : List Mention × Tree) (rest : List Piece) → Noted (FunOf own arity) n ps f rest → Fun own n ps f rest × (length f.0 ≡ arity)
 either_fun own arity n ps f rest (stands_bare h) = (stands_bare h.0, h.1)
 either_fun own arity zero ps f rest (stands_noted h) = absurd h

@@ -31,7 +31,7 @@ module _ {left : Option Unserved} (inner : State → Read Constant) (Inner : Lis
       let h = closed_sound inner Inner each m.RightBracket b.0 c.0.0 c.0.1 c.1 (s3.back done) in
       (s0.back (s1.back h.0), note_form s0.at s1.at s3.at s.pieces a.0.pieces b.0.pieces c.0.1.pieces t.pieces c.0.0 s0.pieces s1.pieces h.1 s3.pieces)
 
-  -- what stands in the parentheses of an annotation; the first of them was read already
+  -- what is in the parentheses of an annotation; the first of them was read already
   pub in_note_sound : {X : Type 0} (item : State → Read X) (Item : List Piece → X → List Piece → Type 0) → Sound left item Item → (at : ℕ) (ps : List Piece) (s : State) (x : X) (t : State)
       → in_note_at inner item (with_pieces s ps) ≡ Ok (x, t) → t.refused ≡ left → (s.refused ≡ left) × InNote Item Inner (mark at m.LeftParenthesis ∷ ps) x t.pieces
   unfolding in_note_at
@@ -105,7 +105,7 @@ constant_sound (suc n) s c t e done = constant_form_sound (constant_at n) (Const
 
 -- ---- what may be annotated
 
--- the front of some tokens is what stands here
+-- the front of some tokens is what is here
 pub at_front : {X : Type 0} (Item : List Piece → X → List Piece → Type 0) (ps qs : List Piece) (x : X) (rest : List Piece) → ps ≡ qs → Item qs x rest → Item ps x rest
 at_front Item ps qs x rest e h = subst (λ (us : List Piece). Item us x rest) (sym e) h
 
@@ -158,7 +158,7 @@ pub variables_sound : {left : Option Unserved} (n : ℕ) → Sound left (variabl
 unfolding variables_at
 variables_sound n s x t e done = noted_sound bare_variables_at (λ l. BareVariables (Variable l)) bare_variables_sound n s x t e done
 
--- two or three variables behind the first mark
+-- two or three variables after the first mark
 record Third (n : ℕ) (u v : Mention) (p2 : List Piece) (vs : List Mention) (rest : List Piece) : Type 0 where
   pub all : {at bt : ℕ} {ps p1 : List Piece} → Variable n ps u (mark bt m.Comma ∷ p1) → Variable n p1 v p2 → BareCaught (Variable n) (mark at m.Less ∷ ps) vs rest
 

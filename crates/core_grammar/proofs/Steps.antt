@@ -27,7 +27,7 @@ pub bind_ok : {A B : Type 0} (r : Result A ReadFault) (f : A → Result B ReadFa
 bind_ok (Ok x) f y e = (x, refl, e)
 bind_ok (Err d) f y e = absurd cc
 
--- ---- numbers of marks and keywords tell them apart
+-- ---- numbers of marks and keywords distinguish them
 
 marks : List Mark
 marks = m.LeftParenthesis ∷ m.RightParenthesis ∷ m.LeftBracket ∷ m.RightBracket ∷ m.LeftBrace ∷ m.RightBrace ∷ m.Less ∷ m.Greater ∷ m.Comma ∷ m.Bar ∷ m.Equals ∷ m.Slash ∷ m.Colon ∷ m.Arrow ∷ m.Note ∷ m.Hash ∷ m.Tilde ∷ []
@@ -237,7 +237,7 @@ function_form : (ps p1 p2 rest : List Piece) (at bt ct n : ℕ) (t : List ℕ) �
     → BareName ps (record { at = at; function = record { name = t; arity = n } }) rest
 function_form ps p1 p2 rest at bt ct n t small e0 e1 e2 = rw (e0, e1, e2) (names_function small)
 
--- a name behind whose atom this was read
+-- a name, where this was read after its atom
 pub behind_atom_sound : {left : Option Unserved} (at : ℕ) (a : List ℕ) (ps : List Piece) (s : State) (x : NamedAt) (t : State) → ps ≡ atom at a ∷ s.pieces → behind_atom_at at a s ≡ Ok (x, t) → t.refused ≡ left → (s.refused ≡ left) × BareName ps x t.pieces
 unfolding behind_atom_at
 behind_atom_sound {left = left} at a ps s x t is e done =

@@ -1,4 +1,4 @@
--- How many arguments follow, by the commas that stand in no further bracket.
+-- How many arguments follow, by the commas that are in no further bracket.
 use Rattle.std.specs.Prelude.{ℕ, zero, suc, List, [], ◌∷◌}
 use Rattle.core_tokens.specs.declared.token.Mark.TheVariants as m
 use Rattle.core_tokens.specs.Piece.{Piece, Shape}
@@ -23,7 +23,7 @@ turn (lexemes.Mark m.Greater) = TurnsOut
 turn (lexemes.Mark m.Comma) = Separates
 turn shape = GoesBy
 
--- a token at this depth, where what stands after it has so many commas by the depth that it stands at
+-- a token at this depth, where what follows it has so many commas by its own depth
 abbrev pub counted : Turn → ℕ → (ℕ → ℕ) → ℕ
 counted TurnsIn depth behind = behind (suc depth)
 counted TurnsOut zero behind = 0
@@ -32,7 +32,7 @@ counted Separates zero behind = suc (behind 0)
 counted Separates (suc depth) behind = behind (suc depth)
 counted GoesBy depth behind = behind depth
 
--- the commas that stand in no further bracket, as far as the bracket that closes; so many brackets were opened before
+-- the commas that are in no further bracket, as far as the bracket that closes; so many brackets were opened before
 abbrev pub commas : ℕ → List Piece → ℕ
 commas depth [] = 0
 commas depth (p ∷ ps) = counted (turn p.shape) depth (λ d. commas d ps)

@@ -1,5 +1,5 @@
 -- How the grammar leads from some tokens to a place where a construct past the last level begins: by levels, beside the grammar's own relations.
--- Deep.. n ps says: one of at most n levels is to begin at the tokens ps; what stands before the place is spelt, and what is to begin there has no level left.
+-- Deep.. n ps says: one of at most n levels is to begin at the tokens ps; what comes before the place is spelt, and what is to begin there has no level left.
 use Rattle.std.specs.Prelude.{◌≡◌, ◌⊎◌, ℕ, zero, suc, List, [], ◌∷◌, length}
 use Rattle.core_tokens.specs.declared.token.Keyword.{Keyword}
 use Rattle.core_tokens.specs.declared.token.Keyword.TheVariants as k
@@ -46,7 +46,7 @@ abbrev pub BeginsAnnotation : Shape → List Piece → Type 0
 BeginsAnnotation (lexemes.Mark m.LeftParenthesis) ps = Unit {0}
 BeginsAnnotation shape ps = ⊥
 
--- the front token stands at the place, and begins what is meant
+-- the front token is at the place, and begins what is meant
 abbrev pub Front : (Shape → List Piece → Type 0) → ℕ → List Piece → Type 0
 Front Begins at [] = ⊥
 Front Begins at (p ∷ ps) = (p.at ≡ at) × Begins p.shape ps
@@ -83,11 +83,11 @@ module _ {X : Type 0} (Item : List Piece → X → List Piece → Type 0) (Deep 
   abbrev pub InCommas : List Piece → Type 0
   InCommas ps = (n : ℕ) × InItems n ps
 
-  -- inside one of the items of a list, or inside what stands after its bar
+  -- inside one of the items of a list, or inside what follows its bar
   abbrev pub InList : List Piece → Type 0
   InList ps = PartOf (Commas Item) InCommas (λ xs. PastMark m.Bar Deep) ps
 
-  -- inside one of some items that stand one directly after the other
+  -- inside one of some items that follow each other directly
   pub data InRow : List Piece → Type 0 where
     goes_in_row : {ps more : List Piece} {xs : List X} → Row Item ps xs more → Deep more → InRow ps
 
@@ -152,7 +152,7 @@ module _ (at : ℕ) where
   DeepPattern zero ps = Front BeginsPattern at ps
   DeepPattern (suc n) ps = PartOf (PatternForm (PatternIn n) (ConstantIn n)) (InGroup (PatternIn n) (DeepPattern n) (ConstantIn n) (DeepConstant n)) (BehindVariable (PastMark m.Equals (DeepPattern n))) ps
 
-  -- inside one of the patterns that stand in angles, which in a `receive` is the first
+  -- inside one of the patterns in angles, which in a `receive` is the first
   abbrev pub InAngles : ℕ → Subject → List Piece → Type 0
   InAngles n subjects.Values ps = InCommas (PatternIn n) (DeepPattern n) ps
   InAngles n subjects.Message ps = InItems (PatternIn n) (DeepPattern n) 1 ps

@@ -1,5 +1,5 @@
 -- Which tokens spell which tree (Core Erlang 1.0.3, "Grammar"): by cases on the forms, apart from any order of reading.
--- Item ps x rest says: the front of the tokens ps spells x, and rest is what stands after it.
+-- Item ps x rest says: the front of the tokens ps spells x, and rest is what follows it.
 use Rattle.std.specs.Prelude.{◌≡◌, ◌≢◌, ℕ, zero, suc, ◌<◌, ℤ, pos, List, [], ◌∷◌, length, codes}
 use Rattle.core_calls.specs.declared.call.CallKind.{CallKind}
 use Rattle.core_calls.specs.declared.pure.PureCall.{PureCall}
@@ -73,7 +73,7 @@ pub data Row {X : Type 0} (Item : List Piece → X → List Piece → Type 0) : 
 pub data Note (Item : List Piece → Constant → List Piece → Type 0) : List Piece → List Piece → Type 0 where
   is_note : {ps rest : List Piece} {at bt ct : ℕ} {cs : List Constant} → Enclosed Item m.RightBracket ps cs (mark ct m.RightParenthesis ∷ rest) → Note Item (mark at m.Note ∷ mark bt m.LeftBracket ∷ ps) rest
 
--- what stands in the parentheses of an annotation
+-- what is in the parentheses of an annotation
 pub data InNote {X : Type 0} (Inner : List Piece → X → List Piece → Type 0) (Item : List Piece → Constant → List Piece → Type 0) : List Piece → X → List Piece → Type 0 where
   in_note : {ps more rest : List Piece} {at : ℕ} {x : X} → Inner ps x more → Note Item more rest → InNote Inner Item (mark at m.LeftParenthesis ∷ ps) x rest
 
@@ -103,7 +103,7 @@ pub data Either {X : Type 0} (Bare Annotated : List Piece → X → List Piece �
   stands_noted : {ps rest : List Piece} {x : X} → Annotated ps x rest → Either Bare Annotated ps x rest
 
 module _ {X : Type 0} (Bare : ℕ → List Piece → X → List Piece → Type 0) where
-  -- annotated once or more; what the parentheses hold stands one level deeper
+  -- annotated once or more; what the parentheses hold is one level deeper
   abbrev pub Annotated : ℕ → List Piece → X → List Piece → Type 0
   Annotated zero ps x rest = ⊥
   Annotated (suc n) ps x rest = InNote (Either (Bare n) (Annotated n)) (ConstantIn n) ps x rest
@@ -177,12 +177,12 @@ abbrev pub HasNoEquals : List Piece → Type 0
 HasNoEquals [] = Unit {0}
 HasNoEquals (p ∷ ps) = IsNoEquals p.shape
 
--- a variable with `=` after it names what a pattern matches: it does not stand alone
+-- a variable with `=` after it names what a pattern matches: it is not alone
 abbrev pub StandsAlone : Pattern → List Piece → Type 0
 StandsAlone (patterns.Variable v) rest = HasNoEquals rest
 StandsAlone q rest = Unit {0}
 
--- a pattern, or `Var = pat`, which stands at the level of its variable or of the parenthesis before that
+-- a pattern, or `Var = pat`, which is at the level of its variable or of the parenthesis before that
 pub data PatternOrAlias (Form Inner : List Piece → Pattern → List Piece → Type 0) : List Piece → Pattern → List Piece → Type 0 where
   no_alias : {ps rest : List Piece} {q : Pattern} → Form ps q rest → StandsAlone q rest → PatternOrAlias Form Inner ps q rest
   is_alias : {ps more rest : List Piece} {at : ℕ} {v : Mention} {q : Pattern} → Form ps (patterns.Variable v) (mark at m.Equals ∷ more) → Inner more q rest → PatternOrAlias Form Inner ps (patterns.Alias v q) rest
@@ -290,7 +290,7 @@ module _ (own : List ℕ) where
     AnnotatedClause zero subject ps c rest = ⊥
     AnnotatedClause (suc n) subject ps c rest = InNote (Either (BareClause (PatternsIn n subject) (Expression n)) (AnnotatedClause n subject)) (ConstantIn n) ps c rest
 
-  -- a clause of a `case` or of a `receive` whose parts have at most so many levels
+  -- a clause of a `case` or of a `receive`, with parts of at most so many levels
   abbrev pub Clause : ℕ → Subject → List Piece → ClauseTree → List Piece → Type 0
   Clause n subject ps c rest = Either (BareClause (PatternsIn n subject) (Expression n)) (AnnotatedClause n subject) ps c rest
 

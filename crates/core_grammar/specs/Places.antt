@@ -46,14 +46,14 @@ abbrev pub LacksEnd : List Piece → Type 0
 LacksEnd [] = Unit {0}
 LacksEnd (p ∷ ps) = (p.shape ≢ lexemes.Word k.End) × LacksEnd ps
 
--- the last word `end` of the tokens begins there: after it stands no other
+-- the last word `end` of the tokens begins there: no other comes after it
 pub record IsLastEnd (ps : List Piece) (at : ℕ) : Type 0 where
   pub before : List Piece
   pub behind : List Piece
   pub stands : ps ≡ before ++ word at k.End ∷ behind
   pub last : LacksEnd behind
 
--- the tokens spell a module of which what the fault says is so
+-- the tokens spell a module for which what the fault says is true
 abbrev pub Breaks : List Piece → ReadFault → Type 0
 Breaks ps fault = (tree : ModuleTree) × Spells ps tree × ModuleBreaks tree fault
 

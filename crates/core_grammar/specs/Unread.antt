@@ -35,7 +35,7 @@ BeginsFunctionBy b ps = ⊥
 abbrev pub BeginsFunction : Shape → List Piece → Type 0
 BeginsFunction shape ps = BeginsFunctionBy (beginning shape) ps
 
--- a token that begins a value where a function's name should stand: an atom with the arguments after it, or what begins an expression and is neither an atom nor `(`
+-- a token that begins a value where a function's name should be: an atom with the arguments after it, or what begins an expression and is neither an atom nor `(`
 abbrev pub BeginsAppliedBy : Beginning → List Piece → Type 0
 BeginsAppliedBy OfAtom ps = HasMark m.LeftParenthesis ps
 BeginsAppliedBy b ps = IsNoNameBy b
@@ -53,7 +53,7 @@ HigherOrderAt ps at = SomeAre (Front BeginsFunction at) ps ⊎ SomeAre (AppliesV
 
 -- ---- other forms
 
--- after `primop` stand a name and arguments of no operation that is read
+-- after `primop` come a name and arguments of no operation that is read
 pub data IsNoOperation : List Piece → Type 0 where
   operates_nothing : {ps : List Piece} {at bt : ℕ} {name : List ℕ} → ((callee : Callee) → ¬ (Operates name (arguments ps) callee)) → IsNoOperation (atom at name ∷ mark bt m.LeftParenthesis ∷ ps)
 

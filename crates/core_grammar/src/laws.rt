@@ -1,4 +1,4 @@
-// What is so of the grammar and of decoding by it. Each function here does nothing: its contract is the law.
+// Laws of the grammar and of decoding by it. Each function here does nothing: its contract is the law.
 ghost use Rattle.std.specs.Prelude.{◌≡◌, ℕ, List, Ok, Err};
 ghost use Rattle.core_tokens.specs.declared.fault.ReadFault.{ReadFault};
 ghost use Rattle.core_tokens.specs.Piece.{Piece};

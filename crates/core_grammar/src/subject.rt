@@ -14,7 +14,7 @@ pub enum Subject {
 }
 
 impl Subject {
-    /// The keyword that stands after the clauses.
+    /// The keyword that follows the clauses.
     pub fn word_behind(self) -> Keyword
         ensures { result ≡ word_behind self }
     {

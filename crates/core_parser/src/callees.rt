@@ -49,8 +49,8 @@ fn applied_fault_of(length: usize, tokens: &[Token]) -> ReadFault
     }
 }
 
-/// What a call in the module `own` calls where no list has it: an exported function of that module, as far
-/// as the names tell.
+// What a call in the module `own` calls where no list has it: an exported function of that module, as far as the names
+// show.
 fn export_called(
     own: &Atom,
     module_name: &Atom,
@@ -69,7 +69,7 @@ fn export_called(
     }))
 }
 
-/// What a call in the module `own` calls, if the world does not serve it.
+// What a call in the module `own` calls, if the world does not serve it.
 fn unlisted_called(
     own: &Atom,
     module_name: &Atom,
@@ -119,7 +119,7 @@ pub fn operation_named(name: &Atom, arity: usize) -> Option<Callee>
     }
 }
 
-/// Of two things that are not served the one whose place is less.
+// Of two things that are not served the one at the lesser place.
 fn earlier(unserved: Unserved, before: Option<Unserved>) -> Unserved
     ensures { result ≡ earlier unserved before }
 {
@@ -136,7 +136,7 @@ fn earlier(unserved: Unserved, before: Option<Unserved>) -> Unserved
 }
 
 impl<'a> Parser<'a> {
-    /// The fault where an atom of the call at `at` should stand.
+    // The fault where an atom of the call at `at` should be.
     #[tactic(auto, unfolding(core_grammar::specs::inside::DecoderForms::callee_fault))]
     fn callee_fault(&self, at: usize) -> ReadFault
         ensures { result ≡ callee_fault at (state_of self.now) }
@@ -144,7 +144,7 @@ impl<'a> Parser<'a> {
         self.refusal(callee_fault_of(at, self.length, self.tokens))
     }
 
-    /// One of the two atoms of the call at `at`, without annotations.
+    // One of the two atoms of the call at `at`, without annotations.
     #[tactic(auto, unfolding(core_grammar::specs::inside::DecoderForms::bare_callee_at))]
     fn bare_callee(&mut self, at: usize) -> Result<Atom, ReadFault>
         ensures { MovesUnlessMemory (λ a. a) result (state_of self.new) (bare_callee_at at (state_of self.old)) }
@@ -177,7 +177,7 @@ impl<'a> Parser<'a> {
         Ok(name)
     }
 
-    /// The fault where the name of the function of an `apply` should stand.
+    // The fault where the name of the function of an `apply` should be.
     #[tactic(auto, unfolding(core_grammar::specs::inside::DecoderForms::applied_fault))]
     fn applied_fault(&self) -> ReadFault
         ensures { result ≡ applied_fault (state_of self.now) }
@@ -185,7 +185,7 @@ impl<'a> Parser<'a> {
         self.refusal(applied_fault_of(self.length, self.tokens))
     }
 
-    /// The atom of the function of an `apply`, with its place.
+    // The atom of the function of an `apply`, with its place.
     #[tactic(auto, unfolding(core_grammar::specs::inside::DecoderForms::applied_atom_at))]
     fn applied_atom(&mut self) -> Result<(usize, Atom), ReadFault>
         ensures { MovesUnlessMemory (λ a. a) result (state_of self.new) (applied_atom_at (state_of self.old)) }
@@ -206,7 +206,7 @@ impl<'a> Parser<'a> {
         }
     }
 
-    /// What stands after the atom of an `apply`: with arguments there the atom is a value that is applied.
+    // What follows the atom of an `apply`: with arguments there the atom is a value that is applied.
     fn behind_applied(&mut self, at: usize, name: Atom) -> Result<NamedFunction, ReadFault>
         ensures { MovesUnlessMemory (λ e. e) result (state_of self.new) (behind_applied_by at name (after_mark LeftParenthesis (state_of self.old).pieces) (state_of self.old)) }
     {
@@ -216,7 +216,7 @@ impl<'a> Parser<'a> {
         Ok(self.behind_atom(at, name)?)
     }
 
-    /// The name of the function of an `apply`, without annotations.
+    // The name of the function of an `apply`, without annotations.
     #[tactic(auto, unfolding(core_grammar::specs::inside::DecoderForms::bare_applied_at))]
     fn bare_applied(&mut self) -> Result<NamedFunction, ReadFault>
         ensures { MovesUnlessMemory (λ e. e) result (state_of self.new) (bare_applied_at (state_of self.old)) }
@@ -237,8 +237,8 @@ impl<'a> Parser<'a> {
         Ok(named)
     }
 
-    /// Keeps in mind what was read whole and is not served: reading goes on, since it may stand in
-    /// something whose place is less.
+    // Remembers what was read whole and is not served: reading goes on, since it may be inside something whose place
+    // is less.
     fn refuse(&mut self, unserved: Unserved)
         ensures { state_of self.new ≡ refuse unserved (state_of self.old) }
     {

@@ -54,7 +54,7 @@ fn onto(alloc: Global, items: Vec<Const>, tail: Const) -> Result<Const, ReadFaul
 }
 
 impl<'a> Parser<'a> {
-    /// The fault at a token past the last level.
+    // The fault at a token past the last level.
     #[tactic(auto, unfolding(core_grammar::specs::inside::Decoder::deep_constant))]
     fn deep_constant(&self) -> ReadFault
         ensures { result ≡ deep_constant (state_of self.now) }
@@ -74,7 +74,7 @@ impl<'a> Parser<'a> {
         }
     }
 
-    /// A constant whose parts have at most so many levels.
+    // A constant whose parts have at most so many levels.
     #[cycle(constants)]
     #[tactic(auto, unfolding(core_grammar::specs::inside::Decoder::constant_form_at))]
     fn constant_form(&mut self, levels: u16) -> Result<Const, ReadFault>
@@ -100,7 +100,7 @@ impl<'a> Parser<'a> {
         }
     }
 
-    /// What stands in the parentheses of an annotated constant, and the end of the annotation.
+    // What is in the parentheses of an annotated constant, and the end of the annotation.
     #[cycle(constants)]
     #[tactic(auto, unfolding(core_grammar::specs::inside::Decoder::in_note_at))]
     fn constant_in_note(&mut self, levels: u16) -> Result<Const, ReadFault>
@@ -124,7 +124,7 @@ impl<'a> Parser<'a> {
         Ok(())
     }
 
-    /// What stands after the brace of a tuple.
+    // What follows the brace of a tuple.
     #[cycle(constants)]
     #[tactic(auto, unfolding(core_grammar::specs::inside::Decoder::constant_tuple_at))]
     fn constant_tuple(&mut self, levels: u16) -> Result<Const, ReadFault>
@@ -134,7 +134,7 @@ impl<'a> Parser<'a> {
         Ok(Const::Tuple(Consts(items)))
     }
 
-    /// Any number of constants, and the closing mark.
+    // Any number of constants, and the closing mark.
     #[cycle(constants)]
     #[tactic(auto, unfolding(core_grammar::specs::inside::Decoder::closed_at))]
     fn constants(&mut self, levels: u16, close: Mark) -> Result<Vec<Const>, ReadFault>
@@ -148,7 +148,7 @@ impl<'a> Parser<'a> {
         Ok(items)
     }
 
-    /// What stands after the bracket of a list.
+    // What follows the bracket of a list.
     #[cycle(constants)]
     #[tactic(auto, unfolding(core_grammar::specs::inside::Decoder::constant_list_at, core_grammar::specs::inside::Decoder::brackets_at))]
     fn constant_list(&mut self, levels: u16) -> Result<Const, ReadFault>
@@ -167,7 +167,7 @@ impl<'a> Parser<'a> {
         Ok(Const::List(Consts(items)))
     }
 
-    /// Constants with commas between them.
+    // Constants with commas between them.
     #[cycle(constants)]
     fn constant_items(&mut self, levels: u16) -> Result<Vec<Const>, ReadFault>
         ensures { MovesUnlessMemory (λ v. map constant_of v.items) result (state_of self.new) (items_at (constant_at levels) (state_of self.old)) }

@@ -35,7 +35,7 @@ impl<'a> Parser<'a> {
         Ok(true)
     }
 
-    /// What stands after the atom of a function's name: `/ Integer`.
+    /// What follows the atom of a function's name: `/ Integer`.
     #[tactic(auto, unfolding(core_grammar::specs::inside::Decoder::behind_atom_at))]
     pub fn behind_atom(&mut self, at: usize, name: Atom) -> Result<NamedFunction, ReadFault>
         ensures { MovesUnlessMemory (λ e. e) result (state_of self.new) (behind_atom_at at name (state_of self.old)) }
@@ -102,7 +102,7 @@ impl<'a> Parser<'a> {
         Ok(variable)
     }
 
-    /// Variables with commas between them.
+    // Variables with commas between them.
     fn variable_items(&mut self, levels: u16) -> Result<Vec<Variable>, ReadFault>
         ensures { MovesUnlessMemory (λ v. v.items) result (state_of self.new) (items_at (variable_at levels) (state_of self.old)) }
     {
@@ -117,7 +117,7 @@ impl<'a> Parser<'a> {
         Err(self.fault())
     }
 
-    /// Any number of variables, and the closing angle.
+    // Any number of variables, and the closing angle.
     #[tactic(auto, unfolding(core_grammar::specs::inside::Decoder::closed_at))]
     fn variables_in_angles(&mut self, levels: u16) -> Result<Vec<Variable>, ReadFault>
         ensures { MovesUnlessMemory (λ v. v.items) result (state_of self.new) (closed_at (variable_at levels) Greater (state_of self.old)) }
@@ -142,7 +142,7 @@ impl<'a> Parser<'a> {
         Ok(parameters)
     }
 
-    /// A variable, or variables in angles, without annotations round them.
+    // A variable, or variables in angles, without annotations round them.
     #[tactic(auto, unfolding(core_grammar::specs::inside::Decoder::bare_variables_at))]
     fn bare_variables(&mut self, levels: u16) -> Result<Vec<Variable>, ReadFault>
         ensures { MovesUnlessMemory (λ v. v.items) result (state_of self.new) (bare_variables_at levels (state_of self.old)) }
@@ -167,7 +167,7 @@ impl<'a> Parser<'a> {
         Ok(variables)
     }
 
-    /// Two or three variables in angles, without annotations round them.
+    // Two or three variables in angles, without annotations round them.
     #[tactic(auto, unfolding(core_grammar::specs::inside::Decoder::bare_caught_at))]
     fn bare_caught(&mut self, levels: u16) -> Result<Vec<Variable>, ReadFault>
         ensures { MovesUnlessMemory (λ v. v.items) result (state_of self.new) (bare_caught_at levels (state_of self.old)) }

@@ -1,4 +1,4 @@
-// What the grammar reads tokens with: one token at a time, with the fault where it cannot stand.
+// What the grammar reads tokens with: one token at a time, with the fault where it cannot be.
 ghost use Rattle.std.specs.Prelude.{◌≡◌, IfOk, is_some};
 ghost use Rattle.core_tokens.specs.Piece.{shape_of, pieces};
 ghost use Rattle.core_grammar.specs.inside.Decoder.{MovesUnlessMemory, PassesUnlessMemory, mark_number, word_number, is_foreign, after_mark, after_word, Skips, fault_of, refusal, place_of, fault, too_deep, mark_at, word_at, comma_at, atom_at, placed_atom_at, arity_at};
@@ -44,7 +44,7 @@ pub fn is_foreign(lexeme: &Lexeme) -> bool
     )
 }
 
-/// The fault at a token that cannot stand here, in a text of this length.
+/// The fault at a token that cannot be here, in a text of this length.
 pub(crate) fn fault_of(length: usize, tokens: &[Token]) -> ReadFault
     ensures { result ≡ fault_of length (pieces tokens.now) }
 {
@@ -81,7 +81,7 @@ impl<'a> Parser<'a> {
         }
     }
 
-    /// The fault at a token that cannot stand here.
+    /// The fault at a token that cannot be here.
     #[tactic(auto, unfolding(core_grammar::specs::inside::Decoder::fault))]
     pub fn fault(&self) -> ReadFault
         ensures { result ≡ fault (state_of self.now) }

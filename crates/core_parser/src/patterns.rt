@@ -52,7 +52,7 @@ fn alias_of(alloc: Global, variable: Variable, whole: Pattern) -> Result<Pattern
 }
 
 impl<'a> Parser<'a> {
-    /// The fault at a token past the last level.
+    // The fault at a token past the last level.
     #[tactic(auto, unfolding(core_grammar::specs::inside::Decoder::deep_pattern))]
     fn deep_pattern(&self) -> ReadFault
         ensures { result ≡ deep_pattern (state_of self.now) }
@@ -90,7 +90,7 @@ impl<'a> Parser<'a> {
         }
     }
 
-    /// A pattern that is no alias, whose parts have at most so many levels.
+    // A pattern that is no alias, whose parts have at most so many levels.
     #[cycle(patterns)]
     #[tactic(auto, unfolding(core_grammar::specs::inside::Decoder::pattern_form_at))]
     fn pattern_form(&mut self, levels: u16) -> Result<Pattern, ReadFault>
@@ -119,7 +119,7 @@ impl<'a> Parser<'a> {
         }
     }
 
-    /// What stands in the parentheses of an annotated pattern, and the end of the annotation.
+    // What is in the parentheses of an annotated pattern, and the end of the annotation.
     #[cycle(patterns)]
     #[tactic(auto, unfolding(core_grammar::specs::inside::Decoder::in_note_at))]
     fn pattern_in_note(&mut self, levels: u16) -> Result<Pattern, ReadFault>
@@ -130,7 +130,7 @@ impl<'a> Parser<'a> {
         Ok(pattern)
     }
 
-    /// What stands after the brace of a tuple.
+    // What follows the brace of a tuple.
     #[cycle(patterns)]
     #[tactic(auto, unfolding(core_grammar::specs::inside::Decoder::pattern_tuple_at))]
     fn pattern_tuple(&mut self, levels: u16) -> Result<Pattern, ReadFault>
@@ -140,7 +140,7 @@ impl<'a> Parser<'a> {
         Ok(Pattern::Tuple(Patterns(items)))
     }
 
-    /// What stands after the bracket of a list.
+    // What follows the bracket of a list.
     #[cycle(patterns)]
     #[tactic(auto, unfolding(core_grammar::specs::inside::Decoder::pattern_list_at, core_grammar::specs::inside::Decoder::brackets_at))]
     fn pattern_list(&mut self, levels: u16) -> Result<Pattern, ReadFault>
@@ -173,7 +173,7 @@ impl<'a> Parser<'a> {
         Ok(items)
     }
 
-    /// Patterns with commas between them.
+    // Patterns with commas between them.
     #[cycle(patterns)]
     fn pattern_items(&mut self, levels: u16) -> Result<Vec<Pattern>, ReadFault>
         ensures { MovesUnlessMemory (λ v. map pattern_of v.items) result (state_of self.new) (items_at (pattern_at levels) (state_of self.old)) }

@@ -50,7 +50,7 @@ is_only stop ps d r complete read this only m h lawful =
     by (Ok x) this only e = this.1 ∙ e
     by (Err f) this only e = only (subst (λ (t : ModuleTree). IsLawful t) (sym e) lawful)
 
--- where decoding fails but for want of memory, nothing is spelt
+-- where decoding fails except for lack of memory, nothing is spelt
 only_memory : (e : ReadFault) (x : ModuleTree × ℕ) → (e ≢ Memory → read_as x ≡ fails_with e) → e ≡ Memory
 only_memory Memory x h = refl
 only_memory e x h = absurd (apart x e (h (λ same. absurd cc)))

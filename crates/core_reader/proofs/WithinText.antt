@@ -21,7 +21,7 @@ use Rattle.core_tokens.specs.Within.{IsPlacedWithin, StandWithin}
 use Rattle.core_tokens.specs.Text.{text_limit}
 use Rattle.core_reader.specs.ModuleText.{SpellsModule}
 
--- the tokens of a text stand in it
+-- the tokens of a text are in it
 pub tokens_within : {stop : ℕ} {behind last : Bool} {bytes rest : List ℕ} {ps : List Piece} → Spelt stop behind bytes ps last rest → StandWithin stop ps
 tokens_within none = tt
 tokens_within (blank e s) = tokens_within s
@@ -37,7 +37,7 @@ says text ps (Err e) fits utf8 tokens spelt lawful = tt
 pub said : (text : List ℕ) (ps : List Piece) (r : Result ModuleTree ReadFault) → ((qs : List Piece) → AreTokens text qs → ps ≡ qs) → ((m : ModuleTree) → Spells ps m → IsLawful m → IsReadAs m r) → (m : ModuleTree) → SpellsModule text m → IsReadAs m r
 said text ps r same read m s = read m (subst (λ (qs : List Piece). Spells qs m) (sym (same s.pieces s.tokens)) s.spelt) s.lawful
 
--- a fault of the tokens stands in the text
+-- a fault of the tokens is in the text
 pub token_fault_within : (text : List ℕ) (e : ReadFault) → IsTokenFault text e → IsPlacedWithin (length text) e
 token_fault_within text (fault.BadToken place) f = let small : place < length text = f.5 in omega arith
 token_fault_within text (fault.BadInteger place) f = let small : place < length text = f.5 in omega arith
@@ -66,7 +66,7 @@ place_within : (stop : ℕ) (ps : List Piece) (at : ℕ) → StandWithin stop ps
 place_within stop ps at w (inl h) = token_at_within stop ps at w h
 place_within stop ps at w (inr e) = omega arith
 
--- each of the tokens stands in the text
+-- each of the tokens is in the text
 one_within : (stop : ℕ) (ps : List Piece) (p : Piece) → StandWithin stop ps → IsOne ps p → p.at ≤ stop
 one_within stop [] p w h = absurd h
 one_within stop (q ∷ qs) p w (inl e) = subst (λ (x : Piece). x.at ≤ stop) e w.0
@@ -80,7 +80,7 @@ behind_stands (q ∷ qs) behind p = inr (behind_stands qs behind p)
 last_end_stands : (ps : List Piece) (at : ℕ) → IsLastEnd ps at → IsOne ps (word at k.End)
 last_end_stands ps at h = subst (λ (qs : List Piece). IsOne qs (word at k.End)) (sym h.stands) (behind_stands h.before h.behind (word at k.End))
 
--- the last tokens stand in the text
+-- the last tokens are in the text
 last_within : (stop : ℕ) (before here : List Piece) → StandWithin stop (before ++ here) → StandWithin stop here
 last_within stop [] here w = w
 last_within stop (p ∷ ps) here w = last_within stop ps here w.1
@@ -103,7 +103,7 @@ parentheses_within stop (p ∷ ps) w = bare_within stop p.shape (p ∷ ps) (with
 value_within : (stop at : ℕ) (qs : List Piece) → StandWithin stop qs → AppliesValue at qs → at ≤ stop
 value_within stop at qs w (passes_word {ps = ps} h) = front_within stop at BeginsApplied (within ps) (parentheses_within stop ps w.1) h
 
--- a fault of the grammar or of the scopes stands in the text
+-- a fault of the grammar or of the scopes is in the text
 pub fault_within : (stop : ℕ) (ps : List Piece) (e : ReadFault) → StandWithin stop ps → IsFaultOf ps stop e → IsPlacedWithin stop e
 fault_within stop ps (fault.Expected at) w f = place_within stop ps at w f
 fault_within stop ps (fault.Unbound at) w f = place_within stop ps at w f.0

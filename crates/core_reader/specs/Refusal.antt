@@ -15,14 +15,14 @@ use Rattle.core_reader.specs.ModuleText.{SpellsModule}
 abbrev pub IsLegible : List ℕ → Type 0
 IsLegible text = (length text ≤ text_limit) × IsUtf8 text
 
--- the text is legible and is tokens, and what the fault says of them is so
+-- the text is legible and is tokens, and what the fault says of them is true
 pub record IsFaultOfTokensOf (text : List ℕ) (f : ReadFault) : Type 0 where
   pub legible : IsLegible text
   pub pieces : List Piece
   pub tokens : AreTokens text pieces
   pub stands : IsFaultOf pieces (length text) f
 
--- what the fault says of the text is so; of a fault of the grammar or of the scopes, that the text is tokens, and what the fault says of them is so
+-- what the fault says of the text is true; a fault of the grammar or of the scopes says that the text is tokens, and what it says of them is true
 abbrev pub IsTrueOf : List ℕ → ReadFault → Type 0
 IsTrueOf text (fault.TooLong place) = (text_limit < length text) × (place ≡ text_limit)
 IsTrueOf text (fault.NotUtf8 place) = (length text ≤ text_limit) × ¬ (IsUtf8 text) × (place ≡ utf8_valid_len text)
@@ -31,7 +31,7 @@ IsTrueOf text (fault.BadInteger place) = IsLegible text × IsTokenFault text (fa
 IsTrueOf text fault.Memory = Unit {0}
 IsTrueOf text f = IsFaultOfTokensOf text f
 
--- the fault refuses the text: what it says is so, and but for lack of memory the text is that of no module
+-- the fault refuses the text: what it says is true, and except for lack of memory the text is that of no module
 pub record IsRefusalOf (text : List ℕ) (f : ReadFault) : Type 0 where
   pub says : IsTrueOf text f
   pub only : (m : ModuleTree) → SpellsModule text m → f ≡ fault.Memory

@@ -40,7 +40,7 @@ pub(crate) struct ModuleReader<'a> {
 }
 
 impl<'a> ModuleReader<'a> {
-    /// `Atom = const`, of at most so many levels.
+    // `Atom = const`, of at most so many levels.
     #[tactic(auto, unfolding(core_grammar::specs::inside::DecoderModules::attribute_at))]
     fn attribute(&mut self, levels: u16) -> Result<Attribute, ReadFault>
         ensures { MovesUnlessMemory (λ a. a) result (state_in self.new) (attribute_at levels (state_in self.old)) }
@@ -51,7 +51,7 @@ impl<'a> ModuleReader<'a> {
         Ok(Attribute { name, value })
     }
 
-    /// Attributes with commas between them.
+    // Attributes with commas between them.
     fn attribute_items(&mut self, levels: u16) -> Result<Vec<Attribute>, ReadFault>
         ensures { MovesUnlessMemory (λ v. v.items) result (state_in self.new) (items_at (attribute_at levels) (state_in self.old)) }
     {
@@ -66,7 +66,7 @@ impl<'a> ModuleReader<'a> {
         Err(self.forms.parser.fault())
     }
 
-    /// Any number of attributes, and the closing bracket.
+    // Any number of attributes, and the closing bracket.
     #[tactic(auto, unfolding(core_grammar::specs::inside::Decoder::closed_at))]
     fn attributes(&mut self, levels: u16) -> Result<Vec<Attribute>, ReadFault>
         ensures { MovesUnlessMemory (λ v. v.items) result (state_in self.new) (closed_at (attribute_at levels) RightBracket (state_in self.old)) }
@@ -79,7 +79,7 @@ impl<'a> ModuleReader<'a> {
         Ok(items)
     }
 
-    /// Names of functions with commas between them.
+    // Names of functions with commas between them.
     fn export_items(&mut self, levels: u16) -> Result<Vec<NamedFunction>, ReadFault>
         ensures { MovesUnlessMemory (λ v. v.items) result (state_in self.new) (items_at (function_name_at levels) (state_in self.old)) }
     {
@@ -94,7 +94,7 @@ impl<'a> ModuleReader<'a> {
         Err(self.forms.parser.fault())
     }
 
-    /// Any number of names of functions, and the closing bracket.
+    // Any number of names of functions, and the closing bracket.
     #[tactic(auto, unfolding(core_grammar::specs::inside::Decoder::closed_at))]
     fn exports(&mut self, levels: u16) -> Result<Vec<NamedFunction>, ReadFault>
         ensures { MovesUnlessMemory (λ v. v.items) result (state_in self.new) (closed_at (function_name_at levels) RightBracket (state_in self.old)) }
@@ -107,7 +107,7 @@ impl<'a> ModuleReader<'a> {
         Ok(items)
     }
 
-    /// `fun (Var, ..) -> expr` in the module `own`, with so many variables, without annotations.
+    // `fun (Var, ..) -> expr` in the module `own`, with so many variables, without annotations.
     #[tactic(auto, unfolding(core_grammar::specs::inside::DecoderModules::bare_fun_at))]
     fn bare_fun(&mut self, own: &Atom, arity: u8, levels: u16) -> Result<Fun, ReadFault>
         ensures { MovesUnlessMemory fun_of result (state_in self.new) (bare_fun_at own.now arity levels (state_in self.old)) }
@@ -121,8 +121,8 @@ impl<'a> ModuleReader<'a> {
         Ok(Fun { parameters, body })
     }
 
-    /// `fun (Var, ..) -> expr` in the module `own`, with so many variables, annotated in at most so many
-    /// levels.
+    // `fun (Var, ..) -> expr` in the module `own`, with so many variables, annotated in at most so many
+    // levels.
     fn fun(&mut self, own: &Atom, arity: u8, levels: u16) -> Result<Fun, ReadFault>
         ensures { MovesUnlessMemory fun_of result (state_in self.new) (fun_at own.now arity levels (state_in self.old)) }
     {
@@ -134,7 +134,7 @@ impl<'a> ModuleReader<'a> {
         Ok(function)
     }
 
-    /// What stands after the name of a definition.
+    // What follows the name of a definition.
     #[tactic(auto, unfolding(core_grammar::specs::inside::DecoderModules::behind_name_at))]
     fn behind_name(
         &mut self,
@@ -158,7 +158,7 @@ impl<'a> ModuleReader<'a> {
         })
     }
 
-    /// The opening in the parentheses of an annotation: with `=` after a name it is the whole definition.
+    // The opening in the parentheses of an annotation: with `=` after a name it is the whole definition.
     fn opened(&mut self, own: &Atom, levels: u16, opening: Opening) -> Result<Opening, ReadFault>
         ensures { MovesUnlessMemory opening_of result (state_in self.new) (opened own.now levels (opening_of opening) (state_in self.old)) }
     {
@@ -173,7 +173,7 @@ impl<'a> ModuleReader<'a> {
         }
     }
 
-    /// What stands in the parentheses of an annotation of a definition or of its name.
+    // What is in the parentheses of an annotation of a definition or of its name.
     #[cycle(opening)]
     #[tactic(auto, unfolding(core_grammar::specs::inside::DecoderModules::inside_opening_at))]
     fn inside_opening(&mut self, own: &Atom, levels: u16) -> Result<Opening, ReadFault>
@@ -183,7 +183,7 @@ impl<'a> ModuleReader<'a> {
         Ok(self.opened(own, levels, opening)?)
     }
 
-    /// What a definition of the module `own` begins with, annotated in at most so many levels.
+    // What a definition of the module `own` begins with, annotated in at most so many levels.
     #[cycle(opening)]
     fn opening(&mut self, own: &Atom, levels: u16) -> Result<Opening, ReadFault>
         ensures { MovesUnlessMemory opening_of result (state_in self.new) (opening_at own.now levels (state_in self.old)) }
@@ -195,7 +195,7 @@ impl<'a> ModuleReader<'a> {
         self.forms.parser.note(levels - 1).and(Ok(opening))
     }
 
-    /// A definition of the module `own`, whose parts have at most so many levels.
+    // A definition of the module `own`, whose parts have at most so many levels.
     #[tactic(auto, unfolding(core_grammar::specs::inside::DecoderModules::definition_at))]
     fn definition(&mut self, own: &Atom, levels: u16) -> Result<Defined, ReadFault>
         ensures { MovesUnlessMemory defined_of result (state_in self.new) (definition_at own.now levels (state_in self.old)) }
@@ -206,7 +206,7 @@ impl<'a> ModuleReader<'a> {
         }
     }
 
-    /// The definitions of the module `own`, as far as the last `end`.
+    // The definitions of the module `own`, as far as the last `end`.
     fn definitions(&mut self, own: &Atom, levels: u16) -> Result<Vec<Defined>, ReadFault>
         ensures { MovesUnlessMemory (λ v. map defined_of v.items) result (state_in self.new) (rows_at (definition_at own.now levels) End (state_in self.old)) }
     {
@@ -221,7 +221,7 @@ impl<'a> ModuleReader<'a> {
         Err(self.forms.parser.fault())
     }
 
-    /// The name, the exports and the attributes.
+    // The name, the exports and the attributes.
     #[tactic(auto, unfolding(core_grammar::specs::inside::DecoderModules::front_at))]
     fn front(&mut self, levels: u16) -> Result<Front, ReadFault>
         ensures { MovesUnlessMemory front_of result (state_in self.new) (front_at levels (state_in self.old)) }
@@ -240,7 +240,7 @@ impl<'a> ModuleReader<'a> {
         })
     }
 
-    /// A module without annotations round it.
+    // A module without annotations round it.
     #[tactic(auto, unfolding(core_grammar::specs::inside::DecoderModules::bare_module_at))]
     fn bare_module(&mut self, levels: u16) -> Result<Draft, ReadFault>
         ensures { MovesUnlessMemory draft_of result (state_in self.new) (bare_module_at levels (state_in self.old)) }
@@ -256,7 +256,7 @@ impl<'a> ModuleReader<'a> {
         })
     }
 
-    /// A module, annotated in at most so many levels.
+    // A module, annotated in at most so many levels.
     fn noted_module(&mut self, levels: u16) -> Result<Draft, ReadFault>
         ensures { MovesUnlessMemory draft_of result (state_in self.new) (noted_at bare_module_at levels (state_in self.old)) }
     {
@@ -268,7 +268,7 @@ impl<'a> ModuleReader<'a> {
         Ok(draft)
     }
 
-    /// The draft, where nothing is left to read and all of it is served.
+    // The draft, where nothing is left to read and all of it is served.
     fn ended(&self, draft: Draft) -> Result<Draft, ReadFault>
         ensures { GivesUnlessMemory draft_of result (ended (state_in self.now).pieces (state_in self.now).refused (draft_of draft) (state_in self.now)) }
     {

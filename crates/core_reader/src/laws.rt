@@ -1,4 +1,4 @@
-// What is so of texts as modules. Each function here does nothing: its contract is the law.
+// Laws of texts as modules. Each function here does nothing: its contract is the law.
 ghost use Rattle.std.specs.Prelude.{◌≡◌, ℕ, List};
 ghost use Rattle.core_tree.specs.Servable.{IsServableModule};
 ghost use Rattle.core_tree.specs.Syntax.{ModuleTree};

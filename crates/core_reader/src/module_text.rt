@@ -31,7 +31,7 @@ pub fn read_module(alloc: Global, text: &[u8]) -> Result<Module, ReadFault>
     // Length and encoding are judged first.
     ensures long { text_limit < length text.now → IsErrOf result (ReadFault.TooLong text_limit) }
     ensures ill { length text.now ≤ text_limit → ¬ (IsUtf8 text.now) → IsErrOf result (ReadFault.NotUtf8 (utf8_valid_len text.now)) }
-    // A refusal says what is so of the text.
+    // A refusal says what is true of the text.
     ensures refusal { IfErr result (IsRefusalOf text.now) }
     // Each refusal but that for memory names a place in the text, or its end.
     ensures place { IfErr result (IsPlacedWithin (length text.now)) }

@@ -1,4 +1,4 @@
--- Variables bound one behind the other, and scopes looked through.
+-- Variables bound one after the other, and scopes looked through.
 use Rattle.std.proofs.Common.{◌≡◌, ◌≢◌, ℕ, Bool, true, false, ◌||◌, List, [], ◌∷◌, ◌++◌, Result, Ok, Err, refl, sym, ap, ◌∙◌, append_assoc, not, if◌then◌else◌, ℤ, ◌⊎◌, inl, inr, Vec, Global}
 use Rattle.term_core.specs.declared.atom.Atom.{Atom}
 use Rattle.core_tree.specs.declared.pattern.Pattern.{Pattern as Shape}
@@ -58,7 +58,7 @@ module _ (ks new : List (Bor (List ℕ))) (k : Bor (List ℕ)) (r : Bool) (v w :
       let one : check_distinct (shown ks) (v ∷ []) ≡ Err (DuplicateVariable v.at) = rw among refl in
       one ∙ ap (λ (x : Mention). Err (DuplicateVariable x.at)) (sym is) ∙ ap Err (sym fault)
 
--- ---- variables behind variables
+-- ---- variables after variables
 
 pub distinct_append : (before : List (List ℕ)) (vs ws : List Mention) → check_distinct before (vs ++ ws) ≡ (check_distinct before vs >>= λ _. check_distinct (before ++ names vs) ws)
 unfolding check_distinct

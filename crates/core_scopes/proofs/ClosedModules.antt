@@ -23,7 +23,7 @@ is_lawful m end (Ok x) given =
     (subst IsLawful h.1 h.0, sym h.1)
 is_lawful m end (Err e) given = tt
 
--- where the module is made but for want of memory, the fault is that
+-- where the module is made except for lack of memory, the fault is that
 pub only_memory : (e : ReadFault) (m : ModuleTree) → (e ≢ Memory → made m ≡ fails_with e) → e ≡ Memory
 only_memory Memory m h = refl
 only_memory e m h = absurd (apart m e (h (λ same. absurd cc)))

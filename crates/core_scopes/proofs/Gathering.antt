@@ -180,7 +180,7 @@ take_whole (x ∷ xs) = ap (λ ys. x ∷ ys) (take_whole xs)
 take_front : {X : Type 0} (n : ℕ) (xs ys : List X) → n ≤ length xs → take n (xs ++ ys) ≡ take n xs
 take_front n xs ys le = take-append-le n xs ys le
 
--- one more definition, d, whose name has none before
+-- one more definition, d, with a name that none before has
 module _ (all ds : List DefinitionTree) (es fs : List (Function × Definition)) (e : Function × Definition) where
   abbrev d : DefinitionTree
   d = definition_of e

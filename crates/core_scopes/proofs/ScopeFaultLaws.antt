@@ -1,4 +1,4 @@
--- What each fault of scopes and names says is so.
+-- What each fault of scopes and names says is true.
 use Rattle.std.proofs.Common.{◌≡◌, ℕ, Bool, true, false, cond, List, [], ◌∷◌, ◌++◌, Result, Ok, Err, refl, sym, ap, inl, inr, ◌⊎◌}
 use Rattle.std.specs.Prelude.{Contains}
 use Rattle.core_tokens.specs.declared.fault.ReadFault.{ReadFault}

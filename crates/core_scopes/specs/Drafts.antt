@@ -1,4 +1,4 @@
--- A module of which nothing is known yet but its tree.
+-- A module of which only the tree is known yet.
 use Rattle.std.specs.Prelude.{ℕ, map}
 use Rattle.core_tree.specs.Syntax.{DefinitionTree, ModuleTree}
 use Rattle.core_tree.specs.Definitions.{definition_of}

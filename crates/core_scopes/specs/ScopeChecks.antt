@@ -29,7 +29,7 @@ check_distinct before (v ∷ vs) = if is_among before v.name then Err (Duplicate
 abbrev pub is_defined : List Function → Function → Bool
 is_defined defined f = list_any (same_function f) defined
 
--- an effect may not stand in a guard
+-- an effect is not allowed in a guard
 abbrev pub check_effect : Setting → ℕ → Checked
 check_effect x at = if x.in_guard then Err (EffectInGuard at) else Ok tt
 

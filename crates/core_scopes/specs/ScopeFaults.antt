@@ -1,4 +1,4 @@
--- What a fault of scopes and names says of a module: what its line says is so at its place.
+-- What a fault of scopes and names says of a module: what its line says is true at its place.
 use Rattle.std.specs.Prelude.{◌≡◌, ◌⊎◌, ℕ, true, List, [], ◌∷◌, ◌++◌, Contains}
 use Rattle.core_tokens.specs.declared.fault.ReadFault.{ReadFault}
 use Rattle.core_tokens.specs.declared.fault.ReadFault.TheVariants.{Unbound, DuplicateVariable, DuplicateFunction, NoFunction, UnsupportedCall, EffectInGuard, NoMain}
@@ -12,11 +12,11 @@ abbrev pub Repeats : List (List ℕ) → List Mention → ReadFault → Type 0
 Repeats before [] fault = ⊥
 Repeats before (v ∷ vs) fault = (Contains before v.name × (fault ≡ DuplicateVariable v.at)) ⊎ Repeats (before ++ v.name ∷ []) vs fault
 
--- an effect stands in a guard
+-- an effect occurs in a guard
 abbrev pub HasEffect : Setting → ℕ → ReadFault → Type 0
 HasEffect x at fault = (x.in_guard ≡ true) × (fault ≡ EffectInGuard at)
 
--- the call at this place may not be made there: it stands in a guard, or calls what is not exported or not defined
+-- the call at this place may not be made there: it is in a guard, or calls what is not exported or not defined
 abbrev pub MayNotCall : Setting → ℕ → Callee → ReadFault → Type 0
 MayNotCall x at (callees.World kind) fault = HasEffect x at fault
 MayNotCall x at (callees.Pure kind) fault = ⊥
@@ -25,7 +25,7 @@ MayNotCall x at (callees.Defined n) fault = HasEffect x at fault ⊎ (¬ (Contai
 MayNotCall x at callees.MatchFail fault = HasEffect x at fault
 MayNotCall x at callees.Raise fault = HasEffect x at fault
 
--- somewhere in an expression a variable is not bound, or bound twice, or a call may not be made, or a `receive` stands in a guard
+-- somewhere in an expression a variable is not bound, or bound twice, or a call may not be made, or a `receive` is in a guard
 abbrev mutual
   pub Breaks : Setting → List (List ℕ) → Tree → ReadFault → Type 0
   Breaks x bound (trees.Integer n) fault = ⊥
@@ -64,10 +64,10 @@ abbrev pub SomeExportBreaks : List Function → List NamedAt → ReadFault → T
 SomeExportBreaks defined [] fault = ⊥
 SomeExportBreaks defined (e ∷ es) fault = (¬ (Contains defined e.function) × (fault ≡ NoFunction e.at)) ⊎ SomeExportBreaks defined es fault
 
--- what the fault says of the module is so
+-- what the fault says of the module is true
 abbrev pub ModuleBreaks : ModuleTree → ReadFault → Type 0
 ModuleBreaks m fault = SomeExportBreaks (functions m.definitions) m.exports fault ⊎ SomeDefinitionBreaks (setting_of m) [] m.definitions fault
 
--- what the fault says of a module whose last `end` stands at the place is so, or at that place it is that `main/0` has no definition
+-- what the fault says of the module is true; or the fault says, at the place of the last `end`, that `main/0` has no definition, and it has none
 abbrev pub IsFaultOfModule : ModuleTree → ℕ → ReadFault → Type 0
 IsFaultOfModule m end fault = ModuleBreaks m fault ⊎ ((fault ≡ NoMain end) × ¬ (Contains (functions m.definitions) main_function))

@@ -9,7 +9,7 @@ use Rattle.core_tree.specs.Expression as trees
 abbrev pub names : List Mention → List (List ℕ)
 names vs = map (λ v. v.name) vs
 
--- no item stands twice
+-- no item occurs twice
 abbrev pub AreDistinct : {X : Type 0} → List X → Type 0
 AreDistinct [] = Unit {0}
 AreDistinct (x ∷ xs) = ¬ (Contains xs x) × AreDistinct xs
@@ -35,7 +35,7 @@ abbrev mutual
 abbrev pub bound_by : List Pattern → List Mention
 bound_by qs = variables_of_all (patterns_of qs)
 
--- where an expression stands: the functions that are defined, those that are exported, and whether it is part of a guard
+-- the setting of an expression: the functions that are defined, those that are exported, and whether it is part of a guard
 pub record Setting : Type 0 where
   pub defined : List Function
   pub exported : List Function
@@ -53,7 +53,7 @@ MayCall x (callees.Defined named) = (x.in_guard ≡ false) × Contains x.defined
 MayCall x callees.MatchFail = x.in_guard ≡ false
 MayCall x callees.Raise = x.in_guard ≡ false
 
--- each variable is one of those around it that are bound, and each call one that may be made; `let`, `try` and clauses bind variables in their parts; the timeout of a `receive` and what is done then see those outside, and no `receive` stands in a guard
+-- each variable is one of those around it that are bound, and each call one that may be made; `let`, `try` and clauses bind variables in their parts; the timeout of a `receive` and what is done then see those outside, and no `receive` is in a guard
 abbrev mutual
   pub IsClosed : Setting → List (List ℕ) → Tree → Type 0
   IsClosed x bound (trees.Integer n) = Unit {0}
@@ -88,7 +88,7 @@ functions ds = map (λ d. d.named.function) ds
 abbrev pub exported_by : List NamedAt → List Function
 exported_by es = map (λ e. e.function) es
 
--- where the body of a definition stands
+-- the setting of the body of a definition
 abbrev pub setting_of : ModuleTree → Setting
 setting_of m = record { defined = functions m.definitions; exported = exported_by m.exports; in_guard = false }
 

@@ -11,7 +11,7 @@ pub struct Defined {
     pub definition: Definition,
 }
 
-/// What stands before the definitions of a module.
+/// What comes before the definitions of a module.
 #[derive(Drop)]
 pub struct Front {
     /// The name of the module.
@@ -27,7 +27,7 @@ pub struct Front {
 /// scopes, nor whether a function is defined once.
 #[derive(Drop)]
 pub struct Draft {
-    /// What stands before the definitions.
+    /// What comes before the definitions.
     pub front: Front,
     /// The definitions in the order of the text.
     pub definitions: Vec<Defined>,

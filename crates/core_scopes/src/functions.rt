@@ -18,7 +18,7 @@ use indexmap::{IndexMap, IndexSet};
 use std::alloc::Global;
 use term_core::Atom;
 
-/// The first duplicate definition: how many definitions stand before it, and the place of its name.
+/// The first duplicate definition: how many definitions come before it, and the place of its name.
 #[derive(Clone, Copy)]
 pub(crate) struct Duplicate {
     pub before: usize,
@@ -32,7 +32,7 @@ struct Gathered {
     second: Option<Duplicate>,
 }
 
-/// The first duplicate definition, where `second` is that of the definitions before.
+// The first duplicate definition, where `second` is that of the definitions before.
 fn first_duplicate(
     definitions: &IndexMap<FunctionName, Definition>,
     second: Option<Duplicate>,
@@ -52,7 +52,7 @@ fn first_duplicate(
     None
 }
 
-/// Puts a definition last, unless its name has one.
+// Puts a definition last, unless its name has one.
 fn keep(
     definitions: &mut IndexMap<FunctionName, Definition>,
     defined: Defined,
@@ -72,7 +72,7 @@ fn keep(
     Ok(())
 }
 
-/// The definitions by name. All of them are known before a body is looked at, since it may apply any.
+// The definitions by name. All of them are known before a body is looked at, since it may apply any.
 #[tactic(auto, unfolding(crate::specs::inside::Environment::check_bodies))]
 fn gather(alloc: Global, all: Vec<Defined>) -> Result<Gathered, ReadFault>
     ensures checked { IfOk result (λ g. (x : Place) → check_kept x g.second g.definitions.entries ≡ check_definitions x [] (map defined_of all.items)) }
@@ -92,7 +92,7 @@ fn gather(alloc: Global, all: Vec<Defined>) -> Result<Gathered, ReadFault>
     })
 }
 
-/// The names of the exported functions.
+// The names of the exported functions.
 fn exported_names<'a>(
     alloc: Global,
     exports: &'a [NamedFunction],
@@ -107,7 +107,7 @@ fn exported_names<'a>(
     Ok(names)
 }
 
-/// Each name has a definition. The fault is `NoFunction` at the first that has none.
+// Each name has a definition. The fault is `NoFunction` at the first that has none.
 fn check_exports(
     exports: &[NamedFunction],
     definitions: &IndexMap<FunctionName, Definition>,
@@ -122,7 +122,7 @@ fn check_exports(
     Ok(())
 }
 
-/// The parameters differ from each other, and the body sees them.
+// The parameters differ from each other, and the body sees them.
 #[tactic(auto, unfolding(crate::specs::ScopeChecks::check_definition))]
 fn check_definition(
     setting: &Setting,
@@ -139,7 +139,7 @@ fn check_definition(
     )
 }
 
-/// So many of the definitions, one after the other.
+// So many of the definitions, one after the other.
 fn check_bodies(setting: &Setting, count: usize) -> Result<(), ReadFault>
     ensures { GivesUnlessMemory (λ u. u) result (check_bodies (setting_in setting.now) (take count (map definition_of setting.now.definitions.now.entries))) }
 {
@@ -152,8 +152,8 @@ fn check_bodies(setting: &Setting, count: usize) -> Result<(), ReadFault>
     Ok(())
 }
 
-/// The definitions up to the first duplicate. Faults are those of the bodies, and `DuplicateFunction` at the
-/// name of the duplicate.
+// The definitions up to the first duplicate. Faults are those of the bodies, and `DuplicateFunction` at the
+// name of the duplicate.
 fn check_kept(setting: &Setting, second: Option<Duplicate>) -> Result<(), ReadFault>
     ensures { GivesUnlessMemory (λ u. u) result (check_kept (setting_in setting.now) second setting.now.definitions.now.entries) }
 {
@@ -166,7 +166,7 @@ fn check_kept(setting: &Setting, second: Option<Duplicate>) -> Result<(), ReadFa
     }
 }
 
-/// The exported names, and then the definitions.
+// The exported names, and then the definitions.
 fn check_functions(
     alloc: Global,
     exports: &[NamedFunction],
@@ -185,7 +185,7 @@ fn check_functions(
     check_kept(&setting, gathered.second)
 }
 
-/// Whether `main/0` has a definition.
+// Whether `main/0` has a definition.
 fn has_main(
     alloc: Global,
     definitions: &IndexMap<FunctionName, Definition>,
@@ -200,7 +200,7 @@ fn has_main(
     Ok(is_defined(definitions, &main))
 }
 
-/// The module, if it is closed: the exported names first, then the definitions, then `main/0`.
+// The module, if it is closed: the exported names first, then the definitions, then `main/0`.
 fn checked_module(alloc: Global, draft: Draft) -> Result<Module, ReadFault>
     ensures { GivesUnlessMemory (λ m. m) result (check_module (draft_of draft)) }
 {
@@ -227,12 +227,12 @@ fn checked_module(alloc: Global, draft: Draft) -> Result<Module, ReadFault>
     })
 }
 
-/// The module of a draft, if it is closed: each variable has a binding, each function that is exported, applied
-/// or called a definition or an export, none is bound or defined twice in one place, no guard has an effect (Core
-/// Erlang 1.0.3, "Lexical scoping" and "Static constraints"), and `main/0` has a definition. It takes the draft
-/// over; the module's table of definitions and the lists of names take their memory from `alloc`. It goes into
-/// the parts of an expression by recursion, and looks for a variable through the scopes around it; but for
-/// these the time is linear in the size of the draft.
+/// The module of a draft, if it is closed: each variable has a binding, each function that is exported, applied or
+/// called a definition or an export, none is bound or defined twice in one place, no guard has an effect (Core Erlang
+/// 1.0.3, "Lexical scoping" and "Static constraints"), and `main/0` has a definition. It takes the draft over; the
+/// module's table of definitions and the lists of names take their memory from `alloc`. It goes into the parts of an
+/// expression by recursion, and looks for a variable through the scopes around it; except for these the time is linear
+/// in the size of the draft.
 ///
 /// # Errors
 ///
@@ -249,7 +249,7 @@ pub fn closed_module(alloc: Global, draft: Draft) -> Result<Module, ReadFault>
     ensures lawful { IfOk result (λ m. IsLawful m × (m ≡ (draft_of draft).0)) }
     // A closed module is handed out, unless memory runs out.
     ensures only { IsLawful (draft_of draft).0 → IfErr result (λ f. f ≡ Memory) }
-    // Each fault but that for memory says what is so of the module.
+    // Each fault except that for memory says what is true of the module.
     ensures fault { IfErr result (λ f. f ≢ Memory → IsFaultOfModule (draft_of draft).0 draft.end f) }
 {
     checked_module(alloc, draft)

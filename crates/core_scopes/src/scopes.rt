@@ -27,8 +27,8 @@ pub(crate) enum Scope<'s, 'n> {
     Within(&'s IndexSet<&'n [u8]>, &'s Scope<'s, 'n>),
 }
 
-/// Where an expression stands: the functions that are defined, those that are exported, and whether it is
-/// part of a guard.
+/// The setting of an expression: the functions that are defined, those that are exported, and whether it is part
+/// of a guard.
 #[derive(Clone, Copy)]
 pub(crate) struct Setting<'d, 'e, 'f> {
     pub alloc: Global,
@@ -43,7 +43,7 @@ fn is_named(names: &IndexSet<&[u8]>, name: &[u8]) -> bool
     names.contains(name)
 }
 
-/// Whether a variable of the name is bound.
+// Whether a variable of the name is bound.
 fn is_bound(scope: &Scope, name: &[u8]) -> bool
     ensures { result ≡ is_among (bound_in scope.now) name.now }
 {
@@ -67,8 +67,8 @@ fn check_variable(scope: &Scope, variable: &Variable) -> Result<(), ReadFault>
     }
 }
 
-/// Puts a variable after those that are bound with it. The fault is `DuplicateVariable`, if one of them has
-/// its name.
+// Puts a variable after those that are bound with it. The fault is `DuplicateVariable`, if one of them has
+// its name.
 fn bind<'a>(names: &mut IndexSet<&'a [u8]>, variable: &'a Variable) -> Result<(), ReadFault>
     ensures { AddsUnlessMemory (variable.now ∷ []) result (shown names.old.keys) (shown names.new.keys) }
 {
@@ -94,7 +94,7 @@ pub(crate) fn distinct<'a>(
     Ok(names)
 }
 
-/// Binds the variables of a pattern, from left to right.
+// Binds the variables of a pattern, from left to right.
 #[cycle(patterns)]
 fn bind_pattern<'a>(names: &mut IndexSet<&'a [u8]>, pattern: &'a Pattern) -> Result<(), ReadFault>
     ensures { AddsUnlessMemory (variables_of (pattern_of pattern.now)) result (shown names.old.keys) (shown names.new.keys) }
@@ -116,7 +116,7 @@ fn bind_onto<'a>(names: &mut IndexSet<&'a [u8]>, onto: &'a OntoPattern) -> Resul
     bind_pattern(names, &onto.tail)
 }
 
-/// The variable for the whole comes before those of its pattern.
+// The variable for the whole comes before those of its pattern.
 #[cycle(patterns)]
 fn bind_alias<'a>(names: &mut IndexSet<&'a [u8]>, alias: &'a Alias) -> Result<(), ReadFault>
     ensures { AddsUnlessMemory (alias.now.0 ∷ variables_of alias.now.1) result (shown names.old.keys) (shown names.new.keys) }
@@ -138,8 +138,8 @@ fn bind_patterns<'a>(
     Ok(())
 }
 
-/// The names of the variables of a clause's patterns, which differ from each other (Core Erlang 1.0.3,
-/// "Patterns"). The fault is `DuplicateVariable` at the first variable that has the name of one before it.
+// The names of the variables of a clause's patterns, which differ from each other (Core Erlang 1.0.3,
+// "Patterns"). The fault is `DuplicateVariable` at the first variable that has the name of one before it.
 fn bound_by<'a>(alloc: Global, patterns: &'a Patterns) -> Result<IndexSet<&'a [u8]>, ReadFault>
     ensures { BindsUnlessMemory (bound_by patterns.now) result }
 {
@@ -148,7 +148,7 @@ fn bound_by<'a>(alloc: Global, patterns: &'a Patterns) -> Result<IndexSet<&'a [u
     Ok(names)
 }
 
-/// A guard has no effect (Core Erlang 1.0.3, "Static constraints"). The fault is `EffectInGuard`.
+// A guard has no effect (Core Erlang 1.0.3, "Static constraints"). The fault is `EffectInGuard`.
 fn check_effect(setting: &Setting, at: usize) -> Result<(), ReadFault>
     ensures { result ≡ check_effect (setting_in setting.now) at }
 {
@@ -175,8 +175,8 @@ pub(crate) fn is_defined(
     definitions.contains_key(name)
 }
 
-/// An exported function of this module is called outside of guards. Faults: `UnsupportedCall` where it is not
-/// exported, `EffectInGuard`.
+// An exported function of this module is called outside of guards. Faults: `UnsupportedCall` where it is not
+// exported, `EffectInGuard`.
 fn check_exported(setting: &Setting, at: usize, function: &FunctionName) -> Result<(), ReadFault>
     ensures { result ≡ check_callee (setting_in setting.now) at (callees.Exported function.now) }
 {
@@ -187,7 +187,7 @@ fn check_exported(setting: &Setting, at: usize, function: &FunctionName) -> Resu
     }
 }
 
-/// A defined function is applied outside of guards. Faults: `EffectInGuard`, `NoFunction` at its name.
+// A defined function is applied outside of guards. Faults: `EffectInGuard`, `NoFunction` at its name.
 fn check_defined(setting: &Setting, at: usize, named: &NamedFunction) -> Result<(), ReadFault>
     ensures { result ≡ check_callee (setting_in setting.now) at (callees.Defined named.now) }
 {
@@ -199,7 +199,7 @@ fn check_defined(setting: &Setting, at: usize, named: &NamedFunction) -> Result<
     }
 }
 
-/// What the call at the place calls may be called there.
+// What the call at the place calls may be called there.
 fn check_callee(setting: &Setting, at: usize, callee: &Callee) -> Result<(), ReadFault>
     ensures { result ≡ check_callee (setting_in setting.now) at (callee_of callee.now) }
 {
@@ -238,7 +238,7 @@ pub(crate) fn check_expr<'n>(
     }
 }
 
-/// The same, where variables are bound.
+// The same, where variables are bound.
 #[cycle(scopes)]
 fn check_within<'a, 's, 'n>(
     setting: &Setting,
@@ -259,7 +259,7 @@ fn check_onto<'n>(setting: &Setting, scope: &Scope<'_, 'n>, onto: &'n Onto) -> R
     check_expr(setting, scope, &onto.tail)
 }
 
-/// The variables of a `let` differ, and its body sees them.
+// The variables of a `let` differ, and its body sees them.
 #[cycle(scopes)]
 fn check_let<'n>(
     setting: &Setting,
@@ -297,8 +297,8 @@ fn check_call<'n>(setting: &Setting, scope: &Scope<'_, 'n>, call: &'n Call) -> R
     check_exprs(setting, scope, &call.arguments)
 }
 
-/// The variables of each list of a `try` differ; the body sees those of the values, and the handler those of
-/// the exception.
+// The variables of each list of a `try` differ; the body sees those of the values, and the handler those of
+// the exception.
 #[cycle(scopes)]
 fn check_try<'n>(
     setting: &Setting,
@@ -325,8 +325,8 @@ fn check_catch<'n>(
     check_expr(setting, scope, &caught.value)
 }
 
-/// A receive is an effect. Its clauses bind variables in their own parts alone; the timeout and the action see those
-/// around it. Fault: `EffectInGuard` at the word.
+// A receive is an effect. Its clauses bind variables in their own parts alone; the timeout and the action see those
+// around it. Fault: `EffectInGuard` at the word.
 #[cycle(scopes)]
 fn check_receive<'n>(
     setting: &Setting,
@@ -341,7 +341,7 @@ fn check_receive<'n>(
     check_expr(setting, scope, &receive.action)
 }
 
-/// The variables of the patterns differ, and the guard and the body see them.
+// The variables of the patterns differ, and the guard and the body see them.
 #[cycle(scopes)]
 fn check_clause<'n>(
     setting: &Setting,

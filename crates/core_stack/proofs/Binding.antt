@@ -13,7 +13,7 @@ use Rattle.core_stack.specs.declared.frame.Frame.{Frame}
 use Rattle.core_stack.specs.inside.Frames.{hole_of, holes_of}
 use Rattle.core_stack.specs.Holes.{Hole, kept_in, hides, scope}
 
--- the values that are left, of which the last item is the first value
+-- the values that are left, the last item of which is the first value
 abbrev pub values_of : List Term → List Meaning
 values_of items = reverse (map meaning_of items)
 

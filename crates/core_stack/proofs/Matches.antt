@@ -38,7 +38,7 @@ rest h [] i x lt e = absurd (omega arith)
 rest h (z ∷ zs) zero x lt e = λ j. h (sym e j) ∷ map h zs
 rest h (z ∷ zs) (suc i) x lt e = rest h zs i x (omega arith) e
 
--- one pattern and its value, and those behind them
+-- one pattern and its value, and those after them
 module _ (xs : List Shape) (ys : List Term) (ps : List Pattern) (ms : List Meaning) (p : map pattern_of xs ≡ ps) (q : map meaning_of ys ≡ ms) (i : ℕ) (x : Shape) (y : Term) (lt : i < length xs) (same : length xs ≡ length ys) (e : x ≡ get_or xs i x) (f : y ≡ get_or ys i y) where
   step : (before : Environment) → match_each (patterns_of (drop i ps)) (drop i ms) before ≡ and_then (match (pattern_of x) (meaning_of y) before) (λ so_far. match_each (patterns_of (drop (i + 1) ps)) (drop (i + 1) ms) so_far)
   step before = rw (add-one, ← p, ← q) (λ j. match_each (patterns_of (rest pattern_of xs i x lt e j)) (rest meaning_of ys i y (omega (arith, lt, same)) f j) before)

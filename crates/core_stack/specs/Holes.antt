@@ -38,7 +38,7 @@ abbrev pub hides : Hole → Bool
 hides (Applied bindings) = true
 hides hole = false
 
--- whether a hole does nothing but keep variables
+-- whether a hole only keeps variables
 abbrev pub only_keeps : Hole → Bool
 only_keeps (Kept bindings) = true
 only_keeps (Applied bindings) = true
@@ -64,7 +64,7 @@ receive_on holes = None
 abbrev pub waits_on : List Hole → Option (List ClauseTree × Tree)
 waits_on holes = option_map (λ w. (w.clauses, w.action)) (receive_on holes)
 
--- whether the top of a stack does nothing but keep variables
+-- whether the top of a stack only keeps variables
 abbrev pub keeps_on_top : List Hole → Bool
 keeps_on_top [] = false
 keeps_on_top (hole ∷ holes) = only_keeps hole

@@ -47,7 +47,7 @@ impl<'m> Bindings<'m> {
         Bindings(Vec::new(alloc))
     }
 
-    /// No variable, with room for so many, or `AllocError` if there is no memory for it.
+    // No variable, with room for so many, or `AllocError` if there is no memory for it.
     fn with_room(alloc: Global, count: usize) -> Result<Bindings<'m>, AllocError>
         ensures { IfOk result (λ bindings. bindings ≡ []) }
     {

@@ -19,7 +19,7 @@ pub fn fits(pattern: &Pattern, value: &Term) -> bool
     value_fits(pattern, value)
 }
 
-/// Whether the value matches the pattern.
+// Whether the value matches the pattern.
 #[cycle(fitting)]
 fn value_fits(pattern: &Pattern, value: &Term) -> bool
     ensures { result ≡ fits (pattern_of pattern.now) (meaning_of value.now) }
@@ -52,7 +52,7 @@ fn value_fits(pattern: &Pattern, value: &Term) -> bool
     }
 }
 
-/// Whether there are as many values as patterns, and each matches its own.
+// Whether there are as many values as patterns, and each matches its own.
 #[cycle(fitting)]
 fn parts_fit(patterns: &Patterns, values: &[Term]) -> bool
     ensures { result ≡ each_fits (patterns_of patterns.now) (map meaning_of values.now) }
@@ -70,7 +70,7 @@ fn parts_fit(patterns: &Patterns, values: &[Term]) -> bool
     left.is_empty()
 }
 
-/// What stands in a list after its first items, if these match the patterns.
+// What is left of a list after its first items, if these match the patterns.
 #[cycle(fitting)]
 fn items_fit<'v>(patterns: &Patterns, value: &'v Term) -> Option<&'v Term>
     ensures { (behind : Meaning → Bool) → items_fit (patterns_of patterns.now) behind (meaning_of value.now) ≡ behind_items (option_map (λ tail. meaning_of tail.now) result) behind }

@@ -22,11 +22,11 @@ pub enum Purpose<'m> {
     Onto(&'m Expr),
     /// The arguments of what is called.
     Call(&'m Callee),
-    /// Values that stand side by side.
+    /// Values side by side.
     Values,
 }
 
-/// An expression of which one part is being evaluated.
+/// An expression with one part that is being evaluated.
 #[derive(Drop)]
 pub enum Frame<'m> {
     /// One of several expressions: what they are for, the values of those before it, and those after it.
@@ -94,7 +94,7 @@ impl<'m> Frame<'m> {
         matches!(self, Frame::Applied(_))
     }
 
-    /// Whether the frame does nothing but keep variables, so that what leaves it is what came to it.
+    /// Whether the frame only keeps variables, so that what leaves it is what reached it.
     pub fn only_keeps(&self) -> bool
         ensures { result ≡ only_keeps (hole_of self.now) }
     {

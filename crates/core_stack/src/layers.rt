@@ -54,7 +54,7 @@ impl<'m> Model for Layer<'m> {
 }
 
 impl<'m> Layer<'m> {
-    /// The frame, and those below it.
+    // The frame, and those below it.
     fn into_parts(self) -> (Frame<'m>, Layers<'m>)
         ensures { self.entry ≡ hole_of result.0 ∷ holes_in result.1 }
     {
@@ -98,8 +98,8 @@ impl<'m> Layers<'m> {
         Ok(Layers::On(Arc::new(alloc, layer)?))
     }
 
-    /// These frames with those on top, of which the last is the innermost, or `AllocError` if there is no
-    /// memory for it, and then frames are dropped.
+    /// These frames with those on top, the last of which is the innermost, or `AllocError` if there is no memory for
+    /// it, and then frames are dropped.
     pub fn with_all(
         self,
         alloc: Global,
@@ -194,7 +194,7 @@ impl<'m> Layers<'m> {
         }
     }
 
-    /// Whether the frame on top does nothing but keep variables.
+    /// Whether the frame on top only keeps variables.
     pub fn keeps_on_top(&self) -> bool
         ensures { result ≡ keeps_on_top (holes_in self.now) }
     {

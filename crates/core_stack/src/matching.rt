@@ -1,11 +1,10 @@
 // Patterns that are matched against values (Core Erlang 1.0.3, "Pattern matching").
-ghost use Rattle.std.specs.Prelude.{◌≡◌, IfOk, Option, option_map};
+ghost use Rattle.std.specs.Prelude.{◌≡◌, IfOk, option_map};
 ghost use Rattle.core_tree.specs.Syntax.{patterns_of};
 ghost use Rattle.core_tree.specs.Tree.{pattern_of};
-ghost use Rattle.term_core.specs.Meaning.{Meaning};
 ghost use Rattle.term_core.specs.Term.{meaning_of};
-ghost use Rattle.core_stack.specs.Matching.{Environment, is_nil, is_number, is_text, match, match_each, match_items};
-ghost use Rattle.core_stack.specs.inside.Matched.{IsMatch, behind_items};
+ghost use Rattle.core_stack.specs.Matching.{is_nil, is_number, is_text, match, match_each};
+ghost use Rattle.core_stack.specs.inside.Matched.{IsMatch, MatchesItems};
 
 use crate::bindings::Bindings;
 use core_tree::{Alias, OntoPattern, Pattern, Patterns};
@@ -110,15 +109,15 @@ pub fn matches_each<'m>(
     Ok(true)
 }
 
-/// What stands in a list after its first items, if these match the patterns.
+// What is left of a list after its first items, if these match the patterns.
 #[cycle(matching)]
 fn matches_items<'m, 'v>(
     patterns: &'m Patterns,
     value: &'v Term,
     bindings: &mut Bindings<'m>,
 ) -> Result<Option<&'v Term>, AllocError>
-    ensures { IfOk result (λ rest. (behind : Meaning → Environment → Option Environment) →
-        match_items (patterns_of patterns.now) behind (meaning_of value.now) bindings.old ≡ behind_items (option_map (λ tail. meaning_of tail.now) rest) behind bindings.new) }
+    ensures { IfOk result (λ rest.
+        MatchesItems (patterns_of patterns.now) (meaning_of value.now) (option_map (λ tail. meaning_of tail.now) rest) bindings.old bindings.new) }
 {
     let mut left = value;
     'items: for pattern in &patterns.0 {

@@ -121,7 +121,7 @@ impl<'m> Stack<'m> {
         }
     }
 
-    /// Whether the frame on top does nothing but keep variables.
+    /// Whether the frame on top only keeps variables.
     pub fn keeps_on_top(&self) -> bool
         ensures { result ≡ keeps_on_top self.now }
     {

@@ -144,7 +144,7 @@ unfolding number_at
 float_complete bytes unsigned digits behind_digits behind_fraction rest d negative s r f x =
     rw (sign_complete bytes unsigned digits behind_digits d negative s r, digits_complete unsigned digits behind_digits d r, fraction_complete behind_digits behind_fraction f) (ap (λ (t : List ℕ). Ok (lexemes.Float, t)) (perhaps_complete behind_fraction rest x))
 
--- What was read stands there: a token in range; or an integer of more bits.
+-- What was read is there: a token in range; or an integer of more bits.
 abbrev pub IsRead : List ℕ → Result (Shape × List ℕ) TokenError → Type 0
 IsRead bytes (Ok x) = TokenAt bytes x.0 x.1 × (in_range false x.0 ≡ true)
 IsRead bytes (Err errors.OutOfRange) = (n : ℤ) × (rest : List ℕ) × TokenAt bytes (lexemes.Integer n) rest × (has_64_bits n ≡ false)

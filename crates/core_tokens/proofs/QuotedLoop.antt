@@ -1,4 +1,4 @@
--- Reading what stands between quotes, as a loop does.
+-- Reading what is between quotes, as a loop does.
 use Rattle.std.proofs.Common.{◌≡◌, ℕ, suc, ◌-◌, ◌+◌, ◌≤◌, ◌<◌, List, [], ◌∷◌, ◌++◌, length, Some, None, Result, Ok, Err, refl, sym, ap, ◌∙◌, append_assoc, arith}
 use Rattle.std.proofs.lemmas.List.{append-nil}
 use Rattle.core_tokens.specs.declared.lexer.trouble.TokenError.{TokenError}

@@ -1,4 +1,4 @@
--- Characters, escapes and what stands between quotes are read as they are spelt.
+-- Characters, escapes and what is between quotes are read as they are spelt.
 use Rattle.std.proofs.Common.{◌≡◌, ◌≢◌, ℕ, zero, suc, ◌+◌, ◌-◌, ◌*◌, ◌/◌, ◌%◌, ◌<◌, ◌≤◌, min, true, false, ltb, inl, inr, List, [], ◌∷◌, ◌++◌, length, take, drop, get_or, Option, Some, None, Result, Ok, eqb, refl, sym, ap, subst, ◌∙◌, arith}
 use Rattle.std.specs.Prelude.{encode_utf8, encode_utf8_all}
 use Rattle.std.specs.Char.{IsScalar}
@@ -211,7 +211,7 @@ octal_complete bytes rest n (one_digit {rest = same} {a} ha h) = rw (ha, stops_n
 octal_complete bytes rest n (two_digits {rest = same} {a} {b} ha hb h) = rw (ha, hb, stops_none same h) refl
 octal_complete bytes rest n (three_digits {rest = same} {a} {b} {c} ha hb hc) = rw (ha, hb, hc) refl
 
--- an octal digit has no other meaning behind a backslash
+-- an octal digit has no other meaning after a backslash
 pub record OctalHead (bytes rest : List ℕ) : Type 0 where
   pub first : ℕ
   pub others : List ℕ

@@ -66,7 +66,7 @@ past_token stop b l bytes more rest shape qs (token {bytes = same} {more = behin
 
 -- ---- where a reading ends
 
--- nothing that can be read stands here
+-- nothing that can be read is here
 abbrev pub Stuck : Bool → List ℕ → Type 0
 Stuck b [] = ⊥
 Stuck b (c ∷ bytes) = (is_blank c ≡ false) × (c ≢ 37) × ((s : Shape) (rest : List ℕ) → TokenAt (c ∷ bytes) s rest → in_range b s ≡ true → ⊥)
@@ -91,7 +91,7 @@ stuck_unread stop b l bytes rest qs (token {bytes = same} {more = behind} {s = f
     let v = token_takes same behind found u in
     stuck_token b same behind found v.first v.others v.whole u g h
 
--- no token stands in nothing
+-- no token is in nothing
 nothing_read : (stop : ℕ) (b l : Bool) (bytes rest : List ℕ) (qs : List Piece) → Spelt stop b bytes qs l rest → bytes ≡ [] → qs ≡ []
 nothing_read stop b l bytes rest qs (none {bytes = same}) e = refl
 nothing_read stop b l bytes rest qs (blank {bytes = behind} {c = d} g s) e = absurd cc
@@ -100,7 +100,7 @@ nothing_read stop b l bytes rest qs (token {bytes = same} {more} {s = shape} t g
     let v = token_takes same more shape t in
     absurd (let f = v.whole in cc)
 
--- two readings of one text, of which one goes to its end, are one
+-- two readings of one text, one of which goes to its end, are one
 pub one_reading : (stop : ℕ) (b l l' : Bool) (bytes rest rest' : List ℕ) (ps qs : List Piece) → Spelt stop b bytes ps l rest → Ends l rest → Spelt stop b bytes qs l' rest' → rest' ≡ [] → (ps ≡ qs) × (rest ≡ [])
 one_reading stop b l l' bytes rest rest' ps qs (none {bytes = same}) (inl empty) d nil = (sym (nothing_read stop b l' same rest' qs d empty), empty)
 one_reading stop b l l' bytes rest rest' ps qs (none {bytes = same}) (inr stuck) d nil = absurd (stuck_unread stop b l' same rest' qs d nil stuck)

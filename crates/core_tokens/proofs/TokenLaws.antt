@@ -24,7 +24,7 @@ use Rattle.core_tokens.proofs.Words.{word_sound, word_complete, name_sound, name
 use Rattle.core_tokens.proofs.Numbers.{IsRead, number_sound, integer_complete, float_complete}
 use Rattle.core_tokens.proofs.Quotes.{character_sound, character_complete, escape_sound, escape_complete, quoted_sound, quoted_complete, begins_other}
 
--- ---- what is read stands there
+-- ---- what is read is there
 
 word_token_by : (bytes : List ℕ) (o : Option (Keyword × List ℕ)) → word_at bytes ≡ o → IsRead bytes (ok_or o errors.NoToken >>= λ w. Ok (lexemes.Word w.0, w.1))
 word_token_by bytes (Some w) e = (spells_word (word_sound bytes w e), refl)
@@ -66,7 +66,7 @@ text_token_by bytes (Err errors.NoToken) e = tt
 text_token_by bytes (Err errors.Memory) e = tt
 text_token_by bytes (Err errors.OutOfRange) e = absurd (no_trouble (length bytes) 34 bytes e)
 
--- a character or an escape behind `$`
+-- a character or an escape after `$`
 abbrev IsDollar : List ℕ → Option (ℕ × List ℕ) → Type 0
 IsDollar bytes None = Unit {0}
 IsDollar bytes (Some d) = TokenAt (36 ∷ bytes) (lexemes.Character d.0) d.1
@@ -117,7 +117,7 @@ unfolding token_at
 token_sound [] = tt
 token_sound (c ∷ bytes) = token_by c bytes (is_ascii_lowercase c) (is_ascii_uppercase c || eqb c 95) (eqb c 39) (eqb c 34) (eqb c 36) refl refl refl
 
--- ---- what stands there is read
+-- ---- what is there is read
 
 -- a token, where it is in range
 pub ranged : Bool → Shape → List ℕ → Result (Shape × List ℕ) TokenError
@@ -328,7 +328,7 @@ bad_integer bytes rest lexemes.Float t h = absurd cc
 bad_integer bytes rest (lexemes.Character c) t h = absurd cc
 bad_integer bytes rest (lexemes.Text cs) t h = absurd cc
 
--- What was read stands there: a token in range, an integer out of range, or no token.
+-- What was read is there: a token in range, an integer out of range, or no token.
 abbrev pub IsRanged : Bool → List ℕ → Result (Shape × List ℕ) TokenError → Type 0
 IsRanged behind_slash bytes (Ok x) = TokenAt bytes x.0 x.1 × (in_range behind_slash x.0 ≡ true)
 IsRanged behind_slash bytes (Err errors.OutOfRange) = BeginsBadInteger behind_slash bytes
@@ -374,7 +374,7 @@ ranged_complete true bytes rest s t h =
     let read : token_at bytes ≡ Ok (s, rest) = token_complete bytes rest s t ∙ rw (in_range_is_word s h) refl in
     rw (read, h) refl
 
--- one token in range stands at a place
+-- one token in range is at a place
 pub token_unique : (behind_slash : Bool) (bytes rest rest' : List ℕ) (s s' : Shape) → TokenAt bytes s rest → TokenAt bytes s' rest' → in_range behind_slash s ≡ true → in_range behind_slash s' ≡ true → (s ≡ s') × (rest ≡ rest')
 token_unique behind_slash bytes rest rest' s s' t t' h h' =
     let both = ok_is (s, rest) (s', rest') (sym (ranged_complete behind_slash bytes rest s t h) ∙ ranged_complete behind_slash bytes rest' s' t' h') in

@@ -34,7 +34,7 @@ is_octal c = is_in_range 48 55 c
 
 -- ---- runs
 
--- no byte that passes the test stands at the front
+-- no byte that passes the test comes first
 abbrev pub StopsAt : (ℕ → Bool) → List ℕ → Type 0
 StopsAt test [] = Unit {0}
 StopsAt test (c ∷ bytes) = test c ≡ false
@@ -103,7 +103,7 @@ decimal_value digits = fold (λ n c. 10 * n + (c - 48)) 0 digits
 abbrev pub signed : Bool → ℕ → ℤ
 signed negative n = if negative then neg_ℤ (pos n) else pos n
 
--- a sign, where one stands: whether it is a minus, and what follows
+-- a sign, if there is one: whether it is a minus, and what follows
 pub data Sign : List ℕ → Bool → List ℕ → Type 0 where
   bare : {bytes : List ℕ} → Sign bytes false bytes
   plus : {bytes : List ℕ} → Sign (43 ∷ bytes) false bytes
@@ -117,7 +117,7 @@ pub data Fraction : List ℕ → List ℕ → Type 0 where
 pub data Exponent : List ℕ → List ℕ → Type 0 where
   power : {bytes unsigned digits rest : List ℕ} {c d : ℕ} {negative : Bool} → ((c == 101) || (c == 69)) ≡ true → Sign bytes negative unsigned → Run is_ascii_digit unsigned (d ∷ digits) rest → Exponent (c ∷ bytes) rest
 
--- an exponent, where one stands
+-- an exponent, if there is one
 pub data PerhapsExponent : List ℕ → List ℕ → Type 0 where
   scaled : {bytes rest : List ℕ} → Exponent bytes rest → PerhapsExponent bytes rest
   unscaled : {bytes : List ℕ} → ((rest : List ℕ) → Exponent bytes rest → ⊥) → PerhapsExponent bytes bytes
@@ -146,13 +146,13 @@ escape_of c =
     else (if c == 34 then Some 34
     else None)))))))))))
 
--- as many octal digits as stand there, one to three, and the number that they write
+-- as many octal digits as there are, one to three, and the number that they write
 pub data Octal : List ℕ → ℕ → List ℕ → Type 0 where
   one_digit : {rest : List ℕ} {a : ℕ} → is_octal a ≡ true → StopsAt is_octal rest → Octal (a ∷ rest) (a - 48) rest
   two_digits : {rest : List ℕ} {a b : ℕ} → is_octal a ≡ true → is_octal b ≡ true → StopsAt is_octal rest → Octal (a ∷ b ∷ rest) (8 * (a - 48) + (b - 48)) rest
   three_digits : {rest : List ℕ} {a b c : ℕ} → is_octal a ≡ true → is_octal b ≡ true → is_octal c ≡ true → Octal (a ∷ b ∷ c ∷ rest) (8 * (8 * (a - 48) + (b - 48)) + (c - 48)) rest
 
--- what stands after a backslash, and the character that it stands for
+-- what follows a backslash, and the character that it stands for
 pub data Escape : List ℕ → ℕ → List ℕ → Type 0 where
   lettered : {rest : List ℕ} {c e : ℕ} → escape_of c ≡ Some e → Escape (c ∷ rest) e rest
   numbered : {bytes rest : List ℕ} {e : ℕ} → Octal bytes e rest → Escape bytes e rest
@@ -161,7 +161,7 @@ pub data Escape : List ℕ → ℕ → List ℕ → Type 0 where
 abbrev pub stands_raw : ℕ → ℕ → Bool
 stands_raw quote c = not ((c == quote) || ((c == 92) || is_line_end c))
 
--- what stands after the opening quote up to the closing one: the characters that it stands for
+-- what follows the opening quote up to the closing one: the characters that it stands for
 pub data Quoted (quote : ℕ) : List ℕ → List ℕ → List ℕ → Type 0 where
   closes : {rest : List ℕ} → Quoted quote (quote ∷ rest) [] rest
   stands : {bytes more characters rest : List ℕ} {c : ℕ} → FirstCharacter bytes c more → stands_raw quote c ≡ true → Quoted quote more characters rest → Quoted quote bytes (c ∷ characters) rest

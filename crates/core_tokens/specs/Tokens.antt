@@ -40,12 +40,12 @@ pub data Spelt (stop : ℕ) : Bool → List ℕ → List Piece → Bool → List
 abbrev pub AreTokens : List ℕ → List Piece → Type 0
 AreTokens text ps = (last_slash : Bool) × Spelt (length text) false text ps last_slash []
 
--- something stands here that is no blank, no comment and no token
+-- what is here is no blank, no comment and no token
 abbrev pub BeginsNoToken : List ℕ → Type 0
 BeginsNoToken [] = ⊥
 BeginsNoToken (c ∷ bytes) = (is_blank c ≡ false) × (c ≢ 37) × ((s : Shape) (rest : List ℕ) → TokenAt (c ∷ bytes) s rest → ⊥)
 
--- an integer out of range stands here
+-- an integer out of range is here
 abbrev pub BeginsBadInteger : Bool → List ℕ → Type 0
 BeginsBadInteger behind_slash bytes = (n : ℤ) × (rest : List ℕ) × TokenAt bytes (lexemes.Integer n) rest × (integer_in_range behind_slash n ≡ false)
 

@@ -23,7 +23,7 @@ IsPlacedWithin limit (fault.UnsupportedForm place) = place ≤ limit
 IsPlacedWithin limit fault.Memory = Unit {0}
 IsPlacedWithin limit (fault.TooLong place) = place ≤ limit
 
--- each token stands at most there
+-- each token is at most there
 abbrev pub StandWithin : ℕ → List Piece → Type 0
 StandWithin limit [] = Unit {0}
 StandWithin limit (p ∷ ps) = (p.at ≤ limit) × StandWithin limit ps

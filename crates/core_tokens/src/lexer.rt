@@ -36,7 +36,7 @@ fn variable_token(alloc: Global, text: &[u8]) -> Result<(Lexeme, &[u8]), TokenEr
     }
 }
 
-// The atom of what stands after a single quote.
+// The atom of what follows a single quote.
 #[tactic(auto, unfolding(crate::specs::inside::Lexing::atom_token_at))]
 fn atom_token(alloc: Global, text: &[u8]) -> Result<(Lexeme, &[u8]), TokenError>
     ensures { GivesUnlessMemory (λ x. (shape_of x.0, x.1.now)) result (atom_token_at text.now) }
@@ -46,7 +46,7 @@ fn atom_token(alloc: Global, text: &[u8]) -> Result<(Lexeme, &[u8]), TokenError>
     Ok((Lexeme::Atom(Atom::from_string(alloc, name)?), rest))
 }
 
-// The string of what stands after a double quote.
+// The string of what follows a double quote.
 #[tactic(auto, unfolding(crate::specs::inside::Lexing::text_token_at))]
 fn text_token(alloc: Global, text: &[u8]) -> Result<(Lexeme, &[u8]), TokenError>
     ensures { GivesUnlessMemory (λ x. (shape_of x.0, x.1.now)) result (text_token_at text.now) }
@@ -55,7 +55,7 @@ fn text_token(alloc: Global, text: &[u8]) -> Result<(Lexeme, &[u8]), TokenError>
     Ok((Lexeme::Text(characters), rest))
 }
 
-// The character of what stands after `$`.
+// The character of what follows `$`.
 #[tactic(auto, unfolding(crate::specs::inside::Lexing::dollar_token_at))]
 fn dollar_token(text: &[u8]) -> Result<(Lexeme, &[u8]), TokenError>
     ensures { GivesUnlessMemory (λ x. (shape_of x.0, x.1.now)) result (dollar_token_at text.now) }
@@ -97,7 +97,7 @@ fn is_slash(lexeme: &Lexeme) -> bool
     matches!(lexeme, Lexeme::Mark(Mark::Slash))
 }
 
-// Whether a token may stand after `/`: an integer only where it is an arity.
+// Whether a token may follow `/`: an integer only where it is an arity.
 fn may_follow_slash(lexeme: &Lexeme) -> bool
     ensures { result ≡ in_range true (shape_of lexeme.now) }
 {
@@ -129,9 +129,9 @@ fn ranged_token(
 ///
 /// # Errors
 ///
-/// `BadToken` at the first place where no token begins and neither a blank nor a comment stands;
-/// `BadInteger` where an integer stands before that which is outside 64 bits or, right after `/`,
-/// outside 0 to 255; `Memory` only where a growth was refused.
+/// `BadToken` at the first place where no token begins and neither a blank nor a comment; `BadInteger` where an integer
+/// before that place is outside 64 bits or, right after `/`, outside 0 to 255; `Memory` only where a growth was
+/// refused.
 pub fn tokens(alloc: Global, text: &[u8]) -> Result<Vec<Token>, ReadFault>
     // What is read is spelt so.
     ensures sound { IfOk result (λ found. AreTokens text.now (pieces found.items)) }

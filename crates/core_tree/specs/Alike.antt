@@ -18,7 +18,7 @@ use Rattle.core_tree.specs.Constant as constants
 abbrev pub same_mention : Mention → Mention → Bool
 same_mention v w = same_text v.name w.name
 
--- two names stand for one function
+-- two names name one function
 abbrev pub same_named : NamedAt → NamedAt → Bool
 same_named d e = same_function d.function e.function
 

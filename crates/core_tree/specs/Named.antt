@@ -1,7 +1,7 @@
--- Variables and functions by their names, and where these stand in the text (Core Erlang 1.0.3, "Names").
+-- Variables and functions by their names, and where these are in the text (Core Erlang 1.0.3, "Names").
 use Rattle.std.specs.Prelude.{ℕ, List}
 
--- a variable, and where it stands in the text
+-- a variable, and where it is in the text
 pub record Mention : Type 0 where
   pub at : ℕ
   pub name : List ℕ
@@ -11,7 +11,7 @@ pub record Function : Type 0 where
   pub name : List ℕ
   pub arity : ℕ
 
--- a function's name, and where it stands in the text
+-- a function's name, and where it is in the text
 pub record NamedAt : Type 0 where
   pub at : ℕ
   pub function : Function

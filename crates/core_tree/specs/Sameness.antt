@@ -1,4 +1,4 @@
--- Modules without where their parts stand in the text: each place is set to 0.
+-- Modules without the places of their parts in the text: each place is set to 0.
 use Rattle.std.specs.Prelude.{map}
 use Rattle.core_tree.specs.Syntax.{Mention, NamedAt, Callee, Pattern, Patterns, Tree, Trees, Clauses, DefinitionTree, ModuleTree}
 use Rattle.core_tree.specs.Callee as callees

@@ -64,7 +64,7 @@ impl Model for Consts {
 pub struct OntoConst {
     /// The items in front, at least one where they were read.
     pub items: Consts,
-    /// What stands after them.
+    /// What follows them.
     pub tail: Const,
 }
 

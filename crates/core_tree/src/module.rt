@@ -71,7 +71,7 @@ impl Hash for FunctionName {
     }
 }
 
-/// A function's name where it stands.
+/// A function's name at its place.
 #[derive(Drop)]
 pub struct NamedFunction {
     /// The place of its first byte in the text.

@@ -63,13 +63,12 @@ impl Model for Patterns {
     ghost size_decreases = { λ a h. Prim.omega (arith, most_pattern_le a.0.items) };
 }
 
-/// The patterns of the first items of a list and that of what stands after them. Contracts see it as the
-/// pair of both.
+/// The patterns of the first items of a list and that of what follows them. Contracts see it as the pair of both.
 #[cycle(pattern)]
 pub struct OntoPattern {
     /// The patterns of the first items, at least one where they were read.
     pub items: Patterns,
-    /// The pattern of what stands after them.
+    /// The pattern of what follows them.
     pub tail: Pattern,
 }
 

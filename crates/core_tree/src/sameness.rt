@@ -1,4 +1,4 @@
-// Whether two modules are the same but for the places of their parts.
+// Whether two modules are the same except for the places of their parts.
 ghost use Rattle.std.specs.Prelude.{◌≡◌, ◌↔◌, ◌&&◌, IsTrue, map};
 ghost use Rattle.std.specs.Ordering.{on, eq_of_both};
 ghost use Rattle.std.specs.Cmp.{partial_equiv_from_equiv, on_equiv, and_equiv};
@@ -25,7 +25,7 @@ impl PartialEq for Variable {
 
     ghost laws = { partial_equiv_from_equiv mentions_equal };
 
-    /// Whether the two have one name, wherever they stand.
+    /// Whether the two have one name, wherever they are.
     fn eq(&self, other: &Variable) -> bool {
         self.name == other.name
     }
@@ -40,7 +40,7 @@ impl PartialEq for NamedFunction {
 
     ghost laws = { partial_equiv_from_equiv exports_equal };
 
-    /// Whether the two name one function, wherever they stand.
+    /// Whether the two name one function, wherever they are.
     fn eq(&self, other: &NamedFunction) -> bool {
         self.function == other.function
     }
@@ -62,7 +62,7 @@ fn same_pure(a: PureCall, b: PureCall) -> bool
     a == b
 }
 
-/// Whether two calls apply the same.
+// Whether two calls apply the same.
 fn same_callee(a: &Callee, b: &Callee) -> bool
     ensures { result ≡ same_callee (callee_of a.now) (callee_of b.now) }
 {
@@ -77,7 +77,7 @@ fn same_callee(a: &Callee, b: &Callee) -> bool
     }
 }
 
-/// Whether two patterns are of one form and have the same parts. It goes into the parts by recursion.
+// Whether two patterns are of one form and have the same parts. It goes into the parts by recursion.
 #[cycle(patterns)]
 fn same_pattern(a: &Pattern, b: &Pattern) -> bool
     ensures { result ≡ same_pattern (pattern_of a.now) (pattern_of b.now) }
@@ -110,7 +110,7 @@ fn same_alias(a: &Alias, b: &Alias) -> bool
     a.variable == b.variable && same_pattern(&a.whole, &b.whole)
 }
 
-/// Whether two rows of patterns are as long, and the same item by item.
+// Whether two rows of patterns are as long, and the same item by item.
 #[cycle(patterns)]
 fn same_patterns(a: &Patterns, b: &Patterns) -> bool
     ensures { result ≡ same_patterns (patterns_of a.now) (patterns_of b.now) }
@@ -126,7 +126,7 @@ fn same_patterns(a: &Patterns, b: &Patterns) -> bool
     true
 }
 
-/// Whether two expressions are of one form and have the same parts. It goes into the parts by recursion.
+// Whether two expressions are of one form and have the same parts. It goes into the parts by recursion.
 #[cycle(sameness)]
 fn same_expr(a: &Expr, b: &Expr) -> bool
     ensures { result ≡ same_tree (tree_of a.now) (tree_of b.now) }
@@ -205,7 +205,7 @@ fn same_clause(a: &Clause, b: &Clause) -> bool
         && same_expr(&a.body, &b.body)
 }
 
-/// Whether two rows of clauses are as long, and the same clause by clause.
+// Whether two rows of clauses are as long, and the same clause by clause.
 #[cycle(sameness)]
 fn same_clauses(a: &Clauses, b: &Clauses) -> bool
     ensures { result ≡ same_clauses (clauses_of a.now) (clauses_of b.now) }
@@ -239,7 +239,7 @@ fn same_catch(a: &Catch, b: &Catch) -> bool
     same_expr(&a.value, &b.value)
 }
 
-/// Whether two rows of expressions are as long, and the same item by item.
+// Whether two rows of expressions are as long, and the same item by item.
 #[cycle(sameness)]
 fn same_exprs(a: &Exprs, b: &Exprs) -> bool
     ensures { result ≡ same_trees (trees_of a.now) (trees_of b.now) }
@@ -255,7 +255,7 @@ fn same_exprs(a: &Exprs, b: &Exprs) -> bool
     true
 }
 
-/// Whether two constants are of one form and have the same parts. It goes into the parts by recursion.
+// Whether two constants are of one form and have the same parts. It goes into the parts by recursion.
 #[cycle(constants)]
 fn same_const(a: &Const, b: &Const) -> bool
     ensures { result ≡ same_constant (constant_of a.now) (constant_of b.now) }
@@ -279,7 +279,7 @@ fn same_onto_const(a: &OntoConst, b: &OntoConst) -> bool
     same_consts(&a.items, &b.items) && same_const(&a.tail, &b.tail)
 }
 
-/// Whether two rows of constants are as long, and the same item by item.
+// Whether two rows of constants are as long, and the same item by item.
 #[cycle(constants)]
 fn same_consts(a: &Consts, b: &Consts) -> bool
     ensures { result ≡ same_constants (constants_of a.now) (constants_of b.now) }
@@ -315,7 +315,7 @@ impl PartialEq for Definition {
 
     ghost laws = { partial_equiv_from_equiv (and_equiv (on_equiv (λ d. d.parameters.items) (lists_equiv mentions_equal)) (on_equiv (λ d. tree_of d.body) trees_equal)) };
 
-    /// Whether the two have the same parameters and the same body, wherever they stand.
+    /// Whether the two have the same parameters and the same body, wherever they are.
     fn eq(&self, other: &Definition) -> bool {
         self.parameters == other.parameters && same_expr(&self.body, &other.body)
     }
@@ -325,7 +325,7 @@ impl Eq for Definition {
     ghost laws = { and_equiv (on_equiv (λ d. d.parameters.items) (lists_equiv mentions_equal)) (on_equiv (λ d. tree_of d.body) trees_equal) };
 }
 
-/// Whether two maps hold the same names with the same definitions in the same order.
+// Whether two maps hold the same names with the same definitions in the same order.
 fn same_definitions(
     a: &IndexMap<FunctionName, Definition>,
     b: &IndexMap<FunctionName, Definition>,
@@ -349,8 +349,8 @@ impl PartialEq for Module {
 
     ghost laws = { partial_equiv_from_equiv modules_equal };
 
-    /// Whether the two are the same but for the places of their parts: one name, and the same exports,
-    /// attributes and definitions, each in the same order. It takes no memory.
+    /// Whether the two are the same except for the places of their parts: one name, and the same exports, attributes
+    /// and definitions, each in the same order. It takes no memory.
     fn eq(&self, other: &Module) -> bool
         ensures value { result ≡ same_module self.now other.now }
         ensures same { IsTrue result ↔ (bare_module self.now ≡ bare_module other.now) }

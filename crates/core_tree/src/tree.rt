@@ -100,12 +100,12 @@ impl Model for Exprs {
     ghost size_decreases = { λ a h. Prim.omega (arith, most_le a.0.items) };
 }
 
-/// The first items of a list and what stands after them. Contracts see it as the pair of both.
+/// The first items of a list and what follows them. Contracts see it as the pair of both.
 #[cycle(expr)]
 pub struct Onto {
     /// The first items, at least one where they were read.
     pub items: Exprs,
-    /// What stands after them.
+    /// What follows them.
     pub tail: Expr,
 }
 
@@ -188,7 +188,7 @@ impl Model for Let {
     ghost size_decreases = { λ a h. Prim.omega (arith, deep_le a.value, deep_le a.body) };
 }
 
-/// Two expressions of which the first is evaluated for its effect. Contracts see it as their pair.
+/// Two expressions, the first of which is evaluated for its effect. Contracts see it as their pair.
 #[cycle(expr)]
 pub struct Do {
     /// The expression whose value is dropped.

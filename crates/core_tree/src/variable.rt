@@ -1,7 +1,7 @@
 // Variables (Core Erlang 1.0.3, "Variable names").
 use std::marker::Model;
 
-/// A variable where it stands (Core Erlang 1.0.3, "Variable names").
+/// A variable at its place (Core Erlang 1.0.3, "Variable names").
 pub struct Variable {
     /// The place of its first byte in the text.
     pub at: usize,

@@ -1,4 +1,4 @@
--- Objects that have no part behind a position, and the position behind that of the key.
+-- Objects that have no part after a position, and the position after that of the key.
 use Rattle.std.proofs.Common.{◌≡◌, Bool, true, false, ◌||◌, if◌then◌else◌, ◌==◌, ℕ, ◌+◌, ◌-◌, ◌<◌, ◌≤◌, List, [], ◌∷◌, suc, length, get_or, drop, drop-cons, add-one, Some, None, refl, sym, ap, ◌∙◌, arith}
 use Rattle.std.specs.List.{cons_option}
 use Rattle.std.proofs.lemmas.Bool.{eqb-true}
@@ -20,11 +20,11 @@ no_part (x ∷ xs) n h =
     ∙ ap (λ b. if b then Some x else part_at (n - 1) xs) (apart n 1 (λ e. omega arith))
     ∙ no_part xs (n - 1) (omega arith)
 
--- an object that is no longer than that has no part behind it
+-- an object that is at most that long has no part after it
 pub no_part_behind : (n : ℕ) (xs : Object) → length xs ≤ n → part_at (n + 1) xs ≡ None
 no_part_behind n xs h = no_part xs (n + 1) (omega arith)
 
--- the position behind that of the key may be written
+-- the position after that of the key may be written
 pub behind_is_free : (n : ℕ) → is_key_or_none n (n + 1) ≡ false
 behind_is_free n =
     ap (λ b. b || (n + 1) == n) (apart (n + 1) 0 (λ e. omega arith))

@@ -11,11 +11,11 @@ use Rattle.ets_store.specs.declared.table.Table.{Table}
 use Rattle.ets_store.proofs.CellWrites.{are_stored, are_removed, are_written, are_wiped}
 use Rattle.world_model.specs.Calls.{TableCall, Insert, InsertNew, DeleteTable, DeleteKey, DeleteObject, DeleteAll, Take, UpdateCounter, UpdateElement, GiveAway, SetOptions}
 use Rattle.world_model.specs.Cells.{Contents, Row, Rows, Table as TableCell, meet}
-use Rattle.world_model.specs.Changes.{Change, after, changed, Writes, Wipes, Touches, Inherits}
-use Rattle.world_model.specs.Found.{Found, allowed_at}
+use Rattle.world_model.specs.Changes.{Change, after, changed, RowWritten, RowsCleared, CellTouched, HeirSet}
+use Rattle.world_model.specs.TableAccess.{Found, access_rule_at}
 use Rattle.world_model.specs.Names.{Pid, Ref, same_ref}
 use Rattle.world_model.specs.Objects.{given, stores, sum_of, place_of}
-use Rattle.world_model.specs.Owning.{heirs_set}
+use Rattle.world_model.specs.Ownership.{heirs_set}
 use Rattle.world_model.specs.Rows as rows
 use Rattle.world_model.specs.Rows.{Key, Object, RowChange, Alters, Clears, rewritten, rows_rewritten, same_key, some_if, under, listed}
 use Rattle.world_model.specs.TableLines.{table_line}
@@ -47,9 +47,9 @@ wiped true k all xs is = get-empty order_of_terms k
 wiped false k all xs is = is
 
 kept_by : (t : Ref) (j : Change) (v : Contents) → AreIn t v → AreIn t (changed j v)
-kept_by t (Writes u l c) v are k = written (same_ref u t) l k c (v (Rows t)) (v (Row t k)) (are k)
-kept_by t (Wipes u) v are k = wiped (same_ref u t) k (v (Rows t)) (v (Row t k)) (are k)
-kept_by t (Touches d) v are k = ap (λ all. get all k) (either_way (meet d (Rows t)) (v (Rows t))) ∙ are k ∙ sym (ap some_if (either_way (meet d (Row t k)) (v (Row t k))))
+kept_by t (RowWritten u l c) v are k = written (same_ref u t) l k c (v (Rows t)) (v (Row t k)) (are k)
+kept_by t (RowsCleared u) v are k = wiped (same_ref u t) k (v (Rows t)) (v (Row t k)) (are k)
+kept_by t (CellTouched d) v are k = ap (λ all. get all k) (either_way (meet d (Rows t)) (v (Rows t))) ∙ are k ∙ sym (ap some_if (either_way (meet d (Row t k)) (v (Row t k))))
 kept_by t j v are k = are k
 
 pub kept : (t : Ref) (ks : List Change) (v : Contents) → AreIn t v → AreIn t (after ks v)
@@ -62,9 +62,9 @@ new_left : (f : Found) (objects : List Object) (v : Contents) (b : Bool) → aft
 new_left f objects v true = refl
 new_left f objects v false = are_stored f objects v
 
-heirs_left : (t : Ref) (hs : List Heir) (v : Contents) → after (map (Inherits t) hs) v (Rows t) ≡ v (Rows t)
+heirs_left : (t : Ref) (hs : List Heir) (v : Contents) → after (map (HeirSet t) hs) v (Rows t) ≡ v (Rows t)
 heirs_left t [] v = refl
-heirs_left t (h ∷ hs) v = heirs_left t hs (changed (Inherits t h) v)
+heirs_left t (h ∷ hs) v = heirs_left t hs (changed (HeirSet t h) v)
 
 set_left : (t : Ref) (hs : List Heir) (v : Contents) → after (heirs_set t hs) v (Rows t) ≡ v (Rows t)
 set_left t [] v = either_way (meet (TableCell t) (Rows t)) (v (Rows t))
@@ -73,7 +73,7 @@ set_left t (h ∷ hs) v = heirs_left t (h ∷ hs) v
 abbrev Leaves : Table → Contents → Pid → Ref → TableCall → Type 0
 Leaves t v p ref call = after (table_line v p (found_at ref t) call).changes v (Rows ref) ≡ held_rows (settings_in t) t.rows.rows call
 
-rows_left : (t : Table) (v : Contents) (p : Pid) (ref : Ref) → HoldsRows t ref v → (call : TableCall) → allowed_at p (found_at ref t) call ≡ None → (table_line v p (found_at ref t) call).rule ≡ None → IsTrue (keeps_table call) → Leaves t v p ref call
+rows_left : (t : Table) (v : Contents) (p : Pid) (ref : Ref) → HoldsRows t ref v → (call : TableCall) → access_rule_at p (found_at ref t) call ≡ None → (table_line v p (found_at ref t) call).rule ≡ None → IsTrue (keeps_table call) → Leaves t v p ref call
 rows_left t v p ref holds (Insert objects) allowed served stays = are_stored (found_at ref t) (given objects) v ∙ ap (with_objects t.rows.kind t.rows.position (given objects)) holds.rows
 rows_left t v p ref holds (InsertNew objects) allowed served stays =
     ap (λ b. after (if b then [] else stores (found_at ref t) (given objects)) v (Rows ref)) (sym (asked_present t v p ref holds objects allowed served))
@@ -97,7 +97,7 @@ rows_left t v p ref holds (SetOptions heirs) allowed served stays = set_left ref
 rows_left t v p ref holds call allowed served stays = holds.rows
 
 -- the table holds what the call leaves, where its rows are those after the call
-pub holds_after : (t u : Table) (v : Contents) (p : Pid) (ref : Ref) (call : TableCall) → HoldsRows t ref v → allowed_at p (found_at ref t) call ≡ None → (table_line v p (found_at ref t) call).rule ≡ None → IsTrue (keeps_table call) → u.rows.rows ≡ held_rows (settings_in t) t.rows.rows call → HoldsRows u ref (after (table_line v p (found_at ref t) call).changes v)
+pub holds_after : (t u : Table) (v : Contents) (p : Pid) (ref : Ref) (call : TableCall) → HoldsRows t ref v → access_rule_at p (found_at ref t) call ≡ None → (table_line v p (found_at ref t) call).rule ≡ None → IsTrue (keeps_table call) → u.rows.rows ≡ held_rows (settings_in t) t.rows.rows call → HoldsRows u ref (after (table_line v p (found_at ref t) call).changes v)
 holds_after t u v p ref call holds allowed served stays is =
     let changes = (table_line v p (found_at ref t) call).changes in
     let all : after changes v (Rows ref) ≡ u.rows.rows = rows_left t v p ref holds call allowed served stays ∙ sym is in

@@ -5,18 +5,18 @@ use Rattle.std.specs.FinMap.{keys, contains_key}
 use Rattle.std.specs.Option.{option_or}
 use Rattle.std.specs.Prelude.{ℕ, length, is_some}
 use Rattle.term_core.specs.Order.{order_of_lists}
-use Rattle.ets_answers.specs.At.{found_at, HoldsRows, AreAlive}
+use Rattle.ets_answers.specs.At.{found_at, HoldsRows}
 use Rattle.ets_answers.specs.inside.Held.{held_rule, held_target, held_walk, held_counter, held_item, held_answer, held_written}
 use Rattle.ets_store.specs.TableRows.{one_has_key}
 use Rattle.ets_store.specs.Tables.{settings_in}
 use Rattle.ets_store.specs.declared.table.Table.{Table}
 use Rattle.ets_store.proofs.CellWrites.{are_present}
 use Rattle.world_model.specs.Calls.{TableCall, Lookup, Member, LookupElement, First, Last, Next, Prev, ToList, InsertNew, Take, UpdateCounter, UpdateElement, GiveAway, Info, has_items}
-use Rattle.world_model.specs.Cells.{Contents, Row, Rows}
-use Rattle.world_model.specs.Found.{allowed_at}
+use Rattle.world_model.specs.Cells.{AreAlive, Contents, Row, Rows}
+use Rattle.world_model.specs.TableAccess.{access_rule_at}
 use Rattle.world_model.specs.Names.{Pid, Ref}
 use Rattle.world_model.specs.Objects.{given, objects_rule, element_rule, element_answer, counter_rule, sum_of, update_rule, keys_asked, unless_refused, one_present}
-use Rattle.world_model.specs.Owning.{gift_rule, target_rule}
+use Rattle.world_model.specs.Ownership.{gift_rule, target_rule}
 use Rattle.world_model.specs.Rows.{Key, Object, tuples, parts_at, under, listed, some_if, all_objects}
 use Rattle.world_model.specs.RowsLeft.{rows_written, unless_present}
 use Rattle.world_model.specs.Signals.{first_of}
@@ -30,7 +30,7 @@ use Rattle.world_model.specs.declared.table.Item.{Item}
 use Rattle.world_model.specs.declared.table.Item.TheVariants as items
 use Rattle.world_model.proofs.RowLaws.{listed_some}
 
--- what follows where a call came to something
+-- what follows where a call resulted in something
 pub if_ok : {A E : Type 0} {P Q : A → Type 0} (r : Result A E) → ((x : A) → P x → Q x) → IfOk r P → IfOk r Q
 if_ok (Ok x) f is = f x is
 if_ok (Err e) f is = is
@@ -52,11 +52,11 @@ key_held t v ref holds key = ap has_items (sym (row_held t v ref holds key)) ∙
 walk_held : (t : Table) (v : Contents) (ref : Ref) → HoldsRows t ref v → (key : Key) → held_walk t.rows.kind key t.rows.rows ≡ walk_rule t.rows.kind key (v (Rows ref))
 walk_held t v ref holds key = ap (λ b. if is_ordered t.rows.kind || b then None else Some NoKey) (key_held t v ref holds key)
 
-target_held : (t : Table) (living : BTreeSet (List ℕ)) (v : Contents) → AreAlive living v → (to : Option Pid) → held_target (settings_in t) (contains order_of_lists living) to ≡ target_rule v (settings_in t) to
+target_held : (t : Table) (living : BTreeSet (List ℕ)) (v : Contents) → AreAlive (contains order_of_lists living) v → (to : Option Pid) → held_target (settings_in t) (contains order_of_lists living) to ≡ target_rule v (settings_in t) to
 target_held t living v alive None = refl
 target_held t living v alive (Some to) = ap (gift_rule (settings_in t) to) (alive to)
 
-pub rule_held : (t : Table) (living : BTreeSet (List ℕ)) (v : Contents) (p : Pid) (ref : Ref) → HoldsRows t ref v → AreAlive living v → (call : TableCall) → held_rule (settings_in t) t.rows.rows (contains order_of_lists living) call ≡ (table_line v p (found_at ref t) call).rule
+pub rule_held : (t : Table) (living : BTreeSet (List ℕ)) (v : Contents) (p : Pid) (ref : Ref) → HoldsRows t ref v → AreAlive (contains order_of_lists living) v → (call : TableCall) → held_rule (settings_in t) t.rows.rows (contains order_of_lists living) call ≡ (table_line v p (found_at ref t) call).rule
 rule_held t living v p ref holds alive (LookupElement key position) = ap (element_rule position) (sym (row_held t v ref holds key))
 rule_held t living v p ref holds alive (Next key) = walk_held t v ref holds key
 rule_held t living v p ref holds alive (Prev key) = walk_held t v ref holds key
@@ -82,17 +82,17 @@ asked_by None None ks e f = refl
 asked_by (Some a) r ks e f = absurd cc
 asked_by None (Some r) ks e f = absurd cc
 
-pub keys_are_asked : (t : Table) (p : Pid) (ref : Ref) (objects : Option (List Object)) → allowed_at p (found_at ref t) (InsertNew objects) ≡ None → objects_rule t.rows.position objects ≡ None → keys_asked p (found_at ref t) objects ≡ parts_at t.rows.position (given objects)
-keys_are_asked t p ref objects allowed served = asked_by (allowed_at p (found_at ref t) (InsertNew objects)) (objects_rule t.rows.position objects) (parts_at t.rows.position (given objects)) allowed served
+pub keys_are_asked : (t : Table) (p : Pid) (ref : Ref) (objects : Option (List Object)) → access_rule_at p (found_at ref t) (InsertNew objects) ≡ None → objects_rule t.rows.position objects ≡ None → keys_asked p (found_at ref t) objects ≡ parts_at t.rows.position (given objects)
+keys_are_asked t p ref objects allowed served = asked_by (access_rule_at p (found_at ref t) (InsertNew objects)) (objects_rule t.rows.position objects) (parts_at t.rows.position (given objects)) allowed served
 
 -- and finds one of them where the rows have it
-pub asked_present : (t : Table) (v : Contents) (p : Pid) (ref : Ref) → HoldsRows t ref v → (objects : Option (List Object)) → allowed_at p (found_at ref t) (InsertNew objects) ≡ None → objects_rule t.rows.position objects ≡ None → one_has_key t.rows.position (given objects) t.rows.rows ≡ one_present v ref (keys_asked p (found_at ref t) objects)
+pub asked_present : (t : Table) (v : Contents) (p : Pid) (ref : Ref) → HoldsRows t ref v → (objects : Option (List Object)) → access_rule_at p (found_at ref t) (InsertNew objects) ≡ None → objects_rule t.rows.position objects ≡ None → one_has_key t.rows.position (given objects) t.rows.rows ≡ one_present v ref (keys_asked p (found_at ref t) objects)
 asked_present t v p ref holds objects allowed served =
     ap (one_has_key t.rows.position (given objects)) (sym holds.rows)
     ∙ are_present ref t.rows.position (given objects) v (λ key. ap (λ all. under all key) holds.rows ∙ sym (row_held t v ref holds key))
     ∙ sym (ap (one_present v ref) (keys_are_asked t p ref objects allowed served))
 
-pub answer_held : (t : Table) (v : Contents) (p : Pid) (ref : Ref) → HoldsRows t ref v → (call : TableCall) → allowed_at p (found_at ref t) call ≡ None → (table_line v p (found_at ref t) call).rule ≡ None → held_answer (settings_in t) t.rows.rows call ≡ (table_line v p (found_at ref t) call).answer
+pub answer_held : (t : Table) (v : Contents) (p : Pid) (ref : Ref) → HoldsRows t ref v → (call : TableCall) → access_rule_at p (found_at ref t) call ≡ None → (table_line v p (found_at ref t) call).rule ≡ None → held_answer (settings_in t) t.rows.rows call ≡ (table_line v p (found_at ref t) call).answer
 answer_held t v p ref holds (Lookup key) allowed served = ap tuples (sym (row_held t v ref holds key))
 answer_held t v p ref holds (Member key) allowed served = ap (λ os. truth (has_items os)) (sym (row_held t v ref holds key))
 answer_held t v p ref holds (LookupElement key position) allowed served = ap (element_answer t.rows.kind position) (sym (row_held t v ref holds key))
@@ -110,6 +110,6 @@ answer_held t v p ref holds call allowed served = refl
 
 -- ---- the rows that it writes
 
-pub written_held : (t : Table) (v : Contents) (p : Pid) (ref : Ref) → HoldsRows t ref v → (call : TableCall) → allowed_at p (found_at ref t) call ≡ None → (table_line v p (found_at ref t) call).rule ≡ None → held_written (settings_in t) t.rows.rows call ≡ rows_written v p (found_at ref t) call
+pub written_held : (t : Table) (v : Contents) (p : Pid) (ref : Ref) → HoldsRows t ref v → (call : TableCall) → access_rule_at p (found_at ref t) call ≡ None → (table_line v p (found_at ref t) call).rule ≡ None → held_written (settings_in t) t.rows.rows call ≡ rows_written v p (found_at ref t) call
 written_held t v p ref holds (InsertNew objects) allowed served = ap (λ b. unless_present b (parts_at t.rows.position (given objects))) (asked_present t v p ref holds objects allowed served)
 written_held t v p ref holds call allowed served = refl

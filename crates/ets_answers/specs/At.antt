@@ -1,15 +1,18 @@
 -- A table that is held, as the calls of the explored world find it.
-use Rattle.std.specs.BTreeSet.{BTreeSet, contains}
 use Rattle.std.specs.FinMap.{get}
-use Rattle.std.specs.Prelude.{◌≡◌, ℕ, Bool, true, false, List}
-use Rattle.term_core.specs.Order.{order_of_lists}
+use Rattle.std.specs.Prelude.{◌≡◌, Bool, true, false, None, IsTrue}
+use Rattle.term_core.specs.Meaning.{Meaning}
 use Rattle.ets_store.specs.Tables.{settings_in}
 use Rattle.ets_store.specs.declared.table.Table.{Table}
 use Rattle.world_model.specs.Calls.{TableCall, DeleteTable}
-use Rattle.world_model.specs.Cells.{Contents, Alive, Row, Rows}
-use Rattle.world_model.specs.Found.{Found}
+use Rattle.world_model.specs.Cells.{Contents, Row, Rows}
+use Rattle.world_model.specs.Changes.{after}
+use Rattle.world_model.specs.TableAccess.{Found, access_rule_at}
+use Rattle.world_model.specs.TableLines.{Line, table_line}
 use Rattle.world_model.specs.Names.{Pid, Ref}
+use Rattle.world_model.specs.RowFootprints.{Touch}
 use Rattle.world_model.specs.Rows.{Key, some_if}
+use Rattle.world_model.specs.RowsLeft.{rows_written}
 
 -- the table as it is found by its reference
 abbrev pub found_at : Ref → Table → Found
@@ -20,11 +23,25 @@ pub record HoldsRows (t : Table) (ref : Ref) (v : Contents) : Type 0 where
   pub rows : v (Rows ref) ≡ t.rows.rows
   pub row : (key : Key) → get t.rows.rows key ≡ some_if (v (Row ref key))
 
--- those in the set live, and no others
-abbrev pub AreAlive : BTreeSet (List ℕ) → Contents → Type 0
-AreAlive living v = (p : Pid) → contains order_of_lists living p ≡ v (Alive p)
-
 -- whether the table is still there after a call
 abbrev pub keeps_table : TableCall → Bool
 keeps_table DeleteTable = false
 keeps_table call = true
+
+-- this is so of the line of a call at a table that is found, where the call is served: its process has access, and no rule refuses its arguments
+abbrev pub WhereServed : Contents → Pid → Found → TableCall → (Line → Type 0) → Type 0
+WhereServed v p f call IsSo = access_rule_at p f call ≡ None → (table_line v p f call).rule ≡ None → IsSo (table_line v p f call)
+
+-- ---- at a table that is held, whatever contents have its rows, whoever calls, and under whatever reference
+
+-- a call that is served has this answer
+abbrev pub IsAnswerAt : Table → TableCall → Meaning → Type 0
+IsAnswerAt t call answer = (v : Contents) (p : Pid) (ref : Ref) → HoldsRows t ref v → WhereServed v p (found_at ref t) call (λ l. answer ≡ l.answer)
+
+-- these are the rows that it writes
+abbrev pub AreWrittenAt : Table → TableCall → Touch → Type 0
+AreWrittenAt t call touch = (v : Contents) (p : Pid) (ref : Ref) → HoldsRows t ref v → WhereServed v p (found_at ref t) call (λ l. touch ≡ rows_written v p (found_at ref t) call)
+
+-- it leaves the table with the rows that its changes leave, where it does not destroy it
+abbrev pub LeavesAt : TableCall → Table → Table → Type 0
+LeavesAt call old new = (v : Contents) (p : Pid) (ref : Ref) → HoldsRows old ref v → WhereServed v p (found_at ref old) call (λ l. IsTrue (keeps_table call) → HoldsRows new ref (after l.changes v))

@@ -1,8 +1,8 @@
 -- Rows as a call touches them, in the words of the explored world.
 use Rattle.std.specs.Prelude.{map}
 use Rattle.term_core.specs.Term.{meaning_of}
-use Rattle.world_model.specs.Touch as touch
-use Rattle.world_model.specs.Touch.{Touch}
+use Rattle.world_model.specs.RowFootprints as touch
+use Rattle.world_model.specs.RowFootprints.{Touch}
 use Rattle.ets_answers.specs.declared.touched.Touched.{Touched}
 use Rattle.ets_answers.specs.declared.touched.Touched.TheVariants.{NoRow, RowsOfKeys, EachRow}
 

@@ -1,20 +1,16 @@
 // What a call answers (ets manual), before it writes.
-ghost use Rattle.std.specs.Prelude.{◌≡◌, ◌∷◌, [], None, IfOk, map, option_map, option_copied};
-ghost use Rattle.ets_answers.specs.At.{found_at, HoldsRows};
-ghost use Rattle.ets_answers.specs.inside.Held.{held_answer, held_counter};
+ghost use Rattle.std.specs.Prelude.{◌≡◌, ◌∷◌, [], IfOk, map, option_map, option_copied};
 ghost use Rattle.ets_calls.specs.Arguments.{increment_in};
 ghost use Rattle.ets_calls.specs.Calls.{call_in};
 ghost use Rattle.ets_store.specs.TableRows.{one_has_key};
 ghost use Rattle.ets_store.specs.Tables.{settings_in};
 ghost use Rattle.term_core.specs.Term.{meaning_of};
-ghost use Rattle.world_model.specs.Cells.{Contents};
-ghost use Rattle.world_model.specs.Found.{allowed_at};
-ghost use Rattle.world_model.specs.Names.{Pid, Ref};
-ghost use Rattle.world_model.specs.Objects.{given, element_answer, counter_rule, sum_of, value_or_ok};
+ghost use Rattle.world_model.specs.Objects.{given, element_answer, value_or_ok};
 ghost use Rattle.world_model.specs.Rows.{parts_at, under};
 ghost use Rattle.world_model.specs.Signals.{first_of};
-ghost use Rattle.world_model.specs.TableLines.{table_line};
 ghost use Rattle.world_model.specs.Walks.{key_or_end};
+ghost use Rattle.ets_answers.specs.At.{IsAnswerAt};
+ghost use Rattle.ets_answers.specs.inside.Held.{IsHeldAnswer, IsHeldSum};
 
 use crate::counters::counter_of;
 use crate::items::{item_answer, truth};
@@ -24,18 +20,18 @@ use ets_store::{Object, Rows, Table};
 use std::alloc::{AllocError, Global};
 use term_core::{Term, list_onto};
 
-/// What a call answers where no rule refuses it, or `AllocError` if there is no memory for it, or where the size
-/// or the position that `info/2` tells has more than the 63 bits of an integer. It is what the table says before
-/// the call writes.
+/// What a call answers where no rule refuses it, or `AllocError` if there is no memory for it, or where the size or the
+/// position that `info/2` reports has more than the 63 bits of an integer. It is what the table says before the call
+/// writes.
 pub fn answer(alloc: Global, table: &Table, call: &TableCall) -> Result<Term, AllocError>
-    ensures { IfOk result (λ answer. (v : Contents) (p : Pid) (ref : Ref) → HoldsRows table.now ref v → allowed_at p (found_at ref table.now) (call_in call.now) ≡ None → (table_line v p (found_at ref table.now) (call_in call.now)).rule ≡ None → meaning_of answer ≡ (table_line v p (found_at ref table.now) (call_in call.now)).answer) }
+    ensures { IfOk result (λ answer. IsAnswerAt table.now (call_in call.now) (meaning_of answer)) }
 {
     answer_of(alloc, table, call)
 }
 
 // The same, by what the table holds.
 fn answer_of(alloc: Global, table: &Table, call: &TableCall) -> Result<Term, AllocError>
-    ensures { IfOk result (λ answer. held_counter (settings_in table.now) table.now.rows.rows (call_in call.now) ≡ None → meaning_of answer ≡ held_answer (settings_in table.now) table.now.rows.rows (call_in call.now)) }
+    ensures { IfOk result (λ answer. IsHeldAnswer table.now (call_in call.now) (meaning_of answer)) }
 {
     match call {
         TableCall::Lookup(key) => table.rows.lookup(alloc, key),
@@ -61,7 +57,7 @@ fn answer_of(alloc: Global, table: &Table, call: &TableCall) -> Result<Term, All
     }
 }
 
-// A key, or the atom that says that there is none.
+// A key, or the atom that says that no key is left.
 fn key_or_end(alloc: Global, key: Option<&Term>) -> Result<Term, AllocError>
     ensures { IfOk result (λ answer. meaning_of answer ≡ key_or_end (option_map meaning_of (option_copied key.entry))) }
 {
@@ -119,7 +115,7 @@ fn element_answer(
 
 // What `update_counter/3` answers where it is not refused: the sum.
 fn sum_answer(table: &Table, key: &Term, increment: Increment) -> Term
-    ensures { counter_rule (settings_in table.now) (increment_in increment) (under table.now.rows.rows (meaning_of key.now)) ≡ None → meaning_of result ≡ sum_of (settings_in table.now) (increment_in increment) (under table.now.rows.rows (meaning_of key.now)) }
+    ensures { IsHeldSum table.now (meaning_of key.now) (increment_in increment) (meaning_of result) }
 {
     match counter_of(table, key, increment) {
         Ok(counter) => Term::Int(counter.sum),

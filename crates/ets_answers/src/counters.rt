@@ -39,7 +39,7 @@ fn first_part(there: &[Object], position: usize) -> Option<&Term>
     None
 }
 
-// The position right behind another, if one of these objects is that long.
+// The position right after another, if one of these objects is that long.
 fn place_behind(there: &[Object], position: usize) -> Option<usize>
     ensures { MatchOption result (first_of (parts_at (position + 1) there.now) ≡ None) (λ place. place ≡ position + 1) }
 {
@@ -78,7 +78,7 @@ fn sum_at(there: &[Object], place: usize, number: i64) -> Result<Counter, Rule>
     Ok(Counter { place, sum })
 }
 
-// The sum of a number and the element right behind a position, where a key is there.
+// The sum of a number and the element right after a position, where a key is there.
 fn sum_behind(there: &[Object], position: usize, number: i64) -> Result<Counter, Rule>
     ensures rule { refused_by result ≡ (if not (has_items there.now) then Some NoKey else sum_rule number (first_of (parts_at (position + 1) there.now))) }
     ensures place { IfOk result (λ counter. counter.place ≡ position + 1) }
@@ -108,9 +108,9 @@ fn sum_at_place(there: &[Object], key: usize, place: usize, number: i64) -> Resu
     sum_at(there, place, number)
 }
 
-/// What `update_counter/3` puts in under a key, or the rule that refuses it: the table is a bag, no integer is
-/// given, the position is none that may be written, no object is there, or it is too short, or has no integer
-/// there, or the sum has more than 64 bits.
+/// What `update_counter/3` puts in under a key, or the rule that refuses it: the table is a bag, no integer is given,
+/// the position may not be written, no object is there, or it is too short, or has no integer there, or the sum has
+/// more than 64 bits.
 #[tactic(auto, using(crate::proofs::Behind::behind_is_free))]
 pub(crate) fn counter_of(table: &Table, key: &Term, increment: Increment) -> Result<Counter, Rule>
     ensures rule { refused_by result ≡ counter_rule (settings_in table.now) (increment_in increment) (under table.now.rows.rows (meaning_of key.now)) }

@@ -1,4 +1,4 @@
-// What is told of a table (ets manual, `info/2`), and the terms that answers are made of.
+// What is reported about a table (ets manual, `info/2`), and the terms that answers are made of.
 ghost use Rattle.std.specs.Prelude.{◌≡◌, IfOk, codes, length};
 ghost use Rattle.ets_answers.specs.inside.Held.{held_item};
 ghost use Rattle.ets_store.specs.Tables.{settings_in, heir_in};
@@ -74,8 +74,8 @@ fn size(table: &Table) -> Result<Term, AllocError>
     number(table.rows.size())
 }
 
-/// What is told of a table under an item, or `AllocError` if there is no memory for it, or it is a number of more
-/// than 63 bits. Without an item it is `'true'`.
+/// What is reported about a table under an item, or `AllocError` if there is no memory for it, or it is a number of
+/// more than 63 bits. Without an item it is `'true'`.
 pub(crate) fn item_answer(
     table: &Table,
     alloc: Global,

@@ -1,12 +1,12 @@
 // The rule that refuses the arguments of a call (ets manual).
 ghost use Rattle.std.specs.BTreeSet.{contains};
 ghost use Rattle.std.specs.Prelude.{◌≡◌};
-ghost use Rattle.ets_answers.specs.At.{found_at, HoldsRows, AreAlive};
+ghost use Rattle.ets_answers.specs.At.{found_at, HoldsRows};
 ghost use Rattle.ets_answers.specs.inside.Held.{held_rule};
 ghost use Rattle.ets_calls.specs.Calls.{call_in};
 ghost use Rattle.ets_store.specs.Tables.{settings_in};
 ghost use Rattle.term_core.specs.Order.{order_of_lists};
-ghost use Rattle.world_model.specs.Cells.{Contents};
+ghost use Rattle.world_model.specs.Cells.{AreAlive, Contents};
 ghost use Rattle.world_model.specs.Names.{Pid, Ref};
 ghost use Rattle.world_model.specs.TableLines.{table_line};
 
@@ -21,11 +21,10 @@ use std::collections::BTreeSet;
 use term_core::Pid;
 use world_model::rule::Rule;
 
-/// The rule that refuses the arguments of a call, of all that fail the first, if one does: where the caller may
-/// call, it is by this that the call is refused (ets manual). `living` has those processes that live. It takes
-/// no memory.
+/// The rule that refuses the arguments of a call, of all that fail the first, if one does: where the caller may call,
+/// it is by this that the call is refused (ets manual). `living` has the processes that live. It takes no memory.
 pub fn argument_rule(table: &Table, call: &TableCall, living: &BTreeSet<Pid>) -> Option<Rule>
-    ensures { (v : Contents) (p : Pid) (ref : Ref) → HoldsRows table.now ref v → AreAlive living.now v → result ≡ (table_line v p (found_at ref table.now) (call_in call.now)).rule }
+    ensures { (v : Contents) (p : Pid) (ref : Ref) → HoldsRows table.now ref v → AreAlive (contains order_of_lists living.now) v → result ≡ (table_line v p (found_at ref table.now) (call_in call.now)).rule }
 {
     rule_of(table, call, living)
 }

@@ -8,10 +8,10 @@ ghost use Rattle.ets_calls.specs.Calls.{call_in};
 ghost use Rattle.ets_store.specs.Tables.{settings_in, heir_in};
 ghost use Rattle.term_core.specs.Order.{order_of_lists};
 ghost use Rattle.term_core.specs.Term.{meaning_of};
-ghost use Rattle.world_model.specs.Found.{class_of, allowed, rule_of_none};
+ghost use Rattle.world_model.specs.TableAccess.{class_of, access_rule, rule_of_none};
 ghost use Rattle.world_model.specs.Names.{same_pid};
 ghost use Rattle.world_model.specs.Objects.{objects_rule, one_object, place_rule, element_rule, is_key_or_none, change_rule, update_rule};
-ghost use Rattle.world_model.specs.Owning.{gift_rule, heirs_rule};
+ghost use Rattle.world_model.specs.Ownership.{gift_rule, heirs_rule};
 ghost use Rattle.world_model.specs.Rows.{is_short, under};
 ghost use Rattle.world_model.specs.Tables.{is_bag, is_ordered};
 ghost use Rattle.world_model.specs.Walks.{item_rule};
@@ -24,8 +24,8 @@ use term_core::{Pid, Term};
 use world_model::rule::Rule;
 use world_model::table::{Class, Item, Kind, Protection};
 
-/// What a call does with its table, by which it is known who may call (ets manual, "Table Access Control"). It
-/// takes no memory.
+/// What a call does with its table, which determines who may call (ets manual, "Table Access Control"). It takes no
+/// memory.
 pub fn class_of(call: &TableCall) -> Class
     ensures { result ≡ class_of (call_in call.now) }
 {
@@ -68,7 +68,7 @@ pub fn rule_of_none(class: Class) -> Option<Rule>
 
 // The rule that refuses a reader that does not own the table.
 fn reader_rule(protection: Protection) -> Option<Rule>
-    ensures { result ≡ allowed Read protection false }
+    ensures { result ≡ access_rule Read protection false }
 {
     match protection {
         Protection::Private => Some(Rule::PrivateRead),
@@ -79,7 +79,7 @@ fn reader_rule(protection: Protection) -> Option<Rule>
 
 // The rule that refuses a writer that does not own the table.
 fn writer_rule(protection: Protection) -> Option<Rule>
-    ensures { result ≡ allowed Write protection false }
+    ensures { result ≡ access_rule Write protection false }
 {
     match protection {
         Protection::Private => Some(Rule::PrivateWrite),
@@ -91,7 +91,7 @@ fn writer_rule(protection: Protection) -> Option<Rule>
 /// The rule that refuses a call of this class by a process, by the protection of the table and its owner, if
 /// one does (ets manual, "Table Access Control"). It takes no memory.
 pub fn caller_rule(class: Class, table: &Table, caller: &Pid) -> Option<Rule>
-    ensures { result ≡ allowed class (settings_in table.now).protection (same_pid (settings_in table.now).owner caller.now) }
+    ensures { result ≡ access_rule class (settings_in table.now).protection (same_pid (settings_in table.now).owner caller.now) }
 {
     if table.owner == *caller {
         return None;
@@ -126,7 +126,7 @@ fn has_short(position: usize, objects: &[Object]) -> bool
     false
 }
 
-/// The rule that refuses objects to be put in where keys have this position: they are none, or one is too short
+/// The rule that refuses objects to be put in where keys have this position: they are no objects, or one is too short
 /// to have a key (ets manual, `insert/2`).
 pub(crate) fn objects_rule(position: usize, objects: &Option<Vec<Object>>) -> Option<Rule>
     ensures { result ≡ objects_rule position (option_map (λ os. os.items) objects.now) }
@@ -140,7 +140,7 @@ pub(crate) fn objects_rule(position: usize, objects: &Option<Vec<Object>>) -> Op
     None
 }
 
-/// The rule that refuses an object to be taken out: it is none, or too short to have a key (ets manual,
+/// The rule that refuses an object to be taken out: it is no object, or is too short to have a key (ets manual,
 /// `delete_object/2`).
 pub(crate) fn object_rule(position: usize, object: &Option<Object>) -> Option<Rule>
     ensures { result ≡ objects_rule position (one_object object.now) }
@@ -164,7 +164,7 @@ fn place_rule(position: usize, there: &[Object]) -> Option<Rule>
     None
 }
 
-/// The rule that refuses `lookup_element/3`: the position is none, no object is there, or one is too short.
+/// The rule that refuses `lookup_element/3`: the position is not a valid one, no object is there, or one is too short.
 pub(crate) fn element_rule(position: Option<usize>, there: &[Object]) -> Option<Rule>
     ensures { result ≡ element_rule position there.now }
 {
@@ -201,8 +201,7 @@ fn is_ordered(kind: Kind) -> bool
     }
 }
 
-/// The rule that refuses `next/2` and `prev/2`: but in an ordered_set the key that they go on from is not
-/// there.
+/// The rule that refuses `next/2` and `prev/2`: the key that they go on from is not there, except in an ordered_set.
 pub(crate) fn walk_rule(table: &Table, key: &Term) -> Option<Rule>
     ensures { result ≡ held_walk (settings_in table.now).kind (meaning_of key.now) table.now.rows.rows }
 {
@@ -215,7 +214,7 @@ pub(crate) fn walk_rule(table: &Table, key: &Term) -> Option<Rule>
     Some(Rule::NoKey)
 }
 
-/// Whether a position is none that may be written: 0, or that of the key.
+/// Whether a position may not be written: 0, or that of the key.
 pub(crate) fn is_key_or_none(key: usize, position: usize) -> bool
     ensures { result ≡ is_key_or_none key position }
 {
@@ -259,7 +258,7 @@ fn gift_rule(table: &Table, to: &Pid, living: &BTreeSet<Pid>) -> Option<Rule>
     None
 }
 
-/// The rule that refuses `give_away/3`: the new owner is none, not alive, or the owner.
+/// The rule that refuses `give_away/3`: the new owner is no process, is not alive, or is the owner.
 pub(crate) fn target_rule(table: &Table, to: &Option<Pid>, living: &BTreeSet<Pid>) -> Option<Rule>
     ensures { result ≡ held_target (settings_in table.now) (contains order_of_lists living.now) to.now }
 {

@@ -1,19 +1,17 @@
 // Which rows of its table a call reads, and which it writes (ets manual).
-ghost use Rattle.std.specs.Prelude.{◌≡◌, ◌∷◌, [], None, IfOk, map, option_map};
-ghost use Rattle.ets_answers.specs.At.{found_at, HoldsRows};
+ghost use Rattle.std.specs.Prelude.{◌≡◌, ◌∷◌, [], IfOk, map, option_map};
+ghost use Rattle.ets_answers.specs.At.{AreWrittenAt, found_at};
 ghost use Rattle.ets_answers.specs.Touches.{touch_in};
 ghost use Rattle.ets_answers.specs.inside.Held.{held_written, new_written};
 ghost use Rattle.ets_calls.specs.Calls.{call_in};
 ghost use Rattle.ets_store.specs.Tables.{settings_in};
 ghost use Rattle.term_core.specs.Term.{meaning_of};
-ghost use Rattle.world_model.specs.Cells.{Contents};
-ghost use Rattle.world_model.specs.Found.{allowed_at};
-ghost use Rattle.world_model.specs.Names.{Pid, Ref};
+ghost use Rattle.world_model.specs.Names.{Ref};
 ghost use Rattle.world_model.specs.Objects.{given, keys_asked};
 ghost use Rattle.world_model.specs.Rows.{parts_at};
-ghost use Rattle.world_model.specs.RowsLeft.{rows_written, key_of_object};
-ghost use Rattle.world_model.specs.TableLines.{table_line, rows_read};
-ghost use Rattle.world_model.specs.Touch.{RowsOfKeys};
+ghost use Rattle.world_model.specs.RowsLeft.{key_of_object};
+ghost use Rattle.world_model.specs.TableLines.{rows_read};
+ghost use Rattle.world_model.specs.RowFootprints.{RowsOfKeys};
 ghost use Rattle.world_model.specs.Walks.{read_by_item};
 
 use crate::answers::{one_is_there, parts_at};
@@ -73,7 +71,7 @@ pub fn rows_read(
 /// The rows that a call writes where no rule refuses it, or `AllocError` if there is no memory for their keys. An
 /// `insert_new/2` writes none where one of its keys is there.
 pub fn rows_written(alloc: Global, table: &Table, call: &TableCall) -> Result<Touched, AllocError>
-    ensures { IfOk result (λ touched. (v : Contents) (p : Pid) (ref : Ref) → HoldsRows table.now ref v → allowed_at p (found_at ref table.now) (call_in call.now) ≡ None → (table_line v p (found_at ref table.now) (call_in call.now)).rule ≡ None → touch_in touched ≡ rows_written v p (found_at ref table.now) (call_in call.now)) }
+    ensures { IfOk result (λ touched. AreWrittenAt table.now (call_in call.now) (touch_in touched)) }
 {
     written_of(alloc, table, call)
 }

@@ -1,19 +1,13 @@
 // What a call writes into the rows of its table (ets manual).
-ghost use Rattle.std.specs.Prelude.{◌≡◌, None, IsTrue, OnOk, OnErr, option_map};
-ghost use Rattle.ets_answers.specs.At.{found_at, HoldsRows, keeps_table};
-ghost use Rattle.ets_answers.specs.inside.Held.{held_rows, held_counter, without_one, altered_at};
+ghost use Rattle.std.specs.Prelude.{◌≡◌, None, OnOk, OnErr, option_map};
+ghost use Rattle.ets_answers.specs.inside.Held.{held_rows, held_counter, without_one, altered_at, AreHeldCounted};
 ghost use Rattle.ets_calls.specs.Arguments.{increment_in, change_in};
 ghost use Rattle.ets_calls.specs.Calls.{call_in};
 ghost use Rattle.ets_store.specs.TableRows.{with_rows, with_objects, with_new_objects};
 ghost use Rattle.ets_store.specs.Tables.{settings_in};
 ghost use Rattle.term_core.specs.Term.{meaning_of};
-ghost use Rattle.world_model.specs.Cells.{Contents};
-ghost use Rattle.world_model.specs.Changes.{after};
-ghost use Rattle.world_model.specs.Found.{allowed_at};
-ghost use Rattle.world_model.specs.Names.{Pid, Ref};
-ghost use Rattle.world_model.specs.Objects.{given, counter_rule, sum_of, place_of};
-ghost use Rattle.world_model.specs.Rows.{rows_rewritten, Alters, under};
-ghost use Rattle.world_model.specs.TableLines.{table_line};
+ghost use Rattle.world_model.specs.Objects.{given};
+ghost use Rattle.ets_answers.specs.At.{LeavesAt};
 
 use crate::counters::counter_of;
 use ets_calls::{Increment, TableCall};
@@ -25,7 +19,7 @@ use term_core::Term;
 /// then nothing is changed. Calls that only read, that destroy the table or change who owns or inherits it write
 /// no rows here. The settings stay as they are.
 pub fn write(table: &mut Table, alloc: Global, call: &TableCall) -> Result<(), AllocError>
-    ensures ok { OnOk result ((v : Contents) (p : Pid) (ref : Ref) → HoldsRows table.old ref v → allowed_at p (found_at ref table.old) (call_in call.now) ≡ None → (table_line v p (found_at ref table.old) (call_in call.now)).rule ≡ None → IsTrue (keeps_table (call_in call.now)) → HoldsRows table.new ref (after (table_line v p (found_at ref table.old) (call_in call.now)).changes v)) }
+    ensures ok { OnOk result (LeavesAt (call_in call.now) table.old table.new) }
     ensures settings { settings_in table.new ≡ settings_in table.old }
     ensures err { OnErr result (table.new ≡ table.old) }
 {
@@ -95,14 +89,14 @@ fn remove(rows: &mut Rows, alloc: Global, object: &Option<Object>) -> Result<(),
     }
 }
 
-// Puts the sum in that `update_counter/3` comes to, where it is not refused.
+// Puts in the sum that `update_counter/3` results in, where it is not refused.
 fn count(
     table: &mut Table,
     alloc: Global,
     key: &Term,
     increment: Increment,
 ) -> Result<(), AllocError>
-    ensures ok { OnOk result (counter_rule (settings_in table.old) (increment_in increment) (under table.old.rows.rows (meaning_of key.now)) ≡ None → table.new.rows ≡ with_rows table.old.rows (rows_rewritten (meaning_of key.now) (Alters (place_of (settings_in table.old).position (increment_in increment)) (sum_of (settings_in table.old) (increment_in increment) (under table.old.rows.rows (meaning_of key.now)))) table.old.rows.rows)) }
+    ensures ok { OnOk result (AreHeldCounted table.old (meaning_of key.now) (increment_in increment) table.new.rows) }
     ensures settings { settings_in table.new ≡ settings_in table.old }
     ensures err { OnErr result (table.new ≡ table.old) }
 {

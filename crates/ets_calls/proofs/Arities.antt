@@ -3,8 +3,7 @@ use Rattle.std.proofs.Common.{◌≡◌, ◌<◌, List, [], ◌∷◌, length, f
 use Rattle.core_calls.specs.declared.call.CallKind.{CallKind}
 use Rattle.core_calls.specs.declared.call.CallKind.TheVariants as kinds
 use Rattle.term_core.specs.Meaning.{Meaning}
-use Rattle.world_model.specs.Calls.{call_of, call_of_none}
-use Rattle.ets_calls.specs.Requests.{is_of_tables}
+use Rattle.world_model.specs.Calls.{call_of, call_of_none, is_of_tables}
 
 -- no call without arguments is of tables
 none_of_tables : (kind : CallKind) → is_of_tables (call_of_none kind) ≡ false

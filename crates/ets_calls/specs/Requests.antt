@@ -1,18 +1,12 @@
--- What a call asks of tables, as it is held, beside the call of the explored world that it is.
-use Rattle.std.specs.Prelude.{◌≡◌, Bool, true, false, map, option_map}
+-- What a call asks of tables, as it is held, together with the call of the explored world that it is.
+use Rattle.std.specs.Prelude.{◌≡◌, false, map, option_map}
 use Rattle.world_model.specs.Calls as calls
-use Rattle.world_model.specs.Calls.{Call}
+use Rattle.world_model.specs.Calls.{Call, is_of_tables}
 use Rattle.ets_calls.specs.Arguments.{argument_in}
 use Rattle.ets_calls.specs.Calls.{call_in}
 use Rattle.ets_calls.specs.Options.{option_in}
 use Rattle.ets_calls.specs.declared.request.TableRequest.{TableRequest}
 use Rattle.ets_calls.specs.declared.request.TableRequest.TheVariants.{OnTable, New, Other}
-
--- whether a call is of tables
-abbrev pub is_of_tables : Call → Bool
-is_of_tables (calls.New name options) = true
-is_of_tables (calls.OnTable argument call) = true
-is_of_tables call = false
 
 -- a call is read as a request: as the same call of tables with the same arguments, or as none of tables
 abbrev pub IsReadAs : Call → TableRequest → Type 0

@@ -22,9 +22,9 @@ pub enum TableArgument {
 /// What `update_counter/3` adds.
 #[derive(Clone, Copy, Debug, PartialEq, Eq)]
 pub enum Increment {
-    /// An integer, to the element behind the key.
+    /// An integer, to the element after the key.
     Behind(i64),
-    /// An integer, to the element at a position; 0 stands for a position below 1.
+    /// An integer, to the element at a position; 0 means a position below 1.
     AtPlace(usize, i64),
     /// Neither.
     NotGiven,
@@ -64,7 +64,7 @@ pub(crate) fn process_in(term: &Term) -> Result<Option<Pid>, AllocError>
     }
 }
 
-// A position, where 0 stands for what is below 1.
+// A position, where 0 means what is below 1.
 fn position_of(number: i64) -> usize
     ensures { result ≡ position_of number }
 {

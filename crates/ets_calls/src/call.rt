@@ -42,7 +42,7 @@ pub enum TableCall {
     UpdateCounter(Term, Increment),
     /// `update_element/3`: the key, and the position with what is to be there, if they are such.
     UpdateElement(Term, Option<(usize, Term)>),
-    /// `give_away/3`: the new owner, if it is a process, and the data that it is told.
+    /// `give_away/3`: the new owner, if it is a process, and the data that it is given.
     GiveAway(Option<Pid>, Term),
     /// `setopts/2`: the heirs, one after the other, if the options are such.
     SetOptions(Option<Vec<Option<Heir>>>),

@@ -6,8 +6,8 @@ use Rattle.std.specs.Prelude.{List, option_map}
 use Rattle.world_model.specs.Calls.{TableArgument, ByName, ByReference, ByNothing, TableCall}
 use Rattle.world_model.specs.Cells as cells
 use Rattle.world_model.specs.Cells.{Contents}
-use Rattle.world_model.specs.Found.{Found, find, allowed_at}
-use Rattle.world_model.specs.Judging.{found_line, table_rule}
+use Rattle.world_model.specs.TableAccess.{Found, find, access_rule_at}
+use Rattle.world_model.specs.TableRules.{found_line, table_rule}
 use Rattle.world_model.specs.Names.{Pid, Ref, same_ref}
 use Rattle.world_model.specs.Changes.{Change, after}
 use Rattle.world_model.specs.Rows.{Key, Rows, under, listed}
@@ -45,8 +45,8 @@ or_none None b e = (refl, e)
 or_none (Some x) b e = absurd (true≢false (ap is_some e))
 
 -- where no rule refuses a call, neither who calls nor its arguments are at fault
-pub served_at : (v : Contents) (p : Pid) (argument : TableArgument) (call : TableCall) (f : Found) → Some f ≡ find v argument → table_rule v p argument call ≡ None → (allowed_at p f call ≡ None) × ((table_line v p f call).rule ≡ None)
-served_at v p argument call f found none = or_none (allowed_at p f call) (table_line v p f call).rule (judged v p argument call f (found_line v p call (Some f)).rule found refl ∙ none)
+pub served_at : (v : Contents) (p : Pid) (argument : TableArgument) (call : TableCall) (f : Found) → Some f ≡ find v argument → table_rule v p argument call ≡ None → (access_rule_at p f call ≡ None) × ((table_line v p f call).rule ≡ None)
+served_at v p argument call f found none = or_none (access_rule_at p f call) (table_line v p f call).rule (judged v p argument call f (found_line v p call (Some f)).rule found refl ∙ none)
 
 -- rows stay those under their keys, whatever changes
 pub hold_after : (old new : Tables) (ks : List Change) (v : Contents) → Hold old v → AreTables new.registry (after ks v) → Hold new (after ks v)

@@ -3,8 +3,8 @@ use Rattle.std.proofs.Common.{◌≡◌, ◌&&◌, ℕ, Bool, true, false, List,
 use Rattle.ets_rules.specs.inside.Parts.{KeepsOthers, writes_rows_alone}
 use Rattle.world_model.specs.Calls.{TableCall, Lookup, Member, LookupElement, First, Last, Next, Prev, ToList, Insert, InsertNew, DeleteTable, DeleteKey, DeleteObject, DeleteAll, Take, UpdateCounter, UpdateElement, GiveAway, SetOptions, Info}
 use Rattle.world_model.specs.Cells.{Contents, Row}
-use Rattle.world_model.specs.Changes.{Change, Writes, Wipes, after, changed, renewed}
-use Rattle.world_model.specs.Found.{Found, class_of}
+use Rattle.world_model.specs.Changes.{Change, RowWritten, RowsCleared, after, changed, renewed}
+use Rattle.world_model.specs.TableAccess.{Found, class_of}
 use Rattle.world_model.specs.Names.{Pid, Ref, same_ref}
 use Rattle.world_model.specs.Objects.{stores, stored_at, removes, removed_at, alters, given, one_present, keys_asked}
 use Rattle.term_core.specs.Meaning.{Meaning}
@@ -23,8 +23,8 @@ is_write Open = false
 -- changes of the rows of one table, one or several
 data AreOfRows (t : Ref) : List Change → Type 0 where
   none : AreOfRows t []
-  writes : (key : Key) (change : RowChange) (ks : List Change) → AreOfRows t ks → AreOfRows t (Writes t key change ∷ ks)
-  wipes : (ks : List Change) → AreOfRows t ks → AreOfRows t (Wipes t ∷ ks)
+  writes : (key : Key) (change : RowChange) (ks : List Change) → AreOfRows t ks → AreOfRows t (RowWritten t key change ∷ ks)
+  wipes : (ks : List Change) → AreOfRows t ks → AreOfRows t (RowsCleared t ∷ ks)
 
 not_met : {A : Type 0} (b : Bool) (x y : A) → b ≡ false → (if b then x else y) ≡ y
 not_met true x y e = absurd (true≢false e)
@@ -39,16 +39,16 @@ keeps_then t v w x first next = record {
   owned = λ p. next.owned p ∙ first.owned p;
 }
 
-pub write_keeps : (t : Ref) (key : Key) (change : RowChange) (v : Contents) → KeepsOthers t v (changed (Writes t key change) v)
+pub write_keeps : (t : Ref) (key : Key) (change : RowChange) (v : Contents) → KeepsOthers t v (changed (RowWritten t key change) v)
 write_keeps t key change v = record {
   tables = λ u. refl;
   rows = λ u e. not_met (same_ref t u) _ _ e;
-  each_row = λ u k e. ap (λ b. if b && same_key key k then renewed (Writes t key change) (Row u k) (v (Row u k)) else v (Row u k)) e;
+  each_row = λ u k e. ap (λ b. if b && same_key key k then renewed (RowWritten t key change) (Row u k) (v (Row u k)) else v (Row u k)) e;
   names = λ name. refl;
   owned = λ p. refl;
 }
 
-pub wipe_keeps : (t : Ref) (v : Contents) → KeepsOthers t v (changed (Wipes t) v)
+pub wipe_keeps : (t : Ref) (v : Contents) → KeepsOthers t v (changed (RowsCleared t) v)
 wipe_keeps t v = record {
   tables = λ u. refl;
   rows = λ u e. not_met (same_ref t u) _ _ e;
@@ -112,7 +112,7 @@ line_writes v p f (Info item) e = none
 pub call_keeps : (v : Contents) (p : Pid) (f : Found) (call : TableCall) → writes_rows_alone call ≡ true → KeepsOthers f.ref v (after (table_line v p f call).changes v)
 call_keeps v p f call e = rows_keep f.ref _ v (line_writes v p f call e)
 
--- such a call tells nobody
+-- such a call informs nobody
 none_told : (t : Ref) (ks : List Change) → AreOfRows t ks → transfers_in ks ≡ []
 none_told t [] none = refl
 none_told t (k ∷ ks) (writes key change _ are) = none_told t ks are

@@ -5,7 +5,7 @@ use Rattle.std.specs.Prelude.{option_copied, option_map, unwrap_or}
 use Rattle.term_core.specs.Order.{order_of_terms}
 use Rattle.world_model.specs.Cells as cells
 use Rattle.world_model.specs.Cells.{Contents}
-use Rattle.world_model.specs.Changes.{Change, Wipes, Writes, after, changed}
+use Rattle.world_model.specs.Changes.{Change, RowsCleared, RowWritten, after, changed}
 use Rattle.world_model.specs.Names.{Ref, same_ref}
 use Rattle.world_model.specs.Rows.{Key, Object, RowChange, Rows, listed, rows_rewritten, under}
 use Rattle.world_model.specs.Tables as tables
@@ -55,16 +55,16 @@ met true x y e = refl
 met false x y e = absurd (true≢false (sym e))
 
 pub write_holds : (old new : Tables) (v : Contents) (t : Ref) (key : Key) (change : RowChange) (settings : tables.Table) (lent : Table) (rows : TableRows) → rows ≡ with_rows lent.rows (rows_rewritten key change lent.rows.rows)
-    → Some (settings_in lent) ≡ table_at old.registry t → lent.rows.rows ≡ rows_at old.registry t → IsWritten t (record lent { rows = rows }) old.registry new.registry → v (cells.Table t) ≡ Some settings → Hold old v → Hold new (changed (Writes t key change) v)
+    → Some (settings_in lent) ≡ table_at old.registry t → lent.rows.rows ≡ rows_at old.registry t → IsWritten t (record lent { rows = rows }) old.registry new.registry → v (cells.Table t) ≡ Some settings → Hold old v → Hold new (changed (RowWritten t key change) v)
 write_holds old new v t key change settings lent rows is was there written found hold =
-    rows_hold old new v t (Writes t key change) settings lent (record lent { rows = rows }) (write_keeps t key change v)
+    rows_hold old new v t (RowWritten t key change) settings lent (record lent { rows = rows }) (write_keeps t key change v)
     (met (same_ref t t) _ _ (ref_itself t) ∙ ap (rows_rewritten key change) (sym (there ∙ hold.are.rows t)) ∙ sym (ap (λ (r : TableRows). r.rows) is))
     was (ap (λ (r : TableRows). settings_in (record lent { rows = r })) is) written found hold
 
 pub wipe_holds : (old new : Tables) (v : Contents) (t : Ref) (settings : tables.Table) (lent : Table) (rows : TableRows) → rows ≡ with_rows lent.rows empty
-    → Some (settings_in lent) ≡ table_at old.registry t → IsWritten t (record lent { rows = rows }) old.registry new.registry → v (cells.Table t) ≡ Some settings → Hold old v → Hold new (changed (Wipes t) v)
+    → Some (settings_in lent) ≡ table_at old.registry t → IsWritten t (record lent { rows = rows }) old.registry new.registry → v (cells.Table t) ≡ Some settings → Hold old v → Hold new (changed (RowsCleared t) v)
 wipe_holds old new v t settings lent rows is was written found hold =
-    rows_hold old new v t (Wipes t) settings lent (record lent { rows = rows }) (wipe_keeps t v)
+    rows_hold old new v t (RowsCleared t) settings lent (record lent { rows = rows }) (wipe_keeps t v)
     (met (same_ref t t) _ _ (ref_itself t) ∙ sym (ap (λ (r : TableRows). r.rows) is))
     was (ap (λ (r : TableRows). settings_in (record lent { rows = r })) is) written found hold
 
@@ -77,8 +77,8 @@ none_under : (b : Bool) (rows : Rows) (key : Key) → (b ≡ true → rows ≡ e
 none_under true rows key none = ap (λ r. under r key) (none refl) ∙ ap listed (get-empty order_of_terms key)
 none_under false rows key none = refl
 
-pub none_wiped : (old : Tables) (v : Contents) (t : Ref) → held_at old.registry t ≡ None → Hold old v → Hold old (changed (Wipes t) v)
-none_wiped old v t none hold = hold_after old old (Wipes t ∷ []) v hold record {
+pub none_wiped : (old : Tables) (v : Contents) (t : Ref) → held_at old.registry t ≡ None → Hold old v → Hold old (changed (RowsCleared t) v)
+none_wiped old v t none hold = hold_after old old (RowsCleared t ∷ []) v hold record {
   tables = hold.are.tables;
   rows = λ u. none_left (same_ref t u) (rows_at old.registry u) (λ e. no_rows u e) ∙ ap (λ r. if same_ref t u then empty else r) (hold.are.rows u);
   each_row = λ u key. none_under (same_ref t u) (rows_at old.registry u) key (λ e. no_rows u e) ∙ ap (λ os. if same_ref t u then [] else os) (hold.are.each_row u key);
@@ -88,6 +88,6 @@ none_wiped old v t none hold = hold_after old old (Wipes t ∷ []) v hold record
   no_rows : (u : Ref) → same_ref t u ≡ true → rows_at old.registry u ≡ empty
   no_rows u e = ap (rows_at old.registry) (sym (refs_same t u e)) ∙ ap rows_of none
 
--- where there is none, no rows of it are written
+-- where the table is missing, no rows of it are written
 pub none_there : {A : Type 0} (old : Tables) (v : Contents) (t : Ref) (settings : tables.Table) → held_at old.registry t ≡ None → v (cells.Table t) ≡ Some settings → Hold old v → A
 none_there old v t settings none there hold = absurd (true≢false (sym (ap is_some (sym (ap (option_map settings_in) none) ∙ hold.are.tables t ∙ there))))

@@ -5,7 +5,7 @@ use Rattle.std.specs.Prelude.{option_map, unwrap_or}
 use Rattle.world_model.specs.Calls.{TableCall, Lookup, Member, LookupElement, First, Last, Next, Prev, ToList, Insert, InsertNew, DeleteTable, DeleteKey, DeleteObject, DeleteAll, Take, UpdateCounter, UpdateElement, GiveAway, SetOptions, Info}
 use Rattle.world_model.specs.Cells.{Contents}
 use Rattle.world_model.specs.Changes.{after}
-use Rattle.world_model.specs.Found.{allowed_at}
+use Rattle.world_model.specs.TableAccess.{access_rule_at}
 use Rattle.world_model.specs.Names.{Pid, Ref}
 use Rattle.world_model.specs.TableLines.{table_line}
 use Rattle.world_model.specs.Tables as tables
@@ -47,13 +47,13 @@ same_settings s t e = ap (λ o. unwrap_or o s) e
 
 pub write_holds : (old new : Tables) (v : Contents) (p : Pid) (t : Ref) (call : TableCall) (table lent now : Table) → Hold old v → held_at old.registry t ≡ Some table
     → Some (settings_in lent) ≡ table_at old.registry t → lent.rows.rows ≡ rows_at old.registry t → IsWritten t now old.registry new.registry → settings_in now ≡ settings_in lent
-    → (HoldsRows lent t v → allowed_at p (found_at t lent) call ≡ None → (table_line v p (found_at t lent) call).rule ≡ None → IsTrue (keeps_table call) → HoldsRows now t (after (table_line v p (found_at t lent) call).changes v))
-    → allowed_at p (found_at t table) call ≡ None → (table_line v p (found_at t table) call).rule ≡ None → writes_rows_alone call ≡ true
+    → (HoldsRows lent t v → access_rule_at p (found_at t lent) call ≡ None → (table_line v p (found_at t lent) call).rule ≡ None → IsTrue (keeps_table call) → HoldsRows now t (after (table_line v p (found_at t lent) call).changes v))
+    → access_rule_at p (found_at t table) call ≡ None → (table_line v p (found_at t table) call).rule ≡ None → writes_rows_alone call ≡ true
     → Hold new (after (table_line v p (found_at t table) call).changes v)
 write_holds old new v p t call table lent now hold held settings rows written kept wrote allowed rule alone =
     let same = same_settings _ _ (settings ∙ ap (option_map settings_in) held) in
     let found : found_at t lent ≡ found_at t table = ap (λ s. record { ref = t; table = s }) same in
     let holds : HoldsRows lent t v = record { rows = sym (rows ∙ hold.are.rows t); row = λ key. ap (λ r. get r key) (rows ∙ hold.are.rows t) ∙ hold.by_key t key } in
-    let left = wrote holds (ap (λ f. allowed_at p f call) found ∙ allowed) (ap (λ f. (table_line v p f call).rule) found ∙ rule) (keeps call alone) in
+    let left = wrote holds (ap (λ f. access_rule_at p f call) found ∙ allowed) (ap (λ f. (table_line v p f call).rule) found ∙ rule) (keeps call alone) in
     hold_after old new (table_line v p (found_at t table) call).changes v hold
     (written_hold old.registry new.registry v _ t table now hold.are held written (kept ∙ same) (subst (λ f. HoldsRows now t (after (table_line v p f call).changes v)) found left) (call_keeps v p (found_at t table) call alone))

@@ -2,11 +2,16 @@
 use Rattle.std.specs.FinMap.{get}
 use Rattle.std.specs.Prelude.{◌≡◌, List, [], ◌∷◌, Option, Some, None}
 use Rattle.term_core.specs.Meaning.{Meaning}
-use Rattle.proc_groups.specs.References.{ref_of}
+use Rattle.world_model.specs.Calls.{TableArgument, TableCall}
+use Rattle.world_model.specs.Cells as cells
 use Rattle.world_model.specs.Cells.{Contents, Row, Rows}
-use Rattle.world_model.specs.Found.{Found}
-use Rattle.world_model.specs.Names.{Name, Pid, Ref}
-use Rattle.world_model.specs.Rows.{Key, some_if}
+use Rattle.world_model.specs.Changes.{RowWritten, TableSet, after}
+use Rattle.world_model.specs.ProcessLines.{CallLine}
+use Rattle.world_model.specs.TableAccess.{Found}
+use Rattle.world_model.specs.TableRules.{on_table_line, table_rule}
+use Rattle.world_model.specs.Tables as settings
+use Rattle.world_model.specs.Names.{Name, Pid, Ref, ref_of}
+use Rattle.world_model.specs.Rows.{Key, RowChange, some_if}
 use Rattle.ets_answers.specs.At.{found_at}
 use Rattle.ets_store.specs.declared.table.Table.{Table}
 use Rattle.ets_tables.specs.Ends.{transfer_of}
@@ -26,7 +31,7 @@ meant_in tables name = registry.meant_by tables.registry name
 abbrev pub owned_in : Tables → Pid → List Ref
 owned_in tables p = registry.owned_by tables.registry p
 
--- the tables are what the contents say, of which the rows of each table are those under its keys, as in every history
+-- the tables are what the contents say, and the rows of each table are those under its keys, as in every history
 pub record Hold (tables : Tables) (v : Contents) : Type 0 where
   pub are : AreTables tables.registry v
   pub by_key : (t : Ref) (key : Key) → get (v (Rows t)) key ≡ some_if (v (Row t key))
@@ -43,3 +48,17 @@ found_of f = found_at (ref_of f.id.now) f.table.now
 abbrev pub told_in : Option Transfer → List (Pid × Meaning)
 told_in None = []
 told_in (Some transfer) = transfer_of transfer ∷ []
+
+-- ---- whatever contents the tables hold
+
+-- this is so of the line of a call, whoever calls, where no rule refuses it
+abbrev pub WhereNotRefused : Tables → TableArgument → TableCall → (Contents → CallLine → Type 0) → Type 0
+WhereNotRefused tables argument call IsSo = (v : Contents) (p : Pid) → Hold tables v → table_rule v p argument call ≡ None → IsSo v (on_table_line v p argument call)
+
+-- a table without rows is added under a reference that finds none; no name means it yet, and nobody has it
+abbrev pub AddsTable : Ref → settings.Table → Tables → Tables → Type 0
+AddsTable t table old new = (v : Contents) → v (cells.Table t) ≡ None → Hold old v → Hold new (after (TableSet t table ∷ []) v)
+
+-- the row under a key is changed in the table of a reference, where there is one, as its settings say
+abbrev pub ChangesRow : Ref → Key → (settings.Table → RowChange) → Tables → Tables → Type 0
+ChangesRow t key change old new = (v : Contents) (table : settings.Table) → v (cells.Table t) ≡ Some table → Hold old v → Hold new (after (RowWritten t key (change table) ∷ []) v)

@@ -1,23 +1,22 @@
-// What calls that are served answer, leave and tell (ets manual, each under the name of its call).
+// What calls that are served answer, leave and report (ets manual, each under the name of its call).
 ghost use Rattle.std.specs.Prelude.{◌≡◌, [], None, Some, true, false, IsSome, IfOk, OnOk, OnErr, map, option_map, codes};
 ghost use Rattle.ets_answers.specs.At.{found_at};
 ghost use Rattle.ets_calls.specs.Arguments.{argument_in};
 ghost use Rattle.ets_calls.specs.Calls.{call_in};
-ghost use Rattle.ets_rules.specs.Tables.{Hold, IsUnchanged, told_in};
+ghost use Rattle.ets_rules.specs.Tables.{Hold, IsUnchanged, WhereNotRefused, told_in};
 ghost use Rattle.ets_rules.specs.inside.Parts.{writes_rows_alone};
+ghost use Rattle.ets_rules.specs.inside.Serving.{ArePutAt, AtLine, AtTable, OfTable, WhereServedAt};
 ghost use Rattle.ets_store.specs.Tables.{heir_in};
 ghost use Rattle.ets_store.specs.declared.table.Table as declared;
 ghost use Rattle.ets_tables.specs.Ends.{transfers_in};
 ghost use Rattle.ets_tables.specs.Tables.{held_at};
-ghost use Rattle.proc_groups.specs.References.{ref_of};
+ghost use Rattle.world_model.specs.Names.{ref_of};
 ghost use Rattle.term_core.specs.Term.{meaning_of};
 ghost use Rattle.world_model.specs.Cells.{Contents};
 ghost use Rattle.world_model.specs.Changes.{after};
-ghost use Rattle.world_model.specs.Found.{allowed_at};
-ghost use Rattle.world_model.specs.Judging.{on_table_line, table_rule};
 ghost use Rattle.world_model.specs.Names as names;
 ghost use Rattle.world_model.specs.Objects.{given};
-ghost use Rattle.world_model.specs.Owning.{destroyed, gives_to, heirs_set};
+ghost use Rattle.world_model.specs.Ownership.{destroyed, gives_to, heirs_set};
 ghost use Rattle.world_model.specs.TableLines.{table_line};
 ghost use Rattle.world_model.specs.Terms.{atom, ok};
 
@@ -30,7 +29,7 @@ use std::alloc::{AllocError, Global};
 use term_core::{Pid, RefId, Term, Word};
 use world_model::table::Class;
 
-/// What a call answers, and what it tells another process, if it does.
+/// What a call answers, and what it sends to another process, if anything.
 #[derive(Drop)]
 pub struct Done {
     /// The answer.
@@ -83,7 +82,7 @@ fn copied(heir: &Option<Heir>) -> Result<Option<Heir>, AllocError>
 impl Tables {
     // `delete/1`.
     fn delete(&mut self, id: &RefId) -> Result<Done, AllocError>
-        ensures tables { OnOk result ((v : Contents) (table : declared.Table) → Hold self.old v → held_at self.old.registry (ref_of id.now) ≡ Some table → Hold self.new (after (destroyed (found_at (ref_of id.now) table)) v)) }
+        ensures tables { OnOk result (AtTable self.old (ref_of id.now) (λ v f. Hold self.new (after (destroyed f) v))) }
         ensures answer { IfOk result (λ done. meaning_of done.answer ≡ ok) }
         ensures told { IfOk result (λ done. told_in done.transfer ≡ []) }
         ensures err { OnErr result (IsUnchanged self.old self.new) }
@@ -120,11 +119,11 @@ impl Tables {
         }
     }
 
-    // `give_away/3`: the table passes, and its new owner is told.
+    // `give_away/3`: the table passes, and its new owner is informed.
     fn give(&mut self, alloc: Global, id: &RefId, to: &Pid, gift: &Term) -> Result<Done, AllocError>
-        ensures tables { OnOk result ((v : Contents) (table : declared.Table) → Hold self.old v → held_at self.old.registry (ref_of id.now) ≡ Some table → Hold self.new (after (gives_to (found_at (ref_of id.now) table) (Some to.now) (meaning_of gift.now)) v)) }
+        ensures tables { OnOk result (AtTable self.old (ref_of id.now) (λ v f. Hold self.new (after (gives_to f (Some to.now) (meaning_of gift.now)) v))) }
         ensures answer { IfOk result (λ done. meaning_of done.answer ≡ ok) }
-        ensures told { IfOk result (λ done. (table : declared.Table) → held_at self.old.registry (ref_of id.now) ≡ Some table → told_in done.transfer ≡ transfers_in (gives_to (found_at (ref_of id.now) table) (Some to.now) (meaning_of gift.now))) }
+        ensures told { IfOk result (λ done. OfTable self.old (ref_of id.now) (λ f. told_in done.transfer ≡ transfers_in (gives_to f (Some to.now) (meaning_of gift.now)))) }
         ensures err { OnErr result (IsUnchanged self.old self.new) }
     {
         let Some(table) = self.registry.get(id) else {
@@ -150,9 +149,9 @@ impl Tables {
         to: &Option<Pid>,
         gift: &Term,
     ) -> Result<Done, AllocError>
-        ensures tables { OnOk result ((v : Contents) (table : declared.Table) → Hold self.old v → held_at self.old.registry (ref_of id.now) ≡ Some table → Hold self.new (after (gives_to (found_at (ref_of id.now) table) to.now (meaning_of gift.now)) v)) }
+        ensures tables { OnOk result (AtTable self.old (ref_of id.now) (λ v f. Hold self.new (after (gives_to f to.now (meaning_of gift.now)) v))) }
         ensures answer { IfOk result (λ done. meaning_of done.answer ≡ ok) }
-        ensures told { IfOk result (λ done. (table : declared.Table) → held_at self.old.registry (ref_of id.now) ≡ Some table → told_in done.transfer ≡ transfers_in (gives_to (found_at (ref_of id.now) table) to.now (meaning_of gift.now))) }
+        ensures told { IfOk result (λ done. OfTable self.old (ref_of id.now) (λ f. told_in done.transfer ≡ transfers_in (gives_to f to.now (meaning_of gift.now)))) }
         ensures err { OnErr result (IsUnchanged self.old self.new) }
     {
         match to {
@@ -163,7 +162,7 @@ impl Tables {
 
     // What a call answers that changes no owner, heir or name.
     fn read(&self, alloc: Global, id: &RefId, call: &TableCall) -> Result<Done, AllocError>
-        ensures answer { IfOk result (λ done. (v : Contents) (p : names.Pid) (table : declared.Table) → Hold self.now v → held_at self.now.registry (ref_of id.now) ≡ Some table → allowed_at p (found_at (ref_of id.now) table) (call_in call.now) ≡ None → (table_line v p (found_at (ref_of id.now) table) (call_in call.now)).rule ≡ None → meaning_of done.answer ≡ (table_line v p (found_at (ref_of id.now) table) (call_in call.now)).answer) }
+        ensures answer { IfOk result (λ done. WhereServedAt self.now (ref_of id.now) (call_in call.now) (λ v l. meaning_of done.answer ≡ l.answer)) }
         ensures told { IfOk result (λ done. told_in done.transfer ≡ []) }
     {
         let Some(table) = self.registry.get(id) else {
@@ -180,8 +179,8 @@ impl Tables {
     fn serve(&mut self, alloc: Global, id: &RefId, call: &TableCall) -> Result<Done, AllocError>
         requires there { IsSome (held_at self.old.registry (ref_of id.now)) }
         requires rows { writes_rows_alone (call_in call.now) ≡ true }
-        ensures tables { OnOk result ((v : Contents) (p : names.Pid) (table : declared.Table) → Hold self.old v → held_at self.old.registry (ref_of id.now) ≡ Some table → allowed_at p (found_at (ref_of id.now) table) (call_in call.now) ≡ None → (table_line v p (found_at (ref_of id.now) table) (call_in call.now)).rule ≡ None → Hold self.new (after (table_line v p (found_at (ref_of id.now) table) (call_in call.now)).changes v)) }
-        ensures answer { IfOk result (λ done. (v : Contents) (p : names.Pid) (table : declared.Table) → Hold self.old v → held_at self.old.registry (ref_of id.now) ≡ Some table → allowed_at p (found_at (ref_of id.now) table) (call_in call.now) ≡ None → (table_line v p (found_at (ref_of id.now) table) (call_in call.now)).rule ≡ None → meaning_of done.answer ≡ (table_line v p (found_at (ref_of id.now) table) (call_in call.now)).answer) }
+        ensures tables { OnOk result (WhereServedAt self.old (ref_of id.now) (call_in call.now) (λ v l. Hold self.new (after l.changes v))) }
+        ensures answer { IfOk result (λ done. WhereServedAt self.old (ref_of id.now) (call_in call.now) (λ v l. meaning_of done.answer ≡ l.answer)) }
         ensures told { IfOk result (λ done. (v : Contents) (p : names.Pid) (table : declared.Table) → told_in done.transfer ≡ transfers_in (table_line v p (found_at (ref_of id.now) table) (call_in call.now)).changes) }
         ensures err { OnErr result (IsUnchanged self.old self.new) }
     {
@@ -201,9 +200,9 @@ impl Tables {
     #[tactic(auto, using(crate::proofs::Owning::heirs_tell_nobody))]
     fn hand_on(&mut self, alloc: Global, id: &RefId, call: &TableCall) -> Result<Done, AllocError>
         requires { writes_rows_alone (call_in call.now) ≡ false }
-        ensures tables { OnOk result ((v : Contents) (p : names.Pid) (table : declared.Table) → Hold self.old v → held_at self.old.registry (ref_of id.now) ≡ Some table → (table_line v p (found_at (ref_of id.now) table) (call_in call.now)).rule ≡ None → Hold self.new (after (table_line v p (found_at (ref_of id.now) table) (call_in call.now)).changes v)) }
+        ensures tables { OnOk result (AtLine self.old (ref_of id.now) (call_in call.now) (λ v l. l.rule ≡ None → Hold self.new (after l.changes v))) }
         ensures answer { IfOk result (λ done. (v : Contents) (p : names.Pid) (table : declared.Table) → meaning_of done.answer ≡ (table_line v p (found_at (ref_of id.now) table) (call_in call.now)).answer) }
-        ensures told { IfOk result (λ done. (v : Contents) (p : names.Pid) (table : declared.Table) → held_at self.old.registry (ref_of id.now) ≡ Some table → told_in done.transfer ≡ transfers_in (table_line v p (found_at (ref_of id.now) table) (call_in call.now)).changes) }
+        ensures told { IfOk result (λ done. ArePutAt self.old (ref_of id.now) (call_in call.now) (told_in done.transfer)) }
         ensures err { OnErr result (IsUnchanged self.old self.new) }
     {
         match call {
@@ -222,9 +221,9 @@ impl Tables {
     // A call of the table of a reference, which is there.
     fn apply_at(&mut self, alloc: Global, id: &RefId, call: &TableCall) -> Result<Done, AllocError>
         requires { IsSome (held_at self.old.registry (ref_of id.now)) }
-        ensures tables { OnOk result ((v : Contents) (p : names.Pid) (table : declared.Table) → Hold self.old v → held_at self.old.registry (ref_of id.now) ≡ Some table → allowed_at p (found_at (ref_of id.now) table) (call_in call.now) ≡ None → (table_line v p (found_at (ref_of id.now) table) (call_in call.now)).rule ≡ None → Hold self.new (after (table_line v p (found_at (ref_of id.now) table) (call_in call.now)).changes v)) }
-        ensures answer { IfOk result (λ done. (v : Contents) (p : names.Pid) (table : declared.Table) → Hold self.old v → held_at self.old.registry (ref_of id.now) ≡ Some table → allowed_at p (found_at (ref_of id.now) table) (call_in call.now) ≡ None → (table_line v p (found_at (ref_of id.now) table) (call_in call.now)).rule ≡ None → meaning_of done.answer ≡ (table_line v p (found_at (ref_of id.now) table) (call_in call.now)).answer) }
-        ensures told { IfOk result (λ done. (v : Contents) (p : names.Pid) (table : declared.Table) → held_at self.old.registry (ref_of id.now) ≡ Some table → told_in done.transfer ≡ transfers_in (table_line v p (found_at (ref_of id.now) table) (call_in call.now)).changes) }
+        ensures tables { OnOk result (WhereServedAt self.old (ref_of id.now) (call_in call.now) (λ v l. Hold self.new (after l.changes v))) }
+        ensures answer { IfOk result (λ done. WhereServedAt self.old (ref_of id.now) (call_in call.now) (λ v l. meaning_of done.answer ≡ l.answer)) }
+        ensures told { IfOk result (λ done. ArePutAt self.old (ref_of id.now) (call_in call.now) (told_in done.transfer)) }
         ensures err { OnErr result (IsUnchanged self.old self.new) }
     {
         if is_of_rows(call) {
@@ -234,18 +233,18 @@ impl Tables {
         }
     }
 
-    /// Does what a call does that no rule refuses: gives its answer, changes the tables, and says what it tells
-    /// another process. `AllocError` if there is no memory for it, and then nothing is changed. Of a call that is
-    /// refused it promises nothing but that: judge it first, by `judge`.
+    /// Does what a call does that no rule refuses: gives its answer, changes the tables, and says what it sends to
+    /// another process. `AllocError` if there is no memory for it, and then nothing is changed. For a call that is
+    /// refused it promises nothing else: judge it first, by `judge`.
     pub fn apply(
         &mut self,
         alloc: Global,
         argument: &TableArgument,
         call: &TableCall,
     ) -> Result<Done, AllocError>
-        ensures tables { OnOk result ((v : Contents) (p : names.Pid) → Hold self.old v → table_rule v p (argument_in argument.now) (call_in call.now) ≡ None → Hold self.new (after (on_table_line v p (argument_in argument.now) (call_in call.now)).changes v)) }
-        ensures answer { IfOk result (λ done. (v : Contents) (p : names.Pid) → Hold self.old v → table_rule v p (argument_in argument.now) (call_in call.now) ≡ None → meaning_of done.answer ≡ (on_table_line v p (argument_in argument.now) (call_in call.now)).answer) }
-        ensures told { IfOk result (λ done. (v : Contents) (p : names.Pid) → Hold self.old v → table_rule v p (argument_in argument.now) (call_in call.now) ≡ None → told_in done.transfer ≡ transfers_in (on_table_line v p (argument_in argument.now) (call_in call.now)).changes) }
+        ensures tables { OnOk result (WhereNotRefused self.old (argument_in argument.now) (call_in call.now) (λ v l. Hold self.new (after l.changes v))) }
+        ensures answer { IfOk result (λ done. WhereNotRefused self.old (argument_in argument.now) (call_in call.now) (λ v l. meaning_of done.answer ≡ l.answer)) }
+        ensures told { IfOk result (λ done. WhereNotRefused self.old (argument_in argument.now) (call_in call.now) (λ v l. told_in done.transfer ≡ transfers_in l.changes)) }
         ensures err { OnErr result (IsUnchanged self.old self.new) }
     {
         let Some(found) = self.find(argument) else {

@@ -1,12 +1,11 @@
 // Where the tables of a process go when it ends (ets manual, `new/2`, option `heir`).
 ghost use Rattle.std.specs.Prelude.{◌≡◌, [], ◌∷◌, ◌++◌, IfOk, OnOk, OnErr, map};
-ghost use Rattle.ets_answers.specs.At.{AreAlive};
 ghost use Rattle.ets_rules.specs.Tables.{Hold, IsUnchanged};
-ghost use Rattle.ets_tables.specs.Ends.{transfer_of, transfers_in};
-ghost use Rattle.world_model.specs.Cells as cells;
-ghost use Rattle.world_model.specs.Cells.{Contents};
-ghost use Rattle.world_model.specs.Changes.{Empties, after};
-ghost use Rattle.world_model.specs.Ends.{tables_pass};
+ghost use Rattle.ets_tables.specs.Ends.{tables_left, transfer_of, transfers_in};
+ghost use Rattle.world_model.specs.Cells.{AreAlive, Contents};
+ghost use Rattle.world_model.specs.Changes.{OwnedCleared, after};
+ghost use Rattle.std.specs.BTreeSet.{contains};
+ghost use Rattle.term_core.specs.Order.{order_of_lists};
 
 use crate::tables::Tables;
 use ets_tables::Transfer;
@@ -25,8 +24,8 @@ impl Tables {
         pid: &Pid,
         living: &BTreeSet<Pid>,
     ) -> Result<Vec<Transfer>, AllocError>
-        ensures tables { OnOk result ((v : Contents) → Hold self.old v → AreAlive living.now v → Hold self.new (after (tables_pass v pid.now (v (cells.Owned pid.now)) ++ (Empties pid.now ∷ [])) v)) }
-        ensures told { IfOk result (λ transfers. (v : Contents) → Hold self.old v → AreAlive living.now v → transfers_in (tables_pass v pid.now (v (cells.Owned pid.now))) ≡ map transfer_of transfers.items) }
+        ensures tables { OnOk result ((v : Contents) → Hold self.old v → AreAlive (contains order_of_lists living.now) v → Hold self.new (after (tables_left v pid.now ++ (OwnedCleared pid.now ∷ [])) v)) }
+        ensures told { IfOk result (λ transfers. (v : Contents) → Hold self.old v → AreAlive (contains order_of_lists living.now) v → transfers_in (tables_left v pid.now) ≡ map transfer_of transfers.items) }
         ensures err { OnErr result (IsUnchanged self.old self.new) }
     {
         let transfers = self.registry.owner_ends(alloc, pid, living)?;

@@ -1,19 +1,21 @@
 // Which rule refuses a call: the first that fails of the table argument, what it finds, who may call, and then the
 // other arguments from left to right (ets manual, "Table Access Control" and each call). None of this takes memory.
 ghost use Rattle.std.specs.Prelude.{◌≡◌, Some, map, option_map, option_copied};
-ghost use Rattle.ets_answers.specs.At.{AreAlive, HoldsRows, found_at};
+ghost use Rattle.ets_answers.specs.At.{HoldsRows, found_at};
 ghost use Rattle.ets_calls.specs.Arguments.{argument_in};
 ghost use Rattle.ets_calls.specs.Calls.{call_in};
 ghost use Rattle.ets_calls.specs.Options.{option_in};
 ghost use Rattle.ets_rules.specs.Tables.{Hold};
 ghost use Rattle.world_model.specs.Calls as calls;
-ghost use Rattle.world_model.specs.Cells.{Contents};
+ghost use Rattle.world_model.specs.Cells.{AreAlive, Contents};
 ghost use Rattle.world_model.specs.Events.{ByRule};
-ghost use Rattle.world_model.specs.Found.{find};
-ghost use Rattle.world_model.specs.Judging.{found_line, table_rule, told_owner, tells_owner};
+ghost use Rattle.world_model.specs.TableAccess.{find};
+ghost use Rattle.world_model.specs.TableRules.{found_line, table_rule, told_owner, tells_owner};
 ghost use Rattle.world_model.specs.Lines.{line};
 ghost use Rattle.world_model.specs.Names.{Ref};
 ghost use Rattle.world_model.specs.NewTables.{by_rule};
+ghost use Rattle.std.specs.BTreeSet.{contains};
+ghost use Rattle.term_core.specs.Order.{order_of_lists};
 
 use crate::tables::Tables;
 use ets_answers::{argument_rule, caller_rule, class_of, rule_of_none};
@@ -26,7 +28,7 @@ use world_model::rule::Rule;
 
 // The rule that refuses a call at a table that is found.
 fn rule_at(table: &Table, caller: &Pid, call: &TableCall, living: &BTreeSet<Pid>) -> Option<Rule>
-    ensures { (v : Contents) (ref : Ref) → HoldsRows table.now ref v → AreAlive living.now v → result ≡ (found_line v caller.now (call_in call.now) (Some (found_at ref table.now))).rule }
+    ensures { (v : Contents) (ref : Ref) → HoldsRows table.now ref v → AreAlive (contains order_of_lists living.now) v → result ≡ (found_line v caller.now (call_in call.now) (Some (found_at ref table.now))).rule }
 {
     match caller_rule(class_of(call), table, caller) {
         Some(rule) => Some(rule),
@@ -34,7 +36,7 @@ fn rule_at(table: &Table, caller: &Pid, call: &TableCall, living: &BTreeSet<Pid>
     }
 }
 
-// Whether a refusal by this rule tells the owner: not where the table, its name or the options are at fault.
+// Whether a refusal by this rule reports the owner: not where the table, its name or the options are at fault.
 fn tells_owner(rule: Rule) -> bool
     ensures { result ≡ tells_owner rule }
 {
@@ -58,7 +60,7 @@ impl Tables {
         call: &TableCall,
         living: &BTreeSet<Pid>,
     ) -> Option<Rule>
-        ensures { (v : Contents) → Hold self.now v → AreAlive living.now v → result ≡ table_rule v caller.now (argument_in argument.now) (call_in call.now) }
+        ensures { (v : Contents) → Hold self.now v → AreAlive (contains order_of_lists living.now) v → result ≡ table_rule v caller.now (argument_in argument.now) (call_in call.now) }
     {
         if let TableArgument::ByNothing = argument {
             return Some(Rule::BadTable);
@@ -86,7 +88,8 @@ impl Tables {
         None
     }
 
-    /// The owner that a refusal by this rule tells, of the table that the argument finds; `None` where it tells none.
+    /// The owner that a refusal by this rule reports, of the table that the argument finds; `None` where it reports
+    /// none.
     pub fn told_owner<'t>(&'t self, argument: &'t TableArgument, rule: Rule) -> Option<&'t Pid>
         ensures { (v : Contents) → Hold self.now v → option_copied result ≡ told_owner rule (find v (argument_in argument.now)) }
     {

@@ -4,7 +4,7 @@ ghost use Rattle.std.specs.Prelude.{◌≡◌, None, IfOk, OnOk, OnErr, map};
 ghost use Rattle.ets_calls.specs.Options.{option_in};
 ghost use Rattle.ets_rules.specs.Tables.{Hold, IsUnchanged};
 ghost use Rattle.ets_tables.specs.Tables.{rows_at};
-ghost use Rattle.proc_groups.specs.References.{ref_of};
+ghost use Rattle.world_model.specs.Names.{ref_of};
 ghost use Rattle.term_core.specs.Term.{meaning_of};
 ghost use Rattle.world_model.specs.Cells as cells;
 ghost use Rattle.world_model.specs.Cells.{Contents};

@@ -1,14 +1,12 @@
 // Single changes of the rows of a table (ets manual, `insert/2`, `delete_object/2`, `delete/2`, `update_element/3`,
 // `delete_all_objects/1`).
-ghost use Rattle.std.specs.Prelude.{◌≡◌, ◌∷◌, [], Some, OnOk};
-ghost use Rattle.ets_rules.specs.Tables.{Hold};
-ghost use Rattle.proc_groups.specs.References.{ref_of};
+ghost use Rattle.std.specs.Prelude.{◌∷◌, [], OnOk};
+ghost use Rattle.ets_rules.specs.Tables.{ChangesRow, Hold};
+ghost use Rattle.world_model.specs.Names.{ref_of};
 ghost use Rattle.term_core.specs.Term.{meaning_of};
-ghost use Rattle.world_model.specs.Cells as cells;
 ghost use Rattle.world_model.specs.Cells.{Contents};
-ghost use Rattle.world_model.specs.Changes.{after, Wipes, Writes};
+ghost use Rattle.world_model.specs.Changes.{after, RowsCleared};
 ghost use Rattle.world_model.specs.Rows.{Alters, Clears, Removes, Stores};
-ghost use Rattle.world_model.specs.Tables as settings;
 
 use crate::tables::Tables;
 use ets_store::Object;
@@ -25,7 +23,7 @@ impl Tables {
         key: &Term,
         object: Object,
     ) -> Result<(), AllocError>
-        ensures { OnOk result ((v : Contents) (table : settings.Table) → v (cells.Table (ref_of id.now)) ≡ Some table → Hold self.old v → Hold self.new (after (Writes (ref_of id.now) (meaning_of key.now) (Stores table.kind object) ∷ []) v)) }
+        ensures { OnOk result (ChangesRow (ref_of id.now) (meaning_of key.now) (λ table. Stores table.kind object) self.old self.new) }
     {
         if self.registry.get(id).is_none() {
             return Ok(());
@@ -44,7 +42,7 @@ impl Tables {
         key: &Term,
         object: &Object,
     ) -> Result<(), AllocError>
-        ensures { OnOk result ((v : Contents) (table : settings.Table) → v (cells.Table (ref_of id.now)) ≡ Some table → Hold self.old v → Hold self.new (after (Writes (ref_of id.now) (meaning_of key.now) (Removes object.now) ∷ []) v)) }
+        ensures { OnOk result (ChangesRow (ref_of id.now) (meaning_of key.now) (λ table. Removes object.now) self.old self.new) }
     {
         if self.registry.get(id).is_none() {
             return Ok(());
@@ -57,7 +55,7 @@ impl Tables {
     /// All objects are taken out under a key of a table, if there is one. `AllocError` if there is no memory for what
     /// is shared with a copy.
     pub fn delete_key(&mut self, id: &RefId, key: &Term) -> Result<(), AllocError>
-        ensures { OnOk result ((v : Contents) (table : settings.Table) → v (cells.Table (ref_of id.now)) ≡ Some table → Hold self.old v → Hold self.new (after (Writes (ref_of id.now) (meaning_of key.now) Clears ∷ []) v)) }
+        ensures { OnOk result (ChangesRow (ref_of id.now) (meaning_of key.now) (λ table. Clears) self.old self.new) }
     {
         if self.registry.get(id).is_none() {
             return Ok(());
@@ -77,7 +75,7 @@ impl Tables {
         position: usize,
         value: Term,
     ) -> Result<(), AllocError>
-        ensures { OnOk result ((v : Contents) (table : settings.Table) → v (cells.Table (ref_of id.now)) ≡ Some table → Hold self.old v → Hold self.new (after (Writes (ref_of id.now) (meaning_of key.now) (Alters position (meaning_of value)) ∷ []) v)) }
+        ensures { OnOk result (ChangesRow (ref_of id.now) (meaning_of key.now) (λ table. Alters position (meaning_of value)) self.old self.new) }
     {
         if self.registry.get(id).is_none() {
             return Ok(());
@@ -89,7 +87,7 @@ impl Tables {
 
     /// All rows of a table go, if there is one. `AllocError` if there is no memory for what is shared with a copy.
     pub fn wipe(&mut self, alloc: Global, id: &RefId) -> Result<(), AllocError>
-        ensures { OnOk result ((v : Contents) → Hold self.old v → Hold self.new (after (Wipes (ref_of id.now) ∷ []) v)) }
+        ensures { OnOk result ((v : Contents) → Hold self.old v → Hold self.new (after (RowsCleared (ref_of id.now) ∷ []) v)) }
     {
         if self.registry.get(id).is_none() {
             return Ok(());

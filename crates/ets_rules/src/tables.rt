@@ -3,10 +3,10 @@ ghost use Rattle.std.specs.Prelude.{◌≡◌, [], None, Some, IfOk, IfSome, Lis
 ghost use Rattle.ets_calls.specs.Arguments.{argument_in};
 ghost use Rattle.ets_rules.specs.Tables.{Hold, IsUnchanged, found_of, held_in, meant_in, owned_in};
 ghost use Rattle.proc_groups.specs.Groups.{members_of};
-ghost use Rattle.proc_groups.specs.References.{ref_of};
+ghost use Rattle.world_model.specs.Names.{ref_of};
 ghost use Rattle.world_model.specs.Cells as cells;
 ghost use Rattle.world_model.specs.Cells.{Contents};
-ghost use Rattle.world_model.specs.Found.{as_found, find, meant, unless_named};
+ghost use Rattle.world_model.specs.TableAccess.{as_found, find, meant, unless_named};
 ghost use Rattle.world_model.specs.Names as names;
 
 use crate::found::FoundTable;

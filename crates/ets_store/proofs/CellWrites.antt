@@ -5,7 +5,7 @@ use Rattle.std.specs.List.{list_any}
 use Rattle.world_model.specs.Calls.{has_items}
 use Rattle.world_model.specs.Cells.{Contents, Row, Rows}
 use Rattle.world_model.specs.Changes.{after}
-use Rattle.world_model.specs.Found.{Found}
+use Rattle.world_model.specs.TableAccess.{Found}
 use Rattle.world_model.specs.Names.{Ref, same_ref}
 use Rattle.world_model.specs.Objects.{stored_at, stores, removed_at, one_present}
 use Rattle.world_model.specs.Rows as rows

@@ -2,8 +2,8 @@
 use Rattle.std.specs.FinMap.{empty}
 use Rattle.std.specs.Prelude.{◌≡◌, ℕ, List, [], ◌∷◌, Some}
 use Rattle.world_model.specs.Cells.{Contents, Row, Rows}
-use Rattle.world_model.specs.Changes.{after, Writes, Wipes}
-use Rattle.world_model.specs.Found.{Found}
+use Rattle.world_model.specs.Changes.{after, RowWritten, RowsCleared}
+use Rattle.world_model.specs.TableAccess.{Found}
 use Rattle.world_model.specs.Names.{Ref}
 use Rattle.world_model.specs.Objects.{stores, removes, one_present}
 use Rattle.world_model.specs.Rows.{Key, Object, RowChange, rows_rewritten, parts_at, under}
@@ -19,11 +19,11 @@ AreRemoved = (f : Found) (object : Object) (v : Contents) → after (removes f (
 
 -- a change under a key
 abbrev pub AreWritten : Type 0
-AreWritten = (t : Ref) (key : Key) (change : RowChange) (v : Contents) → after (Writes t key change ∷ []) v (Rows t) ≡ rows_rewritten key change (v (Rows t))
+AreWritten = (t : Ref) (key : Key) (change : RowChange) (v : Contents) → after (RowWritten t key change ∷ []) v (Rows t) ≡ rows_rewritten key change (v (Rows t))
 
 -- all objects go
 abbrev pub AreWiped : Type 0
-AreWiped = (t : Ref) (v : Contents) → after (Wipes t ∷ []) v (Rows t) ≡ empty
+AreWiped = (t : Ref) (v : Contents) → after (RowsCleared t ∷ []) v (Rows t) ≡ empty
 
 -- a key is there in the rows where it is there in the cells
 abbrev pub ArePresent : Type 0

@@ -5,7 +5,7 @@ use Rattle.world_model.specs.Tables as tables
 use Rattle.ets_store.specs.declared.table.Heir.{Heir}
 use Rattle.ets_store.specs.declared.table.Table.{Table}
 
--- who inherits a table, if anyone, and the data that it is told
+-- who inherits a table, if anyone, and the data that it is given
 abbrev pub heir_in : Option Heir → tables.Heir
 heir_in heir = option_map (λ h. (h.pid, meaning_of h.data)) heir
 

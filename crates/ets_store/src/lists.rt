@@ -13,7 +13,7 @@ use std::alloc::{AllocError, Global};
 use term_core::{Term, list_onto};
 
 impl RowMap {
-    /// The list of all objects.
+    // The list of all objects.
     fn all(&self, alloc: Global) -> Result<Term, AllocError>
         ensures { IfOk result (λ list. meaning_of list ≡ tuples (all_objects self.now)) }
     {
@@ -24,7 +24,7 @@ impl RowMap {
         list_onto(alloc, terms, Term::Nil)
     }
 
-    /// How many objects there are, or `u64::MAX` where there are more.
+    // How many objects there are, or `u64::MAX` where there are more.
     fn size(&self) -> u64
         ensures { result ≡ min (length (all_objects self.now)) (2 ^ 64 - 1) }
     {

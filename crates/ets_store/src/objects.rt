@@ -69,8 +69,8 @@ impl Objects {
         self.items.as_slice()
     }
 
-    /// Adds an object behind the others, or `AllocError` if there is no memory for it: then they are as they
-    /// were, and it is dropped.
+    /// Adds an object after the others, or `AllocError` if there is no memory for it: then they are as they were, and
+    /// it is dropped.
     pub(crate) fn push(&mut self, object: Object) -> Result<(), AllocError>
         ensures ok { OnOk result (self.new ≡ self.old ++ object ∷ []) }
         ensures err { OnErr result (self.new ≡ self.old) }
@@ -79,7 +79,7 @@ impl Objects {
         Ok(())
     }
 
-    /// Whether there are none.
+    /// Whether the list is empty.
     pub(crate) fn is_empty(&self) -> bool
         ensures { IsTrue result ↔ (self.now ≡ []) }
     {
@@ -111,8 +111,8 @@ impl Objects {
         Ok(Objects { items })
     }
 
-    /// These and an object behind them, each a copy, or `AllocError` if there is no memory for them, and then
-    /// the object is dropped.
+    // These and an object after them, each a copy, or `AllocError` if there is no memory for them, and then the object
+    // is dropped.
     fn with_last(&self, object: Object) -> Result<Objects, AllocError>
         ensures { IfOk result (λ objects. objects ≡ self.now ++ object ∷ []) }
     {
@@ -177,7 +177,7 @@ impl Objects {
     }
 }
 
-/// Adds the tuples that objects are behind some terms, or `AllocError` if there is no memory for them.
+/// Adds the tuples that objects are after some terms, or `AllocError` if there is no memory for them.
 pub(crate) fn add_terms(terms: &mut Vec<Term>, objects: &[Object]) -> Result<(), AllocError>
     ensures { OnOk result (map meaning_of terms.new.items ≡ map meaning_of terms.old.items ++ map tuple objects.now) }
 {
@@ -187,7 +187,7 @@ pub(crate) fn add_terms(terms: &mut Vec<Term>, objects: &[Object]) -> Result<(),
     Ok(())
 }
 
-// Adds copies of objects behind others.
+// Adds copies of objects after others.
 fn add_copies(items: &mut Vec<Object>, objects: &[Object]) -> Result<(), AllocError>
     ensures { OnOk result (items.new.items ≡ items.old.items ++ objects.now) }
 {

@@ -8,13 +8,12 @@ use std::alloc::AllocError;
 use term_core::{Atom, Pid, Term};
 use world_model::table::{Kind, Protection};
 
-/// Who inherits a table when its owner ends, and the data that it is told then (ets manual, `new/2`, option
-/// `heir`).
+/// Who inherits a table when its owner ends, and the data that it is given then (ets manual, `new/2`, option `heir`).
 #[derive(Drop)]
 pub struct Heir {
     /// The process that inherits.
     pub pid: Pid,
-    /// What it is told.
+    /// What it is given.
     pub data: Term,
 }
 

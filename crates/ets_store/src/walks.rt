@@ -17,7 +17,7 @@ use term_core::Term;
 use world_model::table::Kind;
 
 impl RowMap {
-    /// The least key.
+    // The least key.
     fn first(&self) -> Option<&Term>
         ensures { option_map meaning_of (option_copied result) ≡ first_of (keys self.now) }
     {
@@ -28,7 +28,7 @@ impl RowMap {
         }
     }
 
-    /// The greatest key.
+    // The greatest key.
     fn last(&self) -> Option<&Term>
         ensures { option_map meaning_of (option_copied result) ≡ last_of (keys self.now) }
     {
@@ -39,7 +39,7 @@ impl RowMap {
         }
     }
 
-    /// The least key above another.
+    // The least key above another.
     fn after(&self, key: &Term) -> Option<&Term>
         ensures { option_map meaning_of (option_copied result) ≡ key_after (meaning_of key.now) self.now }
     {
@@ -51,7 +51,7 @@ impl RowMap {
         }
     }
 
-    /// The greatest key below another.
+    // The greatest key below another.
     fn before(&self, key: &Term) -> Option<&Term>
         ensures { option_map meaning_of (option_copied result) ≡ last_of (filter (λ k. is_gt (order_of_terms (meaning_of key.now) k)) (keys self.now)) }
     {

@@ -15,10 +15,10 @@ use std::sync::Arc;
 use term_core::Term;
 
 impl Rows {
-    /// Puts an object in under its key: in a set or an ordered_set in the place of what was there, in a bag
-    /// where it is not there yet, in a duplicate_bag behind the others (ets manual, `insert/2`). An object that
-    /// has no part at the position of keys is left out. `AllocError` comes where there is no memory for it: then
-    /// all is as it was, and the object is dropped.
+    /// Puts an object in under its key: in a set or an ordered_set in the place of what was there, in a bag where it is
+    /// not there yet, in a duplicate_bag after the others (ets manual, `insert/2`). An object that has no part at the
+    /// position of keys is left out. `AllocError` comes where there is no memory for it: then all is as it was, and the
+    /// object is dropped.
     pub fn insert(&mut self, alloc: Global, object: Object) -> Result<(), AllocError>
         ensures ok { OnOk result (self.new ≡ with_rows self.old (with_object self.old.kind self.old.position object self.old.rows)) }
         ensures err { OnErr result (self.new ≡ self.old) }

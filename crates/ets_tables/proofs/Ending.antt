@@ -3,7 +3,7 @@ use Rattle.std.proofs.Common.{◌≡◌, Bool, true, false, List, [], ◌∷◌,
 use Rattle.std.specs.FinMap.{empty}
 use Rattle.world_model.specs.Cells as cells
 use Rattle.world_model.specs.Cells.{Contents, Cell}
-use Rattle.world_model.specs.Changes.{Change, after, changed, Puts, Passes, Gains, Goes, Wipes, Frees, Empties, set_in_order}
+use Rattle.world_model.specs.Changes.{Change, after, changed, SignalPut, OwnerSet, OwnedAdded, TableRemoved, RowsCleared, TableNameCleared, OwnedCleared, set_in_order}
 use Rattle.world_model.specs.Ends.{living_heir, name_freed, passed, table_passes, tables_pass}
 use Rattle.world_model.specs.Events.{Signal}
 use Rattle.world_model.specs.Names.{Pid, Ref, order_of_refs}
@@ -32,18 +32,18 @@ pub follows_both : (shelves : Shelves) (ks ls : List Change) (v : Contents) → 
 follows_both shelves ks ls v = agreed shelves (after ls (after ks v)) (after (ks ++ ls) v) (after_both ks ls v)
 
 -- a signal that is put changes no table
-pub put_off : (shelves : Shelves) (s r : Pid) (x : Signal) (v : Contents) → AreShelved shelves v → AreShelved shelves (changed (Puts s r x) v)
+pub put_off : (shelves : Shelves) (s r : Pid) (x : Signal) (v : Contents) → AreShelved shelves v → AreShelved shelves (changed (SignalPut s r x) v)
 put_off shelves s r x v told = record { tables = told.tables; rows = told.rows; each_row = told.each_row; names = told.names; owned = told.owned }
 
 -- ---- one table
 
-pub gone : (old a new : Shelves) (t : Ref) (table : tables.Table) (v : Contents) → table.is_named ≡ true → IsAltered t (λ _. None) (λ _. empty) old a → IsMeant table.name None a new → AreShelved old v → AreShelved new (after (Goes t ∷ Wipes t ∷ name_freed table) v)
+pub gone : (old a new : Shelves) (t : Ref) (table : tables.Table) (v : Contents) → table.is_named ≡ true → IsAltered t (λ _. None) (λ _. empty) old a → IsMeant table.name None a new → AreShelved old v → AreShelved new (after (TableRemoved t ∷ RowsCleared t ∷ name_freed table) v)
 gone old a new t table v is_named first second told =
-    subst (λ b. AreShelved new (after (if b then Frees table.name ∷ [] else []) (after (Goes t ∷ Wipes t ∷ []) v))) (sym is_named) (frees a new table.name _ second (goes old a t v first told))
+    subst (λ b. AreShelved new (after (if b then TableNameCleared table.name ∷ [] else []) (after (TableRemoved t ∷ RowsCleared t ∷ []) v))) (sym is_named) (frees a new table.name _ second (goes old a t v first told))
 
-pub gone_unnamed : (old a : Shelves) (t : Ref) (table : tables.Table) (v : Contents) → table.is_named ≡ false → IsAltered t (λ _. None) (λ _. empty) old a → AreShelved old v → AreShelved a (after (Goes t ∷ Wipes t ∷ name_freed table) v)
+pub gone_unnamed : (old a : Shelves) (t : Ref) (table : tables.Table) (v : Contents) → table.is_named ≡ false → IsAltered t (λ _. None) (λ _. empty) old a → AreShelved old v → AreShelved a (after (TableRemoved t ∷ RowsCleared t ∷ name_freed table) v)
 gone_unnamed old a t table v is_named first told =
-    subst (λ b. AreShelved a (after (if b then Frees table.name ∷ [] else []) (after (Goes t ∷ Wipes t ∷ []) v))) (sym is_named) (goes old a t v first told)
+    subst (λ b. AreShelved a (after (if b then TableNameCleared table.name ∷ [] else []) (after (TableRemoved t ∷ RowsCleared t ∷ []) v))) (sym is_named) (goes old a t v first told)
 
 -- ---- all tables
 

@@ -5,7 +5,7 @@ use Rattle.std.specs.Prelude.{option_map}
 use Rattle.term_core.specs.Order.{order_of_terms}
 use Rattle.world_model.specs.Cells as cells
 use Rattle.world_model.specs.Cells.{Contents}
-use Rattle.world_model.specs.Changes.{after, changed, renewed, Makes, Passes, Inherits, Goes, Wipes, Means, Frees, Gains, Loses, Empties, set_in_order, without_first}
+use Rattle.world_model.specs.Changes.{after, changed, renewed, TableSet, OwnerSet, HeirSet, TableRemoved, RowsCleared, TableNameSet, TableNameCleared, OwnedAdded, OwnedRemoved, OwnedCleared, set_in_order, without_first}
 use Rattle.world_model.specs.Names.{Name, Pid, Ref, same_name, same_pid, same_ref, order_of_refs}
 use Rattle.world_model.specs.NewTables.{means_if}
 use Rattle.world_model.specs.Rows.{Rows, Key, Object, under, listed}
@@ -58,13 +58,13 @@ table_follows old new t f v w altered told at rows each_row names owned = record
   stays : (u : Ref) → rows_on new u ≡ rows_on old u
   stays u = altered.rows u ∙ same_either (same_ref t u) (rows_on old u)
 
-pub passes : (old new : Shelves) (t : Ref) (to : Pid) (v : Contents) → IsAltered t (option_map (owned_by to)) (λ rows. rows) old new → AreShelved old v → AreShelved new (changed (Passes t to) v)
-passes old new t to v altered told = table_follows old new t (option_map (owned_by to)) v (changed (Passes t to) v) altered told (λ _. refl) (λ _. refl) (λ _ _. refl) (λ _. refl) (λ _. refl)
+pub passes : (old new : Shelves) (t : Ref) (to : Pid) (v : Contents) → IsAltered t (option_map (owned_by to)) (λ rows. rows) old new → AreShelved old v → AreShelved new (changed (OwnerSet t to) v)
+passes old new t to v altered told = table_follows old new t (option_map (owned_by to)) v (changed (OwnerSet t to) v) altered told (λ _. refl) (λ _. refl) (λ _ _. refl) (λ _. refl) (λ _. refl)
 
-pub inherits : (old new : Shelves) (t : Ref) (heir : Heir) (v : Contents) → IsAltered t (option_map (with_heir heir)) (λ rows. rows) old new → AreShelved old v → AreShelved new (changed (Inherits t heir) v)
-inherits old new t heir v altered told = table_follows old new t (option_map (with_heir heir)) v (changed (Inherits t heir) v) altered told (λ _. refl) (λ _. refl) (λ _ _. refl) (λ _. refl) (λ _. refl)
+pub inherits : (old new : Shelves) (t : Ref) (heir : Heir) (v : Contents) → IsAltered t (option_map (with_heir heir)) (λ rows. rows) old new → AreShelved old v → AreShelved new (changed (HeirSet t heir) v)
+inherits old new t heir v altered told = table_follows old new t (option_map (with_heir heir)) v (changed (HeirSet t heir) v) altered told (λ _. refl) (λ _. refl) (λ _ _. refl) (λ _. refl) (λ _. refl)
 
--- the same rows as before may stand there again
+-- the same rows as before may be there again
 same_rows : (old new : Shelves) (t : Ref) (table : tables.Table) (rows : Rows) → rows_on old t ≡ rows → IsAltered t (λ _. Some table) (λ _. rows) old new → IsAltered t (λ _. Some table) (λ there. there) old new
 same_rows old new t table rows there altered = record {
   tables = altered.tables;
@@ -76,9 +76,9 @@ same_rows old new t table rows there altered = record {
   owned = altered.owned;
 }
 
-pub makes : (old new : Shelves) (t : Ref) (table : tables.Table) (rows : Rows) (v : Contents) → rows_on old t ≡ rows → IsAltered t (λ _. Some table) (λ _. rows) old new → AreShelved old v → AreShelved new (changed (Makes t table) v)
+pub makes : (old new : Shelves) (t : Ref) (table : tables.Table) (rows : Rows) (v : Contents) → rows_on old t ≡ rows → IsAltered t (λ _. Some table) (λ _. rows) old new → AreShelved old v → AreShelved new (changed (TableSet t table) v)
 makes old new t table rows v there altered told =
-    table_follows old new t (λ _. Some table) v (changed (Makes t table) v) (same_rows old new t table rows there altered) told (λ _. refl) (λ _. refl) (λ _ _. refl) (λ _. refl) (λ _. refl)
+    table_follows old new t (λ _. Some table) v (changed (TableSet t table) v) (same_rows old new t table rows there altered) told (λ _. refl) (λ _. refl) (λ _ _. refl) (λ _. refl) (λ _. refl)
 
 -- where there is no table, there are no rows
 no_rows : (o : Option Table) → option_map settings_in o ≡ None → rows_of o ≡ empty
@@ -92,7 +92,7 @@ none_under : (b : Bool) (r : Rows) (there : List Object) (key : Key) → under r
 none_under true r there key is = ap listed (get-empty order_of_terms key)
 none_under false r there key is = is
 
-pub goes : (old new : Shelves) (t : Ref) (v : Contents) → IsAltered t (λ _. None) (λ _. empty) old new → AreShelved old v → AreShelved new (after (Goes t ∷ Wipes t ∷ []) v)
+pub goes : (old new : Shelves) (t : Ref) (v : Contents) → IsAltered t (λ _. None) (λ _. empty) old new → AreShelved old v → AreShelved new (after (TableRemoved t ∷ RowsCleared t ∷ []) v)
 goes old new t v altered told = record {
   tables = λ u. altered.tables u ∙ ap (λ o. if same_ref t u then None else o) (told.tables u);
   rows = λ u. altered.rows u ∙ ap (λ r. if same_ref t u then empty else r) (told.rows u);
@@ -114,11 +114,11 @@ name_follows old new name t v w meant told at rows each_row names owned = record
   owned = λ p. meant.owned p ∙ told.owned p ∙ sym (owned p);
 }
 
-pub means : (old new : Shelves) (name : Name) (t : Ref) (v : Contents) → IsMeant name (Some t) old new → AreShelved old v → AreShelved new (changed (Means name t) v)
-means old new name t v meant told = name_follows old new name (Some t) v (changed (Means name t) v) meant told (λ _. refl) (λ _. refl) (λ _ _. refl) (λ _. refl) (λ _. refl)
+pub means : (old new : Shelves) (name : Name) (t : Ref) (v : Contents) → IsMeant name (Some t) old new → AreShelved old v → AreShelved new (changed (TableNameSet name t) v)
+means old new name t v meant told = name_follows old new name (Some t) v (changed (TableNameSet name t) v) meant told (λ _. refl) (λ _. refl) (λ _ _. refl) (λ _. refl) (λ _. refl)
 
-pub frees : (old new : Shelves) (name : Name) (v : Contents) → IsMeant name None old new → AreShelved old v → AreShelved new (changed (Frees name) v)
-frees old new name v meant told = name_follows old new name None v (changed (Frees name) v) meant told (λ _. refl) (λ _. refl) (λ _ _. refl) (λ _. refl) (λ _. refl)
+pub frees : (old new : Shelves) (name : Name) (v : Contents) → IsMeant name None old new → AreShelved old v → AreShelved new (changed (TableNameCleared name) v)
+frees old new name v meant told = name_follows old new name None v (changed (TableNameCleared name) v) meant told (λ _. refl) (λ _. refl) (λ _ _. refl) (λ _. refl) (λ _. refl)
 
 -- ---- owners
 
@@ -133,14 +133,14 @@ owner_follows old new p f v w owned told at rows each_row names has = record {
   owned = λ q. owned.owned q ∙ ap (λ ts. if same_pid p q then f ts else ts) (told.owned q) ∙ sym (has q);
 }
 
-pub gains : (old new : Shelves) (p : Pid) (t : Ref) (v : Contents) → IsOwned p (set_in_order order_of_refs t) old new → AreShelved old v → AreShelved new (changed (Gains p t) v)
-gains old new p t v owned told = owner_follows old new p (set_in_order order_of_refs t) v (changed (Gains p t) v) owned told (λ _. refl) (λ _. refl) (λ _ _. refl) (λ _. refl) (λ _. refl)
+pub gains : (old new : Shelves) (p : Pid) (t : Ref) (v : Contents) → IsOwned p (set_in_order order_of_refs t) old new → AreShelved old v → AreShelved new (changed (OwnedAdded p t) v)
+gains old new p t v owned told = owner_follows old new p (set_in_order order_of_refs t) v (changed (OwnedAdded p t) v) owned told (λ _. refl) (λ _. refl) (λ _ _. refl) (λ _. refl) (λ _. refl)
 
-pub loses : (old new : Shelves) (p : Pid) (t : Ref) (v : Contents) → IsOwned p (without_first (same_ref t)) old new → AreShelved old v → AreShelved new (changed (Loses p t) v)
-loses old new p t v owned told = owner_follows old new p (without_first (same_ref t)) v (changed (Loses p t) v) owned told (λ _. refl) (λ _. refl) (λ _ _. refl) (λ _. refl) (λ _. refl)
+pub loses : (old new : Shelves) (p : Pid) (t : Ref) (v : Contents) → IsOwned p (without_first (same_ref t)) old new → AreShelved old v → AreShelved new (changed (OwnedRemoved p t) v)
+loses old new p t v owned told = owner_follows old new p (without_first (same_ref t)) v (changed (OwnedRemoved p t) v) owned told (λ _. refl) (λ _. refl) (λ _ _. refl) (λ _. refl) (λ _. refl)
 
-pub empties : (old new : Shelves) (p : Pid) (v : Contents) → IsOwned p (λ _. []) old new → AreShelved old v → AreShelved new (changed (Empties p) v)
-empties old new p v owned told = owner_follows old new p (λ _. []) v (changed (Empties p) v) owned told (λ _. refl) (λ _. refl) (λ _ _. refl) (λ _. refl) (λ _. refl)
+pub empties : (old new : Shelves) (p : Pid) (v : Contents) → IsOwned p (λ _. []) old new → AreShelved old v → AreShelved new (changed (OwnedCleared p) v)
+empties old new p v owned told = owner_follows old new p (λ _. []) v (changed (OwnedCleared p) v) owned told (λ _. refl) (λ _. refl) (λ _ _. refl) (λ _. refl) (λ _. refl)
 
 -- ---- several changes
 
@@ -165,7 +165,7 @@ pub named_went : (old a b new : Shelves) (t : Ref) (table : tables.Table) (v : C
     → AreShelved old v → AreShelved new (after (changes_destroyed t (table_on old t)) v)
 named_went old a b new t table v there is_named first second third told =
     subst (λ o. AreShelved new (after (changes_destroyed t o) v)) (sym there)
-    (subst (λ c. AreShelved new (after (if c then Frees table.name ∷ [] else []) (changed (Loses table.owner t) (after (Goes t ∷ Wipes t ∷ []) v)))) (sym is_named)
+    (subst (λ c. AreShelved new (after (if c then TableNameCleared table.name ∷ [] else []) (changed (OwnedRemoved table.owner t) (after (TableRemoved t ∷ RowsCleared t ∷ []) v)))) (sym is_named)
     (frees b new table.name _ third (loses a b table.owner t _ second (goes old a t v first told))))
 
 pub unnamed_went : (old a b : Shelves) (t : Ref) (table : tables.Table) (v : Contents) → table_on old t ≡ Some table → table.is_named ≡ false
@@ -173,7 +173,7 @@ pub unnamed_went : (old a b : Shelves) (t : Ref) (table : tables.Table) (v : Con
     → AreShelved old v → AreShelved b (after (changes_destroyed t (table_on old t)) v)
 unnamed_went old a b t table v there is_named first second told =
     subst (λ o. AreShelved b (after (changes_destroyed t o) v)) (sym there)
-    (subst (λ c. AreShelved b (after (if c then Frees table.name ∷ [] else []) (changed (Loses table.owner t) (after (Goes t ∷ Wipes t ∷ []) v)))) (sym is_named)
+    (subst (λ c. AreShelved b (after (if c then TableNameCleared table.name ∷ [] else []) (changed (OwnedRemoved table.owner t) (after (TableRemoved t ∷ RowsCleared t ∷ []) v)))) (sym is_named)
     (loses a b table.owner t _ second (goes old a t v first told)))
 
 -- a table that passes
@@ -213,7 +213,7 @@ made_since old lent new t table rows same made = record {
 }
 
 means_off : (b : Bool) (name : Name) (t : Ref) (w : Contents) (c : cells.Cell) → cells.meet (cells.TableName name) c ≡ false → after (means_if b name t) w c ≡ w c
-means_off true name t w c off = ap (λ d. if d then renewed (Means name t) c (w c) else w c) off
+means_off true name t w c off = ap (λ d. if d then renewed (TableNameSet name t) c (w c) else w c) off
 means_off false name t w c off = refl
 
 means_on : (b : Bool) (name other : Name) (t : Ref) (w : Contents) → after (means_if b name t) w (cells.TableName other) ≡ (if b && same_name name other then Some t else w (cells.TableName other))
@@ -222,7 +222,7 @@ means_on false name other t w = refl
 
 pub made_on : (old new : Shelves) (t : Ref) (table : tables.Table) (rows : Rows) (v : Contents) → rows_on old t ≡ rows → IsMadeOn t table rows old new → AreShelved old v → AreShelved new (after (changes_made t table) v)
 made_on old new t table rows v there made told =
-    let w : Contents = changed (Gains table.owner t) (changed (Makes t table) v) in
+    let w : Contents = changed (OwnedAdded table.owner t) (changed (TableSet t table) v) in
     record {
       tables = λ u. made.tables u ∙ ap (λ o. if same_ref t u then Some table else o) (told.tables u) ∙ sym (means_off table.is_named table.name t w (cells.Table u) refl);
       rows = λ u. stay u ∙ told.rows u ∙ sym (means_off table.is_named table.name t w (cells.Rows u) refl);

@@ -1,4 +1,4 @@
--- What stands on the shelves after one change.
+-- What is on the shelves after one change.
 use Rattle.std.proofs.Common.{◌≡◌, ◌⊎◌, inl, inr, ℕ, Bool, true, false, cond, Global, List, [], ◌∷◌, Option, Some, None, IsSome, map, bytes_eq, if◌then◌else◌, refl, sym, ap, subst, ◌∙◌}
 use Rattle.std.specs.Prelude.{option_map}
 use Rattle.std.specs.List.{AllZip}
@@ -8,14 +8,13 @@ use Rattle.std.specs.declared.sync.Arc.{Arc}
 use Rattle.std.proofs.lemmas.Map.Text.{is_eq-slice_cmp}
 use Rattle.term_core.specs.Order.{order_of_lists}
 use Rattle.term_core.specs.StepOrder.{order_of_reference_ids}
-use Rattle.world_model.specs.Names.{Name, Pid, Ref, same_name, same_pid, same_ref}
+use Rattle.world_model.specs.Names.{Name, Pid, Ref, same_name, same_pid, same_ref, ref_of}
 use Rattle.world_model.specs.Rows.{Rows}
 use Rattle.world_model.specs.Tables as tables
 use Rattle.world_model.proofs.Meeting as meeting
 use Rattle.ets_store.specs.Tables.{settings_in}
 use Rattle.ets_store.specs.declared.table.Table.{Table}
 use Rattle.proc_groups.specs.Groups.{members_in}
-use Rattle.proc_groups.specs.References.{ref_of}
 use Rattle.proc_groups.specs.declared.groups.Groups.{Groups}
 use Rattle.proc_groups.proofs.Grouping.{same_either}
 use Rattle.proc_groups.proofs.Referring.{Id, refs_same, map_if}

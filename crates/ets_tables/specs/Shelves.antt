@@ -1,4 +1,4 @@
--- What stands on the shelves: tables under their references, references under names, and who has which.
+-- What is on the shelves: tables under their references, references under names, and who has which.
 use Rattle.std.specs.BTreeMap.{get}
 use Rattle.std.specs.FinMap.{empty}
 use Rattle.std.specs.Prelude.{◌≡◌, ◌&&◌, [], List, Option, Some, None, map, option_map, if◌then◌else◌}
@@ -7,15 +7,14 @@ use Rattle.term_core.specs.StepOrder.{order_of_reference_ids}
 use Rattle.world_model.specs.Cells as cells
 use Rattle.world_model.specs.Cells.{Contents}
 use Rattle.world_model.specs.Changes.{Change, set_in_order}
-use Rattle.world_model.specs.Found.{Found, as_found}
-use Rattle.world_model.specs.Names.{Name, Pid, Ref, same_name, same_pid, same_ref, order_of_refs}
-use Rattle.world_model.specs.Owning.{destroyed}
+use Rattle.world_model.specs.TableAccess.{Found, as_found}
+use Rattle.world_model.specs.Names.{Name, Pid, Ref, same_name, same_pid, same_ref, order_of_refs, ref_of}
+use Rattle.world_model.specs.Ownership.{destroyed}
 use Rattle.world_model.specs.Rows.{Rows, Key, under}
 use Rattle.world_model.specs.Tables as tables
 use Rattle.ets_store.specs.Tables.{settings_in}
 use Rattle.ets_store.specs.declared.table.Table.{Table}
 use Rattle.proc_groups.specs.Groups.{members_in}
-use Rattle.proc_groups.specs.References.{ref_of}
 use Rattle.ets_tables.specs.declared.name_map.NameMap.{NameMap}
 use Rattle.ets_tables.specs.declared.shelves.Shelves.{Shelves}
 
@@ -88,7 +87,7 @@ pub record IsOwned (p : Pid) (change : List Ref → List Ref) (old new : Shelves
   pub names : (name : Name) → meant_on new name ≡ meant_on old name
   pub owned : (q : Pid) → owned_on new q ≡ (if same_pid p q then change (owned_on old q) else owned_on old q)
 
--- a table stands under its reference with its rows, its owner has it, and its name means it where it is found by that
+-- a table is under its reference with its rows, its owner has it, and its name means it where it is found by that
 pub record IsMadeOn (t : Ref) (table : tables.Table) (rows : Rows) (old new : Shelves) : Type 0 where
   pub tables : (u : Ref) → table_on new u ≡ (if same_ref t u then Some table else table_on old u)
   pub rows_there : (u : Ref) → rows_on new u ≡ (if same_ref t u then rows else rows_on old u)

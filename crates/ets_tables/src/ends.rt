@@ -4,15 +4,12 @@ ghost use Rattle.std.specs.BTreeSet.{contains};
 ghost use Rattle.term_core.specs.Order.{order_of_lists};
 ghost use Rattle.term_core.specs.Term.{meaning_of};
 ghost use Rattle.ets_store.specs.Tables.{settings_in, heir_in};
-ghost use Rattle.proc_groups.specs.References.{ref_of};
-ghost use Rattle.world_model.specs.Names as names;
-ghost use Rattle.world_model.specs.Cells as cells;
-ghost use Rattle.world_model.specs.Cells.{Contents};
-ghost use Rattle.world_model.specs.Changes.{after, Empties};
-ghost use Rattle.world_model.specs.Ends.{tables_pass};
+ghost use Rattle.world_model.specs.Names.{ref_of};
+ghost use Rattle.world_model.specs.Cells.{AreAlive, Contents};
+ghost use Rattle.world_model.specs.Changes.{after, OwnedCleared};
 ghost use Rattle.world_model.specs.Signals as signals;
 ghost use Rattle.world_model.specs.Tables.{handle_of};
-ghost use Rattle.ets_tables.specs.Ends.{transfers_in, transfer_of};
+ghost use Rattle.ets_tables.specs.Ends.{tables_left, transfers_in, transfer_of};
 ghost use Rattle.ets_tables.specs.Shelves.{AreShelved};
 ghost use Rattle.ets_tables.specs.inside.Passing.{heir_if, one_passes, all_pass, items_of};
 
@@ -63,7 +60,7 @@ pub fn transfer_message(
     Ok(Term::tuple(alloc, parts)?)
 }
 
-/// The heir of a table, where it lives.
+// The heir of a table, where it lives.
 fn living_heir<'a>(table: &'a Table, living: &BTreeSet<Pid>) -> Option<&'a Heir>
     ensures { heir_in (option_copied result) ≡ heir_if (contains order_of_lists living.now) (heir_in table.now.heir) }
 {
@@ -76,7 +73,7 @@ fn living_heir<'a>(table: &'a Table, living: &BTreeSet<Pid>) -> Option<&'a Heir>
 impl Registry {
     ghost use Rattle.ets_tables.specs.Tables.{AreTables, IsUnchanged, table_at, owned_by};
 
-    /// Takes a table to its heir, who is told, or away.
+    // Takes a table to its heir, which is informed, or away.
     fn leave(
         &self,
         alloc: Global,
@@ -105,7 +102,7 @@ impl Registry {
         }))
     }
 
-    /// Takes each table of a process to its heir, or away.
+    // Takes each table of a process to its heir, or away.
     fn leave_all(
         &self,
         alloc: Global,
@@ -129,18 +126,18 @@ impl Registry {
         Ok(transfers)
     }
 
-    /// What the end of a process does to its tables, of whom it is known who lives, the process itself not among
-    /// them: in the order of their references each goes to its heir, where that lives, and is else destroyed
-    /// with all its rows, and its name means nothing then. The answer has the messages to the heirs, in that
-    /// order. `AllocError` if there is no memory: then nothing is changed.
+    /// What the end of a process does to its tables, with the processes that live, the process itself not among them:
+    /// in the order of their references each goes to its heir, where that lives, and is else destroyed with all its
+    /// rows, and its name means nothing then. The answer has the messages to the heirs, in that order. `AllocError` if
+    /// there is no memory: then nothing is changed.
     pub fn owner_ends(
         &mut self,
         alloc: Global,
         pid: &Pid,
         living: &BTreeSet<Pid>,
     ) -> Result<Vec<Transfer>, AllocError>
-        ensures ok { OnOk result ((v : Contents) → AreTables self.old v → ((q : names.Pid) → contains order_of_lists living.now q ≡ v (cells.Alive q)) → AreTables self.new (after (tables_pass v pid.now (v (cells.Owned pid.now)) ++ (Empties pid.now ∷ [])) v)) }
-        ensures told { IfOk result (λ transfers. (v : Contents) → AreTables self.old v → ((q : names.Pid) → contains order_of_lists living.now q ≡ v (cells.Alive q)) → transfers_in (tables_pass v pid.now (v (cells.Owned pid.now))) ≡ map transfer_of transfers.items) }
+        ensures ok { OnOk result ((v : Contents) → AreTables self.old v → AreAlive (contains order_of_lists living.now) v → AreTables self.new (after (tables_left v pid.now ++ (OwnedCleared pid.now ∷ [])) v)) }
+        ensures told { IfOk result (λ transfers. (v : Contents) → AreTables self.old v → AreAlive (contains order_of_lists living.now) v → transfers_in (tables_left v pid.now) ≡ map transfer_of transfers.items) }
         ensures err { OnErr result (IsUnchanged self.old self.new) }
     {
         let mut shelves = self.copied()?;

@@ -1,4 +1,4 @@
-// The tables that there are, the names under which they are found, and who has them.
+// The tables of a world, the names under which they are found, and who has them.
 #![tactic(auto)]
 
 pub mod ends;

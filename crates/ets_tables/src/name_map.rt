@@ -1,8 +1,7 @@
 // The references under their names.
 ghost use Rattle.std.specs.Prelude.{◌≡◌, OnOk, OnErr, Some, None, option_copied, option_map, if◌then◌else◌};
-ghost use Rattle.proc_groups.specs.References.{ref_of};
 ghost use Rattle.world_model.specs.Names as names;
-ghost use Rattle.world_model.specs.Names.{same_name};
+ghost use Rattle.world_model.specs.Names.{same_name, ref_of};
 ghost use Rattle.ets_tables.specs.Shelves.{named_in};
 
 use std::alloc::{AllocError, Global};

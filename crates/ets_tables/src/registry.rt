@@ -1,13 +1,13 @@
-// The tables that there are (ets manual, "Description" and `new/2`).
+// The tables of a world (ets manual, "Description" and `new/2`).
 ghost use Rattle.std.specs.FinMap.{empty};
 ghost use Rattle.std.specs.Prelude.{◌≡◌, ◌∷◌, [], IfOk, IsSome, OnOk, OnErr, Some, None, map, option_copied, option_map};
 ghost use Rattle.ets_store.specs.Tables.{settings_in, heir_in};
 ghost use Rattle.proc_groups.specs.Groups.{members_of};
-ghost use Rattle.proc_groups.specs.References.{ref_of};
+ghost use Rattle.world_model.specs.Names.{ref_of};
 ghost use Rattle.world_model.specs.Names as names;
 ghost use Rattle.world_model.specs.Cells as cells;
 ghost use Rattle.world_model.specs.Cells.{Contents};
-ghost use Rattle.world_model.specs.Changes.{after, Empties, Frees, Gains, Goes, Inherits, Loses, Makes, Means, Passes, Wipes};
+ghost use Rattle.world_model.specs.Changes.{after, OwnedCleared, TableNameCleared, OwnedAdded, TableRemoved, HeirSet, OwnedRemoved, TableNameSet, OwnerSet, RowsCleared};
 
 use crate::shelves::Shelves;
 use ets_store::{Heir, Table};
@@ -34,7 +34,7 @@ impl Registry {
     ghost use Rattle.std.specs.Borrow.{sem};
     ghost use Rattle.ets_tables.specs.Lending.{LendsTable};
     ghost use Rattle.ets_tables.specs.Shelves.{AreSame};
-    ghost use Rattle.ets_tables.specs.Tables.{AreTables, IsUnchanged, IsMade, changes_made, changes_passed, changes_destroyed, held_at, table_at, rows_at, meant_by, owned_by};
+    ghost use Rattle.ets_tables.specs.Tables.{AreTables, IsUnchanged, IsMade, IsTableAdded, changes_made, changes_passed, changes_destroyed, held_at, table_at, rows_at, meant_by, owned_by};
 
     /// No tables, or `AllocError` if there is no memory.
     pub fn new(alloc: Global) -> Result<Registry, AllocError>
@@ -57,7 +57,7 @@ impl Registry {
         })
     }
 
-    /// The table of a reference, or `None` where there is none. It takes no memory.
+    /// The table of a reference, or `None` where it has none. It takes no memory.
     pub fn get(&self, id: &RefId) -> Option<&Table>
         ensures { option_copied result ≡ held_at self.now (ref_of id.now) }
     {
@@ -109,7 +109,7 @@ impl Registry {
     /// `AllocError` if there is no memory for what is shared with a copy: then nothing is changed, and the heir is
     /// dropped.
     pub fn inherit(&mut self, id: &RefId, heir: Option<Heir>) -> Result<(), AllocError>
-        ensures ok { OnOk result ((v : Contents) → AreTables self.old v → AreTables self.new (after (Inherits (ref_of id.now) (heir_in heir) ∷ []) v)) }
+        ensures ok { OnOk result ((v : Contents) → AreTables self.old v → AreTables self.new (after (HeirSet (ref_of id.now) (heir_in heir) ∷ []) v)) }
         ensures err { OnErr result (IsUnchanged self.old self.new) }
     {
         let shelves = Arc::make_mut(&mut self.shelves)?;
@@ -152,7 +152,7 @@ impl Registry {
     /// Puts a new table, without rows, under its reference, which finds none. `AllocError` if there is no memory: then
     /// nothing is changed, and the table is dropped.
     pub fn put(&mut self, alloc: Global, id: &RefId, table: Table) -> Result<(), AllocError>
-        ensures ok { OnOk result ((v : Contents) → v (cells.Table (ref_of id.now)) ≡ None → table.rows.rows ≡ empty → AreTables self.old v → AreTables self.new (after (Makes (ref_of id.now) (settings_in table) ∷ []) v)) }
+        ensures ok { OnOk result (IsTableAdded (ref_of id.now) table self.old self.new) }
         ensures err { OnErr result (IsUnchanged self.old self.new) }
     {
         let shelves = Arc::make_mut(&mut self.shelves)?;
@@ -163,7 +163,7 @@ impl Registry {
     /// Makes a process the owner of the table of a reference, if there is one. `AllocError` if there is no memory for
     /// what is shared with a copy: then nothing is changed.
     pub fn hand(&mut self, id: &RefId, owner: &Pid) -> Result<(), AllocError>
-        ensures ok { OnOk result ((v : Contents) → AreTables self.old v → AreTables self.new (after (Passes (ref_of id.now) owner.now ∷ []) v)) }
+        ensures ok { OnOk result ((v : Contents) → AreTables self.old v → AreTables self.new (after (OwnerSet (ref_of id.now) owner.now ∷ []) v)) }
         ensures err { OnErr result (IsUnchanged self.old self.new) }
     {
         let shelves = Arc::make_mut(&mut self.shelves)?;
@@ -174,7 +174,7 @@ impl Registry {
     /// Takes the table of a reference away, if there is one, with its rows. `AllocError` if there is no memory for what
     /// is shared with a copy: then nothing is changed.
     pub fn take(&mut self, id: &RefId) -> Result<(), AllocError>
-        ensures ok { OnOk result ((v : Contents) → AreTables self.old v → AreTables self.new (after (Goes (ref_of id.now) ∷ Wipes (ref_of id.now) ∷ []) v)) }
+        ensures ok { OnOk result ((v : Contents) → AreTables self.old v → AreTables self.new (after (TableRemoved (ref_of id.now) ∷ RowsCleared (ref_of id.now) ∷ []) v)) }
         ensures err { OnErr result (IsUnchanged self.old self.new) }
     {
         let shelves = Arc::make_mut(&mut self.shelves)?;
@@ -184,7 +184,7 @@ impl Registry {
 
     /// A name means the table of a reference. `AllocError` if there is no memory: then nothing is changed.
     pub fn mean(&mut self, name: &Atom, id: &RefId) -> Result<(), AllocError>
-        ensures ok { OnOk result ((v : Contents) → AreTables self.old v → AreTables self.new (after (Means name.now (ref_of id.now) ∷ []) v)) }
+        ensures ok { OnOk result ((v : Contents) → AreTables self.old v → AreTables self.new (after (TableNameSet name.now (ref_of id.now) ∷ []) v)) }
         ensures err { OnErr result (IsUnchanged self.old self.new) }
     {
         let shelves = Arc::make_mut(&mut self.shelves)?;
@@ -195,7 +195,7 @@ impl Registry {
     /// A name means no table. `AllocError` if there is no memory for what is shared with a copy: then nothing is
     /// changed.
     pub fn free(&mut self, name: &Atom) -> Result<(), AllocError>
-        ensures ok { OnOk result ((v : Contents) → AreTables self.old v → AreTables self.new (after (Frees name.now ∷ []) v)) }
+        ensures ok { OnOk result ((v : Contents) → AreTables self.old v → AreTables self.new (after (TableNameCleared name.now ∷ []) v)) }
         ensures err { OnErr result (IsUnchanged self.old self.new) }
     {
         let shelves = Arc::make_mut(&mut self.shelves)?;
@@ -205,7 +205,7 @@ impl Registry {
 
     /// A process has the table of a reference. `AllocError` if there is no memory: then nothing is changed.
     pub fn gain(&mut self, alloc: Global, pid: &Pid, id: &RefId) -> Result<(), AllocError>
-        ensures ok { OnOk result ((v : Contents) → AreTables self.old v → AreTables self.new (after (Gains pid.now (ref_of id.now) ∷ []) v)) }
+        ensures ok { OnOk result ((v : Contents) → AreTables self.old v → AreTables self.new (after (OwnedAdded pid.now (ref_of id.now) ∷ []) v)) }
         ensures err { OnErr result (IsUnchanged self.old self.new) }
     {
         let shelves = Arc::make_mut(&mut self.shelves)?;
@@ -213,10 +213,10 @@ impl Registry {
         Ok(())
     }
 
-    /// A process has the table of a reference no more. `AllocError` if there is no memory for what is shared with a
+    /// A process no longer has the table of a reference. `AllocError` if there is no memory for what is shared with a
     /// copy: then nothing is changed.
     pub fn lose(&mut self, pid: &Pid, id: &RefId) -> Result<(), AllocError>
-        ensures ok { OnOk result ((v : Contents) → AreTables self.old v → AreTables self.new (after (Loses pid.now (ref_of id.now) ∷ []) v)) }
+        ensures ok { OnOk result ((v : Contents) → AreTables self.old v → AreTables self.new (after (OwnedRemoved pid.now (ref_of id.now) ∷ []) v)) }
         ensures err { OnErr result (IsUnchanged self.old self.new) }
     {
         let shelves = Arc::make_mut(&mut self.shelves)?;
@@ -227,7 +227,7 @@ impl Registry {
     /// A process has no tables. Where it has none, nothing is copied or changed. `AllocError` if there is no memory for
     /// what is shared with a copy: then nothing is changed.
     pub fn empty(&mut self, pid: &Pid) -> Result<(), AllocError>
-        ensures ok { OnOk result ((v : Contents) → AreTables self.old v → AreTables self.new (after (Empties pid.now ∷ []) v)) }
+        ensures ok { OnOk result ((v : Contents) → AreTables self.old v → AreTables self.new (after (OwnedCleared pid.now ∷ []) v)) }
         ensures err { OnErr result (IsUnchanged self.old self.new) }
     {
         if self.owned(pid).is_none() {
@@ -238,8 +238,8 @@ impl Registry {
         Ok(())
     }
 
-    /// The table of a reference, which is there, to be written: what it is left as stands in its place then.
-    /// `AllocError` if there is no memory for what is shared with a copy: then nothing is changed.
+    /// The table of a reference, which is there, to be written: what it is left as takes its place then. `AllocError`
+    /// if there is no memory for what is shared with a copy: then nothing is changed.
     pub fn table_mut(&mut self, id: &RefId) -> Result<&mut Table, AllocError>
         requires { IsSome (table_at self.old (ref_of id.now)) }
         ensures* writes_back { sem 𝓛 (LendsTable self.entry (ref_of id.now) result) }

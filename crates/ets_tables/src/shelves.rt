@@ -1,13 +1,12 @@
-// Where the tables stand: each change of a cell of the explored world is a method here.
+// Where the tables are kept: each change of a cell of the explored world is a method here.
 ghost use Rattle.std.specs.FinMap.{empty};
 ghost use Rattle.std.specs.Prelude.{◌≡◌, ◌∷◌, [], IfOk, IsSome, OnOk, OnErr, Some, None, option_copied, option_map};
 ghost use Rattle.ets_store.specs.Tables.{settings_in, heir_in};
-ghost use Rattle.proc_groups.specs.References.{ref_of};
 ghost use Rattle.world_model.specs.Ends.{name_freed};
 ghost use Rattle.world_model.specs.Names as names;
 ghost use Rattle.world_model.specs.Cells.{Contents};
-ghost use Rattle.world_model.specs.Changes.{after, set_in_order, without_first, Goes, Wipes};
-ghost use Rattle.world_model.specs.Names.{same_ref, order_of_refs};
+ghost use Rattle.world_model.specs.Changes.{after, set_in_order, without_first, TableRemoved, RowsCleared};
+ghost use Rattle.world_model.specs.Names.{same_ref, order_of_refs, ref_of};
 ghost use Rattle.world_model.specs.Tables.{owned_by, with_heir};
 
 use crate::entry::{entrust, hand};
@@ -147,7 +146,7 @@ impl Shelves {
         Ok(())
     }
 
-    /// A process has a table no more.
+    /// A process no longer has a table.
     pub(crate) fn lose(&mut self, pid: &Pid, id: &RefId) -> Result<(), AllocError>
         ensures ok { OnOk result (IsOwned pid.now (without_first (same_ref (ref_of id.now))) self.old self.new) }
         ensures err { OnErr result (AreSame self.old self.new) }
@@ -167,8 +166,7 @@ impl Shelves {
         Ok(())
     }
 
-    /// A new table stands under its reference, its owner has it, and its name means it where it is found by
-    /// that.
+    /// A new table is put under its reference, its owner has it, and its name means it where it is found by that.
     pub(crate) fn make(&mut self, alloc: Global, id: &RefId, table: Table) -> Result<(), AllocError>
         ensures { OnOk result (IsMadeOn (ref_of id.now) (settings_in table) table.rows.rows self.old self.new) }
     {
@@ -184,8 +182,8 @@ impl Shelves {
         Ok(())
     }
 
-    /// A table goes, with all its rows; its owner has it no more, and its name means nothing where it was found
-    /// by that.
+    /// A table goes, with all its rows; its owner no longer has it, and its name means nothing where it was found by
+    /// that.
     pub(crate) fn destroy(&mut self, id: &RefId) -> Result<(), AllocError>
         ensures { OnOk result ((v : Contents) → AreShelved self.old v → AreShelved self.new (after (changes_destroyed (ref_of id.now) (table_on self.old (ref_of id.now))) v)) }
     {
@@ -203,7 +201,7 @@ impl Shelves {
 
     /// A table goes, with all its rows, and its name means nothing where it was found by that.
     pub(crate) fn forget(&mut self, id: &RefId, table: &Table) -> Result<(), AllocError>
-        ensures { OnOk result ((v : Contents) → AreShelved self.old v → AreShelved self.new (after (Goes (ref_of id.now) ∷ Wipes (ref_of id.now) ∷ name_freed (settings_in table.now)) v)) }
+        ensures { OnOk result ((v : Contents) → AreShelved self.old v → AreShelved self.new (after (TableRemoved (ref_of id.now) ∷ RowsCleared (ref_of id.now) ∷ name_freed (settings_in table.now)) v)) }
     {
         drop(self.take(id));
         if table.is_named {

@@ -1,7 +1,6 @@
 -- Arguments as they are held, in the words of the calls of the explored world.
-use Rattle.std.specs.Prelude.{ℕ, Bool, true, false, List}
+use Rattle.std.specs.Prelude.{Bool, true, false}
 use Rattle.world_model.specs.Calls as calls
-use Rattle.world_model.specs.Names.{Ref}
 use Rattle.world_model.specs.Requests as requests
 use Rattle.proc_calls.specs.declared.argument.Destination.{Destination}
 use Rattle.proc_calls.specs.declared.argument.Destination.TheVariants.{ToProcess, ToName, ToNobody}
@@ -15,11 +14,7 @@ use Rattle.proc_calls.specs.declared.spawning.Origin.{Origin}
 use Rattle.proc_calls.specs.declared.spawning.SpawnWay.{SpawnWay}
 use Rattle.proc_calls.specs.declared.spawning.SpawnWay.TheVariants.{Alone, Linked, Watched}
 
--- a reference
-abbrev pub ref_of : List ℕ × ℕ → Ref
-ref_of id = record { pid = id.0; number = id.1 }
-
--- whom a message is for
+-- who a message is for
 abbrev pub destination_in : Destination → calls.Destination
 destination_in (ToProcess pid) = calls.ToProcess pid
 destination_in (ToName name) = calls.ToName name

@@ -2,9 +2,10 @@
 use Rattle.std.specs.Prelude.{option_map}
 use Rattle.term_core.specs.Term.{meaning_of}
 use Rattle.world_model.specs.Calls as calls
-use Rattle.proc_calls.specs.Arguments.{ref_of, destination_in, is_process, flushes, traps, way_in, origin_in}
+use Rattle.proc_calls.specs.Arguments.{destination_in, is_process, flushes, traps, way_in, origin_in}
 use Rattle.proc_calls.specs.declared.call.ProcessCall.{ProcessCall}
 use Rattle.proc_calls.specs.declared.call.ProcessCall.TheVariants.{Spawn, Send, SendExit, Link, Unlink, Monitor, Demonitor, Flag, Register, Unregister, WhereIs, IsAlive, MakeRef}
+use Rattle.world_model.specs.Names.{ref_of}
 
 abbrev pub call_in : ProcessCall → calls.Call
 call_in (Spawn way origin) = calls.Spawn (way_in way) (option_map origin_in origin)

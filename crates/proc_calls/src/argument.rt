@@ -1,15 +1,16 @@
 // What the arguments of the calls of processes are (the Erlang manual, module `erlang`). An argument that is not of
 // its kind is none.
 ghost use Rattle.std.specs.Prelude.{◌≡◌, IfOk, codes, option_map};
-ghost use Rattle.proc_calls.specs.Arguments.{destination_in, is_process, ref_of};
+ghost use Rattle.proc_calls.specs.Arguments.{destination_in, is_process};
 ghost use Rattle.term_core.specs.Term.{meaning_of};
 ghost use Rattle.world_model.specs.Calls.{destination_of};
+ghost use Rattle.world_model.specs.Names.{ref_of};
 ghost use Rattle.world_model.specs.Terms.{atom_in, process_in, reference_in, is_atom};
 
 use std::alloc::AllocError;
 use term_core::{Atom, Pid, RefId, Term};
 
-/// Whom a message is for.
+/// Who a message is for.
 #[derive(Drop)]
 pub enum Destination {
     /// A process.
@@ -30,8 +31,8 @@ pub enum MonitorType {
 }
 
 impl Destination {
-    /// Whom a term names as the receiver of a message, or `AllocError` where its copies can no longer be counted
-    /// (erlang manual, `send/2`): an atom is a name.
+    /// Who a term names as the receiver of a message, or `AllocError` where its copies can no longer be counted (erlang
+    /// manual, `send/2`): an atom is a name.
     pub fn of(term: &Term) -> Result<Destination, AllocError>
         ensures { IfOk result (λ destination. destination_in destination ≡ destination_of (meaning_of term.now)) }
     {

@@ -22,7 +22,7 @@ use term_core::{Term, Terms};
 pub enum ProcessRequest {
     /// A call of processes.
     Asks(ProcessCall),
-    /// A call with another number of arguments than it has: no module that is read asks one.
+    /// A call with another number of arguments than it has: no module that is read makes one.
     Misfit,
     /// A call of tables.
     Other,

@@ -84,7 +84,7 @@ impl<K: Member> Groups<K> {
         }
     }
 
-    /// Puts a first item into the set of a process.
+    // Puts a first item into the set of a process.
     fn begin(&mut self, alloc: Global, pid: &Pid, item: K) -> Result<(), AllocError>
         requires { members_in self.old pid.now ≡ [] }
         ensures ok { OnOk result ((q : List ℕ) → members_in self.new q ≡ (if bytes_eq pid.now q then set_in_order K.cmp item (members_in self.old q) else members_in self.old q)) }

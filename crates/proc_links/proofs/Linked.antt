@@ -20,7 +20,7 @@ without_same q (x ∷ xs) = ap (λ b. if b then xs else x ∷ without_first (is_
 pub parted-is : (p q x : Pid) (there : List Pid) → (if bytes_eq p x then without_first (is_at (order_of_lists q)) there else there) ≡ parted p q x there
 parted-is p q x there = ap (λ xs. if bytes_eq p x then xs else there) (without_same q there)
 
--- who is not there cannot go
+-- an item that is not there cannot go
 without_or : {A : Type 0} (b c : Bool) (x : A) (xs ys : List A) → (b || c) ≡ false → (c ≡ false → ys ≡ xs) → (if b then xs else x ∷ ys) ≡ x ∷ xs
 without_or true c x xs ys none rest = absurd (true≢false none)
 without_or false c x xs ys none rest = ap (λ zs. x ∷ zs) (rest none)

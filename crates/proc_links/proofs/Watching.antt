@@ -5,10 +5,9 @@ use Rattle.term_core.specs.StepOrder.{order_of_reference_ids}
 use Rattle.world_model.specs.Cells as cells
 use Rattle.world_model.specs.Cells.{Contents}
 use Rattle.world_model.specs.Changes.{set_in_order, without_first}
-use Rattle.world_model.specs.Names.{Pid, Ref, same_pid, same_ref, order_of_refs}
+use Rattle.world_model.specs.Names.{Pid, Ref, same_pid, same_ref, order_of_refs, ref_of}
 use Rattle.proc_groups.specs.Groups.{members_in}
 use Rattle.proc_groups.proofs.Referring.{Id, refs_same, refs_in_order, map_if, refs_without}
-use Rattle.proc_links.specs.Process.{ref_of}
 use Rattle.proc_links.specs.inside.Watched.{AreSame}
 use Rattle.proc_links.specs.Watchers.{watchers_in, watch_in, AreWatchers, AreWatches, BeginsWatch, EndsWatch}
 use Rattle.proc_links.specs.declared.watchers.Watches.{Watches}

@@ -4,7 +4,7 @@ use Rattle.std.specs.BTreeMap.{get}
 use Rattle.term_core.specs.Order.{order_of_lists}
 use Rattle.world_model.specs.Cells as cells
 use Rattle.world_model.specs.Cells.{Contents}
-use Rattle.world_model.specs.Changes.{Change, Holds, Bears}
+use Rattle.world_model.specs.Changes.{Change, HolderSet, NameSet}
 use Rattle.world_model.specs.Events.{Refusal, Badarg}
 use Rattle.world_model.specs.Names.{Name, Pid}
 use Rattle.proc_links.specs.Bearers.{put_at}
@@ -42,7 +42,7 @@ abbrev pub Registers : Naming → Name → Pid → Names → Names → Type 0
 Registers Served name p old new = IsNamed name p (Some p) (Some name) old new
 Registers Refused name p old new = IsUnchanged old new
 
--- who held a name has it no more
+-- a process that held a name no longer has it
 abbrev pub Unregisters : Name → Option Pid → Names → Names → Type 0
 Unregisters name None old new = IsUnchanged old new
 Unregisters name (Some p) old new = IsNamed name p None None old new
@@ -58,5 +58,5 @@ refusal_of Refused = Some Badarg
 
 -- what `register/2` changes
 abbrev pub changes_registered : Naming → Name → Pid → List Change
-changes_registered Served name p = Holds name p ∷ Bears p name ∷ []
+changes_registered Served name p = HolderSet name p ∷ NameSet p name ∷ []
 changes_registered Refused name p = []

@@ -1,5 +1,4 @@
 -- What a call or a signal has to know of a process.
-pub use Rattle.proc_groups.specs.References.{ref_of}
 use Rattle.std.specs.Prelude.{Bool, true, false}
 use Rattle.proc_links.specs.declared.process.Life.{Life}
 use Rattle.proc_links.specs.declared.process.Life.TheVariants.{Lives, Gone}

@@ -2,8 +2,9 @@
 // Signals" and "Receiving Exit Signals").
 ghost use Rattle.std.specs.Prelude.{◌≡◌, IfOk};
 ghost use Rattle.term_core.specs.Term.{meaning_of};
+ghost use Rattle.world_model.specs.Names.{ref_of};
 ghost use Rattle.world_model.specs.Signals as signals;
-ghost use Rattle.proc_links.specs.Process.{are_trapped, ref_of};
+ghost use Rattle.proc_links.specs.Process.{are_trapped};
 ghost use Rattle.proc_links.specs.Effects.{fate_in, is_own};
 
 use crate::process::Exits;
@@ -17,7 +18,7 @@ pub enum Effect {
     Ends(Term),
     /// It is ignored.
     Ignored,
-    /// It is dropped, since what it is about stands no more.
+    /// It is dropped, since what it is about is gone.
     Dropped,
     /// It puts this message into the mailbox.
     Put(Term),

@@ -1,14 +1,12 @@
 // The links of processes (Erlang reference manual, "Processes": "Links").
-ghost use Rattle.std.specs.Prelude.{◌≡◌, [], map, IfOk, OnOk, OnErr, option_copied};
+ghost use Rattle.std.specs.Prelude.{◌≡◌, [], IfOk, OnOk, OnErr, option_copied};
 ghost use Rattle.std.specs.List.{filter, list_any};
 ghost use Rattle.proc_groups.specs.Groups.{members_in, members_of};
 ghost use Rattle.world_model.specs.Names as names;
 ghost use Rattle.world_model.specs.Names.{same_pid};
 ghost use Rattle.world_model.specs.Cells as cells;
 ghost use Rattle.world_model.specs.Cells.{Contents};
-ghost use Rattle.world_model.specs.Ends.{partners_told};
-ghost use Rattle.world_model.specs.Events as events;
-ghost use Rattle.world_model.specs.Changes.{Puts, after};
+ghost use Rattle.world_model.specs.Changes.{after};
 ghost use Rattle.world_model.specs.Signals.{link_fate, pair_goes};
 ghost use Rattle.world_model.specs.ProcessLines.{link_way, link_changes, pair_begins};
 ghost use Rattle.world_model.specs.Bonds.{paired, unpaired, paired_by_way};
@@ -22,20 +20,20 @@ use std::collections::BTreeSet;
 use std::sync::Arc;
 use term_core::{Pid, Term};
 
-/// What `link/1` came to.
+/// What `link/1` resulted in.
 #[derive(Clone, Copy, Debug, PartialEq, Eq)]
 pub enum Linking {
     /// The two are linked already, or they are one process: nothing is done.
     Stands,
     /// They are linked now.
     Pairs,
-    /// They are linked now, and the other one is gone: the caller, which traps exits, is to be told so.
+    /// They are linked now, and the other one is gone: the caller, which traps exits, is to be informed.
     PairsGone,
     /// The other one is gone, and the call raises `noproc`.
     Fails,
 }
 
-/// To whom each process is linked. Copies share all of it until one of them is changed.
+/// The processes that each process is linked to. Copies share all of it until one of them is changed.
 pub struct Links {
     partners: Arc<Groups<Pid>>,
 }
@@ -47,7 +45,7 @@ impl Drop for Links {
     }
 }
 
-/// Makes each of two processes a partner of the other.
+// Makes each of two processes a partner of the other.
 fn join(partners: &mut Groups<Pid>, alloc: Global, pid: &Pid, other: &Pid) -> Result<(), AllocError>
     ensures ok { OnOk result ((r : names.Pid) → members_in partners.new r ≡ paired pid.now other.now r (members_in partners.old r)) }
     ensures err { OnErr result ((r : names.Pid) → members_in partners.new r ≡ members_in partners.old r) }
@@ -62,10 +60,9 @@ fn join(partners: &mut Groups<Pid>, alloc: Global, pid: &Pid, other: &Pid) -> Re
 }
 
 impl Links {
-    ghost use Rattle.proc_links.specs.Links.{AreLinks, partners_in, way_of};
+    ghost use Rattle.proc_links.specs.Links.{AreLinks, ArePartnersTold, partners_in, way_of};
     ghost use Rattle.proc_links.specs.Effects.{fate_in};
     ghost use Rattle.proc_links.specs.Process.{is_alive, are_trapped};
-    ghost use Rattle.term_core.specs.Meaning.{Meaning};
     ghost use Rattle.term_core.specs.Term.{meaning_of};
 
     /// No links, or `AllocError` if there is no memory.
@@ -87,7 +84,7 @@ impl Links {
         })
     }
 
-    /// To whom a process is linked, in the order of pids; `None` where that is nobody. It takes no memory.
+    /// The processes that a process is linked to, in the order of pids; `None` where there is none. It takes no memory.
     pub fn partners(&self, pid: &Pid) -> Option<&BTreeSet<Pid>>
         ensures { members_of (option_copied result) ≡ partners_in self.now pid.now }
     {
@@ -130,7 +127,7 @@ impl Links {
         Ok(())
     }
 
-    /// What `link/1` of this process to another comes to.
+    // What `link/1` of this process to another results in.
     fn way(&self, pid: &Pid, other: &Pid, life: Life, exits: Exits) -> Linking
         ensures { way_of result ≡ link_way pid.now other.now (partners_in self.now pid.now) (is_alive life) (are_trapped exits) }
     {
@@ -144,8 +141,8 @@ impl Links {
         }
     }
 
-    /// `link/1` of a process to another, of which it is known whether it lives; and of the caller, what
-    /// exit signals are to it. `AllocError` if there is no memory, and then nothing is changed.
+    /// `link/1` of a process to another, with whether that lives and with what exit signals are to the caller.
+    /// `AllocError` if there is no memory, and then nothing is changed.
     pub fn link(
         &mut self,
         alloc: Global,
@@ -167,9 +164,8 @@ impl Links {
         Ok(linking)
     }
 
-    /// What the exit signal of a link does at a process: it is dropped where the link is no more, and else
-    /// it is as one of `exit/2`, where `kill` is a reason as any other. `AllocError` if there is no memory
-    /// for a message.
+    /// What the exit signal of a link does at a process: it is dropped where the link is gone, and else it acts like
+    /// one of `exit/2`, where `kill` is a reason like any other. `AllocError` if there is no memory for a message.
     pub fn on_link_exit(
         &self,
         alloc: Global,
@@ -187,8 +183,8 @@ impl Links {
         Ok(effect)
     }
 
-    /// Whom the end of a process tells by the exit signal of a link: its partners that live, in the order
-    /// of pids. `AllocError` if there is no memory for the list.
+    /// The processes that the end of a process informs by the exit signal of a link: its partners that live, in the
+    /// order of pids. `AllocError` if there is no memory for the list.
     pub fn told<L: Living>(
         &self,
         alloc: Global,
@@ -196,7 +192,7 @@ impl Links {
         living: &L,
     ) -> Result<Vec<Pid>, AllocError>
         ensures told { IfOk result (λ told. told.items ≡ filter (L.lives living.now) (partners_in self.now pid.now)) }
-        ensures cells { IfOk result (λ told. (v : Contents) (reason : Meaning) → AreLinks self.now v → ((q : names.Pid) → v (cells.Alive q) ≡ L.lives living.now q) → partners_told v pid.now reason (v (cells.Links pid.now)) ≡ map (λ q. Puts pid.now q (events.LinkExit reason)) told.items) }
+        ensures cells { IfOk result (λ told. ArePartnersTold self.now (L.lives living.now) pid.now told.items) }
     {
         let told = living_pids(alloc, self.partners(pid), living)?;
         Ok(told)

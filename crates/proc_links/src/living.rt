@@ -1,4 +1,4 @@
-// Whom the end of a process tells, of those that it is known whether they live.
+// The processes that the end of a process informs, of those given with whether they live.
 ghost use Rattle.std.specs.Prelude.{◌≡◌, ℕ, List, Bool, IfOk, option_copied};
 ghost use Rattle.std.specs.BTreeSet.{contains};
 ghost use Rattle.std.specs.List.{filter};
@@ -9,7 +9,7 @@ use std::alloc::{AllocError, Global};
 use std::collections::BTreeSet;
 use term_core::{Pid, RefId};
 
-/// Who lives.
+/// Which processes live.
 pub trait Living {
     ghost lives: { Self → List ℕ → Bool };
 
@@ -47,7 +47,7 @@ pub(crate) fn living_pids<L: Living>(
     Ok(told)
 }
 
-/// Those of some references whose makers live, in their order.
+/// The references whose makers live, in their order.
 pub(crate) fn living_references<L: Living>(
     alloc: Global,
     references: Option<&BTreeSet<RefId>>,

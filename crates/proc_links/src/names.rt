@@ -4,7 +4,7 @@ ghost use Rattle.std.specs.BTreeMap.{get};
 ghost use Rattle.term_core.specs.Order.{order_of_lists};
 ghost use Rattle.world_model.specs.Names as names;
 ghost use Rattle.world_model.specs.Cells.{Contents};
-ghost use Rattle.world_model.specs.Changes.{after, Bares, Bears, Holds, Vacates};
+ghost use Rattle.world_model.specs.Changes.{after, NameCleared, NameSet, HolderSet, HolderCleared};
 ghost use Rattle.world_model.specs.Ends.{name_left};
 ghost use Rattle.world_model.specs.ProcessLines.{register_refusal, unregister_line};
 
@@ -14,7 +14,7 @@ use std::collections::BTreeMap;
 use std::sync::Arc;
 use term_core::{Atom, Pid};
 
-/// What a call of names came to.
+/// What a call of names resulted in.
 #[derive(Clone, Copy, Debug, PartialEq, Eq)]
 pub enum Naming {
     /// It is served.
@@ -59,7 +59,7 @@ impl Clone for Bearers {
 impl Bearers {
     ghost use Rattle.proc_links.specs.Bearers.{AreSame, IsPut, put_at};
 
-    /// Gives a name to a process, neither of which has the other.
+    // Gives a name to a process, where neither has the other.
     fn put(&mut self, name: &Atom, pid: &Pid) -> Result<(), AllocError>
         requires { get order_of_lists self.old.holders name.now ≡ None }
         ensures ok { OnOk result (IsPut name.now pid.now (Some pid.now) (Some name.now) self.old self.new) }
@@ -73,7 +73,7 @@ impl Bearers {
         Ok(())
     }
 
-    /// A process holds a name.
+    // A process holds a name.
     fn hold(&mut self, name: &Atom, pid: &Pid) -> Result<(), AllocError>
         ensures ok { OnOk result ((m : names.Name) → get order_of_lists self.new.holders m ≡ put_at name.now (Some pid.now) m (get order_of_lists self.old.holders m)) }
         ensures names { (r : names.Pid) → get order_of_lists self.new.names r ≡ get order_of_lists self.old.names r }
@@ -83,7 +83,7 @@ impl Bearers {
         Ok(())
     }
 
-    /// A process has a name.
+    // A process has a name.
     fn bear(&mut self, pid: &Pid, name: &Atom) -> Result<(), AllocError>
         ensures ok { OnOk result ((r : names.Pid) → get order_of_lists self.new.names r ≡ put_at pid.now (Some name.now) r (get order_of_lists self.old.names r)) }
         ensures holders { (m : names.Name) → get order_of_lists self.new.holders m ≡ get order_of_lists self.old.holders m }
@@ -93,7 +93,7 @@ impl Bearers {
         Ok(())
     }
 
-    /// Nobody holds a name.
+    // Nobody holds a name.
     fn vacate(&mut self, name: &Atom)
         ensures holders { (m : names.Name) → get order_of_lists self.new.holders m ≡ put_at name.now None m (get order_of_lists self.old.holders m) }
         ensures names { (r : names.Pid) → get order_of_lists self.new.names r ≡ get order_of_lists self.old.names r }
@@ -101,7 +101,7 @@ impl Bearers {
         drop(self.holders.remove(name));
     }
 
-    /// A process has no name.
+    // A process has no name.
     fn bare(&mut self, pid: &Pid)
         ensures names { (r : names.Pid) → get order_of_lists self.new.names r ≡ put_at pid.now None r (get order_of_lists self.old.names r) }
         ensures holders { (m : names.Name) → get order_of_lists self.new.holders m ≡ get order_of_lists self.old.holders m }
@@ -153,7 +153,7 @@ impl Names {
         self.bearers.names.get(pid)
     }
 
-    /// Whether `register/2` is served.
+    // Whether `register/2` is served.
     fn judge(&self, name: &Atom, pid: &Pid, life: Life) -> Naming
         ensures { refusal_of result ≡ register_refusal name.now (is_alive life) (holder_in self.now name.now) (name_in self.now pid.now) }
     {
@@ -165,9 +165,9 @@ impl Names {
         }
     }
 
-    /// `register/2` of a name for a process, of which it is known whether it lives. It is refused where
-    /// the name is `undefined` or in use, or the process is gone or has a name. `AllocError` if there is
-    /// no memory, and then nothing is changed.
+    /// `register/2` of a name for a process, with whether the process lives. It is refused where the name is
+    /// `undefined` or in use, or the process is gone or has a name. `AllocError` if there is no memory, and then
+    /// nothing is changed.
     pub fn register(&mut self, name: &Atom, pid: &Pid, life: Life) -> Result<Naming, AllocError>
         ensures refusal { IfOk result (λ naming. refusal_of naming ≡ register_refusal name.now (is_alive life) (holder_in self.old name.now) (name_in self.old pid.now)) }
         ensures ok { IfOk result (λ naming. Registers naming name.now pid.now self.old self.new) }
@@ -184,7 +184,7 @@ impl Names {
         }
     }
 
-    /// Gives a name that is not in use to a process.
+    // Gives a name that is not in use to a process.
     fn give(&mut self, name: &Atom, pid: &Pid) -> Result<(), AllocError>
         requires { holder_in self.old name.now ≡ None }
         ensures ok { OnOk result (IsNamed name.now pid.now (Some pid.now) (Some name.now) self.old self.new) }
@@ -198,8 +198,8 @@ impl Names {
     /// A process holds a name, and has it, whatever either had before. `AllocError` if there is no memory, and
     /// then the process may hold the name and not have it.
     pub fn put(&mut self, name: &Atom, pid: &Pid) -> Result<(), AllocError>
-        ensures holders { OnOk result ((v : Contents) → AreHolders self.old v → AreHolders self.new (after (Holds name.now pid.now ∷ Bears pid.now name.now ∷ []) v)) }
-        ensures names { OnOk result ((v : Contents) → AreBorne self.old v → AreBorne self.new (after (Holds name.now pid.now ∷ Bears pid.now name.now ∷ []) v)) }
+        ensures holders { OnOk result ((v : Contents) → AreHolders self.old v → AreHolders self.new (after (HolderSet name.now pid.now ∷ NameSet pid.now name.now ∷ []) v)) }
+        ensures names { OnOk result ((v : Contents) → AreBorne self.old v → AreBorne self.new (after (HolderSet name.now pid.now ∷ NameSet pid.now name.now ∷ []) v)) }
     {
         let bearers = Arc::make_mut(&mut self.bearers)?;
         bearers.hold(name, pid)?;
@@ -211,8 +211,8 @@ impl Names {
     /// shared with a copy, and then nothing is changed.
     pub fn take(&mut self, name: &Atom, pid: &Pid) -> Result<(), AllocError>
         ensures ok { OnOk result (IsNamed name.now pid.now None None self.old self.new) }
-        ensures holders { OnOk result ((v : Contents) → AreHolders self.old v → AreHolders self.new (after (Vacates name.now ∷ Bares pid.now ∷ []) v)) }
-        ensures names { OnOk result ((v : Contents) → AreBorne self.old v → AreBorne self.new (after (Vacates name.now ∷ Bares pid.now ∷ []) v)) }
+        ensures holders { OnOk result ((v : Contents) → AreHolders self.old v → AreHolders self.new (after (HolderCleared name.now ∷ NameCleared pid.now ∷ []) v)) }
+        ensures names { OnOk result ((v : Contents) → AreBorne self.old v → AreBorne self.new (after (HolderCleared name.now ∷ NameCleared pid.now ∷ []) v)) }
         ensures err { OnErr result (IsUnchanged self.old self.new) }
     {
         let bearers = Arc::make_mut(&mut self.bearers)?;
@@ -221,11 +221,11 @@ impl Names {
         Ok(())
     }
 
-    /// A process has no name, whoever holds that. Where it has none, nothing is copied or changed. `AllocError` if
-    /// there is no memory for what is shared with a copy, and then nothing is changed.
+    /// A process loses its name, whichever process holds it. Where it has none, nothing is copied or changed.
+    /// `AllocError` if there is no memory for what is shared with a copy, and then nothing is changed.
     pub fn bare(&mut self, pid: &Pid) -> Result<(), AllocError>
-        ensures holders { OnOk result ((v : Contents) → AreHolders self.old v → AreHolders self.new (after (Bares pid.now ∷ []) v)) }
-        ensures names { OnOk result ((v : Contents) → AreBorne self.old v → AreBorne self.new (after (Bares pid.now ∷ []) v)) }
+        ensures holders { OnOk result ((v : Contents) → AreHolders self.old v → AreHolders self.new (after (NameCleared pid.now ∷ []) v)) }
+        ensures names { OnOk result ((v : Contents) → AreBorne self.old v → AreBorne self.new (after (NameCleared pid.now ∷ []) v)) }
         ensures err { OnErr result (IsUnchanged self.old self.new) }
     {
         if self.name_of(pid).is_none() {

@@ -1,18 +1,11 @@
 // What a signal does where it takes effect, whatever its kind, and which signals the end of a process puts (Erlang
 // reference manual, "Processes": "Receiving Exit Signals" and "Process Termination").
-ghost use Rattle.std.specs.Prelude.{◌≡◌, ◌++◌, IfOk, map};
+ghost use Rattle.std.specs.Prelude.{◌≡◌, IfOk, map};
 ghost use Rattle.term_core.specs.Term.{meaning_of};
-ghost use Rattle.world_model.specs.Cells as cells;
-ghost use Rattle.world_model.specs.Cells.{Contents};
-ghost use Rattle.world_model.specs.Ends.{partners_told, watchers_told};
 ghost use Rattle.world_model.specs.Events as events;
-ghost use Rattle.world_model.specs.Names as names;
-ghost use Rattle.world_model.specs.Signals.{fate_of};
-ghost use Rattle.proc_links.specs.Effects.{fate_in};
-ghost use Rattle.proc_links.specs.Links.{AreLinks};
-ghost use Rattle.proc_links.specs.Process.{are_trapped, ref_of};
-ghost use Rattle.proc_links.specs.Put.{put_of, puts_by};
-ghost use Rattle.proc_links.specs.Watchers.{AreWatchers, AreWatches};
+ghost use Rattle.world_model.specs.Names.{ref_of};
+ghost use Rattle.proc_links.specs.Effects.{IsEffectOf};
+ghost use Rattle.proc_links.specs.Put.{AreSignalsOfEnd, put_of};
 ghost use Rattle.proc_signals.specs.Signal.{signal_of};
 
 use crate::effect::{Effect, Sender, on_exit};
@@ -24,9 +17,9 @@ use proc_signals::Signal;
 use std::alloc::{AllocError, Global};
 use term_core::{Pid, RefId, Term};
 
-/// What a signal from one process does at another, of which it is known what exit signals are to it: a message is
-/// put into the mailbox; an exit signal acts as `on_exit` says, that of a link and that of a watch as
-/// `Links::on_link_exit` and `Watchers::on_down` say. `AllocError` if there is no memory for a message.
+/// What a signal from one process does at another, with what exit signals are to that one: a message is put into the
+/// mailbox; an exit signal acts as `on_exit` says, that of a link and that of a watch as `Links::on_link_exit` and
+/// `Watchers::on_down` say. `AllocError` if there is no memory for a message.
 pub fn on_signal(
     alloc: Global,
     signal: &Signal,
@@ -36,7 +29,7 @@ pub fn on_signal(
     links: &Links,
     watchers: &Watchers,
 ) -> Result<Effect, AllocError>
-    ensures { IfOk result (λ effect. (v : Contents) → AreLinks links.now v → AreWatches watchers.now v → v (cells.Trap to.now) ≡ are_trapped exits → fate_in effect ≡ fate_of v from.now to.now (signal_of signal.now)) }
+    ensures { IfOk result (λ effect. IsEffectOf links.now watchers.now exits from.now to.now (signal_of signal.now) effect) }
 {
     match signal {
         Signal::Message(message) => Ok(Effect::Put(message.copy()?)),
@@ -84,8 +77,7 @@ pub fn on_end<L: Living>(
     links: &Links,
     watchers: &Watchers,
 ) -> Result<Vec<(Pid, Signal)>, AllocError>
-    ensures { IfOk result (λ told. (v : Contents) → AreLinks links.now v → AreWatchers watchers.now v → ((q : names.Pid) → v (cells.Alive q) ≡ L.lives living.now q) →
-        partners_told v pid.now (meaning_of reason.now) (v (cells.Links pid.now)) ++ watchers_told v pid.now (meaning_of reason.now) (v (cells.Watchers pid.now)) ≡ puts_by pid.now (map put_of told.items)) }
+    ensures { IfOk result (λ told. AreSignalsOfEnd links.now watchers.now (L.lives living.now) pid.now (meaning_of reason.now) (map put_of told.items)) }
 {
     let partners = links.told(alloc, pid, living)?;
     let mut told = link_exits(alloc, partners.as_slice(), reason)?;

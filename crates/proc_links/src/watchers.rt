@@ -1,6 +1,6 @@
 // The watches of processes (the Erlang manual, `monitor/2` and `demonitor/2`).
-ghost use Rattle.std.specs.Prelude.{◌≡◌, [], IfOk, OnOk, OnErr, Some, None, bytes_eq, is_some, map, option_copied, if◌then◌else◌, ℕ, List};
-ghost use Rattle.std.specs.BTreeMap.{get, is_at};
+ghost use Rattle.std.specs.Prelude.{◌≡◌, [], IfOk, OnOk, OnErr, Some, None, is_some, map, option_copied, ℕ, List};
+ghost use Rattle.std.specs.BTreeMap.{get};
 ghost use Rattle.std.specs.List.{filter};
 ghost use Rattle.term_core.specs.StepOrder.{order_of_reference_ids};
 ghost use Rattle.term_core.specs.Meaning.{Meaning};
@@ -8,13 +8,12 @@ ghost use Rattle.term_core.specs.Term.{meaning_of};
 ghost use Rattle.world_model.specs.Names as names;
 ghost use Rattle.world_model.specs.Cells as cells;
 ghost use Rattle.world_model.specs.Cells.{Contents};
-ghost use Rattle.world_model.specs.Ends.{watchers_told};
-ghost use Rattle.world_model.specs.Changes.{Puts, after, set_in_order, without_first};
+ghost use Rattle.world_model.specs.Changes.{after};
 ghost use Rattle.world_model.specs.Events as events;
 ghost use Rattle.world_model.specs.ProcessLines.{watch_begins, watch_ends};
 ghost use Rattle.world_model.specs.Signals.{down_fate, goes_with};
 ghost use Rattle.proc_groups.specs.Groups.{members_in, members_of};
-ghost use Rattle.proc_links.specs.Process.{ref_of};
+ghost use Rattle.world_model.specs.Names.{ref_of};
 
 use crate::effect::{Effect, down_message};
 use crate::living::{Living, living_references};
@@ -24,7 +23,7 @@ use std::collections::{BTreeMap, BTreeSet};
 use std::sync::Arc;
 use term_core::{Pid, RefId, Term};
 
-/// The watches of each process, and whom each reference watches.
+/// The watches of each process, and the process that each reference watches.
 #[derive(Drop)]
 struct Watches {
     watchers: Groups<RefId>,
@@ -57,12 +56,12 @@ impl Clone for Watches {
 }
 
 impl Watches {
-    ghost use Rattle.proc_links.specs.inside.Watched.{AreSame};
+    ghost use Rattle.proc_links.specs.inside.Watched.{AreSame, IsTargetSet, IsWatchAdded, IsWatchRemoved};
 
-    /// A reference watches a process.
+    // A reference watches a process.
     fn watch(&mut self, alloc: Global, reference: &RefId, target: &Pid) -> Result<(), AllocError>
-        ensures watchers { OnOk result ((p : names.Pid) → members_in self.new.watchers p ≡ (if bytes_eq target.now p then set_in_order order_of_reference_ids reference.now (members_in self.old.watchers p) else members_in self.old.watchers p)) }
-        ensures targets { OnOk result ((id : List ℕ × ℕ) → get order_of_reference_ids self.new.targets id ≡ (if is_at (order_of_reference_ids reference.now) id then Some target.now else get order_of_reference_ids self.old.targets id)) }
+        ensures watchers { OnOk result (IsWatchAdded reference.now target.now self.old self.new) }
+        ensures targets { OnOk result (IsTargetSet reference.now (Some target.now) self.old self.new) }
         ensures err { OnErr result (AreSame self.old self.new) }
     {
         let is_new = self.watchers.add(alloc, target, reference.copy()?)?;
@@ -73,9 +72,9 @@ impl Watches {
         Ok(())
     }
 
-    /// A reference points to a process.
+    // A reference points to a process.
     fn point(&mut self, reference: &RefId, target: &Pid) -> Result<(), AllocError>
-        ensures ok { OnOk result ((id : List ℕ × ℕ) → get order_of_reference_ids self.new.targets id ≡ (if is_at (order_of_reference_ids reference.now) id then Some target.now else get order_of_reference_ids self.old.targets id)) }
+        ensures ok { OnOk result (IsTargetSet reference.now (Some target.now) self.old self.new) }
         ensures watchers { (p : names.Pid) → members_in self.new.watchers p ≡ members_in self.old.watchers p }
         ensures err { OnErr result ((id : List ℕ × ℕ) → get order_of_reference_ids self.new.targets id ≡ get order_of_reference_ids self.old.targets id) }
     {
@@ -83,10 +82,10 @@ impl Watches {
         Ok(())
     }
 
-    /// A reference watches a process no more.
+    // A reference no longer watches a process.
     fn unwatch(&mut self, reference: &RefId, target: &Pid)
-        ensures watchers { (p : names.Pid) → members_in self.new.watchers p ≡ (if bytes_eq target.now p then without_first (is_at (order_of_reference_ids reference.now)) (members_in self.old.watchers p) else members_in self.old.watchers p) }
-        ensures targets { (id : List ℕ × ℕ) → get order_of_reference_ids self.new.targets id ≡ (if is_at (order_of_reference_ids reference.now) id then None else get order_of_reference_ids self.old.targets id) }
+        ensures watchers { IsWatchRemoved reference.now target.now self.old self.new }
+        ensures targets { IsTargetSet reference.now None self.old self.new }
     {
         self.watchers.remove(target, reference);
         drop(self.targets.remove(reference));
@@ -95,7 +94,7 @@ impl Watches {
 
 impl Watchers {
     ghost use Rattle.proc_links.specs.Effects.{fate_in};
-    ghost use Rattle.proc_links.specs.Watchers.{AreWatchers, AreWatches, BeginsWatch, EndsWatch, Demonitors, IsUnchanged, watchers_in, watch_in};
+    ghost use Rattle.proc_links.specs.Watchers.{AreWatchers, AreWatchersTold, AreWatches, BeginsWatch, EndsWatch, Demonitors, IsUnchanged, watchers_in, watch_in};
 
     /// No watches, or `AllocError` if there is no memory.
     pub fn new(alloc: Global) -> Result<Watchers, AllocError>
@@ -128,7 +127,7 @@ impl Watchers {
         self.watches.watchers.of(pid)
     }
 
-    /// Whom a reference watches, or `None`. It takes no memory.
+    /// The process that a reference watches, or `None`. It takes no memory.
     pub fn watch_of(&self, reference: &RefId) -> Option<&Pid>
         ensures { option_copied result ≡ watch_in self.now (ref_of reference.now) }
     {
@@ -153,9 +152,8 @@ impl Watchers {
         Ok(())
     }
 
-    /// A reference watches a process no more, as it is when the signal of the watch is delivered, which
-    /// that process put. `AllocError` if there is no memory for what is shared with a copy, and then
-    /// nothing is changed.
+    /// A reference no longer watches a process, as when the signal of the watch is delivered, which that process put.
+    /// `AllocError` if there is no memory for what is shared with a copy, and then nothing is changed.
     pub fn unwatch(&mut self, reference: &RefId, target: &Pid) -> Result<(), AllocError>
         ensures ok { OnOk result (EndsWatch (ref_of reference.now) target.now self.old self.new) }
         ensures watchers { OnOk result ((v : Contents) (r : names.Pid) (reason : Meaning) → AreWatchers self.old v → AreWatchers self.new (after (goes_with target.now r (events.Down (ref_of reference.now) reason)) v)) }
@@ -187,8 +185,8 @@ impl Watchers {
         Ok(())
     }
 
-    /// What the signal of a watch does, which this process put at its end: it is dropped where the watch is
-    /// no more, and else it is a message. `AllocError` if there is no memory for a message.
+    /// What the signal of a watch does, which this process put at its end: it is dropped where the watch is gone, and
+    /// else it is a message. `AllocError` if there is no memory for a message.
     pub fn on_down(
         &self,
         alloc: Global,
@@ -204,8 +202,8 @@ impl Watchers {
         }
     }
 
-    /// Whom the end of a process tells by the signal of a watch: its watches whose makers live, in the order
-    /// of references. `AllocError` if there is no memory for the list.
+    /// The processes that the end of a process informs by the signal of a watch: the makers of its watches that live,
+    /// in the order of references. `AllocError` if there is no memory for the list.
     pub fn told<L: Living>(
         &self,
         alloc: Global,
@@ -213,7 +211,7 @@ impl Watchers {
         living: &L,
     ) -> Result<Vec<RefId>, AllocError>
         ensures told { IfOk result (λ told. map ref_of told.items ≡ filter (λ ref. L.lives living.now ref.pid) (watchers_in self.now pid.now)) }
-        ensures cells { IfOk result (λ told. (v : Contents) (reason : Meaning) → AreWatchers self.now v → ((q : names.Pid) → v (cells.Alive q) ≡ L.lives living.now q) → watchers_told v pid.now reason (v (cells.Watchers pid.now)) ≡ map (λ ref. Puts pid.now ref.pid (events.Down ref reason)) (map ref_of told.items)) }
+        ensures cells { IfOk result (λ told. AreWatchersTold self.now (L.lives living.now) pid.now (map ref_of told.items)) }
     {
         let told = living_references(alloc, self.watchers_of(pid), living)?;
         Ok(told)

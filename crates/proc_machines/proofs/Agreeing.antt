@@ -3,14 +3,14 @@ use Rattle.std.proofs.Common.{◌≡◌, Bool, true, false, List, [], ◌∷◌,
 use Rattle.std.proofs.lemmas.Slice.Eq.{bytes_eq-Decides}
 use Rattle.term_core.specs.Meaning.{Meaning}
 use Rattle.core_tree.specs.Syntax.{ModuleTree}
-use Rattle.eval_rules.specs.Ask.{ask, is_first}
-use Rattle.eval_rules.specs.Asked.{Answered}
+use Rattle.core_semantics.specs.Ask.{ask, is_first}
+use Rattle.core_semantics.specs.Asked.{Answered}
 use Rattle.core_eval.specs.Standing as standing
 use Rattle.core_eval.specs.Standing.{Standing, is_spent}
 use Rattle.world_model.specs.Asking.{entry_of}
 use Rattle.world_model.specs.Cells as cells
 use Rattle.world_model.specs.Cells.{Contents}
-use Rattle.world_model.specs.Changes.{after, Begins, Turns, Halts, Lives, Dies}
+use Rattle.world_model.specs.Changes.{after, MachineStarted, TurnTaken, MachineHalted, AliveSet, AliveCleared}
 use Rattle.world_model.specs.Names.{Pid, same_pid}
 use Rattle.world_model.specs.Requests.{Origin}
 use Rattle.world_model.specs.World.{beginning}
@@ -29,7 +29,7 @@ turns_at old new p course X w is turns told q =
       | false ↦ λ e. told q
     ] refl
 
--- where one process has another machine, each that lives stands at what its cell says
+-- where one process has another machine, each that lives is at what its cell says
 stands_at : (m : ModuleTree) (old new : Pid → Option Course) (lives lived : Pid → Bool) (p : Pid) (course : Course) (X : cells.Course → cells.Course) (w : Pid → cells.Course)
     → ((q : Pid) → new q ≡ (if same_pid p q then Some course else old q)) → (lives p ≡ true → StandsAs m p (X (w p)) course.machine)
     → ((q : Pid) → same_pid p q ≡ false → lives q ≡ true → lived q ≡ true)
@@ -42,7 +42,7 @@ stands_at m old new lives lived p course X w is stands others told q alive =
       | false ↦ λ e. told q (others q e alive)
     ] refl)
 
--- where one process has another machine, who does not live has none
+-- where one process has another machine, a process that does not live has none
 gone_at : (old new : Pid → Option Course) (lives lived : Pid → Bool) (p : Pid) (course : Course)
     → ((q : Pid) → new q ≡ (if same_pid p q then Some course else old q)) → (lives p ≡ false → course.machine ≡ None)
     → ((q : Pid) → same_pid p q ≡ false → lives q ≡ false → lived q ≡ false)
@@ -60,12 +60,12 @@ fresh origin course = record { origin = origin; turns = 0; answers = []; ended =
 abbrev halted : Meaning → cells.Course → cells.Course
 halted reason course = record { origin = course.origin; turns = course.turns; answers = course.answers; ended = Some reason }
 
--- who was alive and is no other than before
+-- a process other than this one is alive as before
 lived_if : (b : Bool) (x y z w : Bool) → y ≡ (if b then x else z) → b ≡ false → y ≡ w → z ≡ w
 lived_if true x y z w is none alive = absurd (true≢false none)
 lived_if false x y z w is none alive = sym is ∙ alive
 
--- who lives now does not live not
+-- a process that begins lives
 born : (b : Bool) (y z : Bool) → y ≡ (if b then true else z) → b ≡ true → y ≡ true
 born true y z is e = is
 born false y z is e = absurd (true≢false (sym e))
@@ -76,11 +76,11 @@ itself p = (bytes_eq-Decides p p).1 refl
 lives_if : (p q : Pid) (life x y : Bool) → x ≡ y → (if same_pid p q then life else x) ≡ (if same_pid p q then life else y)
 lives_if p q life x y e = ap (λ z. if same_pid p q then life else z) e
 
--- a process begins, and stands at its first request
+-- a process begins, and is at its first request
 pub agrees_begun : (m : ModuleTree) (old new : Processes) (v : Contents) (p : Pid) (origin : Origin) (course : Course)
     → module_of new ≡ module_of old → ((q : Pid) → lives_in new q ≡ (if same_pid p q then true else lives_in old q)) → ((q : Pid) → traps_in new q ≡ traps_in old q)
     → ((q : Pid) → course_in new q ≡ (if same_pid p q then Some course else course_in old q)) → course.turns ≡ 0 → StandsAs m p (fresh origin (v (cells.Machine p))) course.machine
-    → Agrees m old v → Agrees m new (after (Begins p origin ∷ Lives p ∷ []) v)
+    → Agrees m old v → Agrees m new (after (MachineStarted p origin ∷ AliveSet p ∷ []) v)
 agrees_begun m old new v p origin course program alive trap courses turns stands told = record {
   program = program ∙ told.program;
   alive = λ q. alive q ∙ lives_if p q true (lives_in old q) (v (cells.Alive q)) (told.alive q);
@@ -95,7 +95,7 @@ pub agrees_turned : (m : ModuleTree) (old new : Processes) (v : Contents) (p : P
     → module_of new ≡ module_of old → ((q : Pid) → lives_in new q ≡ lives_in old q) → ((q : Pid) → traps_in new q ≡ traps_in old q)
     → ((q : Pid) → course_in new q ≡ (if same_pid p q then Some course else course_in old q)) → course.turns ≡ turns_in old p + 1
     → ((c : cells.Course) → StandsAs m p c (standing_in old p) → StandsAs m p (turned answer c) course.machine) → (standing_in old p ≡ None → course.machine ≡ None)
-    → Agrees m old v → Agrees m new (after (Turns p answer ∷ []) v)
+    → Agrees m old v → Agrees m new (after (TurnTaken p answer ∷ []) v)
 agrees_turned m old new v p answer course program alive trap courses turns stands none told = record {
   program = program ∙ told.program;
   alive = λ q. alive q ∙ told.alive q;
@@ -105,7 +105,7 @@ agrees_turned m old new v p answer course program alive trap courses turns stand
   gone = gone_at (course_in old) (course_in new) (lives_in new) (lives_in old) p course courses (λ a. none (told.gone p (sym (alive p) ∙ a))) (λ q _ a. sym (alive q) ∙ a) told.gone;
 }
 
--- who does not live stands nowhere
+-- a process that does not live is nowhere
 dead : (b : Bool) (y z : Bool) → y ≡ (if b then false else z) → b ≡ true → y ≡ false
 dead true y z is e = is
 dead false y z is e = absurd (true≢false (sym e))
@@ -120,7 +120,7 @@ closed_gone old new p course closed none =
 
 -- a process is killed
 pub agrees_killed : (m : ModuleTree) (old new : Processes) (v : Contents) (p : Pid) (reason : Meaning) (course : Course)
-    → IsClosed p course old new → course.turns ≡ turns_in old p → course.machine ≡ None → Agrees m old v → Agrees m new (after (Halts p reason ∷ Dies p ∷ []) v)
+    → IsClosed p course old new → course.turns ≡ turns_in old p → course.machine ≡ None → Agrees m old v → Agrees m new (after (MachineHalted p reason ∷ AliveCleared p ∷ []) v)
 agrees_killed m old new v p reason course closed turns none told = record {
   program = closed.program ∙ told.program;
   alive = λ q. closed.alive q ∙ lives_if p q false (lives_in old q) (v (cells.Alive q)) (told.alive q);
@@ -136,7 +136,7 @@ twice false f g x = refl
 
 -- a process ends by a turn of its own
 pub agrees_ended : (m : ModuleTree) (old new : Processes) (v : Contents) (p : Pid) (reason : Meaning) (course : Course)
-    → IsClosed p course old new → course.turns ≡ turns_in old p + 1 → course.machine ≡ None → Agrees m old v → Agrees m new (after (Turns p [] ∷ Halts p reason ∷ Dies p ∷ []) v)
+    → IsClosed p course old new → course.turns ≡ turns_in old p + 1 → course.machine ≡ None → Agrees m old v → Agrees m new (after (TurnTaken p [] ∷ MachineHalted p reason ∷ AliveCleared p ∷ []) v)
 agrees_ended m old new v p reason course closed turns none told = record {
   program = closed.program ∙ told.program;
   alive = λ q. closed.alive q ∙ lives_if p q false (lives_in old q) (v (cells.Alive q)) (told.alive q);
@@ -188,7 +188,7 @@ shift : (xs : List Answered) (a : Answered) (ys : List Answered) → xs ++ (a �
 shift [] a ys = refl
 shift (x ∷ xs) a ys = ap (λ zs. x ∷ zs) (shift xs a ys)
 
--- a machine that ran on with an answer stands where its course is with that answer
+-- a machine that ran on with an answer is where its course is with that answer
 pub ran_on : (m : ModuleTree) (p : Pid) (c : cells.Course) (old copied new : Standing) (a : Answered) → copied ≡ old → is_spent new ≡ false
     → ((later : List Answered) → standing.after new later ≡ standing.after copied (a ∷ later)) → StandsAs m p c (Some old) → StandsAs m p (turned (a ∷ []) c) (Some new)
 ran_on m p c old copied new a same lives goes_on told = record {

@@ -54,7 +54,7 @@ module _ {X : Type 0} where
     found before within x here =
         first_place (λ e. same_pid p e.0) es n x within (λ k less. apart p (get_or es k x).0 (never_before p (get_or es k x).0 (before k x (omega arith) less))) here
 
-    -- neither those behind the place are the process
+    -- none of those after the place is the process
     later_apart : AreInOrder es → IsNotBefore order_of_lists es p n → (k : ℕ) (d : Pid × X) → n < k → k < length es → same_pid p (get_or es k d).0 ≡ false
     later_apart sorted behind k d less within =
         apart p (get_or es k d).0 (λ same. behind (omega arith) d (ap (order_of_lists (get_or es n d).0) same ∙ by_place order_of_lists es sorted n k d less within))

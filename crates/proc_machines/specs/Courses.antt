@@ -2,8 +2,8 @@
 use Rattle.std.specs.Map.{lookup}
 use Rattle.std.specs.Prelude.{◌≡◌, ◌+◌, ◌++◌, ℕ, List, Option, Some, None, map, if◌then◌else◌}
 use Rattle.core_tree.specs.Syntax.{ModuleTree}
-use Rattle.eval_rules.specs.Ask.{ask}
-use Rattle.eval_rules.specs.Asked.{Answered}
+use Rattle.core_semantics.specs.Ask.{ask}
+use Rattle.core_semantics.specs.Asked.{Answered}
 use Rattle.core_eval.specs.Standing.{Standing, StandsAt}
 use Rattle.world_model.specs.Asking.{entry_of}
 use Rattle.world_model.specs.Cells as cells
@@ -17,12 +17,12 @@ abbrev pub turns_of : Option Course → ℕ
 turns_of None = 0
 turns_of (Some course) = course.turns
 
--- where its machine stands, if it has one
+-- where its machine is, if it has one
 abbrev pub standing_of : Option Course → Option Standing
 standing_of None = None
 standing_of (Some course) = course.machine
 
--- a machine stands, and after all further answers will, at what the program asks after the answers of a course
+-- a machine is, and after all further answers will be, at what the program asks after the answers of a course
 abbrev pub StandsAs : ModuleTree → Pid → cells.Course → Option Standing → Type 0
 StandsAs m p course None = ⊥
 StandsAs m p course (Some machine) = StandsAt machine (λ later. ask m p (entry_of m course.origin) (course.answers ++ later))

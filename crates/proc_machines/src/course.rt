@@ -38,8 +38,8 @@ pub(crate) fn next_turn(course: Option<&Course<'_>>) -> Result<u64, AllocError>
     }
 }
 
-/// A machine that ran on with an answer, or `AllocError` if there is no memory for it; the one that it is made from
-/// stays as it was.
+// A machine that ran on with an answer, or `AllocError` if there is no memory for it; the one that it is made from
+// stays as it was.
 fn resumed<'m>(
     alloc: Global,
     machine: &Machine<'m>,
@@ -63,7 +63,7 @@ pub(crate) fn machine_of<'a, 'm>(course: Option<&'a Course<'m>>) -> Option<&'a M
     }
 }
 
-/// A machine that ran on with an answer, if there is one.
+// A machine that ran on with an answer, if there is one.
 fn run_on<'m>(
     alloc: Global,
     machine: Option<&Machine<'m>>,

@@ -13,11 +13,11 @@ use std::cmp::Ordering;
 use std::sync::Arc;
 use term_core::Pid;
 
-/// How many processes are looked through from the front; where there are more, one is found by halves.
+/// How many processes are looked through from the front; where there are more, one is found by binary search.
 const FEW: usize = 8;
 
-/// The processes that were begun, each with its course, in the order of processes. They are few most often, so a list is
-/// copied and dropped sooner than a map, and looked through as soon.
+/// The processes that were begun, each with its course, in the order of processes. Most often they are few, so a list
+/// is copied and dropped faster than a map, and searched as fast.
 #[derive(Drop)]
 pub(crate) struct CourseList<'m> {
     entries: Vec<(Pid, Arc<Course<'m>>)>,
@@ -43,7 +43,7 @@ impl<'m> Clone for CourseList<'m> {
 impl<'m> CourseList<'m> {
     ghost use Rattle.proc_machines.specs.Courses.{IsPut, listed};
 
-    /// Where a process stands or is put in: behind those that come before it.
+    // Where a process is or is put in: after those that come before it.
     fn room(&self, pid: &Pid) -> usize
         ensures within { result ≤ length self.now.entries.items }
         ensures before { AllWithin (λ entry. order_of_lists entry.0 pid.now ≡ Ordering.Less) self.now.entries.items 0 result }
@@ -53,7 +53,7 @@ impl<'m> CourseList<'m> {
         entries.partition_point(|entry| entry.0.cmp(pid).is_lt())
     }
 
-    /// The place of a process, if it was begun, found by halves.
+    // The place of a process, if it was begun, found by binary search.
     fn place_by_halves(&self, pid: &Pid) -> Option<usize>
         ensures { result ≡ position (λ entry. same_pid pid.now entry.0) self.now.entries.items }
     {
@@ -64,7 +64,7 @@ impl<'m> CourseList<'m> {
         None
     }
 
-    /// The place of a process, if it was begun.
+    // The place of a process, if it was begun.
     fn place(&self, pid: &Pid) -> Option<usize>
         ensures { result ≡ position (λ entry. same_pid pid.now entry.0) self.now.entries.items }
     {
@@ -79,8 +79,8 @@ impl<'m> CourseList<'m> {
         None
     }
 
-    /// Gives a process a course in place of the one that it had. `AllocError` if there is no memory: then the list
-    /// stays as it was.
+    // Gives a process a course in place of the one that it had. `AllocError` if there is no memory: then the list
+    // stays as it was.
     fn put(&mut self, pid: &Pid, course: Arc<Course<'m>>) -> Result<(), AllocError>
         ensures ok { OnOk result (IsPut pid.now course.entry.value (listed self.old) (listed self.new)) }
         ensures err { OnErr result (listed self.new ≡ listed self.old) }

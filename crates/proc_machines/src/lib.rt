@@ -1,4 +1,4 @@
-// The processes of a world: their machines, who lives, and who traps exits.
+// The processes of a world: their machines, which of them live, and which trap exits.
 #![tactic(auto)]
 
 mod course;

@@ -1,18 +1,17 @@
 // The processes of a world (Erlang reference manual, "Processes").
-ghost use Rattle.std.specs.Prelude.{◌≡◌, ◌+◌, ◌∷◌, [], true, false, IfOk, OnOk, OnErr, IfSome, IfNone, Some, None, option_copied, option_map, is_some};
+ghost use Rattle.std.specs.Prelude.{◌≡◌, ◌+◌, ◌∷◌, [], false, IfOk, OnOk, OnErr, IfSome, IfNone, Some, None, option_copied, option_map, is_some};
 ghost use Rattle.std.specs.BTreeSet.{contains};
 ghost use Rattle.core_eval.specs.Requests.{answered_of, told_by};
 ghost use Rattle.core_tree.specs.Syntax.{ModuleTree};
 ghost use Rattle.proc_links.specs.Process.{are_trapped};
 ghost use Rattle.proc_machines.specs.Courses.{StandsAs};
 ghost use Rattle.proc_machines.specs.Receivers.{taken_by};
-ghost use Rattle.proc_machines.specs.Processes.{Agrees, IsClosed, IsUnchanged, lives_in, traps_in, turns_in, module_of, request_with, selects_in, standing_in};
+ghost use Rattle.proc_machines.specs.Processes.{Agrees, IsClosed, IsRequestOf, IsUnchanged, changes_begun, lives_in, traps_in, turns_in, module_of, request_with, selects_in, standing_in};
 ghost use Rattle.term_core.specs.Meaning.{Meaning};
 ghost use Rattle.term_core.specs.Order.{order_of_lists};
-ghost use Rattle.world_model.specs.Asking.{program_of};
 ghost use Rattle.world_model.specs.Cells as cells;
 ghost use Rattle.world_model.specs.Cells.{Contents};
-ghost use Rattle.world_model.specs.Changes.{after, Begins, Turns, Halts, Lives, Dies, Traps};
+ghost use Rattle.world_model.specs.Changes.{after, TurnTaken, MachineHalted, AliveCleared, TrapSet};
 ghost use Rattle.world_model.specs.Names as names;
 ghost use Rattle.world_model.specs.Requests.{Spawned};
 ghost use Rattle.world_model.specs.Steps.{asked};
@@ -29,8 +28,8 @@ use std::alloc::{AllocError, Global};
 use std::collections::BTreeSet;
 use term_core::{Atom, Pid, Terms};
 
-/// The processes of a module: the machine of each that lives, how many turns each took, who lives, and who traps
-/// exits. Copies share all of it until one of them is changed: then what is changed is copied, and of the machines
+/// The processes of a module: the machine of each that lives, how many turns each took, which of them live, and which
+/// trap exits. Copies share all of it until one of them is changed: then what is changed is copied, and of the machines
 /// only the one that runs on.
 pub struct Processes<'m> {
     program: &'m Module,
@@ -51,7 +50,7 @@ impl Drop for Processes<'_> {
     }
 }
 
-/// The first process of a module, at the first request of `main/0`.
+// The first process of a module, at the first request of `main/0`.
 fn first<'m>(alloc: Global, program: &'m Module) -> Result<Machine<'m>, AllocError>
     ensures { IfOk result (λ machine. StandsAs program.now [] (beginning (cells.Machine [])) (Some machine)) }
 {
@@ -61,8 +60,8 @@ fn first<'m>(alloc: Global, program: &'m Module) -> Result<Machine<'m>, AllocErr
 }
 
 impl<'m> Processes<'m> {
-    /// The processes in the beginning: the first one lives, and stands at the first request of `main/0` of the
-    /// module. `AllocError` if there is no memory.
+    /// The processes in the beginning: the first one lives, and is at the first request of `main/0` of the module.
+    /// `AllocError` if there is no memory.
     pub fn open(alloc: Global, program: &'m Module) -> Result<Processes<'m>, AllocError>
         ensures { IfOk result (λ opened. Agrees program.now opened beginning) }
     {
@@ -137,7 +136,7 @@ impl<'m> Processes<'m> {
         Ok(number)
     }
 
-    /// The machine of a process, until it ends.
+    // The machine of a process, until it ends.
     fn machine(&self, pid: &Pid) -> Option<&Machine<'m>>
         ensures stands { option_copied result ≡ standing_in self.now pid.now }
         ensures there { (m : ModuleTree) (v : Contents) → Agrees m self.now v → is_some result ≡ lives_in self.now pid.now }
@@ -147,8 +146,7 @@ impl<'m> Processes<'m> {
 
     /// What a process asks, if it lives. It takes no memory.
     pub fn request(&self, pid: &Pid) -> Option<&Request>
-        ensures asked { (m : ModuleTree) (v : Contents) → Agrees m self.now v → lives_in self.now pid.now ≡ true →
-            option_map (λ request. request_with (selects_in self.now pid.now) (told_by request.now)) result ≡ Some (asked (program_of m) pid.now (v (cells.Machine pid.now))) }
+        ensures asked { IsRequestOf self.now pid.now (option_map (λ request. request_with (selects_in self.now pid.now) (told_by request.now)) result) }
         ensures there { (m : ModuleTree) (v : Contents) → Agrees m self.now v → is_some result ≡ lives_in self.now pid.now }
     {
         let machine = self.machine(pid)?;
@@ -175,7 +173,7 @@ impl<'m> Processes<'m> {
         arguments: Terms,
     ) -> Result<(), AllocError>
         ensures ok { OnOk result ((m : ModuleTree) (v : Contents) → Agrees m self.old v →
-            Agrees m self.new (after (Begins child.now (Spawned module_name.now function_name.now arguments) ∷ Lives child.now ∷ []) v)) }
+            Agrees m self.new (after (changes_begun child.now (Spawned module_name.now function_name.now arguments)) v)) }
         ensures err { OnErr result (IsUnchanged self.old self.new) }
     {
         let machine = start(
@@ -201,7 +199,7 @@ impl<'m> Processes<'m> {
     /// number for the turn, and then nothing is changed.
     pub fn turn(&mut self, alloc: Global, pid: &Pid, answer: Answer) -> Result<(), AllocError>
         ensures ok { OnOk result ((m : ModuleTree) (v : Contents) → Agrees m self.old v →
-            Agrees m self.new (after (Turns pid.now (answered_of answer ∷ []) ∷ []) v)) }
+            Agrees m self.new (after (TurnTaken pid.now (answered_of answer ∷ []) ∷ []) v)) }
         ensures err { OnErr result (IsUnchanged self.old self.new) }
     {
         let course = answered(alloc, self.courses.of(pid), answer)?;
@@ -209,7 +207,7 @@ impl<'m> Processes<'m> {
         Ok(())
     }
 
-    /// Gives a process its last course, with which it lives no more.
+    // Gives a process its last course, with which it no longer lives.
     fn close(&mut self, alloc: Global, pid: &Pid, course: Course<'m>) -> Result<(), AllocError>
         ensures ok { OnOk result (IsClosed pid.now course.entry self.old self.new) }
         ensures err { OnErr result (IsUnchanged self.old self.new) }
@@ -225,7 +223,7 @@ impl<'m> Processes<'m> {
     /// Termination"). `AllocError` if there is no memory, or no number for the turn, and then nothing is changed.
     pub fn end(&mut self, alloc: Global, pid: &Pid) -> Result<(), AllocError>
         ensures ok { OnOk result ((m : ModuleTree) (v : Contents) (reason : Meaning) → Agrees m self.old v →
-            Agrees m self.new (after (Turns pid.now [] ∷ Halts pid.now reason ∷ Dies pid.now ∷ []) v)) }
+            Agrees m self.new (after (TurnTaken pid.now [] ∷ MachineHalted pid.now reason ∷ AliveCleared pid.now ∷ []) v)) }
         ensures err { OnErr result (IsUnchanged self.old self.new) }
     {
         let course = ended(self.courses.of(pid))?;
@@ -237,7 +235,7 @@ impl<'m> Processes<'m> {
     /// "Processes": "Receiving Exit Signals"). `AllocError` if there is no memory, and then nothing is changed.
     pub fn kill(&mut self, alloc: Global, pid: &Pid) -> Result<(), AllocError>
         ensures ok { OnOk result ((m : ModuleTree) (v : Contents) (reason : Meaning) → Agrees m self.old v →
-            Agrees m self.new (after (Halts pid.now reason ∷ Dies pid.now ∷ []) v)) }
+            Agrees m self.new (after (MachineHalted pid.now reason ∷ AliveCleared pid.now ∷ []) v)) }
         ensures err { OnErr result (IsUnchanged self.old self.new) }
     {
         let course = killed(self.courses.of(pid));
@@ -249,7 +247,7 @@ impl<'m> Processes<'m> {
     /// `AllocError` if there is no memory, and then nothing is changed.
     pub fn set_trap(&mut self, pid: &Pid, exits: Exits) -> Result<(), AllocError>
         ensures ok { OnOk result ((m : ModuleTree) (v : Contents) → Agrees m self.old v →
-            Agrees m self.new (after (Traps pid.now (are_trapped exits) ∷ []) v)) }
+            Agrees m self.new (after (TrapSet pid.now (are_trapped exits) ∷ []) v)) }
         ensures err { OnErr result (IsUnchanged self.old self.new) }
     {
         match exits {

@@ -5,7 +5,7 @@ use std::alloc::{AllocError, Global};
 use term_core::Term;
 
 /// A process at its request, which takes the messages that the clauses of its receive select (Core Erlang 1.0.3,
-/// "Receive"). Where it stands at no receive it takes none.
+/// "Receive"). Where its request is no receive it takes none.
 #[derive(Drop)]
 pub struct Receiver<'a, 'm> {
     pub(crate) machine: &'a Machine<'m>,

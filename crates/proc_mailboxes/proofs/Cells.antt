@@ -5,7 +5,7 @@ use Rattle.std.specs.List.{list_any, remove}
 use Rattle.term_core.specs.Meaning.{Meaning}
 use Rattle.term_core.proofs.Equality.{terms_same}
 use Rattle.world_model.specs.Cells.{Contents}
-use Rattle.world_model.specs.Changes.{after, changed, without_first, Mails, Picks}
+use Rattle.world_model.specs.Changes.{after, changed, without_first, MessageAdded, MessageTaken}
 use Rattle.world_model.specs.Mailboxes.{picked, selected_of}
 use Rattle.world_model.specs.Names.{Pid, same_pid, same_term}
 use Rattle.proc_signals.proofs.Beside.{pids_same}
@@ -16,8 +16,8 @@ use Rattle.proc_signals.specs.Mailbox.{first_place, IsMailbox}
 use Rattle.proc_mailboxes.specs.Mailboxes.{Mailboxes, AreMailboxes, IsChangedAt, messages_in}
 
 -- a message comes in at one process
-pub mails_follow : (p : Pid) (m : Meaning) (old new : Mailboxes) (v : Contents) → IsChangedAt p (λ messages. messages ++ m ∷ []) old new → AreMailboxes old v → AreMailboxes new (changed (Mails p m) v)
-mails_follow p m old new v is told q = subst (λ ms. IsMailbox ms (changed (Mails p m) v) q) (sym (is q)) (mails_at p q m (messages_in old q) v (told q))
+pub mails_follow : (p : Pid) (m : Meaning) (old new : Mailboxes) (v : Contents) → IsChangedAt p (λ messages. messages ++ m ∷ []) old new → AreMailboxes old v → AreMailboxes new (changed (MessageAdded p m) v)
+mails_follow p m old new v is told q = subst (λ ms. IsMailbox ms (changed (MessageAdded p m) v) q) (sym (is q)) (mails_at p q m (messages_in old q) v (told q))
 
 if_alike : (b : Bool) (x y z : List Meaning) → (b ≡ true → x ≡ y) → (if b then x else z) ≡ (if b then y else z)
 if_alike true x y z same = same refl
@@ -46,7 +46,7 @@ picked_follows test p old new v None is at told q =
 picked_follows test p old new v (Some m) is at told q =
     let here : same_pid p q ≡ true → selected_of test (messages_in old q) ≡ Some m = λ e. ap (λ r. selected_of test (messages_in old r)) (sym (pids_same p q e)) ∙ is in
     let same = if_alike (same_pid p q) (without_first test (messages_in old q)) (without_first (same_term m) (messages_in old q)) (messages_in old q) (λ e. sym (without_selected test (messages_in old q) m (here e))) in
-    subst (λ ms. IsMailbox ms (changed (Picks p m) v) q) (sym (at q ∙ same)) (picks_at p q m (messages_in old q) v (λ e. selected_there test (messages_in old q) m (here e)) (told q))
+    subst (λ ms. IsMailbox ms (changed (MessageTaken p m) v) q) (sym (at q ∙ same)) (picks_at p q m (messages_in old q) v (λ e. selected_there test (messages_in old q) m (here e)) (told q))
 
 -- a message that is found and taken is picked
 pub picks_follow : (selects : Meaning → Bool) (p : Pid) (old new : Mailboxes) (n : ℕ) (taken : Option Meaning) → Some n ≡ first_place selects (messages_in old p) → n < length (messages_in old p) → taken ≡ slice_get (messages_in old p) n

@@ -38,7 +38,7 @@ changed_at f es fs now j k w view same new here =
 pub made_of : (f : List Meaning → List Meaning) (es now : Mailboxes) (k : Pid) (was new : List Meaning) → es ≡ now → Some was ≡ lookup (is_at (order_of_lists k)) es → new ≡ f was → new ≡ f (messages_in now k)
 made_of f es now k was new view found made = made ∙ ap (λ o. f (messages_of o)) found ∙ ap (λ m. f (messages_in m k)) view
 
--- a message comes in where there was none
+-- a message comes in where no message was
 pub begun_of : (now : Mailboxes) (k : Pid) (was new : List Meaning) (message : Meaning) → messages_in now k ≡ [] → was ≡ [] → new ≡ was ++ message ∷ [] → new ≡ messages_in now k ++ message ∷ []
 begun_of now k was new message none empty made = made ∙ ap (λ ms. ms ++ message ∷ []) (empty ∙ sym none)
 

@@ -1,7 +1,7 @@
 // A mailbox as the map holds it.
 ghost use Rattle.std.specs.Prelude.{◌≡◌, ◌<◌, [], ◌∷◌, ◌++◌, Some, IfOk, OnOk, OnErr, length, slice_get};
 ghost use Rattle.std.specs.List.{remove};
-ghost use Rattle.proc_signals.specs.Signal.{ref_of};
+ghost use Rattle.world_model.specs.Names.{ref_of};
 ghost use Rattle.term_core.specs.Term.{meaning_of};
 ghost use Rattle.world_model.specs.Changes.{is_of_watch, without_first};
 
@@ -10,7 +10,7 @@ use std::alloc::{AllocError, Global};
 use std::marker::Model;
 use term_core::{RefId, Term};
 
-/// A mailbox, of which a clone shares the messages. Contracts see its messages.
+/// A mailbox; a clone shares its messages. Contracts see its messages.
 #[derive(Drop)]
 pub(crate) struct Held {
     mailbox: Mailbox,

@@ -3,7 +3,7 @@ ghost use Rattle.std.specs.Prelude.{◌≡◌, ◌<◌, [], ◌∷◌, ◌++◌,
 ghost use Rattle.std.specs.List.{remove};
 ghost use Rattle.proc_mailboxes.specs.Mailboxes.{IsChangedAt, messages_in};
 ghost use Rattle.proc_signals.specs.Channels.{beside};
-ghost use Rattle.proc_signals.specs.Signal.{ref_of};
+ghost use Rattle.world_model.specs.Names.{ref_of};
 ghost use Rattle.term_core.specs.Term.{meaning_of};
 ghost use Rattle.world_model.specs.Changes.{is_of_watch, without_first};
 
@@ -65,8 +65,8 @@ impl MailboxMap {
         }
     }
 
-    /// A message comes in to a process, behind the others, or `AllocError` if there is no memory for it; then
-    /// the message is dropped.
+    /// A message comes in to a process, after the others, or `AllocError` if there is no memory for it; then the
+    /// message is dropped.
     pub(crate) fn put(&mut self, alloc: Global, pid: &Pid, message: Term) -> Result<(), AllocError>
         ensures ok { OnOk result (IsChangedAt pid.now (λ messages. messages ++ meaning_of message ∷ []) self.old self.new) }
         ensures err { OnErr result (self.new ≡ self.old) }
@@ -79,7 +79,7 @@ impl MailboxMap {
         Ok(())
     }
 
-    /// Begins the mailbox of a process with a message.
+    // Begins the mailbox of a process with a message.
     fn open(&mut self, alloc: Global, pid: &Pid, message: Term) -> Result<(), AllocError>
         requires { messages_in self.old pid.now ≡ [] }
         ensures ok { OnOk result (IsChangedAt pid.now (λ messages. messages ++ meaning_of message ∷ []) self.old self.new) }

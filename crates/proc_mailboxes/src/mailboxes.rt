@@ -1,15 +1,14 @@
 // The mailboxes of all processes: copies share them until one of them is changed.
-ghost use Rattle.std.specs.Prelude.{◌≡◌, ◌<◌, [], ◌∷◌, ◌++◌, IfOk, IfSome, OnOk, OnErr, None, true, length, option_and_then, option_copied, option_map, slice_get};
-ghost use Rattle.std.specs.List.{list_any, remove};
-ghost use Rattle.proc_mailboxes.specs.Mailboxes.{AreMailboxes, IsChangedAt, IsUnchanged, messages_in, messages_of};
+ghost use Rattle.std.specs.Prelude.{◌≡◌, ◌<◌, [], ◌∷◌, ◌++◌, IfOk, IfSome, OnOk, OnErr, None, length, option_and_then, option_copied, option_map, slice_get};
+ghost use Rattle.std.specs.List.{remove};
+ghost use Rattle.proc_mailboxes.specs.Mailboxes.{AreMailboxes, IsChangedAt, IsTakenFrom, IsUnchanged, messages_in, messages_of};
 ghost use Rattle.proc_signals.specs.Mailbox.{first_place};
-ghost use Rattle.proc_signals.specs.Signal.{ref_of};
 ghost use Rattle.term_core.specs.Term.{meaning_of};
 ghost use Rattle.world_model.specs.Cells.{Contents};
-ghost use Rattle.world_model.specs.Changes.{Mails, Picks, after, changed, is_of_watch, without_first};
+ghost use Rattle.world_model.specs.Changes.{MessageAdded, after, changed, is_of_watch, without_first};
 ghost use Rattle.world_model.specs.Mailboxes.{mailbox_in, picked, selected_of};
 ghost use Rattle.world_model.specs.Names as names;
-ghost use Rattle.world_model.specs.Names.{same_term};
+ghost use Rattle.world_model.specs.Names.{ref_of};
 
 use crate::mailbox_map::MailboxMap;
 use crate::same::Same;
@@ -73,12 +72,12 @@ impl Mailboxes {
         self.mailboxes.get(pid)
     }
 
-    /// A message comes in to a process, behind the others. `AllocError` if there is no memory: then nothing is
-    /// changed, and the message is dropped.
+    /// A message comes in to a process, after the others. `AllocError` if there is no memory: then nothing is changed,
+    /// and the message is dropped.
     pub fn put(&mut self, alloc: Global, pid: &Pid, message: Term) -> Result<(), AllocError>
         ensures ok { OnOk result (IsChangedAt pid.now (λ messages. messages ++ meaning_of message ∷ []) self.old self.new) }
         ensures mails { OnOk result ((v : Contents) → AreMailboxes self.old v →
-            AreMailboxes self.new (changed (Mails pid.now (meaning_of message)) v)) }
+            AreMailboxes self.new (changed (MessageAdded pid.now (meaning_of message)) v)) }
         ensures err { OnErr result (IsUnchanged self.old self.new) }
     {
         let mailboxes = Arc::make_mut(&mut self.mailboxes)?;
@@ -86,8 +85,8 @@ impl Mailboxes {
         Ok(())
     }
 
-    /// Where the oldest message of a process lies that is selected, if there is one, counted from 0 (Erlang
-    /// reference manual, "Expressions", "Receive"). `AllocError` where the selector has no memory to tell.
+    /// The place of the oldest message of a process that is selected, if there is one, counted from 0 (Erlang reference
+    /// manual, "Expressions", "Receive"). `AllocError` where the selector has no memory to decide.
     pub fn first<S: Selector>(
         &self,
         alloc: Global,
@@ -131,8 +130,7 @@ impl Mailboxes {
     /// Takes out the oldest message of a process that is the same as this one, if there is one. `AllocError` if there
     /// is no memory, and then nothing is changed.
     pub fn remove(&mut self, alloc: Global, pid: &Pid, message: &Term) -> Result<(), AllocError>
-        ensures picks { OnOk result ((v : Contents) → list_any (same_term (meaning_of message.now)) (mailbox_in v pid.now) ≡ true → AreMailboxes self.old v →
-            AreMailboxes self.new (changed (Picks pid.now (meaning_of message.now)) v)) }
+        ensures picks { OnOk result (IsTakenFrom pid.now (meaning_of message.now) self.old self.new) }
         ensures err { OnErr result (IsUnchanged self.old self.new) }
     {
         let selector = Same { message };
@@ -140,7 +138,7 @@ impl Mailboxes {
         Ok(())
     }
 
-    /// Takes out the message of a process at a place.
+    // Takes out the message of a process at a place.
     fn take_at(&mut self, pid: &Pid, place: usize) -> Result<Option<Term>, AllocError>
         requires { place < length (messages_in self.old pid.now) }
         ensures message { IfOk result (λ taken. option_map meaning_of taken ≡ slice_get (messages_in self.old pid.now) place) }

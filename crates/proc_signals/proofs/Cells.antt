@@ -6,7 +6,7 @@ use Rattle.term_core.specs.Meaning.{Meaning}
 use Rattle.world_model.proofs.MailboxLaws.{left_last, without_behind, selected_there, without_selected, without_none}
 use Rattle.world_model.proofs.Meeting.{both}
 use Rattle.world_model.specs.Cells.{Contents, Taken, Mailed, Front, Tail}
-use Rattle.world_model.specs.Changes.{changed, after, without_first, Mails, Picks, Puts, Fetches}
+use Rattle.world_model.specs.Changes.{changed, after, without_first, MessageAdded, MessageTaken, SignalPut, SignalDelivered}
 use Rattle.world_model.specs.Events.{Signal}
 use Rattle.world_model.specs.Mailboxes.{left_of, selected_of, picked}
 use Rattle.world_model.specs.Names.{Pid, same_pid, same_term}
@@ -36,24 +36,24 @@ picked_if true ms ts xs m there told =
 picked_if false ms ts xs m there told = told
 
 -- a message comes in at one process, and others have what they had
-pub mails_at : (p q : Pid) (m : Meaning) (ms : List Meaning) (v : Contents) → IsMailbox ms v q → IsMailbox (if same_pid p q then ms ++ (m ∷ []) else ms) (changed (Mails p m) v) q
+pub mails_at : (p q : Pid) (m : Meaning) (ms : List Meaning) (v : Contents) → IsMailbox ms v q → IsMailbox (if same_pid p q then ms ++ (m ∷ []) else ms) (changed (MessageAdded p m) v) q
 mails_at p q m ms v told =
     let now = mailed_if (same_pid p q) ms (v (Taken q)) (v (Mailed q)) m (told.left, told.behind) in
     record { left = now.0; behind = now.1 }
 
 -- a message that is there is taken
-pub picks_at : (p q : Pid) (m : Meaning) (ms : List Meaning) (v : Contents) → (same_pid p q ≡ true → list_any (same_term m) ms ≡ true) → IsMailbox ms v q → IsMailbox (if same_pid p q then without_first (same_term m) ms else ms) (changed (Picks p m) v) q
+pub picks_at : (p q : Pid) (m : Meaning) (ms : List Meaning) (v : Contents) → (same_pid p q ≡ true → list_any (same_term m) ms ≡ true) → IsMailbox ms v q → IsMailbox (if same_pid p q then without_first (same_term m) ms else ms) (changed (MessageTaken p m) v) q
 picks_at p q m ms v there told =
     let now = picked_if (same_pid p q) ms (v (Taken q)) (v (Mailed q)) m there (told.left, told.behind) in
     record { left = now.0; behind = now.1 }
 
-pub mails_follow : (p : Pid) (m : Meaning) (old new : List Meaning) (v : Contents) → new ≡ old ++ (m ∷ []) → IsMailbox old v p → IsMailbox new (changed (Mails p m) v) p
-mails_follow p m old new v is told = subst (λ ms. IsMailbox ms (changed (Mails p m) v) p) (chosen (same_pid p p) (old ++ (m ∷ [])) old (pid_itself p) ∙ sym is) (mails_at p p m old v told)
+pub mails_follow : (p : Pid) (m : Meaning) (old new : List Meaning) (v : Contents) → new ≡ old ++ (m ∷ []) → IsMailbox old v p → IsMailbox new (changed (MessageAdded p m) v) p
+mails_follow p m old new v is told = subst (λ ms. IsMailbox ms (changed (MessageAdded p m) v) p) (chosen (same_pid p p) (old ++ (m ∷ [])) old (pid_itself p) ∙ sym is) (mails_at p p m old v told)
 
 -- the first message of a selection is taken
-pub picks_selected : (test : Meaning → Bool) (p : Pid) (old new : List Meaning) (v : Contents) (m : Meaning) → selected_of test old ≡ Some m → new ≡ without_first test old → IsMailbox old v p → IsMailbox new (changed (Picks p m) v) p
+pub picks_selected : (test : Meaning → Bool) (p : Pid) (old new : List Meaning) (v : Contents) (m : Meaning) → selected_of test old ≡ Some m → new ≡ without_first test old → IsMailbox old v p → IsMailbox new (changed (MessageTaken p m) v) p
 picks_selected test p old new v m is at told =
-    subst (λ ms. IsMailbox ms (changed (Picks p m) v) p) (chosen (same_pid p p) (without_first (same_term m) old) old (pid_itself p) ∙ without_selected test old m is ∙ sym at) (picks_at p p m old v (λ same. selected_there test old m is) told)
+    subst (λ ms. IsMailbox ms (changed (MessageTaken p m) v) p) (chosen (same_pid p p) (without_first (same_term m) old) old (pid_itself p) ∙ without_selected test old m is ∙ sym at) (picks_at p p m old v (λ same. selected_there test old m is) told)
 
 -- what is found is taken, if it is
 pub picked_follows : (test : Meaning → Bool) (p : Pid) (old new : List Meaning) (v : Contents) (o : Option Meaning) → selected_of test old ≡ o → new ≡ without_first test old → IsMailbox old v p → IsMailbox new (after (picked p o) v) p
@@ -61,7 +61,7 @@ picked_follows test p old new v None is at told = subst (λ ms. IsMailbox ms v p
 picked_follows test p old new v (Some m) is at told = picks_selected test p old new v m is at told
 
 -- a message that was found is taken out
-pub picks_follow : (selects : Meaning → Bool) (p : Pid) (old new : List Meaning) (v : Contents) (n : ℕ) (x : Meaning) → first_place selects old ≡ Some n → slice_get old n ≡ Some x → new ≡ remove old n → IsMailbox old v p → IsMailbox new (changed (Picks p x) v) p
+pub picks_follow : (selects : Meaning → Bool) (p : Pid) (old new : List Meaning) (v : Contents) (n : ℕ) (x : Meaning) → first_place selects old ≡ Some n → slice_get old n ≡ Some x → new ≡ remove old n → IsMailbox old v p → IsMailbox new (changed (MessageTaken p x) v) p
 picks_follow selects p old new v n x first at rest told =
     picks_selected selects p old new v x (sym (place_selected selects old n first) ∙ at) (rest ∙ sym (place_removed selects old n first)) told
 
@@ -80,8 +80,8 @@ counted_if : (b : Bool) (n : ℕ) (t : List Signal) (x : Signal) → n ≤ lengt
 counted_if true n t x le = omega (arith, length-append t (x ∷ []))
 counted_if false n t x le = le
 
--- a signal that is put waits behind the others
-pub puts_follow : (v : Contents) (c d : Senders) (a b : Pid) (x : Signal) → IsChangedBetween a b (λ xs. xs ++ x ∷ []) c d → AreChannels c v → AreChannels d (changed (Puts a b x) v)
+-- a signal that is put waits after the others
+pub puts_follow : (v : Contents) (c d : Senders) (a b : Pid) (x : Signal) → IsChangedBetween a b (λ xs. xs ++ x ∷ []) c d → AreChannels c v → AreChannels d (changed (SignalPut a b x) v)
 puts_follow v c d a b x now told s r =
     let in_order = told s r in
     record {
@@ -117,8 +117,8 @@ at_same a b s r P here e =
     let parts = both (same_pid a s) (same_pid b r) e in
     subst (λ x. P x r) (pids_same a s parts.0) (subst (λ y. P a y) (pids_same b r parts.1) here)
 
--- the oldest that is taken waits no more
-pub fetches_follow : (v : Contents) (c d : Senders) (a b : Pid) (x : Signal) → IsChangedBetween a b (drop 1) c d → first_of (between c a b) ≡ Some x → AreChannels c v → AreChannels d (changed (Fetches a b) v)
+-- the oldest, once taken, no longer waits
+pub fetches_follow : (v : Contents) (c d : Senders) (a b : Pid) (x : Signal) → IsChangedBetween a b (drop 1) c d → first_of (between c a b) ≡ Some x → AreChannels c v → AreChannels d (changed (SignalDelivered a b) v)
 fetches_follow v c d a b x now some told s r =
     let in_order = told s r in
     record {
@@ -126,6 +126,6 @@ fetches_follow v c d a b x now some told s r =
       counted = fetched_if (same_pid a s && same_pid b r) (between c s r) (v (Front s r)) (v (Tail s r)) x in_order (at_same a b s r (λ p q. first_of (between c p q) ≡ Some x) some);
     }
 
-pub taken_follows : {S : Type 0} (f : S → Signal) (v : Contents) (c d : Senders) (a b : Pid) (taken : Option S) → IsChangedBetween a b (drop 1) c d → option_map f taken ≡ first_of (between c a b) → IsSome taken → AreChannels c v → AreChannels d (changed (Fetches a b) v)
+pub taken_follows : {S : Type 0} (f : S → Signal) (v : Contents) (c d : Senders) (a b : Pid) (taken : Option S) → IsChangedBetween a b (drop 1) c d → option_map f taken ≡ first_of (between c a b) → IsSome taken → AreChannels c v → AreChannels d (changed (SignalDelivered a b) v)
 taken_follows f v c d a b None now is some told = absurd cc
 taken_follows f v c d a b (Some x) now is some told = fetches_follow v c d a b (f x) now (sym is) told

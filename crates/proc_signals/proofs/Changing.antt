@@ -1,4 +1,4 @@
--- What the calls of a list of channels leave behind.
+-- What the calls of a list of channels leave.
 use Rattle.std.proofs.Common.{◌≡◌, ◌≢◌, ◌<◌, ◌≤◌, ℕ, List, [], ◌∷◌, ◌++◌, Some, length, get_or, drop, slice_set, insert, sym, ap, ◌∙◌, subst}
 use Rattle.std.proofs.lemmas.List.{set-get_or}
 use Rattle.std.specs.List.{AllWithin, HoldsAt, remove}
@@ -9,7 +9,7 @@ use Rattle.world_model.specs.Signals.{first_of}
 use Rattle.proc_signals.specs.Channels.{Senders, between, signals_in, IsChangedBetween, order_of_pairs}
 use Rattle.proc_signals.proofs.Places.{Channel, AreInOrder, between_at, set_changed, remove_changed, insert_changed, set_sorted, insert_sorted, remove_sorted}
 
--- the channel from s to r stands at a place of channels in order
+-- the channel from s to r is at a place of channels in order
 pub record IsAt (s r : Pid) (cs : Senders) (at : ℕ) (x : Channel) : Type 0 where
   pub within : at < length cs
   pub is : x ≡ get_or cs at x

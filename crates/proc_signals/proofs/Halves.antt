@@ -43,7 +43,7 @@ module _ {K X : Type 0} (R : K → K → Ordering) (es : List (K × X)) where
     abbrev pub is_earlier : K × X → Bool
     is_earlier e = is_lt (R e.0 key)
 
-    -- those that come before it stand before the others
+    -- those that are earlier come before the others
     pub parted : IsTotalOrder R → IsStrictlySortedBy R (keys_of es) → IsPartitionedBy is_earlier es
     parted total sorted i j d le within below = elim (cases_lt i j) [
       | inl lt ↦ ap is_lt (total.trans (get_or es i d).0 (get_or es j d).0 key (by_place sorted i j d lt within) (is_less (R (get_or es j d).0 key) below))

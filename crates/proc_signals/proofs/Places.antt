@@ -77,7 +77,7 @@ holds_at P [] at x within is all = absurd (omega arith)
 holds_at P (c ∷ cs) zero x within is all = subst (λ (y : Channel). P y.0) (sym is) all.0
 holds_at P (c ∷ cs) (suc at) x within is all = holds_at P cs at x (omega arith) is all.1
 
--- the first is not the pair that stands at a later place
+-- the first is not the pair that is at a later place
 is_other : (s r : Pid) (k : Pid × Pid) (cs : Senders) (at : ℕ) (x : Channel) → at < length cs → x ≡ get_or cs at x → x.0 ≡ (s, r) → AllByRecursion (λ j. order_of_pairs k j ≡ Less) (keys_of cs) → k ≡ (s, r) → ⊥
 is_other s r k cs at x within is pair all same =
     never_before k x.0 (holds_at (λ j. order_of_pairs k j ≡ Less) cs at x within is all) (same ∙ sym pair)
@@ -91,7 +91,7 @@ between_at s r (c ∷ cs) zero x within is pair sorted =
 between_at s r (c ∷ cs) (suc at) x within is pair sorted =
     if_not (is_pair c.0 s r) (signals_in c.1) (between cs s r) (fails c.0 s r (is_other s r c.0 cs at x (omega arith) is pair sorted.0)) ∙ between_at s r cs at x (omega arith) is pair sorted.1
 
--- where nothing is between a pair it is not the first, nor is anything behind the first
+-- where nothing is between a pair it is not the first, nor is anything after the first
 empty_if : (b : Bool) (xs rest : List Signal) → (xs ≡ [] → ⊥) → (if b then xs else rest) ≡ [] → (b ≡ false) × (rest ≡ [])
 empty_if true xs rest some none = absurd (some none)
 empty_if false xs rest some none = (refl, none)
@@ -121,7 +121,7 @@ module _ (f : List Signal → List Signal) (s r : Pid) where
   set_if true now was rest is = is
   set_if false now was rest is = refl
 
-  -- another channel of this pair stands at its place
+  -- another channel of this pair is at its place
   pub set_changed : (cs : Senders) (at : ℕ) (x y : Channel) → at < length cs → x ≡ get_or cs at x → x.0 ≡ (s, r) → y.0 ≡ x.0 → signals_in y.1 ≡ f (signals_in x.1) → AreInOrder cs → IsChangedBetween s r f cs (slice_set cs at y)
   unfolding IsStrictlySortedBy
   set_changed [] at x y within is pair same new sorted p q = absurd (omega arith)
@@ -138,7 +138,7 @@ module _ (f : List Signal → List Signal) (s r : Pid) where
   remove_if true was rest is = is refl
   remove_if false was rest is = refl
 
-  -- none of this pair stands there any more
+  -- none of this pair is there any more
   pub remove_changed : (cs : Senders) (at : ℕ) (x : Channel) → at < length cs → x ≡ get_or cs at x → x.0 ≡ (s, r) → f (signals_in x.1) ≡ [] → AreInOrder cs → IsChangedBetween s r f cs (remove cs at)
   unfolding IsStrictlySortedBy
   remove_changed [] at x within is pair none sorted p q = absurd (omega arith)
@@ -222,7 +222,7 @@ insert_sorted (c ∷ cs) (suc at) x within below above none sorted = (
 
 -- ---- where a pair has no channel
 
--- between a pair is nothing where its channel does not stand at the place that is found
+-- between a pair is nothing where its channel is not at the place that is found
 pub none_found : (s r : Pid) (cs : Senders) (at : ℕ) → at ≤ length cs → AllWithin (λ c. order_of_pairs c.0 (s, r) ≡ Less) cs 0 at → (at < length cs → HoldsAt (λ c. order_of_pairs c.0 (s, r) ≢ Less) cs at) → (at < length cs → HoldsAt (λ c. is_pair c.0 s r ≡ false) cs at) → AreInOrder cs → between cs s r ≡ []
 unfolding IsStrictlySortedBy
 none_found s r [] zero within before behind other sorted = refl

@@ -30,7 +30,7 @@ some_same x y e = cc
 more : (k : ℕ) → suc k ≡ k + 1
 more k = omega arith
 
--- what is shown of the first place is shown by cases: it is the head, or a place behind it
+-- what is shown of the first place is shown by cases: it is the head, or a place after it
 first_if : (P : ℕ → Type 0) (b : Bool) (o : Option ℕ) (n : ℕ) → (if b then Some 0 else Later o) ≡ Some n → (b ≡ true → P 0) → (b ≡ false → (k : ℕ) → o ≡ Some k → P (suc k)) → P n
 first_if P true o n is here behind = subst P (some_same 0 n is) (here refl)
 first_if P false None n is here behind = absurd cc

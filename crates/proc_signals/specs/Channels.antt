@@ -9,7 +9,7 @@ use Rattle.world_model.specs.Cells.{Contents, Front, Tail}
 use Rattle.world_model.specs.Events.{Signal}
 use Rattle.world_model.specs.Names.{Pid, same_pid}
 
--- what stands beside a process
+-- what is listed with a process
 abbrev pub beside : {X : Type 0} → List (Pid × X) → Pid → Option X
 beside es p = lookup (is_at (order_of_lists p)) es
 
@@ -34,7 +34,7 @@ abbrev pub IsChangedBetween : Pid → Pid → (List Signal → List Signal) → 
 IsChangedBetween p q f before after =
     (s r : Pid) → between after s r ≡ (if same_pid p s && same_pid q r then f (between before s r) else between before s r)
 
--- these signals wait in a channel, of which so many were delivered and these were put: no more than were put
+-- these signals wait in a channel, where so many were delivered and these were put: at most as many as were put
 pub record AreWaiting (signals : List Signal) (front : ℕ) (tail : List Signal) : Type 0 where
   pub waiting : signals ≡ drop front tail
   pub counted : front ≤ length tail

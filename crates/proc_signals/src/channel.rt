@@ -12,8 +12,8 @@ use std::marker::Model;
 use std::sync::Arc;
 use term_core::Pid;
 
-/// A channel that is not empty, of which a copy shares the signals. Contracts see its sender and its receiver,
-/// and then its signals.
+/// A channel that is not empty. A copy shares the signals. Contracts see its sender and its receiver, and then its
+/// signals.
 #[derive(Drop)]
 pub(crate) struct Channel {
     from: Pid,
@@ -108,8 +108,7 @@ impl Channel {
         self.queue.is_single()
     }
 
-    /// Puts a signal behind the others, or `AllocError` if there is no memory for it; then the signal is
-    /// dropped.
+    /// Puts a signal after the others, or `AllocError` if there is no memory for it; then the signal is dropped.
     pub(crate) fn push(&mut self, signal: Signal) -> Result<(), AllocError>
         ensures pair { self.new.0 ≡ self.old.0 }
         ensures ok { OnOk result (self.new.1 ≡ (self.old.1.0, self.old.1.1 ++ signal_of signal ∷ [])) }

@@ -1,7 +1,7 @@
 // The channels between processes.
 ghost use Rattle.std.specs.Prelude.{◌≡◌, [], ◌∷◌, ◌++◌, drop, IfOk, IsSome, OnOk, OnErr, option_map, None, ◌↔◌, ◌≢◌};
 ghost use Rattle.world_model.specs.Cells.{Contents};
-ghost use Rattle.world_model.specs.Changes.{changed, Puts, Fetches};
+ghost use Rattle.world_model.specs.Changes.{changed, SignalPut, SignalDelivered};
 ghost use Rattle.world_model.specs.Names.{Pid as PidSeen, IsAmong};
 ghost use Rattle.world_model.specs.Signals.{first_of};
 ghost use Rattle.proc_signals.specs.Channels.{between, IsChangedBetween, AreChannels, order_of_pairs};
@@ -69,9 +69,9 @@ impl Channels {
         self.senders.front(from, to)
     }
 
-    /// Puts a signal behind those on their way from one process to another: signals between two processes
-    /// arrive in the order in which they were sent. `AllocError` if there is no memory for it: then the
-    /// channels are as they were, and the signal is dropped.
+    /// Puts a signal after those on their way from one process to another: signals between two processes arrive in the
+    /// order in which they were sent. `AllocError` if there is no memory for it: then the channels are as they were,
+    /// and the signal is dropped.
     #[tactic(auto, using(crate::proofs::Cells::puts_follow))]
     pub fn send(
         &mut self,
@@ -82,7 +82,7 @@ impl Channels {
     ) -> Result<(), AllocError>
         ensures ok { OnOk result (IsChangedBetween from.now to.now (λ signals. signals ++ signal_of signal ∷ []) self.old self.new) }
         ensures puts { OnOk result ((v : Contents) →
-            AreChannels self.old v → AreChannels self.new (changed (Puts from.now to.now (signal_of signal)) v)) }
+            AreChannels self.old v → AreChannels self.new (changed (SignalPut from.now to.now (signal_of signal)) v)) }
         ensures err { OnErr result (self.new ≡ self.old) }
     {
         let senders = Arc::make_mut(&mut self.senders)?;
@@ -96,7 +96,7 @@ impl Channels {
         ensures taken { IfOk result (λ taken. option_map signal_of taken ≡ first_of (between self.old from.now to.now)) }
         ensures ok { OnOk result (IsChangedBetween from.now to.now (drop 1) self.old self.new) }
         ensures fetches { IfOk result (λ taken. (v : Contents) → IsSome taken →
-            AreChannels self.old v → AreChannels self.new (changed (Fetches from.now to.now) v)) }
+            AreChannels self.old v → AreChannels self.new (changed (SignalDelivered from.now to.now) v)) }
         ensures none { IfOk result (λ taken. taken ≡ None → self.new ≡ self.old) }
         ensures err { OnErr result (self.new ≡ self.old) }
     {

@@ -4,11 +4,10 @@ ghost use Rattle.std.specs.List.{remove};
 ghost use Rattle.term_core.specs.Meaning.{Meaning};
 ghost use Rattle.term_core.specs.Term.{meaning_of};
 ghost use Rattle.world_model.specs.Cells.{Contents};
-ghost use Rattle.world_model.specs.Changes.{Mails, Picks, after, changed, without_first, is_of_watch};
+ghost use Rattle.world_model.specs.Changes.{MessageAdded, after, changed, without_first, is_of_watch};
 ghost use Rattle.world_model.specs.Mailboxes.{mailbox_in, picked, selected_of};
-ghost use Rattle.world_model.specs.Names.{Pid as PidSeen};
-ghost use Rattle.proc_signals.specs.Mailbox.{first_place, IsMailbox};
-ghost use Rattle.proc_signals.specs.Signal.{ref_of};
+ghost use Rattle.world_model.specs.Names.{Pid as PidSeen, ref_of};
+ghost use Rattle.proc_signals.specs.Mailbox.{first_place, IsMailbox, IsTakenAt};
 
 use crate::messages::Messages;
 use std::alloc::{AllocError, Global};
@@ -23,7 +22,7 @@ pub trait Selector {
 
     ghost takes: { Self → Meaning → Bool };
 
-    /// Whether it takes this message, or `AllocError` if that cannot be found out for want of memory.
+    /// Whether it takes this message, or `AllocError` if that cannot be determined for lack of memory.
     fn selects(&self, alloc: Global, message: &Term) -> Result<bool, AllocError>
         ensures { IfOk result (λ selected. selected ≡ takes self.now (meaning_of message.now)) };
 }
@@ -88,13 +87,13 @@ impl Mailbox {
         self.messages.get(place)
     }
 
-    /// A message comes in, behind the others (Erlang reference manual, "Processes", "Delivery of Signals"), or
+    /// A message comes in, after the others (Erlang reference manual, "Processes", "Delivery of Signals"), or
     /// `AllocError` if there is no memory for it: then the mailbox is as it was, and the message is dropped.
     #[tactic(auto, using(crate::proofs::Cells::mails_follow))]
     pub fn put(&mut self, message: Term) -> Result<(), AllocError>
         ensures ok { OnOk result (self.new ≡ self.old ++ meaning_of message ∷ []) }
         ensures mails { OnOk result ((v : Contents) (p : PidSeen) →
-            IsMailbox self.old v p → IsMailbox self.new (changed (Mails p (meaning_of message)) v) p) }
+            IsMailbox self.old v p → IsMailbox self.new (changed (MessageAdded p (meaning_of message)) v) p) }
         ensures err { OnErr result (self.new ≡ self.old) }
     {
         let messages = Arc::make_mut(&mut self.messages)?;
@@ -102,8 +101,8 @@ impl Mailbox {
         Ok(())
     }
 
-    /// Where the oldest message lies that is selected, if there is one, counted from 0 (Erlang reference
-    /// manual, "Expressions", "Receive"). `AllocError` where the selector has no memory to tell.
+    /// The place of the oldest message that is selected, if there is one, counted from 0 (Erlang reference manual,
+    /// "Expressions", "Receive"). `AllocError` where the selector has no memory to decide.
     #[tactic(auto, using(crate::proofs::Removing::found_selected, crate::proofs::Removing::found_within))]
     pub fn find_match<S: Selector>(
         &self,
@@ -125,9 +124,7 @@ impl Mailbox {
         requires { place < length self.old }
         ensures message { IfOk result (λ message. slice_get self.old place ≡ Some (meaning_of message)) }
         ensures rest { OnOk result (self.new ≡ remove self.old place) }
-        ensures picks { IfOk result (λ message. (selects : Meaning → Bool) (v : Contents) (p : PidSeen) →
-            first_place selects self.old ≡ Some place → IsMailbox self.old v p →
-            IsMailbox self.new (changed (Picks p (meaning_of message)) v) p) }
+        ensures picks { IfOk result (λ message. IsTakenAt place (meaning_of message) self.old self.new) }
         ensures err { OnErr result (self.new ≡ self.old) }
     {
         let messages = Arc::make_mut(&mut self.messages)?;

@@ -3,9 +3,8 @@ ghost use Rattle.std.specs.Prelude.{◌≡◌, ◌<◌, [], ◌∷◌, ◌++◌,
 ghost use Rattle.std.specs.List.{remove};
 ghost use Rattle.term_core.specs.Term.{meaning_of};
 ghost use Rattle.proc_signals.specs.Mailbox.{first_place};
-ghost use Rattle.proc_signals.specs.Signal.{ref_of};
 ghost use Rattle.world_model.specs.Changes.{is_of_watch as is_watch_message, has_second as is_second};
-ghost use Rattle.world_model.specs.Names.{same_term};
+ghost use Rattle.world_model.specs.Names.{same_term, ref_of};
 ghost use Rattle.world_model.specs.Terms.{reference as ref_meaning};
 
 use crate::mailbox::Selector;
@@ -71,8 +70,7 @@ impl Messages {
         self.items.get(place)
     }
 
-    /// Puts a message behind the others, or `AllocError` if there is no memory for it; then the message is
-    /// dropped.
+    /// Puts a message after the others, or `AllocError` if there is no memory for it; then the message is dropped.
     pub(crate) fn put(&mut self, message: Term) -> Result<(), AllocError>
         ensures ok { OnOk result (self.new ≡ self.old ++ meaning_of message ∷ []) }
         ensures err { OnErr result (self.new ≡ self.old) }
@@ -120,7 +118,7 @@ impl Messages {
     }
 }
 
-/// Whether a message is a tuple of five with this reference second, as that of a watch is.
+// Whether a message is a tuple of five with this reference second, as that of a watch is.
 fn is_of_watch(message: &Term, reference: &RefId) -> bool
     ensures { result ≡ is_watch_message (ref_of reference.now) (meaning_of message.now) }
 {
@@ -130,7 +128,7 @@ fn is_of_watch(message: &Term, reference: &RefId) -> bool
     }
 }
 
-/// Whether these are five, and the second is this reference.
+// Whether these are five, and the second is this reference.
 #[tactic(auto, using(crate::proofs::Downs::second_of_five, crate::proofs::Downs::not_five))]
 fn has_second(parts: &[Term], reference: &RefId) -> bool
     ensures { result ≡ is_second (ref_of reference.now) (map meaning_of parts.now) }
@@ -141,7 +139,7 @@ fn has_second(parts: &[Term], reference: &RefId) -> bool
     is_reference(&parts[1], reference)
 }
 
-/// Whether a term is this reference.
+// Whether a term is this reference.
 fn is_reference(term: &Term, reference: &RefId) -> bool
     ensures { result ≡ same_term (ref_meaning (ref_of reference.now)) (meaning_of term.now) }
 {

@@ -70,8 +70,7 @@ impl Queue {
         self.later.is_empty()
     }
 
-    /// Puts a signal behind the others, or `AllocError` if there is no memory for it; then the signal is
-    /// dropped.
+    /// Puts a signal after the others, or `AllocError` if there is no memory for it; then the signal is dropped.
     pub(crate) fn push(&mut self, signal: Signal) -> Result<(), AllocError>
         ensures ok { OnOk result (self.new ≡ (self.old.0, self.old.1 ++ signal_of signal ∷ [])) }
         ensures err { OnErr result (self.new ≡ self.old) }

@@ -14,7 +14,7 @@ use std::cmp::Ordering;
 use std::marker::Model;
 use term_core::Pid;
 
-/// How many channels are looked through from the front; where there are more, one is found by halves.
+/// How many channels are looked through from the front; where there are more, one is found by binary search.
 const FEW: usize = 8;
 
 /// The channels that are not empty, by sender and then by receiver. Contracts see each under its sender and
@@ -54,7 +54,7 @@ impl Clone for Senders {
     }
 }
 
-/// Where the channel from one process to another stands or is put in: behind those that come before it.
+// Where the channel from one process to another is or is put in: after those that come before it.
 fn room_of(channels: &[Channel], from: &Pid, to: &Pid) -> usize
     requires { IsStrictlySortedBy order_of_pairs (keys_of channels.now) }
     ensures within { result ≤ length channels.now }
@@ -64,7 +64,7 @@ fn room_of(channels: &[Channel], from: &Pid, to: &Pid) -> usize
     channels.partition_point(|channel| channel.is_before(from, to))
 }
 
-/// Where the channel from one process to another stands, if it is not empty, found by halves.
+// Where the channel from one process to another is, if it is not empty, found by binary search.
 fn place_by_halves(channels: &[Channel], from: &Pid, to: &Pid) -> Option<usize>
     requires { IsStrictlySortedBy order_of_pairs (keys_of channels.now) }
     ensures within { IfSome result (λ at. at < length channels.now) }
@@ -78,7 +78,7 @@ fn place_by_halves(channels: &[Channel], from: &Pid, to: &Pid) -> Option<usize>
     None
 }
 
-/// Where the channel from one process to another stands, if it is not empty.
+// Where the channel from one process to another is, if it is not empty.
 fn place_of(channels: &[Channel], from: &Pid, to: &Pid) -> Option<usize>
     requires { IsStrictlySortedBy order_of_pairs (keys_of channels.now) }
     ensures within { IfSome result (λ at. at < length channels.now) }
@@ -117,8 +117,8 @@ impl Senders {
         }
     }
 
-    /// Puts a signal behind those on their way from one process to another, or `AllocError` if there is no
-    /// memory for it.
+    /// Puts a signal after those on their way from one process to another, or `AllocError` if there is no memory for
+    /// it.
     pub(crate) fn send(
         &mut self,
         alloc: Global,
@@ -137,7 +137,7 @@ impl Senders {
         Ok(())
     }
 
-    /// Begins the channel from one process to another with a signal.
+    // Begins the channel from one process to another with a signal.
     fn open(
         &mut self,
         alloc: Global,

@@ -1,4 +1,4 @@
--- Texts in pieces: fronts, one behind another, and cuts at marks.
+-- Texts in pieces: fronts, one after another, and cuts at marks.
 use Rattle.std.proofs.Common.{◌≡◌, ◌==◌, ℕ, Bool, true, false, List, [], ◌∷◌, ◌++◌, length, ap, sym, refl, ◌∙◌, subst, arith, append_assoc, eqb-true, one-add}
 use Rattle.std.proofs.lemmas.Bool.{eq-eqb}
 use Rattle.std.proofs.lemmas.List.{append_cancel_left}
@@ -7,11 +7,11 @@ use Rattle.report_reader.specs.inside.Reading.{HasNoFront, HasNoMark, IsCut, Lac
 
 -- ---- fronts
 
--- what stands behind a front is known
+-- what follows a front is determined
 pub same_behind : (a mid more text : List ℕ) → text ≡ a ++ mid → text ≡ a ++ more → mid ≡ more
 same_behind a mid more text e f = append_cancel_left a mid more (sym e ∙ f)
 
--- one front behind another
+-- one front after another
 pub joined : (a b text mid rest : List ℕ) → text ≡ a ++ mid → mid ≡ b ++ rest → text ≡ (a ++ b) ++ rest
 joined a b text mid rest e f = e ∙ ap (λ w. a ++ w) f ∙ sym (append_assoc a b rest)
 

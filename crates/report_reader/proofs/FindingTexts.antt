@@ -5,10 +5,10 @@ use Rattle.term_core.specs.Schedule.{AreLawful}
 use Rattle.term_core.specs.Text.{text_of_schedule}
 use Rattle.term_core.specs.declared.step.Step.{Step}
 use Rattle.world_model.specs.Shown.{Identity}
-use Rattle.coverage.specs.Findings.{Finding}
-use Rattle.identity_reader.specs.Lawful.{IsLawfulIdentity, MayRefuse, height_in}
-use Rattle.identity_reader.specs.declared.fault.IdentityFault.{IdentityFault}
-use Rattle.identity_reader.specs.declared.fault.IdentityFault.TheVariants as faults
+use Rattle.tree_coverage.specs.Findings.{Finding}
+use Rattle.report_identities.specs.Lawful.{IsLawfulIdentity, MayRefuse, height_in}
+use Rattle.report_identities.specs.declared.fault.IdentityFault.{IdentityFault}
+use Rattle.report_identities.specs.declared.fault.IdentityFault.TheVariants as faults
 use Rattle.report_text.specs.IdentityText.{text_of_identity}
 use Rattle.report_reader.specs.declared.fault.Stop.{Stop}
 use Rattle.report_reader.specs.declared.fault.Stop.TheVariants.{Bad, Deep, Memory}
@@ -67,7 +67,7 @@ schedule_read text inside line rest s front cut lawful is one = record {
 
 -- ---- both
 
--- what stands behind the number of a finding
+-- what follows the number of a finding
 abbrev pub lines_of : Finding → List ℕ → List ℕ
 lines_of f rest = text_of_identity f.identity ++ 10 ∷ (codes "  " ++ (text_of_schedule f.schedule ++ 10 ∷ rest))
 

@@ -3,7 +3,7 @@ use Rattle.std.proofs.Common.{◌≡◌, ℕ, zero, suc, ◌<◌, ◌^◌, List,
 use Rattle.std.proofs.lemmas.Fmt.{decimal_injective}
 use Rattle.std.proofs.lemmas.List.{append_cancel_left, append_cancel_right}
 use Rattle.std.specs.Fmt.{decimal}
-use Rattle.findings.specs.declared.outcome.Cause.TheVariants as causes
+use Rattle.tree_findings.specs.declared.outcome.Cause.TheVariants as causes
 use Rattle.report_text.specs.ReportText.{text_of_nodes}
 use Rattle.report_reader.specs.declared.first_line.Reach.{Reach}
 use Rattle.report_reader.specs.declared.first_line.Reach.TheVariants.{Whole, Stopped}

@@ -1,11 +1,11 @@
 -- Fronts in several parts, and the last two lines of a report.
 use Rattle.std.proofs.Common.{◌≡◌, ℕ, Bool, true, false, if◌then◌else◌, List, [], ◌++◌, Option, Some, None, MatchOption, codes, ap, sym, ◌∙◌}
 use Rattle.std.specs.Fmt.{decimal}
-use Rattle.excuses.specs.Excuses.{Excuses, are_any}
+use Rattle.tree_excuses.specs.Excuses.{Excuses, are_any}
 use Rattle.report_reader.specs.inside.Reading.{HasNoFront, normal_told}
 use Rattle.report_reader.proofs.Cuts.{joined, no_second}
 
--- a second front behind the first
+-- a second front after the first
 pub two_fronts : {V : Type 0} (now : V → List ℕ) (a b text mid : List ℕ) (found : Option V) → text ≡ a ++ mid → MatchOption found (HasNoFront b mid) (λ r. mid ≡ b ++ now r)
     → MatchOption found (HasNoFront (a ++ b) text) (λ r. text ≡ (a ++ b) ++ now r)
 two_fronts now a b text mid None front none = no_second a b text mid front none

@@ -5,9 +5,9 @@ use Rattle.std.specs.List.{AllByRecursion, flat_map}
 use Rattle.core_calls.specs.Calls.{signature}
 use Rattle.core_calls.specs.declared.call.CallKind.{CallKind}
 use Rattle.core_calls.specs.declared.call.CallKind.TheVariants.{Spawn, SpawnLink, SpawnMonitor, Bang, Send, Exit, Link, Unlink, Monitor, Demonitor, DemonitorWith, ProcessFlag, Register, Unregister, Whereis, IsProcessAlive, MakeRef, New, Lookup, Member, LookupElement, First, Last, Next, Prev, TableToList, Insert, InsertNew, DeleteTable, DeleteKey, DeleteObject, DeleteAllObjects, Take, UpdateCounter, UpdateElement, GiveAway, SetOptions, Info}
-use Rattle.coverage.specs.Identities.{number_of_rule}
-use Rattle.identity_reader.specs.Lawful.{IsLawfulIdentity}
-use Rattle.report_text.specs.CallText.{name_of_rule, text_of_arguments, text_of_broken_rule, text_of_call, text_of_owner, text_of_rule}
+use Rattle.world_identities.specs.Order.{number_of_rule}
+use Rattle.report_identities.specs.Lawful.{IsLawfulIdentity}
+use Rattle.world_event_text.specs.CallText.{name_of_rule, text_of_arguments, text_of_broken_rule, text_of_call, text_of_owner, text_of_rule}
 use Rattle.report_text.specs.IdentityText.{pid_behind_blank, text_of_identity}
 use Rattle.term_core.proofs.NumberTexts.{IsDigit, all_digits-decimal}
 use Rattle.term_core.proofs.PidTexts.{lacks-pid}

@@ -1,4 +1,4 @@
--- Lists of findings: what comes last, what stands in the middle, and what a filter keeps.
+-- Lists of findings: what comes last, what is in the middle, and what a filter keeps.
 use Rattle.std.proofs.Common.{◌≡◌, ◌↔◌, ◌⊎◌, inl, inr, ⊎_elim, ◌&&◌, ℕ, suc, ◌+◌, ◌-◌, ◌<◌, Bool, true, false, cond, not, List, [], ◌∷◌, ◌++◌, length, map, get_or, filter, ap, subst, sym, refl, ◌∙◌, arith, append_assoc}
 use Rattle.std.specs.List.{AllByRecursion}
 use Rattle.std.specs.Ordering.{is_gt, is_lt}
@@ -10,12 +10,12 @@ use Rattle.term_core.specs.StepOrder.{order_of_schedules}
 use Rattle.term_core.specs.declared.step.Step.{Step}
 use Rattle.world_model.specs.Names.{IsAmong}
 use Rattle.world_model.specs.Shown.{Identity}
-use Rattle.coverage.proofs.IdentityOrder.{identities_total, same_identity}
-use Rattle.coverage.specs.Findings.{Finding, LeadsAll, AreSorted, lesser, put_before, with_finding}
-use Rattle.coverage.specs.Identities.{order_of_identities}
-use Rattle.findings.proofs.Putting.{merged_after, merged_comm, put_greater, put_less, turned}
-use Rattle.findings.proofs.Sorting.{sorted_with}
-use Rattle.findings.specs.Merging.{merged}
+use Rattle.world_identities.specs.inside.OrderLaws.{identities_total, same_identity}
+use Rattle.tree_coverage.specs.Findings.{Finding, LeadsAll, AreSorted, lesser, put_before, with_finding}
+use Rattle.world_identities.specs.Order.{order_of_identities}
+use Rattle.tree_findings.proofs.Putting.{merged_after, merged_comm, put_greater, put_less, turned}
+use Rattle.tree_findings.proofs.Sorting.{sorted_with}
+use Rattle.tree_findings.specs.Merging.{merged}
 use Rattle.report_text.specs.ReportText.{findings_from, text_of_finding}
 use Rattle.report_reader.specs.Lawful.{AreLawfulFindings, IsLawfulFinding}
 use Rattle.report_reader.specs.inside.Reading.{AllComeBefore}
@@ -80,7 +80,7 @@ last_decides v xs x fs i o b are sorted some e is tells =
       λ all. tells ∙ ap is_lt (is ∙ all_next (λ (g : Finding). order_of_identities g.identity i ≡ Less) last.0 (v x) [] (subst (λ (gs : List Finding). AllComeBefore gs i) parts all)),
     )
 
--- ---- what stands in the middle
+-- ---- what is in the middle
 
 leads_next : (f h : Finding) (gs hs : List Finding) → LeadsAll f (gs ++ h ∷ hs) → order_of_identities f.identity h.identity ≡ Less
 leads_next f h [] hs leads = leads.0
@@ -213,7 +213,7 @@ merged_lawful test fs gs h k = record {
   pass = all_merged (λ f. test f.identity ≡ true) (λ g m p q. q) fs gs h.pass k.pass;
 }
 
--- the two parts of findings in order come to them again
+-- the two parts of findings in order result in them again
 pub merged_parts : (test : Identity → Bool) (fs : List Finding) → AreSorted fs → merged (filter (λ f. not (test f.identity)) fs) (filter (λ f. test f.identity) fs) ≡ fs
 merged_parts test [] sorted = refl
 merged_parts test (f ∷ fs) sorted = go (test f.identity) (ap (with_finding f) (merged_parts test fs sorted.1) ∙ leads_first f fs sorted.0)

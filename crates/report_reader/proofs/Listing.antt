@@ -4,8 +4,8 @@ use Rattle.std.specs.Fmt.{decimal}
 use Rattle.term_core.specs.Text.{text_of_schedule}
 use Rattle.world_model.specs.Names.{IsAmong}
 use Rattle.world_model.specs.Shown.{Flags}
-use Rattle.coverage.specs.Findings.{Finding, with_finding}
-use Rattle.excuses.specs.Excuses.{Excuses}
+use Rattle.tree_coverage.specs.Findings.{Finding, with_finding}
+use Rattle.tree_excuses.specs.Excuses.{Excuses}
 use Rattle.report_text.specs.IdentityText.{text_of_identity}
 use Rattle.report_text.specs.ReportText.{findings_from, text_of_finding}
 use Rattle.report_reader.specs.Lawful.{AreLawfulFindings, HasHigh, IsLawfulFinding}
@@ -40,7 +40,7 @@ next_read kind flags x fs text rest f read one before = record {
   only = λ g more s. read.only g more s.finding;
 }
 
--- ---- the text of one finding, and of those behind it
+-- ---- the text of one finding, and of those after it
 
 one_text : (word : List ℕ) (n : ℕ) (f : Finding) (rest : List ℕ) → text_of_finding word n f ++ rest ≡ (word ++ codes " ") ++ (number_of n ++ lines_of f rest)
 one_text word n f rest =

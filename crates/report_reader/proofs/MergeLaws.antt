@@ -1,13 +1,13 @@
--- What outcomes come to: lawful outcomes, in any order, in any grouping.
+-- What outcomes result in: lawful outcomes, in any order, in any grouping.
 use Rattle.std.proofs.Common.{◌≡◌, inl, ⊎_elim, ℕ, ◌+◌, ◌<◌, ◌≤◌, ◌^◌, ap, sym, refl, ◌∙◌, arith}
 use Rattle.std.proofs.lemmas.Bool.{cases_lt}
 use Rattle.world_model.specs.Shown.{is_error, is_refusal}
-use Rattle.findings.proofs.Putting.{merged_comm}
-use Rattle.findings.proofs.Schedules.{any_grouping}
-use Rattle.findings.specs.Merging.{merged_findings}
-use Rattle.findings.specs.declared.extent.Extent.{Extent}
-use Rattle.findings.specs.declared.outcome.Outcome.{Outcome}
-use Rattle.findings.specs.declared.outcome.Outcome.TheVariants.{Complete, Incomplete}
+use Rattle.tree_findings.proofs.Putting.{merged_comm}
+use Rattle.tree_findings.proofs.Schedules.{any_grouping}
+use Rattle.tree_findings.specs.Merging.{merged_findings}
+use Rattle.tree_findings.specs.declared.extent.Extent.{Extent}
+use Rattle.tree_findings.specs.declared.outcome.Outcome.{Outcome}
+use Rattle.tree_findings.specs.declared.outcome.Outcome.TheVariants.{Complete, Incomplete}
 use Rattle.report_text.specs.ReportText.{findings_in}
 use Rattle.report_reader.specs.Lawful.{IsLawfulExtent}
 use Rattle.report_reader.specs.Merged.{AreTooMany, GroupingDoesNotMatter, MergedAreLawful, OrderDoesNotMatter, merged_outcome, sum_of}

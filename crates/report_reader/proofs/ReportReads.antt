@@ -1,10 +1,10 @@
 -- What is read of a report.
 use Rattle.std.proofs.Common.{◌≡◌, inl, inr, ⊎_elim, Bool, filter, ℕ, List, ◌++◌, ap, sym, ◌∙◌, subst}
 use Rattle.world_model.specs.Shown.{Flags}
-use Rattle.coverage.specs.Findings.{Finding}
-use Rattle.excuses.specs.Excuses.{Excuses, stands}
-use Rattle.excuses.specs.declared.standing.Standing.TheVariants as standings
-use Rattle.findings.specs.declared.outcome.Outcome.{Outcome}
+use Rattle.tree_coverage.specs.Findings.{Finding}
+use Rattle.tree_excuses.specs.Excuses.{Excuses, stands}
+use Rattle.tree_excuses.specs.declared.standing.Standing.TheVariants as standings
+use Rattle.tree_findings.specs.declared.outcome.Outcome.{Outcome}
 use Rattle.report_text.specs.ReportText.{findings_in, text_of_report}
 use Rattle.report_reader.specs.Lawful.{HasHigh, IsLawfulOutcome, IsTooHigh, MayRefuse}
 use Rattle.report_reader.specs.declared.fault.ReportFault.{ReportFault}
@@ -30,7 +30,7 @@ module _ (flags : Flags) (x : Excuses) (text : List ℕ) where
       let same = (errors.only l.errors s.second s.errors).1 in
       carried stop (HasHigh l.refusals) (ListsAreHigh l) (λ high. inr (inl high)) (none l.refusals s.third (subst (λ w. SaysFindings Refusal flags x w l.refusals s.third) (sym same) s.refusals))
 
-  -- the refusals that the text says behind the errors
+  -- the refusals that the text says after the errors
   second_list : (es rs : List Finding) (second third : List ℕ) → IsRead (SaysFindings Error flags x text) es second → IsRead (SaysFindings Refusal flags x second) rs third
       → (l : Lists) (rest : List ℕ) (s : SaysLists flags x text l rest) → (rs ≡ l.refusals) × (third ≡ s.third)
   second_list es rs second third errors refusals l rest s =
@@ -75,7 +75,7 @@ module _ (depth : ℕ) (flags : Flags) (x : Excuses) (text : List ℕ) where
       let same = (read.only (reach_of o) p.first p.reach_said).1 in
       carried stop (ListsAreHigh (lists_of x o)) (IsTooHigh o) (too_high x o) (none (lists_of x o) p.second (subst (λ w. SaysLists flags x w (lists_of x o) p.second) (sym same) p.lists_said))
 
-  -- what was read of the report that the text says, and where its end stands
+  -- what was read of the report that the text says, and where its end is
   record IsOf (reach : Reach) (l : Lists) (second : List ℕ) (o : Outcome) (rest : List ℕ) : Type 0 where
     far : reach ≡ reach_of o
     listed : l ≡ lists_of x o

@@ -1,13 +1,13 @@
--- The text of a report, piece by piece, and what its pieces come to.
+-- The text of a report, piece by piece, and what its pieces result in.
 use Rattle.std.proofs.Common.{◌≡◌, ◌==◌, ◌&&◌, ℕ, zero, suc, Bool, true, false, not, if◌then◌else◌, List, [], ◌∷◌, ◌++◌, length, codes, ap, sym, refl, ◌∙◌, arith, append_assoc, ne_eqb}
 use Rattle.std.specs.Fmt.{decimal}
 use Rattle.std.specs.List.{AllByRecursion}
 use Rattle.world_model.specs.Shown.{Identity, Flags, is_error, is_refusal}
-use Rattle.coverage.specs.Findings.{Finding}
-use Rattle.excuses.specs.Excuses.{Excuses, counted, counts, is_excused, is_normal, taken}
-use Rattle.findings.specs.Merging.{merged}
-use Rattle.findings.specs.declared.outcome.Outcome.{Outcome}
-use Rattle.findings.specs.declared.outcome.Outcome.TheVariants.{Complete, Incomplete}
+use Rattle.tree_coverage.specs.Findings.{Finding}
+use Rattle.tree_excuses.specs.Excuses.{Excuses, counted, counts, is_excused, is_normal, taken}
+use Rattle.tree_findings.specs.Merging.{merged}
+use Rattle.tree_findings.specs.declared.outcome.Outcome.{Outcome}
+use Rattle.tree_findings.specs.declared.outcome.Outcome.TheVariants.{Complete, Incomplete}
 use Rattle.report_text.specs.ReportText.{complete_result, findings_from, findings_in, first_line, last_line, text_of_all, text_of_counts, text_of_extent, text_of_report, text_of_result}
 use Rattle.report_reader.specs.Lawful.{AreLawfulFindings, IsLawfulOutcome}
 use Rattle.report_reader.specs.declared.first_line.Reach.{Reach}
@@ -25,7 +25,7 @@ reach_of (Incomplete cause findings) = Stopped cause
 abbrev pub lists_of : Excuses → Outcome → Lists
 lists_of x o = record { errors = counted x (findings_in o).errors; refusals = (findings_in o).refusals; normal = taken x (findings_in o).errors }
 
--- what stands behind the three lists, and behind the second and the third of them
+-- what follows the three lists, and what follows the second and the third of them
 abbrev pub at_end : Excuses → Reach → Lists → List ℕ → List ℕ
 at_end x reach l rest = end_of x reach l ++ rest
 
@@ -109,7 +109,7 @@ module _ (x : Excuses) (reach : Reach) (l : Lists) (rest : List ℕ) where
 
 -- ---- a report says its pieces
 
--- the outcome that pieces come to
+-- the outcome that pieces result in
 pub outcome_again : (flags : Flags) (x : Excuses) (o : Outcome) → IsLawfulOutcome flags o → outcome_of (reach_of o) (lists_of x o) ≡ o
 outcome_again flags x (Complete findings extent) h =
     let cut : extent.cut ≡ 0 = h.extent.1 in

@@ -1,12 +1,12 @@
--- Reports one after another, and what they come to.
+-- Reports one after another, and what they result in.
 use Rattle.std.proofs.Common.{◌≡◌, inl, inr, ⊎_elim, ℕ, ◌+◌, ◌≤◌, ◌^◌, List, [], ◌∷◌, ◌++◌, length, Option, Some, None, ap, sym, refl, ◌∙◌, subst, arith, append_assoc, append-nil}
 use Rattle.std.specs.List.{AllByRecursion, flat_map}
 use Rattle.std.specs.Option.{unwrap_or}
 use Rattle.world_model.specs.Names.{IsAmong}
 use Rattle.world_model.specs.Shown.{Flags}
-use Rattle.excuses.specs.Excuses.{Excuses}
-use Rattle.findings.specs.declared.outcome.Outcome.{Outcome}
-use Rattle.findings.specs.declared.outcome.Outcome.TheVariants.{Complete, Incomplete}
+use Rattle.tree_excuses.specs.Excuses.{Excuses}
+use Rattle.tree_findings.specs.declared.outcome.Outcome.{Outcome}
+use Rattle.tree_findings.specs.declared.outcome.Outcome.TheVariants.{Complete, Incomplete}
 use Rattle.report_text.specs.ReportText.{text_of_report}
 use Rattle.report_reader.specs.Lawful.{IsLawfulExtent, IsLawfulOutcome, IsTooHigh}
 use Rattle.report_reader.specs.Merged.{AreReportsOf, AreTooMany, MayFail, MayRefuseAll, all_nodes_told, fault_of_merge, first_depth, merged_all, merged_outcome, nodes_told, text_of_reports}
@@ -41,7 +41,7 @@ among_middle : (os : List Outcome) (o : Outcome) (ps : List Outcome) → IsAmong
 among_middle [] o ps = inl refl
 among_middle (p ∷ os) o ps = inr (among_middle os o ps)
 
--- ---- how many nodes are told
+-- ---- how many nodes are reported
 
 told_of_both : (a b : Outcome) → nodes_told (merged_outcome a b) ≤ nodes_told a + nodes_told b
 told_of_both (Complete f e) (Complete g k) = omega arith
@@ -78,7 +78,7 @@ too_many (Incomplete cause f) more h j many = absurd many
 
 -- ---- so far
 
--- the text begins with reports that come to this, this is left, and whatever reports the text is of begin with them
+-- the text begins with reports that result in this, this is left, and whatever reports the text is of begin with them
 pub record AreReadSoFar (above : Option ℕ) (depth : ℕ) (flags : Flags) (x : Excuses) (text : List ℕ) (whole : Outcome) (rest : List ℕ) : Type 0 where
   pub first : Outcome
   pub others : List Outcome
@@ -104,7 +104,7 @@ module _ (above : Option ℕ) (depth : ℕ) (flags : Flags) (x : Excuses) (text 
     only = λ f os lawful e. let same = read.only f (flat_map report os) (lawful.0, e) in (os, same.0, refl, same.1);
   }
 
-  -- the next of the reports of which the text is
+  -- the next of the reports that the text is of
   record IsNext (others os : List Outcome) (rest : List ℕ) : Type 0 where
     next : Outcome
     behind : List Outcome

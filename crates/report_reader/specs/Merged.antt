@@ -1,14 +1,14 @@
--- What several outcomes come to, and the text of their reports.
+-- What several outcomes result in, and the text of their reports.
 use Rattle.std.specs.List.{AllByRecursion, flat_map}
 use Rattle.std.specs.Prelude.{◌≡◌, ◌⊎◌, ℕ, ◌+◌, ◌≤◌, ◌^◌, List, [], ◌∷◌, ◌++◌, Option, Some, None}
 use Rattle.world_model.specs.Names.{IsAmong}
 use Rattle.world_model.specs.Shown.{Flags}
-use Rattle.coverage.specs.Findings.{Findings}
-use Rattle.excuses.specs.Excuses.{Excuses}
-use Rattle.findings.specs.Merging.{merged_findings}
-use Rattle.findings.specs.declared.extent.Extent.{Extent}
-use Rattle.findings.specs.declared.outcome.Outcome.{Outcome}
-use Rattle.findings.specs.declared.outcome.Outcome.TheVariants.{Complete, Incomplete}
+use Rattle.tree_coverage.specs.Findings.{Findings}
+use Rattle.tree_excuses.specs.Excuses.{Excuses}
+use Rattle.tree_findings.specs.Merging.{merged_findings}
+use Rattle.tree_findings.specs.declared.extent.Extent.{Extent}
+use Rattle.tree_findings.specs.declared.outcome.Outcome.{Outcome}
+use Rattle.tree_findings.specs.declared.outcome.Outcome.TheVariants.{Complete, Incomplete}
 use Rattle.report_text.specs.ReportText.{findings_in, text_of_report}
 use Rattle.report_reader.specs.Lawful.{IsLawfulOutcome, IsTooHigh}
 use Rattle.report_reader.specs.declared.fault.MergeFault.{MergeFault}
@@ -38,18 +38,18 @@ AreTooMany (Complete f a) (Complete g b) = IsTooMany a b
 AreTooMany (Complete f a) (Incomplete cause g) = ⊥
 AreTooMany (Incomplete cause f) more = ⊥
 
--- two outcomes are refused only then, or for want of memory
+-- two outcomes are refused only then, or for lack of memory
 abbrev pub MayFail : Outcome → Outcome → MergeFault → Type 0
 MayFail into more merge.TooManyNodes = AreTooMany into more
 MayFail into more merge.Memory = Unit {0}
 
 -- ---- laws
 
--- two outcomes that reports can be read back to come to such an outcome, unless they have too many nodes
+-- two outcomes that reports can be read back to result in such an outcome, unless they have too many nodes
 abbrev pub MergedAreLawful : Type 0
 MergedAreLawful = (flags : Flags) (a b : Outcome) → IsLawfulOutcome flags a → IsLawfulOutcome flags b → (AreTooMany a b → ⊥) → IsLawfulOutcome flags (merged_outcome a b)
 
--- where all nodes were visited they come to the same in both orders
+-- where all nodes were visited they result in the same in both orders
 abbrev pub OrderDoesNotMatter : Type 0
 OrderDoesNotMatter = (flags : Flags) (f g : Findings) (a b : Extent) → IsLawfulOutcome flags (Complete f a) → IsLawfulOutcome flags (Complete g b)
     → merged_outcome (Complete f a) (Complete g b) ≡ merged_outcome (Complete g b) (Complete f a)
@@ -75,7 +75,11 @@ abbrev pub text_of_reports : Option ℕ → ℕ → Excuses → List Outcome →
 text_of_reports above depth x [] = []
 text_of_reports above depth x (o ∷ os) = text_of_report (first_depth above depth) x o ++ flat_map (text_of_report depth x) os
 
--- the text is that of some reports, at least one, which come to this
+-- this is so of an outcome and of others, wherever a text is that of their reports, and they can be read back
+abbrev pub WhereReports : Option ℕ → ℕ → Flags → Excuses → List ℕ → (Outcome → List Outcome → Type 0) → Type 0
+WhereReports above depth flags x text IsSo = (first : Outcome) (others : List Outcome) → AllByRecursion (IsLawfulOutcome flags) (first ∷ others) → text ≡ text_of_reports above depth x (first ∷ others) → IsSo first others
+
+-- the text is that of some reports, at least one, which result in this
 pub record AreReportsOf (above : Option ℕ) (depth : ℕ) (flags : Flags) (x : Excuses) (text : List ℕ) (whole : Outcome) : Type 0 where
   pub first : Outcome
   pub others : List Outcome
@@ -83,7 +87,7 @@ pub record AreReportsOf (above : Option ℕ) (depth : ℕ) (flags : Flags) (x : 
   pub text_is : text ≡ text_of_reports above depth x (first ∷ others)
   pub whole_is : whole ≡ merged_all first others
 
--- the nodes that are told of one, and of several
+-- the nodes that one outcome reports, and several
 abbrev pub nodes_told : Outcome → ℕ
 nodes_told (Complete findings extent) = extent.nodes
 nodes_told (Incomplete cause findings) = 0
@@ -98,7 +102,7 @@ pub record HasOneTooHigh (outcomes : List Outcome) : Type 0 where
   pub among : IsAmong outcome outcomes
   pub high : IsTooHigh outcome
 
--- the text of reports is refused only for want of memory, where one of them is so high, or where all their nodes are 2^64 or more
+-- the text of reports is refused only for lack of memory, where one of them is so high, or where all their nodes are 2^64 or more
 abbrev pub MayRefuseAll : List Outcome → ReportFault → Type 0
 MayRefuseAll outcomes (BadLine line) = ⊥
 MayRefuseAll outcomes (TooDeep line) = HasOneTooHigh outcomes

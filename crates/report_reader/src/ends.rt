@@ -1,15 +1,15 @@
 // The last two lines of a report: how many findings there are of each kind, and the result.
 ghost use Rattle.std.specs.Prelude.{◌≡◌, ◌++◌, MatchOption, codes};
 ghost use Rattle.std.specs.Fmt.{decimal};
-ghost use Rattle.excuses.specs.Excuses.{excuses_in};
+ghost use Rattle.tree_excuses.specs.Excuses.{excuses_in};
 ghost use Rattle.report_reader.specs.inside.Reading.{HasNoFront, counts_line, normal_told, result_line, result_told};
 
 use crate::first_line::Reach;
 use crate::numbers::behind_number;
 use crate::pieces::behind;
-use excuses::Excuses;
+use tree_excuses::Excuses;
 
-/// What stands behind a label and a number.
+// What follows a label and a number.
 fn behind_count<'t>(text: &'t [u8], label: &[u8], count: usize) -> Option<&'t [u8]>
     ensures { MatchOption result (HasNoFront (label.now ++ decimal count) text.now) (λ rest. text.now ≡ (label.now ++ decimal count) ++ rest.now) }
 {
@@ -17,7 +17,7 @@ fn behind_count<'t>(text: &'t [u8], label: &[u8], count: usize) -> Option<&'t [u
     behind_number(number, count as u64)
 }
 
-/// What stands behind the number of errors that are taken as normal, which is told where an error may be excused.
+// What follows the number of errors that are taken as normal, which is written where an error may be excused.
 fn behind_normal<'t>(text: &'t [u8], excuses: &Excuses, count: usize) -> Option<&'t [u8]>
     ensures { MatchOption result (HasNoFront (normal_told (excuses_in excuses.now) count) text.now) (λ rest. text.now ≡ normal_told (excuses_in excuses.now) count ++ rest.now) }
 {
@@ -28,7 +28,7 @@ fn behind_normal<'t>(text: &'t [u8], excuses: &Excuses, count: usize) -> Option<
     }
 }
 
-/// What stands behind the line of these counts.
+/// What follows the line of these counts.
 pub(crate) fn behind_counts<'t>(
     text: &'t [u8],
     excuses: &Excuses,
@@ -44,7 +44,7 @@ pub(crate) fn behind_counts<'t>(
     behind(text, b"\n")
 }
 
-/// The word of the result, where so many errors count.
+// The word of the result, where so many errors count.
 fn result_told(reach: Reach, errors: usize) -> &'static [u8]
     ensures { result.now ≡ result_told reach errors }
 {
@@ -54,7 +54,7 @@ fn result_told(reach: Reach, errors: usize) -> &'static [u8]
     }
 }
 
-/// What stands behind the line of the result.
+/// What follows the line of the result.
 pub(crate) fn behind_result(text: &[u8], reach: Reach, errors: usize) -> Option<&[u8]>
     ensures { MatchOption result (HasNoFront (result_line reach errors) text.now) (λ rest. text.now ≡ result_line reach errors ++ rest.now) }
 {

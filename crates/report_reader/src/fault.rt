@@ -52,10 +52,10 @@ impl From<AllocError> for MergeFault {
     }
 }
 
-/// Why reading stopped. A place is told by the number of bytes that are left from there on, in a line that is bad.
+/// Why reading stopped. A place is given by the number of bytes that are left from there on, in a line that is bad.
 #[derive(Clone, Copy, Debug, PartialEq, Eq)]
 pub(crate) enum Stop {
-    /// Nothing that may stand there does.
+    /// Nothing that may be there is.
     Bad(usize),
     /// A term is nested too deep.
     Deep(usize),

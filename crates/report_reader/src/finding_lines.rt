@@ -1,19 +1,20 @@
 // The two lines of a finding: what is shown, and the schedule that shows it.
 ghost use Rattle.std.specs.Prelude.{◌≡◌, ◌++◌, MatchOption, MatchResult, codes};
 ghost use Rattle.std.specs.Fmt.{decimal};
-ghost use Rattle.findings.specs.Found.{finding_in};
-ghost use Rattle.findings.specs.Identities.{identity_in};
+ghost use Rattle.tree_findings.specs.Found.{finding_in};
+ghost use Rattle.world_identities.specs.Identities.{identity_in};
 ghost use Rattle.report_reader.specs.inside.Reading.{HasNoFront, IsHigh, IsHighFinding, IsNever, IsRead, Refuses, SaysFinding, SaysIdentity, SaysSchedule, stop_of};
 
 use crate::fault::Stop;
 use crate::numbers::behind_number;
 use crate::pieces::{behind, split_at};
-use findings::{Finding, Identity};
-use identity_reader::{IdentityFault, read_identity};
+use report_identities::{IdentityFault, read_identity};
 use std::alloc::Global;
 use term_core::{ScheduleFault, Step, read_schedule};
+use tree_findings::Finding;
+use world_identities::Identity;
 
-/// Where reading stops at an identity that is none, or is nested too deep.
+// Where reading stops at a text that is no identity, or is nested too deep.
 fn stop_of(fault: IdentityFault, left: usize) -> Stop
     ensures { result ≡ stop_of fault left }
 {
@@ -24,7 +25,7 @@ fn stop_of(fault: IdentityFault, left: usize) -> Stop
     }
 }
 
-/// Reads what a schedule shows, to the end of the line.
+// Reads what a schedule shows, to the end of the line.
 fn read_identity_line<'t>(alloc: Global, text: &'t [u8]) -> Result<(Identity, &'t [u8]), Stop>
     ensures { MatchResult result (λ p. IsRead (SaysIdentity text.now) (identity_in p.0) p.1.now) (λ stop. Refuses IsHigh (SaysIdentity text.now) stop) }
 {
@@ -37,7 +38,7 @@ fn read_identity_line<'t>(alloc: Global, text: &'t [u8]) -> Result<(Identity, &'
     }
 }
 
-/// Reads a schedule behind two blanks, to the end of the line.
+// Reads a schedule after two blanks, to the end of the line.
 fn read_schedule_line<'t>(alloc: Global, text: &'t [u8]) -> Result<(Vec<Step>, &'t [u8]), Stop>
     ensures { MatchResult result (λ p. IsRead (SaysSchedule text.now) p.0.items p.1.now) (λ stop. Refuses IsNever (SaysSchedule text.now) stop) }
 {
@@ -54,7 +55,7 @@ fn read_schedule_line<'t>(alloc: Global, text: &'t [u8]) -> Result<(Vec<Step>, &
     }
 }
 
-/// What stands behind the number of a finding.
+// What follows the number of a finding.
 fn behind_label(text: &[u8], number: u64) -> Option<&[u8]>
     ensures { MatchOption result (HasNoFront (decimal number ++ codes ": ") text.now) (λ rest. text.now ≡ (decimal number ++ codes ": ") ++ rest.now) }
 {
@@ -62,7 +63,7 @@ fn behind_label(text: &[u8], number: u64) -> Option<&[u8]>
     behind(rest, b": ")
 }
 
-/// Reads the finding of this number, behind its kind.
+/// Reads the finding of this number, after its kind.
 pub(crate) fn read_finding<'t>(
     alloc: Global,
     number: u64,

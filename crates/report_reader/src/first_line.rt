@@ -6,8 +6,8 @@ ghost use Rattle.report_reader.specs.declared.first_line.Reach.{Reach};
 
 use crate::numbers::behind_number;
 use crate::pieces::{before, behind, split_at};
-use findings::Cause;
 use term_reader::read_number;
+use tree_findings::Cause;
 
 /// How far an exploration came.
 #[derive(Clone, Copy)]
@@ -18,7 +18,7 @@ pub(crate) enum Reach {
     Stopped(Cause),
 }
 
-/// What stands behind the depth.
+// What follows the depth.
 fn behind_depth(text: &[u8], depth: u64) -> Option<&[u8]>
     ensures { MatchOption result (HasNoFront (text_of_depth depth) text.now) (λ rest. text.now ≡ text_of_depth depth ++ rest.now) }
 {
@@ -27,7 +27,7 @@ fn behind_depth(text: &[u8], depth: u64) -> Option<&[u8]>
     behind(rest, b", ")
 }
 
-/// The number of nodes, where the text says that all were visited.
+// The number of nodes, where the text says that all were visited.
 fn nodes_of(text: &[u8]) -> Option<u64>
     ensures { MatchOption result
         ((nodes : ℕ) → nodes < 2 ^ 64 → text.now ≡ text_of_nodes nodes → ⊥)
@@ -38,7 +38,7 @@ fn nodes_of(text: &[u8]) -> Option<u64>
     read_number(digits)
 }
 
-/// How far an exploration came of which the text says so.
+// How far an exploration came, from its text.
 fn reach_of(text: &[u8]) -> Option<Reach>
     ensures { MatchOption result
         ((reach : Reach) → IsLawfulReach reach → text.now ≡ text_of_reach reach → ⊥)

@@ -1,11 +1,11 @@
 // The three kinds in which a report lists what was found.
 ghost use Rattle.std.specs.Prelude.{◌≡◌};
-ghost use Rattle.excuses.specs.Excuses.{excuses_in, is_normal};
-ghost use Rattle.findings.specs.Identities.{flags_in, identity_in};
+ghost use Rattle.tree_excuses.specs.Excuses.{excuses_in, is_normal};
+ghost use Rattle.world_identities.specs.Identities.{flags_in, identity_in};
 ghost use Rattle.report_reader.specs.inside.Reading.{is_of, label_of};
 
-use excuses::Excuses;
-use findings::{Flags, Identity};
+use tree_excuses::Excuses;
+use world_identities::{Flags, Identity};
 
 /// A kind of findings.
 #[derive(Clone, Copy)]
@@ -18,7 +18,7 @@ pub(crate) enum Kind {
     Normal,
 }
 
-/// Whether it is an error under the flags that is taken as normal.
+// Whether it is an error under the flags that is taken as normal.
 fn is_normal(flags: Flags, excuses: &Excuses, identity: &Identity) -> bool
     ensures { result ≡ is_normal (flags_in flags) (excuses_in excuses.now) (identity_in identity.now) }
 {
@@ -26,7 +26,7 @@ fn is_normal(flags: Flags, excuses: &Excuses, identity: &Identity) -> bool
 }
 
 impl Kind {
-    /// What stands before the number of each finding of the kind.
+    /// What comes before the number of each finding of the kind.
     pub(crate) fn label(self) -> &'static [u8]
         ensures { result.now ≡ label_of self }
     {

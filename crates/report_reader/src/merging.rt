@@ -1,12 +1,12 @@
-// What several outcomes come to.
+// What several outcomes result in.
 ghost use Rattle.std.specs.Prelude.{◌≡◌, MatchOption, MatchResult};
-ghost use Rattle.findings.specs.Merging.{merged_findings};
+ghost use Rattle.tree_findings.specs.Merging.{merged_findings};
 ghost use Rattle.report_reader.specs.Merged.{GroupingDoesNotMatter, IsTooMany, MayFail, MergedAreLawful, OrderDoesNotMatter, merged_outcome, sum_of};
 
 use crate::fault::MergeFault;
-use findings::{Extent, Findings, Outcome};
+use tree_findings::{Extent, Findings, Outcome};
 
-/// The sums of nodes, and of those at which trees are cut, where they are below 2^64.
+// The sums of nodes, and of those at which trees are cut, where they are below 2^64.
 fn sum_of(a: Extent, b: Extent) -> Option<Extent>
     ensures { MatchOption result (IsTooMany a b) (λ sum. sum ≡ sum_of a b) }
 {
@@ -16,7 +16,7 @@ fn sum_of(a: Extent, b: Extent) -> Option<Extent>
     })
 }
 
-/// All findings of both.
+// All findings of both.
 fn merge_findings(into: Findings, more: Findings) -> Result<Findings, MergeFault>
     ensures { MatchResult result (λ findings. findings ≡ merged_findings into more) (λ fault. fault ≡ MergeFault.Memory) }
 {
@@ -25,8 +25,9 @@ fn merge_findings(into: Findings, more: Findings) -> Result<Findings, MergeFault
     Ok(findings)
 }
 
-/// What two outcomes come to: the findings of both, each identity with its least schedule, and, where both visited all
-/// their nodes, the sums of these. Where one stopped before its end, so did both, for the cause of the first that did.
+/// What two outcomes result in: the findings of both, each identity with its least schedule, and, where both visited
+/// all their nodes, the sums of these. Where one stopped before its end, so did both, for the cause of the first that
+/// did.
 ///
 /// # Errors
 ///
@@ -54,8 +55,8 @@ pub fn merge_outcomes(into: Outcome, more: Outcome) -> Result<Outcome, MergeFaul
     }
 }
 
-/// What outcomes come to that reports can be read back to is such an outcome too. Where all nodes were visited it does
-/// not depend on the order; nor, in any case, on how the merges are grouped.
+/// Outcomes that reports can be read back to result in such an outcome too. Where all nodes were visited it does not
+/// depend on the order; nor, in any case, on how the merges are grouped.
 pub fn outcomes_are_put_together()
     ensures lawful { MergedAreLawful }
     ensures order { OrderDoesNotMatter }

@@ -6,7 +6,7 @@ ghost use Rattle.report_reader.specs.inside.Reading.{HasNoFront};
 use crate::pieces::behind;
 use itoa::Buffer;
 
-/// What stands behind a number, where the text begins with it.
+/// What follows a number, where the text begins with it.
 pub(crate) fn behind_number(text: &[u8], number: u64) -> Option<&[u8]>
     ensures { MatchOption result (HasNoFront (decimal number) text.now) (λ rest. text.now ≡ decimal number ++ rest.now) }
 {

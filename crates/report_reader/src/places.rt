@@ -1,11 +1,11 @@
-// Lines by the bytes that are left behind their places.
+// Lines by the bytes that are left after their places.
 ghost use Rattle.std.specs.Prelude.{◌≡◌, ◌≤◌, length};
 ghost use Rattle.report_reader.specs.Lawful.{HasLine, ends_in};
 ghost use Rattle.report_reader.specs.inside.Reading.{IsFaultOf, line_at};
 
 use crate::fault::{ReportFault, Stop};
 
-/// How many line ends stand in a text.
+// How many line ends are in a text.
 fn ends_in(text: &[u8]) -> u64
     ensures number { result ≡ ends_in text.now }
     ensures bound { result ≤ length text.now }
@@ -19,7 +19,7 @@ fn ends_in(text: &[u8]) -> u64
     count
 }
 
-/// The line, counted from 1, in which the first of so many bytes at the end of a text stands.
+// The line, counted from 1, that has the first of so many bytes at the end of a text.
 fn line_of(text: &[u8], left: usize) -> u64
     ensures { result ≡ line_at text.now left }
 {

@@ -1,11 +1,11 @@
 // Reports read back from their texts.
-ghost use Rattle.std.specs.Prelude.{◌≡◌, ◌++◌, ℕ, List, IfErr, IfOk, MatchOption, MatchResult};
-ghost use Rattle.excuses.specs.Excuses.{excuses_in};
-ghost use Rattle.findings.specs.Identities.{flags_in};
-ghost use Rattle.findings.specs.declared.outcome.Outcome.{Outcome};
+ghost use Rattle.std.specs.Prelude.{◌≡◌, ◌++◌, IfErr, IfOk, MatchOption, MatchResult};
+ghost use Rattle.tree_excuses.specs.Excuses.{excuses_in};
+ghost use Rattle.world_identities.specs.Identities.{flags_in};
+ghost use Rattle.tree_findings.specs.declared.outcome.Outcome.{Outcome};
 ghost use Rattle.report_text.specs.ReportText.{text_of_report};
-ghost use Rattle.report_reader.specs.Lawful.{HasLine, IsLawfulOutcome, IsTooHigh, MayRefuse};
-ghost use Rattle.report_reader.specs.inside.Reading.{EndsAt, IsRead, Lists, ListsAreHigh, Refuses, SaysLists, SaysNoEnd, SaysReport, lists_in, outcome_of};
+ghost use Rattle.report_reader.specs.Lawful.{HasLine, IsLawfulOutcome, IsTooHigh, MayRefuse, WhereReport};
+ghost use Rattle.report_reader.specs.inside.Reading.{EndsAt, Lists, ListsAreHigh, Reads, SaysLists, SaysNoEnd, SaysReport, lists_in, outcome_of};
 
 use crate::ends::{behind_counts, behind_result};
 use crate::fault::{ReportFault, Stop};
@@ -13,9 +13,10 @@ use crate::first_line::{Reach, read_first_line};
 use crate::kinds::Kind;
 use crate::lists::read_findings;
 use crate::places::fault_of;
-use excuses::Excuses;
-use findings::{Extent, FindingList, Findings, Flags, Outcome};
 use std::alloc::{AllocError, Global};
+use tree_excuses::Excuses;
+use tree_findings::{Extent, FindingList, Findings, Outcome};
+use world_identities::Flags;
 
 /// What a report lists.
 #[derive(Drop)]
@@ -28,16 +29,14 @@ struct Listed {
     normal: FindingList,
 }
 
-/// Reads the three lists of a report.
+// Reads the three lists of a report.
 fn read_lists<'t>(
     alloc: Global,
     flags: Flags,
     excuses: &Excuses,
     text: &'t [u8],
 ) -> Result<(Listed, &'t [u8]), Stop>
-    ensures { MatchResult result
-        (λ p. IsRead (SaysLists (flags_in flags) (excuses_in excuses.now) text.now) (lists_in p.0) p.1.now)
-        (λ stop. Refuses ListsAreHigh (SaysLists (flags_in flags) (excuses_in excuses.now) text.now) stop) }
+    ensures { Reads lists_in ListsAreHigh (SaysLists (flags_in flags) (excuses_in excuses.now) text.now) result }
 {
     let (errors, rest) = read_findings(alloc, Kind::Error, flags, excuses, text)?;
     let (refusals, rest) = read_findings(alloc, Kind::Refusal, flags, excuses, rest)?;
@@ -52,7 +51,7 @@ fn read_lists<'t>(
     ))
 }
 
-/// What stands behind the last two lines of a report that came so far and lists this.
+// What follows the last two lines of a report that came so far and lists this.
 fn read_end<'t>(
     excuses: &Excuses,
     reach: Reach,
@@ -75,7 +74,7 @@ fn read_end<'t>(
     Ok(rest)
 }
 
-/// The outcome that came so far and lists this.
+// The outcome that came so far and lists this.
 fn outcome_of(reach: Reach, listed: Listed) -> Result<Outcome, AllocError>
     ensures { IfOk result (λ outcome. outcome ≡ outcome_of reach (lists_in listed)) }
 {
@@ -100,9 +99,7 @@ pub(crate) fn read_first<'t>(
     excuses: &Excuses,
     text: &'t [u8],
 ) -> Result<(Outcome, &'t [u8]), Stop>
-    ensures { MatchResult result
-        (λ p. IsRead (SaysReport depth (flags_in flags) (excuses_in excuses.now) text.now) p.0 p.1.now)
-        (λ stop. Refuses IsTooHigh (SaysReport depth (flags_in flags) (excuses_in excuses.now) text.now) stop) }
+    ensures { Reads (λ outcome. outcome) IsTooHigh (SaysReport depth (flags_in flags) (excuses_in excuses.now) text.now) result }
 {
     let Some((reach, rest)) = read_first_line(depth, text) else {
         return Err(Stop::Bad(text.len()));
@@ -113,10 +110,10 @@ pub(crate) fn read_first<'t>(
     Ok((outcome, rest))
 }
 
-/// Reads the report at the beginning of a text, as `write_report` writes it, and tells what stands behind it. The
-/// depth, the flags and the excuses are those of the exploration: what counts as an error and what is taken as normal
-/// is not in the text, and the errors of both kinds are put together. At how many nodes the tree is cut is not told
-/// either, and is read as 0.
+/// Reads the report at the beginning of a text, as `write_report` writes it, and gives what follows it. The depth, the
+/// flags and the excuses are those of the exploration: what counts as an error and what is taken as normal is not in
+/// the text, and the errors of both kinds are put together. Nor does it say at how many nodes the tree is cut, which is
+/// read as 0.
 ///
 /// # Errors
 ///
@@ -134,8 +131,8 @@ pub fn read_report<'t>(
     ensures read { IfOk result (λ r. (text.now ≡ text_of_report depth (excuses_in excuses.now) r.0 ++ r.1.now) × IsLawfulOutcome (flags_in flags) r.0) }
 
     // The report of an outcome is read as that outcome, unless a term is too deep or memory runs out.
-    ensures only { (o : Outcome) (rest : List ℕ) → IsLawfulOutcome (flags_in flags) o → text.now ≡ text_of_report depth (excuses_in excuses.now) o ++ rest
-        → MatchResult result (λ r. (r.0 ≡ o) × (r.1.now ≡ rest)) (λ fault. MayRefuse o fault) }
+    ensures only { WhereReport depth (flags_in flags) (excuses_in excuses.now) text.now (λ o rest.
+        MatchResult result (λ r. (r.0 ≡ o) × (r.1.now ≡ rest)) (λ fault. MayRefuse o fault)) }
 
     // The line of a fault is one of the text.
     ensures line { IfErr result (λ fault. HasLine text.now fault) }

@@ -1,21 +1,21 @@
 // The reports of a whole text, read one after another and put together.
-ghost use Rattle.std.specs.Prelude.{◌≡◌, List, ◌∷◌, IfErr, IfOk, MatchResult};
-ghost use Rattle.std.specs.List.{AllByRecursion};
-ghost use Rattle.excuses.specs.Excuses.{excuses_in};
-ghost use Rattle.findings.specs.Identities.{flags_in};
-ghost use Rattle.findings.specs.declared.outcome.Outcome.{Outcome};
-ghost use Rattle.report_reader.specs.Lawful.{HasLine, IsLawfulOutcome};
-ghost use Rattle.report_reader.specs.Merged.{AreReportsOf, MayRefuseAll, fault_of_merge, merged_all, text_of_reports};
+ghost use Rattle.std.specs.Prelude.{◌≡◌, ◌∷◌, IfErr, IfOk, MatchResult};
+ghost use Rattle.tree_excuses.specs.Excuses.{excuses_in};
+ghost use Rattle.world_identities.specs.Identities.{flags_in};
+ghost use Rattle.report_reader.specs.Lawful.{HasLine};
+ghost use Rattle.report_reader.specs.Merged.{AreReportsOf, MayRefuseAll, WhereReports, fault_of_merge, merged_all};
+ghost use Rattle.tree_findings.specs.declared.outcome.Outcome.{Outcome};
 
 use crate::fault::{MergeFault, ReportFault};
 use crate::merging::merge_outcomes;
 use crate::places::fault_of;
 use crate::reading::read_first;
-use excuses::Excuses;
-use findings::{Flags, Outcome};
 use std::alloc::Global;
+use tree_excuses::Excuses;
+use tree_findings::Outcome;
+use world_identities::Flags;
 
-/// What is answered where outcomes cannot be put together.
+// What is answered where outcomes cannot be put together.
 fn fault_of_merge(fault: MergeFault) -> ReportFault
     ensures { result ≡ fault_of_merge fault }
 {
@@ -25,8 +25,8 @@ fn fault_of_merge(fault: MergeFault) -> ReportFault
     }
 }
 
-/// What the reports of a whole text come to, which stand there one after another: at least one. Where a depth is
-/// given for the first, that is its depth, and the other depth that of all others; else all are of one depth.
+/// What the reports of a whole text, at least one and one after another, result in. Where a depth is given for the
+/// first, that is its depth, and the other depth that of all others; else all are of one depth.
 ///
 /// # Errors
 ///
@@ -40,13 +40,12 @@ pub fn merge_reports(
     excuses: &Excuses,
     text: &[u8],
 ) -> Result<Outcome, ReportFault>
-    // The text is that of reports, and what is answered is what they come to.
+    // The text is that of reports, and the answer is what they result in.
     ensures ok { IfOk result (λ whole. AreReportsOf above depth (flags_in flags) (excuses_in excuses.now) text.now whole) }
 
-    // Reports are read as what they come to, unless a term is too deep, they have too many nodes, or memory runs out.
-    ensures only { (first : Outcome) (others : List Outcome) → AllByRecursion (IsLawfulOutcome (flags_in flags)) (first ∷ others)
-        → text.now ≡ text_of_reports above depth (excuses_in excuses.now) (first ∷ others)
-        → MatchResult result (λ whole. whole ≡ merged_all first others) (λ fault. MayRefuseAll (first ∷ others) fault) }
+    // Reports are read as what they result in, unless a term is too deep, they have too many nodes, or memory runs out.
+    ensures only { WhereReports above depth (flags_in flags) (excuses_in excuses.now) text.now (λ first rest.
+        MatchResult result (λ whole. whole ≡ merged_all first rest) (λ fault. MayRefuseAll (first ∷ rest) fault)) }
 
     // The line of a fault is one of the text.
     ensures line { IfErr result (λ fault. HasLine text.now fault) }

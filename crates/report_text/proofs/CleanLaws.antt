@@ -2,9 +2,9 @@
 use Rattle.std.proofs.Common.{◌≡◌, ◌==◌, ℕ, zero, suc, Bool, true, false, if◌then◌else◌, List, [], ◌∷◌, ◌++◌, codes, refl, ap, arith}
 use Rattle.std.proofs.lemmas.Bool.{eq-eqb, eqb-true}
 use Rattle.std.specs.Fmt.{decimal}
-use Rattle.coverage.specs.Findings.{Finding}
-use Rattle.excuses.specs.Excuses.{counted}
-use Rattle.findings.specs.declared.outcome.Outcome.TheVariants.{Complete, Incomplete}
+use Rattle.tree_coverage.specs.Findings.{Finding}
+use Rattle.tree_excuses.specs.Excuses.{counted}
+use Rattle.tree_findings.specs.declared.outcome.Outcome.TheVariants.{Complete, Incomplete}
 use Rattle.report_text.specs.Clean.{LastLinesSayIt}
 use Rattle.report_text.specs.ReportText.{complete_result}
 

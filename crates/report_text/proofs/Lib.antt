@@ -1,4 +1,3 @@
-pub mod CallTexts
 pub mod ReportTexts
 pub mod Listing
 pub mod CleanLaws

@@ -1,18 +1,18 @@
--- Errors that are written one after another where they stand so, by whatever text each has: what is still owed.
+-- Errors that are written one after another where they have a standing, by whatever text each has: what is still to be written.
 use Rattle.std.proofs.Common.{◌≡◌, ◌<◌, ◌≤◌, ℕ, ◌+◌, Bool, true, false, cond, List, [], ◌∷◌, ◌++◌, length, map, drop, get_or, filter, Option, sym, ap, subst, ◌∙◌, arith}
 use Rattle.std.proofs.lemmas.List.{at_drop_more, at_drop_all}
 use Rattle.term_core.specs.Stream.{WritesAll}
 use Rattle.term_core.specs.inside.Writing.{Owes, owes_all, owes_less, owes_nothing, owes_same}
-use Rattle.coverage.specs.Findings as coverage
-use Rattle.findings.specs.Found.{finding_in}
-use Rattle.findings.specs.declared.finding.Finding.{Finding}
+use Rattle.tree_coverage.specs.Findings as coverage
+use Rattle.tree_findings.specs.Found.{finding_in}
+use Rattle.tree_findings.specs.declared.finding.Finding.{Finding}
 
 -- the text of all, numbered on from a number, is that of the first and then that of the others
 pub record IsListing (text : ℕ → List coverage.Finding → List ℕ) (one : ℕ → coverage.Finding → List ℕ) : Type 0 where
   pub none : (n : ℕ) → text n [] ≡ []
   pub more : (n : ℕ) (f : coverage.Finding) (fs : List coverage.Finding) → text n (f ∷ fs) ≡ one n f ++ text (n + 1) fs
 
--- those that are listed and come before this place were written, so many, and the others are owed
+-- those that are listed and come before this place were written, so many, and the others are still to be written
 pub record ListedSoFar (text : ℕ → List coverage.Finding → List ℕ) (test : coverage.Finding → Bool) (fs : List Finding) (start now : Option (List ℕ)) (failed : Bool) (whole : List ℕ) (i number : ℕ) : Type 0 where
   pub sound : failed ≡ false
   pub counted : number ≤ i
@@ -46,7 +46,7 @@ module _ (text : ℕ → List coverage.Finding → List ℕ) (one : ℕ → cove
     owes = owes_same start start _ _ whole (is ∙ ap (λ (es : List coverage.Finding). text 1 (filter test es)) (sym are)) (owes_all start whole);
   }
 
-  -- one that is listed is owed next
+  -- one that is listed is written next
   pub owes_listed : IsListing text one → (start now : Option (List ℕ)) (failed : Bool) (whole : List ℕ) (i number : ℕ) (d f : Finding) → ListedSoFar text test fs start now failed whole i number
       → i < length fs → f ≡ get_or fs i d → test (finding_in f) ≡ true → Owes start now (one (number + 1) (finding_in f) ++ left (i + 1) (number + 1)) whole
   owes_listed listing start now failed whole i number d f so within at is =

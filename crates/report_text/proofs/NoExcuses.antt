@@ -2,8 +2,8 @@
 use Rattle.std.proofs.Common.{◌≡◌, ◌∙◌, Bool, false, not, cond, List, [], ◌∷◌, ◌++◌, length, codes, refl, ap, append-nil}
 use Rattle.std.specs.Fmt.{decimal}
 use Rattle.world_model.specs.Shown.{Identity, End, Deadlock, Runaway, RefusedCall}
-use Rattle.coverage.specs.Findings.{Finding}
-use Rattle.excuses.specs.Excuses.{counted, is_excused, no_excuses, taken}
+use Rattle.tree_coverage.specs.Findings.{Finding}
+use Rattle.tree_excuses.specs.Excuses.{counted, is_excused, no_excuses, taken}
 use Rattle.report_text.specs.NoExcuses.{NoExcusesTellNothing}
 use Rattle.report_text.specs.ReportText.{text_of_findings}
 

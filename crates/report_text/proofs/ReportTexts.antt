@@ -4,11 +4,11 @@ use Rattle.std.proofs.lemmas.List.{at_drop_more, at_drop_all}
 use Rattle.std.specs.Fmt.{decimal}
 use Rattle.term_core.specs.Text.{text_of_schedule}
 use Rattle.term_core.specs.declared.step.Step.{Step}
-use Rattle.coverage.specs.Findings as coverage
-use Rattle.excuses.specs.Excuses.{Excuses, counted, taken}
-use Rattle.findings.specs.Found.{finding_in}
-use Rattle.findings.specs.declared.finding.Finding.{Finding}
-use Rattle.findings.specs.declared.outcome.Outcome.{Outcome}
+use Rattle.tree_coverage.specs.Findings as coverage
+use Rattle.tree_excuses.specs.Excuses.{Excuses, counted, taken}
+use Rattle.tree_findings.specs.Found.{finding_in}
+use Rattle.tree_findings.specs.declared.finding.Finding.{Finding}
+use Rattle.tree_findings.specs.declared.outcome.Outcome.{Outcome}
 use Rattle.report_text.specs.IdentityText.{text_of_identity}
 use Rattle.report_text.proofs.Listing.{IsListing}
 use Rattle.report_text.specs.ReportText.{findings_in, first_line, text_of_finding, findings_from, text_of_findings, text_of_all, text_of_counts, text_of_normal, text_of_taken, complete_result, last_line, text_of_report}

@@ -1,8 +1,8 @@
 -- What a report says of all schedules.
 use Rattle.std.specs.Prelude.{◌≡◌, ◌↔◌, ℕ, [], codes}
-use Rattle.excuses.specs.Excuses.{Excuses, counted}
-use Rattle.findings.specs.declared.outcome.Outcome.{Outcome}
-use Rattle.findings.specs.declared.outcome.Outcome.TheVariants.{Complete, Incomplete}
+use Rattle.tree_excuses.specs.Excuses.{Excuses, counted}
+use Rattle.tree_findings.specs.declared.outcome.Outcome.{Outcome}
+use Rattle.tree_findings.specs.declared.outcome.Outcome.TheVariants.{Complete, Incomplete}
 use Rattle.report_text.specs.ReportText.{explained_last_line}
 
 -- all nodes were visited, none shows an error that counts, and the tree is cut at none

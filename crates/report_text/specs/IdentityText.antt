@@ -8,8 +8,8 @@ use Rattle.core_calls.specs.declared.call.CallKind.{CallKind}
 use Rattle.world_model.specs.Names.{Pid}
 use Rattle.world_model.specs.Shown.{Identity, End, Deadlock, Runaway, RefusedCall}
 use Rattle.world_model.specs.declared.rule.Rule.{Rule}
-use Rattle.report_text.specs.CallText.{text_of_call, text_of_broken_rule}
-use Rattle.report_text.specs.EventText.{text_of_end}
+use Rattle.world_event_text.specs.CallText.{text_of_call, text_of_broken_rule}
+use Rattle.world_event_text.specs.EventText.{text_of_end}
 
 -- a process that ended
 abbrev pub text_of_ended : Pid → Meaning → List ℕ
@@ -27,7 +27,7 @@ text_of_deadlock processes = codes "deadlock of" ++ flat_map pid_behind_blank pr
 abbrev pub text_of_runaway : Pid → List ℕ
 text_of_runaway p = text_of_pid p ++ codes " runs away"
 
--- a call of a table that was refused: the process, the number of its request, the call, and the rule with the owner where it is told
+-- a call of a table that was refused: the process, the number of its request, the call, and the rule with the owner where it is reported
 abbrev pub text_of_refused_call : Pid → ℕ → CallKind → List Meaning → Rule → Option Pid → List ℕ
 text_of_refused_call p request kind arguments rule told =
     text_of_pid p ++ (codes " request " ++ (decimal request ++ (codes " " ++ (text_of_call kind arguments ++ (codes " -> " ++ text_of_broken_rule rule told)))))

@@ -1,5 +1,3 @@
-pub mod CallText
-pub mod EventText
 pub mod IdentityText
 pub mod Standing
 pub mod ReportText

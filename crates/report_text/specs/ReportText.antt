@@ -1,14 +1,14 @@
--- The report: the text of what an exploration comes to, as bytes.
+-- The report: the text of what an exploration results in, as bytes.
 use Rattle.std.specs.Prelude.{ℕ, ◌+◌, ◌==◌, List, [], ◌∷◌, ◌++◌, length, codes, if◌then◌else◌}
 use Rattle.std.specs.Fmt.{decimal}
 use Rattle.term_core.specs.Text.{text_of_schedule}
-use Rattle.coverage.specs.Findings.{Finding, Findings}
-use Rattle.excuses.specs.Excuses.{Excuses, are_any, counted, taken}
-use Rattle.findings.specs.declared.extent.Extent.{Extent}
-use Rattle.findings.specs.declared.outcome.Cause.{Cause}
-use Rattle.findings.specs.declared.outcome.Cause.TheVariants.{NodeLimit, Memory}
-use Rattle.findings.specs.declared.outcome.Outcome.{Outcome}
-use Rattle.findings.specs.declared.outcome.Outcome.TheVariants.{Complete, Incomplete}
+use Rattle.tree_coverage.specs.Findings.{Finding, Findings}
+use Rattle.tree_excuses.specs.Excuses.{Excuses, are_any, counted, taken}
+use Rattle.tree_findings.specs.declared.extent.Extent.{Extent}
+use Rattle.tree_findings.specs.declared.outcome.Cause.{Cause}
+use Rattle.tree_findings.specs.declared.outcome.Cause.TheVariants.{NodeLimit, Memory}
+use Rattle.tree_findings.specs.declared.outcome.Outcome.{Outcome}
+use Rattle.tree_findings.specs.declared.outcome.Outcome.TheVariants.{Complete, Incomplete}
 use Rattle.report_text.specs.IdentityText.{text_of_identity}
 
 -- what was found
@@ -42,7 +42,7 @@ first_line depth outcome = codes "depth " ++ (decimal depth ++ (codes ", " ++ (t
 
 -- ---- findings
 
--- one of a kind by its number, and on a line of its own its schedule behind two blanks
+-- one of a kind by its number, and on a line of its own its schedule after two blanks
 abbrev pub text_of_finding : List ℕ → ℕ → Finding → List ℕ
 text_of_finding kind number f =
     kind ++ (codes " " ++ (decimal number ++ (codes ": " ++ (text_of_identity f.identity ++ (codes "\n  " ++ (text_of_schedule f.schedule ++ codes "\n"))))))
@@ -60,7 +60,7 @@ text_of_findings kind fs = findings_from kind 1 fs
 abbrev pub text_of_taken : List Finding → List ℕ
 text_of_taken fs = codes ", taken as normal " ++ decimal (length fs)
 
--- which is told where an error may be excused
+-- which is written where an error may be excused
 abbrev pub text_of_normal : Excuses → List Finding → List ℕ
 text_of_normal x errors = if are_any x then text_of_taken (taken x errors) else []
 
@@ -90,7 +90,7 @@ abbrev pub text_of_all : Excuses → Findings → List ℕ
 text_of_all x findings =
     text_of_findings (codes "error") (counted x findings.errors) ++ (text_of_findings (codes "refusal") findings.refusals ++ text_of_findings (codes "normal") (taken x findings.errors))
 
--- what an exploration comes to whose schedules may have so many steps
+-- what an exploration with schedules of at most so many steps results in
 abbrev pub text_of_report : ℕ → Excuses → Outcome → List ℕ
 text_of_report depth x outcome = first_line depth outcome ++ (text_of_all x (findings_in outcome) ++ (text_of_counts x (findings_in outcome) ++ last_line x outcome))
 
@@ -107,11 +107,11 @@ explained_extent (Incomplete cause findings) = text_of_incomplete cause
 abbrev pub explained_first_line : ℕ → Outcome → List ℕ
 explained_first_line depth outcome = codes "depth " ++ (decimal depth ++ (codes ", " ++ (explained_extent outcome ++ codes "\n")))
 
--- that the result tells of schedules up to the depth
+-- that the result is about schedules up to the depth
 abbrev pub text_of_depth_reached : ℕ → List ℕ
 text_of_depth_reached depth = codes " to depth " ++ decimal depth
 
--- of which schedules the result tells: of all, where the tree is cut at no node, and else of those up to the depth
+-- which schedules the result is about: all, where the tree is cut at no node, and else those up to the depth
 abbrev pub text_of_reach : ℕ → Extent → List ℕ
 text_of_reach depth extent = if extent.cut == 0 then codes ", all schedules" else text_of_depth_reached depth
 

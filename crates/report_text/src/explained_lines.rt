@@ -1,13 +1,13 @@
 // The first and the last line where a report is explained. No write takes memory.
 ghost use Rattle.std.specs.Prelude.{◌≡◌, ◌++◌, false};
 ghost use Rattle.term_core.specs.Stream.{Writes};
-ghost use Rattle.excuses.specs.Excuses.{counted, excuses_in};
+ghost use Rattle.tree_excuses.specs.Excuses.{counted, excuses_in};
 ghost use Rattle.report_text.specs.ReportText.{complete_result, explained_extent, explained_first_line, explained_last_line, explained_result, text_of_depth_reached, text_of_nodes_and_cuts, text_of_reach};
 
 use crate::report::{write_complete_result, write_incomplete, write_nodes};
-use excuses::Excuses;
-use findings::{Extent, FindingList, Outcome};
 use term_core::{Sink, WriteFault, write_all, write_number};
+use tree_excuses::Excuses;
+use tree_findings::{Extent, FindingList, Outcome};
 
 /// Writes the first line of an explained report: how many steps a schedule may have, and how far the exploration
 /// came; where all nodes were visited, also at how many of them the tree is cut. `WriteFault` comes only where the
@@ -48,9 +48,9 @@ fn write_nodes_and_cuts<W: Sink>(sink: &mut W, extent: Extent) -> Result<(), Wri
     write_number(extent.cut, sink)
 }
 
-/// Writes the last line of an explained report: the result, by the errors that count, and where all nodes were
-/// visited, of which schedules it tells: of all, where the tree is cut at no node, and else of those up to the depth.
-/// `WriteFault` comes only where the sink has failed, and then a beginning of the line was written. It takes no memory.
+/// Writes the last line of an explained report: the result, by the errors that count, and where all nodes were visited,
+/// which schedules it is about: all, where the tree is cut at no node, and else those up to the depth. `WriteFault`
+/// comes only where the sink has failed, and then a beginning of the line was written. It takes no memory.
 pub fn write_explained_last_line<W: Sink>(
     sink: &mut W,
     depth: u64,
@@ -83,7 +83,7 @@ fn write_explained_result<W: Sink>(
     }
 }
 
-// Writes the result where all nodes were visited, and of which schedules it tells.
+// Writes the result where all nodes were visited, and which schedules it is about.
 fn write_reached_result<W: Sink>(
     sink: &mut W,
     excuses: &Excuses,
@@ -98,7 +98,7 @@ fn write_reached_result<W: Sink>(
     write_reach(sink, depth, extent)
 }
 
-// Writes of which schedules the result tells.
+// Writes which schedules the result is about.
 fn write_reach<W: Sink>(sink: &mut W, depth: u64, extent: Extent) -> Result<(), WriteFault>
     requires { W.has_failed sink.old ≡ false }
     ensures { Writes (W.contents sink.old) (W.contents sink.new) (W.has_failed sink.new) result (text_of_reach depth extent) }
@@ -110,7 +110,7 @@ fn write_reach<W: Sink>(sink: &mut W, depth: u64, extent: Extent) -> Result<(), 
     }
 }
 
-// Writes that the result tells of schedules up to the depth.
+// Writes that the result is about schedules up to the depth.
 fn write_depth_reached<W: Sink>(sink: &mut W, depth: u64) -> Result<(), WriteFault>
     requires { W.has_failed sink.old ≡ false }
     ensures { Writes (W.contents sink.old) (W.contents sink.new) (W.has_failed sink.new) result (text_of_depth_reached depth) }

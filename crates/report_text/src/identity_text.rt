@@ -2,14 +2,13 @@
 ghost use Rattle.std.specs.Prelude.{◌≡◌, false};
 ghost use Rattle.term_core.specs.Stream.{Writes};
 ghost use Rattle.term_core.specs.Term.{meaning_of};
-ghost use Rattle.findings.specs.Identities.{identity_in};
+ghost use Rattle.world_identities.specs.Identities.{identity_in};
 ghost use Rattle.report_text.specs.IdentityText.{text_of_ended, pid_behind_blank, text_of_deadlock, text_of_runaway, text_of_refused_call, text_of_identity};
 
-use crate::call_text::{write_broken_rule, write_call};
-use crate::event_text::write_end;
 use core_tree::CallKind;
-use findings::Identity;
 use term_core::{Pid, Sink, Term, Terms, WriteFault, write_all, write_number, write_pid};
+use world_event_text::{write_broken_rule, write_call, write_end};
+use world_identities::Identity;
 use world_model::rule::Rule;
 
 /// Writes what a schedule shows, without the end of a line: `PID ends REASON`, `deadlock of PID PID ..`,

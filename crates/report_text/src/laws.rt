@@ -8,7 +8,7 @@ pub fn last_lines_say_it()
     ensures { LastLinesSayIt }
 {}
 
-/// Where nothing is excused, a report lists all errors and then the refusals, and tells how many there are of both.
+/// Where nothing is excused, a report lists all errors and then the refusals, and says how many there are of both.
 pub fn no_excuses_tell_nothing()
     ensures { NoExcusesTellNothing }
 {}

@@ -1,15 +1,12 @@
-// The texts of events, of identities, and of reports, as they are printed. No write takes memory.
+// The texts of what schedules show, and of reports, as they are printed. No write takes memory.
 #![tactic(auto)]
 
-mod call_text;
-pub mod event_text;
 pub mod explained_lines;
 pub mod identity_text;
 pub mod laws;
 pub mod report;
 pub mod standing;
 
-pub use event_text::write_event;
 pub use explained_lines::{write_explained_first_line, write_explained_last_line};
 pub use identity_text::write_identity;
 pub use report::{findings_in, write_counts, write_finding, write_report};

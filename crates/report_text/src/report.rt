@@ -1,21 +1,21 @@
-// The report: what an exploration comes to. No write takes memory.
+// The report: what an exploration results in. No write takes memory.
 ghost use Rattle.std.specs.Prelude.{◌≡◌, false, map};
 ghost use Rattle.term_core.specs.Stream.{Writes};
-ghost use Rattle.excuses.specs.Excuses.{counted, excuses_in, taken, those_that};
-ghost use Rattle.findings.specs.Found.{finding_in};
+ghost use Rattle.tree_excuses.specs.Excuses.{counted, excuses_in, taken, those_that};
+ghost use Rattle.tree_findings.specs.Found.{finding_in};
 ghost use Rattle.report_text.specs.ReportText.{findings_in, text_of_cause, text_of_nodes, text_of_incomplete, text_of_extent, first_line, text_of_finding, text_of_findings, text_of_all, text_of_counts, text_of_normal, text_of_taken, complete_result, text_of_result, last_line, text_of_report};
 ghost use Rattle.report_text.specs.Standing.{word_of};
 
 use crate::identity_text::write_identity;
 use crate::standing::word_of;
-use excuses::{Excuses, Standing};
-use findings::{Cause, Finding, FindingList, Findings, Outcome};
 use term_core::{Sink, WriteFault, write_all, write_number, write_schedule};
+use tree_excuses::{Excuses, Standing};
+use tree_findings::{Cause, Finding, FindingList, Findings, Outcome};
 
-/// Writes what an exploration comes to whose schedules may have so many steps: how far it came, then each error
-/// that counts, each refusal and each error that is taken as normal, a kind after the other and numbered from 1,
-/// with a schedule that shows it, how many they are, and the result. `WriteFault` comes only where the sink has
-/// failed, and then a beginning of the report was written. It takes no memory.
+/// Writes what an exploration with schedules of at most so many steps results in: how far it came, then each error that
+/// counts, each refusal and each error that is taken as normal, a kind after the other and numbered from 1, with a
+/// schedule that shows it, how many they are, and the result. `WriteFault` comes only where the sink has failed, and
+/// then a beginning of the report was written. It takes no memory.
 pub fn write_report<W: Sink>(
     sink: &mut W,
     depth: u64,
@@ -32,7 +32,7 @@ pub fn write_report<W: Sink>(
     write_last_line(sink, excuses, outcome)
 }
 
-/// What was found, by an exploration that came to its end or stopped before it. It takes no memory.
+/// What was found, by an exploration that reached its end or stopped before it. It takes no memory.
 pub fn findings_in(outcome: &Outcome) -> &Findings
     ensures { result.now ≡ findings_in outcome.now }
 {
@@ -111,7 +111,7 @@ fn write_all_findings<W: Sink>(
     write_errors(sink, Standing::Normal, excuses, errors)
 }
 
-// Writes all errors that stand so, numbered from 1.
+// Writes all errors with this standing, numbered from 1.
 fn write_errors<W: Sink>(
     sink: &mut W,
     standing: Standing,
@@ -147,8 +147,8 @@ fn write_findings<W: Sink>(
     Ok(())
 }
 
-/// Writes one finding of a kind (`error`, `refusal`, `normal`) by its number, and on a line of its own its schedule behind
-/// two blanks. `WriteFault` comes only where the sink has failed, and then a beginning of the text was written.
+/// Writes one finding of a kind (`error`, `refusal`, `normal`) by its number, and on a line of its own its schedule
+/// after two blanks. `WriteFault` comes only where the sink has failed, and then a beginning of the text was written.
 /// It takes no memory.
 pub fn write_finding<W: Sink>(
     sink: &mut W,

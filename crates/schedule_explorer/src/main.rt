@@ -1,11 +1,11 @@
-// The program: names the three streams and the words, tells how far it is, and does the rest in `explorer_engine`.
+// The program: names the three streams and the words, shows how far it is, and does the rest in `program_runs`.
 #![tactic(auto)]
 
 mod blocks;
 mod progress;
 
 use blocks::Blocks;
-use explorer_engine::run_to_exit;
+use program_runs::run_to_exit;
 use progress::{Erasing, Progress};
 use std::env;
 use std::io::BufWriter;

@@ -1,7 +1,7 @@
-// How far an exploration is, told on standard error where that is a terminal.
+// How far an exploration is, shown on standard error where that is a terminal.
 ghost use Rattle.std.specs.Prelude.{◌≤◌, false};
 
-use sleep_tree::Gate;
+use search_expansion::Observer;
 use std::io;
 use std::io::{IsTerminal, Write};
 use std::rt::{Clock, Stderr};
@@ -12,12 +12,12 @@ use term_core::{Output, WriteFault, write_all, write_number};
 /// The clock is looked at once for so many nodes.
 const NODES: u64 = 1_024;
 
-/// What erases the line of a terminal on which it stands (ECMA-48, "Erase in line").
+/// What erases the line of a terminal that the cursor is on (ECMA-48, "Erase in line").
 const ERASE: &[u8] = b"\r\x1b[K";
 
-/// Tells how far an exploration is, at most once a second: how many nodes were visited, how many that is a second, and
+/// Shows how far an exploration is, at most once a second: how many nodes were visited, how many that is a second, and
 /// how many jobs were done. It is one line, which is erased before anything else is written. Where standard error is no
-/// terminal, or there is no clock, nothing is told.
+/// terminal, or there is no clock, nothing is shown.
 #[derive(Drop)]
 pub struct Progress<'r, C: Clock> {
     clock: &'r C,
@@ -70,7 +70,7 @@ impl<'r, C: Clock> Progress<'r, C> {
     }
 }
 
-impl<'r, C: Clock> Gate for Progress<'r, C> {
+impl<'r, C: Clock> Observer for Progress<'r, C> {
     fn turn(&self, _ticket: u64) {
         let Some(begun) = self.begun else {
             return;
@@ -103,7 +103,7 @@ pub struct Erasing<'p, 'r, C: Clock, W> {
 }
 
 impl<'p, 'r, C: Clock, W: Write> Erasing<'p, 'r, C, W> {
-    /// The writer behind the line.
+    /// A writer that erases the line first and then writes to this one.
     pub fn new(progress: &'p Progress<'r, C>, writer: W) -> Erasing<'p, 'r, C, W> {
         Erasing { progress, writer }
     }

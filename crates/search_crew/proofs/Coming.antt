@@ -1,28 +1,28 @@
--- What a finished pool comes to is what the search comes to.
+-- What a finished pool results in is what the search results in.
 use Rattle.std.proofs.Common.{◌≡◌, ◌≤◌, ◌<◌, ℕ, Bool, true, List, ◌++◌, length, refl, sym, ap, ◌∙◌, subst}
 use Rattle.std.specs.List.Sorted.{IsPermutation}
 use Rattle.world_model.specs.Names.{IsAmong}
 use Rattle.world_model.specs.Requests.{Program}
 use Rattle.world_model.specs.Shown.{Identity, is_error, is_refusal}
-use Rattle.coverage.specs.Findings.{Finding, Findings, findings_among}
-use Rattle.coverage.specs.Jobs.{Job, Node, root, schedules_of}
-use Rattle.coverage.specs.Shown.{RunShows}
-use Rattle.coverage.proofs.FindingLaws.{errors_exact, refusals_exact}
-use Rattle.coverage.proofs.JobLaws.{root_nodes}
-use Rattle.coverage.proofs.ShownLaws.{nodes_run}
-use Rattle.findings.specs.declared.extent.Extent.{Extent}
-use Rattle.findings.specs.declared.outcome.Cause.{Cause}
-use Rattle.findings.specs.declared.outcome.Cause.TheVariants.{NodeLimit, Memory}
-use Rattle.findings.specs.declared.outcome.Outcome.{Outcome}
-use Rattle.findings.specs.declared.outcome.Outcome.TheVariants.{Complete, Incomplete}
-use Rattle.frontier_pool.specs.Calls.{ComesTo, IsOwn}
-use Rattle.frontier_pool.specs.Explorations.{AreOne, OneHasTheSameNodes, OneShowsTheSame}
-use Rattle.frontier_pool.specs.Seen.{Seen}
-use Rattle.frontier_pool.specs.Sums.{VisitsSome}
-use Rattle.frontier_pool.proofs.Jobs.{same_extent, same_program}
-use Rattle.sleep_jobs.specs.Explorations.{ExplorationSeen, findings_of, nodes_of, program_in}
-use Rattle.sleep_jobs.specs.Meanings.{AreOfJob, AreShown}
-use Rattle.sleep_jobs.specs.Pieces.{extent_of}
+use Rattle.tree_coverage.specs.Findings.{Finding, Findings, findings_among}
+use Rattle.tree_coverage.specs.Jobs.{Job, Node, root, schedules_of}
+use Rattle.tree_coverage.specs.Shown.{RunShows}
+use Rattle.tree_coverage.proofs.FindingLaws.{errors_exact, refusals_exact}
+use Rattle.tree_coverage.proofs.JobLaws.{root_nodes}
+use Rattle.tree_coverage.proofs.ShownLaws.{nodes_run}
+use Rattle.tree_findings.specs.declared.extent.Extent.{Extent}
+use Rattle.tree_findings.specs.declared.outcome.Cause.{Cause}
+use Rattle.tree_findings.specs.declared.outcome.Cause.TheVariants.{NodeLimit, Memory}
+use Rattle.tree_findings.specs.declared.outcome.Outcome.{Outcome}
+use Rattle.tree_findings.specs.declared.outcome.Outcome.TheVariants.{Complete, Incomplete}
+use Rattle.search_pool.specs.Calls.{ComesTo, IsOwn}
+use Rattle.search_pool.specs.Explorations.{AreOne, OneHasTheSameNodes, OneShowsTheSame}
+use Rattle.search_pool.specs.Seen.{Seen}
+use Rattle.search_pool.specs.Sums.{VisitsSome}
+use Rattle.search_pool.proofs.Jobs.{same_extent, same_program}
+use Rattle.search_jobs.specs.Explorations.{ExplorationSeen, findings_of, nodes_of, program_in}
+use Rattle.search_jobs.specs.Meanings.{AreOfJob, AreShown}
+use Rattle.search_jobs.specs.Pieces.{extent_of}
 use Rattle.tree_cuts.specs.Cuts.{IsUncut}
 use Rattle.tree_cuts.proofs.CutLaws.{cuts_of_root, errors_ever, refusals_ever}
 use Rattle.search_crew.specs.Outcomes.{AllAreShown, IsExact, IsListedOf, IsListedOfAll, IsOutcome, IsOutcomeOf, IsWhole, all_findings, all_nodes, whole_extent}
@@ -59,7 +59,7 @@ visits_as e f name limit why found nodes_same shows_same one some = record {
   beyond = some.beyond;
 }
 
--- ---- what it comes to
+-- ---- what it results in
 
 -- of the job that the pool began with, within its limit
 comes_at : (s : Seen) (e : ExplorationSeen) (outcome : Outcome) → OneHasTheSameNodes → OneShowsTheSame → AreOne s.exploration e → ComesTo s outcome → IsOutcomeOf e s.start s.limit outcome
@@ -108,7 +108,7 @@ of_root e limit (Complete findings extent) comes = (all_found e findings comes.0
 of_root e limit (Incomplete NodeLimit findings) comes = (comes.0, all_shown e findings comes.1, comes.2)
 of_root e limit (Incomplete Memory findings) comes = (all_shown e findings comes.0, comes.1)
 
--- what a search of the job comes to that is the whole tree
+-- what a search of the job that is the whole tree results in
 pub of_tree : (e : ExplorationSeen) (name : Job) (limit : ℕ) (outcome : Outcome) → IsOutcomeOf e name limit outcome → name ≡ root → IsOutcome e limit outcome
 of_tree e name limit outcome comes is = of_root e limit outcome (subst (λ (job : Job). IsOutcomeOf e job limit outcome) is comes)
 

@@ -21,24 +21,24 @@ use Rattle.core_tree.specs.contracts.module.Definition as Definition
 use Rattle.core_tree.specs.contracts.module.Module as Module
 use Rattle.core_tree.specs.contracts.module.Module.TheInside as ModuleInside
 use Rattle.core_tree.specs.contracts.tree.Expr as Expr
-use Rattle.findings.proofs.flags.Flags.TheSendSync as flags
-use Rattle.frontier_pool.proofs.entry.PoolEvent.TheSendSync as entry
-use Rattle.frontier_pool.proofs.entry.Stop.TheSendSync as stop
-use Rattle.frontier_pool.specs.contracts.frontier.Frontier as Frontier
-use Rattle.frontier_pool.specs.contracts.frontier.Frontier.TheInside as FrontierInside
-use Rattle.frontier_pool.specs.contracts.pool.Pool as Pool
-use Rattle.frontier_pool.specs.contracts.seat.Seat as Seat
-use Rattle.frontier_pool.specs.contracts.seat.Seat.TheInside as SeatInside
-use Rattle.frontier_pool.specs.contracts.state.PoolState as PoolState
-use Rattle.frontier_pool.specs.contracts.state.PoolState.TheInside as PoolStateInside
-use Rattle.frontier_pool.specs.declared.seat.PoolName as PoolName
-use Rattle.sleep_jobs.specs.contracts.exploration.Exploration as Exploration
-use Rattle.sleep_jobs.specs.contracts.job.Job as Job
-use Rattle.sleep_jobs.specs.contracts.job.Job.TheInside as JobInside
-use Rattle.sleep_jobs.specs.contracts.names.JobName as JobName
-use Rattle.sleep_jobs.specs.contracts.names.JobName.TheInside as JobNameInside
-use Rattle.sleep_jobs.specs.contracts.names.Ticket as Ticket
-use Rattle.sleep_jobs.specs.contracts.names.Ticket.TheInside as TicketInside
+use Rattle.world_identities.proofs.flags.Flags.TheSendSync as flags
+use Rattle.search_pool.proofs.entry.PoolEvent.TheSendSync as entry
+use Rattle.search_pool.proofs.entry.Stop.TheSendSync as stop
+use Rattle.search_pool.specs.contracts.frontier.Frontier as Frontier
+use Rattle.search_pool.specs.contracts.frontier.Frontier.TheInside as FrontierInside
+use Rattle.search_pool.specs.contracts.pool.Pool as Pool
+use Rattle.search_pool.specs.contracts.seat.Seat as Seat
+use Rattle.search_pool.specs.contracts.seat.Seat.TheInside as SeatInside
+use Rattle.search_pool.specs.contracts.state.PoolState as PoolState
+use Rattle.search_pool.specs.contracts.state.PoolState.TheInside as PoolStateInside
+use Rattle.search_pool.specs.declared.seat.PoolName as PoolName
+use Rattle.search_jobs.specs.contracts.exploration.Exploration as Exploration
+use Rattle.search_jobs.specs.contracts.job.Job as Job
+use Rattle.search_jobs.specs.contracts.job.Job.TheInside as JobInside
+use Rattle.search_jobs.specs.contracts.names.JobName as JobName
+use Rattle.search_jobs.specs.contracts.names.JobName.TheInside as JobNameInside
+use Rattle.search_jobs.specs.contracts.names.Ticket as Ticket
+use Rattle.search_jobs.specs.contracts.names.Ticket.TheInside as TicketInside
 use Rattle.std.proofs.Crossing.{crosses}
 use Rattle.std.proofs.MapsCrossing as maps
 use Rattle.std.proofs.sync.ledger.Book.TheSendSync as book
@@ -92,7 +92,7 @@ module _ (N : RattleType) (g : PoolName.Ghosts N.Denot) (l : Ledger.Ghosts N.Den
   pub seat_send : IsSend (Seat.the_row N g l)
   seat_send = view_send _ _ _ _ _ (declared_send (SeatInside.the_type N g l) (search sendable, (search (share.the_send, sendable) depth 40, tt)))
 
-  -- what the closure of a worker has: the runtime, the allocator, the pool, its seat, the module, the least budget and the gate
+  -- what the closure of a worker has: the runtime, the allocator, the pool, its seat, the module, the least budget and the observer
   pub worker_send : (name : Sym) (a b c d e : NamedLft) (R G : RattleType) → IsSync (param 1 R) → IsSync (param 2 G) → IsSend (TupleAt name (ShrRef a.mir a.lft (param 1 R) ∷ Global.the_row ∷ ShrRef b.mir b.lft (Pool.the_row c N g l) ∷ Seat.the_row N g l ∷ ShrRef d.mir d.lft Module.the_row ∷ u64-field.row ∷ ShrRef e.mir e.lft (param 2 G) ∷ []))
   worker_send name a b c d e R G r s =
       declared_send (type_at name (ShrRef a.mir a.lft (param 1 R) ∷ Global.the_row ∷ ShrRef b.mir b.lft (Pool.the_row c N g l) ∷ Seat.the_row N g l ∷ ShrRef d.mir d.lft Module.the_row ∷ u64-field.row ∷ ShrRef e.mir e.lft (param 2 G) ∷ []))

@@ -2,12 +2,12 @@
 use denote.Param.Send.{IsSend, IsSync, sendable, view_send}
 use denote.Param.SendFields.{declared_send, variants_send}
 use Rattle.core_calls.proofs.call.CallKind.TheSendSync as call
-use Rattle.findings.specs.contracts.finding.Finding as Finding
-use Rattle.findings.specs.contracts.found.Findings as Findings
-use Rattle.findings.specs.contracts.found.Findings.TheInside as FindingsInside
-use Rattle.findings.specs.contracts.identity.Identity as Identity
-use Rattle.findings.specs.contracts.list.FindingList as FindingList
-use Rattle.findings.specs.contracts.list.FindingList.TheInside as FindingListInside
+use Rattle.tree_findings.specs.contracts.finding.Finding as Finding
+use Rattle.tree_findings.specs.contracts.found.Findings as Findings
+use Rattle.tree_findings.specs.contracts.found.Findings.TheInside as FindingsInside
+use Rattle.world_identities.specs.contracts.identity.Identity as Identity
+use Rattle.tree_findings.specs.contracts.list.FindingList as FindingList
+use Rattle.tree_findings.specs.contracts.list.FindingList.TheInside as FindingListInside
 use Rattle.std.proofs.Crossing.{crosses}
 use Rattle.std.proofs.MapsCrossing as maps
 use Rattle.term_core.proofs.pid.Pid.TheSendSync as pid

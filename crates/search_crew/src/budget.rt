@@ -5,7 +5,7 @@ ghost use Rattle.std.specs.Prelude.{◌≡◌, ◌*◌, ◌-◌, ◌^◌, ◌≤
 const MOST: u64 = 64;
 
 /// How many nodes of a job a worker visits at most before it gives the job back. They are the least at first, and twice
-/// as many from piece to piece while nobody waits for work, so that the pool is called more seldom. Where somebody waits
+/// as many from piece to piece while nobody waits for work, so that the pool is called less often. Where somebody waits
 /// they are the least again, so that what is left of a job comes back soon.
 #[derive(Clone, Copy)]
 pub(crate) struct Budget {

@@ -8,4 +8,4 @@ mod worker;
 
 pub use crew::search;
 pub use fault::SearchFault;
-pub use sleep_tree::{Gate, Job, Unwatched};
+pub use search_expansion::{Job, Observer, Unwatched};

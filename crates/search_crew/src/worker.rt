@@ -1,13 +1,13 @@
 // What one worker does.
 ghost use Rattle.std.specs.Prelude.{◌≡◌, ◌≤◌};
-ghost use Rattle.sleep_jobs.specs.Explorations.{program_in};
+ghost use Rattle.search_jobs.specs.Explorations.{program_in};
 ghost use Rattle.world_model.specs.Asking.{program_of};
 
 use crate::budget::Budget;
 use core_copies::copy_module;
 use core_tree::Module;
-use frontier_pool::{GiveFault, Pool, PoolName, Seat, Taken};
-use sleep_tree::{Gate, Job, Ticket, expand};
+use search_expansion::{Job, Observer, Ticket, expand};
+use search_pool::{GiveFault, Pool, PoolName, Seat, Taken};
 use std::alloc::Global;
 use std::sync::Wait;
 
@@ -18,7 +18,7 @@ pub(crate) struct Back<N: PoolName> {
     pub(crate) is_strange: bool,
 }
 
-/// How a worker goes on behind a job.
+/// How a worker goes on after a job.
 #[derive(Clone, Copy)]
 enum Progress {
     GoesOn,
@@ -26,9 +26,9 @@ enum Progress {
     IsStrange,
 }
 
-/// Expands a job, while no lock is held, and gives its piece back. Where memory is wanting for the first, or the pool
-/// refuses the piece, it stops the pool; a give without memory has stopped it.
-fn expand_one<'m, N: PoolName, R: Wait, G: Gate>(
+// Expands a job, while no lock is held, and gives its piece back. Where there is no memory for the first, or the pool
+// refuses the piece, it stops the pool; a give without memory has stopped it.
+fn expand_one<'m, N: PoolName, R: Wait, O: Observer>(
     rt: &R,
     alloc: Global,
     pool: &Pool<'m, N>,
@@ -37,19 +37,19 @@ fn expand_one<'m, N: PoolName, R: Wait, G: Gate>(
     ticket: &Ticket,
     job: Job<'m>,
     budget: u64,
-    gate: &G,
+    observer: &O,
 ) -> Progress
     requires budget { 1 ≤ budget }
     requires numbered { 1 ≤ ticket.now.number }
     requires program { program_of program.now ≡ program_in job.exploration }
 {
-    let Ok(piece) = expand(alloc, program, job, budget, gate) else {
+    let Ok(piece) = expand(alloc, program, job, budget, observer) else {
         pool.stop(rt);
         return Progress::Ends;
     };
     match pool.give(rt, seat, ticket, piece) {
         Ok(_) => {
-            gate.given(ticket.number);
+            observer.given(ticket.number);
             Progress::GoesOn
         }
         Err(GiveFault::Memory) => Progress::Ends,
@@ -60,17 +60,17 @@ fn expand_one<'m, N: PoolName, R: Wait, G: Gate>(
     }
 }
 
-/// Takes jobs, expands them and gives them back, until no job is left or the pool was stopped. It waits where no job is
-/// open and one is out. It visits the least number of nodes of a job, and more from job to job while no worker waits, this
-/// one among them.
-fn expand_all<'m, N: PoolName, R: Wait, G: Gate>(
+// Takes jobs, expands them and gives them back, until no job is left or the pool was stopped. It waits where no job is
+// open and one is out. It visits the least number of nodes of a job, and more from job to job while no worker waits, this
+// one among them.
+fn expand_all<'m, N: PoolName, R: Wait, O: Observer>(
     rt: &R,
     alloc: Global,
     pool: &Pool<'m, N>,
     seat: &mut Seat<N>,
     program: &Module,
     least: u64,
-    gate: &G,
+    observer: &O,
 ) -> Progress
     requires some { 1 ≤ least }
     requires program { program_of program.now ≡ N.program }
@@ -91,7 +91,9 @@ fn expand_all<'m, N: PoolName, R: Wait, G: Gate>(
             Taken::Finished | Taken::Stopped => break,
             Taken::Work(ticket, job) => {
                 let nodes = budget.nodes();
-                progress = expand_one(rt, alloc, pool, seat, program, &ticket, job, nodes, gate);
+                progress = expand_one(
+                    rt, alloc, pool, seat, program, &ticket, job, nodes, observer,
+                );
             }
         }
         budget = budget.next(is_idle || pool.is_awaited());
@@ -99,16 +101,16 @@ fn expand_all<'m, N: PoolName, R: Wait, G: Gate>(
     progress
 }
 
-/// What a worker does: it copies the module, so that it shares no memory with others while it expands a job, and expands
-/// jobs until none is left or the pool was stopped. Where memory is wanting for its module, it stops the pool.
-pub(crate) fn work<'m, N: PoolName, R: Wait, G: Gate>(
+/// What a worker does: it copies the module, so that it shares no memory with others while it expands a job, and
+/// expands jobs until none is left or the pool was stopped. Where there is no memory for its module, it stops the pool.
+pub(crate) fn work<'m, N: PoolName, R: Wait, O: Observer>(
     rt: &R,
     alloc: Global,
     pool: &Pool<'m, N>,
     seat: Seat<N>,
     program: &Module,
     least: u64,
-    gate: &G,
+    observer: &O,
 ) -> Back<N>
     requires some { 1 ≤ least }
     requires program { program_of program.now ≡ N.program }
@@ -121,7 +123,7 @@ pub(crate) fn work<'m, N: PoolName, R: Wait, G: Gate>(
             is_strange: false,
         };
     };
-    let progress = expand_all(rt, alloc, pool, &mut seat, &own, least, gate);
+    let progress = expand_all(rt, alloc, pool, &mut seat, &own, least, observer);
     Back {
         seat,
         is_strange: matches!(progress, Progress::IsStrange),

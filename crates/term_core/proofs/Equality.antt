@@ -1,4 +1,4 @@
--- What `==` tells: the two are the same.
+-- What `==` says: the two are the same.
 use Rattle.std.proofs.Common.{◌≡◌, ◌↔◌, Bool, ℕ, List, IsTrue, sym, ap, ◌∙◌}
 use Rattle.std.specs.declared.cmp.Ordering.{Ordering}
 use Rattle.std.specs.declared.cmp.Ordering.TheVariants.{Equal}

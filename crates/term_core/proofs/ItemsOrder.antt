@@ -14,7 +14,7 @@ use Rattle.term_core.specs.inside.OrderLaws.{order_of_terms-Tuple}
 use Rattle.term_core.specs.declared.term.Term.{Term}
 use Rattle.term_core.specs.declared.term.Term.TheVariants.{Tuple}
 
--- the rest of a list from a place on: its item, and the rest behind it
+-- the rest of a list from a place on: its item, and the rest after it
 pub drop-map : (xs : List Term) (i : ℕ) (x : Term) → i < length xs → x ≡ get_or xs i x → drop i (map meaning_of xs) ≡ meaning_of x ∷ drop (suc i) (map meaning_of xs)
 drop-map [] i x h e = absurd (omega arith)
 drop-map (z ∷ zs) zero x h e = λ j. meaning_of (sym e j) ∷ map meaning_of zs

@@ -8,11 +8,11 @@ use Rattle.term_core.proofs.NumberTexts.{IsDigit, all_digits-decimal}
 use Rattle.term_core.specs.Schedule.{IsLawfulNumber, IsLawfulPid}
 use Rattle.term_core.specs.Text.{text_of_pid}
 
--- each number behind a dot
+-- each number after a dot
 abbrev pub text_of_numbers : List ℕ → List ℕ
 text_of_numbers numbers = flat_map (λ n. 46 ∷ decimal n) numbers
 
--- bytes of a pid's text behind the `P` are dots and digits
+-- bytes of a pid's text after the `P` are dots and digits
 abbrev pub IsPidByte : ℕ → Type 0
 IsPidByte b = (46 ≤ b) × (b ≤ 57)
 
@@ -35,14 +35,14 @@ pub numbers_begin : (ns : List ℕ) → Begins 46 (text_of_numbers ns)
 numbers_begin [] = tt
 numbers_begin (n ∷ ns) = refl
 
--- The numbers that were read of a text are lawful, the rest stands behind them, and where the text is
+-- The numbers that were read of a text are lawful, the rest follows them, and where the text is
 -- that of a lawful pid, the rest is the text of some of its numbers.
 pub record ReadsPid (text numbers rest : List ℕ) : Type 0 where
   pub lawful : IsLawfulPid numbers
   pub parts : text ≡ text_of_pid numbers ++ rest
   pub left : (ns : List ℕ) → IsLawfulPid ns → text ≡ text_of_pid ns → (ms : List ℕ) × IsLawfulPid ms × (rest ≡ text_of_numbers ms)
 
--- the first of the numbers whose text this is, and the rest of them
+-- the first of the numbers that this text writes, and the rest of them
 record Next (tail : List ℕ) : Type 0 where
   number : ℕ
   others : List ℕ

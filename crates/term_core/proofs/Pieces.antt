@@ -1,4 +1,4 @@
--- Bytes in pieces: what stands before the first mark, and the rest.
+-- Bytes in pieces: what comes before the first mark, and the rest.
 use Rattle.std.proofs.Common.{◌≡◌, ◌==◌, ℕ, ◌≤◌, Bool, true, false, List, [], ◌∷◌, ◌++◌, length, drop, take_at, drop_at, take-append-drop, ap, sym, refl, ◌∙◌, arith, one-add}
 use Rattle.std.proofs.lemmas.List.Sums.{prefix_len-le-length}
 use Rattle.std.specs.List.{AllByRecursion, position_or_len, before_first}
@@ -12,11 +12,11 @@ abbrev pub Begins : ℕ → List ℕ → Type 0
 Begins mark [] = Unit {0}
 Begins mark (byte ∷ bytes) = (byte == mark) ≡ true
 
--- how many bytes stand before the first mark
+-- how many bytes come before the first mark
 abbrev pub place : ℕ → List ℕ → ℕ
 place mark bytes = position_or_len (λ byte. byte == mark) bytes
 
--- what stands before the first mark
+-- what comes before the first mark
 abbrev pub front : ℕ → List ℕ → List ℕ
 front mark bytes = before_first (λ byte. byte == mark) bytes
 

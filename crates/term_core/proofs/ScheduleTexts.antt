@@ -8,7 +8,7 @@ use Rattle.term_core.specs.declared.schedule.ScheduleFault.{ScheduleFault}
 use Rattle.term_core.specs.declared.schedule.ScheduleFault.TheVariants.{BadStep, Memory}
 use Rattle.term_core.specs.declared.step.Step.{Step}
 
--- what stands behind the first step's text
+-- what follows the first step's text
 abbrev pub behind_first : List Step → List ℕ
 behind_first [] = []
 behind_first (step ∷ steps) = 32 ∷ text_of_schedule (step ∷ steps)
@@ -33,7 +33,7 @@ steps_and_blanks-push (step ∷ steps) last rest =
     ∙ ap (λ t. text_of_step step ++ 32 ∷ t) (steps_and_blanks-push steps last rest)
     ∙ sym (steps_and_blanks-cons step steps (text_of_step last ++ 32 ∷ rest))
 
--- the last step has no blank behind it
+-- the last step has no blank after it
 pub text_of_schedule-push : (steps : List Step) (last : Step) → text_of_schedule (steps ++ last ∷ []) ≡ steps_and_blanks steps ++ text_of_step last
 text_of_schedule-push [] last = refl
 text_of_schedule-push (step ∷ []) last = sym (steps_and_blanks-cons step [] (text_of_step last))
@@ -41,7 +41,7 @@ text_of_schedule-push (step ∷ next ∷ steps) last =
     ap (λ t. text_of_step step ++ 32 ∷ t) (text_of_schedule-push (next ∷ steps) last)
     ∙ sym (steps_and_blanks-cons step (next ∷ steps) (text_of_step last))
 
--- The steps that were read of a text are lawful, each has a blank behind it, and the rest stands behind them.
+-- The steps that were read of a text are lawful, each has a blank after it, and the rest follows them.
 pub record ReadsSteps (text : List ℕ) (steps : List Step) (rest : List ℕ) : Type 0 where
   pub lawful : AreLawful steps
   pub parts : text ≡ steps_and_blanks steps ++ rest
@@ -64,7 +64,7 @@ reads_last text rest steps step r h e f =
       r.parts ∙ ap (λ t. steps_and_blanks steps ++ t) cut ∙ sym (text_of_schedule-push steps step),
     )
 
--- where two lawful schedules that begin with a step have one text, their first steps and what stands behind them are the same
+-- where two lawful schedules that begin with a step have one text, their first steps and what follows them are the same
 first_cut : (x y : Step) (a b : List ℕ) → IsLawfulStep x → IsLawfulStep y → Begins 32 a → Begins 32 b → text_of_step x ++ a ≡ text_of_step y ++ b → (x ≡ y) × (a ≡ b)
 first_cut x y a b h k s t e =
     let same = one_cut 32 (text_of_step x) a (text_of_step y) b (lacks-step x h) s (lacks-step y k) t e in
@@ -85,7 +85,7 @@ schedule_injective (x ∷ xs) (y ∷ ys) h k e =
     let same = first_cut x y (behind_first xs) (behind_first ys) h.0 k.0 (behind_first_begins xs) (behind_first_begins ys) (sym (text_of_schedule-cons x xs) ∙ e ∙ text_of_schedule-cons y ys) in
     ap₂ ◌∷◌ same.0 (schedule_injective xs ys h.1 k.1 (same_rest xs ys same.1))
 
--- behind some steps of a lawful schedule the word is the text of the next one
+-- after some steps of a lawful schedule the word is the text of the next one
 next_word : (before : List Step) (rest : List ℕ) (step : Step) (steps : List Step) → AreLawful before → AreLawful (step ∷ steps) → steps_and_blanks before ++ rest ≡ text_of_schedule (step ∷ steps) → (next : Step) × IsLawfulStep next × (front 32 rest ≡ text_of_step next)
 next_word [] rest step steps h k e =
     (step, k.0, ap (front 32) (e ∙ text_of_schedule-cons step steps) ∙ front-append 32 (text_of_step step) (behind_first steps) (lacks-step step k.0) (behind_first_begins steps))
@@ -104,7 +104,7 @@ no_schedule text at b (step ∷ steps) h e =
     let next = next_word b.before b.rest step steps b.lawful h (sym b.parts ∙ e) in
     b.bad next.0 next.1 next.2
 
--- What is read is the schedule whose text it is, and where there is one, no step is bad.
+-- What is read is the schedule with this text, and where there is one, no step is bad.
 pub reads_only : {V : Type 0} (items : V → List Step) (text : List ℕ) (result : Result V ScheduleFault)
     → IfOk result (λ v. AreLawful (items v) × (text ≡ text_of_schedule (items v)))
     → ((at : ℕ) → IsErrOf result (BadStep at) → IsFirstBadStep text at)

@@ -12,7 +12,7 @@ abbrev pub first_pid : Step → List ℕ
 first_pid (Turn pid) = pid
 first_pid (Deliver from to) = from
 
--- what stands behind it
+-- what follows it
 abbrev pub second_text : Step → List ℕ
 second_text (Turn pid) = []
 second_text (Deliver from to) = 62 ∷ text_of_pid to
@@ -38,11 +38,11 @@ front-step step h = ap (front 62) (parts_of_step step) ∙ front-append 62 (text
 pub behind-step : (step : Step) → IsLawfulStep step → behind 62 (text_of_step step) ≡ second_text step
 behind-step step h = ap (behind 62) (parts_of_step step) ∙ behind-append 62 (text_of_pid (first_pid step)) (second_text step) (lacks_mark step h) (second_begins step)
 
--- no step where no pid stands before the `>`
+-- no step where no pid comes before the `>`
 pub no_first : (word : List ℕ) → ((pid : List ℕ) → IsLawfulPid pid → front 62 word ≡ text_of_pid pid → ⊥) → (step : Step) → IsLawfulStep step → word ≡ text_of_step step → ⊥
 no_first word none step h e = none (first_pid step) (first_lawful step h) (ap (front 62) e ∙ front-step step h)
 
--- nor where none stands behind it
+-- nor where none follows it
 pub no_second : (word to : List ℕ) (b : ℕ) → behind 62 word ≡ b ∷ to → ((pid : List ℕ) → IsLawfulPid pid → to ≡ text_of_pid pid → ⊥) → (step : Step) → IsLawfulStep step → word ≡ text_of_step step → ⊥
 no_second word to b e none (Turn pid) h f = let g : b ∷ to ≡ [] = sym e ∙ ap (behind 62) f ∙ behind-step (Turn pid) h in cc
 no_second word to b e none (Deliver p q) h f =

@@ -1,4 +1,4 @@
--- The schedules that a text can be of, and the first step of a text that is none.
+-- The schedules that a text can write, and the first bad step of a text that writes no schedule.
 use Rattle.std.specs.Prelude.{◌≡◌, ℕ, ◌≤◌, ◌<◌, ◌^◌, ◌==◌, List, [], ◌∷◌, ◌++◌, length}
 use Rattle.std.specs.List.{flat_map, before_first, AllByRecursion}
 use Rattle.term_core.specs.Text.{text_of_step}
@@ -30,7 +30,7 @@ steps_and_blanks steps = flat_map (λ step. text_of_step step ++ 32 ∷ []) step
 abbrev pub first_word : List ℕ → List ℕ
 first_word bytes = before_first (λ byte. byte == 32) bytes
 
--- lawful steps, each with a blank after it, stand before place `at` of the text, which is not empty, and the word there is the text of no lawful step
+-- lawful steps, each followed by a blank, come before place `at` of the text, which is not empty, and the word there is the text of no lawful step
 pub record IsFirstBadStep (text : List ℕ) (at : ℕ) : Type 0 where
   pub before : List Step
   pub rest : List ℕ

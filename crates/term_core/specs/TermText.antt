@@ -5,7 +5,7 @@ use Rattle.std.specs.Fmt.{decimal, signed_decimal}
 use Rattle.term_core.specs.Meaning.{Meaning, Meanings, Int, Atom, Ref, Pid, Tuple, Nil, Cons, NoMore, Also}
 use Rattle.term_core.specs.Text.{text_of_pid}
 
--- below 32 a backslash and three octal digits, else the byte as it stands
+-- below 32 a backslash and three octal digits, else the byte itself
 abbrev pub plain_byte : ℕ → List ℕ
 plain_byte c = if nat_lt c 32 then 92 ∷ (48 + c / 64) ∷ (48 + c / 8 % 8) ∷ (48 + c % 8) ∷ [] else c ∷ []
 
@@ -47,7 +47,7 @@ abbrev mutual
   text_of_term Nil = 91 ∷ 93 ∷ []
   text_of_term (Cons head tail) = 91 ∷ (text_of_term head ++ text_of_tail tail)
 
-  -- what stands after the head of a list cell
+  -- what comes after the head of a list cell
   pub text_of_tail : Meaning → List ℕ
   text_of_tail (Int n) = behind_bar (signed_decimal n)
   text_of_tail (Atom text) = behind_bar (text_of_atom text)
@@ -61,12 +61,12 @@ abbrev mutual
   text_of_tuple NoMore = 123 ∷ 125 ∷ []
   text_of_tuple (Also first others) = 123 ∷ (text_of_term first ++ text_of_others others)
 
-  -- what stands after the first part of a tuple
+  -- what comes after the first part of a tuple
   pub text_of_others : Meanings → List ℕ
   text_of_others NoMore = 125 ∷ []
   text_of_others (Also first others) = 44 ∷ (text_of_term first ++ text_of_others others)
 
--- the end of a list whose last tail this is
+-- the end of a list with this last tail
 abbrev pub text_of_end : Meaning → List ℕ
 text_of_end (Int n) = behind_bar (signed_decimal n)
 text_of_end (Atom text) = behind_bar (text_of_atom text)

@@ -16,8 +16,8 @@ use crate::step::Step;
 use crate::term::{Pair, Term, Terms};
 use std::hash::{Hash, Hasher};
 
-/// Feeds a term to a hasher. It goes along the tails of lists by a loop, and into heads and the parts
-/// of tuples by recursion.
+// Feeds a term to a hasher. It goes along the tails of lists by a loop, and into heads and the parts
+// of tuples by recursion.
 #[cycle(hash)]
 fn feed_term<H: Hasher>(term: &Term, state: &mut H)
     ensures { state.new ≡ fold H.write state.old (writes_of_term (meaning_of term.now)) }
@@ -56,7 +56,7 @@ fn feed_term<H: Hasher>(term: &Term, state: &mut H)
     }
 }
 
-/// Feeds how many terms there are, and each of them.
+// Feeds how many terms there are, and each of them.
 #[cycle(hash)]
 fn feed_parts<H: Hasher>(parts: &Terms, state: &mut H)
     ensures { state.new ≡ fold H.write state.old (writes_of_items parts.now) }

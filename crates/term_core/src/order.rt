@@ -13,7 +13,7 @@ use std::cmp::Ordering;
 pub mod names;
 pub mod steps;
 
-/// The place of the term's kind among the kinds.
+// The place of the term's kind among the kinds.
 fn rank(term: &Term) -> u8
     ensures { result ≡ rank_of (meaning_of term.now) }
 {
@@ -28,8 +28,8 @@ fn rank(term: &Term) -> u8
     }
 }
 
-/// Which of two terms comes first. It goes along the tails of lists by a loop, and into heads and the
-/// parts of tuples by recursion.
+// Which of two terms comes first. It goes along the tails of lists by a loop, and into heads and the
+// parts of tuples by recursion.
 #[cycle(order)]
 fn order_of(a: &Term, b: &Term) -> Ordering
     ensures { result ≡ order_of_terms (meaning_of a.now) (meaning_of b.now) }
@@ -58,8 +58,8 @@ fn order_of(a: &Term, b: &Term) -> Ordering
     }
 }
 
-/// Which of two tuples comes first: the smaller one, and of two of one size the one whose part is the
-/// lesser where they first differ.
+// Which of two tuples comes first: the smaller one, and of two of one size the one with the lesser part where they
+// first differ.
 #[cycle(order)]
 fn order_of_tuples(a: &Terms, b: &Terms) -> Ordering
     ensures { result ≡ ordering_then (nat_cmp (length a.now) (length b.now)) (order_of_items a.now b.now) }
@@ -76,7 +76,7 @@ fn order_of_tuples(a: &Terms, b: &Terms) -> Ordering
     Ordering::Equal
 }
 
-/// The order of terms is total, and it tells any two terms apart that are not the same.
+/// The order of terms is total, and it distinguishes any two terms that are not the same.
 pub fn terms_are_ordered()
     ensures total { IsTotalOrder order_of_terms }
     ensures same { (a b : Meaning) → order_of_terms a b ≡ Ordering.Equal → a ≡ b }
@@ -87,8 +87,7 @@ impl PartialEq for Term {
 
     ghost laws = { on_per meaning_of (partial_equiv_from_equiv (eq_by_cmp_equiv terms_total)) };
 
-    /// Whether the two terms are the same. Tuples of different sizes are told apart at once. It takes
-    /// no memory.
+    /// Whether the two terms are the same. Tuples of different sizes are distinguished at once. It takes no memory.
     fn eq(&self, other: &Term) -> bool
         ensures value { result ≡ eq_by_cmp order_of_terms (meaning_of self.now) (meaning_of other.now) }
         ensures same { IsTrue result ↔ (meaning_of self.now ≡ meaning_of other.now) }

@@ -67,7 +67,7 @@ pub fn read_schedule(alloc: Global, text: &[u8]) -> Result<Vec<Step>, ScheduleFa
     read_steps(alloc, text)
 }
 
-/// Reads the steps of a text that is not empty.
+// Reads the steps of a text that is not empty.
 fn read_steps(alloc: Global, text: &[u8]) -> Result<Vec<Step>, ScheduleFault>
     requires { 0 < length text.now }
     ensures ok { IfOk result (λ steps. AreLawful steps.items × (text.now ≡ text_of_schedule steps.items)) }

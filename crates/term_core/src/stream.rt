@@ -7,8 +7,7 @@ ghost use Rattle.term_core.specs.Stream.{took_nothing, Writes};
 use std::io;
 use std::io::{Read, Write};
 
-/// Writing failed: a call on the sink gave an error, or took no byte of some. What was written before
-/// stands.
+/// Writing failed: a call on the sink gave an error, or took no byte of some. What was written before stays.
 #[derive(Clone, Copy, Debug, PartialEq, Eq)]
 pub struct WriteFault;
 
@@ -50,8 +49,8 @@ pub trait Sink {
         ensures failed { has_failed self.new ≡ (has_failed self.old || took_nothing result bytes.now) }
         ensures flushed { is_flushed self.new ≡ false };
 
-    /// Hands on the bytes that it holds back, to where they are going. At an error some of them may not
-    /// have come there. The bytes that it holds, those held back among them, stay as they are.
+    /// Hands on the bytes that it holds back, to where they are going. At an error some of them may not have arrived.
+    /// The bytes that it holds, those held back among them, stay as they are.
     fn flush(&mut self) -> io::Result<()>
         ensures bytes { Keeps (contents self.old) (contents self.new) }
         ensures failed { has_failed self.new ≡ (has_failed self.old || is_err result) }
@@ -165,8 +164,8 @@ fn takes_nothing(outcome: &io::Result<usize>, bytes: &[u8]) -> bool
     }
 }
 
-/// Writes all the bytes, in as many calls as the sink wants. At an error the sink has failed, and a
-/// beginning of the bytes was written.
+/// Writes all the bytes, in as many calls as the sink needs. At an error the sink has failed, and a beginning of the
+/// bytes was written.
 pub fn write_all<S: Sink>(sink: &mut S, bytes: &[u8]) -> Result<(), WriteFault>
     requires { S.has_failed sink.old ≡ false }
     ensures { Writes (S.contents sink.old) (S.contents sink.new) (S.has_failed sink.new) result bytes.now }

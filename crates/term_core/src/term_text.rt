@@ -61,8 +61,7 @@ fn write_list<S: Sink>(pair: &Pair, sink: &mut S) -> Result<(), WriteFault>
     write_last_tail(rest, sink)
 }
 
-// Writes the end of a list: nothing but the bracket where its last tail is nil, else that tail after
-// a bar.
+// Writes the end of a list: only the bracket where its last tail is nil, else that tail after a bar.
 #[cycle(write)]
 fn write_last_tail<S: Sink>(tail: &Term, sink: &mut S) -> Result<(), WriteFault>
     requires { S.has_failed sink.old ≡ false }

@@ -79,7 +79,7 @@ pub fn write_atom<S: Sink>(atom: &Atom, sink: &mut S) -> Result<(), WriteFault>
     write_all(sink, b"'")
 }
 
-// Writes a byte of an atom, as the escapes want it.
+// Writes a byte of an atom, as the escapes require.
 fn write_atom_byte<S: Sink>(byte: u8, sink: &mut S) -> Result<(), WriteFault>
     requires { S.has_failed sink.old ≡ false }
     ensures { Writes (S.contents sink.old) (S.contents sink.new) (S.has_failed sink.new) result (printed_byte byte) }
@@ -99,7 +99,7 @@ fn write_atom_byte<S: Sink>(byte: u8, sink: &mut S) -> Result<(), WriteFault>
     }
 }
 
-// Writes a byte that has no letter of its own: in octal digits below 32, else as it stands.
+// Writes a byte that has no letter of its own: in octal digits below 32, else as it is.
 fn write_plain_byte<S: Sink>(byte: u8, sink: &mut S) -> Result<(), WriteFault>
     requires { S.has_failed sink.old ≡ false }
     ensures { Writes (S.contents sink.old) (S.contents sink.new) (S.has_failed sink.new) result (plain_byte byte) }

@@ -2,9 +2,8 @@
 ghost use Rattle.std.specs.Prelude.{◌≡◌};
 ghost use Rattle.term_core.specs.Words.{text_of_word};
 
-/// An atom that the language itself makes: a boolean, the reason of an end or of an error, the class of
-/// an exception, or the tag of a term that tells of one (Erlang reference manual, "Errors and Error
-/// Handling").
+/// An atom that the language itself makes: a boolean, the reason of an end or of an error, the class of an exception,
+/// or the tag of a term that reports one (Erlang reference manual, "Errors and Error Handling").
 #[derive(Clone, Copy)]
 pub enum Word {
     True,

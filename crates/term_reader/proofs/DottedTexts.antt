@@ -1,4 +1,4 @@
--- The texts of numbers behind dots, and the numbers that are read of one.
+-- The texts of numbers after dots, and the numbers that are read of one.
 use Rattle.std.proofs.Common.{◌≡◌, ◌==◌, ℕ, ◌<◌, ◌^◌, false, List, [], ◌∷◌, ◌++◌, ap, ap₂, sym, refl, ◌∙◌, arith, ne_eqb, append_assoc, append-nil}
 use Rattle.std.proofs.lemmas.Fmt.{decimal_injective, decimal_digit}
 use Rattle.std.specs.Fmt.{decimal}
@@ -15,7 +15,7 @@ pub numbers_begin : (ns : List ℕ) → Begins 46 (text_of_numbers ns)
 numbers_begin [] = tt
 numbers_begin (n ∷ ns) = refl
 
--- The numbers that were read of a text have 64 bits, the rest stands behind them, and where the text is
+-- The numbers that were read of a text have 64 bits, the rest follows them, and where the text is
 -- that of such numbers, the rest is the text of some of them.
 pub record ReadsNumbers (text numbers rest : List ℕ) : Type 0 where
   pub lawful : AreNumbers numbers
@@ -25,7 +25,7 @@ pub record ReadsNumbers (text numbers rest : List ℕ) : Type 0 where
 pub reads_none : (text : List ℕ) → ReadsNumbers text [] text
 reads_none text = record { lawful = tt; parts = refl; left = λ ns h e. (ns, h, e) }
 
--- the first of the numbers whose text this is, and the rest of them
+-- the first of the numbers that this text writes, and the rest of them
 record Next (tail : List ℕ) : Type 0 where
   number : ℕ
   others : List ℕ

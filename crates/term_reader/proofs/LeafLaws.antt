@@ -107,7 +107,7 @@ leaves_injective (Tuple ms) y r s h k l j f g e = absurd h
 leaves_injective Nil y r s h k l j f g e = absurd h
 leaves_injective (Cons a b) y r s h k l j f g e = absurd h
 
--- an atom and another leaf, whatever stands behind
+-- an atom and another leaf, whatever follows
 pub atoms_injective : (t : List ℕ) (m : Meaning) (r s : List ℕ) → IsLeaf m → IsLawful m → text_of_term (Atom t) ++ r ≡ text_of_term m ++ s → (Atom t ≡ m) × (r ≡ s)
 atoms_injective t (Int w) r s h l e = absurd (no_integer w s _ 39 l (inl (omega arith)) e)
 atoms_injective t (Atom u) r s h l e = atom_injective t u r s e

@@ -56,7 +56,7 @@ same_last (a ∷ xs) (b ∷ ys) x y e =
     let rest : xs ++ x ∷ [] ≡ ys ++ y ∷ [] = cc in
     let same = same_last xs ys x y rest in (ap₂ ◌∷◌ first same.0, same.1)
 
--- the number of a reference stands as one more behind those of its pid
+-- the number of a reference is one more after those of its pid
 pub numbers_of_reference : (p : List ℕ) (n : ℕ) → text_of_numbers p ++ 46 ∷ decimal n ≡ text_of_numbers (p ++ n ∷ [])
 numbers_of_reference p n = ap (λ w. text_of_numbers p ++ 46 ∷ w) (sym (append-nil (decimal n))) ∙ sym (text_of_numbers-push p n []) ∙ append-nil (text_of_numbers (p ++ n ∷ []))
 

@@ -18,11 +18,11 @@ use Rattle.term_reader.specs.declared.brackets.State.{State}
 use Rattle.term_reader.specs.declared.fault.TermFault.{TermFault}
 use Rattle.term_reader.specs.declared.fault.TermFault.TheVariants.{BadTerm, TooDeep, Memory}
 
--- the lawful terms whose text this is
+-- the lawful terms with this text
 abbrev pub HasText : List ℕ → Meaning → Type 0
 HasText text m = IsLawful m × (text ≡ text_of_term m)
 
--- What reading keeps: the whole can be the terms whose text this is, also if other bytes were left.
+-- What reading keeps: the whole can be the terms with this text, also if other bytes were left.
 pub record Holds (text : List ℕ) (state : State) : Type 0 where
   pub read : List ℕ
   pub parts : text ≡ read ++ rest_of state
@@ -96,7 +96,7 @@ leaf_first (Tuple (Also m ms)) r behind h k e = absurd (h (ap (λ bs. get_or bs 
 leaf_first Nil r behind h k e = absurd (k (ap (λ bs. get_or bs 0 0) e))
 leaf_first (Cons m n) r behind h k e = absurd (k (ap (λ bs. get_or bs 0 0) e))
 
--- WHAT STANDS BEHIND A TERM
+-- WHAT FOLLOWS A TERM
 
 pub others_ends : (ms : Meanings) (behind : List ℕ) → Ends (text_of_others ms ++ behind)
 others_ends NoMore behind = refl
@@ -111,7 +111,7 @@ tail_ends (Tuple parts) behind = refl
 tail_ends Nil behind = refl
 tail_ends (Cons m n) behind = refl
 
--- behind a term there is nothing or a mark
+-- after a term there is nothing or a mark
 ends_of : {outer : List Opened} {x : Meaning} {rest : List ℕ} {m : Meaning} → Continues outer x rest m → Ends rest
 ends_of (AtEnd w e) = subst Ends (sym e) tt
 ends_of (AmongParts o b l e n) = subst Ends (sym e) (others_ends o b)
@@ -212,7 +212,7 @@ comma_in_tuple_from ps outer x r m f behind l e (AmongParts o b lo g k) =
     AmongParts (Also f o) b (l, lo) (ap (λ w. 44 ∷ w) (e ∙ ap (λ w. text_of_term f ++ w) g ∙ sym (append_assoc (text_of_term f) (text_of_others o) b)))
     (renamed outer _ _ m b (ap Tuple (parts_onto-append ps x (Also f o))) k)
 
--- a comma behind a part
+-- a comma after a part
 pub comma_in_tuple : (ps : List Meaning) (outer : List Opened) (x : Meaning) (r : List ℕ) → IsSame (Continues (InTuple ps ∷ outer) x (44 ∷ r)) (Begins (InTuple (ps ++ x ∷ []) ∷ outer) r)
 comma_in_tuple ps outer x r = record {
   to = λ m k. comma_in_tuple_to ps outer x r m k;
@@ -223,14 +223,14 @@ tuple_ends_to : (ps : List Meaning) (outer : List Opened) (x : Meaning) (r : Lis
 tuple_ends_to ps outer x r m (AmongParts NoMore b l e k) = moved outer _ m r b (cc) (renamed outer _ _ m b (ap Tuple (parts_onto-none ps x)) k)
 tuple_ends_to ps outer x r m (AmongParts (Also f o) b l e k) = absurd (omega (arith, ap (λ bs. get_or bs 0 0) e))
 
--- a closing brace behind a part
+-- a closing brace after a part
 pub tuple_ends : (ps : List Meaning) (outer : List Opened) (x : Meaning) (r : List ℕ) → IsSame (Continues (InTuple ps ∷ outer) x (125 ∷ r)) (Continues outer (Tuple (meanings_of (ps ++ x ∷ []))) r)
 tuple_ends ps outer x r = record {
   to = λ m k. tuple_ends_to ps outer x r m k;
   from = λ m k. AmongParts NoMore r tt refl (renamed outer _ _ m r (ap Tuple (sym (parts_onto-none ps x))) k);
 }
 
--- no other mark stands behind a part
+-- no other mark follows a part
 pub no_mark_in_tuple : (ps : List Meaning) (outer : List Opened) (x : Meaning) (a : ℕ) (r : List ℕ) → a ≢ 44 → a ≢ 125 → (m : Meaning) → Continues (InTuple ps ∷ outer) x (a ∷ r) m → ⊥
 no_mark_in_tuple ps outer x a r h k m (AmongParts NoMore b l e n) = k (ap (λ bs. get_or bs 0 0) e)
 no_mark_in_tuple ps outer x a r h k m (AmongParts (Also f o) b l e n) = h (ap (λ bs. get_or bs 0 0) e)
@@ -303,7 +303,7 @@ comma_in_list_from hs outer x r m h behind l e (AmongHeads t b lt g k) =
     AmongHeads (Cons h t) b (l, lt) (ap (λ w. 44 ∷ w) (e ∙ ap (λ w. text_of_term h ++ w) g ∙ sym (append_assoc (text_of_term h) (text_of_tail t) b)))
     (renamed outer _ _ m b (list_onto-append hs x (Cons h t)) k)
 
--- a comma behind a head
+-- a comma after a head
 pub comma_in_list : (hs : List Meaning) (outer : List Opened) (x : Meaning) (r : List ℕ) → IsSame (Continues (InList hs ∷ outer) x (44 ∷ r)) (Begins (InList (hs ++ x ∷ []) ∷ outer) r)
 comma_in_list hs outer x r = record {
   to = λ m k. comma_in_list_to hs outer x r m k;
@@ -319,14 +319,14 @@ list_ends_to hs outer x r m (AmongHeads (Tuple parts) b l e k) = absurd (omega (
 list_ends_to hs outer x r m (AmongHeads Nil b l e k) = moved outer _ m r b (cc) k
 list_ends_to hs outer x r m (AmongHeads (Cons h t) b l e k) = absurd (omega (arith, ap (λ bs. get_or bs 0 0) e))
 
--- a closing bracket behind a head
+-- a closing bracket after a head
 pub list_ends : (hs : List Meaning) (outer : List Opened) (x : Meaning) (r : List ℕ) → IsSame (Continues (InList hs ∷ outer) x (93 ∷ r)) (Continues outer (list_onto hs (Cons x Nil)) r)
 list_ends hs outer x r = record {
   to = λ m k. list_ends_to hs outer x r m k;
   from = λ m k. AmongHeads Nil r tt refl k;
 }
 
--- a last tail stands behind a bar
+-- a last tail comes after a bar
 pub bar_text : (t : Meaning) (behind : List ℕ) → IsLast t → text_of_tail t ++ behind ≡ 124 ∷ (text_of_term t ++ 93 ∷ behind)
 bar_text (Int n) behind k = ap (λ w. 124 ∷ w) (append_assoc (text_of_term (Int n)) (93 ∷ []) behind)
 bar_text (Atom t) behind k = ap (λ w. 124 ∷ w) (append_assoc (text_of_term (Atom t)) (93 ∷ []) behind)
@@ -336,7 +336,7 @@ bar_text (Tuple parts) behind k = ap (λ w. 124 ∷ w) (append_assoc (text_of_te
 bar_text Nil behind k = absurd k
 bar_text (Cons h t) behind k = absurd k
 
--- behind a bar is a last tail
+-- after a bar is a last tail
 bar_last : (t : Meaning) (r behind : List ℕ) → 124 ∷ r ≡ text_of_tail t ++ behind → IsLast t
 bar_last (Int n) r behind e = tt
 bar_last (Atom t) r behind e = tt
@@ -357,21 +357,21 @@ bar_from hs outer x r m t behind other l e (AsTail b f k) =
     let last = last_first t r behind other e in
     AmongHeads t b l (ap (λ w. 124 ∷ w) (e ∙ ap (λ w. text_of_term t ++ w) f) ∙ sym (bar_text t b last)) k
 
--- a bar behind a head
+-- a bar after a head
 pub bar_in_list : (hs : List Meaning) (outer : List Opened) (x : Meaning) (r : List ℕ) → get_or r 0 0 ≢ 91 → IsSame (Continues (InList hs ∷ outer) x (124 ∷ r)) (Begins (InTail hs x ∷ outer) r)
 bar_in_list hs outer x r other = record {
   to = λ m k. bar_to hs outer x r m k;
   from = λ m p. bar_from hs outer x r m p.term p.behind other p.lawful p.text p.next;
 }
 
--- no list stands behind a bar
+-- no list comes after a bar
 pub no_list_behind_bar : (hs : List Meaning) (outer : List Opened) (x : Meaning) (r : List ℕ) (m : Meaning) → Continues (InList hs ∷ outer) x (124 ∷ 91 ∷ r) m → ⊥
 no_list_behind_bar hs outer x r m (AmongHeads t b l e k) = list_first t r (93 ∷ b) l (behind_bar_is t (91 ∷ r) b e) (bar_last t (91 ∷ r) b e)
 
 pub no_list_behind_bar_at : (hs : List Meaning) (outer : List Opened) (x : Meaning) (r list : List ℕ) → r ≡ 91 ∷ list → (m : Meaning) → Continues (InList hs ∷ outer) x (124 ∷ r) m → ⊥
 no_list_behind_bar_at hs outer x r list e m k = no_list_behind_bar hs outer x list m (moved (InList hs ∷ outer) x m (124 ∷ 91 ∷ list) (124 ∷ r) (ap (λ w. 124 ∷ w) (sym e)) k)
 
--- no other mark stands behind a head
+-- no other mark follows a head
 pub no_mark_in_list : (hs : List Meaning) (outer : List Opened) (x : Meaning) (a : ℕ) (r : List ℕ) → a ≢ 44 → a ≢ 93 → a ≢ 124 → (m : Meaning) → Continues (InList hs ∷ outer) x (a ∷ r) m → ⊥
 no_mark_in_list hs outer x a r h k j m (AmongHeads (Int n) b l e q) = j (ap (λ bs. get_or bs 0 0) e)
 no_mark_in_list hs outer x a r h k j m (AmongHeads (Atom t) b l e q) = j (ap (λ bs. get_or bs 0 0) e)
@@ -384,7 +384,7 @@ no_mark_in_list hs outer x a r h k j m (AmongHeads (Cons c t) b l e q) = h (ap (
 tail_ends_to : (hs : List Meaning) (h : Meaning) (outer : List Opened) (x : Meaning) (r : List ℕ) (m : Meaning) → Continues (InTail hs h ∷ outer) x (93 ∷ r) m → Continues outer (list_onto hs (Cons h x)) r m
 tail_ends_to hs h outer x r m (AsTail b e k) = moved outer _ m r b (cc) k
 
--- a closing bracket behind a last tail
+-- a closing bracket after a last tail
 pub tail_closes : (hs : List Meaning) (h : Meaning) (outer : List Opened) (x : Meaning) (r : List ℕ) → IsSame (Continues (InTail hs h ∷ outer) x (93 ∷ r)) (Continues outer (list_onto hs (Cons h x)) r)
 tail_closes hs h outer x r = record {
   to = λ m k. tail_ends_to hs h outer x r m k;
@@ -472,7 +472,7 @@ continues_here outer x rest text at e = let k = closing outer x in lies_here (Co
 
 -- STEPS
 
--- for want of memory all is refused
+-- for lack of memory all is refused
 pub no_memory : (before : List ℕ → Meaning → Type 0) (rest text : List ℕ) → Refuses before rest text Memory
 no_memory before rest text = record { place = tt; refuses = λ m b. tt }
 
@@ -504,7 +504,7 @@ bad_here outer x rest text at e none =
 pub bad_continues : (outer : List Opened) (x : Meaning) (rest text : List ℕ) (at : ℕ) → at + length rest ≡ length text + 1 → ((other : List ℕ) (m : Meaning) → item_of other ≡ item_of rest → Continues outer x other m → ⊥) → Refuses (Continues outer x) rest text (BadTerm at)
 bad_continues outer x rest text at e none = record { place = bad_here outer x rest text at e none; refuses = λ m b. none rest m refl b }
 
--- and behind a bar
+-- and after a bar
 pub bad_bar : (hs : List Meaning) (outer : List Opened) (x : Meaning) (behind text : List ℕ) (at : ℕ) → at + length behind ≡ length text + 1 → ((other : List ℕ) (m : Meaning) → item_of other ≡ item_of behind → Continues (InList hs ∷ outer) x (124 ∷ other) m → ⊥) → Refuses (Continues (InList hs ∷ outer) x) (124 ∷ behind) text (BadTerm at)
 bad_bar hs outer x behind text at e none =
     let k = closing (InTail hs x ∷ outer) (Int (pos 0)) in
@@ -523,7 +523,7 @@ bad_bar hs outer x behind text at e none =
       refuses = λ m b. none behind m refl b;
     }
 
--- what holds of a mark, whatever stands behind it, holds of the item
+-- what holds of a mark, whatever follows it, holds of the item
 pub by_mark : (outer : List Opened) (x : Meaning) (a : ℕ) (r : List ℕ) → ((left : List ℕ) (m : Meaning) → Continues outer x (a ∷ left) m → ⊥) → (other : List ℕ) (m : Meaning) → item_of other ≡ item_of (a ∷ r) → Continues outer x other m → ⊥
 by_mark outer x a r none [] m item k = absurd (alike_items (a ∷ r) [] item)
 by_mark outer x a r none (b ∷ bs) m item k =
@@ -625,7 +625,7 @@ found before outer x made r e s = subst (λ (w : Meaning). IsSame before (Contin
 pub same_self : (P : Meaning → Type 0) → IsSame P P
 same_self P = record { to = λ m p. p; from = λ m p. p }
 
--- a bar, behind which no bracket stands
+-- a bar, after which no bracket comes
 pub bar_steps : (hs : List Meaning) (x : Meaning) (outer new : List Open) (next : Open) (behind : List ℕ) → new ≡ outer ++ next ∷ [] → open_in next ≡ InTail hs x → slice_index behind 0 ≢ 91 → (left : List ℕ) (m : Meaning) → IsLike behind left → Begins (opened_in new) left m → Continues (InList hs ∷ opened_in outer) x (124 ∷ left) m
 bar_steps hs x outer new next behind e f other left m like k =
     (wanted _ (InTail hs x) outer new next left e f (bar_in_list hs (opened_in outer) x left (like_other behind left like other))).from m k
@@ -715,7 +715,7 @@ pub place_on : (text : List ℕ) (state : State) (fault : TermFault) (result : R
 place_on text state fault (Ok s) h f e = absurd (no_err e)
 place_on text state fault (Err g) h f e = let same : g ≡ fault = cc in subst (HasPlace text) same (fault_place text state g h f.place)
 
--- what stood in what was opened last
+-- what was in what was opened last
 pub popped : (outer left : List Open) (last : Open) (x : Meaning) (rest text : List ℕ) (result : Result State TermFault) → outer ≡ left ++ last ∷ [] → Follows (Continues (open_in last ∷ opened_in left) x) rest text result → Follows (Continues (opened_in outer) x) rest text result
 popped outer left last x rest text result e f = subst (λ (w : List Opened). Follows (Continues w x) rest text result) (sym (ap opened_in e ∙ opened_in-append left last)) f
 
@@ -735,7 +735,7 @@ ended_only text outer x rest (Ok read) at s e h g = λ m l t.
     h.0 ∙ whole_ends x m (moved [] x m [] rest (sym h.1) k)
 ended_only text outer x rest (Err fault) at s e h g = λ m l t. absurd (not_ended x m rest g.0 ((whole_of text outer x rest s e).to m (l, t)))
 
--- where a term ends, nothing else may stand
+-- where a term ends, nothing else may follow
 only_end : (outer : List Open) (x : Meaning) (rest : List ℕ) → length outer ≡ 0 → rest ≢ [] → (other : List ℕ) (m : Meaning) → item_of other ≡ item_of rest → Continues (opened_in outer) x other m → ⊥
 only_end outer x rest none some other m item k =
     let alone = subst (λ (w : List Open). Continues (opened_in w) x other m) (nothing outer none) k in

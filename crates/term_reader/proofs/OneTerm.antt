@@ -11,7 +11,7 @@ tuple_byte : (ms : Meanings) (r : List ℕ) → get_or (text_of_tuple ms ++ r) 0
 tuple_byte NoMore r = refl
 tuple_byte (Also m ms) r = refl
 
--- two last tails behind bars
+-- two last tails after bars
 bars : (x y : Meaning) (r s : List ℕ) → IsLast x → IsLast y → text_of_tail x ++ r ≡ text_of_tail y ++ s → text_of_term x ++ 93 ∷ r ≡ text_of_term y ++ 93 ∷ s
 bars x y r s v w e = let same = sym (bar_text x r v) ∙ e ∙ bar_text y s w in cc
 

@@ -43,6 +43,6 @@ ends_by : (b : List ℕ) → BeginsBy marks b → Ends b
 ends_by [] s = tt
 ends_by (x ∷ xs) s = s
 
--- behind a word there is nothing or a mark
+-- after a word there is nothing or a mark
 pub behind_word_ends : (text : List ℕ) → Ends (behind_word text)
 behind_word_ends text = ends_by (behind_word text) (behind_begins_by marks text)

@@ -27,13 +27,13 @@ abbrev mutual
   AreLawful NoMore = Unit {0}
   AreLawful (Also first others) = IsLawful first × AreLawful others
 
--- the text of a lawful term is refused only for want of memory, or where the term is higher than 10,000
+-- the text of a lawful term is refused only for lack of memory, or where the term is higher than 10,000
 abbrev pub MayRefuse : Meaning → TermFault → Type 0
 MayRefuse m (BadTerm at) = ⊥
 MayRefuse m (TooDeep at) = 10000 < height m
 MayRefuse m Memory = Unit {0}
 
--- the marks that can stand behind a term: `,`, `]`, `|` and `}`
+-- the marks that can follow a term: `,`, `]`, `|` and `}`
 abbrev pub marks : ℕ → Bool
 marks byte = (byte == 44) || ((byte == 93) || ((byte == 124) || (byte == 125)))
 
@@ -57,7 +57,7 @@ pub record IsPlace (text : List ℕ) (at : ℕ) : Type 0 where
   pub place : length before + 1 ≡ at
   pub goes_on : CanGoOn before
 
--- such a place where, with the item that stands there, they can go on to that of none
+-- such a place where, with the item at that place, they can go on to that of none
 pub record IsFault (text : List ℕ) (at : ℕ) : Type 0 where
   pub before : List ℕ
   pub behind : List ℕ

@@ -5,10 +5,10 @@ ghost use Rattle.term_reader.specs.inside.Bytes.{HasLetter, NoByte, ReadsByte, R
 
 use std::alloc::{AllocError, Global};
 
-/// What stands behind an opening quote.
+/// What follows an opening quote.
 #[derive(Drop)]
 pub(crate) enum Quoted<'a> {
-    /// The bytes of an atom and its closing quote, and behind it these bytes.
+    /// The bytes of an atom and its closing quote, and after it these bytes.
     Read(Vec<u8>, &'a [u8]),
     /// No atom.
     Bad,
@@ -33,7 +33,7 @@ pub(crate) fn read_quoted<'a>(alloc: Global, text: &'a [u8]) -> Result<Quoted<'a
     Ok(Quoted::Bad)
 }
 
-/// Reads a byte of an atom as it is printed, of which the first byte is this one.
+// Reads a byte of an atom as it is printed, starting with this byte.
 fn read_byte(first: u8, behind: &[u8]) -> Option<(u8, &[u8])>
     requires { first ≢ 39 }
     ensures { MatchOption result (NoByte (first ∷ behind.now)) (λ found. ReadsByte (first ∷ behind.now) found.0 found.1.now) }
@@ -47,7 +47,7 @@ fn read_byte(first: u8, behind: &[u8]) -> Option<(u8, &[u8])>
     Some((first, behind))
 }
 
-/// Reads what stands behind a backslash.
+// Reads what follows a backslash.
 fn read_escape(text: &[u8]) -> Option<(u8, &[u8])>
     ensures { MatchOption result (NoByte (92 ∷ text.now)) (λ found. ReadsByte (92 ∷ text.now) found.0 found.1.now) }
 {
@@ -58,7 +58,7 @@ fn read_escape(text: &[u8]) -> Option<(u8, &[u8])>
     Some((byte_of_letter(*letter)?, behind))
 }
 
-/// The byte that is printed as a backslash and this letter, if there is one.
+// The byte that is printed as a backslash and this letter, if there is one.
 fn byte_of_letter(letter: u8) -> Option<u8>
     ensures { MatchOption result ((byte : ℕ) → printed_byte byte ≡ 92 ∷ letter ∷ [] → ⊥) (λ byte. printed_byte byte ≡ 92 ∷ letter ∷ []) }
 {
@@ -76,7 +76,7 @@ fn byte_of_letter(letter: u8) -> Option<u8>
     }
 }
 
-/// Reads the last two of three octal digits, of which the first is 0.
+// Reads the last two of three octal digits, the first of which is 0.
 fn read_octal(text: &[u8]) -> Option<(u8, &[u8])>
     ensures { MatchOption result (NoByte (92 ∷ 48 ∷ text.now)) (λ found. ReadsByte (92 ∷ 48 ∷ text.now) found.0 found.1.now) }
 {
@@ -85,7 +85,7 @@ fn read_octal(text: &[u8]) -> Option<(u8, &[u8])>
     Some((byte_of_octal(*eights, *ones)?, behind))
 }
 
-/// The byte that is printed in octal with these last two digits, if there is one.
+// The byte that is printed in octal with these last two digits, if there is one.
 fn byte_of_octal(eights: u8, ones: u8) -> Option<u8>
     ensures { MatchOption result
         ((byte : ℕ) → printed_byte byte ≡ 92 ∷ 48 ∷ eights ∷ ones ∷ [] → ⊥)
@@ -98,7 +98,7 @@ fn byte_of_octal(eights: u8, ones: u8) -> Option<u8>
     if has_letter(byte) { None } else { Some(byte) }
 }
 
-/// Whether a byte below 32 is printed by a letter.
+// Whether a byte below 32 is printed by a letter.
 fn has_letter(byte: u8) -> bool
     ensures { IsTrue result ↔ HasLetter byte }
 {

@@ -19,14 +19,14 @@ pub(crate) enum Open {
     Tuple(Terms),
     /// A list with its heads.
     List(Vec<Term>),
-    /// A list behind its bar: the heads but the last, and the last.
+    /// A list after its bar: the heads but the last, and the last.
     Tail(Vec<Term>, Term),
 }
 
 /// Where reading is: what is open, the last of it at the end, and the bytes that are left.
 #[derive(Drop)]
 pub(crate) enum State<'a> {
-    /// A term is wanted.
+    /// A term is expected.
     Wanted(Vec<Open>, &'a [u8]),
     /// A term was read.
     Found(Vec<Open>, Term, &'a [u8]),
@@ -57,7 +57,7 @@ pub(crate) fn begin<'a>(
     }
 }
 
-/// Reads on behind an opening brace.
+// Reads on after an opening brace.
 fn begin_tuple<'a>(
     alloc: Global,
     text: &[u8],
@@ -74,7 +74,7 @@ fn begin_tuple<'a>(
     }
 }
 
-/// Reads on behind an opening bracket.
+// Reads on after an opening bracket.
 fn begin_list<'a>(
     alloc: Global,
     text: &[u8],
@@ -90,7 +90,7 @@ fn begin_list<'a>(
     }
 }
 
-/// Goes into what a mark opens, unless too much is open.
+// Goes into what a mark opens, unless too much is open.
 fn go_in<'a>(
     text: &[u8],
     outer: Vec<Open>,
@@ -108,7 +108,7 @@ fn go_in<'a>(
     Ok(State::Wanted(outer, behind))
 }
 
-/// Reads a leaf.
+// Reads a leaf.
 fn begin_leaf<'a>(
     alloc: Global,
     text: &[u8],
@@ -126,7 +126,7 @@ fn begin_leaf<'a>(
     }
 }
 
-/// Reads on behind a term that stands in what was opened last.
+/// Reads on after a term that is part of what was opened last.
 pub(crate) fn go_on<'a>(
     alloc: Global,
     text: &[u8],
@@ -150,7 +150,7 @@ pub(crate) fn go_on<'a>(
     }
 }
 
-/// Reads the mark behind a part of a tuple.
+// Reads the mark after a part of a tuple.
 fn go_on_in_tuple<'a>(
     alloc: Global,
     text: &[u8],
@@ -177,7 +177,7 @@ fn go_on_in_tuple<'a>(
     Ok(State::Found(outer, Term::tuple(alloc, parts)?, behind))
 }
 
-/// Reads the mark behind a head of a list.
+// Reads the mark after a head of a list.
 fn go_on_in_list<'a>(
     alloc: Global,
     text: &[u8],
@@ -207,7 +207,7 @@ fn go_on_in_list<'a>(
     Ok(State::Found(outer, list_onto(alloc, heads, end)?, behind))
 }
 
-/// Reads on behind the bar of a list, where no list may stand.
+// Reads on after the bar of a list, where no list may follow.
 fn go_on_behind_bar<'a>(
     text: &[u8],
     outer: Vec<Open>,
@@ -226,7 +226,7 @@ fn go_on_behind_bar<'a>(
     Ok(State::Wanted(outer, behind))
 }
 
-/// Reads the bracket behind the last tail of a list.
+// Reads the bracket after the last tail of a list.
 fn go_on_in_tail<'a>(
     alloc: Global,
     text: &[u8],

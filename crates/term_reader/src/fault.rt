@@ -7,8 +7,8 @@ use thiserror::Error;
 /// Why bytes are the text of no term, or cannot be read as one. Places are bytes, counted from 1.
 #[derive(Clone, Copy, Debug, PartialEq, Eq, Error)]
 pub enum TermFault {
-    /// The first byte of the first mark, number, pid, reference or atom that cannot stand where it does;
-    /// one past the last byte where the text ends too soon.
+    /// The first byte of the first mark, number, pid, reference or atom that cannot be where it is; one past the last
+    /// byte where the text ends too soon.
     #[error("1 BadTerm at {0}")]
     BadTerm(usize),
     /// The first bracket or brace within 10,000 others that are open.

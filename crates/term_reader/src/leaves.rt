@@ -10,10 +10,10 @@ use std::alloc::{AllocError, Global};
 use std::str;
 use term_core::{Pid, RefId, Term};
 
-/// What stands at the beginning of a text.
+/// What a text begins with.
 #[derive(Drop)]
 pub(crate) enum Leaf<'a> {
-    /// The text of a leaf, and behind it these bytes.
+    /// The text of a leaf, and after it these bytes.
     Read(Term, &'a [u8]),
     /// The text of none.
     Bad,
@@ -29,7 +29,7 @@ pub(crate) fn read_leaf<'a>(alloc: Global, text: &'a [u8]) -> Result<Leaf<'a>, A
     }
 }
 
-/// Reads the rest of an atom behind its opening quote.
+// Reads the rest of an atom after its opening quote.
 fn read_atom<'a>(alloc: Global, inside: &'a [u8]) -> Result<Leaf<'a>, AllocError>
     ensures { IfOk result (λ leaf. ReadsLeaf (39 ∷ inside.now) leaf) }
 {
@@ -42,7 +42,7 @@ fn read_atom<'a>(alloc: Global, inside: &'a [u8]) -> Result<Leaf<'a>, AllocError
     }
 }
 
-/// Reads an integer, a pid or a reference, which ends before the next mark or at the end.
+// Reads an integer, a pid or a reference, which ends before the next mark or at the end.
 fn read_bare<'a>(alloc: Global, text: &'a [u8]) -> Result<Leaf<'a>, AllocError>
     requires { slice_index text.now 0 ≢ 39 }
     ensures { IfOk result (λ leaf. ReadsLeaf text.now leaf) }
@@ -54,21 +54,21 @@ fn read_bare<'a>(alloc: Global, text: &'a [u8]) -> Result<Leaf<'a>, AllocError>
     }
 }
 
-/// Whether the byte is one that can stand behind a term.
+// Whether the byte is one that can follow a term.
 fn is_mark(byte: u8) -> bool
     ensures { result ≡ marks byte }
 {
     matches!(byte, b',' | b']' | b'|' | b'}')
 }
 
-/// The place of the first mark.
+// The place of the first mark.
 fn place_of_mark(text: &[u8]) -> Option<usize>
     ensures { result ≡ position marks text.now }
 {
     text.iter().position(|byte| is_mark(*byte))
 }
 
-/// Splits before the first mark.
+// Splits before the first mark.
 fn split_word(text: &[u8]) -> (&[u8], &[u8])
     ensures front { result.0.now ≡ word_of text.now }
     ensures rest { result.1.now ≡ behind_word text.now }
@@ -76,7 +76,7 @@ fn split_word(text: &[u8]) -> (&[u8], &[u8])
     text.split_at(place_of_mark(text).unwrap_or(text.len()))
 }
 
-/// The integer, pid or reference whose text this is, or `None` where it is the text of none.
+// The integer, pid or reference with this text, or `None` where none of them has it.
 fn read_word(alloc: Global, word: &[u8]) -> Result<Option<Term>, AllocError>
     ensures { IfOk result (λ found. ReadsWord word.now found) }
 {
@@ -87,7 +87,7 @@ fn read_word(alloc: Global, word: &[u8]) -> Result<Option<Term>, AllocError>
     }
 }
 
-/// The pid whose numbers these are, each behind a dot.
+// The pid with these numbers, each after a dot.
 fn read_pid(alloc: Global, numbers: &[u8]) -> Result<Option<Term>, AllocError>
     ensures { IfOk result (λ found. ReadsWord (80 ∷ numbers.now) found) }
 {
@@ -97,7 +97,7 @@ fn read_pid(alloc: Global, numbers: &[u8]) -> Result<Option<Term>, AllocError>
     Ok(Some(Term::Pid(Pid::new(alloc, numbers)?)))
 }
 
-/// The reference of this pid and this number.
+// The reference of this pid and this number.
 fn read_reference(alloc: Global, text: &[u8]) -> Result<Option<Term>, AllocError>
     ensures { IfOk result (λ found. ReadsWord (35 ∷ text.now) found) }
 {

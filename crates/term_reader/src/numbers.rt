@@ -1,30 +1,29 @@
 // Numbers in decimal, as they are written: without needless zeros.
-ghost use Rattle.std.specs.Prelude.{◌≡◌, ◌≢◌, ℕ, ℤ, pos, ◌==◌, ◌≤◌, ◌<◌, ◌^◌, true, List, [], ◌∷◌, drop, position, slice_index, IfOk, MatchOption, IsTrue, ◌↔◌};
+ghost use Rattle.std.specs.Prelude.{◌≡◌, ◌≢◌, ℕ, ℤ, pos, ◌==◌, ◌≤◌, ◌<◌, ◌^◌, true, [], ◌∷◌, drop, position, slice_index, IfOk, MatchOption, IsTrue, ◌↔◌};
 ghost use Rattle.std.specs.Fmt.{decimal, signed_decimal};
 ghost use Rattle.std.specs.List.{before_first, position_or_len};
 ghost use Rattle.term_core.specs.Integers.{has_64_bits};
 ghost use Rattle.term_core.specs.Schedule.{IsLawfulNumber};
-ghost use Rattle.term_reader.specs.Lawful.{AreNumbers};
-ghost use Rattle.term_reader.specs.inside.Leaves.{BeginsInteger, text_of_numbers};
+ghost use Rattle.term_reader.specs.inside.Leaves.{BeginsInteger, IsOfNoNumbers, IsOfNumbers};
 
 use std::alloc::{AllocError, Global};
 use std::str;
 
-/// Whether the first byte is a digit that a number of more than one digit may begin with.
+// Whether the first byte is a digit that a number of more than one digit may begin with.
 fn begins_number(digits: &[u8]) -> bool
     ensures { IsTrue result ↔ ((49 ≤ slice_index digits.now 0) × (slice_index digits.now 0 ≤ 57)) }
 {
     matches!(digits.first(), Some(b'1'..=b'9'))
 }
 
-/// Whether the text is that of the number 0.
+// Whether the text is that of the number 0.
 fn is_zero(digits: &[u8]) -> bool
     ensures { IsTrue result ↔ (digits.now ≡ 48 ∷ []) }
 {
     digits.len() == 1 && digits[0] == b'0'
 }
 
-/// The number above 0 that these digits are, or `None` where they are none.
+// The number above 0 that these digits write, or `None` where they write no such number.
 fn read_positive(digits: &[u8]) -> Option<u64>
     ensures { MatchOption result
         ((n : ℕ) → IsLawfulNumber n → digits.now ≡ decimal n → ⊥)
@@ -50,7 +49,7 @@ pub fn read_number(digits: &[u8]) -> Option<u64>
     }
 }
 
-/// Whether the text begins as an integer other than 0 may.
+// Whether the text begins as an integer other than 0 may.
 fn begins_integer(text: &[u8]) -> bool
     ensures { IsTrue result ↔ BeginsInteger text.now }
 {
@@ -60,7 +59,7 @@ fn begins_integer(text: &[u8]) -> bool
     }
 }
 
-/// The integer other than 0 whose text this is, or `None` where it is the text of none.
+// The integer other than 0 with this text, or `None` where no such integer has it.
 fn read_other_integer(text: &[u8]) -> Option<i64>
     ensures { MatchOption result
         ((n : ℤ) → has_64_bits n ≡ true → n ≢ pos 0 → text.now ≡ signed_decimal n → ⊥)
@@ -72,7 +71,7 @@ fn read_other_integer(text: &[u8]) -> Option<i64>
     str::from_utf8(text).ok()?.parse().ok()
 }
 
-/// The integer whose text this is, or `None` where it is the text of none of 64 bits.
+/// The integer with this text, or `None` where no integer of 64 bits has it.
 pub(crate) fn read_integer(text: &[u8]) -> Option<i64>
     ensures { MatchOption result
         ((n : ℤ) → has_64_bits n ≡ true → text.now ≡ signed_decimal n → ⊥)
@@ -85,14 +84,14 @@ pub(crate) fn read_integer(text: &[u8]) -> Option<i64>
     }
 }
 
-/// The place of the first dot.
+// The place of the first dot.
 fn place_of_dot(text: &[u8]) -> Option<usize>
     ensures { result ≡ position (λ byte. byte == 46) text.now }
 {
     text.iter().position(|byte| *byte == b'.')
 }
 
-/// Splits before the first dot: what stands before it, and the rest, which begins with it.
+// Splits before the first dot: what comes before it, and the rest, which begins with it.
 fn split_before_dot(text: &[u8]) -> (&[u8], &[u8])
     ensures front { result.0.now ≡ before_first (λ byte. byte == 46) text.now }
     ensures rest { result.1.now ≡ drop (position_or_len (λ byte. byte == 46) text.now) text.now }
@@ -100,11 +99,9 @@ fn split_before_dot(text: &[u8]) -> (&[u8], &[u8])
     text.split_at(place_of_dot(text).unwrap_or(text.len()))
 }
 
-/// The numbers whose text this is, each behind a dot, or `None` where it is the text of none.
+/// The numbers that this text writes, each after a dot, or `None` where it is the text of none.
 pub(crate) fn read_numbers(alloc: Global, text: &[u8]) -> Result<Option<Vec<u64>>, AllocError>
-    ensures { IfOk result (λ found. MatchOption found
-        ((numbers : List ℕ) → AreNumbers numbers → text.now ≡ text_of_numbers numbers → ⊥)
-        (λ numbers. AreNumbers numbers.items × (text.now ≡ text_of_numbers numbers.items))) }
+    ensures { IfOk result (λ found. MatchOption found (IsOfNoNumbers text.now) (λ numbers. IsOfNumbers text.now numbers.items)) }
 {
     let mut numbers = Vec::new(alloc);
     let mut rest = text;

@@ -15,21 +15,20 @@ pub fn texts_say_one_term()
     ensures { (text : List ℕ) (term other : Meaning) → IsLawful term → IsLawful other → text ≡ text_of_term term → text ≡ text_of_term other → term ≡ other }
 {}
 
-/// Reads a term from its text: integers of 64 bits in decimal, atoms in single quotes with escapes, pids
-/// as `P.2.1`, references as `#P.2`, tuples as `{a,b}`, lists as `[a,b]` and `[a,b|t]`, without blanks.
-/// These are the texts that `write_term` writes, and no others: so numbers have no needless zeros, an
-/// escape stands only where one is written, and the last tail behind a bar is no list.
+/// Reads a term from its text: integers of 64 bits in decimal, atoms in single quotes with escapes, pids as `P.2.1`,
+/// references as `#P.2`, tuples as `{a,b}`, lists as `[a,b]` and `[a,b|t]`, without blanks. These are the texts that
+/// `write_term` writes, and no others: so numbers have no needless zeros, an escape is used only where one is needed,
+/// and the last tail after a bar is no list.
 ///
 /// Nothing calls itself: what is open lies on a stack in memory. No more than 10,000 brackets and braces
 /// are open at once, since a term that is nested deeper might not be dropped or printed on the native stack.
 ///
 /// # Errors
 ///
-/// `BadTerm` where the text is the text of no term, with the place of the first item that cannot stand
-/// where it does: a mark, a number, a pid, a reference or an atom, or the end of the text. `TooDeep` where
-/// more than 10,000 brackets and braces would be open at once, so that a term with this text is higher than
-/// 10,000, with the place of the first too many. `Memory` where there was no memory for the term.
-/// What was read is dropped.
+/// `BadTerm` where the text is the text of no term, with the place of the first item that cannot be where it is: a
+/// mark, a number, a pid, a reference or an atom, or the end of the text. `TooDeep` where more than 10,000 brackets and
+/// braces would be open at once, so that a term with this text is higher than 10,000, with the place of the first too
+/// many. `Memory` where there was no memory for the term. What was read is dropped.
 pub fn read_term(alloc: Global, text: &[u8]) -> Result<Term, TermFault>
     // What is read has this text.
     ensures ok { IfOk result (λ read. IsLawful (meaning_of read) × (text.now ≡ text_of_term (meaning_of read))) }
@@ -38,7 +37,7 @@ pub fn read_term(alloc: Global, text: &[u8]) -> Result<Term, TermFault>
     ensures only { (term : Meaning) → IsLawful term → text.now ≡ text_of_term term
         → MatchResult result (λ read. meaning_of read ≡ term) (λ fault. MayRefuse term fault) }
 
-    // What stands before the place of a fault can go on to the text of a term, and with the item there to none.
+    // What comes before the place of a fault can go on to the text of a term, and with the item there to none.
     ensures place { IfErr result (λ fault. HasPlace text.now fault) }
 {
     let mut state = State::Wanted(Vec::new(alloc), text);
@@ -59,7 +58,7 @@ pub fn read_term(alloc: Global, text: &[u8]) -> Result<Term, TermFault>
     }
 }
 
-/// The term, if nothing stands behind it.
+// The term, if nothing follows it.
 fn ended(text: &[u8], term: Term, rest: &[u8]) -> Result<Term, TermFault>
     requires { length rest.now ≤ length text.now }
     ensures ok { IfOk result (λ read. (meaning_of read ≡ meaning_of term) × (rest.now ≡ [])) }

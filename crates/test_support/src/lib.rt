@@ -14,7 +14,7 @@ use std::test::Fail;
 use std::{io, str};
 use term_core::{Output, Sink, Source, Terms, WriteFault, write_all, write_term};
 
-// What was found, and what was wanted.
+// What was found, and what was expected.
 fn difference(got: &[u8], wanted: &[u8]) -> Fail {
     match (str::from_utf8(got), str::from_utf8(wanted)) {
         (Ok(got), Ok(wanted)) => Fail::new(format_args!("got {got}, wanted {wanted}")),
@@ -22,7 +22,7 @@ fn difference(got: &[u8], wanted: &[u8]) -> Fail {
     }
 }
 
-/// Tells whether a text is the one that is wanted.
+/// Checks that a text is the one that is expected.
 ///
 /// # Errors
 ///
@@ -37,7 +37,7 @@ pub fn same(got: &[u8], wanted: &[u8]) -> Result<(), Fail>
     }
 }
 
-/// Tells whether something holds that is to hold.
+/// Checks that a condition holds.
 ///
 /// # Errors
 ///

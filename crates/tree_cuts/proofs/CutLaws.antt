@@ -14,16 +14,16 @@ use Rattle.world_model.specs.Requests.{Program}
 use Rattle.world_model.specs.Run.{next_event, enabled_steps, extended, run}
 use Rattle.world_model.specs.Shown.{Identity, is_error, is_refusal}
 use Rattle.world_model.proofs.Opened.{listed_enabled}
-use Rattle.coverage.specs.Covers.{is_empty, is_one_of}
+use Rattle.tree_coverage.specs.Covers.{is_empty, is_one_of}
 use Rattle.tree_cuts.specs.Cuts.{goes_on, is_cut, cut_count, IsUncut, CutsAddUp, CutsAreSome, CutsInAnyOrder, RootHasAllCuts, JobsHaveTheirCuts, CutsAreExact, UncutTreesAreWhole, UncutRootsAreWhole, UncutFindingsAreWhole, IsEverShown, UncutErrorsAreExact, UncutRefusalsAreExact, UncutTreesShowNoError, NodesTellCuts}
-use Rattle.coverage.specs.Findings.{Finding, IsFound, findings_among, findings_of}
-use Rattle.coverage.specs.Jobs.{Node, asleep_below, awake_steps, nodes_after, nodes_along, node_at, nodes_from, nodes_of, nodes_of_all, root, schedules_of, still_open, visited}
-use Rattle.coverage.specs.Shown.{IsShown}
-use Rattle.coverage.specs.Trees.{nodes, AreEquivalent, Itself, Swap, After, Chain}
-use Rattle.coverage.proofs.FindingLaws.{errors_exact, refusals_exact}
-use Rattle.coverage.proofs.JobLaws.{map_join, none_left, one_more, root_nodes, split_jobs}
-use Rattle.coverage.proofs.Lists.{among_left, among_map, among_right, both_first, both_second, passes_kept}
-use Rattle.coverage.proofs.ShownLaws.{nodes_run, nodes_cover}
+use Rattle.tree_coverage.specs.Findings.{Finding, IsFound, findings_among, findings_of}
+use Rattle.tree_coverage.specs.Jobs.{Node, asleep_below, awake_steps, nodes_after, nodes_along, node_at, nodes_from, nodes_of, nodes_of_all, root, schedules_of, still_open, visited}
+use Rattle.tree_coverage.specs.Shown.{IsShown}
+use Rattle.tree_coverage.specs.Trees.{nodes, AreEquivalent, Itself, Swap, After, Chain}
+use Rattle.tree_coverage.proofs.FindingLaws.{errors_exact, refusals_exact}
+use Rattle.tree_coverage.proofs.JobLaws.{map_join, none_left, one_more, root_nodes, split_jobs}
+use Rattle.tree_coverage.proofs.Lists.{among_left, among_map, among_right, both_first, both_second, passes_kept}
+use Rattle.tree_coverage.proofs.ShownLaws.{nodes_run, nodes_cover}
 
 -- ---- counts add up
 
@@ -40,7 +40,7 @@ pub cuts_of_jobs : JobsHaveTheirCuts
 cuts_of_jobs a n budget jobs =
     ap (λ vs. cut_count a n (schedules_of vs)) (split_jobs a n budget jobs) ∙ cuts_of_both a n (visited a n budget jobs) (nodes_of_all a n (still_open a n budget jobs))
 
--- of a list no more pass than there are, in whatever order they stand
+-- of a list at most as many pass as there are, in whatever order they come
 as_sum : {X : Type 0} (test : X → Bool) (xs : List X) → length (filter test xs) ≡ sum_by (λ x. cond (test x) 1 0) xs
 as_sum test = is_sum_by (λ xs. length (filter test xs)) (λ x. cond (test x) 1 0) refl (λ x xs. one (test x) x (filter test xs))
   where

@@ -2,10 +2,10 @@
 use Rattle.std.specs.Prelude.{◌≡◌, ℕ}
 use Rattle.core_tree.specs.Syntax.{ModuleTree}
 use Rattle.world_model.specs.Asking.{program_of}
-use Rattle.coverage.specs.CoverExamples.{two_end}
+use Rattle.tree_coverage.specs.CoverExamples.{two_end}
 use Rattle.tree_cuts.specs.Cuts.{cuts_of}
-use Rattle.coverage.specs.FindingExamples.{two_wait}
-use Rattle.coverage.specs.Trees.{idle, two_tables}
+use Rattle.tree_coverage.specs.FindingExamples.{two_wait}
+use Rattle.tree_coverage.specs.Trees.{idle, two_tables}
 
 -- the tree of a module to this depth is cut at so many nodes
 abbrev pub HasCuts : ModuleTree → ℕ → ℕ → Type 0

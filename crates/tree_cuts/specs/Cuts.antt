@@ -7,22 +7,22 @@ use Rattle.world_model.specs.Events.{History}
 use Rattle.world_model.specs.Requests.{Program}
 use Rattle.world_model.specs.Run.{enabled_steps, run}
 use Rattle.world_model.specs.Shown.{Identity, Flags, is_error, is_refusal}
-use Rattle.coverage.specs.Covers.{is_empty}
-use Rattle.coverage.specs.Findings.{IsFound, findings_of}
-use Rattle.coverage.specs.Jobs.{Job, nodes_of, nodes_of_all, root, schedules_of, still_open, visited}
-use Rattle.coverage.specs.Shown.{RunShows}
-use Rattle.coverage.specs.Trees.{nodes}
+use Rattle.tree_coverage.specs.Covers.{is_empty}
+use Rattle.tree_coverage.specs.Findings.{IsFound, findings_of}
+use Rattle.tree_coverage.specs.Jobs.{Job, nodes_of, nodes_of_all, root, schedules_of, still_open, visited}
+use Rattle.tree_coverage.specs.Shown.{RunShows}
+use Rattle.tree_coverage.specs.Trees.{nodes}
 
 -- some step is enabled after a history
 abbrev pub goes_on : Program → Option History → Bool
 goes_on a None = false
 goes_on a (Some h) = not (is_empty (enabled_steps a h))
 
--- the tree is cut at a schedule: it has as many steps as the depth, and some step is enabled after it, be it one that sleeps there
+-- the tree is cut at a schedule: it has as many steps as the depth, and some step is enabled after it, even one that sleeps there
 abbrev pub is_cut : Program → ℕ → List Step → Bool
 is_cut a n s = length s == n && goes_on a (run a s)
 
--- a node tells it by its history and by how many steps may follow: none may, and some step is enabled
+-- a node is cut by its history and by how many steps may follow: none may, and some step is enabled
 abbrev pub NodesTellCuts : Type 0
 NodesTellCuts = (a : Program) (n left : ℕ) (s : List Step) (h : History) → run a s ≡ Some h → length s + left ≡ n → is_cut a n s ≡ (left == 0 && goes_on a (Some h))
 
@@ -44,7 +44,7 @@ IsUncut a n = cuts_of a n ≡ 0
 abbrev pub CutsAddUp : Type 0
 CutsAddUp = (a : Program) (n : ℕ) (ss ts : List (List Step)) → cut_count a n (ss ++ ts) ≡ cut_count a n ss + cut_count a n ts
 
--- and a tree is cut at no more schedules than there are
+-- and a tree is cut at no more schedules than it has
 abbrev pub CutsAreSome : Type 0
 CutsAreSome = (a : Program) (n : ℕ) (schedules : List (List Step)) → cut_count a n schedules ≤ length schedules
 

@@ -1,16 +1,16 @@
-// Laws of cuts: a tree that is cut nowhere at its depth says all of schedules of whatever length.
+// Laws of cuts: a tree that is cut nowhere at its depth says everything about schedules of whatever length.
 ghost use Rattle.tree_cuts.specs.CutExamples.{IdleIsCut, IdleIsUncut, TwoWaitAreUncut, TwoEndAreCut, TwoEndAreUncut, TwoTablesAreCut, TwoTablesAreUncut};
 ghost use Rattle.tree_cuts.specs.Cuts.{NodesTellCuts, CutsAddUp, CutsAreSome, CutsInAnyOrder, RootHasAllCuts, JobsHaveTheirCuts, CutsAreExact, UncutTreesAreWhole, UncutRootsAreWhole, UncutFindingsAreWhole, UncutErrorsAreExact, UncutRefusalsAreExact, UncutTreesShowNoError};
 
 /// A tree is cut at a node at its depth after which some step is enabled. It is cut nowhere exactly where no schedule
-/// that runs has more steps than the tree is deep; and each node tells it by its own history.
+/// that runs has more steps than the tree is deep; and for each node its own history decides.
 pub fn cuts_are_exact()
     ensures lengths { CutsAreExact }
     ensures nodes { NodesTellCuts }
 {}
 
-/// How often trees are cut adds up: over schedules, in whatever order, and over open jobs, whatever the budget. It is at
-/// no more schedules than there are.
+/// How often trees are cut adds up: over schedules, in whatever order, and over open jobs, whatever the budget. A tree
+/// is cut at no more schedules than it has.
 pub fn cuts_add_up()
     ensures schedules { CutsAddUp }
     ensures some { CutsAreSome }

@@ -6,9 +6,9 @@ use Rattle.std.proofs.lemmas.List.Elements.{filter-append}
 use Rattle.std.proofs.lemmas.List.Sorted.{IsPermutation-refl, IsPermutation-sym, IsPermutation-trans, IsPermutation-cons, IsPermutation-append_left, IsPermutation-append_right, IsPermutation-append_comm}
 use Rattle.term_core.specs.declared.step.Step.{Step}
 use Rattle.world_model.specs.Requests.{Program}
-use Rattle.coverage.specs.Jobs.{Job, Node, steps_left, nodes_of, schedules_of, root, own_node, jobs_below, nodes_of_all}
-use Rattle.coverage.specs.Trees.{nodes}
-use Rattle.coverage.proofs.JobLaws.{map_join, root_nodes, split_job}
+use Rattle.tree_coverage.specs.Jobs.{Job, Node, steps_left, nodes_of, schedules_of, root, own_node, jobs_below, nodes_of_all}
+use Rattle.tree_coverage.specs.Trees.{nodes}
+use Rattle.tree_coverage.proofs.JobLaws.{map_join, root_nodes, split_job}
 use Rattle.tree_levels.specs.Levels.{next_jobs, next_of_all, jobs_at, prefixes, JobsAreNodes, NodesAreAboveAndBelow, AllNodesAreBelow}
 use Rattle.tree_levels.proofs.Taken.{IsTaken, AreTaken, below_next, below_none, next_taken, jobs_taken}
 

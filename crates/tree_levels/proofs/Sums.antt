@@ -1,4 +1,4 @@
--- What jobs show and count adds up, in whatever order they stand, and with what is above them it is that of the tree.
+-- What jobs show and count adds up, in whatever order they come, and with what is above them it is that of the tree.
 use Rattle.std.proofs.Common.{◌≡◌, inl, inr, ℕ, zero, suc, ◌+◌, ◌<◌, ◌≤◌, ◌&&◌, List, [], ◌∷◌, ◌++◌, length, get_or, set, filter, cond, refl, sym, ap, ◌∙◌, subst, arith, length-append}
 use Rattle.std.specs.List.Sorted.{IsPermutation}
 use Rattle.std.proofs.lemmas.Bool.{ne_eqb}
@@ -9,13 +9,13 @@ use Rattle.term_core.specs.declared.step.Step.{Step}
 use Rattle.world_model.specs.Names.{IsAmong}
 use Rattle.world_model.specs.Requests.{Program}
 use Rattle.world_model.specs.Run.{run}
-use Rattle.coverage.specs.Findings.{findings_among, findings_of}
-use Rattle.coverage.specs.Jobs.{Job, Node, nodes_of, nodes_of_all, root, schedules_of}
-use Rattle.coverage.specs.Trees.{nodes}
-use Rattle.coverage.proofs.JobLaws.{map_join}
-use Rattle.coverage.proofs.ShownLaws.{nodes_run}
-use Rattle.findings.specs.Merging.{merged_findings}
-use Rattle.findings.proofs.Schedules.{any_order, lists_merged}
+use Rattle.tree_coverage.specs.Findings.{findings_among, findings_of}
+use Rattle.tree_coverage.specs.Jobs.{Job, Node, nodes_of, nodes_of_all, root, schedules_of}
+use Rattle.tree_coverage.specs.Trees.{nodes}
+use Rattle.tree_coverage.proofs.JobLaws.{map_join}
+use Rattle.tree_coverage.proofs.ShownLaws.{nodes_run}
+use Rattle.tree_findings.specs.Merging.{merged_findings}
+use Rattle.tree_findings.proofs.Schedules.{any_order, lists_merged}
 use Rattle.tree_cuts.specs.Cuts.{goes_on, is_cut, cut_count}
 use Rattle.tree_cuts.proofs.CutLaws.{cuts_in_any_order, cuts_join, cuts_of_both}
 use Rattle.tree_levels.specs.Levels.{jobs_at}
@@ -47,7 +47,7 @@ counts_all a n jobs = (counts_nodes a n jobs, counts_cuts a n jobs)
 counts_schedules : (a : Program) (n : ℕ) (jobs : List Job) → length (schedules_of (nodes_of_all a n jobs)) ≡ node_count_of_jobs a n jobs
 counts_schedules a n jobs = length-map (nodes_of_all a n jobs) (λ (v : Node). v.schedule) ∙ sym (counts_nodes a n jobs)
 
--- ---- in whatever order the jobs stand
+-- ---- in whatever order the jobs come
 
 module _ (a : Program) (n : ℕ) where
   -- a job in another's place

@@ -1,4 +1,4 @@
--- Each job at a depth has a schedule that runs, and what sleeps behind it is enabled there.
+-- Each job at a depth has a schedule that runs, and what sleeps after it is enabled there.
 use Rattle.std.proofs.Common.{◌≡◌, inl, inr, ℕ, zero, suc, ◌-◌, ◌<◌, true, not, List, [], ◌∷◌, ◌++◌, length, Option, Some, None, is_some, refl, sym, ap, ◌∙◌, subst, arith}
 use Rattle.std.proofs.lemmas.List.{length_push}
 use Rattle.term_core.specs.declared.step.Step.{Step}
@@ -12,13 +12,13 @@ use Rattle.world_model.specs.Steps.{next_deed}
 use Rattle.world_model.specs.World.{contents}
 use Rattle.world_model.proofs.Histories.{independent_commute, step_is}
 use Rattle.world_model.proofs.Opened.{listed_enabled}
-use Rattle.coverage.specs.Covers.{is_one_of}
-use Rattle.coverage.specs.Jobs.{Job, asleep_below, awake_steps, steps_left, root, jobs_along, jobs_behind, jobs_below}
-use Rattle.coverage.proofs.JobLaws.{one_more}
-use Rattle.coverage.proofs.Lists.{among_append, kept_passes}
+use Rattle.tree_coverage.specs.Covers.{is_one_of}
+use Rattle.tree_coverage.specs.Jobs.{Job, asleep_below, awake_steps, steps_left, root, jobs_along, jobs_behind, jobs_below}
+use Rattle.tree_coverage.proofs.JobLaws.{one_more}
+use Rattle.tree_coverage.proofs.Lists.{among_append, kept_passes}
 use Rattle.tree_levels.specs.Levels.{next_jobs, next_of_all, jobs_at, JobsCanBeTaken}
 
--- a job at a depth: its schedule has so many steps and runs, and what sleeps behind it is enabled there
+-- a job at a depth: its schedule has so many steps and runs, and what sleeps after it is enabled there
 pub record IsTaken (a : Program) (depth : ℕ) (job : Job) : Type 0 where
   pub history : History
   pub is_deep : length job.prefix ≡ depth
@@ -91,7 +91,7 @@ pub below_next : (a : Program) (n depth : ℕ) (job : Job) → IsTaken a depth j
 below_next a n depth job t higher =
     below_is a n (n - suc depth) job t.history t.runs (some_left n (length job.prefix) depth t.is_deep higher) ∙ sym (next_is a job t.history t.runs)
 
--- at the depth of the tree there are none
+-- at the depth of the tree there are no jobs below
 pub below_none : (a : Program) (n : ℕ) (job : Job) → IsTaken a n job → jobs_below a n job ≡ []
 below_none a n job t =
     let none : steps_left n job ≡ 0 = none_left n (length job.prefix) t.is_deep in

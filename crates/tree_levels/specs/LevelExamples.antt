@@ -4,11 +4,11 @@ use Rattle.core_tree.specs.Syntax.{ModuleTree}
 use Rattle.term_core.specs.declared.step.Step.{Step}
 use Rattle.world_model.specs.Asking.{program_of}
 use Rattle.world_model.specs.ShownExamples.{plain}
-use Rattle.coverage.specs.CoverExamples.{two_end, one_key, one, d}
-use Rattle.coverage.specs.FindingExamples.{two_wait, both_wait, read_of_private}
-use Rattle.coverage.specs.JobExamples.{after_first, after_second}
-use Rattle.coverage.specs.Jobs.{Job, nodes_of_all, root, schedules_of}
-use Rattle.coverage.specs.Trees.{p, c, two_tables, private_read, HasTree}
+use Rattle.tree_coverage.specs.CoverExamples.{two_end, one_key, one, d}
+use Rattle.tree_coverage.specs.FindingExamples.{two_wait, both_wait, read_of_private}
+use Rattle.tree_coverage.specs.JobExamples.{after_first, after_second}
+use Rattle.tree_coverage.specs.Jobs.{Job, nodes_of_all, root, schedules_of}
+use Rattle.tree_coverage.specs.Trees.{p, c, two_tables, private_read, HasTree}
 use Rattle.tree_levels.specs.Levels.{jobs_at}
 use Rattle.tree_levels.specs.LevelSums.{findings_of_jobs, node_count_of_jobs, cut_count_of_jobs}
 
@@ -48,7 +48,7 @@ TwoEndBelow = HasBelow two_end 3 2 ((p ∷ p ∷ []) ∷ (p ∷ p ∷ c ∷ []) 
 abbrev pub TwoEndAreFive : Type 0
 TwoEndAreFive = HasTree two_end 3 ([] ∷ one p ∷ (p ∷ p ∷ []) ∷ (p ∷ p ∷ c ∷ []) ∷ (p ∷ c ∷ []) ∷ [])
 
--- ---- two processes make a table each and end: the search visits a node above the jobs behind the first of them
+-- ---- two processes make a table each and end: the search visits a node above the jobs after the first of them
 
 abbrev pub TwoTablesGoOn : Type 0
 TwoTablesGoOn = HasJobs two_tables 3 (job (p ∷ p ∷ p ∷ []) [] ∷ job (p ∷ p ∷ c ∷ []) (one p) ∷ job (p ∷ c ∷ c ∷ []) (one p) ∷ [])

@@ -3,10 +3,10 @@ use Rattle.std.specs.List.Sorted.{IsPermutation}
 use Rattle.std.specs.Prelude.{◌≡◌, ◌≤◌, ◌+◌, ℕ, suc, List, [], ◌∷◌, length}
 use Rattle.world_model.specs.Requests.{Program}
 use Rattle.world_model.specs.Shown.{Flags}
-use Rattle.coverage.specs.Findings.{Findings, findings_among, findings_of}
-use Rattle.coverage.specs.Jobs.{Job, nodes_of, nodes_of_all, schedules_of}
-use Rattle.coverage.specs.Trees.{node_count}
-use Rattle.findings.specs.Merging.{merged_findings, nothing}
+use Rattle.tree_coverage.specs.Findings.{Findings, findings_among, findings_of}
+use Rattle.tree_coverage.specs.Jobs.{Job, nodes_of, nodes_of_all, schedules_of}
+use Rattle.tree_coverage.specs.Trees.{node_count}
+use Rattle.tree_findings.specs.Merging.{merged_findings, nothing}
 use Rattle.tree_cuts.specs.Cuts.{cut_count, cuts_of}
 use Rattle.tree_levels.specs.Levels.{jobs_at}
 
@@ -41,7 +41,7 @@ JobsShowWhatNodesShow = (flags : Flags) (a : Program) (n : ℕ) (jobs : List Job
 abbrev pub JobsCountTheirNodes : Type 0
 JobsCountTheirNodes = (a : Program) (n : ℕ) (jobs : List Job) → (node_count_of_jobs a n jobs ≡ length (nodes_of_all a n jobs)) × (cut_count_of_jobs a n jobs ≡ cut_count a n (schedules_of (nodes_of_all a n jobs)))
 
--- in whatever order the jobs stand
+-- in whatever order the jobs come
 abbrev pub JobsShowInAnyOrder : Type 0
 JobsShowInAnyOrder = (flags : Flags) (a : Program) (n : ℕ) (jobs others : List Job) → IsPermutation jobs others → findings_of_jobs flags a n jobs ≡ findings_of_jobs flags a n others
 

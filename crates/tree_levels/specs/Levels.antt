@@ -7,8 +7,8 @@ use Rattle.world_model.specs.Events.{History}
 use Rattle.world_model.specs.Names.{IsAmong}
 use Rattle.world_model.specs.Requests.{Program}
 use Rattle.world_model.specs.Run.{is_enabled, run}
-use Rattle.coverage.specs.Jobs.{Job, jobs_below, nodes_of_all, root, schedules_of}
-use Rattle.coverage.specs.Trees.{nodes}
+use Rattle.tree_coverage.specs.Jobs.{Job, jobs_below, nodes_of_all, root, schedules_of}
+use Rattle.tree_coverage.specs.Trees.{nodes}
 
 -- the jobs of the steps that are taken at the node of a job, one step deeper
 abbrev pub next_jobs : Program → Job → List Job
@@ -34,7 +34,7 @@ prefixes = map (λ job. job.prefix)
 abbrev pub JobsAreNodes : Type 0
 JobsAreNodes = (a : Program) (n d : ℕ) → d ≤ n → prefixes (jobs_at a d) ≡ filter (λ (s : List Step). length s == d) (nodes a n)
 
--- each has a schedule of so many steps that runs, and what sleeps behind it is enabled there
+-- each has a schedule of so many steps that runs, and what sleeps after it is enabled there
 abbrev pub JobsCanBeTaken : Type 0
 JobsCanBeTaken = (a : Program) (d : ℕ) (job : Job) → IsAmong job (jobs_at a d) → (length job.prefix ≡ d) × (h : History) × (run a job.prefix ≡ Some h) × ((s : Step) → IsAmong s job.slept → is_enabled a h s ≡ true)
 

@@ -9,13 +9,13 @@ pub fn jobs_are_nodes()
     ensures { JobsAreNodes }
 {}
 
-/// Each job at a depth has a schedule of so many steps that runs, and each step that sleeps behind it is enabled there.
+/// Each job at a depth has a schedule of so many steps that runs, and each step that sleeps after it is enabled there.
 pub fn jobs_can_be_taken()
     ensures { JobsCanBeTaken }
 {}
 
-/// What the nodes of some jobs show and how many they are, and at how many of them the tree is cut, is what that of
-/// each job comes to, in whatever order the jobs stand.
+/// What the nodes of some jobs show and how many they are, and at how many of them the tree is cut, is the sum over the
+/// jobs, in whatever order they come.
 pub fn jobs_add_up()
     ensures findings { JobsShowWhatNodesShow }
     ensures counts { JobsCountTheirNodes }
@@ -36,7 +36,7 @@ pub fn nodes_are_above_and_below()
     ensures all_counts { AllCountsAreBelow }
 {}
 
-/// The jobs at a few depths of small modules are as they were worked out by hand, with what sleeps behind each; the
+/// The jobs at a few depths of small modules are as they were worked out by hand, with what sleeps after each; the
 /// nodes above them and theirs are all nodes.
 #[tactic(auto, unfolding(world_model::specs::World::contents))]
 pub fn levels_have_their_jobs()
@@ -49,8 +49,8 @@ pub fn levels_have_their_jobs()
     ensures all { TwoEndAreFive }
 {}
 
-/// A node above the jobs may stand behind some of theirs in the order of the search, and a step that would sleep is
-/// awake where one is taken that depends on it.
+/// A node above the jobs may come after some of theirs in the order of the search, and a step that would sleep is awake
+/// where one is taken that depends on it.
 #[tactic(auto, unfolding(world_model::specs::World::contents))]
 pub fn levels_are_in_order()
     ensures jobs { TwoTablesGoOn }

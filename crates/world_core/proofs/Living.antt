@@ -17,8 +17,8 @@ use Rattle.world_model.specs.Run.{is_enabled, enabled_steps, living, possible_st
 use Rattle.world_model.specs.StepLaws.{ComesBefore, AreInOrder}
 use Rattle.world_model.specs.World.{alive, contents}
 use Rattle.world_model.proofs.Opened.{enabled_listed, listed_enabled, listed_in_order}
-use Rattle.coverage.proofs.Steps as steps
-use Rattle.coverage.proofs.Steps.{everyone, living_in}
+use Rattle.world_model.proofs.StepLists as steps
+use Rattle.world_model.proofs.StepLists.{everyone, living_in}
 use Rattle.world_steps.specs.inside.Enabling.{turns_of}
 use Rattle.world_steps.proofs.Listed.{key_among, turn_among, turns_in_order}
 

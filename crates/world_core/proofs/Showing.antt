@@ -1,4 +1,4 @@
--- What a world shows is what its records, its last event and its enabled steps tell.
+-- What a world shows is determined by its records, its last event and its enabled steps.
 use Rattle.std.proofs.Common.{◌≡◌, ◌∙◌, ◌++◌, ◌+◌, if◌then◌else◌, ℕ, List, [], ◌∷◌, Option, Some, None, refl, sym, ap, option_map, map, Bor, length, ◌==◌, false, true}
 use Rattle.std.proofs.lemmas.Bool.{false≢true}
 use Rattle.std.specs.BTreeMap.{is_at}
@@ -21,11 +21,11 @@ use Rattle.world_model.specs.Shown.{deadlock_of, request_in, shown_by, shown_las
 use Rattle.world_model.specs.World.{contents, turns}
 use Rattle.world_records.specs.Records.{Agrees, processes_of}
 use Rattle.world_records.specs.declared.records.Records.{Records}
-use Rattle.step_plans.specs.Deeds.{deed_in, event_in}
-use Rattle.step_plans.specs.Turns.{IsPlan}
-use Rattle.step_plans.specs.declared.deed.Deed.{Deed}
-use Rattle.step_plans.specs.declared.deed.Event.{Event}
-use Rattle.step_plans.specs.declared.plan.Plan.{Plan}
+use Rattle.world_plans.specs.Deeds.{deed_in, event_in}
+use Rattle.world_plans.specs.Turns.{IsPlan}
+use Rattle.world_plans.specs.declared.deed.Deed.{Deed}
+use Rattle.world_plans.specs.declared.deed.Event.{Event}
+use Rattle.world_plans.specs.declared.plan.Plan.{Plan}
 use Rattle.world_core.specs.inside.Showing.{last_shown, next_request, request_by}
 use Rattle.world_model.proofs.Lives.{turns_told}
 use Rattle.world_model.proofs.Meeting.{pid_itself}

@@ -15,12 +15,12 @@ use Rattle.world_model.specs.World.{beginning, contents, turns}
 use Rattle.world_model.proofs.Fresh.{names_new}
 use Rattle.world_records.specs.Records.{Agrees, AreAlike}
 use Rattle.world_records.specs.declared.records.Records.{Records}
-use Rattle.step_plans.specs.Deeds.{deed_in}
-use Rattle.step_plans.specs.Plans.{IsNewFor, actor_of, left}
-use Rattle.step_plans.specs.Turns.{IsPlan}
-use Rattle.step_plans.specs.declared.deed.Deed.{Deed}
-use Rattle.step_plans.specs.declared.plan.Plan.{Plan}
-use Rattle.step_plans.proofs.Apart.{dead_off}
+use Rattle.world_plans.specs.Deeds.{deed_in}
+use Rattle.world_plans.specs.Plans.{IsNewFor, actor_of, left}
+use Rattle.world_plans.specs.Turns.{IsPlan}
+use Rattle.world_plans.specs.declared.deed.Deed.{Deed}
+use Rattle.world_plans.specs.declared.plan.Plan.{Plan}
+use Rattle.world_plans.proofs.Apart.{dead_off}
 use Rattle.world_core.specs.inside.Worlds.{IsWorld}
 
 -- what a process creates next is new

@@ -1,4 +1,4 @@
--- What several steps in a row come to.
+-- What several steps in a row result in.
 use Rattle.std.specs.Prelude.{◌≡◌, ◌+◌, ◌≤◌, ℕ, List, take, length, true, false, Result, Ok, Err, Some, None}
 use Rattle.term_core.specs.declared.step.Step.{Step}
 use Rattle.world_model.specs.Events.{History}
@@ -19,14 +19,14 @@ pub record StopsAt (a : Program) (h : History) (steps : List Step) (place : ℕ)
   pub runs : RunsTo a h (take before steps) g
   pub ends : run_from a (Some h) (take (before + 1) steps) ≡ None
 
--- the steps before this place, counted from 1, lead to a history; a step has this place, unless memory was wanting before
+-- the steps before this place, counted from 1, lead to a history; a step has this place, unless memory ran out before
 pub record StandsBefore (old : Seen) (steps : List Step) (place : ℕ) (g : History) : Type 0 where
   pub before : ℕ
   pub counted : place ≡ before + 1
   pub within : old.spent ≡ false → place ≤ length steps
   pub runs : RunsTo (program_in old) old.history (take before steps) g
 
--- the step of this place is not enabled, or memory was wanting there
+-- the step of this place is not enabled, or memory ran out there
 abbrev pub IsStopped : Seen → List Step → ℕ → WorldFault → Seen → Type 0
 IsStopped old steps place NotEnabled new = StopsAt (program_in old) old.history steps place new.history × (new.spent ≡ false)
 IsStopped old steps place Memory new = StandsBefore old steps place new.history × (new.spent ≡ true)

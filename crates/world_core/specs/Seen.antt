@@ -1,4 +1,4 @@
--- A world as callers see it: its module, what happened in it, and whether memory was wanting once.
+-- A world as callers see it: its module, what happened in it, and whether memory ran out once.
 use Rattle.std.specs.Prelude.{Bool, false, [], refl}
 use Rattle.std.specs.Coded.{Coded, code_by, coded×, coded_bool}
 use Rattle.core_tree.specs.Syntax.{ModuleTree}

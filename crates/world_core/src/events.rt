@@ -3,13 +3,13 @@ ghost use Rattle.std.specs.Prelude.{◌≡◌, ◌∷◌, Some, IfOk, option_map
 ghost use Rattle.world_core.specs.Shared.{events_in};
 ghost use Rattle.world_model.specs.Run.{latest};
 ghost use Rattle.world_model.specs.Events.{Event as Happening};
-ghost use Rattle.step_plans.specs.Deeds.{event_in};
+ghost use Rattle.world_plans.specs.Deeds.{event_in};
 
 use std::alloc::{AllocError, Global};
 use std::marker::Model;
 use std::sync::Arc;
-use step_plans::Event;
 use term_core::Step;
+use world_plans::Event;
 
 /// The events of a world, the latest first. Copies share them.
 #[derive(Drop)]
@@ -37,7 +37,7 @@ impl Model for Link {
 
     ghost coded = { coded_history };
 
-    ghost use Rattle.step_plans.specs.Deeds.{event_in};
+    ghost use Rattle.world_plans.specs.Deeds.{event_in};
     ghost use Rattle.world_core.specs.Shared.{events_in};
 
     ghost view = { λ l. event_in l.event ∷ events_in l.before };
@@ -50,7 +50,7 @@ impl Model for Link {
 }
 
 impl Link {
-    /// The event, and those before it.
+    // The event, and those before it.
     fn into_parts(self) -> (Event, Events)
         ensures { self ≡ event_in result.0 ∷ events_in result.1 }
     {

@@ -1,4 +1,4 @@
-// The laws of worlds: what the definitions of their steps come to.
+// The laws of worlds: what follows from the definitions of their steps.
 ghost use Rattle.std.specs.List.Sorted.{IsStrictlySortedBy};
 ghost use Rattle.std.specs.Prelude.{◌≡◌, ◌↔◌, List, Some, None, [], true};
 ghost use Rattle.term_core.specs.Order.{order_of_lists};
@@ -23,7 +23,7 @@ pub fn living_are_listed()
     ensures in_order { (h : History) → IsStrictlySortedBy order_of_lists (living h) }
 {}
 
-/// A deadlock is shown where no step is enabled and a process lives, and nowhere else; and it is of all that live.
+/// A deadlock is shown where no step is enabled and a process lives, and nowhere else; and it names all that live.
 pub fn deadlocks_are_of_the_living()
     ensures { (a : Program) (h : History) (ps : List Pid) → Shows a h (Deadlock ps) ↔ ((enabled_steps a h ≡ []) × ((living h ≡ ps) × (ps ≡ [] → ⊥))) }
 {}

@@ -9,6 +9,6 @@ pub mod world;
 
 pub use fault::WorldFault;
 pub use shows::{push_deadlock, shown_by_plan};
-pub use step_plans::{Deed, Event};
 pub use world::World;
+pub use world_plans::{Deed, Event};
 pub use world_steps::enabled_steps;

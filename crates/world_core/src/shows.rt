@@ -1,32 +1,33 @@
 // What a world shows: what its last event is, and whether no step is enabled.
-ghost use Rattle.std.specs.Prelude.{◌≡◌, ◌∷◌, ◌+◌, ◌++◌, [], None, Some, IfOk, OnOk, map, option_copied, option_map};
+ghost use Rattle.std.specs.Prelude.{◌≡◌, ◌+◌, ◌++◌, [], None, IfOk, OnOk, map, option_copied, option_map};
 ghost use Rattle.core_tree.specs.Syntax.{ModuleTree};
-ghost use Rattle.findings.specs.Identities.{identity_in};
+ghost use Rattle.world_identities.specs.Identities.{identity_in};
 ghost use Rattle.proc_links.specs.Effects.{fate_in};
 ghost use Rattle.proc_machines.specs.Processes.{turns_in};
 ghost use Rattle.std.specs.List.Sorted.{IsStrictlySortedBy};
 ghost use Rattle.term_core.specs.Order.{order_of_lists};
 ghost use Rattle.term_core.specs.Term.{meaning_of};
 ghost use Rattle.term_core.specs.declared.step.Step.TheVariants.{Turn, Deliver};
-ghost use Rattle.step_plans.specs.Replies.{refusal_in};
-ghost use Rattle.step_plans.specs.Turns.{IsPlan};
-ghost use Rattle.world_core.specs.inside.Showing.{told_by, last_shown, next_request};
+ghost use Rattle.world_plans.specs.Replies.{refusal_in};
+ghost use Rattle.world_plans.specs.Turns.{IsPlan};
+ghost use Rattle.world_core.specs.Planned.{WillShow};
+ghost use Rattle.world_core.specs.inside.Showing.{AreShownBy, told_by, last_shown, next_request};
 ghost use Rattle.world_model.specs.Asking.{program_of};
-ghost use Rattle.world_model.specs.Events.{Event as Happening, History};
-ghost use Rattle.world_model.specs.Run.{latest, living, next_event};
-ghost use Rattle.world_model.specs.Shown.{deadlock_of, shown_by, shown_by_fate, shown_by_refusal, shown_last, unless_normal};
+ghost use Rattle.world_model.specs.Events.{History};
+ghost use Rattle.world_model.specs.Run.{living, next_event};
+ghost use Rattle.world_model.specs.Shown.{deadlock_of, shown_by, shown_by_fate, shown_by_refusal, unless_normal};
 ghost use Rattle.world_model.specs.World.{contents};
 ghost use Rattle.world_records.specs.Records.{Agrees, processes_of};
-ghost use Rattle.step_plans.specs.Deeds.{deed_in, event_in};
+ghost use Rattle.world_plans.specs.Deeds.{deed_in, event_in};
 
 use core_tree::CallKind;
-use findings::Identity;
 use proc_links::Effect;
 use std::alloc::{AllocError, Global};
 use std::collections::BTreeSet;
 use std::sync::Arc;
-use step_plans::{Deed, Event, Plan, Refusal, copy_owner};
 use term_core::{Pid, Step, Term, Terms};
+use world_identities::Identity;
+use world_plans::{Deed, Event, Plan, Refusal, copy_owner};
 use world_records::Records;
 
 // The end of a process, unless its reason is `normal`.
@@ -145,14 +146,14 @@ fn by_plan(records: &Records<'_>, step: &Step, deed: &Deed) -> Result<Option<Ide
 
 /// What the event of a planned step will show, before the step is taken, where the records are those that it is planned
 /// for: the end of a process with another reason than `normal`, a process that made too many applications without a
-/// request, or a refused call of a table, if it is one of these; nothing where the step is not enabled. Of a deadlock behind
-/// it nothing is said. `AllocError` if there is no memory for it.
+/// request, or a refused call of a table, if it is one of these; nothing where the step is not enabled. Of a deadlock
+/// after it nothing is said. `AllocError` if there is no memory for it.
 pub fn shown_by_plan(
     records: &Records<'_>,
     alloc: Global,
     plan: &Plan,
 ) -> Result<Vec<Identity>, AllocError>
-    ensures shown { IfOk result (λ found. (m : ModuleTree) (h : History) (e : Happening) → Agrees m records.now (contents h) → IsPlan (program_of m) (contents h) plan.now → next_event (program_of m) h plan.now.step ≡ Some e → map identity_in found.items ≡ shown_last (e ∷ h)) }
+    ensures shown { IfOk result (λ found. WillShow records.now plan.now (map identity_in found.items)) }
     ensures none { IfOk result (λ found. (m : ModuleTree) (h : History) → IsPlan (program_of m) (contents h) plan.now → next_event (program_of m) h plan.now.step ≡ None → map identity_in found.items ≡ []) }
 {
     let mut found = Vec::new(alloc);
@@ -194,7 +195,7 @@ fn deadlock(
     Ok(Some(Identity::Deadlock(pids)))
 }
 
-// Puts an identity behind others, if there is one.
+// Puts an identity after others, if there is one.
 fn push_if_any(shown: &mut Vec<Identity>, identity: Option<Identity>) -> Result<(), AllocError>
     ensures { OnOk result (map identity_in shown.new.items ≡ map identity_in shown.old.items ++ told_by identity) }
 {
@@ -204,17 +205,17 @@ fn push_if_any(shown: &mut Vec<Identity>, identity: Option<Identity>) -> Result<
     Ok(())
 }
 
-/// What a world shows whose records and last event these are, where these steps are enabled: the end of a process with another reason
-/// than `normal`, a process that made too many applications without a request, or a refused call of a table, whichever
-/// the last event is; and then the deadlock of those that live, where no step is enabled. `AllocError` if there is no
-/// memory for it.
+/// What a world with these records, this last event and these enabled steps shows: the end of a process with another
+/// reason than `normal`, a process that made too many applications without a request, or a refused call of a table,
+/// whichever the last event is; and then the deadlock of those that live, where no step is enabled. `AllocError` if
+/// there is no memory for it.
 pub(crate) fn shown_by_world(
     records: &Records<'_>,
     alloc: Global,
     event: Option<&Event>,
     enabled: &[Step],
 ) -> Result<Vec<Identity>, AllocError>
-    ensures { IfOk result (λ found. (m : ModuleTree) (h : History) → Agrees m records.now (contents h) → option_map (λ event. event_in event.now) event.entry ≡ latest (Some h) → map identity_in found.items ≡ shown_last h ++ deadlock_of enabled.now (living h)) }
+    ensures { IfOk result (λ found. AreShownBy records.now (option_map (λ event. event_in event.now) event.entry) enabled.now (map identity_in found.items)) }
 {
     let mut found = Vec::new(alloc);
     push_if_any(&mut found, by_last_event(records, event)?)?;
@@ -225,8 +226,8 @@ pub(crate) fn shown_by_world(
     Ok(found)
 }
 
-/// Puts the deadlock of all processes that live behind other identities, where any lives: it is for records of which the
-/// caller knows that no step is enabled. `AllocError` if there is no memory for it.
+/// Puts the deadlock of all processes that live after other identities, where any lives: the caller knows of the
+/// records that no step is enabled. `AllocError` if there is no memory for it.
 pub fn push_deadlock(
     records: &Records<'_>,
     alloc: Global,

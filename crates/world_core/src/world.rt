@@ -1,6 +1,6 @@
 // The world of one schedule.
 ghost use Rattle.std.specs.Prelude.{◌≡◌, ◌↔◌, ◌∷◌, ◌++◌, [], true, false, Some, None, IfOk, OnOk, OnErr, IfErr, IsErr, IfNone, IfSome, IsSome, MatchResult, Contains, option_map, map};
-ghost use Rattle.findings.specs.Identities.{identity_in};
+ghost use Rattle.world_identities.specs.Identities.{identity_in};
 ghost use Rattle.term_core.specs.declared.step.Step.{Step};
 ghost use Rattle.world_core.specs.Advanced.{Advances};
 ghost use Rattle.world_core.specs.Seen.{new_world, program_in};
@@ -10,25 +10,25 @@ ghost use Rattle.world_model.specs.Shown.{deadlock_of, shown, shown_last};
 ghost use Rattle.world_model.specs.StepLaws.{AreInOrder};
 ghost use Rattle.world_model.specs.World.{alive, contents};
 ghost use Rattle.world_records.specs.Records.{Agrees};
-ghost use Rattle.step_plans.specs.Deeds.{event_in};
-ghost use Rattle.step_plans.specs.Turns.{IsPlan};
+ghost use Rattle.world_plans.specs.Deeds.{event_in};
+ghost use Rattle.world_plans.specs.Turns.{IsPlan};
 ghost use Rattle.world_model.specs.Events.{Event as Happening};
 
 use crate::events::Events;
 use crate::fault::WorldFault;
 use crate::shows::shown_by_world;
 use core_tree::Module;
-use findings::Identity;
 use std::alloc::{AllocError, Global};
 use std::marker::Model;
-use step_plans::{Event, Plan, copy_deed, perform, plan_step};
 use term_core::{Pid, Step};
+use world_identities::Identity;
+use world_plans::{Event, Plan, copy_deed, perform, plan_step};
 use world_records::Records;
 use world_steps::enabled_steps;
 
 /// A world: what the processes of a module, their signals and their tables are after what happened so far, and what
-/// happened. Contracts see the module, the events, the latest first, and whether memory was wanting once; all else is
-/// told by the events. Copies share all of it until one of them takes a step.
+/// happened. Contracts see the module, the events, the latest first, and whether memory ran out once; all else is
+/// determined by the events. Copies share all of it until one of them takes a step.
 pub struct World<'m> {
     program: &'m Module,
     records: Records<'m>,
@@ -65,7 +65,7 @@ impl<'m> Model for World<'m> {
 }
 
 impl<'m> World<'m> {
-    /// The world of a module before anything happened: its first process stands at its first request.
+    /// The world of a module before anything happened: its first process is at its first request.
     ///
     /// # Errors
     ///
@@ -86,7 +86,7 @@ impl<'m> World<'m> {
     ///
     /// # Errors
     ///
-    /// `Memory` where the copies can no longer be counted, or memory was wanting in an earlier step.
+    /// `Memory` where the copies can no longer be counted, or memory ran out in an earlier step.
     pub fn copy(&self) -> Result<World<'m>, WorldFault>
         ensures copied { IfOk result (λ copied. copied ≡ self.now) }
         ensures memory { IfErr result (λ fault. fault ≡ Memory) }
@@ -127,8 +127,8 @@ impl<'m> World<'m> {
     ///
     /// # Errors
     ///
-    /// `NotEnabled` where there is no such event, and then the world is unchanged; `Memory` where memory was wanting,
-    /// now or in an earlier step: the world is spent, and every later call answers `Memory`.
+    /// `NotEnabled` where there is no such event, and then the world is unchanged; `Memory` where memory ran out, now
+    /// or in an earlier step: the world is spent, and every later call answers `Memory`.
     pub fn step(&mut self, alloc: Global, step: &Step) -> Result<(), WorldFault>
         ensures ok { OnOk result (extended self.old.history (next_event (program_in self.old) self.old.history step.now) ≡ Some self.new.history) }
         ensures lives { OnOk result (self.new.spent ≡ false) }
@@ -206,8 +206,8 @@ impl<'m> World<'m> {
     /// # Errors
     ///
     /// `NotEnabled` at the first step that is not enabled, with its place, counted from 1: the steps before it were
-    /// taken. `Memory` where memory was wanting, with the place of the step then, or 1 where it was wanting before: the
-    /// world is spent.
+    /// taken. `Memory` where memory ran out, with the place of the step then, or 1 where it ran out before: the world
+    /// is spent.
     pub fn advance(&mut self, alloc: Global, steps: &[Step]) -> Result<(), (u64, WorldFault)>
         ensures advanced { Advances self.old steps.now result self.new }
         ensures program { self.new.program ≡ self.old.program }
@@ -238,7 +238,7 @@ impl<'m> World<'m> {
 
     /// What the world shows, its errors and its refusal: by its last event the end of a process with another reason
     /// than `normal`, a process that made too many applications without a request, or a refused call of a table; and
-    /// the deadlock of those that live, where no step is enabled (`Identity::is_error` and `Identity::is_refusal` tell
+    /// the deadlock of those that live, where no step is enabled (`Identity::is_error` and `Identity::is_refusal` say
     /// which is which).
     ///
     /// # Errors
@@ -254,8 +254,8 @@ impl<'m> World<'m> {
         Ok(found)
     }
 
-    /// The same for a caller that has the enabled steps, as `enabled` gives them. Given others, it answers a deadlock
-    /// just where there are none of them and some process lives.
+    /// The same for a caller that has the enabled steps, as `enabled` gives them. With other steps, it answers a
+    /// deadlock exactly where the list is empty and some process lives.
     ///
     /// # Errors
     ///
@@ -302,7 +302,7 @@ impl<'m> World<'m> {
         self.records.processes().lives(pid)
     }
 
-    /// Whether memory was wanting once, so that every call answers `Memory`. It takes no memory.
+    /// Whether memory ran out once, so that every call answers `Memory`. It takes no memory.
     pub fn is_spent(&self) -> bool
         ensures { result ≡ self.now.spent }
     {

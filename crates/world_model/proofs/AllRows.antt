@@ -3,7 +3,7 @@ use Rattle.std.proofs.Common.{◌≡◌, Bool, true, false, ◌&&◌, cond, List
 use Rattle.std.specs.FinMap.{get, empty, entries, from_sorted, get-empty, get-from_sorted, entries-from_sorted, same_map}
 use Rattle.term_core.specs.Order.{order_of_terms}
 use Rattle.world_model.specs.Cells.{Rows, Row, Contents, meet}
-use Rattle.world_model.specs.Changes.{Change, changed, Writes, Wipes, Touches, after}
+use Rattle.world_model.specs.Changes.{Change, changed, RowWritten, RowsCleared, CellTouched, after}
 use Rattle.world_model.specs.Names.{Ref, same_ref}
 use Rattle.world_model.specs.Rows.{under, listed, Key, some_if, RowChange, Object, rows_rewritten, rewritten, same_key, Rows as RowsOf}
 use Rattle.world_model.specs.Steps.{changes_by}
@@ -34,9 +34,9 @@ wiped true k rows xs is = get-empty order_of_terms k
 wiped false k rows xs is = is
 
 kept_by : (j : Change) (v : Contents) → AreIn v → AreIn (changed j v)
-kept_by (Writes u l c) v are t k = written (same_ref u t) l k c (v (Rows t)) (v (Row t k)) (are t k)
-kept_by (Wipes u) v are t k = wiped (same_ref u t) k (v (Rows t)) (v (Row t k)) (are t k)
-kept_by (Touches d) v are t k = ap (λ rows. get rows k) (either_way (meet d (Rows t)) (v (Rows t))) ∙ are t k ∙ sym (ap some_if (either_way (meet d (Row t k)) (v (Row t k))))
+kept_by (RowWritten u l c) v are t k = written (same_ref u t) l k c (v (Rows t)) (v (Row t k)) (are t k)
+kept_by (RowsCleared u) v are t k = wiped (same_ref u t) k (v (Rows t)) (v (Row t k)) (are t k)
+kept_by (CellTouched d) v are t k = ap (λ rows. get rows k) (either_way (meet d (Rows t)) (v (Rows t))) ∙ are t k ∙ sym (ap some_if (either_way (meet d (Row t k)) (v (Row t k))))
 kept_by j v are t k = are t k
 
 kept : (ks : List Change) (v : Contents) → AreIn v → AreIn (after ks v)

@@ -7,7 +7,7 @@ use Rattle.term_core.specs.declared.step.Step.TheVariants.{Deliver, Turn}
 use Rattle.world_model.specs.Bonds.{paired_by_way, linked_by_call, way_now, linked_in, LinkedIsTold, watched_by_call, watched_in, WatchedIsTold, vacated, held_by_call, name_of_ended, held_in, HolderIsTold}
 use Rattle.world_model.specs.Calls.{Link, Call, Spawn, Alone, Linked, Watched, Unlink, OnTable, call_of, Monitor, Demonitor, Register, Unregister}
 use Rattle.world_model.specs.Cells.{Cell, Links, Table, Contents, Watch, Watchers, Alive, Holder, NameOf, Owned}
-use Rattle.world_model.specs.Changes.{is_of_watch, after, changed, Turns, Fetches, Unwatches, Sheds, Touches, Change, Dies, Halts, Empties}
+use Rattle.world_model.specs.Changes.{is_of_watch, after, changed, TurnTaken, SignalDelivered, WatchCleared, WatcherRemoved, CellTouched, Change, AliveCleared, MachineHalted, OwnedCleared}
 use Rattle.world_model.specs.Ends.{ends, passed, table_passes, living_heir, tables_pass, partners_told, watchers_told, name_left}
 use Rattle.world_model.specs.Events.{History, Fate, Signal, Delivered, Message, Exit, LinkExit, Down, Arrives, IsIgnored, IsDropped, Kills, Deed, Served, Refused, EndedItself, Ended, Received, TimedOut, RanAway}
 use Rattle.world_model.specs.Lines.{line}
@@ -18,7 +18,7 @@ use Rattle.world_model.specs.Signals.{goes_with, put_if}
 use Rattle.world_model.specs.Steps.{changes_of_fate, changes_by, runaway}
 use Rattle.world_model.specs.Tables as tables
 use Rattle.world_model.specs.Tables.{Heir}
-use Rattle.world_model.specs.Told.{ended_in}
+use Rattle.world_model.specs.ProcessHistory.{ended_in}
 use Rattle.world_model.specs.World.{contents}
 use Rattle.world_model.proofs.Commuting.{either_way, stays, follows}
 use Rattle.world_model.proofs.EndSorts.{end_leaves, after_both}
@@ -64,15 +64,15 @@ fate_linked v w r x (Kills reason) = end_leaves v w r reason (Links x) refl
 told_linked : (h : History) (step : Step) (deed : Deed) (x : Pid) → after (changes_by (contents h) step deed) (contents h) (Links x) ≡ linked_in h step deed x (contents h (Links x))
 told_linked h (Turn p) (Served kind arguments answer) x = call_linked h _ p (call_of kind arguments) x
 told_linked h (Turn p) (Refused kind arguments refusal) x = refl
-told_linked h (Turn p) (EndedItself kind arguments reason) x = end_leaves (contents h) (changed (Turns p []) (contents h)) p reason (Links x) refl
+told_linked h (Turn p) (EndedItself kind arguments reason) x = end_leaves (contents h) (changed (TurnTaken p []) (contents h)) p reason (Links x) refl
 told_linked h (Turn p) (Received m) x = refl
 told_linked h (Turn p) TimedOut x = refl
-told_linked h (Turn p) (Ended reason) x = end_leaves (contents h) (changed (Turns p []) (contents h)) p reason (Links x) refl
-told_linked h (Turn p) RanAway x = end_leaves (contents h) (changed (Turns p []) (contents h)) p runaway (Links x) refl
+told_linked h (Turn p) (Ended reason) x = end_leaves (contents h) (changed (TurnTaken p []) (contents h)) p reason (Links x) refl
+told_linked h (Turn p) RanAway x = end_leaves (contents h) (changed (TurnTaken p []) (contents h)) p runaway (Links x) refl
 told_linked h (Turn p) (Delivered signal f) x = refl
 told_linked h (Deliver s r) (Delivered signal f) x =
     let ks = goes_with s r signal in
-    let w = changed (Fetches s r) (contents h) in
+    let w = changed (SignalDelivered s r) (contents h) in
     after_both ks (changes_of_fate (after ks (contents h)) r f) w (Links x) ∙ fate_linked (after ks (contents h)) (after ks w) r x f ∙ goes_linked s r x f signal h w
 told_linked h (Deliver s r) deed x = refl
 
@@ -88,7 +88,7 @@ ends_if true true there none = none refl
 ends_if true false there none = refl
 ends_if false d there none = refl
 
-watch_left : (p : Pid) (u ref : Ref) (b : Bool) (q : Pid) (w : Contents) → after (if b then Unwatches u ∷ Sheds q u ∷ [] else Touches (Watch u) ∷ Touches (Watchers q) ∷ []) w (Watch ref) ≡ (if b && same_ref u ref then None else w (Watch ref))
+watch_left : (p : Pid) (u ref : Ref) (b : Bool) (q : Pid) (w : Contents) → after (if b then WatchCleared u ∷ WatcherRemoved q u ∷ [] else CellTouched (Watch u) ∷ CellTouched (Watchers q) ∷ []) w (Watch ref) ≡ (if b && same_ref u ref then None else w (Watch ref))
 watch_left p u ref true q w = refl
 watch_left p u ref false q w = either_way (same_ref u ref) (w (Watch ref))
 
@@ -140,15 +140,15 @@ fate_watched v w r ref (Kills reason) = end_leaves v w r reason (Watch ref) refl
 told_watched : (h : History) (step : Step) (deed : Deed) (ref : Ref) → after (changes_by (contents h) step deed) (contents h) (Watch ref) ≡ watched_in h step deed ref (contents h (Watch ref))
 told_watched h (Turn p) (Served kind arguments answer) ref = call_watched h _ p (call_of kind arguments) ref (λ u. refl)
 told_watched h (Turn p) (Refused kind arguments refusal) ref = refl
-told_watched h (Turn p) (EndedItself kind arguments reason) ref = end_leaves (contents h) (changed (Turns p []) (contents h)) p reason (Watch ref) refl
+told_watched h (Turn p) (EndedItself kind arguments reason) ref = end_leaves (contents h) (changed (TurnTaken p []) (contents h)) p reason (Watch ref) refl
 told_watched h (Turn p) (Received m) ref = refl
 told_watched h (Turn p) TimedOut ref = refl
-told_watched h (Turn p) (Ended reason) ref = end_leaves (contents h) (changed (Turns p []) (contents h)) p reason (Watch ref) refl
-told_watched h (Turn p) RanAway ref = end_leaves (contents h) (changed (Turns p []) (contents h)) p runaway (Watch ref) refl
+told_watched h (Turn p) (Ended reason) ref = end_leaves (contents h) (changed (TurnTaken p []) (contents h)) p reason (Watch ref) refl
+told_watched h (Turn p) RanAway ref = end_leaves (contents h) (changed (TurnTaken p []) (contents h)) p runaway (Watch ref) refl
 told_watched h (Turn p) (Delivered signal f) ref = refl
 told_watched h (Deliver s r) (Delivered signal f) ref =
     let ks = goes_with s r signal in
-    let w = changed (Fetches s r) (contents h) in
+    let w = changed (SignalDelivered s r) (contents h) in
     after_both ks (changes_of_fate (after ks (contents h)) r f) w (Watch ref) ∙ fate_watched (after ks (contents h)) (after ks w) r ref f ∙ goes_watched s r ref f signal h w
 told_watched h (Deliver s r) deed ref = refl
 
@@ -183,28 +183,28 @@ watchers_off v p reason [] = tt
 watchers_off v p reason (ref ∷ refs) = among_both pass_sorts (put_if (v (Alive ref.pid)) p ref.pid (Down ref reason)) (watchers_told v p reason refs) (put_among pass_sorts (v (Alive ref.pid)) p ref.pid (Down ref reason) refl) (watchers_off v p reason refs)
 
 -- of a cell of another sort an end leaves what its name leaves of it
-pub end_but_name : (v w : Contents) (p : Pid) (reason : Meaning) (c : Cell) → is_among pass_sorts c ≡ false → after (ends v p reason) w c ≡ after (name_left p (v (NameOf p))) (changed (Dies p) (changed (Halts p reason) w)) c
+pub end_but_name : (v w : Contents) (p : Pid) (reason : Meaning) (c : Cell) → is_among pass_sorts c ≡ false → after (ends v p reason) w c ≡ after (name_left p (v (NameOf p))) (changed (AliveCleared p) (changed (MachineHalted p reason) w)) c
 end_but_name v w p reason c other =
-    let dead = changed (Dies p) v in
-    let mid = changed (Dies p) (changed (Halts p reason) w) in
+    let dead = changed (AliveCleared p) v in
+    let mid = changed (AliveCleared p) (changed (MachineHalted p reason) w) in
     let passing = tables_pass dead p (dead (Owned p)) in
     let partners = partners_told dead p reason (dead (Links p)) in
     let watchers = watchers_told dead p reason (dead (Watchers p)) in
     let name = name_left p (dead (NameOf p)) in
-    let one = changed (Empties p) (after passing mid) in
+    let one = changed (OwnedCleared p) (after passing mid) in
     let off : (ks : List Change) (u : Contents) → AllAmong pass_sorts ks → after ks u c ≡ u c = λ ks u among. stays ks u c (untouched_by pass_sorts ks c among other) in
-    after_both passing (Empties p ∷ (partners ++ (watchers ++ name))) mid c
+    after_both passing (OwnedCleared p ∷ (partners ++ (watchers ++ name))) mid c
     ∙ after_both partners (watchers ++ name) one c
     ∙ after_both watchers name (after partners one) c
     ∙ follows name (after watchers (after partners one)) mid c
-    (off watchers (after partners one) (watchers_off dead p reason (dead (Watchers p))) ∙ off partners one (partners_off dead p reason (dead (Links p))) ∙ off (Empties p ∷ []) (after passing mid) (refl, tt) ∙ off passing mid (tables_off dead p (dead (Owned p))))
+    (off watchers (after partners one) (watchers_off dead p reason (dead (Watchers p))) ∙ off partners one (partners_off dead p reason (dead (Links p))) ∙ off (OwnedCleared p ∷ []) (after passing mid) (refl, tt) ∙ off passing mid (tables_off dead p (dead (Owned p))))
 
 name_told : (p : Pid) (o : Option Name) (w : Contents) (n : Name) → after (name_left p o) w (Holder n) ≡ vacated o n (w (Holder n))
 name_told p None w n = refl
 name_told p (Some m) w n = refl
 
 pub end_held : (v w : Contents) (p : Pid) (reason : Meaning) (n : Name) → after (ends v p reason) w (Holder n) ≡ vacated (v (NameOf p)) n (w (Holder n))
-end_held v w p reason n = end_but_name v w p reason (Holder n) refl ∙ name_told p (v (NameOf p)) (changed (Dies p) (changed (Halts p reason) w)) n
+end_held v w p reason n = end_but_name v w p reason (Holder n) refl ∙ name_told p (v (NameOf p)) (changed (AliveCleared p) (changed (MachineHalted p reason) w)) n
 
 unheld_by : (w : Contents) (m n : Name) (o : Option Pid) → w (Holder m) ≡ o → after (unregister_line m o).changes w (Holder n) ≡ (if same_name m n then None else w (Holder n))
 unheld_by w m n None is = ends_if true (same_name m n) (w (Holder n)) (λ same. ap (λ k. w (Holder k)) (sym (pids_same m n same)) ∙ is)
@@ -249,7 +249,7 @@ told_held h (Turn p) RanAway n = end_held (contents h) _ p runaway n
 told_held h (Turn p) (Delivered signal f) n = refl
 told_held h (Deliver s r) (Delivered signal f) n =
     let ks = goes_with s r signal in
-    let w = changed (Fetches s r) (contents h) in
+    let w = changed (SignalDelivered s r) (contents h) in
     let v = after ks (contents h) in
     after_both ks (changes_of_fate v r f) w (Holder n)
     ∙ fate_held h v (after ks w) s r n signal f (stays ks (contents h) (NameOf r) (goes_named_of s r r signal))

@@ -7,7 +7,7 @@ use Rattle.term_core.specs.declared.step.Step.TheVariants.{Turn, Deliver}
 use Rattle.world_model.specs.Bonds.{held_at_end, held_in, name_of_ended, vacated, HolderIsToldInRuns}
 use Rattle.world_model.specs.Calls.{Call, Register, Unregister, OnTable, TableCall, First, call_of}
 use Rattle.world_model.specs.Cells.{Contents, Holder, NameOf, Alive}
-use Rattle.world_model.specs.Changes.{Holds, Bears, Dies, Halts, Fetches, after, changed}
+use Rattle.world_model.specs.Changes.{HolderSet, NameSet, AliveCleared, MachineHalted, SignalDelivered, after, changed}
 use Rattle.world_model.specs.Ends.{ends, name_left}
 use Rattle.world_model.specs.Events.{History, Badarg, Deed, Served, Refused, EndedItself, Ended, Received, TimedOut, RanAway, Delivered, Fate, Arrives, IsIgnored, IsDropped, Kills}
 use Rattle.world_model.specs.Lines.{line}
@@ -18,7 +18,7 @@ use Rattle.world_model.specs.Run.{IsRun}
 use Rattle.world_model.specs.RunLaws.{HoldersHaveNames}
 use Rattle.world_model.specs.Signals.{goes_with}
 use Rattle.world_model.specs.Steps.{changes_of_fate, changes_by, runaway}
-use Rattle.world_model.specs.Told.{ended_in, is_it}
+use Rattle.world_model.specs.ProcessHistory.{ended_in, is_it}
 use Rattle.world_model.specs.World.{contents}
 use Rattle.world_model.proofs.BondLaws.{holder_told, end_but_name, end_held, goes_held, goes_named_of}
 use Rattle.world_model.proofs.Commuting.{either_is, stays, follows}
@@ -47,11 +47,11 @@ bears_by w n m q x true false here same free bare before_ = same ∙ sym (ap (λ
 bears_by w n m q x false true here same free bare before_ = before_ x m ∙ sym (ap (λ k. is_it (w (Holder k)) x) (pids_same n m same)) ∙ ap (λ o. is_it o x) free ∙ sym here
 bears_by w n m q x false false here same free bare before_ = before_ x m
 
-bears : (w : Contents) (n : Name) (q : Pid) → w (Holder n) ≡ None → w (NameOf q) ≡ None → Match w → Match (after (Holds n q ∷ Bears q n ∷ []) w)
+bears : (w : Contents) (n : Name) (q : Pid) → w (Holder n) ≡ None → w (NameOf q) ≡ None → Match w → Match (after (HolderSet n q ∷ NameSet q n ∷ []) w)
 unfolding Match
 bears w n q free bare before_ = λ x m. bears_by w n m q x (same_pid q x) (same_name n m) refl refl free bare before_
 
--- a process has its name no more, and that has no holder
+-- a process no longer has its name, and that has no holder
 bares_by : (w : Contents) (p x : Pid) (o : Option Name) (m : Name) (b : Bool) → same_pid p x ≡ b → w (NameOf p) ≡ o → Match w → is_it (if b then None else w (NameOf x)) m ≡ is_it (vacated o m (w (Holder m))) x
 unfolding Match
 bares_by w p x None m true here had before_ = sym (ap (λ k. is_it k m) had) ∙ ap (λ y. is_it (w (NameOf y)) m) (pids_same p x here) ∙ before_ x m
@@ -123,7 +123,7 @@ name_bared p x (Some n) w = refl
 end_match : (v w : Contents) (p : Pid) (reason : Meaning) → ((q : Pid) → w (NameOf q) ≡ v (NameOf q)) → Match w → Match (after (ends v p reason) w)
 end_match v w p reason names before_ =
     bares w (after (ends v p reason) w) p
-    (λ x. end_but_name v w p reason (NameOf x) refl ∙ name_bared p x (v (NameOf p)) (changed (Dies p) (changed (Halts p reason) w)))
+    (λ x. end_but_name v w p reason (NameOf x) refl ∙ name_bared p x (v (NameOf p)) (changed (AliveCleared p) (changed (MachineHalted p reason) w)))
     (λ m. end_held v w p reason m ∙ ap (λ o. vacated o m (w (Holder m))) (sym (names p))) before_
 
 -- ---- every event, and every run
@@ -146,7 +146,7 @@ event_match v (Turn p) RanAway served before_ = end_match v _ p runaway (λ q. r
 event_match v (Turn p) (Delivered x f) served before_ = before_
 event_match v (Deliver s r) (Delivered x f) served before_ =
     let ks = goes_with s r x in
-    let w = changed (Fetches s r) v in
+    let w = changed (SignalDelivered s r) v in
     let mid = match_same v (after ks w) (λ q. stays ks w (NameOf q) (goes_named_of s r q x)) (λ n. stays ks w (Holder n) (goes_held s r n x)) before_ in
     match_same (after (changes_of_fate (after ks v) r f) (after ks w)) (after (changes_by v (Deliver s r) (Delivered x f)) v)
     (λ q. after_both ks (changes_of_fate (after ks v) r f) w (NameOf q)) (λ n. after_both ks (changes_of_fate (after ks v) r f) w (Holder n))

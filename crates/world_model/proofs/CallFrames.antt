@@ -4,7 +4,7 @@ use Rattle.std.specs.Prelude.{if◌then◌else◌, ◌≡◌, ◌∷◌, Bool, t
 use Rattle.term_core.specs.Meaning.{Meaning}
 use Rattle.world_model.specs.Calls.{Call, Spawn, Send, ToNobody, ToProcess, ToName, SendExit, Link, Unlink, Monitor, Demonitor, Flag, Register, Unregister, WhereIs, IsAlive, MakeRef, New, OnTable, Misfit}
 use Rattle.world_model.specs.Cells.{Contents, TableName, Holder, Machine, Trap, Alive, Front, Tail, Watch}
-use Rattle.world_model.specs.Changes.{Traps, is_of_watch}
+use Rattle.world_model.specs.Changes.{TrapSet, is_of_watch}
 use Rattle.world_model.specs.Ends.{alive_if}
 use Rattle.world_model.specs.Events.{Message, Exit}
 use Rattle.world_model.specs.Frames.{AgreeOn}
@@ -12,7 +12,7 @@ use Rattle.world_model.specs.Lines.{line}
 use Rattle.world_model.specs.Mailboxes.{left_of, mailbox_in, selected_of, reads_to_pick}
 use Rattle.world_model.specs.Names.{Pid, same_pid, Name, Ref}
 use Rattle.world_model.specs.NewTables.{name_taken, new_reads, new_rule, new_line}
-use Rattle.world_model.specs.ProcessLines.{sent, read_of_target, exited, holder_read, sent_to_holder, unregister_line, register_line, spawn_line, serves, serves_unless, unless_held, link_line, link_way, monitor_line, ref_of, badarg, demonitor_reads, demonitor_line}
+use Rattle.world_model.specs.ProcessLines.{sent, read_of_target, exited, holder_read, sent_to_holder, unregister_line, register_line, spawn_line, serves, serves_unless, unless_held, link_line, link_way, monitor_line, ref_of_turn, badarg, demonitor_reads, demonitor_line}
 use Rattle.world_model.specs.Signals.{put_if}
 use Rattle.world_model.specs.Tables.{TableOption, is_named}
 use Rattle.world_model.specs.Terms.{ok, truth, process_or, reference}
@@ -39,7 +39,7 @@ found_framed : (v w : Contents) (p : Pid) (selects : Meaning → Bool) (o : Opti
 found_framed v w p selects None is agree = sym (λ i. selected_of selects (left_of (agree.0.0 i) (agree.1.0.0 i))) ∙ is
 found_framed v w p selects (Some m) is agree = agree.0.1 selects m is
 
--- who agrees on what is read to take a message finds the same
+-- contents that agree on what is read to take a message find the same
 pub selected_framed : (v w : Contents) (p : Pid) (selects : Meaning → Bool) → AgreeOn v w (reads_to_pick p (selected_of selects (mailbox_in v p))) → selected_of selects (mailbox_in v p) ≡ selected_of selects (mailbox_in w p)
 selected_framed v w p selects agree = sym (found_framed v w p selects (selected_of selects (mailbox_in v p)) refl agree)
 
@@ -59,7 +59,7 @@ new_reads_are p t name (Some os) rule = refl
 
 -- ---- the lines
 
--- whoever holds the name, it is read
+-- whichever process holds the name, it is read
 by_holder : (v w : Contents) (name : Name) (o : Option Pid) → AgreeOn v w (unregister_line name o).reads → v (Holder name) ≡ w (Holder name)
 by_holder v w name None agree = agree.0.0
 by_holder v w name (Some q) agree = agree.0.0
@@ -83,7 +83,7 @@ call_framed v w p (Unlink None) machine agree = refl
 call_framed v w p (Unlink (Some q)) machine agree = refl
 call_framed v w p (Monitor is_process None) machine agree = refl
 call_framed v w p (Monitor false (Some q)) machine agree = refl
-call_framed v w p (Monitor true (Some q)) machine agree = λ i. monitor_line p q (ref_of p (machine i)) (agree.0.0 i)
+call_framed v w p (Monitor true (Some q)) machine agree = λ i. monitor_line p q (ref_of_turn p (machine i)) (agree.0.0 i)
 call_framed v w p (Demonitor None flushes) machine agree = refl
 call_framed v w p (Demonitor (Some ref) None) machine agree = λ i. badarg (demonitor_reads ref (agree.0.0 i))
 call_framed v w p (Demonitor (Some ref) (Some false)) machine agree = λ i. demonitor_line p ref false (agree.0.0 i) None
@@ -91,7 +91,7 @@ call_framed v w p (Demonitor (Some ref) (Some true)) machine agree =
     let parts = agree_parts v w (alive_if (v (Watch ref))) (reads_to_pick p (selected_of (is_of_watch ref) (mailbox_in v p))) agree.1 in
     λ i. demonitor_line p ref true (agree.0.0 i) (selected_framed v w p (is_of_watch ref) parts.1 i)
 call_framed v w p (Flag None) machine agree = refl
-call_framed v w p (Flag (Some traps)) machine agree = λ i. serves (Trap p ∷ []) (truth (agree.0.0 i)) (Traps p traps ∷ [])
+call_framed v w p (Flag (Some traps)) machine agree = λ i. serves (Trap p ∷ []) (truth (agree.0.0 i)) (TrapSet p traps ∷ [])
 call_framed v w p (Register None None) machine agree = refl
 call_framed v w p (Register None (Some q)) machine agree = refl
 call_framed v w p (Register (Some name) None) machine agree = refl
@@ -102,10 +102,10 @@ call_framed v w p (WhereIs None) machine agree = refl
 call_framed v w p (WhereIs (Some name)) machine agree = λ i. serves (Holder name ∷ []) (process_or (codes "undefined") (agree.0.0 i)) []
 call_framed v w p (IsAlive None) machine agree = refl
 call_framed v w p (IsAlive (Some q)) machine agree = λ i. serves (Alive q ∷ Front p q ∷ Tail p q ∷ []) (truth (agree.0.0 i)) []
-call_framed v w p MakeRef machine agree = λ i. serves [] (reference (ref_of p (machine i))) []
+call_framed v w p MakeRef machine agree = λ i. serves [] (reference (ref_of_turn p (machine i))) []
 call_framed v w p (New None options) machine agree = refl
 call_framed v w p (New (Some name) options) machine agree =
-    let rule = new_framed v w name options (subst (AgreeOn v w) (new_reads_are p (ref_of p (v (Machine p))) name options (new_rule options (v (TableName name)))) agree) in
-    λ i. new_line p (ref_of p (machine i)) name options (rule i)
+    let rule = new_framed v w name options (subst (AgreeOn v w) (new_reads_are p (ref_of_turn p (v (Machine p))) name options (new_rule options (v (TableName name)))) agree) in
+    λ i. new_line p (ref_of_turn p (machine i)) name options (rule i)
 call_framed v w p (OnTable argument call) machine agree = on_table_framed v w p argument call agree
 call_framed v w p Misfit machine agree = refl

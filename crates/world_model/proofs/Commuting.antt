@@ -7,7 +7,7 @@ use Rattle.world_model.specs.Requests.{Program}
 use Rattle.world_model.specs.Events.{Signal}
 use Rattle.world_model.specs.Rows.{Key, same_key, RowChange, rows_rewritten}
 use Rattle.world_model.specs.Cells.{Cell, Taken, Mailed, Front, Tail, Row, Rows, meet, Contents}
-use Rattle.world_model.specs.Changes.{Change, Mails, without_first, Puts, Writes, Touches, cell_of, renewed, changed, after}
+use Rattle.world_model.specs.Changes.{Change, MessageAdded, without_first, SignalPut, RowWritten, CellTouched, cell_of, renewed, changed, after}
 use Rattle.world_model.specs.Mailboxes.{left_of, mailbox_in, selected_of}
 use Rattle.world_model.specs.Signals.{first_of}
 use Rattle.world_model.specs.Steps.{reads}
@@ -68,7 +68,7 @@ same_as false xs = ([], not_longer xs)
 
 -- the tail of a channel only grows
 grown_by : (k : Change) (v : Contents) (s r : Pid) → (more : List Signal) × (changed k v (Tail s r) ≡ v (Tail s r) ++ more)
-grown_by (Puts a b x) v s r = longer_by (meet (Tail a b) (Tail s r)) (v (Tail s r)) x
+grown_by (SignalPut a b x) v s r = longer_by (meet (Tail a b) (Tail s r)) (v (Tail s r)) x
 grown_by k v s r = same_as (meet (cell_of k) (Tail s r)) (v (Tail s r))
 
 grown : (ks : List Change) (v : Contents) (s r : Pid) → (more : List Signal) × (after ks v (Tail s r) ≡ v (Tail s r) ++ more)
@@ -82,7 +82,7 @@ grown (k ∷ ks) v s r =
 
 -- what came only grows
 came_by : (k : Change) (v : Contents) (p : Pid) → (more : List Meaning) × (changed k v (Mailed p) ≡ v (Mailed p) ++ more)
-came_by (Mails q m) v p = longer_by (meet (Mailed q) (Mailed p)) (v (Mailed p)) m
+came_by (MessageAdded q m) v p = longer_by (meet (Mailed q) (Mailed p)) (v (Mailed p)) m
 came_by k v p = same_as (meet (cell_of k) (Mailed p)) (v (Mailed p))
 
 pub came : (ks : List Change) (v : Contents) (p : Pid) → (more : List Meaning) × (after ks v (Mailed p) ≡ v (Mailed p) ++ more)
@@ -92,7 +92,7 @@ came (k ∷ ks) v p =
     let rest = came ks (changed k v) p in
     (one.0 ++ rest.0, rest.1 ∙ ap (λ xs. xs ++ rest.0) one.1 ∙ append_assoc (v (Mailed p)) one.0 rest.0)
 
--- what comes behind stays behind what is left
+-- what comes after stays after what is left
 without_by : (b : Bool) (x : Meaning) (xs ys us ws more : List Meaning) → us ≡ ws ++ more → (rest : List Meaning) × ((if b then xs ++ ys else x ∷ us) ≡ (if b then xs else x ∷ ws) ++ rest)
 without_by true x xs ys us ws more is = (ys, refl)
 without_by false x xs ys us ws more is = (more, ap (λ zs. x ∷ zs) is)
@@ -110,7 +110,7 @@ left_more (t ∷ ts) xs ys =
     let rest = left_more ts (without_first (same_term t) xs) one.0 in
     (rest.0, ap (left_of ts) one.1 ∙ rest.1)
 
--- and does not matter to who finds a message
+-- and does not matter to a receive that finds a message
 found_by : (b : Bool) (x m : Meaning) (o q : Option Meaning) → (o ≡ Some m → q ≡ Some m) → (if b then Some x else o) ≡ Some m → (if b then Some x else q) ≡ Some m
 found_by true x m o q rest is = is
 found_by false x m o q rest is = rest is
@@ -154,7 +154,7 @@ passes k l v c idle = follows_one l (changed k v) v c (idle v) ∙ sym (idle (ch
 
 -- a change is of a whole cell, or of a row, or changes nothing
 IsWrite : Change → Type 0
-IsWrite k = (t : Ref) × (key : Key) × (x : RowChange) × (k ≡ Writes t key x)
+IsWrite k = (t : Ref) × (key : Key) × (x : RowChange) × (k ≡ RowWritten t key x)
 
 IsIdle : Change → Type 0
 IsIdle k = (v : Contents) (c : Cell) → changed k v c ≡ v c
@@ -165,8 +165,8 @@ either_way false x = refl
 
 nature : (k : Change) → (is_row (cell_of k) ≡ false) ⊎ (IsWrite k ⊎ IsIdle k)
 unfolding IsWrite IsIdle
-nature (Writes t key x) = inr (inl (t, key, x, refl))
-nature (Touches d) = inr (inr (λ v c. either_way (meet d c) (v c)))
+nature (RowWritten t key x) = inr (inl (t, key, x, refl))
+nature (CellTouched d) = inr (inr (λ v c. either_way (meet d c) (v c)))
 nature k = inl refl
 
 changed_is : (k : Change) (v : Contents) (c : Cell) → meet (cell_of k) c ≡ true → changed k v c ≡ renewed k c (v c)
@@ -176,15 +176,15 @@ changed_is k v c here = ap (λ b. if b then renewed k c (v c) else v c) here
 not_keys : (t u : Ref) (a b : Key) → t ≡ u → meet (Row t a) (Row u b) ≡ false → same_ref t u ≡ true → same_key a b ≡ false
 not_keys t u a b same apart here = ap (λ x. x && same_key a b) (sym here) ∙ apart
 
-writes_swapped : (t u : Ref) (a b : Key) (x y : RowChange) (v : Contents) (c : Cell) → meet (Row t a) (Row u b) ≡ false → meet (Row t a) c ≡ true → meet (Row u b) c ≡ true → changed (Writes u b y) (changed (Writes t a x) v) c ≡ changed (Writes t a x) (changed (Writes u b y) v) c
+writes_swapped : (t u : Ref) (a b : Key) (x y : RowChange) (v : Contents) (c : Cell) → meet (Row t a) (Row u b) ≡ false → meet (Row t a) c ≡ true → meet (Row u b) c ≡ true → changed (RowWritten u b y) (changed (RowWritten t a x) v) c ≡ changed (RowWritten t a x) (changed (RowWritten u b y) v) c
 writes_swapped t u a b x y v (Rows s) apart here there =
     let same : t ≡ u = refs_same t s here ∙ sym (refs_same u s there) in
     let tables : same_ref t u ≡ true = ap (λ r. same_ref t r) (refs_same u s there) ∙ here in
     let keys = not_keys t u a b same apart tables in
-    changed_is (Writes u b y) (changed (Writes t a x) v) (Rows s) there
-    ∙ ap (rows_rewritten b y) (changed_is (Writes t a x) v (Rows s) here)
+    changed_is (RowWritten u b y) (changed (RowWritten t a x) v) (Rows s) there
+    ∙ ap (rows_rewritten b y) (changed_is (RowWritten t a x) v (Rows s) here)
     ∙ rows_swapped a b x y (v (Rows s)) keys
-    ∙ sym (changed_is (Writes t a x) (changed (Writes u b y) v) (Rows s) here ∙ ap (rows_rewritten a x) (changed_is (Writes u b y) v (Rows s) there))
+    ∙ sym (changed_is (RowWritten t a x) (changed (RowWritten u b y) v) (Rows s) here ∙ ap (rows_rewritten a x) (changed_is (RowWritten u b y) v (Rows s) there))
 writes_swapped t u a b x y v (Row s k) apart here there =
     let right = both (same_ref u s) (same_key b k) there in
     absurd (true≢false (sym here ∙ sym (λ i. same_ref t (refs_same u s right.0 i) && same_key a (keys_same b k right.1 i)) ∙ apart))

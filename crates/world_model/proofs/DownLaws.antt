@@ -11,7 +11,7 @@ use Rattle.world_model.specs.Calls.{Call, Spawn, Alone, Linked, Watched, Send, T
 use Rattle.world_model.specs.Cells.{Contents, Alive, Links, Owned, Table, Watchers, Front, Tail}
 use Rattle.world_model.specs.Changes.{after}
 use Rattle.world_model.specs.Events.{Event, History, event, Deed, Served, EndedItself, Ended, RanAway, Delivered, Signal, Message, Exit, LinkExit, Down, Fate, Kills}
-use Rattle.world_model.specs.Found.{Found}
+use Rattle.world_model.specs.TableAccess.{Found}
 use Rattle.world_model.specs.Names.{Pid, Ref, same_pid, same_ref}
 use Rattle.world_model.specs.Posted.{on_way, if_lives, put_for_holder, put_by_link, put_by_watch, put_by_gift, put_by_call, put_for_heir, put_for_table, put_for_heirs, put_for_partners, put_for_watchers, put_by_end, put_in, outlives}
 use Rattle.world_model.specs.ProcessLines.{LinkWay, Stands, Pairs, PairsGone, Fails, link_way, next_ref, noproc}
@@ -22,7 +22,7 @@ use Rattle.world_model.specs.Signals.{first_of, goes_with, waiting_in}
 use Rattle.world_model.specs.Steps.{changes_by, deed_delivered, next_deed, runaway}
 use Rattle.world_model.specs.Tables as tables
 use Rattle.world_model.specs.Tables.{Heir}
-use Rattle.world_model.specs.Told.{is_it}
+use Rattle.world_model.specs.ProcessHistory.{is_it}
 use Rattle.world_model.specs.World.{alive, contents, found, holder, linked, traps, turns, watched}
 use Rattle.world_model.proofs.BondLaws.{watched_told}
 use Rattle.world_model.proofs.Fresh.{all_free, counts, names_new, rises, watcher}
@@ -35,7 +35,7 @@ use Rattle.world_model.proofs.Posting.{puts_told}
 use Rattle.world_model.proofs.Unmade.{watches_by, watches_in}
 use Rattle.world_model.proofs.Watching.{Known, ComesFrom, IsFrom, event_known}
 
--- ---- a watch that is told of was made, and is of nobody else
+-- ---- a watch that is reported was made, and is for nobody else
 
 record Fits (h : History) (s : Pid) (ref : Ref) : Type 0 where
   used : ref.number ≤ turns h ref.pid
@@ -59,7 +59,7 @@ fit_first h s zero (y ∷ xs) x is fit = subst (IsFit h s) (ap (λ o. unwrap_or 
 fit_first h s (suc n) [] x is fit = absurd cc
 fit_first h s (suc n) (y ∷ xs) x is fit = fit_first h s n xs x is fit.1
 
--- ---- what was told before still fits
+-- ---- what was reported before still fits
 
 below : (n m : ℕ) → (n < m) ⊎ (m ≤ n)
 below n zero = inr (omega arith)

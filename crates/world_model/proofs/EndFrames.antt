@@ -3,7 +3,7 @@ use Rattle.std.proofs.Common.{◌∙◌, refl, ap}
 use Rattle.std.specs.Prelude.{◌∷◌, if◌then◌else◌, ◌≡◌, ◌++◌, List, [], None, Some, Option, map}
 use Rattle.term_core.specs.Meaning.{Meaning}
 use Rattle.world_model.specs.Cells.{Table, Contents, Cell, Alive, Owned, Links, Watchers, NameOf}
-use Rattle.world_model.specs.Changes.{after, Change, Empties, changed, Dies, Halts}
+use Rattle.world_model.specs.Changes.{after, Change, OwnedCleared, changed, AliveCleared, MachineHalted}
 use Rattle.world_model.specs.Ends.{living_heir, alive_if, heir_pid, heir_read, table_passes, passed, reads_of_tables, tables_pass, partners_told, watchers_told, reads_of_end, left_by, name_left, ends}
 use Rattle.world_model.specs.Events.{LinkExit, Down}
 use Rattle.world_model.specs.Frames.{AgreeOn}
@@ -74,11 +74,11 @@ left_framed v w p reason same =
     let go_reads = all.1 ∙ ap (reads_of_tables w) owned in
     let partners = partners_framed v w p reason (v (Links p)) told.0 ∙ ap (partners_told w p reason) links in
     let downs = watchers_framed v w p reason (v (Watchers p)) told.1 ∙ ap (watchers_told w p reason) watchers in (
-      (λ i. go i ++ (Empties p ∷ (partners i ++ (downs i ++ name_left p (name i))))),
+      (λ i. go i ++ (OwnedCleared p ∷ (partners i ++ (downs i ++ name_left p (name i))))),
       (λ i. Owned p ∷ Links p ∷ Watchers p ∷ NameOf p ∷ (go_reads i ++ (map Alive (links i) ++ map (λ ref. Alive ref.pid) (watchers i)))),
     )
 
 pub ends_framed : (v w : Contents) (p : Pid) (reason : Meaning) → SameOn v w (reads_of_end v p) → (ends v p reason ≡ ends w p reason) × (reads_of_end v p ≡ reads_of_end w p)
 ends_framed v w p reason same =
-    let left = left_framed (changed (Dies p) v) (changed (Dies p) w) p reason (same_after_both (Dies p ∷ []) v w (reads_of_end v p) same) in
-    (ap (λ ks. Halts p reason ∷ Dies p ∷ ks) left.0, left.1)
+    let left = left_framed (changed (AliveCleared p) v) (changed (AliveCleared p) w) p reason (same_after_both (AliveCleared p ∷ []) v w (reads_of_end v p) same) in
+    (ap (λ ks. MachineHalted p reason ∷ AliveCleared p ∷ ks) left.0, left.1)

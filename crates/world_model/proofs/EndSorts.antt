@@ -3,7 +3,7 @@ use Rattle.std.proofs.Common.{refl}
 use Rattle.std.specs.Prelude.{◌∷◌, ◌≡◌, ◌++◌, if◌then◌else◌, List, [], ℕ, None, Some, Option, false}
 use Rattle.term_core.specs.Meaning.{Meaning}
 use Rattle.world_model.specs.Cells.{Table, Contents, Cell, Alive, Links, Watchers, NameOf, Owned}
-use Rattle.world_model.specs.Changes.{after, Change, changed, Empties, Dies, Halts}
+use Rattle.world_model.specs.Changes.{after, Change, changed, OwnedCleared, AliveCleared, MachineHalted}
 use Rattle.world_model.specs.Ends.{passed, table_passes, living_heir, tables_pass, partners_told, watchers_told, name_left, left_by, ends}
 use Rattle.world_model.specs.Events.{LinkExit, Down}
 use Rattle.world_model.specs.Names.{Pid, Ref, Name, same_pid}
@@ -54,15 +54,15 @@ left_among v p reason =
     let partners = partners_told v p reason (v (Links p)) in
     let watchers = watchers_told v p reason (v (Watchers p)) in
     let name = name_left p (v (NameOf p)) in
-    among_both end_sorts (tables_pass v p (v (Owned p))) (Empties p ∷ (partners ++ (watchers ++ name))) (tables_among v p (v (Owned p)))
+    among_both end_sorts (tables_pass v p (v (Owned p))) (OwnedCleared p ∷ (partners ++ (watchers ++ name))) (tables_among v p (v (Owned p)))
     (refl, among_both end_sorts partners (watchers ++ name) (partners_among v p reason (v (Links p))) (among_both end_sorts watchers name (watchers_among v p reason (v (Watchers p))) (name_among p (v (NameOf p)))))
 
--- an end leaves all cells of other sorts as they are, but for its own course and life
-pub end_leaves : (v w : Contents) (p : Pid) (reason : Meaning) (c : Cell) → is_among end_sorts c ≡ false → after (ends v p reason) w c ≡ changed (Dies p) (changed (Halts p reason) w) c
+-- an end leaves all cells of other sorts as they are, except for its own course and life
+pub end_leaves : (v w : Contents) (p : Pid) (reason : Meaning) (c : Cell) → is_among end_sorts c ≡ false → after (ends v p reason) w c ≡ changed (AliveCleared p) (changed (MachineHalted p reason) w) c
 end_leaves v w p reason c other =
-    let dead = changed (Dies p) v in
-    stays (left_by dead p reason) (changed (Dies p) (changed (Halts p reason) w)) c (untouched_by end_sorts (left_by dead p reason) c (left_among dead p reason) other)
+    let dead = changed (AliveCleared p) v in
+    stays (left_by dead p reason) (changed (AliveCleared p) (changed (MachineHalted p reason) w)) c (untouched_by end_sorts (left_by dead p reason) c (left_among dead p reason) other)
 
--- so who lives after an end is who lived, but for the one who ends
+-- so who lives after an end is who lived, except for the one that ends
 pub alive_after_end : (v w : Contents) (p q : Pid) (reason : Meaning) → after (ends v p reason) w (Alive q) ≡ (if same_pid p q then false else w (Alive q))
 alive_after_end v w p q reason = end_leaves v w p reason (Alive q) refl

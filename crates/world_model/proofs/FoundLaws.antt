@@ -8,23 +8,23 @@ use Rattle.term_core.specs.declared.step.Step.TheVariants.{Turn}
 use Rattle.core_calls.specs.declared.call.CallKind.{CallKind}
 use Rattle.world_model.specs.Calls.{Call, TableArgument, ByName, ByReference, TableCall, DeleteTable, GiveAway, SetOptions, New, OnTable, call_of}
 use Rattle.world_model.specs.Events.{Event, event, Deed, History, Served}
-use Rattle.world_model.specs.Found.{Found, as_found}
-use Rattle.world_model.specs.FoundTold.{FoundIsTold, argument_for, same_argument, made_by_call, made_in, if_there}
+use Rattle.world_model.specs.TableAccess.{Found, as_found}
+use Rattle.world_model.specs.FindingHistory.{FoundIsTold, argument_for, same_argument, made_by_call, made_in, if_there}
 use Rattle.world_model.specs.Names.{Name, Pid, Ref, same_ref}
-use Rattle.world_model.specs.Owners.{has_table, heirs_left, next_owner, table_left, table_passed}
+use Rattle.world_model.specs.OwnershipLaws.{has_table, heirs_left, next_owner, table_left, table_passed}
 use Rattle.world_model.specs.ProcessLines.{next_ref}
 use Rattle.world_model.specs.Requests.{Program}
 use Rattle.world_model.specs.Run.{IsRun}
 use Rattle.world_model.specs.Tables as tables
 use Rattle.world_model.specs.Tables.{Heir, TableOption, owned_by, table_of, with_heir}
-use Rattle.world_model.specs.TablesTold.{passed_at_end, table_by_call, table_in, table_of_call}
-use Rattle.world_model.specs.Told.{ended_by}
+use Rattle.world_model.specs.TableHistory.{passed_at_end, table_by_call, table_in, table_of_call}
+use Rattle.world_model.specs.ProcessHistory.{ended_by}
 use Rattle.world_model.specs.World.{contents, found, table, turns}
 use Rattle.world_model.proofs.Fresh.{names_new}
 use Rattle.world_model.proofs.Meeting.{pid_itself, pids_same, ref_itself, refs_same}
 use Rattle.world_model.proofs.Named.{no_some, table_is, ref_is, tables_found, found_are_there}
 use Rattle.world_model.proofs.OwnerLaws.{makes_table}
-use Rattle.world_model.proofs.TablesTold.{table_told}
+use Rattle.world_model.proofs.TableHistory.{table_told}
 
 -- ---- a table that is there after an event was there before it, under the same name, or is made by it
 

@@ -5,7 +5,7 @@ use Rattle.term_core.specs.Meaning.{Meaning}
 use Rattle.term_core.specs.declared.step.Step.{Step}
 use Rattle.term_core.specs.declared.step.Step.TheVariants.{Turn, Deliver}
 use Rattle.core_calls.specs.declared.call.CallKind.{CallKind}
-use Rattle.eval_rules.specs.Ask.{is_first}
+use Rattle.core_semantics.specs.Ask.{is_first}
 use Rattle.world_model.specs.Calls.{Call, New, OnTable, Spawn, Monitor, call_of}
 use Rattle.world_model.specs.Cells.{Table, Contents, Alive, Machine, Watch}
 use Rattle.world_model.specs.Events.{Event, History, event, Served, Deed}
@@ -15,7 +15,7 @@ use Rattle.world_model.specs.Requests.{Program}
 use Rattle.world_model.specs.Run.{next_event, IsRun}
 use Rattle.world_model.specs.RunLaws.{NamesAreNew}
 use Rattle.world_model.specs.Steps.{deed_asked, asked}
-use Rattle.world_model.specs.Told.{is_it, begun_by_call, begun_in, is_turn_of, is_of_turn, ended_in}
+use Rattle.world_model.specs.ProcessHistory.{is_it, begun_by_call, begun_in, is_turn_of, is_of_turn, ended_in}
 use Rattle.world_model.specs.World.{contents, turns, alive}
 use Rattle.world_model.proofs.Lives.{turns_told, alive_told}
 use Rattle.world_model.proofs.Meeting.{refs_same, pids_same, pid_itself, both}

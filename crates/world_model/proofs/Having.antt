@@ -5,19 +5,19 @@ use Rattle.std.specs.Prelude.{◌++◌, ℕ, option_map, unwrap_or, ◌+◌}
 use Rattle.term_core.specs.Meaning.{Meaning}
 use Rattle.term_core.specs.declared.step.Step.{Step}
 use Rattle.term_core.specs.declared.step.Step.TheVariants.{Turn, Deliver}
-use Rattle.eval_rules.specs.Asked as answered
+use Rattle.core_semantics.specs.Asked as answered
 use Rattle.world_model.specs.Calls.{Call, TableCall, DeleteTable, GiveAway, SetOptions, New, OnTable, TableArgument, call_of}
 use Rattle.world_model.specs.Cells.{Contents, Cell, Alive, Links, NameOf, Table, TableName, Owned, Watchers}
-use Rattle.world_model.specs.Changes.{Makes, Gains, Goes, Wipes, Loses, Inherits, Dies, Empties, Frees, Halts, Turns, Fetches, after, changed}
+use Rattle.world_model.specs.Changes.{TableSet, OwnedAdded, TableRemoved, RowsCleared, OwnedRemoved, HeirSet, AliveCleared, OwnedCleared, TableNameCleared, MachineHalted, TurnTaken, SignalDelivered, after, changed}
 use Rattle.world_model.specs.Ends.{ends, heir_pid, left_by, living_heir, name_left, partners_told, passed, table_passes, tables_pass, watchers_told}
 use Rattle.world_model.specs.Events.{History, Deed, Served, Refused, EndedItself, Ended, Received, TimedOut, RanAway, Delivered, Signal, Message, Exit, LinkExit, Down, Fate, Arrives, IsIgnored, IsDropped, Kills}
-use Rattle.world_model.specs.Found.{Found, find}
-use Rattle.world_model.specs.Judging.{found_line}
+use Rattle.world_model.specs.TableAccess.{Found, find}
+use Rattle.world_model.specs.TableRules.{found_line}
 use Rattle.world_model.specs.Lines.{line}
 use Rattle.world_model.specs.Names.{Name, Pid, Ref, same_pid, same_ref}
 use Rattle.world_model.specs.NewTables.{means_if, new_line, new_rule}
-use Rattle.world_model.specs.Owners.{heir_named, table_passed}
-use Rattle.world_model.specs.Owning.{heirs_set}
+use Rattle.world_model.specs.OwnershipLaws.{heir_named, table_passed}
+use Rattle.world_model.specs.Ownership.{heirs_set}
 use Rattle.world_model.specs.ProcessLines.{next_ref}
 use Rattle.world_model.specs.Requests.{Program}
 use Rattle.world_model.specs.Run.{IsRun}
@@ -27,7 +27,7 @@ use Rattle.world_model.specs.Steps.{changes_of_fate, changes_by, runaway}
 use Rattle.world_model.specs.TableLines.{table_line}
 use Rattle.world_model.specs.Tables as tables
 use Rattle.world_model.specs.Tables.{Heir, TableOption, is_named, owned_by, table_of, with_heir}
-use Rattle.world_model.specs.Told.{is_it}
+use Rattle.world_model.specs.ProcessHistory.{is_it}
 use Rattle.world_model.specs.World.{contents, turns}
 use Rattle.world_model.specs.declared.rule.Rule.{Rule}
 use Rattle.world_model.proofs.Commuting.{either_way, stays, follows}
@@ -59,11 +59,11 @@ pub owner_if : (b : Bool) (n o : Option tables.Table) → owner_of (if b then n 
 owner_if true n o = refl
 owner_if false n o = refl
 
-freed_owned : (b : Bool) (name : Name) (w : Contents) (q : Pid) → after (if b then Frees name ∷ [] else []) w (Owned q) ≡ w (Owned q)
+freed_owned : (b : Bool) (name : Name) (w : Contents) (q : Pid) → after (if b then TableNameCleared name ∷ [] else []) w (Owned q) ≡ w (Owned q)
 freed_owned true name w q = refl
 freed_owned false name w q = refl
 
-pub freed_at : (b : Bool) (name : Name) (w : Contents) (t : Ref) → after (if b then Frees name ∷ [] else []) w (Table t) ≡ w (Table t)
+pub freed_at : (b : Bool) (name : Name) (w : Contents) (t : Ref) → after (if b then TableNameCleared name ∷ [] else []) w (Table t) ≡ w (Table t)
 freed_at true name w t = refl
 freed_at false name w t = refl
 
@@ -79,7 +79,7 @@ means_owned false name u w q = refl
 made_had : (p : Pid) (u : Ref) (name : Name) (options : Option (List TableOption)) (rule : Option Rule) (w : Contents) → w (Table u) ≡ None → Had w → Had (after (new_line p u name options rule).changes w)
 made_had p u name None rule w none before_ = before_
 made_had p u name (Some os) rule w none before_ =
-    let was = after (Makes u (table_of p name os) ∷ Gains p u ∷ []) w in
+    let was = after (TableSet u (table_of p name os) ∷ OwnedAdded p u ∷ []) w in
     match_moves (λ q. w (Owned q)) (λ q. after (new_line p u name (Some os) rule).changes w (Owned q)) (λ t. owner_of (w (Table t))) (λ t. owner_of (after (new_line p u name (Some os) rule).changes w (Table t))) u (Some p) (λ q. same_pid p q) (λ q. false)
     (λ q t. ap (list_any (same_ref t)) (means_owned (is_named os) name u was q) ∙ gained_has (same_pid p q) u t (w (Owned q)))
     (λ t. ap owner_of (means_table (is_named os) name u t was) ∙ owner_if (same_ref u t) (Some (table_of p name os)) (w (Table t)))
@@ -88,7 +88,7 @@ made_had p u name (Some os) rule w none before_ =
 -- it is deleted
 deleted_had : (w : Contents) (p : Pid) (f : Found) (v : Contents) → w (Table f.ref) ≡ Some f.table → AreListed w → Had w → Had (after (table_line v p f DeleteTable).changes w)
 deleted_had w p f v there sorted before_ =
-    let was = after (Goes f.ref ∷ Wipes f.ref ∷ Loses f.table.owner f.ref ∷ []) w in
+    let was = after (TableRemoved f.ref ∷ RowsCleared f.ref ∷ OwnedRemoved f.table.owner f.ref ∷ []) w in
     match_moves (λ q. w (Owned q)) (λ q. after (table_line v p f DeleteTable).changes w (Owned q)) (λ t. owner_of (w (Table t))) (λ t. owner_of (after (table_line v p f DeleteTable).changes w (Table t))) f.ref None (λ q. false) (λ q. same_pid f.table.owner q)
     (λ q t. ap (list_any (same_ref t)) (freed_owned f.table.is_named f.table.name was q) ∙ lost_has (same_pid f.table.owner q) f.ref t (w (Owned q)) (sorted.tables q))
     (λ t. ap owner_of (freed_at f.table.is_named f.table.name was t) ∙ owner_if (same_ref f.ref t) None (w (Table t)))
@@ -103,7 +103,7 @@ given_had : (w : Contents) (p to : Pid) (gift_ : Meaning) (f : Found) (v : Conte
 given_had w p to gift_ f v there sorted before_ =
     let ks = (table_line v p f (GiveAway (Some to) gift_)).changes in
     match_moves (λ q. w (Owned q)) (λ q. after ks w (Owned q)) (λ t. owner_of (w (Table t))) (λ t. owner_of (after ks w (Table t))) f.ref (Some to) (λ q. same_pid to q) (λ q. same_pid f.table.owner q)
-    (λ q t. gained_has (same_pid to q) f.ref t (changed (Loses f.table.owner f.ref) w (Owned q)) ∙ ap (λ b. same_pid to q && same_ref f.ref t || b) (lost_has (same_pid f.table.owner q) f.ref t (w (Owned q)) (sorted.tables q)))
+    (λ q t. gained_has (same_pid to q) f.ref t (changed (OwnedRemoved f.table.owner f.ref) w (Owned q)) ∙ ap (λ b. same_pid to q && same_ref f.ref t || b) (lost_has (same_pid f.table.owner q) f.ref t (w (Owned q)) (sorted.tables q)))
     (λ t. given_to w f.ref t to f.table (same_ref f.ref t) refl there)
     (λ q. refl) (λ q is. sym (ap (λ o. is_it (owner_of o) q) there) ∙ is) before_
 
@@ -113,9 +113,9 @@ heir_owner true heir None = refl
 heir_owner true heir (Some x) = refl
 heir_owner false heir o = refl
 
-heirs_owner : (u t : Ref) (hs : List Heir) (w : Contents) → owner_of (after (map (Inherits u) hs) w (Table t)) ≡ owner_of (w (Table t))
+heirs_owner : (u t : Ref) (hs : List Heir) (w : Contents) → owner_of (after (map (HeirSet u) hs) w (Table t)) ≡ owner_of (w (Table t))
 heirs_owner u t [] w = refl
-heirs_owner u t (h ∷ hs) w = heirs_owner u t hs (changed (Inherits u h) w) ∙ heir_owner (same_ref u t) h (w (Table t))
+heirs_owner u t (h ∷ hs) w = heirs_owner u t hs (changed (HeirSet u h) w) ∙ heir_owner (same_ref u t) h (w (Table t))
 
 set_owner : (u t : Ref) (hs : List Heir) (w : Contents) → owner_of (after (heirs_set u hs) w (Table t)) ≡ owner_of (w (Table t))
 set_owner u t [] w = ap owner_of (either_way (same_ref u t) (w (Table t)))
@@ -150,7 +150,7 @@ and_false true x = refl
 and_false false x = refl
 
 passed_gains : (p : Pid) (u t : Ref) (x : tables.Table) (heir : Heir) (w : Contents) (q : Pid) → list_any (same_ref t) (after (passed p u x heir) w (Owned q)) ≡ (same_ref u t && is_it (heir_pid heir) q || list_any (same_ref t) (w (Owned q)))
-passed_gains p u t x None w q = ap (list_any (same_ref t)) (freed_owned x.is_named x.name (after (Goes u ∷ Wipes u ∷ []) w) q) ∙ and_false (same_ref u t) (list_any (same_ref t) (w (Owned q)))
+passed_gains p u t x None w q = ap (list_any (same_ref t)) (freed_owned x.is_named x.name (after (TableRemoved u ∷ RowsCleared u ∷ []) w) q) ∙ and_false (same_ref u t) (list_any (same_ref t) (w (Owned q)))
 passed_gains p u t x (Some heir) w q = gained_has (same_pid heir.0 q) u t (w (Owned q)) ∙ ap (λ b. b || list_any (same_ref t) (w (Owned q))) (both_turned (same_pid heir.0 q) (same_ref u t))
 
 one_gains : (v : Contents) (p : Pid) (u t : Ref) (o : Option tables.Table) (w : Contents) (q : Pid) → list_any (same_ref t) (after (table_passes v p u o) w (Owned q)) ≡ (same_ref u t && is_it (heir_pid (living_heir v (heir_named o))) q || list_any (same_ref t) (w (Owned q)))
@@ -177,7 +177,7 @@ all_gain v p (u ∷ us) t w q =
     ∙ more_by v t u (list_any (same_ref t) us) (list_any (same_ref t) (w (Owned q))) q (same_ref u t) refl
     ∙ ap (λ b. (b || list_any (same_ref t) us) && gets || list_any (same_ref t) (w (Owned q))) (sym (turned_ref t u (same_ref u t) refl))
 
--- what is told at an end is told to no table
+-- what is sent at an end changes no table
 abbrev tell_sorts : List ℕ
 tell_sorts = 5 ∷ 9 ∷ 10 ∷ []
 
@@ -200,8 +200,8 @@ tables_left v w p reason q =
     let name = name_left p (v (NameOf p)) in
     let telling = partners ++ (watchers ++ name) in
     let among : AllAmong tell_sorts telling = among_both tell_sorts partners (watchers ++ name) (partners_tell v p reason (v (Links p))) (among_both tell_sorts watchers name (watchers_tell v p reason (v (Watchers p))) (name_tells p (v (NameOf p)))) in
-    after_both (tables_pass v p (v (Owned p))) (Empties p ∷ telling) w (Owned q)
-    ∙ stays telling (changed (Empties p) (after (tables_pass v p (v (Owned p))) w)) (Owned q) (untouched_by tell_sorts telling (Owned q) among refl)
+    after_both (tables_pass v p (v (Owned p))) (OwnedCleared p ∷ telling) w (Owned q)
+    ∙ stays telling (changed (OwnedCleared p) (after (tables_pass v p (v (Owned p))) w)) (Owned q) (untouched_by tell_sorts telling (Owned q) among refl)
 
 or_false : (b : Bool) → (b || false) ≡ b
 or_false true = refl
@@ -226,7 +226,7 @@ if_left false t ts = refl
 pub no_table : {A : Type 0} {x : A} → None ≡ Some x → ⊥
 no_table e = absurd cc
 
--- who inherits lives
+-- an heir that inherits lives
 living_by : (v : Contents) (heir h : Pid × Meaning) (b : Bool) → v (Alive heir.0) ≡ b → (if b then Some heir else None) ≡ Some h → v (Alive h.0) ≡ true
 living_by v heir h true is now = ap (λ y. v (Alive y.0)) (sym (ap (λ o. unwrap_or o heir) now)) ∙ is
 living_by v heir h false is now = absurd (no_table now)
@@ -243,8 +243,8 @@ heir_other v p h false is lives = refl
 end_had : (v w : Contents) (p : Pid) (reason : Meaning) → ((q : Pid) → w (Owned q) ≡ v (Owned q)) → ((t : Ref) → w (Table t) ≡ v (Table t)) → Had v → Had (after (ends v p reason) w)
 unfolding Match
 end_had v w p reason lists all before_ = λ q t.
-    let dead = changed (Dies p) v in
-    let mid = changed (Dies p) (changed (Halts p reason) w) in
+    let dead = changed (AliveCleared p) v in
+    let mid = changed (AliveCleared p) (changed (MachineHalted p reason) w) in
     let heir = heir_at dead t in
     ap (list_any (same_ref t)) (tables_left dead mid p reason q)
     ∙ if_left (same_pid p q) t (after (tables_pass dead p (v (Owned p))) mid (Owned q))
@@ -274,17 +274,17 @@ fate_had v w r IsDropped lists all before_ = had_same v w lists (λ t. ap owner_
 fate_had v w r (Kills reason) lists all before_ = end_had v w r reason lists all before_
 
 event_had : (v : Contents) (step : Step) (deed : Deed) → ((p : Pid) → v (Table (next_ref v p)) ≡ None) → AreListed v → Had v → Had (after (changes_by v step deed) v)
-event_had v (Turn p) (Served kind arguments answer) free sorted before_ = call_had v (changed (Turns p (answered.Value answer ∷ [])) v) p (call_of kind arguments) (λ argument f is. found_there v argument f is) (free p) (all_listed (Turns p (answered.Value answer ∷ []) ∷ []) v sorted) before_
+event_had v (Turn p) (Served kind arguments answer) free sorted before_ = call_had v (changed (TurnTaken p (answered.Value answer ∷ [])) v) p (call_of kind arguments) (λ argument f is. found_there v argument f is) (free p) (all_listed (TurnTaken p (answered.Value answer ∷ []) ∷ []) v sorted) before_
 event_had v (Turn p) (Refused kind arguments refusal) free sorted before_ = before_
-event_had v (Turn p) (EndedItself kind arguments reason) free sorted before_ = end_had v (changed (Turns p []) v) p reason (λ q. refl) (λ t. refl) before_
+event_had v (Turn p) (EndedItself kind arguments reason) free sorted before_ = end_had v (changed (TurnTaken p []) v) p reason (λ q. refl) (λ t. refl) before_
 event_had v (Turn p) (Received m) free sorted before_ = before_
 event_had v (Turn p) TimedOut free sorted before_ = before_
-event_had v (Turn p) (Ended reason) free sorted before_ = end_had v (changed (Turns p []) v) p reason (λ q. refl) (λ t. refl) before_
-event_had v (Turn p) RanAway free sorted before_ = end_had v (changed (Turns p []) v) p runaway (λ q. refl) (λ t. refl) before_
+event_had v (Turn p) (Ended reason) free sorted before_ = end_had v (changed (TurnTaken p []) v) p reason (λ q. refl) (λ t. refl) before_
+event_had v (Turn p) RanAway free sorted before_ = end_had v (changed (TurnTaken p []) v) p runaway (λ q. refl) (λ t. refl) before_
 event_had v (Turn p) (Delivered x f) free sorted before_ = before_
 event_had v (Deliver s r) (Delivered x f) free sorted before_ =
     let ks = goes_with s r x in
-    let w = changed (Fetches s r) v in
+    let w = changed (SignalDelivered s r) v in
     had_same (after (changes_of_fate (after ks v) r f) (after ks w)) (after (changes_by v (Deliver s r) (Delivered x f)) v)
     (λ q. after_both ks (changes_of_fate (after ks v) r f) w (Owned q)) (λ t. ap owner_of (after_both ks (changes_of_fate (after ks v) r f) w (Table t)))
     (fate_had (after ks v) (after ks w) r f (λ q. follows ks w v (Owned q) refl) (λ t. follows ks w v (Table t) refl) (goes_had s r x v before_))

@@ -8,17 +8,17 @@ use Rattle.core_tree.specs.Syntax.{ModuleTree}
 use Rattle.core_calls.specs.Calls.{signature}
 use Rattle.core_calls.specs.declared.call.CallKind.{CallKind}
 use Rattle.core_calls.specs.declared.call.CallKind.TheVariants as kinds
-use Rattle.eval_rules.specs.Ask.{Entry, ask}
-use Rattle.eval_rules.specs.Asked as asked_
-use Rattle.eval_rules.specs.Asked.{Asked, Answered}
-use Rattle.eval_rules.specs.Servable.{IsReadRequest}
+use Rattle.core_semantics.specs.Ask.{Entry, ask}
+use Rattle.core_semantics.specs.Asked as asked_
+use Rattle.core_semantics.specs.Asked.{Asked, Answered}
+use Rattle.core_semantics.specs.Servable.{IsReadRequest}
 use Rattle.world_model.specs.Asking.{entry_of, program_of, request_of}
 use Rattle.world_model.specs.Calls.{Call, New, OnTable, call_of}
 use Rattle.world_model.specs.Cells.{Contents, Alive, Machine, Table, TableName}
 use Rattle.world_model.specs.Events.{History, Deed, Served, Refused, Received, TimedOut, Ended, RanAway, Refusal, ByRule}
-use Rattle.world_model.specs.Found.{Found}
+use Rattle.world_model.specs.TableAccess.{Found}
 use Rattle.world_model.specs.Headline.{call_in, first_rule, owner_then, judged_by, TableCallsAreJudged}
-use Rattle.world_model.specs.Judging.{refusal_by, tells_owner}
+use Rattle.world_model.specs.TableRules.{refusal_by, tells_owner}
 use Rattle.world_model.specs.Lines.{line}
 use Rattle.world_model.specs.Mailboxes.{mailbox_in, selected_of}
 use Rattle.world_model.specs.Names.{Pid, same_name}
@@ -79,9 +79,9 @@ fits kinds.SetOptions xs of long = ap (λ ys. OfTables (call_of kinds.SetOptions
 fits kinds.Info xs of long = ap (λ ys. OfTables (call_of kinds.Info ys)) (two_of xs long).2
 fits kind xs of long = absurd (true≢false (sym of))
 
--- ---- what such a call comes to
+-- ---- what such a call results in
 
--- what a refusal tells is the owner at that moment
+-- what a refusal reports is the owner at that moment
 owner_of_found : (h : History) (o : Option Found) → ((f : Found) → o ≡ Some f → contents h (Table f.ref) ≡ Some f.table) → option_map (λ f. f.table.owner) o ≡ option_and_then (λ f. owner h f.ref) o
 owner_of_found h None there = refl
 owner_of_found h (Some f) there = sym (ap (option_map (λ t. t.owner)) (there f refl))

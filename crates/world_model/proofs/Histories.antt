@@ -6,10 +6,10 @@ use Rattle.world_model.specs.Cells.{Cell, meet, Contents, Alive, Machine, Trap, 
 use Rattle.world_model.specs.Changes.{after, Change, cell_of}
 use Rattle.world_model.specs.Commuting.{TellTheSame, Commutes, IndependentCommute}
 use Rattle.world_model.specs.Events.{Event, event, Deed, History}
-use Rattle.world_model.specs.Found.{find}
+use Rattle.world_model.specs.TableAccess.{find}
 use Rattle.world_model.specs.Frames.{LeavesOthers, ReadsSettle}
 use Rattle.world_model.specs.Independence.{one_meets, some_meet, are_apart, written}
-use Rattle.world_model.specs.Judging.{table_rule}
+use Rattle.world_model.specs.TableRules.{table_rule}
 use Rattle.world_model.specs.Lines.{line}
 use Rattle.world_model.specs.Mailboxes.{left_of}
 use Rattle.world_model.specs.Requests.{Program}
@@ -55,7 +55,7 @@ event_is v s (Some x) d ks now =
 outcome_is : (a : Program) (h : History) (s : Step) (d : Deed) → next_deed a (contents h) s ≡ Some d → outcome a (contents h) s ≡ Some ((d, changes_by (contents h) s d))
 outcome_is a h s d now = ap (option_map (with_changes (contents h) s)) now
 
--- ---- histories with the same contents tell the same
+-- ---- histories with the same contents say the same
 
 pub same_contents : (h g : History) → ((c : Cell) → contents h c ≡ contents g c) → TellTheSame h g
 same_contents h g same =

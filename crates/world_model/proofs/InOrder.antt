@@ -143,7 +143,7 @@ module _ {A : Type 0} (order : A → A → Ordering) (total : IsTotalOrder order
         | inr apart ↦ ap (λ b. list_any (same z) (if b then ys else y ∷ without_first (same x) ys)) apart ∙ ap (λ b. same z y || b) (others_left x z ys other)
       ]
 
-  -- what goes is there no more, and the others are
+  -- what goes is gone, and the others are there
   pub gone_in_order : (x z : A) (ys : List A) → InOrder order ys → list_any (same z) (without_first (same x) ys) ≡ (not (same x z) && list_any (same z) ys)
   gone_in_order x z ys sorted =
       elim (either_is (same x z)) [

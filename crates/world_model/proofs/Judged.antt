@@ -4,13 +4,13 @@ use Rattle.std.specs.Prelude.{option_map}
 use Rattle.term_core.specs.Meaning.{Meaning}
 use Rattle.term_core.specs.declared.step.Step.TheVariants.{Turn}
 use Rattle.core_calls.specs.declared.call.CallKind.{CallKind}
-use Rattle.eval_rules.specs.Asked as answered
+use Rattle.core_semantics.specs.Asked as answered
 use Rattle.world_model.specs.Calls.{Call, TableArgument, TableCall, OnTable, call_of, ByName, ByReference, ByNothing}
 use Rattle.world_model.specs.Cells.{Contents, Table, Machine, TableName}
-use Rattle.world_model.specs.Changes.{renewed, Turns}
+use Rattle.world_model.specs.Changes.{renewed, TurnTaken}
 use Rattle.world_model.specs.Events.{History, event, Served, Refused, Deed, Event}
-use Rattle.world_model.specs.Found.{Found, meant, as_found, find, unless_named}
-use Rattle.world_model.specs.Judging.{refusal_by}
+use Rattle.world_model.specs.TableAccess.{Found, meant, as_found, find, unless_named}
+use Rattle.world_model.specs.TableRules.{refusal_by}
 use Rattle.world_model.specs.Lines.{line}
 use Rattle.world_model.specs.Names.{Pid, Ref, Name}
 use Rattle.world_model.specs.Requests.{Program}
@@ -59,7 +59,7 @@ served_only_where_none a h p kind arguments argument on answer is now = none_fai
 
 pub refused_leaves : RefusedLeaves
 unfolding contents
-refused_leaves h p kind arguments refusal c other = ap (λ b. if b then renewed (Turns p (answered.Raise (atom (raised_by refusal)) ∷ [])) c (contents h c) else contents h c) other
+refused_leaves h p kind arguments refusal c other = ap (λ b. if b then renewed (TurnTaken p (answered.Raise (atom (raised_by refusal)) ∷ [])) c (contents h c) else contents h c) other
 
 meant_same : (v w : Contents) (o : Option Ref) → ((t : Ref) → v (Table t) ≡ w (Table t)) → meant v o ≡ meant w o
 meant_same v w None tables_ = refl

@@ -9,7 +9,7 @@ use Rattle.term_core.specs.Order.{order_of_lists}
 use Rattle.term_core.specs.inside.OrderLaws.{same_list}
 use Rattle.term_core.specs.inside.StepOrderLaws.{reference_ids_total, same_reference_id}
 use Rattle.world_model.specs.Cells.{Contents, Links, Watchers, Owned, meet}
-use Rattle.world_model.specs.Changes.{Change, Joins, Parts, Draws, Sheds, Gains, Loses, Empties, Touches, changed, after, set_in_order, without_first}
+use Rattle.world_model.specs.Changes.{Change, PartnerAdded, PartnerRemoved, WatcherAdded, WatcherRemoved, OwnedAdded, OwnedRemoved, OwnedCleared, CellTouched, changed, after, set_in_order, without_first}
 use Rattle.world_model.specs.Events.{History}
 use Rattle.world_model.specs.Names.{Pid, Ref, IsAmong, same_pid, same_ref, order_of_refs}
 use Rattle.world_model.specs.Steps.{changes_by}
@@ -86,14 +86,14 @@ refs_if true xs ys here there = here
 refs_if false xs ys here there = there
 
 one_listed : (k : Change) (v : Contents) → AreListed v → AreListed (changed k v)
-one_listed (Joins p q) v all = record { links = λ x. pids_if (same_pid p x) _ _ (set_sorted order_of_lists nat_list_cmp_total q (v (Links x)) (all.links x)) (all.links x); watches = all.watches; tables = all.tables }
-one_listed (Parts p q) v all = record { links = λ x. pids_if (same_pid p x) _ _ (without_sorted order_of_lists nat_list_cmp_total (same_pid q) (v (Links x)) (all.links x)) (all.links x); watches = all.watches; tables = all.tables }
-one_listed (Draws p ref) v all = record { links = all.links; watches = λ x. refs_if (same_pid p x) _ _ (set_sorted order_of_refs refs_total ref (v (Watchers x)) (all.watches x)) (all.watches x); tables = all.tables }
-one_listed (Sheds p ref) v all = record { links = all.links; watches = λ x. refs_if (same_pid p x) _ _ (without_sorted order_of_refs refs_total (same_ref ref) (v (Watchers x)) (all.watches x)) (all.watches x); tables = all.tables }
-one_listed (Gains p t) v all = record { links = all.links; watches = all.watches; tables = λ x. refs_if (same_pid p x) _ _ (set_sorted order_of_refs refs_total t (v (Owned x)) (all.tables x)) (all.tables x) }
-one_listed (Loses p t) v all = record { links = all.links; watches = all.watches; tables = λ x. refs_if (same_pid p x) _ _ (without_sorted order_of_refs refs_total (same_ref t) (v (Owned x)) (all.tables x)) (all.tables x) }
-one_listed (Empties p) v all = record { links = all.links; watches = all.watches; tables = λ x. refs_if (same_pid p x) [] (v (Owned x)) tt (all.tables x) }
-one_listed (Touches c) v all = record {
+one_listed (PartnerAdded p q) v all = record { links = λ x. pids_if (same_pid p x) _ _ (set_sorted order_of_lists nat_list_cmp_total q (v (Links x)) (all.links x)) (all.links x); watches = all.watches; tables = all.tables }
+one_listed (PartnerRemoved p q) v all = record { links = λ x. pids_if (same_pid p x) _ _ (without_sorted order_of_lists nat_list_cmp_total (same_pid q) (v (Links x)) (all.links x)) (all.links x); watches = all.watches; tables = all.tables }
+one_listed (WatcherAdded p ref) v all = record { links = all.links; watches = λ x. refs_if (same_pid p x) _ _ (set_sorted order_of_refs refs_total ref (v (Watchers x)) (all.watches x)) (all.watches x); tables = all.tables }
+one_listed (WatcherRemoved p ref) v all = record { links = all.links; watches = λ x. refs_if (same_pid p x) _ _ (without_sorted order_of_refs refs_total (same_ref ref) (v (Watchers x)) (all.watches x)) (all.watches x); tables = all.tables }
+one_listed (OwnedAdded p t) v all = record { links = all.links; watches = all.watches; tables = λ x. refs_if (same_pid p x) _ _ (set_sorted order_of_refs refs_total t (v (Owned x)) (all.tables x)) (all.tables x) }
+one_listed (OwnedRemoved p t) v all = record { links = all.links; watches = all.watches; tables = λ x. refs_if (same_pid p x) _ _ (without_sorted order_of_refs refs_total (same_ref t) (v (Owned x)) (all.tables x)) (all.tables x) }
+one_listed (OwnedCleared p) v all = record { links = all.links; watches = all.watches; tables = λ x. refs_if (same_pid p x) [] (v (Owned x)) tt (all.tables x) }
+one_listed (CellTouched c) v all = record {
   links = λ x. subst (InOrder order_of_lists) (sym (either_way (meet c (Links x)) (v (Links x)))) (all.links x);
   watches = λ x. subst (InOrder order_of_refs) (sym (either_way (meet c (Watchers x)) (v (Watchers x)))) (all.watches x);
   tables = λ x. subst (InOrder order_of_refs) (sym (either_way (meet c (Owned x)) (v (Owned x)))) (all.tables x);

@@ -4,11 +4,11 @@ use Rattle.std.specs.Prelude.{◌∷◌, ◌+◌, ◌≡◌, ◌++◌, ◌&&◌,
 use Rattle.term_core.specs.Meaning.{Meaning}
 use Rattle.term_core.specs.declared.step.Step.{Step}
 use Rattle.term_core.specs.declared.step.Step.TheVariants.{Deliver, Turn}
-use Rattle.eval_rules.specs.Asked as answered
-use Rattle.eval_rules.specs.Asked.{Answered}
+use Rattle.core_semantics.specs.Asked as answered
+use Rattle.core_semantics.specs.Asked.{Answered}
 use Rattle.world_model.specs.Calls.{Spawn, SpawnWay, Alone, Linked, Watched, Call, OnTable, call_of, Flag}
 use Rattle.world_model.specs.Cells.{Alive, Machine, Contents, Trap, Course}
-use Rattle.world_model.specs.Changes.{after, changed, Fetches, Turns}
+use Rattle.world_model.specs.Changes.{after, changed, SignalDelivered, TurnTaken}
 use Rattle.world_model.specs.Ends.{ends}
 use Rattle.world_model.specs.Events.{Signal, Message, Exit, LinkExit, Down, Fate, Delivered, Arrives, IsIgnored, IsDropped, Kills, History, Deed, Served, Refused, Ended, EndedItself, Received, TimedOut, RanAway}
 use Rattle.world_model.specs.Lines.{line}
@@ -18,7 +18,7 @@ use Rattle.world_model.specs.Requests.{Origin}
 use Rattle.world_model.specs.Signals.{goes_with}
 use Rattle.world_model.specs.Steps.{changes_of_fate, changes_by, runaway, raised_by}
 use Rattle.world_model.specs.Terms.{atom}
-use Rattle.world_model.specs.Told.{is_it, ended_in, begun_by_call, begun_in, AliveIsTold, flag_in, is_turn_of, flag_set, TrapsAreTold, is_of_turn, answer_in, TurnsAreTold, AnswersAreTold}
+use Rattle.world_model.specs.ProcessHistory.{is_it, ended_in, begun_by_call, begun_in, AliveIsTold, flag_in, is_turn_of, flag_set, TrapsAreTold, is_of_turn, answer_in, TurnsAreTold, AnswersAreTold}
 use Rattle.world_model.specs.World.{contents}
 use Rattle.world_model.proofs.Commuting.{stays}
 use Rattle.world_model.proofs.EndSorts.{alive_after_end, after_both, end_leaves}
@@ -54,7 +54,7 @@ fate_told v w s r q x (Kills reason) = alive_after_end v w r q reason
 delivery_told : (v : Contents) (s r q : Pid) (x : Signal) (f : Fate) → IsTold v (after (changes_by v (Deliver s r) (Delivered x f)) v) (ended_in (Deliver s r) (Delivered x f)) None q
 delivery_told v s r q x f =
     let ks = goes_with s r x in
-    let w = changed (Fetches s r) v in
+    let w = changed (SignalDelivered s r) v in
     after_both ks (changes_of_fate (after ks v) r f) w (Alive q) ∙ fate_told (after ks v) (after ks w) s r q x f ∙ ap (λ b. if is_it (ended_in (Deliver s r) (Delivered x f)) q then false else b) (stays ks w (Alive q) (goes_off s r q x))
 
 call_told : (h : History) (w : Contents) (p q : Pid) (call : Call) → w (Alive q) ≡ contents h (Alive q) → IsTold (contents h) (after (line (contents h) p call).changes w) None (begun_by_call h p call) q
@@ -106,15 +106,15 @@ fate_flag v w r q (Kills reason) = end_leaves v w r reason (Trap q) refl
 flagged : (v : Contents) (step : Step) (deed : Deed) (q : Pid) → after (changes_by v step deed) v (Trap q) ≡ (if is_turn_of q step then unwrap_or (flag_set deed) (v (Trap q)) else v (Trap q))
 flagged v (Turn p) (Served kind arguments answer) q = call_flag v _ p q (call_of kind arguments) refl
 flagged v (Turn p) (Refused kind arguments refusal) q = same_either (same_pid p q) (v (Trap q))
-flagged v (Turn p) (EndedItself kind arguments reason) q = end_leaves v (changed (Turns p []) v) p reason (Trap q) refl ∙ same_either (same_pid p q) (v (Trap q))
+flagged v (Turn p) (EndedItself kind arguments reason) q = end_leaves v (changed (TurnTaken p []) v) p reason (Trap q) refl ∙ same_either (same_pid p q) (v (Trap q))
 flagged v (Turn p) (Received m) q = same_either (same_pid p q) (v (Trap q))
 flagged v (Turn p) TimedOut q = same_either (same_pid p q) (v (Trap q))
-flagged v (Turn p) (Ended reason) q = end_leaves v (changed (Turns p []) v) p reason (Trap q) refl ∙ same_either (same_pid p q) (v (Trap q))
-flagged v (Turn p) RanAway q = end_leaves v (changed (Turns p []) v) p runaway (Trap q) refl ∙ same_either (same_pid p q) (v (Trap q))
+flagged v (Turn p) (Ended reason) q = end_leaves v (changed (TurnTaken p []) v) p reason (Trap q) refl ∙ same_either (same_pid p q) (v (Trap q))
+flagged v (Turn p) RanAway q = end_leaves v (changed (TurnTaken p []) v) p runaway (Trap q) refl ∙ same_either (same_pid p q) (v (Trap q))
 flagged v (Turn p) (Delivered x f) q = same_either (same_pid p q) (v (Trap q))
 flagged v (Deliver s r) (Delivered x f) q =
     let ks = goes_with s r x in
-    let w = changed (Fetches s r) v in
+    let w = changed (SignalDelivered s r) v in
     after_both ks (changes_of_fate (after ks v) r f) w (Trap q) ∙ fate_flag (after ks v) (after ks w) r q f ∙ stays ks w (Trap q) (goes_off_trap s r q x)
 flagged v (Deliver s r) deed q = refl
 
@@ -172,7 +172,7 @@ module _ {A : Type 0} (part : Course → A) (fresh : A) (turned_ : List Answered
   and_false true x y = refl
   and_false false x y = refl
 
-  turn_part : (h : History) (p q : Pid) (xs : List Answered) → part (changed (Turns p xs) (contents h) (Machine q)) ≡ (if same_pid p q && true then turned_ xs (part (contents h (Machine q))) else part (contents h (Machine q)))
+  turn_part : (h : History) (p q : Pid) (xs : List Answered) → part (changed (TurnTaken p xs) (contents h) (Machine q)) ≡ (if same_pid p q && true then turned_ xs (part (contents h (Machine q))) else part (contents h (Machine q)))
   turn_part h p q xs = turned_if (same_pid p q) xs (contents h (Machine q)) ∙ and_true (same_pid p q) _ _
 
   pub parts_told : (h : History) (step : Step) (deed : Deed) (q : Pid) → part (after (changes_by (contents h) step deed) (contents h) (Machine q)) ≡ part_told h step deed q
@@ -187,7 +187,7 @@ module _ {A : Type 0} (part : Course → A) (fresh : A) (turned_ : List Answered
   parts_told h (Turn p) (Delivered x f) q = and_false (same_pid p q) _ _
   parts_told h (Deliver s r) (Delivered x f) q =
       let ks = goes_with s r x in
-      let w = changed (Fetches s r) (contents h) in
+      let w = changed (SignalDelivered s r) (contents h) in
       ap part (after_both ks (changes_of_fate (after ks (contents h)) r f) w (Machine q)) ∙ fate_part (after ks (contents h)) (after ks w) r q f ∙ ap part (stays ks w (Machine q) (goes_part s r q x))
   parts_told h (Deliver s r) deed q = refl
 

@@ -6,10 +6,10 @@ use Rattle.term_core.specs.Meaning.{Meaning}
 use Rattle.term_core.specs.declared.step.Step.{Step}
 use Rattle.term_core.specs.declared.step.Step.TheVariants.{Deliver, Turn}
 use Rattle.core_calls.specs.declared.call.CallKind.{CallKind}
-use Rattle.eval_rules.specs.Asked as answered
+use Rattle.core_semantics.specs.Asked as answered
 use Rattle.world_model.specs.Calls.{Call, Send, ToNobody, ToProcess, ToName, SendExit, Demonitor, OnTable, call_of}
 use Rattle.world_model.specs.Cells.{Machine, Taken, Mailed, Contents, Alive, Watch, Watchers, Holder, Tail, meet, Front}
-use Rattle.world_model.specs.Changes.{after, Unwatches, Sheds, Touches, Mails, Picks, without_first, is_of_watch, changed, Turns, Fetches, Change, Puts}
+use Rattle.world_model.specs.Changes.{after, WatchCleared, WatcherRemoved, CellTouched, MessageAdded, MessageTaken, without_first, is_of_watch, changed, TurnTaken, SignalDelivered, Change, SignalPut}
 use Rattle.world_model.specs.Events.{Signal, Message, Exit, History, LinkExit, Down, Fate, Delivered, Arrives, IsIgnored, IsDropped, Kills, Deed, Served, Refused, EndedItself, Ended, Received, TimedOut, RanAway, Event, Refusal}
 use Rattle.world_model.specs.Lines.{line}
 use Rattle.world_model.specs.Mail.{mailed, mailed_if, mailed_to_holder, mailed_by_call, mailed_in, MailboxIsTold, signals_to, delivers, WaitingIsTold}
@@ -37,7 +37,7 @@ use Rattle.world_model.proofs.Sorts.{is_among, sorts_of}
 left_alone : (v w : Contents) (q : Pid) → v (Taken q) ≡ w (Taken q) → v (Mailed q) ≡ w (Mailed q) → mailbox_in v q ≡ mailbox_in w q
 left_alone v w q taken mailed = λ i. left_of (taken i) (mailed i)
 
--- whatever comes stays behind what is there: what was taken was there
+-- whatever comes stays after what is there: what was taken was there
 abbrev StaysBehind : List Meaning → List Meaning → Type 0
 StaysBehind ts xs = (ys : List Meaning) → left_of ts (xs ++ ys) ≡ left_of ts xs ++ ys
 
@@ -48,7 +48,7 @@ mailed_by : (b : Bool) (ts xs : List Meaning) (m : Meaning) → StaysBehind ts x
 mailed_by true ts xs m behind = behind (m ∷ [])
 mailed_by false ts xs m behind = refl
 
-mails_mail : (p : Pid) (m : Meaning) (w : Contents) (q : Pid) → IsSound w q → mailbox_in (changed (Mails p m) w) q ≡ mailed p m q (mailbox_in w q)
+mails_mail : (p : Pid) (m : Meaning) (w : Contents) (q : Pid) → IsSound w q → mailbox_in (changed (MessageAdded p m) w) q ≡ mailed p m q (mailbox_in w q)
 mails_mail p m w q sound = mailed_by (same_pid p q) (w (Taken q)) (w (Mailed q)) m sound
 
 put_mail : (b : Bool) (s r : Pid) (x : Signal) (w : Contents) (q : Pid) → mailbox_in (after (put_if b s r x) w) q ≡ mailbox_in w q
@@ -67,7 +67,7 @@ holder_mail : (v w : Contents) (p : Pid) (o : Option Pid) (q : Pid) (m : Meaning
 holder_mail v w p None q m sound = refl
 holder_mail v w p (Some to) q m sound = sent_mail (same_pid p to) v w p to q m sound
 
-ended_by_taken : (b : Bool) (p : Pid) (u : Ref) (x : Pid) (w : Contents) (q : Pid) → after (if b then Unwatches u ∷ Sheds x u ∷ [] else Touches (Watch u) ∷ Touches (Watchers x) ∷ []) w (Taken q) ≡ w (Taken q)
+ended_by_taken : (b : Bool) (p : Pid) (u : Ref) (x : Pid) (w : Contents) (q : Pid) → after (if b then WatchCleared u ∷ WatcherRemoved x u ∷ [] else CellTouched (Watch u) ∷ CellTouched (Watchers x) ∷ []) w (Taken q) ≡ w (Taken q)
 ended_by_taken true p u x w q = refl
 ended_by_taken false p u x w q = refl
 
@@ -75,7 +75,7 @@ ended_taken : (p : Pid) (u : Ref) (o : Option Pid) (w : Contents) (q : Pid) → 
 ended_taken p u None w q = refl
 ended_taken p u (Some x) w q = ended_by_taken (same_pid u.pid p) p u x w q
 
-ended_by_mail : (b : Bool) (p : Pid) (u : Ref) (x : Pid) (w : Contents) (q : Pid) → after (if b then Unwatches u ∷ Sheds x u ∷ [] else Touches (Watch u) ∷ Touches (Watchers x) ∷ []) w (Mailed q) ≡ w (Mailed q)
+ended_by_mail : (b : Bool) (p : Pid) (u : Ref) (x : Pid) (w : Contents) (q : Pid) → after (if b then WatchCleared u ∷ WatcherRemoved x u ∷ [] else CellTouched (Watch u) ∷ CellTouched (Watchers x) ∷ []) w (Mailed q) ≡ w (Mailed q)
 ended_by_mail true p u x w q = refl
 ended_by_mail false p u x w q = refl
 
@@ -91,7 +91,7 @@ picked_by : (b : Bool) (ts xs : List Meaning) (m : Meaning) → left_of (if b th
 picked_by true ts xs m = left_last ts m xs
 picked_by false ts xs m = refl
 
-picks_mail : (p : Pid) (m : Meaning) (w : Contents) (q : Pid) → mailbox_in (changed (Picks p m) w) q ≡ (if same_pid p q then without_first (same_term m) (mailbox_in w q) else mailbox_in w q)
+picks_mail : (p : Pid) (m : Meaning) (w : Contents) (q : Pid) → mailbox_in (changed (MessageTaken p m) w) q ≡ (if same_pid p q then without_first (same_term m) (mailbox_in w q) else mailbox_in w q)
 picks_mail p m w q = picked_by (same_pid p q) (w (Taken q)) (w (Mailed q)) m
 
 where_same : (b : Bool) (xs ys zs : List Meaning) → (b ≡ true → xs ≡ ys) → (if b then xs else zs) ≡ (if b then ys else zs)
@@ -154,18 +154,18 @@ fate_mail h v w s r q x IsDropped sound = refl
 fate_mail h v w s r q x (Kills reason) sound = end_alone v w r reason q
 
 told_mail : (h : History) (step : Step) (deed : Deed) (q : Pid) → IsSound (contents h) q → mailbox_in (after (changes_by (contents h) step deed) (contents h)) q ≡ mailed_in h step deed q (mailbox_in (contents h) q)
-told_mail h (Turn p) (Served kind arguments answer) q sound = call_mail h (changed (Turns p (answered.Value answer ∷ [])) (contents h)) p (call_of kind arguments) q refl sound
+told_mail h (Turn p) (Served kind arguments answer) q sound = call_mail h (changed (TurnTaken p (answered.Value answer ∷ [])) (contents h)) p (call_of kind arguments) q refl sound
 told_mail h (Turn p) (Refused kind arguments refusal) q sound = refl
-told_mail h (Turn p) (EndedItself kind arguments reason) q sound = end_alone (contents h) (changed (Turns p []) (contents h)) p reason q
-told_mail h (Turn p) (Received m) q sound = picks_mail p m (changed (Turns p (answered.Message m ∷ [])) (contents h)) q
+told_mail h (Turn p) (EndedItself kind arguments reason) q sound = end_alone (contents h) (changed (TurnTaken p []) (contents h)) p reason q
+told_mail h (Turn p) (Received m) q sound = picks_mail p m (changed (TurnTaken p (answered.Message m ∷ [])) (contents h)) q
 told_mail h (Turn p) TimedOut q sound = refl
-told_mail h (Turn p) (Ended reason) q sound = end_alone (contents h) (changed (Turns p []) (contents h)) p reason q
-told_mail h (Turn p) RanAway q sound = end_alone (contents h) (changed (Turns p []) (contents h)) p runaway q
+told_mail h (Turn p) (Ended reason) q sound = end_alone (contents h) (changed (TurnTaken p []) (contents h)) p reason q
+told_mail h (Turn p) RanAway q sound = end_alone (contents h) (changed (TurnTaken p []) (contents h)) p runaway q
 told_mail h (Turn p) (Delivered x f) q sound = refl
 told_mail h (Deliver s r) (Delivered x f) q sound =
     let ks = goes_with s r x in
     let ls = changes_of_fate (after ks (contents h)) r f in
-    let w = changed (Fetches s r) (contents h) in
+    let w = changed (SignalDelivered s r) (contents h) in
     let taken = stays ks w (Taken q) (goes_taken s r q x) in
     let mailed = stays ks w (Mailed q) (goes_mail s r q x) in
     left_alone (after (ks ++ ls) w) (after ls (after ks w)) q (after_both ks ls w (Taken q)) (after_both ks ls w (Mailed q))
@@ -198,7 +198,7 @@ picks_by true ts xs m sound is =
     ∙ ap (λ zs. zs ++ ys) (sym (left_last ts m xs))
 picks_by false ts xs m sound is = sound
 
-picks_sound : (p : Pid) (m : Meaning) (w : Contents) (q : Pid) → list_any (same_term m) (mailbox_in w p) ≡ true → IsSound w q → IsSound (changed (Picks p m) w) q
+picks_sound : (p : Pid) (m : Meaning) (w : Contents) (q : Pid) → list_any (same_term m) (mailbox_in w p) ≡ true → IsSound w q → IsSound (changed (MessageTaken p m) w) q
 picks_sound p m w q is sound = picks_by (same_pid p q) (w (Taken q)) (w (Mailed q)) m sound (λ same. ap (λ r. list_any (same_term m) (mailbox_in w r)) (sym (pids_same p q same)) ∙ is)
 
 picked_sound : (p q : Pid) (test : Meaning → Bool) (o : Option Meaning) (w : Contents) → selected_of test (mailbox_in w p) ≡ o → IsSound w q → IsSound (after (picked p o) w) q
@@ -241,18 +241,18 @@ abbrev TakesThere : Contents → Step → Deed → Type 0
 TakesThere v step deed = (p : Pid) (m : Meaning) → step ≡ Turn p → deed ≡ Received m → list_any (same_term m) (mailbox_in v p) ≡ true
 
 event_sound : (v : Contents) (step : Step) (deed : Deed) (q : Pid) → TakesThere v step deed → IsSound v q → IsSound (after (changes_by v step deed) v) q
-event_sound v (Turn p) (Served kind arguments answer) q there sound = call_sound v (changed (Turns p (answered.Value answer ∷ [])) v) p (call_of kind arguments) q refl sound
+event_sound v (Turn p) (Served kind arguments answer) q there sound = call_sound v (changed (TurnTaken p (answered.Value answer ∷ [])) v) p (call_of kind arguments) q refl sound
 event_sound v (Turn p) (Refused kind arguments refusal) q there sound = sound
-event_sound v (Turn p) (EndedItself kind arguments reason) q there sound = end_sound v (changed (Turns p []) v) p reason q sound
-event_sound v (Turn p) (Received m) q there sound = picks_sound p m (changed (Turns p (answered.Message m ∷ [])) v) q (there p m refl refl) sound
+event_sound v (Turn p) (EndedItself kind arguments reason) q there sound = end_sound v (changed (TurnTaken p []) v) p reason q sound
+event_sound v (Turn p) (Received m) q there sound = picks_sound p m (changed (TurnTaken p (answered.Message m ∷ [])) v) q (there p m refl refl) sound
 event_sound v (Turn p) TimedOut q there sound = sound
-event_sound v (Turn p) (Ended reason) q there sound = end_sound v (changed (Turns p []) v) p reason q sound
-event_sound v (Turn p) RanAway q there sound = end_sound v (changed (Turns p []) v) p runaway q sound
+event_sound v (Turn p) (Ended reason) q there sound = end_sound v (changed (TurnTaken p []) v) p reason q sound
+event_sound v (Turn p) RanAway q there sound = end_sound v (changed (TurnTaken p []) v) p runaway q sound
 event_sound v (Turn p) (Delivered x f) q there sound = sound
 event_sound v (Deliver s r) (Delivered x f) q there sound =
     let ks = goes_with s r x in
     let ls = changes_of_fate (after ks v) r f in
-    let w = changed (Fetches s r) v in
+    let w = changed (SignalDelivered s r) v in
     kept (ks ++ ls) w q (after_both ks ls w (Taken q) ∙ fate_taken (after ks v) (after ks w) r q f ∙ stays ks w (Taken q) (goes_taken s r q x)) sound
 event_sound v (Deliver s r) deed q there sound = sound
 
@@ -324,8 +324,8 @@ nothing_more [] = refl
 nothing_more (x ∷ xs) = ap (λ ys. x ∷ ys) (nothing_more xs)
 
 one_put : (k : Change) (ks : List Change) (v : Contents) (s r : Pid) → changed k v (Tail s r) ++ signals_to s r ks ≡ v (Tail s r) ++ signals_to s r (k ∷ ks)
-one_put (Puts t u x) ks v s r = put_by (same_pid t s && same_pid u r) (v (Tail s r)) x (signals_to s r ks)
-one_put (Touches c) ks v s r = ap (λ xs. xs ++ signals_to s r ks) (either_way (meet c (Tail s r)) (v (Tail s r)))
+one_put (SignalPut t u x) ks v s r = put_by (same_pid t s && same_pid u r) (v (Tail s r)) x (signals_to s r ks)
+one_put (CellTouched c) ks v s r = ap (λ xs. xs ++ signals_to s r ks) (either_way (meet c (Tail s r)) (v (Tail s r)))
 one_put k ks v s r = refl
 
 pub tail_told : (ks : List Change) (v : Contents) (s r : Pid) → after ks v (Tail s r) ≡ v (Tail s r) ++ signals_to s r ks
@@ -359,19 +359,19 @@ nothing_added n = omega arith
 front_told : (v : Contents) (step : Step) (deed : Deed) (s r : Pid) → after (changes_by v step deed) v (Front s r) ≡ v (Front s r) + delivers step deed s r
 front_told v (Turn p) (Served kind arguments answer) s r = call_front v _ p (call_of kind arguments) s r ∙ nothing_added (v (Front s r))
 front_told v (Turn p) (Refused kind arguments refusal) s r = nothing_added (v (Front s r))
-front_told v (Turn p) (EndedItself kind arguments reason) s r = end_leaves v (changed (Turns p []) v) p reason (Front s r) refl ∙ nothing_added (v (Front s r))
+front_told v (Turn p) (EndedItself kind arguments reason) s r = end_leaves v (changed (TurnTaken p []) v) p reason (Front s r) refl ∙ nothing_added (v (Front s r))
 front_told v (Turn p) (Received m) s r = nothing_added (v (Front s r))
 front_told v (Turn p) TimedOut s r = nothing_added (v (Front s r))
-front_told v (Turn p) (Ended reason) s r = end_leaves v (changed (Turns p []) v) p reason (Front s r) refl ∙ nothing_added (v (Front s r))
-front_told v (Turn p) RanAway s r = end_leaves v (changed (Turns p []) v) p runaway (Front s r) refl ∙ nothing_added (v (Front s r))
+front_told v (Turn p) (Ended reason) s r = end_leaves v (changed (TurnTaken p []) v) p reason (Front s r) refl ∙ nothing_added (v (Front s r))
+front_told v (Turn p) RanAway s r = end_leaves v (changed (TurnTaken p []) v) p runaway (Front s r) refl ∙ nothing_added (v (Front s r))
 front_told v (Turn p) (Delivered x f) s r = nothing_added (v (Front s r))
 front_told v (Deliver t u) (Delivered x f) s r =
     let ks = goes_with t u x in
-    let w = changed (Fetches t u) v in
+    let w = changed (SignalDelivered t u) v in
     after_both ks (changes_of_fate (after ks v) u f) w (Front s r) ∙ fate_front (after ks v) (after ks w) u s r f ∙ stays ks w (Front s r) (goes_front t u s r x) ∙ fetched_by (same_pid t s && same_pid u r) (v (Front s r))
 front_told v (Deliver t u) deed s r = nothing_added (v (Front s r))
 
--- no more is delivered than was put
+-- at most as much is delivered as was put
 drop_more : (n m : ℕ) (xs ys : List Signal) → n ≤ length xs → drop (n + m) (xs ++ ys) ≡ drop m (drop n xs ++ ys)
 drop_more zero m xs ys le = let same : 0 + m ≡ m = omega arith in ap (λ k. drop k (xs ++ ys)) same
 drop_more (suc n) m [] ys le = absurd (omega arith)

@@ -1,15 +1,15 @@
--- Lists of references from the one side, and whose each is from the other: that they match, and go on to.
+-- Lists of references on the one side, and the process of each on the other: that they match, and continue to.
 use Rattle.std.proofs.Common.{◌≡◌, Bool, true, false, ◌&&◌, ◌||◌, List, Option, Some, None, refl, sym, ap, ◌∙◌, if◌then◌else◌, true≢false}
 use Rattle.std.specs.List.{list_any}
 use Rattle.std.specs.Prelude.{not}
 use Rattle.world_model.specs.Changes.{set_in_order, without_first}
 use Rattle.world_model.specs.Names.{Pid, Ref, same_pid, same_ref, order_of_refs}
-use Rattle.world_model.specs.Told.{is_it}
+use Rattle.world_model.specs.ProcessHistory.{is_it}
 use Rattle.world_model.proofs.InOrder.{InOrder}
 use Rattle.world_model.proofs.Listed.{ref_put, ref_gone}
 use Rattle.world_model.proofs.Meeting.{pids_same, pid_itself, refs_same}
 
--- ---- whose it is
+-- ---- the process that it is of
 
 pub it_is : (o : Option Pid) (q : Pid) → is_it o q ≡ true → o ≡ Some q
 it_is None q is = absurd (true≢false (sym is))
@@ -62,7 +62,7 @@ moves_by : (c b x y d : Bool) → (d ≡ true → x ≡ true → b ≡ true) →
 moves_by c b x y true old new = moved c b x (old refl) ∙ sym new
 moves_by c b x y false old new = unmoved c b x
 
--- one comes to the process whose it is now, and goes from the one whose it was
+-- a reference goes to the process that has it now, and from the one that had it
 pub match_moves : (lists now : Pid → List Ref) (whose then_ : Ref → Option Pid) (u : Ref) (n : Option Pid) (c b : Pid → Bool)
     → ((q : Pid) (t : Ref) → list_any (same_ref t) (now q) ≡ (c q && same_ref u t || (not (b q && same_ref u t) && list_any (same_ref t) (lists q))))
     → ((t : Ref) → then_ t ≡ (if same_ref u t then n else whose t)) → ((q : Pid) → is_it n q ≡ c q) → ((q : Pid) → is_it (whose u) q ≡ true → b q ≡ true) → Match lists whose → Match now then_

@@ -30,7 +30,7 @@ refs_same a b e =
 pub ref_itself : (a : Ref) → same_ref a a ≡ true
 ref_itself a = λ i. (pid_itself a.pid i) && (number_itself a.number) i
 
--- a row is a part of all rows; every other cell stands for itself
+-- a row is a part of all rows; every other cell is itself
 abbrev pub whole : Cell → Cell
 whole (Row t k) = Rows t
 whole c = c

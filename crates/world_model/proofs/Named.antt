@@ -6,16 +6,16 @@ use Rattle.term_core.specs.declared.step.Step.{Step}
 use Rattle.term_core.specs.declared.step.Step.TheVariants.{Turn, Deliver}
 use Rattle.world_model.specs.Calls.{Call, TableArgument, ByName, ByReference, ByNothing, TableCall, DeleteTable, GiveAway, SetOptions, New, OnTable, call_of}
 use Rattle.world_model.specs.Cells.{Table, Cell, Contents, TableName, Owned}
-use Rattle.world_model.specs.Changes.{after, Frees, Inherits, changed, Touches, Goes, Wipes, Loses, Makes, Gains, Dies, Halts, Fetches}
+use Rattle.world_model.specs.Changes.{after, TableNameCleared, HeirSet, changed, CellTouched, TableRemoved, RowsCleared, OwnedRemoved, TableSet, OwnedAdded, AliveCleared, MachineHalted, SignalDelivered}
 use Rattle.world_model.specs.Ends.{ends, passed, table_passes, living_heir, tables_pass}
 use Rattle.world_model.specs.Events.{Signal, Message, Exit, LinkExit, Down, Fate, Arrives, IsIgnored, IsDropped, Kills, Deed, Served, Refused, Ended, EndedItself, Received, TimedOut, RanAway, Delivered, History}
-use Rattle.world_model.specs.Found.{find, Found, as_found, meant, unless_named}
-use Rattle.world_model.specs.FoundTold.{TablesAreFound, FoundAreThere}
-use Rattle.world_model.specs.Judging.{found_line}
+use Rattle.world_model.specs.TableAccess.{find, Found, as_found, meant, unless_named}
+use Rattle.world_model.specs.FindingHistory.{TablesAreFound, FoundAreThere}
+use Rattle.world_model.specs.TableRules.{found_line}
 use Rattle.world_model.specs.Lines.{line}
 use Rattle.world_model.specs.Names.{Name, Ref, same_name, same_ref, Pid}
 use Rattle.world_model.specs.NewTables.{by_rule, means_if, name_taken, new_line, new_rule}
-use Rattle.world_model.specs.Owning.{heirs_set}
+use Rattle.world_model.specs.Ownership.{heirs_set}
 use Rattle.world_model.specs.ProcessLines.{next_ref}
 use Rattle.world_model.specs.Requests.{Program}
 use Rattle.world_model.specs.Run.{IsRun}
@@ -36,7 +36,7 @@ use Rattle.world_model.proofs.Served.{Unrefused, unrefused_in}
 use Rattle.world_model.proofs.SortLaws.{untouched_by, table_among, call_leaves}
 use Rattle.world_model.proofs.Sorts.{is_among, table_sorts}
 
--- ---- names, and tables, as they stand
+-- ---- names, and tables, as they are
 
 abbrev Names : Type 0
 Names = Name → Option Ref
@@ -98,7 +98,7 @@ missing_by : (all : AllTables) (u t : Ref) (b : Bool) (m : Name) → same_ref u 
 missing_by all u t true m is none was = absurd (no_some (sym none ∙ ap all (refs_same u t is) ∙ was.there))
 missing_by all u t false m is none was = (was.state, was.there, was.named, was.same)
 
--- a table changes, but for its name
+-- a table changes, except for its name
 KeepsNames : (tables.Table → tables.Table) → Type 0
 KeepsNames f = (x : tables.Table) → ((f x).name ≡ x.name) × ((f x).is_named ≡ x.is_named)
 
@@ -222,24 +222,24 @@ found_there v ByNothing f now = absurd cc
 
 -- ---- calls
 
-freed_at : (b : Bool) (name m : Name) (w : Contents) → after (if b then Frees name ∷ [] else []) w (TableName m) ≡ (if b && same_name name m then None else w (TableName m))
+freed_at : (b : Bool) (name m : Name) (w : Contents) → after (if b then TableNameCleared name ∷ [] else []) w (TableName m) ≡ (if b && same_name name m then None else w (TableName m))
 freed_at true name m w = refl
 freed_at false name m w = refl
 
-freed_table : (b : Bool) (name : Name) (w : Contents) (t : Ref) → after (if b then Frees name ∷ [] else []) w (Table t) ≡ w (Table t)
+freed_table : (b : Bool) (name : Name) (w : Contents) (t : Ref) → after (if b then TableNameCleared name ∷ [] else []) w (Table t) ≡ w (Table t)
 freed_table true name w t = refl
 freed_table false name w t = refl
 
-heirs_named : (u : Ref) (hs : List Heir) (w : Contents) → Holds_ w → Holds_ (after (map (Inherits u) hs) w)
+heirs_named : (u : Ref) (hs : List Heir) (w : Contents) → Holds_ w → Holds_ (after (map (HeirSet u) hs) w)
 heirs_named u [] w before_ = before_
-heirs_named u (h ∷ hs) w before_ = heirs_named u hs (changed (Inherits u h) w) (alters_named w (changed (Inherits u h) w) u (with_heir h) (heir_keeps h) (λ n. refl) (λ t. refl) before_)
+heirs_named u (h ∷ hs) w before_ = heirs_named u hs (changed (HeirSet u h) w) (alters_named w (changed (HeirSet u h) w) u (with_heir h) (heir_keeps h) (λ n. refl) (λ t. refl) before_)
 
 set_named : (u : Ref) (hs : List Heir) (w : Contents) → Holds_ w → Holds_ (after (heirs_set u hs) w)
-set_named u [] w before_ = same_named w (changed (Touches (Table u)) w) (λ n. refl) (λ t. either_way (same_ref u t) (w (Table t))) before_
+set_named u [] w before_ = same_named w (changed (CellTouched (Table u)) w) (λ n. refl) (λ t. either_way (same_ref u t) (w (Table t))) before_
 set_named u (h ∷ hs) w before_ = heirs_named u (h ∷ hs) w before_
 
 line_named : (v w : Contents) (p : Pid) (f : Found) (call : TableCall) → w (Table f.ref) ≡ Some f.table → Holds_ w → Holds_ (after (table_line v p f call).changes w)
-line_named v w p f DeleteTable there before_ = goes_named w (after (table_line v p f DeleteTable).changes w) f.ref f.table (λ y is. let same = table_is y f.table (sym is ∙ there) in (ap (λ x. x.name) same, ap (λ x. x.is_named) same)) (alone_there w f.ref f.table there before_) (λ m. freed_at f.table.is_named f.table.name m (after (Goes f.ref ∷ Wipes f.ref ∷ Loses f.table.owner f.ref ∷ []) w)) (λ t. freed_table f.table.is_named f.table.name (after (Goes f.ref ∷ Wipes f.ref ∷ Loses f.table.owner f.ref ∷ []) w) t) before_
+line_named v w p f DeleteTable there before_ = goes_named w (after (table_line v p f DeleteTable).changes w) f.ref f.table (λ y is. let same = table_is y f.table (sym is ∙ there) in (ap (λ x. x.name) same, ap (λ x. x.is_named) same)) (alone_there w f.ref f.table there before_) (λ m. freed_at f.table.is_named f.table.name m (after (TableRemoved f.ref ∷ RowsCleared f.ref ∷ OwnedRemoved f.table.owner f.ref ∷ []) w)) (λ t. freed_table f.table.is_named f.table.name (after (TableRemoved f.ref ∷ RowsCleared f.ref ∷ OwnedRemoved f.table.owner f.ref ∷ []) w) t) before_
 line_named v w p f (GiveAway None gift_) there before_ = before_
 line_named v w p f (GiveAway (Some to) gift_) there before_ = alters_named w (after (table_line v p f (GiveAway (Some to) gift_)).changes w) f.ref (owned_by to) (owner_keeps to) (λ n. refl) (λ t. refl) before_
 line_named v w p f (SetOptions None) there before_ = set_named f.ref [] w before_
@@ -290,7 +290,7 @@ unfolding IsNamed IsMeant
 made_named p u name None o w there none no_table before_ = before_
 made_named p u name (Some os) o w there none no_table before_ =
     let x = table_of p name os in
-    let was = after (Makes u x ∷ Gains p u ∷ []) w in (
+    let was = after (TableSet u x ∷ OwnedAdded p u ∷ []) w in (
       (λ m t now.
           let by = made_by_name w x u t m (is_named os && same_name name m) (same_ref u t) refl refl no_table (sym (new_at (is_named os) name m u was) ∙ now) (before_.0 m t) in
           record { state = by.0; there = new_table (is_named os) name u t was ∙ by.1; named = by.2; same = by.3 }),
@@ -340,9 +340,9 @@ one_goes v w p u x None is held was = record {
   named = goes_named w (after (passed p u x None) w) u x
       (λ y there. let by = was.of u y there in let same = table_is by.0 x (sym by.1 ∙ is) in (by.2 ∙ ap (λ q. q.name) same, by.3 ∙ ap (λ q. q.is_named) same))
       (alone_of v w u x is held was.of)
-      (λ m. freed_at x.is_named x.name m (after (Goes u ∷ Wipes u ∷ []) w))
-      (λ t. freed_table x.is_named x.name (after (Goes u ∷ Wipes u ∷ []) w) t) was.named;
-  of = λ t y now. of_gone v w u t (same_ref u t) y was.of (sym (freed_table x.is_named x.name (after (Goes u ∷ Wipes u ∷ []) w) t) ∙ now);
+      (λ m. freed_at x.is_named x.name m (after (TableRemoved u ∷ RowsCleared u ∷ []) w))
+      (λ t. freed_table x.is_named x.name (after (TableRemoved u ∷ RowsCleared u ∷ []) w) t) was.named;
+  of = λ t y now. of_gone v w u t (same_ref u t) y was.of (sym (freed_table x.is_named x.name (after (TableRemoved u ∷ RowsCleared u ∷ []) w) t) ∙ now);
 }
 one_goes v w p u x (Some heir) is held was = record {
   named = alters_named w (after (passed p u x (Some heir)) w) u (owned_by heir.0) (owner_keeps heir.0) (λ n. refl) (λ t. refl) was.named;
@@ -378,8 +378,8 @@ itself_of v t y now = (y, now, refl, refl)
 end_named : (v w : Contents) (p : Pid) (reason : Meaning) → ((n : Name) → w (TableName n) ≡ v (TableName n)) → ((t : Ref) → w (Table t) ≡ v (Table t)) → Holds_ v → Holds_ (after (ends v p reason) w)
 unfolding AreOf
 end_named v w p reason names all before_ =
-    let dead = changed (Dies p) v in
-    let now = changed (Dies p) (changed (Halts p reason) w) in
+    let dead = changed (AliveCleared p) v in
+    let now = changed (AliveCleared p) (changed (MachineHalted p reason) w) in
     let same : Holds_ now = same_named v now names all before_ in
     let passed_ = all_of_ends dead now p (dead (Owned p)) (same_named v dead (λ n. refl) (λ t. refl) before_) (record { named = same; of = λ t y there. (y, sym (all t) ∙ there, refl, refl) }) in
     same_named (after (tables_pass dead p (dead (Owned p))) now) (after (ends v p reason) w) (λ n. rest_off (TableName n) dead now p reason refl) (λ t. rest_off (Table t) dead now p reason refl) passed_.named
@@ -415,7 +415,7 @@ event_named v (Turn p) RanAway served free before_ = end_named v _ p runaway (λ
 event_named v (Turn p) (Delivered x f) served free before_ = before_
 event_named v (Deliver s r) (Delivered x f) served free before_ =
     let ks = goes_with s r x in
-    let w = changed (Fetches s r) v in
+    let w = changed (SignalDelivered s r) v in
     let mid = same_named v (after ks v) (λ n. stays ks v (TableName n) (goes_names s r n x)) (λ t. stays ks v (Table t) (goes_tables s r t x)) before_ in
     subst Holds_ (λ i c. sym (after_both ks (changes_of_fate (after ks v) r f) w c) i)
     (fate_named (after ks v) (after ks w) r f (λ n. follows ks w v (TableName n) refl) (λ t. follows ks w v (Table t) refl) mid)

@@ -9,9 +9,9 @@ use Rattle.term_core.specs.StepOrder.{order_of_steps}
 use Rattle.term_core.specs.inside.StepOrderLaws.{steps_total, same_step}
 use Rattle.term_core.specs.declared.step.Step.{Step}
 use Rattle.term_core.specs.declared.step.Step.TheVariants.{Turn, Deliver}
-use Rattle.eval_rules.specs.Ask.{is_first}
+use Rattle.core_semantics.specs.Ask.{is_first}
 use Rattle.world_model.specs.Cells.{Contents, Alive, Tail, meet, Machine, Front}
-use Rattle.world_model.specs.Changes.{Change, set_in_order, set_before, Lives, Puts, changed, Dies, Touches, after}
+use Rattle.world_model.specs.Changes.{Change, set_in_order, set_before, AliveSet, SignalPut, changed, AliveCleared, CellTouched, after}
 use Rattle.world_model.specs.Events.{Signal, History, event}
 use Rattle.world_model.specs.Names.{IsAmong, Pid, same_pid}
 use Rattle.world_model.specs.Requests.{Program}
@@ -52,8 +52,8 @@ IsOpen v steps = ((p : Pid) → v (Alive p) ≡ true → IsAmong (Turn p) steps)
 
 -- what is opened stays, and a life and a signal open
 still_open : (k : Change) (steps : List Step) (step : Step) → IsAmong step steps → IsAmong step (with_opened (opened_by k) steps)
-still_open (Lives p) steps step there = is_still order_of_steps same_step (Turn p) step steps there
-still_open (Puts s r x) steps step there = is_still order_of_steps same_step (Deliver s r) step steps there
+still_open (AliveSet p) steps step there = is_still order_of_steps same_step (Turn p) step steps there
+still_open (SignalPut s r x) steps step there = is_still order_of_steps same_step (Deliver s r) step steps there
 still_open k steps step there = there
 
 lives_by : (b : Bool) (p q : Pid) (lived : Bool) (steps : List Step) → same_pid p q ≡ b → (lived ≡ true → IsAmong (Turn q) (set_in_order order_of_steps (Turn p) steps)) → (if b then true else lived) ≡ true → IsAmong (Turn q) (set_in_order order_of_steps (Turn p) steps)
@@ -76,10 +76,10 @@ puts_by false s r t u x y put_ steps is rest now = rest y now
 
 opens : (k : Change) (v : Contents) (steps : List Step) → IsOpen v steps → IsOpen (changed k v) (with_opened (opened_by k) steps)
 unfolding IsOpen
-opens (Lives p) v steps open_ = ((λ q. lives_by (same_pid p q) p q (v (Alive q)) steps refl (λ lived. is_still order_of_steps same_step (Turn p) (Turn q) steps (open_.0 q lived))), (λ s r x there. is_still order_of_steps same_step (Turn p) (Deliver s r) steps (open_.1 s r x there)))
-opens (Dies p) v steps open_ = ((λ q now. open_.0 q (dies_by (same_pid p q) (v (Alive q)) now)), open_.1)
-opens (Puts s r x) v steps open_ = ((λ q lived. is_still order_of_steps same_step (Deliver s r) (Turn q) steps (open_.0 q lived)), (λ t u y. puts_by (same_pid s t && same_pid r u) s r t u x y (v (Tail t u)) steps refl (λ z there. is_still order_of_steps same_step (Deliver s r) (Deliver t u) steps (open_.1 t u z there))))
-opens (Touches c) v steps open_ = ((λ q now. open_.0 q (sym (either (meet c (Alive q)) (v (Alive q))) ∙ now)), (λ s r x now. open_.1 s r x (sym (ap first_of (either (meet c (Tail s r)) (v (Tail s r)))) ∙ now)))
+opens (AliveSet p) v steps open_ = ((λ q. lives_by (same_pid p q) p q (v (Alive q)) steps refl (λ lived. is_still order_of_steps same_step (Turn p) (Turn q) steps (open_.0 q lived))), (λ s r x there. is_still order_of_steps same_step (Turn p) (Deliver s r) steps (open_.1 s r x there)))
+opens (AliveCleared p) v steps open_ = ((λ q now. open_.0 q (dies_by (same_pid p q) (v (Alive q)) now)), open_.1)
+opens (SignalPut s r x) v steps open_ = ((λ q lived. is_still order_of_steps same_step (Deliver s r) (Turn q) steps (open_.0 q lived)), (λ t u y. puts_by (same_pid s t && same_pid r u) s r t u x y (v (Tail t u)) steps refl (λ z there. is_still order_of_steps same_step (Deliver s r) (Deliver t u) steps (open_.1 t u z there))))
+opens (CellTouched c) v steps open_ = ((λ q now. open_.0 q (sym (either (meet c (Alive q)) (v (Alive q))) ∙ now)), (λ s r x now. open_.1 s r x (sym (ap first_of (either (meet c (Tail s r)) (v (Tail s r)))) ∙ now)))
 opens k v steps open_ = open_
 
 all_open : (ks : List Change) (v : Contents) (steps : List Step) → IsOpen v steps → IsOpen (after ks v) (opened ks steps)

@@ -1,4 +1,4 @@
--- What a step comes to, and what is asked of two that commute.
+-- What a step results in, and what is asked of two that commute.
 use Rattle.std.proofs.Common.{◌≡◌, Bool, false, ◌||◌, List, [], ◌∷◌, Option, Some, option_map, map}
 use Rattle.term_core.specs.declared.step.Step.{Step}
 use Rattle.world_model.specs.Requests.{Program}
@@ -7,7 +7,7 @@ use Rattle.world_model.specs.Cells.{Cell, meet, Contents}
 use Rattle.world_model.specs.Changes.{Change, cell_of, after}
 use Rattle.world_model.specs.Steps.{next_deed, changes_by, reads}
 
--- what a step comes to: its deed, and what that changes
+-- what a step results in: its deed, and what that changes
 abbrev pub Outcome : Type 0
 Outcome = Deed × List Change
 

@@ -3,19 +3,19 @@ use Rattle.std.proofs.Common.{◌≡◌, Bool, true, false, ◌||◌, List, [], 
 use Rattle.std.specs.List.{list_any}
 use Rattle.std.specs.Prelude.{option_map, ℕ}
 use Rattle.term_core.specs.Meaning.{Meaning}
-use Rattle.eval_rules.specs.Asked as answered
+use Rattle.core_semantics.specs.Asked as answered
 use Rattle.world_model.specs.Calls.{TableCall, DeleteTable, GiveAway, SetOptions}
 use Rattle.world_model.specs.Cells.{Table, Content, Contents, Cell, Alive, Owned, Links, Watchers, NameOf, Row}
-use Rattle.world_model.specs.Changes.{after, Inherits, changed, Frees, Goes, Wipes, Loses, Turns, Empties, Dies}
+use Rattle.world_model.specs.Changes.{after, HeirSet, changed, TableNameCleared, TableRemoved, RowsCleared, OwnedRemoved, TurnTaken, OwnedCleared, AliveCleared}
 use Rattle.world_model.specs.Ends.{passed, table_passes, living_heir, tables_pass, partners_told, watchers_told, name_left, left_by}
 use Rattle.world_model.specs.Events.{LinkExit, Down, Ended, RanAway, EndedItself}
-use Rattle.world_model.specs.Found.{Found}
-use Rattle.world_model.specs.Judging.{found_line}
+use Rattle.world_model.specs.TableAccess.{Found}
+use Rattle.world_model.specs.TableRules.{found_line}
 use Rattle.world_model.specs.Lines.{line}
 use Rattle.world_model.specs.Names.{Ref, same_ref, Name, Pid}
 use Rattle.world_model.specs.NewTables.{means_if}
-use Rattle.world_model.specs.Owners.{heirs_left, table_left, LeavesTable, MakesTable, table_passed, heir_named, PassesTables, row_passed, PassesRows}
-use Rattle.world_model.specs.Owning.{heirs_set}
+use Rattle.world_model.specs.OwnershipLaws.{heirs_left, table_left, LeavesTable, MakesTable, table_passed, heir_named, PassesTables, row_passed, PassesRows}
+use Rattle.world_model.specs.Ownership.{heirs_set}
 use Rattle.world_model.specs.ProcessLines.{next_ref}
 use Rattle.world_model.specs.Rows.{Object, Key}
 use Rattle.world_model.specs.Signals.{put_if}
@@ -35,15 +35,15 @@ use Rattle.world_model.proofs.Sorts.{is_among, table_sorts}
 here : (t : Ref) (x y : Option tables.Table) → (if same_ref t t then x else y) ≡ x
 here t x y = ap (λ b. if b then x else y) (ref_itself t)
 
-heirs_keep : (t : Ref) (hs : List Heir) (w : Contents) → after (map (Inherits t) hs) w (Table t) ≡ heirs_left hs (w (Table t))
+heirs_keep : (t : Ref) (hs : List Heir) (w : Contents) → after (map (HeirSet t) hs) w (Table t) ≡ heirs_left hs (w (Table t))
 heirs_keep t [] w = refl
-heirs_keep t (h ∷ hs) w = heirs_keep t hs (changed (Inherits t h) w) ∙ ap (heirs_left hs) (here t (option_map (with_heir h) (w (Table t))) (w (Table t)))
+heirs_keep t (h ∷ hs) w = heirs_keep t hs (changed (HeirSet t h) w) ∙ ap (heirs_left hs) (here t (option_map (with_heir h) (w (Table t))) (w (Table t)))
 
 set_keeps : (t : Ref) (hs : List Heir) (w : Contents) → after (heirs_set t hs) w (Table t) ≡ heirs_left hs (w (Table t))
 set_keeps t [] w = here t (w (Table t)) (w (Table t))
 set_keeps t (h ∷ hs) w = heirs_keep t (h ∷ hs) w
 
-freed_keep : (b : Bool) (name : Name) (w : Contents) (t : Ref) → after (if b then Frees name ∷ [] else []) w (Table t) ≡ w (Table t)
+freed_keep : (b : Bool) (name : Name) (w : Contents) (t : Ref) → after (if b then TableNameCleared name ∷ [] else []) w (Table t) ≡ w (Table t)
 freed_keep true name w t = refl
 freed_keep false name w t = refl
 
@@ -52,7 +52,7 @@ off : (v w : Contents) (p : Pid) (f : Found) (call : TableCall) → is_among (ta
 off v w p f call other = stays (table_line v p f call).changes w (Table f.ref) (untouched_by (table_sorts call) (table_line v p f call).changes (Table f.ref) (table_among v p f call) other)
 
 pub call_keeps : (v w : Contents) (p : Pid) (f : Found) (call : TableCall) → after (table_line v p f call).changes w (Table f.ref) ≡ table_left call (w (Table f.ref))
-call_keeps v w p f DeleteTable = freed_keep f.table.is_named f.table.name (after (Goes f.ref ∷ Wipes f.ref ∷ Loses f.table.owner f.ref ∷ []) w) f.ref ∙ here f.ref None (w (Table f.ref))
+call_keeps v w p f DeleteTable = freed_keep f.table.is_named f.table.name (after (TableRemoved f.ref ∷ RowsCleared f.ref ∷ OwnedRemoved f.table.owner f.ref ∷ []) w) f.ref ∙ here f.ref None (w (Table f.ref))
 call_keeps v w p f (GiveAway None gift_) = refl
 call_keeps v w p f (GiveAway (Some to) gift_) = here f.ref (option_map (owned_by to) (w (Table f.ref))) (w (Table f.ref))
 call_keeps v w p f (SetOptions None) = set_keeps f.ref [] w
@@ -62,7 +62,7 @@ call_keeps v w p f call = off v w p f call refl
 pub leaves_table : LeavesTable
 unfolding contents
 leaves_table h p kind arguments argument call answer f is_call is =
-    let w = changed (Turns p (answered.Value answer ∷ [])) (contents h) in
+    let w = changed (TurnTaken p (answered.Value answer ∷ [])) (contents h) in
     ap (λ c. after (line (contents h) p c).changes w (Table f.ref)) is_call
     ∙ ap (λ o. after (found_line (contents h) p call o).changes w (Table f.ref)) is
     ∙ call_keeps (contents h) w p f call
@@ -75,7 +75,7 @@ pub makes_table : MakesTable
 unfolding contents
 makes_table h p kind arguments name os answer is_call =
     let t = next_ref (contents h) p in
-    let w = changed (Turns p (answered.Value answer ∷ [])) (contents h) in
+    let w = changed (TurnTaken p (answered.Value answer ∷ [])) (contents h) in
     ap (λ c. after (line (contents h) p c).changes w (Table t)) is_call
     ∙ means_keep (is_named os) name t t _ ∙ here t (Some (table_of p name os)) (contents h (Table t))
 
@@ -146,7 +146,7 @@ rest_off c v w p reason other =
     let partners = partners_told v p reason (v (Links p)) in
     let watchers = watchers_told v p reason (v (Watchers p)) in
     let name = name_left p (v (NameOf p)) in
-    let rest = Empties p ∷ (partners ++ (watchers ++ name)) in
+    let rest = OwnedCleared p ∷ (partners ++ (watchers ++ name)) in
     let among : AllAmong rest_sorts rest = (refl, among_both rest_sorts partners (watchers ++ name) (partners_off v p reason (v (Links p))) (among_both rest_sorts watchers name (watchers_off v p reason (v (Watchers p))) (name_off p (v (NameOf p))))) in
     after_both (tables_pass v p (v (Owned p))) rest w c ∙ stays rest (after (tables_pass v p (v (Owned p))) w) c (untouched_by rest_sorts rest c among other)
 
@@ -155,9 +155,9 @@ end_passes v w p reason t = rest_off (Table t) v w p reason refl ∙ all_pass p 
 
 pub passes_tables : PassesTables
 unfolding contents
-passes_tables h p (Ended reason) t is = end_passes (changed (Dies p) (contents h)) _ p reason t
-passes_tables h p RanAway t is = end_passes (changed (Dies p) (contents h)) _ p runaway t
-passes_tables h p (EndedItself kind arguments reason) t is = end_passes (changed (Dies p) (contents h)) _ p reason t
+passes_tables h p (Ended reason) t is = end_passes (changed (AliveCleared p) (contents h)) _ p reason t
+passes_tables h p RanAway t is = end_passes (changed (AliveCleared p) (contents h)) _ p runaway t
+passes_tables h p (EndedItself kind arguments reason) t is = end_passes (changed (AliveCleared p) (contents h)) _ p reason t
 passes_tables h p deed t is = absurd is
 
 -- ---- and of its rows
@@ -166,7 +166,7 @@ rows_twice : (heir : Heir) (xs : List Object) → row_passed heir (row_passed he
 rows_twice None xs = refl
 rows_twice (Some heir) xs = refl
 
-freed_row : (b : Bool) (name : Name) (w : Contents) (t : Ref) (k : Key) → after (if b then Frees name ∷ [] else []) w (Row t k) ≡ w (Row t k)
+freed_row : (b : Bool) (name : Name) (w : Contents) (t : Ref) (k : Key) → after (if b then TableNameCleared name ∷ [] else []) w (Row t k) ≡ w (Row t k)
 freed_row true name w t k = refl
 freed_row false name w t k = refl
 
@@ -187,7 +187,7 @@ rows_pass v w p reason t k = rest_off (Row t k) v w p reason refl ∙ all_pass p
 
 pub passes_rows : PassesRows
 unfolding contents
-passes_rows h p (Ended reason) t k is = rows_pass (changed (Dies p) (contents h)) _ p reason t k
-passes_rows h p RanAway t k is = rows_pass (changed (Dies p) (contents h)) _ p runaway t k
-passes_rows h p (EndedItself kind arguments reason) t k is = rows_pass (changed (Dies p) (contents h)) _ p reason t k
+passes_rows h p (Ended reason) t k is = rows_pass (changed (AliveCleared p) (contents h)) _ p reason t k
+passes_rows h p RanAway t k is = rows_pass (changed (AliveCleared p) (contents h)) _ p runaway t k
+passes_rows h p (EndedItself kind arguments reason) t k is = rows_pass (changed (AliveCleared p) (contents h)) _ p reason t k
 passes_rows h p deed t k is = absurd is

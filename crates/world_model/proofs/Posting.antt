@@ -5,11 +5,11 @@ use Rattle.term_core.specs.declared.step.Step.{Step}
 use Rattle.term_core.specs.declared.step.Step.TheVariants.{Deliver, Turn}
 use Rattle.world_model.specs.Calls.{Call, Spawn, Send, ToNobody, ToProcess, ToName, SendExit, Link, Unlink, Monitor, Demonitor, Flag, Register, Unregister, WhereIs, IsAlive, MakeRef, New, OnTable, Misfit, GiveAway, Lookup, Member, LookupElement, First, Last, Next, Prev, ToList, Insert, InsertNew, DeleteTable, DeleteKey, DeleteObject, DeleteAll, Take, UpdateCounter, UpdateElement, SetOptions, Info, call_of}
 use Rattle.world_model.specs.Cells.{Contents, Alive, Tail, Holder, Links, Trap, Owned, Table, Watchers, NameOf}
-use Rattle.world_model.specs.Changes.{Change, Puts, after, changed, Dies, Frees, Empties}
+use Rattle.world_model.specs.Changes.{Change, SignalPut, after, changed, AliveCleared, TableNameCleared, OwnedCleared}
 use Rattle.world_model.specs.Ends.{passed, table_passes, tables_pass, partners_told, watchers_told, name_left, left_by, living_heir}
 use Rattle.world_model.specs.Events.{Signal, Message, Exit, History, LinkExit, Down, Fate, Delivered, Arrives, IsIgnored, IsDropped, Kills, Deed, Served, Refused, EndedItself, Ended, Received, TimedOut, RanAway}
-use Rattle.world_model.specs.Found.{Found, find}
-use Rattle.world_model.specs.Judging.{found_line}
+use Rattle.world_model.specs.TableAccess.{Found, find}
+use Rattle.world_model.specs.TableRules.{found_line}
 use Rattle.world_model.specs.Lines.{line}
 use Rattle.world_model.specs.Mail.{signals_to}
 use Rattle.world_model.specs.Names.{Pid, same_pid, Ref, Name}
@@ -32,7 +32,7 @@ put_first false x all xs ys e = e
 
 both_put : (s r : Pid) (ks ls : List Change) → signals_to s r (ks ++ ls) ≡ signals_to s r ks ++ signals_to s r ls
 both_put s r [] ls = refl
-both_put s r (Puts t u x ∷ ks) ls = put_first (same_pid t s && same_pid u r) x (signals_to s r (ks ++ ls)) (signals_to s r ks) (signals_to s r ls) (both_put s r ks ls)
+both_put s r (SignalPut t u x ∷ ks) ls = put_first (same_pid t s && same_pid u r) x (signals_to s r (ks ++ ls)) (signals_to s r ks) (signals_to s r ls) (both_put s r ks ls)
 both_put s r (k ∷ ks) ls = both_put s r ks ls
 
 -- changes that leave a tail as it is put nothing there
@@ -125,7 +125,7 @@ call_put h p Misfit s r = refl
 
 -- ---- ends
 
-freed_put : (b : Bool) (name : Name) (s r : Pid) → signals_to s r (if b then Frees name ∷ [] else []) ≡ []
+freed_put : (b : Bool) (name : Name) (s r : Pid) → signals_to s r (if b then TableNameCleared name ∷ [] else []) ≡ []
 freed_put true name s r = refl
 freed_put false name s r = refl
 
@@ -133,44 +133,44 @@ heir_by : (b : Bool) (p : Pid) (t : Ref) (table : tables.Table) (heir : Pid × M
 heir_by true p t table heir s r = refl
 heir_by false p t table heir s r = freed_put table.is_named table.name s r
 
-heir_put : (v : Contents) (p : Pid) (t : Ref) (table : tables.Table) (heir : Heir) (s r : Pid) → signals_to s r (passed p t table (living_heir (changed (Dies p) v) heir)) ≡ put_for_heir v p t table heir s r
+heir_put : (v : Contents) (p : Pid) (t : Ref) (table : tables.Table) (heir : Heir) (s r : Pid) → signals_to s r (passed p t table (living_heir (changed (AliveCleared p) v) heir)) ≡ put_for_heir v p t table heir s r
 heir_put v p t table None s r = freed_put table.is_named table.name s r
 heir_put v p t table (Some heir) s r = heir_by (outlives v p heir.0) p t table heir s r
 
-table_put : (v : Contents) (p : Pid) (t : Ref) (o : Option tables.Table) (s r : Pid) → signals_to s r (table_passes (changed (Dies p) v) p t o) ≡ put_for_table v p t o s r
+table_put : (v : Contents) (p : Pid) (t : Ref) (o : Option tables.Table) (s r : Pid) → signals_to s r (table_passes (changed (AliveCleared p) v) p t o) ≡ put_for_table v p t o s r
 table_put v p t None s r = refl
 table_put v p t (Some table) s r = heir_put v p t table table.heir s r
 
-heirs_put : (v : Contents) (p : Pid) (ts : List Ref) (s r : Pid) → signals_to s r (tables_pass (changed (Dies p) v) p ts) ≡ put_for_heirs v p ts s r
+heirs_put : (v : Contents) (p : Pid) (ts : List Ref) (s r : Pid) → signals_to s r (tables_pass (changed (AliveCleared p) v) p ts) ≡ put_for_heirs v p ts s r
 heirs_put v p [] s r = refl
 heirs_put v p (t ∷ ts) s r =
-    both_put s r (table_passes (changed (Dies p) v) p t (v (Table t))) (tables_pass (changed (Dies p) v) p ts)
+    both_put s r (table_passes (changed (AliveCleared p) v) p t (v (Table t))) (tables_pass (changed (AliveCleared p) v) p ts)
     ∙ (λ i. table_put v p t (v (Table t)) s r i ++ heirs_put v p ts s r i)
 
-partners_put : (v : Contents) (p : Pid) (reason : Meaning) (qs : List Pid) (s r : Pid) → signals_to s r (partners_told (changed (Dies p) v) p reason qs) ≡ put_for_partners v p reason qs s r
+partners_put : (v : Contents) (p : Pid) (reason : Meaning) (qs : List Pid) (s r : Pid) → signals_to s r (partners_told (changed (AliveCleared p) v) p reason qs) ≡ put_for_partners v p reason qs s r
 partners_put v p reason [] s r = refl
 partners_put v p reason (q ∷ qs) s r =
-    both_put s r (put_if (outlives v p q) p q (LinkExit reason)) (partners_told (changed (Dies p) v) p reason qs)
+    both_put s r (put_if (outlives v p q) p q (LinkExit reason)) (partners_told (changed (AliveCleared p) v) p reason qs)
     ∙ (λ i. if_put (outlives v p q) p q (LinkExit reason) s r i ++ partners_put v p reason qs s r i)
 
-watchers_put : (v : Contents) (p : Pid) (reason : Meaning) (refs : List Ref) (s r : Pid) → signals_to s r (watchers_told (changed (Dies p) v) p reason refs) ≡ put_for_watchers v p reason refs s r
+watchers_put : (v : Contents) (p : Pid) (reason : Meaning) (refs : List Ref) (s r : Pid) → signals_to s r (watchers_told (changed (AliveCleared p) v) p reason refs) ≡ put_for_watchers v p reason refs s r
 watchers_put v p reason [] s r = refl
 watchers_put v p reason (ref ∷ refs) s r =
-    both_put s r (put_if (outlives v p ref.pid) p ref.pid (Down ref reason)) (watchers_told (changed (Dies p) v) p reason refs)
+    both_put s r (put_if (outlives v p ref.pid) p ref.pid (Down ref reason)) (watchers_told (changed (AliveCleared p) v) p reason refs)
     ∙ (λ i. if_put (outlives v p ref.pid) p ref.pid (Down ref reason) s r i ++ watchers_put v p reason refs s r i)
 
 name_put : (p : Pid) (o : Option Name) (s r : Pid) → signals_to s r (name_left p o) ≡ []
 name_put p None s r = refl
 name_put p (Some name) s r = refl
 
-end_put : (v : Contents) (p : Pid) (reason : Meaning) (s r : Pid) → signals_to s r (left_by (changed (Dies p) v) p reason) ≡ put_by_end v p reason s r
+end_put : (v : Contents) (p : Pid) (reason : Meaning) (s r : Pid) → signals_to s r (left_by (changed (AliveCleared p) v) p reason) ≡ put_by_end v p reason s r
 end_put v p reason s r =
-    let w = changed (Dies p) v in
+    let w = changed (AliveCleared p) v in
     let gifts = tables_pass w p (v (Owned p)) in
     let partners = partners_told w p reason (v (Links p)) in
     let watchers = watchers_told w p reason (v (Watchers p)) in
     let name = name_left p (v (NameOf p)) in
-    both_put s r gifts (Empties p ∷ (partners ++ (watchers ++ name)))
+    both_put s r gifts (OwnedCleared p ∷ (partners ++ (watchers ++ name)))
     ∙ (λ i. heirs_put v p (v (Owned p)) s r i ++ both_put s r partners (watchers ++ name) i)
     ∙ (λ i. put_for_heirs v p (v (Owned p)) s r ++ (partners_put v p reason (v (Links p)) s r i ++ both_put s r watchers name i))
     ∙ (λ i. put_for_heirs v p (v (Owned p)) s r ++ (put_for_partners v p reason (v (Links p)) s r ++ (watchers_put v p reason (v (Watchers p)) s r i ++ name_put p (v (NameOf p)) s r i)))

@@ -2,21 +2,21 @@
 use Rattle.std.proofs.Common.{true≢false, ◌≡◌, Bool, true, false, ◌&&◌, List, [], ◌∷◌, ◌++◌, map, ap, Option, Some, None, refl, ◌∙◌, if◌then◌else◌}
 use Rattle.std.specs.List.{cons_option}
 use Rattle.std.specs.Option.{option_or}
-use Rattle.eval_rules.specs.Asked as answered
+use Rattle.core_semantics.specs.Asked as answered
 use Rattle.world_model.specs.Calls.{Lookup, Member, LookupElement, First, Last, Next, Prev, ToList, Insert, InsertNew, DeleteTable, DeleteKey, DeleteObject, DeleteAll, Take, UpdateCounter, UpdateElement, GiveAway, SetOptions, Info, TableCall}
 use Rattle.world_model.specs.Cells.{Table, Row, Rows, Contents, meet}
-use Rattle.world_model.specs.Changes.{Change, cell_of, Inherits, Frees, after, changed, Goes, Wipes, Loses, Turns}
-use Rattle.world_model.specs.Found.{Found}
-use Rattle.world_model.specs.Judging.{found_line}
+use Rattle.world_model.specs.Changes.{Change, cell_of, HeirSet, TableNameCleared, after, changed, TableRemoved, RowsCleared, OwnedRemoved, TurnTaken}
+use Rattle.world_model.specs.TableAccess.{Found}
+use Rattle.world_model.specs.TableRules.{found_line}
 use Rattle.world_model.specs.Lines.{line}
 use Rattle.world_model.specs.Names.{Ref, Name, same_ref, Pid}
 use Rattle.world_model.specs.Objects.{stored_at, stores, removed_at, removes, given, one_present, keys_asked, place_of, sum_of}
-use Rattle.world_model.specs.Owning.{heirs_set}
+use Rattle.world_model.specs.Ownership.{heirs_set}
 use Rattle.world_model.specs.Rows.{stored, Object, Key, parts_at, part_at, same_key, rewritten, Removes, altered}
 use Rattle.world_model.specs.RowsLeft.{rows_in, unless_present, key_of_object, WritesRows, under_key, is_key, stored_all, rows_left, LeavesRows, replaced, KeepsTheLast, last_with}
 use Rattle.world_model.specs.TableLines.{table_line}
 use Rattle.world_model.specs.Tables.{Heir, is_bag}
-use Rattle.world_model.specs.Touch.{cells_of}
+use Rattle.world_model.specs.RowFootprints.{cells_of}
 use Rattle.world_model.specs.World.{contents}
 use Rattle.world_model.specs.declared.rule.Rule.{Rule}
 use Rattle.world_model.specs.declared.rule.Rule.TheVariants.{BagRefused, BadPosition}
@@ -52,7 +52,7 @@ not_served : (b : Bool) (r s : Rule) → (if b then Some r else Some s) ≡ None
 not_served true r s e = absurd cc
 not_served false r s e = absurd cc
 
-heirs_write : (t : Ref) (hs : List Heir) → rows_in (map cell_of (map (Inherits t) hs)) ≡ []
+heirs_write : (t : Ref) (hs : List Heir) → rows_in (map cell_of (map (HeirSet t) hs)) ≡ []
 heirs_write t [] = refl
 heirs_write t (h ∷ hs) = heirs_write t hs
 
@@ -60,7 +60,7 @@ set_write : (t : Ref) (hs : List Heir) → rows_in (map cell_of (heirs_set t hs)
 set_write t [] = refl
 set_write t (h ∷ hs) = heirs_write t (h ∷ hs)
 
-freed_write : (b : Bool) (name : Name) → rows_in (map cell_of (if b then Frees name ∷ [] else [])) ≡ []
+freed_write : (b : Bool) (name : Name) → rows_in (map cell_of (if b then TableNameCleared name ∷ [] else [])) ≡ []
 freed_write true name = refl
 freed_write false name = refl
 
@@ -114,7 +114,7 @@ new_leaves f os v k false = stores_leave f os v k
 wiped_here : (t : Ref) (xs : List Object) → (if same_ref t t then [] else xs) ≡ []
 wiped_here t xs = ap (λ b. if b then [] else xs) (ref_itself t)
 
-freed_leaves : (b : Bool) (name : Name) (v : Contents) (t : Ref) (k : Key) → after (if b then Frees name ∷ [] else []) v (Row t k) ≡ v (Row t k)
+freed_leaves : (b : Bool) (name : Name) (v : Contents) (t : Ref) (k : Key) → after (if b then TableNameCleared name ∷ [] else []) v (Row t k) ≡ v (Row t k)
 freed_leaves true name v t k = refl
 freed_leaves false name v t k = refl
 
@@ -122,9 +122,9 @@ removed_leaves : (f : Found) (o : Object) (x : Option Key) (v : Contents) (k : K
 removed_leaves f o None v k = refl
 removed_leaves f o (Some x) v k = here f.ref (same_key x k) (rewritten (Removes o) (v (Row f.ref k))) (v (Row f.ref k))
 
-heirs_leave : (t : Ref) (hs : List Heir) (v : Contents) (k : Key) → after (map (Inherits t) hs) v (Row t k) ≡ v (Row t k)
+heirs_leave : (t : Ref) (hs : List Heir) (v : Contents) (k : Key) → after (map (HeirSet t) hs) v (Row t k) ≡ v (Row t k)
 heirs_leave t [] v k = refl
-heirs_leave t (h ∷ hs) v k = heirs_leave t hs (changed (Inherits t h) v) k
+heirs_leave t (h ∷ hs) v k = heirs_leave t hs (changed (HeirSet t h) v) k
 
 set_leaves : (t : Ref) (hs : List Heir) (v : Contents) (k : Key) → after (heirs_set t hs) v (Row t k) ≡ v (Row t k)
 set_leaves t [] v k = either_way (meet (Table t) (Row t k)) (v (Row t k))
@@ -137,7 +137,7 @@ same_twice false xs = refl
 pub call_leaves_rows : (v w : Contents) (p : Pid) (f : Found) (call : TableCall) (k : Key) → after (table_line v p f call).changes w (Row f.ref k) ≡ rows_left v p f call k (w (Row f.ref k))
 call_leaves_rows v w p f (Insert objects) k = stores_leave f (given objects) w k
 call_leaves_rows v w p f (InsertNew objects) k = new_leaves f (given objects) w k (one_present v f.ref (keys_asked p f objects))
-call_leaves_rows v w p f DeleteTable k = freed_leaves f.table.is_named f.table.name (after (Goes f.ref ∷ Wipes f.ref ∷ Loses f.table.owner f.ref ∷ []) w) f.ref k ∙ wiped_here f.ref (w (Row f.ref k))
+call_leaves_rows v w p f DeleteTable k = freed_leaves f.table.is_named f.table.name (after (TableRemoved f.ref ∷ RowsCleared f.ref ∷ OwnedRemoved f.table.owner f.ref ∷ []) w) f.ref k ∙ wiped_here f.ref (w (Row f.ref k))
 call_leaves_rows v w p f (DeleteKey key) k = here f.ref (same_key key k) [] (w (Row f.ref k))
 call_leaves_rows v w p f (DeleteObject None) k = refl
 call_leaves_rows v w p f (DeleteObject (Some o)) k = removed_leaves f o (part_at f.table.position o) w k
@@ -155,7 +155,7 @@ call_leaves_rows v w p f call k = refl
 pub leaves_rows : LeavesRows
 unfolding contents
 leaves_rows h p kind arguments argument call answer f key is_call is =
-    let w = changed (Turns p (answered.Value answer ∷ [])) (contents h) in
+    let w = changed (TurnTaken p (answered.Value answer ∷ [])) (contents h) in
     ap (λ c. after (line (contents h) p c).changes w (Row f.ref key)) is_call
     ∙ ap (λ o. after (found_line (contents h) p call o).changes w (Row f.ref key)) is
     ∙ call_leaves_rows (contents h) w p f call key

@@ -5,17 +5,17 @@ use Rattle.std.specs.Prelude.{true, false, List, ◌∷◌, ◌==◌, ◌≡◌,
 use Rattle.term_core.specs.Meaning.{Meaning}
 use Rattle.world_model.specs.Calls.{Call, Spawn, SpawnWay, Alone, Link, Linked, Watched, TableCall, Insert, InsertNew, New, DeleteTable, DeleteKey, DeleteObject, DeleteAll, Take, UpdateCounter, UpdateElement, GiveAway, SetOptions, Send, ToNobody, ToProcess, ToName, SendExit, Unlink, Monitor, Demonitor, Flag, Register, Unregister, WhereIs, IsAlive, MakeRef, OnTable, Misfit, First}
 use Rattle.world_model.specs.Cells.{Watch, Alive, Cell, meet, Row, Tail, Contents, Holder, Links, Trap, TableName, Machine, Taken, Mailed, Front}
-use Rattle.world_model.specs.Changes.{Change, cell_of, Inherits, after, is_of_watch}
+use Rattle.world_model.specs.Changes.{Change, cell_of, HeirSet, after, is_of_watch}
 use Rattle.world_model.specs.Ends.{name_freed}
 use Rattle.world_model.specs.Events.{Exit, Signal, Message}
-use Rattle.world_model.specs.Found.{Found, find}
-use Rattle.world_model.specs.Judging.{found_line}
+use Rattle.world_model.specs.TableAccess.{Found, find}
+use Rattle.world_model.specs.TableRules.{found_line}
 use Rattle.world_model.specs.Lines.{line}
 use Rattle.world_model.specs.Mailboxes.{mailbox_in, selected_of}
 use Rattle.world_model.specs.Names.{Name, Ref, Pid, same_pid}
 use Rattle.world_model.specs.NewTables.{new_line, new_rule}
 use Rattle.world_model.specs.Objects.{stored_at, stores, removed_at, given, one_present, keys_asked}
-use Rattle.world_model.specs.Owning.{heirs_set}
+use Rattle.world_model.specs.Ownership.{heirs_set}
 use Rattle.world_model.specs.ProcessLines.{sent, bound, exited, sent_to_holder, LinkWay, link_changes, Stands, Pairs, PairsGone, Fails, gone_told, watch_ends, flushed, unregister_line, next_child, next_ref, link_way}
 use Rattle.world_model.specs.Requests.{Origin}
 use Rattle.world_model.specs.Rows.{Key, Object, part_at}
@@ -116,7 +116,7 @@ removed_among : (f : Found) (o : Object) (k : Option Key) → AllAmong (14 ∷ [
 removed_among f o None = tt
 removed_among f o (Some k) = (refl, tt)
 
-heirs_among : (t : Ref) (hs : List Heir) → AllAmong (12 ∷ []) (map (Inherits t) hs)
+heirs_among : (t : Ref) (hs : List Heir) → AllAmong (12 ∷ []) (map (HeirSet t) hs)
 heirs_among t [] = tt
 heirs_among t (h ∷ hs) = (refl, heirs_among t hs)
 

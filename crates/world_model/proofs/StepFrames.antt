@@ -6,10 +6,10 @@ use Rattle.term_core.specs.Meaning.{Meaning}
 use Rattle.term_core.specs.declared.step.Step.{Step}
 use Rattle.term_core.specs.declared.step.Step.TheVariants.{Turn, Deliver}
 use Rattle.core_calls.specs.declared.call.CallKind.{CallKind}
-use Rattle.eval_rules.specs.Asked as answered
+use Rattle.core_semantics.specs.Asked as answered
 use Rattle.world_model.specs.Calls.{Call, SendExit, IsAlive, call_of}
 use Rattle.world_model.specs.Cells.{Contents, Trap, Alive, Machine, Front, Links}
-use Rattle.world_model.specs.Changes.{Turns, Change, after, Fetches}
+use Rattle.world_model.specs.Changes.{TurnTaken, Change, after, SignalDelivered}
 use Rattle.world_model.specs.Ends.{reads_of_end}
 use Rattle.world_model.specs.Events.{Exit, Refusal, Served, EndedItself, Ended, Deed, RanAway, Signal, Message, LinkExit, Down, Fate, Arrives, IsIgnored, IsDropped, Kills, Delivered}
 use Rattle.world_model.specs.Frames.{Sees, AgreeOn}
@@ -42,22 +42,22 @@ must_wait_framed v w p (IsAlive (Some q)) agree = λ i. agree.0.0 i && is_some (
 must_wait_framed v w p (IsAlive None) agree = refl
 must_wait_framed v w p call agree = refl
 
--- what a call comes to
+-- what a call results in
 judged_framed : (v w : Contents) (p : Pid) (kind : CallKind) (arguments : List Meaning) (r : Option Refusal) (x : Meaning) → line v p (call_of kind arguments) ≡ line w p (call_of kind arguments) → with_changes v (Turn p) (judged kind arguments r x) ≡ with_changes w (Turn p) (judged kind arguments r x)
-judged_framed v w p kind arguments None x same = λ i. (Served kind arguments x, Turns p (answered.Value x ∷ []) ∷ (same i).changes)
+judged_framed v w p kind arguments None x same = λ i. (Served kind arguments x, TurnTaken p (answered.Value x ∷ []) ∷ (same i).changes)
 judged_framed v w p kind arguments (Some refusal) x same = refl
 
 ended_framed : (v w : Contents) (p : Pid) (kind : CallKind) (arguments : List Meaning) (o : Option Meaning) (r : Option Refusal) (x : Meaning) → line v p (call_of kind arguments) ≡ line w p (call_of kind arguments) → AgreeOn v w (reads_if_ended v p o) → (with_changes v (Turn p) (ended_or kind arguments o (judged kind arguments r x)) ≡ with_changes w (Turn p) (ended_or kind arguments o (judged kind arguments r x))) × (reads_if_ended v p o ≡ reads_if_ended w p o)
 ended_framed v w p kind arguments None r x same agree = (judged_framed v w p kind arguments r x same, refl)
 ended_framed v w p kind arguments (Some reason) r x same agree =
     let end = ends_framed v w p reason (same_of v w (reads_of_end v p) agree) in
-    ((λ i. (EndedItself kind arguments reason, Turns p [] ∷ end.0 i)), end.1)
+    ((λ i. (EndedItself kind arguments reason, TurnTaken p [] ∷ end.0 i)), end.1)
 
 waiting_framed : (v w : Contents) (s : Step) (b : Bool) (d : Deed) → with_changes v s d ≡ with_changes w s d → option_map (with_changes v s) (if b then None else Some d) ≡ option_map (with_changes w s) (if b then None else Some d)
 waiting_framed v w s true d same = refl
 waiting_framed v w s false d same = ap Some same
 
--- what a turn of a process that asks this comes to
+-- what a turn of a process that asks this results in
 abbrev comes : Contents → Pid → Request → Option Outcome
 comes v p q = option_map (with_changes v (Turn p)) (deed_asked v p q)
 
@@ -88,10 +88,10 @@ request_framed v w p (Receives waits selects) machine agree =
     (received_framed v w p waits (selected_of selects (mailbox_in v p)) ∙ (λ i. option_map (with_changes w (Turn p)) (received waits (same i))), ap (reads_to_pick p) same)
 request_framed v w p (Ends reason) machine agree =
     let end = ends_framed v w p reason (same_of v w (reads_of_end v p) agree) in
-    ((λ i. Some ((Ended reason, Turns p [] ∷ end.0 i))), end.1)
+    ((λ i. Some ((Ended reason, TurnTaken p [] ∷ end.0 i))), end.1)
 request_framed v w p RunsAway machine agree =
     let end = ends_framed v w p runaway (same_of v w (reads_of_end v p) agree) in
-    ((λ i. Some ((RanAway, Turns p [] ∷ end.0 i))), end.1)
+    ((λ i. Some ((RanAway, TurnTaken p [] ∷ end.0 i))), end.1)
 
 -- ---- turns
 
@@ -108,7 +108,7 @@ turn_framed a v w p agree =
 
 -- ---- deliveries
 
--- the flag is read where the link stands, and else it is the same to it
+-- the flag is read where the link is there, and else it makes no difference
 link_framed : (v w : Contents) (s r : Pid) (reason : Meaning) (stands : Bool) → AgreeOn v w (trap_if stands r) → link_fate stands (v (Trap r)) s reason ≡ link_fate stands (w (Trap r)) s reason
 link_framed v w s r reason true agree = ap (λ traps. link_fate true traps s reason) agree.0.0
 link_framed v w s r reason false agree = refl
@@ -141,7 +141,7 @@ signal_framed v w s r (Some x) agree =
     let parts = agree_parts v w (reads_of_fate v s r x) (reads_if_killed (after ks v) r (fate_of v s r x)) agree in
     let fates = fate_framed v w s r x parts.0 in
     let effect = effect_framed ks v w r (fate_of v s r x) (same_of v w (reads_if_killed (after ks v) r (fate_of v s r x)) parts.1) in
-    ((λ i. Some ((Delivered x (fates i), Fetches s r ∷ (ks ++ (effect.0 ∙ ap (changes_of_fate (after ks w) r) fates) i)))), (λ i. fate_reads_framed v w s r x parts.0 i ++ (effect.1 ∙ ap (reads_if_killed (after ks w) r) fates) i))
+    ((λ i. Some ((Delivered x (fates i), SignalDelivered s r ∷ (ks ++ (effect.0 ∙ ap (changes_of_fate (after ks w) r) fates) i)))), (λ i. fate_reads_framed v w s r x parts.0 i ++ (effect.1 ∙ ap (reads_if_killed (after ks w) r) fates) i))
 
 first_framed : (v w : Contents) (s r : Pid) (o : Option Signal) → first_of (waiting_in v s r) ≡ o → Sees v w (Front s r) → AgreeOn v w (reads_of_signal v s r o) → first_of (waiting_in w s r) ≡ o
 first_framed v w s r None is front agree = sym (λ i. first_of (drop (front.0 i) (agree.0.0 i))) ∙ is

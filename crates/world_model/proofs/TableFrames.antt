@@ -6,13 +6,13 @@ use Rattle.std.specs.Prelude.{Option, ◌||◌, if◌then◌else◌, ◌≡◌, 
 use Rattle.term_core.specs.Meaning.{Meaning}
 use Rattle.world_model.specs.Calls.{TableArgument, ByName, ByReference, ByNothing, has_items, GiveAway, TableCall, Lookup, Member, LookupElement, First, Last, Next, Prev, ToList, Insert, InsertNew, DeleteTable, DeleteKey, DeleteObject, DeleteAll, Take, UpdateCounter, UpdateElement, SetOptions, Info}
 use Rattle.world_model.specs.Cells.{Cell, Contents, TableName, Row}
-use Rattle.world_model.specs.Changes.{Writes}
-use Rattle.world_model.specs.Found.{Found, find, meant, table_if, as_found, reads_of_find, unless_named, allowed_at, is_table_argument}
+use Rattle.world_model.specs.Changes.{RowWritten}
+use Rattle.world_model.specs.TableAccess.{Found, find, meant, table_if, as_found, reads_of_find, unless_named, access_rule_at, is_table_argument}
 use Rattle.world_model.specs.Frames.{AgreeOn}
-use Rattle.world_model.specs.Judging.{target_read, rows_of_found, found_line, refusal_by, table_reads, on_table_line}
+use Rattle.world_model.specs.TableRules.{target_read, rows_of_found, found_line, refusal_by, table_reads, on_table_line}
 use Rattle.world_model.specs.Names.{Ref, Pid}
 use Rattle.world_model.specs.Objects.{one_present, element_rule, element_answer, keys_asked, update_rule, alters}
-use Rattle.world_model.specs.Owning.{target_rule, gift_rule, gives_to}
+use Rattle.world_model.specs.Ownership.{target_rule, gift_rule, gives_to}
 use Rattle.world_model.specs.ProcessLines.{CallLine, serves_unless}
 use Rattle.world_model.specs.Rows.{Key, all_objects, tuples, Clears}
 use Rattle.world_model.specs.Signals.{first_of}
@@ -21,7 +21,7 @@ use Rattle.world_model.specs.TableLines as lines
 use Rattle.world_model.specs.TableLines.{unless, table_line, gives, rows_read, counter_line, insert_new_line}
 use Rattle.world_model.specs.Tables as tables
 use Rattle.world_model.specs.Terms.{ok, number, truth}
-use Rattle.world_model.specs.Touch.{cells_of}
+use Rattle.world_model.specs.RowFootprints.{cells_of}
 use Rattle.world_model.specs.Walks.{read_by_item, item_value, key_or_end, last_key, walk_rule, key_after, key_before, item_rule}
 use Rattle.world_model.specs.declared.rule.Rule.TheVariants.{BadTable}
 use Rattle.world_model.specs.declared.table.Item.{Item}
@@ -74,7 +74,7 @@ table_framed v w p f DeleteTable to none = refl
 table_framed v w p f (DeleteKey key) to row = refl
 table_framed v w p f (DeleteObject object) to none = refl
 table_framed v w p f DeleteAll to none = refl
-table_framed v w p f (Take key) to row = λ i. gives (tuples (row.0.0 i)) (Writes f.ref key Clears ∷ [])
+table_framed v w p f (Take key) to row = λ i. gives (tuples (row.0.0 i)) (RowWritten f.ref key Clears ∷ [])
 table_framed v w p f (UpdateCounter key increment) to row = λ i. counter_line f key increment (row.0.0 i)
 table_framed v w p f (UpdateElement key change) to row = λ i. unless (update_rule f.table change (row.0.0 i)) (truth (has_items (row.0.0 i))) (alters f.ref key change)
 table_framed v w p f (GiveAway to gift) read none = λ i. unless (target_framed v w f.table to gift read i) ok (gives_to f to gift)
@@ -85,7 +85,7 @@ table_framed v w p f (Info item) to seen = λ i. unless (item_rule item) (item_f
 
 found_framed : (v w : Contents) (p : Pid) (call : TableCall) (o : Option Found) → AgreeOn v w (target_read call) → AgreeOn v w (rows_of_found p call o) → found_line v p call o ≡ found_line w p call o
 found_framed v w p call None to rows = refl
-found_framed v w p call (Some f) to rows = ap (λ l. unless (option_or (allowed_at p f call) l.rule) l.answer l.changes) (table_framed v w p f call to rows)
+found_framed v w p call (Some f) to rows = ap (λ l. unless (option_or (access_rule_at p f call) l.rule) l.answer l.changes) (table_framed v w p f call to rows)
 
 -- the line, by what is found and what that gives
 abbrev with_found : TableArgument → Option Found → lines.Line → List Cell → CallLine

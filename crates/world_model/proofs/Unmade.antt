@@ -1,4 +1,4 @@
--- What makes a table or a watch: what is not there stays away, but for a new one.
+-- What makes a table or a watch: what is not there stays away, except for a new one.
 use Rattle.std.proofs.Common.{◌≡◌, Bool, true, false, List, [], ◌∷◌, map, ap, Option, Some, None, refl, ◌∙◌, if◌then◌else◌}
 use Rattle.std.specs.Prelude.{option_map}
 use Rattle.term_core.specs.Meaning.{Meaning}
@@ -6,17 +6,17 @@ use Rattle.term_core.specs.declared.step.Step.{Step}
 use Rattle.term_core.specs.declared.step.Step.TheVariants.{Turn, Deliver}
 use Rattle.world_model.specs.Calls.{Call, New, call_of, TableCall, DeleteTable, GiveAway, SetOptions, OnTable, Spawn, Monitor, SpawnWay, Alone, Linked, Watched, Demonitor}
 use Rattle.world_model.specs.Cells.{Table, Contents, meet, TableName, Watch, Watchers, Alive}
-use Rattle.world_model.specs.Changes.{is_of_watch, after, Inherits, changed, Frees, Goes, Wipes, Loses, Dies, Halts, Fetches, Unwatches, Sheds, Touches}
+use Rattle.world_model.specs.Changes.{is_of_watch, after, HeirSet, changed, TableNameCleared, TableRemoved, RowsCleared, OwnedRemoved, AliveCleared, MachineHalted, SignalDelivered, WatchCleared, WatcherRemoved, CellTouched}
 use Rattle.world_model.specs.Ends.{ends}
 use Rattle.world_model.specs.Events.{Deed, Served, Signal, Message, Exit, LinkExit, Down, Fate, Arrives, IsIgnored, IsDropped, Kills, Refused, Ended, EndedItself, Received, TimedOut, RanAway, Delivered}
-use Rattle.world_model.specs.Found.{Found, find}
-use Rattle.world_model.specs.Judging.{found_line}
+use Rattle.world_model.specs.TableAccess.{Found, find}
+use Rattle.world_model.specs.TableRules.{found_line}
 use Rattle.world_model.specs.Lines.{line}
 use Rattle.world_model.specs.Mailboxes.{mailbox_in, selected_of}
 use Rattle.world_model.specs.Names.{Pid, Ref, same_ref, Name, same_pid}
 use Rattle.world_model.specs.NewTables.{means_if, new_line, new_rule}
-use Rattle.world_model.specs.Owners.{table_passed}
-use Rattle.world_model.specs.Owning.{heirs_set}
+use Rattle.world_model.specs.OwnershipLaws.{table_passed}
+use Rattle.world_model.specs.Ownership.{heirs_set}
 use Rattle.world_model.specs.ProcessLines.{next_ref, bound, gone_told, flushed, watch_ends, next_child}
 use Rattle.world_model.specs.Signals.{goes_with}
 use Rattle.world_model.specs.Steps.{changes_of_fate, changes_by, runaway}
@@ -53,20 +53,20 @@ mapped_if false f x is = is
 some_if_not : {A : Type 0} (b : Bool) (y x : Option A) → b ≡ false → (if b then y else x) ≡ x
 some_if_not b y x is = ap (λ c. if c then y else x) is
 
-heirs_none : (u t : Ref) (hs : List Heir) (w : Contents) → w (Table t) ≡ None → after (map (Inherits u) hs) w (Table t) ≡ None
+heirs_none : (u t : Ref) (hs : List Heir) (w : Contents) → w (Table t) ≡ None → after (map (HeirSet u) hs) w (Table t) ≡ None
 heirs_none u t [] w is = is
-heirs_none u t (h ∷ hs) w is = heirs_none u t hs (changed (Inherits u h) w) (mapped_if (same_ref u t) (with_heir h) (w (Table t)) is)
+heirs_none u t (h ∷ hs) w is = heirs_none u t hs (changed (HeirSet u h) w) (mapped_if (same_ref u t) (with_heir h) (w (Table t)) is)
 
 set_none : (u t : Ref) (hs : List Heir) (w : Contents) → w (Table t) ≡ None → after (heirs_set u hs) w (Table t) ≡ None
 set_none u t [] w is = either_way (meet (Table u) (Table t)) (w (Table t)) ∙ is
 set_none u t (h ∷ hs) w is = heirs_none u t (h ∷ hs) w is
 
-freed_none : (b : Bool) (name : Name) (w : Contents) (t : Ref) → after (if b then Frees name ∷ [] else []) w (Table t) ≡ w (Table t)
+freed_none : (b : Bool) (name : Name) (w : Contents) (t : Ref) → after (if b then TableNameCleared name ∷ [] else []) w (Table t) ≡ w (Table t)
 freed_none true name w t = refl
 freed_none false name w t = refl
 
 line_none : (v w : Contents) (p : Pid) (f : Found) (call : TableCall) (t : Ref) → w (Table t) ≡ None → after (table_line v p f call).changes w (Table t) ≡ None
-line_none v w p f DeleteTable t is = freed_none f.table.is_named f.table.name (after (Goes f.ref ∷ Wipes f.ref ∷ Loses f.table.owner f.ref ∷ []) w) t ∙ none_if (same_ref f.ref t) (w (Table t)) is
+line_none v w p f DeleteTable t is = freed_none f.table.is_named f.table.name (after (TableRemoved f.ref ∷ RowsCleared f.ref ∷ OwnedRemoved f.table.owner f.ref ∷ []) w) t ∙ none_if (same_ref f.ref t) (w (Table t)) is
 line_none v w p f (GiveAway None gift_) t is = is
 line_none v w p f (GiveAway (Some to) gift_) t is = mapped_if (same_ref f.ref t) (owned_by to) (w (Table t)) is
 line_none v w p f (SetOptions None) t is = set_none f.ref t [] w is
@@ -97,7 +97,7 @@ left_none true (Some heir) x is = ap (option_map (owned_by heir.0)) is
 left_none false heir x is = is
 
 pub end_none : (v w : Contents) (p : Pid) (reason : Meaning) (t : Ref) → w (Table t) ≡ None → after (ends v p reason) w (Table t) ≡ None
-end_none v w p reason t is = end_passes (changed (Dies p) v) (changed (Dies p) (changed (Halts p reason) w)) p reason t ∙ left_none _ _ (w (Table t)) is
+end_none v w p reason t is = end_passes (changed (AliveCleared p) v) (changed (AliveCleared p) (changed (MachineHalted p reason) w)) p reason t ∙ left_none _ _ (w (Table t)) is
 
 goes_off : (s r : Pid) (t : Ref) (x : Signal) → touches (goes_with s r x) (Table t) ≡ false
 goes_off s r t (Message m) = refl
@@ -122,7 +122,7 @@ table_none v (Turn p) RanAway t other is = end_none v _ p runaway t is
 table_none v (Turn p) (Delivered x f) t other is = is
 table_none v (Deliver s r) (Delivered x f) t other is =
     let ks = goes_with s r x in
-    let w = changed (Fetches s r) v in
+    let w = changed (SignalDelivered s r) v in
     after_both ks (changes_of_fate (after ks v) r f) w (Table t) ∙ fate_none (after ks v) (after ks w) r t f (stays ks w (Table t) (goes_off s r t x) ∙ is)
 table_none v (Deliver s r) deed t other is = is
 
@@ -151,7 +151,7 @@ flush_none false p o ref w = refl
 flush_none true p None ref w = refl
 flush_none true p (Some m) ref w = refl
 
-ends_by : (b : Bool) (q : Pid) (u ref : Ref) (w : Contents) → w (Watch ref) ≡ None → after (if b then Unwatches u ∷ Sheds q u ∷ [] else Touches (Watch u) ∷ Touches (Watchers q) ∷ []) w (Watch ref) ≡ None
+ends_by : (b : Bool) (q : Pid) (u ref : Ref) (w : Contents) → w (Watch ref) ≡ None → after (if b then WatchCleared u ∷ WatcherRemoved q u ∷ [] else CellTouched (Watch u) ∷ CellTouched (Watchers q) ∷ []) w (Watch ref) ≡ None
 ends_by true q u ref w is = none_if (same_ref u ref) (w (Watch ref)) is
 ends_by false q u ref w is = either_way (same_ref u ref) (w (Watch ref)) ∙ is
 
@@ -197,6 +197,6 @@ watch_none v (Turn p) RanAway ref other is = end_leaves v _ p runaway (Watch ref
 watch_none v (Turn p) (Delivered x f) ref other is = is
 watch_none v (Deliver s r) (Delivered x f) ref other is =
     let ks = goes_with s r x in
-    let w = changed (Fetches s r) v in
+    let w = changed (SignalDelivered s r) v in
     after_both ks (changes_of_fate (after ks v) r f) w (Watch ref) ∙ fate_unwatched (after ks v) (after ks w) r ref f (goes_unwatched s r ref x w is)
 watch_none v (Deliver s r) deed ref other is = is

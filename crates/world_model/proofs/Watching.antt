@@ -3,10 +3,10 @@ use Rattle.std.proofs.Common.{◌≡◌, Bool, true, false, [], ◌∷◌, Optio
 use Rattle.term_core.specs.Meaning.{Meaning}
 use Rattle.term_core.specs.declared.step.Step.{Step}
 use Rattle.term_core.specs.declared.step.Step.TheVariants.{Turn, Deliver}
-use Rattle.eval_rules.specs.Asked as answered
+use Rattle.core_semantics.specs.Asked as answered
 use Rattle.world_model.specs.Calls.{Call, Spawn, SpawnWay, Alone, Linked, Watched, Monitor, Demonitor, OnTable, TableCall, First, call_of}
 use Rattle.world_model.specs.Cells.{Contents, Alive, Watch, Watchers}
-use Rattle.world_model.specs.Changes.{Begins, Lives, Unwatches, Sheds, Touches, Turns, Fetches, after, changed, is_of_watch}
+use Rattle.world_model.specs.Changes.{MachineStarted, AliveSet, WatchCleared, WatcherRemoved, CellTouched, TurnTaken, SignalDelivered, after, changed, is_of_watch}
 use Rattle.world_model.specs.Ends.{ends}
 use Rattle.world_model.specs.Events.{Deed, Served, Refused, EndedItself, Ended, Received, TimedOut, RanAway, Delivered, Signal, Message, Exit, LinkExit, Down, Fate, Arrives, IsIgnored, IsDropped, Kills}
 use Rattle.world_model.specs.Lines.{line}
@@ -15,7 +15,7 @@ use Rattle.world_model.specs.Names.{Pid, Ref, same_pid, same_ref}
 use Rattle.world_model.specs.ProcessLines.{bound, flushed, gone_told, next_child, next_ref, watch_begins, watch_ends}
 use Rattle.world_model.specs.Signals.{goes_with}
 use Rattle.world_model.specs.Steps.{changes_of_fate, changes_by, runaway}
-use Rattle.world_model.specs.Told.{is_it}
+use Rattle.world_model.specs.ProcessHistory.{is_it}
 use Rattle.world_model.proofs.Commuting.{either_way}
 use Rattle.world_model.proofs.EndSorts.{after_both, end_leaves}
 use Rattle.world_model.proofs.Listed.{AreListed, all_listed}
@@ -40,9 +40,9 @@ begins_known w u q none before_ =
 abbrev pub IsOf : Contents → Ref → Pid → Type 0
 IsOf v u s = (x : Pid) → is_it (v (Watch u)) x ≡ true → same_pid s x ≡ true
 
-ends_known : (w : Contents) (u : Ref) (s : Pid) → AreListed w → IsOf w u s → Known w → Known (after (Unwatches u ∷ Sheds s u ∷ []) w)
+ends_known : (w : Contents) (u : Ref) (s : Pid) → AreListed w → IsOf w u s → Known w → Known (after (WatchCleared u ∷ WatcherRemoved s u ∷ []) w)
 ends_known w u s sorted of before_ =
-    let ks = Unwatches u ∷ Sheds s u ∷ [] in
+    let ks = WatchCleared u ∷ WatcherRemoved s u ∷ [] in
     match_moves (λ x. w (Watchers x)) (λ x. after ks w (Watchers x)) (λ t. w (Watch t)) (λ t. after ks w (Watch t)) u None (λ x. false) (λ x. same_pid s x)
     (λ x t. lost_has (same_pid s x) u t (w (Watchers x)) (sorted.watches x)) (λ t. refl) (λ x. refl) of before_
 
@@ -71,12 +71,12 @@ flush_watch false p o w t = refl
 flush_watch true p None w t = refl
 flush_watch true p (Some m) w t = refl
 
-ended_by : (b : Bool) (u : Ref) (q : Pid) (w : Contents) → AreListed w → IsOf w u q → Known w → Known (after (if b then Unwatches u ∷ Sheds q u ∷ [] else Touches (Watch u) ∷ Touches (Watchers q) ∷ []) w)
+ended_by : (b : Bool) (u : Ref) (q : Pid) (w : Contents) → AreListed w → IsOf w u q → Known w → Known (after (if b then WatchCleared u ∷ WatcherRemoved q u ∷ [] else CellTouched (Watch u) ∷ CellTouched (Watchers q) ∷ []) w)
 ended_by true u q w sorted of before_ = ends_known w u q sorted of before_
-ended_by false u q w sorted of before_ = known_same w (after (Touches (Watch u) ∷ Touches (Watchers q) ∷ []) w) (λ x. either_way (same_pid q x) (w (Watchers x))) (λ t. either_way (same_ref u t) (w (Watch t))) before_
+ended_by false u q w sorted of before_ = known_same w (after (CellTouched (Watch u) ∷ CellTouched (Watchers q) ∷ []) w) (λ x. either_way (same_pid q x) (w (Watchers x))) (λ t. either_way (same_ref u t) (w (Watch t))) before_
 
 watch_ended : (p : Pid) (u : Ref) (o : Option Pid) (w : Contents) → w (Watch u) ≡ o → AreListed w → Known w → Known (after (watch_ends p u o) w)
-watch_ended p u None w is sorted before_ = known_same w (after (Touches (Watch u) ∷ []) w) (λ x. refl) (λ t. either_way (same_ref u t) (w (Watch t))) before_
+watch_ended p u None w is sorted before_ = known_same w (after (CellTouched (Watch u) ∷ []) w) (λ x. refl) (λ t. either_way (same_ref u t) (w (Watch t))) before_
 watch_ended p u (Some q) w is sorted before_ = ended_by (same_pid u.pid p) u q w sorted (λ x now. sym (ap (λ o. is_it o x) is) ∙ now) before_
 
 no_watchers : (call : TableCall) (q : Pid) → is_among (table_sorts call) (Watchers q) ≡ false
@@ -85,7 +85,7 @@ no_watchers call q = refl
 
 call_known : (v w : Contents) (p : Pid) (call : Call) → ((u : Ref) → w (Watch u) ≡ v (Watch u)) → w (Watch (next_ref v p)) ≡ None → AreListed w → Known w → Known (after (line v p call).changes w)
 call_known v w p (Spawn way None) same none sorted before_ = before_
-call_known v w p (Spawn way (Some origin)) same none sorted before_ = bound_known way p (next_child v p) (next_ref v p) (changed (Lives (next_child v p)) (changed (Begins (next_child v p) origin) w)) none before_
+call_known v w p (Spawn way (Some origin)) same none sorted before_ = bound_known way p (next_child v p) (next_ref v p) (changed (AliveSet (next_child v p)) (changed (MachineStarted (next_child v p) origin) w)) none before_
 call_known v w p (Monitor is_process None) same none sorted before_ = before_
 call_known v w p (Monitor false (Some q)) same none sorted before_ = before_
 call_known v w p (Monitor true (Some q)) same none sorted before_ =
@@ -129,25 +129,25 @@ abbrev pub IsFrom : Contents → Step → Deed → Type 0
 IsFrom v (Deliver s r) (Delivered x f) = ComesFrom v s x
 IsFrom v step deed = Unit {0}
 
-fetched_from : (s r t : Pid) (x : Signal) (v : Contents) → ComesFrom v t x → ComesFrom (changed (Fetches s r) v) t x
+fetched_from : (s r t : Pid) (x : Signal) (v : Contents) → ComesFrom v t x → ComesFrom (changed (SignalDelivered s r) v) t x
 fetched_from s r t (Message m) v from = tt
 fetched_from s r t (Exit reason) v from = tt
 fetched_from s r t (LinkExit reason) v from = tt
 fetched_from s r t (Down ref reason) v from = from
 
 pub event_known : (v : Contents) (step : Step) (deed : Deed) → ((p : Pid) → v (Watch (next_ref v p)) ≡ None) → AreListed v → IsFrom v step deed → Known v → Known (after (changes_by v step deed) v)
-event_known v (Turn p) (Served kind arguments answer) free sorted from before_ = call_known v (changed (Turns p (answered.Value answer ∷ [])) v) p (call_of kind arguments) (λ u. refl) (free p) (all_listed (Turns p (answered.Value answer ∷ []) ∷ []) v sorted) before_
+event_known v (Turn p) (Served kind arguments answer) free sorted from before_ = call_known v (changed (TurnTaken p (answered.Value answer ∷ [])) v) p (call_of kind arguments) (λ u. refl) (free p) (all_listed (TurnTaken p (answered.Value answer ∷ []) ∷ []) v sorted) before_
 event_known v (Turn p) (Refused kind arguments refusal) free sorted from before_ = before_
-event_known v (Turn p) (EndedItself kind arguments reason) free sorted from before_ = end_known v (changed (Turns p []) v) p reason before_
+event_known v (Turn p) (EndedItself kind arguments reason) free sorted from before_ = end_known v (changed (TurnTaken p []) v) p reason before_
 event_known v (Turn p) (Received m) free sorted from before_ = before_
 event_known v (Turn p) TimedOut free sorted from before_ = before_
-event_known v (Turn p) (Ended reason) free sorted from before_ = end_known v (changed (Turns p []) v) p reason before_
-event_known v (Turn p) RanAway free sorted from before_ = end_known v (changed (Turns p []) v) p runaway before_
+event_known v (Turn p) (Ended reason) free sorted from before_ = end_known v (changed (TurnTaken p []) v) p reason before_
+event_known v (Turn p) RanAway free sorted from before_ = end_known v (changed (TurnTaken p []) v) p runaway before_
 event_known v (Turn p) (Delivered x f) free sorted from before_ = before_
 event_known v (Deliver s r) (Delivered x f) free sorted from before_ =
     let ks = goes_with s r x in
-    let w = changed (Fetches s r) v in
+    let w = changed (SignalDelivered s r) v in
     known_same (after (changes_of_fate (after ks v) r f) (after ks w)) (after (changes_by v (Deliver s r) (Delivered x f)) v)
     (λ q. after_both ks (changes_of_fate (after ks v) r f) w (Watchers q)) (λ t. after_both ks (changes_of_fate (after ks v) r f) w (Watch t))
-    (fate_known (after ks v) (after ks w) r f (goes_known s r x w (all_listed (Fetches s r ∷ []) v sorted) (fetched_from s r s x v from) before_))
+    (fate_known (after ks v) (after ks w) r f (goes_known s r x w (all_listed (SignalDelivered s r ∷ []) v sorted) (fetched_from s r s x v from) before_))
 event_known v (Deliver s r) deed free sorted from before_ = before_

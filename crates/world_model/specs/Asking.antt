@@ -1,8 +1,8 @@
 -- The program that a module is.
 use Rattle.std.specs.Prelude.{[], codes}
 use Rattle.core_tree.specs.Syntax.{ModuleTree}
-use Rattle.eval_rules.specs.Ask.{Entry, entry, ask}
-use Rattle.eval_rules.specs.Asked.{Asked, Call, Receive, End, Runaway}
+use Rattle.core_semantics.specs.Ask.{Entry, entry, ask}
+use Rattle.core_semantics.specs.Asked.{Asked, Call, Receive, End, Runaway}
 use Rattle.world_model.specs.Requests.{Request, Origin, Main, Spawned, Calls, Receives, Ends, RunsAway, Program}
 use Rattle.world_model.specs.World.{answers}
 

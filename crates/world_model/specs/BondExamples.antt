@@ -9,7 +9,7 @@ use Rattle.core_tree.specs.Syntax.{ModuleTree, Tree, trees_of}
 use Rattle.core_calls.specs.declared.call.CallKind.TheVariants as kinds
 use Rattle.core_calls.specs.declared.pure.PureCall.TheVariants as pures
 use Rattle.world_model.specs.Events.{event, Delivered, EndedItself, LinkExit, Down, Arrives, IsDropped, Kills}
-use Rattle.world_model.specs.Happenings.{P, P_1, P_2, R_1, t, EndsWith, HasNoRun, normal, serves_it}
+use Rattle.world_model.specs.ExampleRuns.{P, P_1, P_2, R_1, t, EndsWith, HasNoRun, normal, serves_it}
 use Rattle.world_model.specs.Modules.{the, the_atom, the_tuple, the_list, the_table, ask_for, compute, in_turn, with_result, module_of, main, child, spawn_child, spawn_linked, signed, new_table, look_up, wait}
 use Rattle.world_model.specs.Names.{Ref}
 use Rattle.world_model.specs.OrderExamples.{asks, me_as_n, unlinks}
@@ -34,11 +34,11 @@ me = compute pures.OwnPid []
 abbrev pub UnlinkedIsDropped : Type 0
 UnlinkedIsDropped = EndsWith unlinks (Turn P ∷ Turn P_1 ∷ Turn P ∷ Deliver P_1 P ∷ []) (event (Deliver P_1 P) (Delivered (LinkExit normal) IsDropped))
 
--- and where it is gone before its process ends, there is none
+-- and where the link is gone before its process ends, there is no signal
 abbrev pub UnlinkedIsNotTold : Type 0
 UnlinkedIsNotTold = HasNoRun unlinks (Turn P ∷ Turn P ∷ Turn P_1 ∷ Deliver P_1 P ∷ [])
 
--- ---- that a process ran away is told its partners
+-- ---- the partners of a process that ran away are informed
 
 abbrev pub partner_runs_away : ModuleTree
 partner_runs_away = module_of (main (in_turn spawn_linked wait) ∷ child (trees.Call 0 (callees.Defined (signed (codes "c") [])) (trees_of [])) ∷ [])
@@ -46,7 +46,7 @@ partner_runs_away = module_of (main (in_turn spawn_linked wait) ∷ child (trees
 abbrev pub RunawayIsTold : Type 0
 RunawayIsTold = EndsWith partner_runs_away (Turn P ∷ Turn P_1 ∷ Deliver P_1 P ∷ []) (event (Deliver P_1 P) (Delivered (LinkExit (atom (codes "runaway"))) (Kills (atom (codes "runaway")))))
 
--- ---- a link and a watch that come too late are told so: the link where exits are trapped
+-- ---- a link and a watch that come too late are reported as such: the link where exits are trapped
 
 abbrev pub LateLinkIsTold : Type 0
 LateLinkIsTold = EndsWith (asks (in_turn trap (ask_for kinds.Link (the (codes "C") ∷ [])))) (Turn P ∷ Turn P_1 ∷ Turn P ∷ Turn P ∷ Deliver P_1 P ∷ []) (event (Deliver P_1 P) (Delivered (LinkExit noproc) (Arrives (exit_message P_1 noproc))))
@@ -100,7 +100,7 @@ TrapsItsExit = Tells (λ h. mailbox h P) exits_itself (Turn P ∷ Turn P ∷ [])
 abbrev pub ReferenceIsMade : Type 0
 ReferenceIsMade = EndsWith (module_of (main (ask_for kinds.MakeRef []) ∷ [])) (Turn P ∷ []) (serves_it P kinds.MakeRef [] R_1)
 
--- ---- who had a name or a table before takes it from nobody at its end
+-- ---- a process that had a name or a table before takes it from nobody at its end
 
 abbrev pub passes_its_name : ModuleTree
 passes_its_name =

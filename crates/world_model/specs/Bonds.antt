@@ -1,4 +1,4 @@
--- What histories tell of links, watches and names: each by the latest event about it.
+-- What histories say of links, watches and names: each by the latest event about it.
 use Rattle.std.specs.Prelude.{◌&&◌, if◌then◌else◌, ◌∷◌, ◌≡◌, List, Some, Option, true, None}
 use Rattle.term_core.specs.Order.{order_of_lists}
 use Rattle.term_core.specs.declared.step.Step.{Step}
@@ -11,7 +11,7 @@ use Rattle.world_model.specs.Names.{Pid, same_pid, Ref, same_ref, Name, same_nam
 use Rattle.world_model.specs.ProcessLines.{LinkWay, Stands, Pairs, PairsGone, Fails, link_way, next_child, next_ref}
 use Rattle.world_model.specs.Requests.{Program}
 use Rattle.world_model.specs.Run.{IsRun}
-use Rattle.world_model.specs.Told.{ended_by, is_it}
+use Rattle.world_model.specs.ProcessHistory.{ended_by, is_it}
 use Rattle.world_model.specs.World.{linked, alive, traps, contents, watched, holder}
 
 -- ---- links: a pair begins by `link/1` or `spawn_link/3`, and ends by `unlink/1` or when a signal of the link is delivered

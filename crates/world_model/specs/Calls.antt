@@ -17,7 +17,7 @@ pub data SpawnWay : Type 0 where
   Linked : SpawnWay
   Watched : SpawnWay
 
--- whom a message is for: a process, the holder of a name, or nobody
+-- who a message is for: a process, the holder of a name, or nobody
 pub data Destination : Type 0 where
   ToProcess : (q : Pid) → Destination
   ToName : (name : Name) → Destination
@@ -29,7 +29,7 @@ pub data TableArgument : Type 0 where
   ByReference : (t : Ref) → TableArgument
   ByNothing : TableArgument
 
--- what `update_counter/3` adds: an integer behind the key, an integer at a position, or what is neither
+-- what `update_counter/3` adds: an integer after the key, an integer at a position, or what is neither
 pub data Increment : Type 0 where
   Behind : (n : ℤ) → Increment
   AtPlace : (position : ℕ) (n : ℤ) → Increment
@@ -78,7 +78,7 @@ pub data Call : Type 0 where
   MakeRef : Call
   New : (name : Option Name) (options : Option (List TableOption)) → Call
   OnTable : (argument : TableArgument) (call : TableCall) → Call
-  -- a call with another number of arguments than it has: no module that is read asks one
+  -- a call with another number of arguments than it has: no module that is read makes one
   Misfit : Call
 
 -- ---- arguments of processes
@@ -219,3 +219,9 @@ call_of kind (a ∷ []) = call_of_one kind a
 call_of kind (a ∷ b ∷ []) = call_of_two kind a b
 call_of kind (a ∷ b ∷ c ∷ []) = call_of_three kind a b c
 call_of kind (a ∷ b ∷ c ∷ d ∷ more) = Misfit
+
+-- whether a call is of tables
+abbrev pub is_of_tables : Call → Bool
+is_of_tables (New name options) = true
+is_of_tables (OnTable argument call) = true
+is_of_tables call = false

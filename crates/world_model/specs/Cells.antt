@@ -1,7 +1,7 @@
 -- The cells of the world, and what each contains.
-use Rattle.std.specs.Prelude.{ℕ, Bool, false, ◌&&◌, List, Option}
+use Rattle.std.specs.Prelude.{◌≡◌, ℕ, Bool, false, ◌&&◌, List, Option}
 use Rattle.term_core.specs.Meaning.{Meaning}
-use Rattle.eval_rules.specs.Asked.{Answered}
+use Rattle.core_semantics.specs.Asked.{Answered}
 use Rattle.world_model.specs.Events.{Signal}
 use Rattle.world_model.specs.Names.{Name, Pid, Ref, same_pid, same_ref, same_name}
 use Rattle.world_model.specs.Requests.{Origin}
@@ -20,7 +20,7 @@ pub data Cell : Type 0 where
   -- the channel from one process to another: how far it is delivered, and what was put
   Front : (s r : Pid) → Cell
   Tail : (s r : Pid) → Cell
-  -- to whom a process is linked, by whom it is watched, and whom a watch is of
+  -- the processes that a process is linked to, those that watch it, and the process that a watch is for
   Links : (p : Pid) → Cell
   Watchers : (p : Pid) → Cell
   Watch : (ref : Ref) → Cell
@@ -94,3 +94,7 @@ Content (Owned p) = List Ref
 -- what all cells contain
 abbrev pub Contents : Type 0
 Contents = (c : Cell) → Content c
+
+-- the processes of which this is true live, and no others
+abbrev pub AreAlive : (Pid → Bool) → Contents → Type 0
+AreAlive lives v = (p : Pid) → lives p ≡ v (Alive p)

@@ -11,7 +11,7 @@ use Rattle.world_model.specs.Rows.{Key}
 use Rattle.world_model.specs.Run.{next_event}
 use Rattle.world_model.specs.World.{table, alive, turns, answers, traps, waiting, mailbox, linked, watched, holder, found, owner, settings, heir, rows, all_rows, rule_of, refusal_of, answer_of, contents}
 
--- two histories tell the same, of each process, each channel, each name and each table
+-- two histories say the same of each process, each channel, each name and each table
 pub record TellTheSame (h g : History) : Type 0 where
   pub alive : (p : Pid) → alive h p ≡ alive g p
   pub turns : (p : Pid) → turns h p ≡ turns g p
@@ -32,6 +32,10 @@ pub record TellTheSame (h g : History) : Type 0 where
   pub rule_of : (p : Pid) (argument : TableArgument) (call : TableCall) → rule_of h p argument call ≡ rule_of g p argument call
   pub refusal_of : (p : Pid) (call : Call) → refusal_of h p call ≡ refusal_of g p call
   pub answer_of : (p : Pid) (call : Call) → answer_of h p call ≡ answer_of g p call
+
+-- two histories leave the same in each cell
+abbrev pub LeaveTheSame : History → History → Type 0
+LeaveTheSame h g = (c : Cell) → contents h c ≡ contents g c
 
 -- each is enabled after the other, with the same event, and both orders leave the same
 pub record Commutes (a : Program) (h : History) (e f : Event) : Type 0 where

@@ -2,7 +2,7 @@
 use Rattle.std.specs.Prelude.{List, [], ◌∷◌, ◌++◌, Option, Some, None, if◌then◌else◌, map}
 use Rattle.term_core.specs.Meaning.{Meaning}
 use Rattle.world_model.specs.Cells.{Table, Cell, Alive, Links, Watchers, NameOf, Owned, Contents}
-use Rattle.world_model.specs.Changes.{Change, Halts, Dies, Puts, Wipes, Goes, Frees, Passes, Gains, Empties, Vacates, Bares, changed}
+use Rattle.world_model.specs.Changes.{Change, MachineHalted, AliveCleared, SignalPut, RowsCleared, TableRemoved, TableNameCleared, OwnerSet, OwnedAdded, OwnedCleared, HolderCleared, NameCleared, changed}
 use Rattle.world_model.specs.Events.{Message, LinkExit, Down}
 use Rattle.world_model.specs.Names.{Name, Pid, Ref}
 use Rattle.world_model.specs.Signals.{transfer_message, put_if}
@@ -11,23 +11,23 @@ use Rattle.world_model.specs.Tables.{Heir, handle_of}
 
 -- ---- tables
 
--- the heir of a table, where it lives; who ends does no more
+-- the heir of a table, where it lives; a process that ends no longer lives
 abbrev pub living_heir : Contents → Heir → Heir
 living_heir v None = None
 living_heir v (Some heir) = if v (Alive heir.0) then Some heir else None
 
 -- the name of a table that goes means nothing then
 abbrev pub name_freed : tables.Table → List Change
-name_freed table = if table.is_named then Frees table.name ∷ [] else []
+name_freed table = if table.is_named then TableNameCleared table.name ∷ [] else []
 
--- a table is destroyed, with all its rows, or goes to its heir, who is told
+-- a table is destroyed, with all its rows, or goes to its heir, who is informed
 abbrev pub passed : Pid → Ref → tables.Table → Heir → List Change
-passed p t table None = Goes t ∷ Wipes t ∷ name_freed table
-passed p t table (Some heir) = Passes t heir.0 ∷ Gains heir.0 t ∷ Puts p heir.0 (Message (transfer_message (handle_of t table) p heir.1)) ∷ []
+passed p t table None = TableRemoved t ∷ RowsCleared t ∷ name_freed table
+passed p t table (Some heir) = OwnerSet t heir.0 ∷ OwnedAdded heir.0 t ∷ SignalPut p heir.0 (Message (transfer_message (handle_of t table) p heir.1)) ∷ []
 
--- what is there no more stays away
+-- a table that is gone stays gone
 abbrev pub table_passes : Contents → Pid → Ref → Option tables.Table → List Change
-table_passes v p t None = Goes t ∷ Wipes t ∷ []
+table_passes v p t None = TableRemoved t ∷ RowsCleared t ∷ []
 table_passes v p t (Some table) = passed p t table (living_heir v table.heir)
 
 abbrev pub tables_pass : Contents → Pid → List Ref → List Change
@@ -45,18 +45,18 @@ watchers_told v p reason [] = []
 watchers_told v p reason (ref ∷ refs) = put_if (v (Alive ref.pid)) p ref.pid (Down ref reason) ++ watchers_told v p reason refs
 
 abbrev pub name_left : Pid → Option Name → List Change
-name_left p None = Bares p ∷ []
-name_left p (Some name) = Vacates name ∷ Bares p ∷ []
+name_left p None = NameCleared p ∷ []
+name_left p (Some name) = HolderCleared name ∷ NameCleared p ∷ []
 
 -- ---- an end
 
 -- what a process leaves to others once it is dead: first its tables in the order of their creation, then its partners in the order of pids, then its watchers in the order of references, then its name
 abbrev pub left_by : Contents → Pid → Meaning → List Change
-left_by v p reason = tables_pass v p (v (Owned p)) ++ (Empties p ∷ (partners_told v p reason (v (Links p)) ++ (watchers_told v p reason (v (Watchers p)) ++ name_left p (v (NameOf p)))))
+left_by v p reason = tables_pass v p (v (Owned p)) ++ (OwnedCleared p ∷ (partners_told v p reason (v (Links p)) ++ (watchers_told v p reason (v (Watchers p)) ++ name_left p (v (NameOf p)))))
 
 -- it halts and dies, and then leaves what it has
 abbrev pub ends : Contents → Pid → Meaning → List Change
-ends v p reason = Halts p reason ∷ Dies p ∷ left_by (changed (Dies p) v) p reason
+ends v p reason = MachineHalted p reason ∷ AliveCleared p ∷ left_by (changed (AliveCleared p) v) p reason
 
 -- ---- what an end reads
 

@@ -13,20 +13,20 @@ pub data Signal : Type 0 where
   LinkExit : (reason : Meaning) → Signal
   Down : (ref : Ref) (reason : Meaning) → Signal
 
--- what becomes of a signal where it takes effect: a message in the mailbox, nothing, nothing as what it is about stands no more, or the end of the process
+-- what becomes of a signal where it takes effect: a message in the mailbox, nothing, nothing since what it is about is gone, or the end of the process
 pub data Fate : Type 0 where
   Arrives : (message : Meaning) → Fate
   IsIgnored : Fate
   IsDropped : Fate
   Kills : (reason : Meaning) → Fate
 
--- why a call is refused: error `badarg` or `noproc` of a process call; the one rule of a table call, with the owner then where it is told
+-- why a call is refused: error `badarg` or `noproc` of a process call; the one rule of a table call, with the owner at that time where the rule reports it
 pub data Refusal : Type 0 where
   Badarg : Refusal
   NoProcess : Refusal
   ByRule : (rule : Rule) (owner : Option Pid) → Refusal
 
--- what a step did: of a turn, that a call was served, was refused, or ended its caller; that a receive took a message, or came to its timeout; that the process ended, or ran away; and of a delivery, the signal and what became of it
+-- what a step did: of a turn, that a call was served, was refused, or ended its caller; that a receive took a message, or reached its timeout; that the process ended, or ran away; and of a delivery, the signal and what became of it
 pub data Deed : Type 0 where
   Served : (kind : CallKind) (arguments : List Meaning) (answer : Meaning) → Deed
   Refused : (kind : CallKind) (arguments : List Meaning) (refusal : Refusal) → Deed

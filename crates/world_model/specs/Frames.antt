@@ -12,7 +12,7 @@ use Rattle.world_model.specs.Run.{changes, next_event}
 use Rattle.world_model.specs.Signals.{first_of, waiting_in}
 use Rattle.world_model.specs.World.{contents}
 
--- what reading tells besides, of the front of a channel and of what was taken from a mailbox: which signal waits first, and which message is the oldest of those that are selected, is so in the other too; where nothing is, nothing is told
+-- what reading says beyond the contents, of the front of a channel and of what was taken from a mailbox: which signal waits first, and which message is the oldest of those that are selected, is so in the other too; where there is nothing, nothing is said
 abbrev pub SeesFirst : Contents → Contents → Cell → Type 0
 SeesFirst v w (Front s r) = (x : Signal) → first_of (waiting_in v s r) ≡ Some x → first_of (waiting_in w s r) ≡ Some x
 SeesFirst v w (Taken p) = (selects : Meaning → Bool) (m : Meaning) → selected_of selects (mailbox_in v p) ≡ Some m → selected_of selects (mailbox_in w p) ≡ Some m

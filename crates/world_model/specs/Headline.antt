@@ -10,7 +10,7 @@ use Rattle.world_model.specs.Asking.{program_of}
 use Rattle.world_model.specs.Calls.{Call, New, OnTable, call_of}
 use Rattle.world_model.specs.Cells.{TableName}
 use Rattle.world_model.specs.Events.{Event, History, Deed, Served, Refused, EndedItself, ByRule}
-use Rattle.world_model.specs.Judging.{tells_owner}
+use Rattle.world_model.specs.TableRules.{tells_owner}
 use Rattle.world_model.specs.Names.{Pid}
 use Rattle.world_model.specs.NewTables.{new_rule}
 use Rattle.world_model.specs.Run.{IsRun}
@@ -47,7 +47,7 @@ abbrev pub owner_then : History → Call → Option Pid
 owner_then h (OnTable argument call) = option_and_then (λ f. owner h f.ref) (found h argument)
 owner_then h call = None
 
--- where no rule fails the call is served with its answer; else it is refused by that rule, which tells the owner or not
+-- where no rule fails the call is served with its answer; else it is refused by that rule, which reports the owner or not
 abbrev pub judged_by : History → Pid → CallKind → List Meaning → Option Rule → Deed
 judged_by h p kind arguments None = Served kind arguments (answer_of h p (call_of kind arguments))
 judged_by h p kind arguments (Some rule) = Refused kind arguments (ByRule rule (if tells_owner rule then owner_then h (call_of kind arguments) else None))

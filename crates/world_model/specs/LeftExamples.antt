@@ -5,7 +5,7 @@ use Rattle.core_tree.specs.Syntax.{ModuleTree}
 use Rattle.core_calls.specs.declared.call.CallKind.TheVariants as kinds
 use Rattle.core_calls.specs.declared.pure.PureCall.TheVariants as pures
 use Rattle.world_model.specs.Calls.{ByName, ByReference}
-use Rattle.world_model.specs.Happenings.{P, P_1, P_2, t, serves_it, refuses_it, EndsWith}
+use Rattle.world_model.specs.ExampleRuns.{P, P_1, P_2, t, serves_it, refuses_it, EndsWith}
 use Rattle.world_model.specs.Modules.{the, the_atom, the_tuple, the_table, ask_for, compute, in_turn, with_result, module_of, main, child, spawn_child, new_table, put_one, look_up}
 use Rattle.world_model.specs.OrderExamples.{a, me_as_n}
 use Rattle.world_model.specs.Orders.{OrderMatters, Tells}
@@ -34,7 +34,7 @@ DeletedHasNoOwner = Tells (λ h. owner h first_ref) deletes_it (Turn P ∷ Turn 
 abbrev pub DeletedHasNoRows : Type 0
 DeletedHasNoRows = Tells (λ h. rows h first_ref a) deletes_it (Turn P ∷ Turn P ∷ Turn P ∷ []) []
 
--- ---- who ends is no heir of itself
+-- ---- a process that ends is no heir of itself
 
 abbrev pub own_heir : ModuleTree
 own_heir = module_of (main (with_result (codes "Me") (compute pures.OwnPid []) (in_turn (new_table (the_tuple (the_atom (codes "heir") ∷ the (codes "Me") ∷ the_atom (codes "d") ∷ []) ∷ [])) spawn_child)) ∷ child look_up ∷ [])
@@ -42,7 +42,7 @@ own_heir = module_of (main (with_result (codes "Me") (compute pures.OwnPid []) (
 abbrev pub OwnHeirIsNone : Type 0
 OwnHeirIsNone = EndsWith own_heir (Turn P ∷ Turn P ∷ Turn P ∷ Turn P_2 ∷ []) (refuses_it P_2 kinds.Lookup (t ∷ a ∷ []) NoTable None)
 
--- and who has ended is no heir: the child of `bequeaths`, which is refused its write, ends before its parent does
+-- and a process that has ended is no heir: the child of `bequeaths`, which is refused its write, ends before its parent does
 abbrev pub DeadHeirIsNone : Type 0
 DeadHeirIsNone = Tells (λ h. found h (ByName (codes "t"))) bequeaths (Turn P ∷ Turn P ∷ Turn P ∷ Turn P_1 ∷ Turn P_1 ∷ Turn P ∷ []) None
 

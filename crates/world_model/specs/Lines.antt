@@ -2,13 +2,13 @@
 use Rattle.std.specs.Prelude.{◌∷◌, None, [], Some, false, true, codes}
 use Rattle.world_model.specs.Calls.{Link, New, Call, Spawn, Send, ToNobody, ToProcess, ToName, SendExit, Unlink, Monitor, Demonitor, Flag, Register, Unregister, WhereIs, IsAlive, MakeRef, OnTable, Misfit}
 use Rattle.world_model.specs.Cells.{Alive, Contents, Machine, Holder, Links, Trap, Watch, NameOf, Front, Tail, TableName}
-use Rattle.world_model.specs.Changes.{Traps, is_of_watch}
+use Rattle.world_model.specs.Changes.{TrapSet, is_of_watch}
 use Rattle.world_model.specs.Events.{ByRule}
-use Rattle.world_model.specs.Judging.{on_table_line}
+use Rattle.world_model.specs.TableRules.{on_table_line}
 use Rattle.world_model.specs.Mailboxes.{mailbox_in, selected_of}
 use Rattle.world_model.specs.Names.{Pid, same_pid}
 use Rattle.world_model.specs.NewTables.{new_line, new_rule}
-use Rattle.world_model.specs.ProcessLines.{CallLine, badarg, spawn_line, serves, read_of_target, sent, serves_unless, unless_held, holder_read, sent_to_holder, exited, link_line, link_way, monitor_line, ref_of, demonitor_reads, demonitor_line, register_line, unregister_line}
+use Rattle.world_model.specs.ProcessLines.{CallLine, badarg, spawn_line, serves, read_of_target, sent, serves_unless, unless_held, holder_read, sent_to_holder, exited, link_line, link_way, monitor_line, ref_of_turn, demonitor_reads, demonitor_line, register_line, unregister_line}
 use Rattle.world_model.specs.Signals.{pair_goes}
 use Rattle.world_model.specs.Terms.{ok, truth, process_or, reference}
 use Rattle.world_model.specs.declared.rule.Rule.TheVariants.{BadName}
@@ -34,14 +34,14 @@ line v p (Unlink (Some q)) = serves (Alive q ∷ []) ok (pair_goes p q)
 -- monitor/2
 line v p (Monitor is_process None) = badarg []
 line v p (Monitor false (Some q)) = badarg (Alive q ∷ [])
-line v p (Monitor true (Some q)) = monitor_line p q (ref_of p (v (Machine p))) (v (Alive q))
+line v p (Monitor true (Some q)) = monitor_line p q (ref_of_turn p (v (Machine p))) (v (Alive q))
 -- demonitor/1, demonitor/2
 line v p (Demonitor None flushes) = badarg []
 line v p (Demonitor (Some ref) None) = badarg (demonitor_reads ref (v (Watch ref)))
 line v p (Demonitor (Some ref) (Some flushes)) = demonitor_line p ref flushes (v (Watch ref)) (selected_of (is_of_watch ref) (mailbox_in v p))
 -- process_flag/2
 line v p (Flag None) = badarg []
-line v p (Flag (Some traps)) = serves (Trap p ∷ []) (truth (v (Trap p))) (Traps p traps ∷ [])
+line v p (Flag (Some traps)) = serves (Trap p ∷ []) (truth (v (Trap p))) (TrapSet p traps ∷ [])
 -- register/2
 line v p (Register None None) = badarg []
 line v p (Register None (Some q)) = badarg (Alive q ∷ NameOf q ∷ [])
@@ -57,10 +57,10 @@ line v p (WhereIs (Some name)) = serves (Holder name ∷ []) (process_or (codes 
 line v p (IsAlive None) = badarg []
 line v p (IsAlive (Some q)) = serves (Alive q ∷ Front p q ∷ Tail p q ∷ []) (truth (v (Alive q))) []
 -- make_ref/0
-line v p MakeRef = serves [] (reference (ref_of p (v (Machine p)))) []
+line v p MakeRef = serves [] (reference (ref_of_turn p (v (Machine p)))) []
 -- ets: new/2
 line v p (New None options) = serves_unless (Some (ByRule BadName None)) [] ok []
-line v p (New (Some name) options) = new_line p (ref_of p (v (Machine p))) name options (new_rule options (v (TableName name)))
+line v p (New (Some name) options) = new_line p (ref_of_turn p (v (Machine p))) name options (new_rule options (v (TableName name)))
 -- ets: the calls with a table argument
 line v p (OnTable argument call) = on_table_line v p argument call
 line v p Misfit = badarg []

@@ -1,10 +1,10 @@
--- What histories tell of mailboxes and channels.
+-- What histories say of mailboxes and channels.
 use Rattle.std.specs.Prelude.{◌&&◌, ◌++◌, if◌then◌else◌, ◌∷◌, ◌≡◌, List, [], Bool, Option, None, Some, true, ℕ, drop}
 use Rattle.term_core.specs.Meaning.{Meaning}
 use Rattle.term_core.specs.declared.step.Step.{Step}
 use Rattle.term_core.specs.declared.step.Step.TheVariants.{Turn, Deliver}
 use Rattle.world_model.specs.Calls.{Call, Send, ToProcess, ToName, SendExit, Demonitor, call_of}
-use Rattle.world_model.specs.Changes.{without_first, is_of_watch, Change, Puts}
+use Rattle.world_model.specs.Changes.{without_first, is_of_watch, Change, SignalPut}
 use Rattle.world_model.specs.Events.{History, Deed, Served, Received, Delivered, Arrives, Event, Signal}
 use Rattle.world_model.specs.Names.{Pid, same_pid, same_term}
 use Rattle.world_model.specs.Requests.{Program}
@@ -46,7 +46,7 @@ MailboxIsTold = (a : Program) (h : History) (e : Event) (q : Pid) → IsRun a h 
 -- the signals that changes put from one process to another, in order
 abbrev pub signals_to : Pid → Pid → List Change → List Signal
 signals_to s r [] = []
-signals_to s r (Puts t u x ∷ ks) = if same_pid t s && same_pid u r then x ∷ signals_to s r ks else signals_to s r ks
+signals_to s r (SignalPut t u x ∷ ks) = if same_pid t s && same_pid u r then x ∷ signals_to s r ks else signals_to s r ks
 signals_to s r (k ∷ ks) = signals_to s r ks
 
 -- those that an event puts
@@ -58,6 +58,6 @@ abbrev pub delivers : Step → Deed → Pid → Pid → ℕ
 delivers (Deliver t u) (Delivered signal fate) s r = if same_pid t s && same_pid u r then 1 else 0
 delivers step deed s r = 0
 
--- the signals on their way, after any event of what really happened: those that were, and those that are put, but for the one in front that is delivered
+-- the signals on their way, after any event of what really happened: those that were, and those that are put, except the one in front that is delivered
 abbrev pub WaitingIsTold : Type 0
 WaitingIsTold = (a : Program) (h : History) (e : Event) (s r : Pid) → IsRun a h → waiting (e ∷ h) s r ≡ drop (delivers e.step e.deed s r) (waiting h s r ++ puts h e s r)

@@ -15,6 +15,10 @@ pub record Ref : Type 0 where
   pub pid : Pid
   pub number : ℕ
 
+-- a reference of the code, of its process and its number
+abbrev pub ref_of : List ℕ × ℕ → Ref
+ref_of id = record { pid = id.0; number = id.1 }
+
 -- a name that a program gives: the text of an atom
 abbrev pub Name : Type 0
 Name = List ℕ

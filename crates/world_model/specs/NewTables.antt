@@ -1,7 +1,7 @@
 -- A new table (ets manual, `new/2`): why it is refused, and what makes it.
 use Rattle.std.specs.Prelude.{◌∷◌, if◌then◌else◌, Bool, Option, false, None, true, Some, List, [], option_map}
 use Rattle.world_model.specs.Cells.{Cell, TableName}
-use Rattle.world_model.specs.Changes.{Change, Means, Makes, Gains}
+use Rattle.world_model.specs.Changes.{Change, TableNameSet, TableSet, OwnedAdded}
 use Rattle.world_model.specs.Events.{Refusal, ByRule}
 use Rattle.world_model.specs.Names.{Name, Ref, Pid}
 use Rattle.world_model.specs.ProcessLines.{CallLine, serves_unless}
@@ -29,10 +29,10 @@ new_reads name None = TableName name ∷ []
 new_reads name (Some os) = if is_named os then TableName name ∷ [] else []
 
 abbrev pub means_if : Bool → Name → Ref → List Change
-means_if named name t = if named then Means name t ∷ [] else []
+means_if named name t = if named then TableNameSet name t ∷ [] else []
 
 abbrev pub made : Pid → Ref → Name → List TableOption → List Change
-made p t name os = Makes t (table_of p name os) ∷ Gains p t ∷ means_if (is_named os) name t
+made p t name os = TableSet t (table_of p name os) ∷ OwnedAdded p t ∷ means_if (is_named os) name t
 
 -- what a refused call says, and what a table that is made is found by: its name is looked at only where it is to be found by that
 abbrev pub new_line : Pid → Ref → Name → Option (List TableOption) → Option Rule → CallLine

@@ -6,8 +6,8 @@ use Rattle.term_core.specs.Integers.{has_64_bits}
 use Rattle.term_core.specs.Meaning.{Int, Meaning}
 use Rattle.world_model.specs.Calls.{has_items, Increment, Behind, AtPlace, NotGiven}
 use Rattle.world_model.specs.Cells.{Contents, Row}
-use Rattle.world_model.specs.Changes.{Change, Writes}
-use Rattle.world_model.specs.Found.{Found, allowed}
+use Rattle.world_model.specs.Changes.{Change, RowWritten}
+use Rattle.world_model.specs.TableAccess.{Found, access_rule}
 use Rattle.world_model.specs.Names.{Pid, Ref, same_pid}
 use Rattle.world_model.specs.Rows.{Object, is_short, Key, Stores, part_at, Removes, parts_at, Alters}
 use Rattle.world_model.specs.Signals.{first_of}
@@ -25,7 +25,7 @@ abbrev pub objects_rule : ℕ → Option (List Object) → Option Rule
 objects_rule position None = Some NotObject
 objects_rule position (Some objects) = if list_any (is_short position) objects then Some ShortObject else None
 
--- no objects, where they are none
+-- the objects that are given, or none
 abbrev pub given : {A : Type 0} → Option (List A) → List A
 given None = []
 given (Some objects) = objects
@@ -36,7 +36,7 @@ one_object object = option_map (λ o. o ∷ []) object
 -- each object is put in under its key, in order
 abbrev pub stored_at : Found → Object → Option Key → List Change
 stored_at f object None = []
-stored_at f object (Some key) = Writes f.ref key (Stores f.table.kind object) ∷ []
+stored_at f object (Some key) = RowWritten f.ref key (Stores f.table.kind object) ∷ []
 
 abbrev pub stores : Found → List Object → List Change
 stores f [] = []
@@ -44,7 +44,7 @@ stores f (o ∷ os) = stored_at f o (part_at f.table.position o) ++ stores f os
 
 abbrev pub removed_at : Found → Object → Option Key → List Change
 removed_at f object None = []
-removed_at f object (Some key) = Writes f.ref key (Removes object) ∷ []
+removed_at f object (Some key) = RowWritten f.ref key (Removes object) ∷ []
 
 abbrev pub removes : Found → Option Object → List Change
 removes f None = []
@@ -56,7 +56,7 @@ unless_refused None ks = ks
 unless_refused (Some rule) ks = []
 
 abbrev pub keys_asked : Pid → Found → Option (List Object) → List Key
-keys_asked p f objects = unless_refused (option_or (allowed Write f.table.protection (same_pid f.table.owner p)) (objects_rule f.table.position objects)) (parts_at f.table.position (given objects))
+keys_asked p f objects = unless_refused (option_or (access_rule Write f.table.protection (same_pid f.table.owner p)) (objects_rule f.table.position objects)) (parts_at f.table.position (given objects))
 
 -- whether one of these keys has objects
 abbrev pub one_present : Contents → Ref → List Key → Bool
@@ -95,7 +95,7 @@ is_increment (Behind n) = true
 is_increment (AtPlace position n) = true
 is_increment NotGiven = false
 
--- an integer alone is added behind the key
+-- an integer alone is added after the key
 abbrev pub place_of : ℕ → Increment → ℕ
 place_of key (Behind n) = key + 1
 place_of key (AtPlace position n) = position
@@ -144,4 +144,4 @@ update_rule table change there = if is_bag table.kind then Some BagRefused else 
 
 abbrev pub alters : Ref → Key → Option (ℕ × Meaning) → List Change
 alters t key None = []
-alters t key (Some change) = Writes t key (Alters change.0 change.1) ∷ []
+alters t key (Some change) = RowWritten t key (Alters change.0 change.1) ∷ []

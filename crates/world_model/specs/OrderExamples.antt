@@ -8,7 +8,7 @@ use Rattle.core_calls.specs.declared.call.CallKind.TheVariants as kinds
 use Rattle.core_calls.specs.declared.pure.PureCall.TheVariants as pures
 use Rattle.world_model.specs.Cells.{Alive}
 use Rattle.world_model.specs.Events.{event, Refused, Badarg, Delivered, Exit, IsIgnored, Arrives, Received, TimedOut}
-use Rattle.world_model.specs.Happenings.{P, P_1, P_2, R_1, t, a_1, serves_it, normal}
+use Rattle.world_model.specs.ExampleRuns.{P, P_1, P_2, R_1, t, a_1, serves_it, normal}
 use Rattle.world_model.specs.Modules.{the, the_atom, the_number, the_tuple, the_list, the_table, ask_for, compute, in_turn, with_result, function, module_of, main, child, spawn_child, spawn_linked, new_table, put_one, look_up, receive, on, only}
 use Rattle.world_model.specs.Names.{Name}
 use Rattle.world_model.specs.Orders.{OrderMatters, Depend, AreFree, ReadsIt, Tells}
@@ -103,7 +103,7 @@ AliveComesAfterEnd = OrderMatters (asks (ask_for kinds.IsProcessAlive (the (code
 abbrev pub SendDependsOnEnd : Type 0
 SendDependsOnEnd = Depend (asks (ask_for kinds.Bang (the (codes "C") ∷ the_atom (codes "x") ∷ []))) (Turn P ∷ []) (Turn P_1) (Turn P)
 
--- ---- an exit signal with reason 'normal' comes to one who may trap exits
+-- ---- an exit signal with reason 'normal' reaches a process that may trap exits
 
 abbrev pub exits : ModuleTree
 exits = module_of (main (with_result (codes "C") spawn_child (ask_for kinds.Exit (the (codes "C") ∷ the_atom (codes "normal") ∷ []))) ∷ child trap ∷ [])
@@ -111,7 +111,7 @@ exits = module_of (main (with_result (codes "C") spawn_child (ask_for kinds.Exit
 abbrev pub ExitComesAfterFlag : Type 0
 ExitComesAfterFlag = OrderMatters exits both_begun (Turn P_1) (Deliver P P_1) (event (Deliver P P_1) (Delivered (Exit normal) IsIgnored)) (event (Deliver P P_1) (Delivered (Exit normal) (Arrives (exit_message P normal))))
 
--- ---- the signal of a link asks whether its receiver traps exits, but not where the link stands no more: then it is dropped
+-- ---- the signal of a link asks whether its receiver traps exits, except where the link is gone: then it is dropped
 
 abbrev pub links : Tree → ModuleTree
 links body = module_of (main (with_result (codes "C") spawn_linked body) ∷ child (the_atom (codes "x")) ∷ [])
@@ -143,17 +143,17 @@ SecondLiesFirst = Tells (λ h. mailbox h P) hears (Turn P ∷ Turn P ∷ Turn P_
 abbrev pub SendsAreFree : Type 0
 SendsAreFree = AreFree hears both_begun (Turn P_1) (Turn P_2)
 
--- ---- a message that is there, and one that comes behind it
+-- ---- a message that is there, and one that comes after it
 
--- who takes the one does not depend on the other
+-- the receive that takes the first does not depend on the delivery of the second
 abbrev pub ReceiveIsFree : Type 0
 ReceiveIsFree = AreFree hears (both_sent ++ (Deliver P_1 P ∷ [])) (Turn P) (Deliver P_2 P)
 
--- who finds none does: it comes to its timeout, or takes what comes
+-- a receive that finds no message does: it reaches its timeout, or takes what comes
 abbrev pub ReceiveComesAfterDelivery : Type 0
 ReceiveComesAfterDelivery = OrderMatters hurries (Turn P ∷ Turn P_1 ∷ []) (Deliver P_1 P) (Turn P) (event (Turn P) TimedOut) (event (Turn P) (Received (atom (codes "x"))))
 
--- a child sends 'a', then 'b'; with 'a' there, its parent wants this message, or comes to its timeout
+-- a child sends 'a', then 'b'; with 'a' there, its parent takes this message, or reaches its timeout
 abbrev pub wants : Name → ModuleTree
 wants text = module_of (main (as_me (in_turn (spawn_with []) (receive (on (only text) (the_atom (codes "x")) ∷ []) (the_number (pos 0)) (the_atom (codes "x"))))) ∷ sends_both ∷ [])
 
@@ -163,7 +163,7 @@ first_is_there = Turn P ∷ Turn P_1 ∷ Turn P_1 ∷ Deliver P_1 P ∷ []
 abbrev pub ReceiveTakesWhatComes : Type 0
 ReceiveTakesWhatComes = OrderMatters (wants (codes "b")) first_is_there (Deliver P_1 P) (Turn P) (event (Turn P) TimedOut) (event (Turn P) (Received (atom (codes "b"))))
 
--- also where neither is what it wants
+-- also where it selects neither
 abbrev pub ReceiveOfNeitherDepends : Type 0
 ReceiveOfNeitherDepends = Depend (wants (codes "c")) first_is_there (Turn P) (Deliver P_1 P)
 
@@ -186,7 +186,7 @@ FlushTakesItsMessage = Tells (λ h. mailbox h P) (flushes_after down_to_me) (all
 abbrev pub FlushDependsOnDelivery : Type 0
 FlushDependsOnDelivery = Depend (flushes_after (ask_for kinds.MakeRef [])) all_but_flush (Turn P) (Deliver P_1 P)
 
--- ---- a name: who is refused it reads whose it is
+-- ---- a name: a process that is refused it reads which process has it
 
 abbrev pub me_as_n : Tree
 me_as_n = ask_for kinds.Register (the_atom (codes "n") ∷ compute pures.OwnPid [] ∷ [])

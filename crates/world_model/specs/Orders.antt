@@ -20,15 +20,15 @@ Depend m steps s t = option_map (λ h. depend (program_of m) h s t) (run (progra
 abbrev pub AreFree : ModuleTree → List Step → Step → Step → Type 0
 AreFree m steps s t = option_map (λ h. are_independent (program_of m) h s t) (run (program_of m) steps) ≡ Some true
 
--- the event of a step behind another
+-- the event of a step after another
 abbrev pub event_behind : Program → History → Step → Step → Option Event
 event_behind a h s t = option_and_then (λ g. next_event a g t) (extended h (next_event a h s))
 
--- whether two steps depend on each other, and what the second does alone, and behind the first
+-- whether two steps depend on each other, and what the second does alone, and after the first
 abbrev pub in_both_orders : Program → History → Step → Step → Bool × (Option Event × Option Event)
 in_both_orders a h s t = (depend a h s t, (next_event a h t, event_behind a h s t))
 
--- they do, and the second does this alone, and that behind the first
+-- they do, and the second does this alone, and that after the first
 abbrev pub OrderMatters : ModuleTree → List Step → Step → Step → Event → Event → Type 0
 OrderMatters m steps s t alone behind = option_map (λ h. in_both_orders (program_of m) h s t) (run (program_of m) steps) ≡ Some (true, (Some alone, Some behind))
 
@@ -36,6 +36,6 @@ OrderMatters m steps s t alone behind = option_map (λ h. in_both_orders (progra
 abbrev pub ReadsIt : ModuleTree → List Step → Step → Cell → Type 0
 ReadsIt m steps step c = option_map (λ h. one_meets (footprint (program_of m) h step).reads c) (run (program_of m) steps) ≡ Some true
 
--- after this schedule a reader tells this
+-- after this schedule a reader says this
 abbrev pub Tells : {A : Type 0} → (History → A) → ModuleTree → List Step → A → Type 0
 Tells read m steps x = option_map read (run (program_of m) steps) ≡ Some x

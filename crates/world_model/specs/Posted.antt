@@ -7,7 +7,7 @@ use Rattle.world_model.specs.Calls.{Call, Send, ToProcess, ToName, SendExit, Lin
 use Rattle.world_model.specs.Cells.{Contents, Alive, Owned, Table, Links, Watchers}
 use Rattle.world_model.specs.Changes.{after}
 use Rattle.world_model.specs.Events.{History, Event, Deed, Served, EndedItself, Ended, RanAway, Delivered, Kills, Signal, Message, Exit, LinkExit, Down}
-use Rattle.world_model.specs.Found.{Found}
+use Rattle.world_model.specs.TableAccess.{Found}
 use Rattle.world_model.specs.Mail.{puts}
 use Rattle.world_model.specs.Names.{Pid, Ref, same_pid}
 use Rattle.world_model.specs.ProcessLines.{LinkWay, PairsGone, link_way, next_ref, noproc}
@@ -35,7 +35,7 @@ abbrev pub put_for_holder : History → Pid → Option Pid → Signal → Pid �
 put_for_holder h p None x s r = []
 put_for_holder h p (Some to) x s r = put_for h p to x s r
 
--- who is gone answers a new link, where the caller traps exits, and a new watch
+-- a process that is gone answers a new link, where the caller traps exits, and a new watch
 abbrev pub put_by_link : LinkWay → Pid → Pid → Pid → Pid → List Signal
 put_by_link PairsGone p q s r = on_way q p (LinkExit noproc) s r
 put_by_link way p q s r = []
@@ -43,7 +43,7 @@ put_by_link way p q s r = []
 abbrev pub put_by_watch : Bool → Pid → Pid → Ref → Pid → Pid → List Signal
 put_by_watch lives p q ref s r = if lives then [] else on_way q p (Down ref noproc) s r
 
--- the new owner of a table is told
+-- the new owner of a table is informed
 abbrev pub put_by_gift : Option Found → Pid → Meaning → Pid → Pid → List Signal
 put_by_gift None to gift s r = []
 put_by_gift (Some f) to gift s r = on_way f.table.owner to (Message (transfer_message (handle_of f.ref f.table) f.table.owner gift)) s r
@@ -63,7 +63,7 @@ put_by_call h p call s r = []
 abbrev pub outlives : Contents → Pid → Pid → Bool
 outlives v p q = if same_pid p q then false else v (Alive q)
 
--- the heir of a table is told that it passes
+-- the heir of a table is informed that it passes
 abbrev pub put_for_heir : Contents → Pid → Ref → tables.Table → Heir → Pid → Pid → List Signal
 put_for_heir v p t table None s r = []
 put_for_heir v p t table (Some heir) s r = if_lives (outlives v p heir.0) (on_way p heir.0 (Message (transfer_message (handle_of t table) p heir.1)) s r)

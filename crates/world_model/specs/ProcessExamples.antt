@@ -6,7 +6,7 @@ use Rattle.core_tree.specs.Syntax.{ModuleTree, Tree}
 use Rattle.core_calls.specs.declared.call.CallKind.TheVariants as kinds
 use Rattle.core_calls.specs.declared.pure.PureCall.TheVariants as pures
 use Rattle.world_model.specs.Events.{Exit, event, Delivered, Arrives, Kills, LinkExit, Down, Received, Refused, NoProcess}
-use Rattle.world_model.specs.Happenings.{P, Happens, P_2, serves_it, spawned, P_1, EndsWith, ends_it, error_of, R_1, normal, HasNoRun}
+use Rattle.world_model.specs.ExampleRuns.{P, Happens, P_2, serves_it, spawned, P_1, EndsWith, ends_it, error_of, R_1, normal, HasNoRun}
 use Rattle.world_model.specs.Modules.{the, ask_for, the_atom, child, the_list, module_of, main, with_result, compute, in_turn, spawn_child, spawn_linked, wait}
 use Rattle.world_model.specs.Names.{Ref}
 use Rattle.world_model.specs.Signals.{exit_message, down_message}
@@ -25,7 +25,7 @@ kill = atom (codes "kill")
 abbrev pub UndefinedEnds : Type 0
 UndefinedEnds = EndsWith (module_of (main (ask_for kinds.Spawn (the_atom (codes "m") ∷ the_atom (codes "d") ∷ the_list [] ∷ [])) ∷ [])) (Turn P ∷ Turn P_1 ∷ []) (ends_it P_1 (error_of (codes "undef")))
 
--- ---- 'kill' ends also who traps exits; the reason 'kill' of a linked process does not
+-- ---- 'kill' also ends a process that traps exits; the reason 'kill' of a linked process does not
 
 abbrev pub kills : ModuleTree
 kills = module_of (main (with_result (codes "C") spawn_child to_kill) ∷ child (in_turn trap wait) ∷ [])

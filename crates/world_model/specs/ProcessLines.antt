@@ -4,7 +4,7 @@ use Rattle.std.specs.Prelude.{List, ◌++◌, if◌then◌else◌, ◌+◌, ◌&
 use Rattle.term_core.specs.Meaning.{Meaning}
 use Rattle.world_model.specs.Calls.{SpawnWay, Alone, Linked, Watched}
 use Rattle.world_model.specs.Cells.{Cell, Watch, Course, Contents, Machine, Trap, Alive, Links, Watchers, Holder, NameOf}
-use Rattle.world_model.specs.Changes.{Change, Joins, Watches, Draws, Begins, Lives, Mails, Touches, Puts, Unwatches, Sheds, Holds, Bears, Vacates, Bares}
+use Rattle.world_model.specs.Changes.{Change, PartnerAdded, WatchSet, WatcherAdded, MachineStarted, AliveSet, MessageAdded, CellTouched, SignalPut, WatchCleared, WatcherRemoved, HolderSet, NameSet, HolderCleared, NameCleared}
 use Rattle.world_model.specs.Ends.{alive_if}
 use Rattle.world_model.specs.Events.{Refusal, Badarg, Message, Exit, NoProcess, LinkExit, Down}
 use Rattle.world_model.specs.Mailboxes.{picked, reads_to_pick}
@@ -40,22 +40,22 @@ next_number course = course.turns + 1
 abbrev pub child_of : Pid → Course → Pid
 child_of p course = p ++ (next_number course ∷ [])
 
-abbrev pub ref_of : Pid → Course → Ref
-ref_of p course = record { pid = p; number = next_number course }
+abbrev pub ref_of_turn : Pid → Course → Ref
+ref_of_turn p course = record { pid = p; number = next_number course }
 
 abbrev pub next_child : Contents → Pid → Pid
 next_child v p = child_of p (v (Machine p))
 
 abbrev pub next_ref : Contents → Pid → Ref
-next_ref v p = ref_of p (v (Machine p))
+next_ref v p = ref_of_turn p (v (Machine p))
 
 -- ---- spawn
 
 abbrev pub pair_begins : Pid → Pid → List Change
-pair_begins p q = Joins p q ∷ Joins q p ∷ []
+pair_begins p q = PartnerAdded p q ∷ PartnerAdded q p ∷ []
 
 abbrev pub watch_begins : Ref → Pid → List Change
-watch_begins ref q = Watches ref q ∷ Draws q ref ∷ []
+watch_begins ref q = WatchSet ref q ∷ WatcherAdded q ref ∷ []
 
 abbrev pub bound : SpawnWay → Pid → Pid → Ref → List Change
 bound Alone p child ref = []
@@ -68,7 +68,7 @@ child_told Linked child ref = process child
 child_told Watched child ref = tuple (process child ∷ reference ref ∷ [])
 
 abbrev pub spawn_line : SpawnWay → Origin → Pid → Course → CallLine
-spawn_line way origin p course = serves [] (child_told way (child_of p course) (ref_of p course)) (Begins (child_of p course) origin ∷ Lives (child_of p course) ∷ bound way p (child_of p course) (ref_of p course))
+spawn_line way origin p course = serves [] (child_told way (child_of p course) (ref_of_turn p course)) (MachineStarted (child_of p course) origin ∷ AliveSet (child_of p course) ∷ bound way p (child_of p course) (ref_of_turn p course))
 
 -- ---- signals to another, and to oneself, where they take effect at once
 
@@ -76,7 +76,7 @@ abbrev pub read_of_target : Bool → Pid → Pid → List Cell
 read_of_target is_own p to = if is_own then Trap p ∷ [] else Alive to ∷ []
 
 abbrev pub sent : Bool → Contents → Pid → Pid → Meaning → List Change
-sent is_own v p to message = if is_own then Mails p message ∷ [] else put_if (v (Alive to)) p to (Message message)
+sent is_own v p to message = if is_own then MessageAdded p message ∷ [] else put_if (v (Alive to)) p to (Message message)
 
 -- a send to a name
 abbrev pub sent_to_holder : Contents → Pid → Option Pid → Meaning → List Change
@@ -93,11 +93,11 @@ holder_read p (Some to) = read_of_target (same_pid p to) p to
 
 -- an exit signal to oneself that does not end its caller is a message
 abbrev pub exited : Bool → Contents → Pid → Pid → Meaning → List Change
-exited is_own v p to reason = if is_own then Mails p (exit_message p reason) ∷ [] else put_if (v (Alive to)) p to (Exit reason)
+exited is_own v p to reason = if is_own then MessageAdded p (exit_message p reason) ∷ [] else put_if (v (Alive to)) p to (Exit reason)
 
 -- ---- links
 
--- what `link/1` comes to: the pair is there or it is oneself; a pair; a pair with one that is gone, which tells so; or nothing
+-- what `link/1` results in: the pair is there or it is oneself; a pair; a pair with one that is gone, which is reported; or nothing
 pub data LinkWay : Type 0 where
   Stands : LinkWay
   Pairs : LinkWay
@@ -120,9 +120,9 @@ link_refusal PairsGone = None
 link_refusal Fails = Some NoProcess
 
 abbrev pub link_changes : Pid → Pid → LinkWay → List Change
-link_changes p q Stands = Touches (Links p) ∷ Touches (Links q) ∷ []
+link_changes p q Stands = CellTouched (Links p) ∷ CellTouched (Links q) ∷ []
 link_changes p q Pairs = pair_begins p q
-link_changes p q PairsGone = pair_begins p q ++ (Puts q p (LinkExit noproc) ∷ [])
+link_changes p q PairsGone = pair_begins p q ++ (SignalPut q p (LinkExit noproc) ∷ [])
 link_changes p q Fails = []
 
 abbrev pub link_line : Pid → Pid → LinkWay → CallLine
@@ -133,15 +133,15 @@ link_line p q way = serves_unless (link_refusal way) (Alive q ∷ Trap p ∷ Lin
 -- of one that is gone the message comes at once
 abbrev pub gone_told : Bool → Pid → Pid → Ref → List Change
 gone_told true p q ref = []
-gone_told false p q ref = Puts q p (Down ref noproc) ∷ []
+gone_told false p q ref = SignalPut q p (Down ref noproc) ∷ []
 
 abbrev pub monitor_line : Pid → Pid → Ref → Bool → CallLine
 monitor_line p q ref lives = serves (Alive q ∷ []) (reference ref) (watch_begins ref q ++ gone_told lives p q ref)
 
 -- a watch ends if the caller made it
 abbrev pub watch_ends : Pid → Ref → Option Pid → List Change
-watch_ends p ref None = Touches (Watch ref) ∷ []
-watch_ends p ref (Some q) = if same_pid ref.pid p then Unwatches ref ∷ Sheds q ref ∷ [] else Touches (Watch ref) ∷ Touches (Watchers q) ∷ []
+watch_ends p ref None = CellTouched (Watch ref) ∷ []
+watch_ends p ref (Some q) = if same_pid ref.pid p then WatchCleared ref ∷ WatcherRemoved q ref ∷ [] else CellTouched (Watch ref) ∷ CellTouched (Watchers q) ∷ []
 
 -- a flush takes its message, if it is there
 abbrev pub flushed : Bool → Pid → Option Meaning → List Change
@@ -168,8 +168,8 @@ abbrev pub register_refusal : Name → Bool → Option Pid → Option Name → O
 register_refusal name lives holder other = if lives && (not (is_undefined name) && (not (is_some holder) && not (is_some other))) then None else Some Badarg
 
 abbrev pub register_line : Name → Pid → Bool → Option Pid → Option Name → CallLine
-register_line name q lives holder other = serves_unless (register_refusal name lives holder other) (Alive q ∷ Holder name ∷ NameOf q ∷ []) ok (Holds name q ∷ Bears q name ∷ [])
+register_line name q lives holder other = serves_unless (register_refusal name lives holder other) (Alive q ∷ Holder name ∷ NameOf q ∷ []) ok (HolderSet name q ∷ NameSet q name ∷ [])
 
 abbrev pub unregister_line : Name → Option Pid → CallLine
 unregister_line name None = badarg (Holder name ∷ [])
-unregister_line name (Some q) = serves (Holder name ∷ Alive q ∷ []) ok (Vacates name ∷ Bares q ∷ [])
+unregister_line name (Some q) = serves (Holder name ∷ Alive q ∷ []) ok (HolderCleared name ∷ NameCleared q ∷ [])

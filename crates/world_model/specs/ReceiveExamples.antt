@@ -7,7 +7,7 @@ use Rattle.core_tree.specs.Syntax.{DefinitionTree, ModuleTree, Tree}
 use Rattle.core_calls.specs.declared.call.CallKind.TheVariants as kinds
 use Rattle.core_calls.specs.declared.pure.PureCall.TheVariants as pures
 use Rattle.world_model.specs.Events.{event, Received, TimedOut, Delivered, Message, Arrives}
-use Rattle.world_model.specs.Happenings.{P, P_1, P_2, EndsWith, Happens, HasNoRun, ends_it, error_of, serves_it, spawned}
+use Rattle.world_model.specs.ExampleRuns.{P, P_1, P_2, EndsWith, Happens, HasNoRun, ends_it, error_of, serves_it, spawned}
 use Rattle.world_model.specs.Modules.{the, the_atom, the_number, the_list, ask_for, compute, in_turn, with_result, function, main, module_of, on, any, only, receive, for_ever, wait}
 use Rattle.world_model.specs.Names.{Name}
 use Rattle.world_model.specs.Terms.{atom, process}
@@ -18,7 +18,7 @@ a = atom (codes "a")
 abbrev pub b : Meaning
 b = atom (codes "b")
 
--- who calls is `Me` in what follows, and spawns 'c' with it
+-- the caller is `Me` in what follows, and spawns 'c' with it
 abbrev pub as_me : Tree → Tree
 as_me body = with_result (codes "Me") (compute pures.OwnPid []) body
 
@@ -82,7 +82,7 @@ SecondIsHeard = Happens hears (Turn P ∷ Turn P ∷ Turn P_2 ∷ Deliver P_2 P 
     ∷ ends_it P (error_of (codes "bad"))
     ∷ [])
 
--- ---- where no message is there and the timeout is a number, the turn comes to it
+-- ---- where no message is there and the timeout is a number, the turn reaches it
 
 abbrev pub hurries : ModuleTree
 hurries =

@@ -2,7 +2,7 @@
 use Rattle.std.specs.Prelude.{Bool, List}
 use Rattle.term_core.specs.Meaning.{Meaning}
 use Rattle.core_calls.specs.declared.call.CallKind.{CallKind}
-use Rattle.eval_rules.specs.Asked.{Answered}
+use Rattle.core_semantics.specs.Asked.{Answered}
 use Rattle.world_model.specs.Names.{Name, Pid}
 
 -- where a process begins: the first in `main/0`, another in the function with the arguments of its spawn

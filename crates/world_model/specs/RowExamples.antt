@@ -5,7 +5,7 @@ use Rattle.term_core.specs.declared.step.Step.TheVariants.{Turn}
 use Rattle.core_tree.specs.Syntax.{ModuleTree, Tree}
 use Rattle.core_calls.specs.declared.call.CallKind.{CallKind}
 use Rattle.core_calls.specs.declared.call.CallKind.TheVariants as kinds
-use Rattle.world_model.specs.Happenings.{P, R_1, serves_it, refuses_it, EndsWith}
+use Rattle.world_model.specs.ExampleRuns.{P, R_1, serves_it, refuses_it, EndsWith}
 use Rattle.world_model.specs.Modules.{the, the_atom, the_number, the_tuple, the_list, the_table, ask_for, in_turn, with_result, module_of, main}
 use Rattle.world_model.specs.Names.{Name}
 use Rattle.world_model.specs.Terms.{atom, number, list_of, ok, truth, tuple}
@@ -24,7 +24,7 @@ with_objects options objects call = module_of (main (with_result (codes "T") (as
 abbrev pub Answers : List Tree → List Tree → CallKind → List Tree → List Meaning → Meaning → Type 0
 Answers options objects kind arguments given answer = EndsWith (with_objects options objects (on_it kind arguments)) (Turn P ∷ Turn P ∷ Turn P ∷ []) (serves_it P kind (R_1 ∷ given) answer)
 
--- behind another call it is
+-- after another call it is
 abbrev pub ThenAnswers : List Tree → List Tree → Tree → CallKind → List Tree → List Meaning → Meaning → Type 0
 ThenAnswers options objects first kind arguments given answer = EndsWith (with_objects options objects (in_turn first (on_it kind arguments))) (Turn P ∷ Turn P ∷ Turn P ∷ Turn P ∷ []) (serves_it P kind (R_1 ∷ given) answer)
 

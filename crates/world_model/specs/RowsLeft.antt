@@ -8,13 +8,13 @@ use Rattle.world_model.specs.Calls.{TableCall, Insert, InsertNew, DeleteTable, D
 use Rattle.world_model.specs.Cells.{Row, Rows, Contents, Cell}
 use Rattle.world_model.specs.Changes.{cell_of}
 use Rattle.world_model.specs.Events.{History, event, Served}
-use Rattle.world_model.specs.Found.{Found}
+use Rattle.world_model.specs.TableAccess.{Found}
 use Rattle.world_model.specs.Names.{Pid}
 use Rattle.world_model.specs.Objects.{given, one_present, keys_asked, place_of, sum_of}
 use Rattle.world_model.specs.Rows.{Object, Key, parts_at, same_key, stored, part_at, rewritten, Removes, altered}
 use Rattle.world_model.specs.TableLines.{table_line}
 use Rattle.world_model.specs.Tables.{is_bag}
-use Rattle.world_model.specs.Touch.{Touch, NoRow, RowsOfKeys, EachRow, cells_of}
+use Rattle.world_model.specs.RowFootprints.{Touch, NoRow, RowsOfKeys, EachRow, cells_of}
 use Rattle.world_model.specs.World.{rows, found, contents}
 use Rattle.world_model.specs.declared.table.Kind.{Kind}
 

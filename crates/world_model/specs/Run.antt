@@ -4,7 +4,7 @@ use Rattle.std.specs.Prelude.{List, map, ◌∷◌, ◌≡◌, Option, option_ma
 use Rattle.term_core.specs.StepOrder.{order_of_steps}
 use Rattle.term_core.specs.declared.step.Step.{Step}
 use Rattle.term_core.specs.declared.step.Step.TheVariants.{Turn, Deliver}
-use Rattle.world_model.specs.Changes.{Change, Lives, Puts, set_in_order}
+use Rattle.world_model.specs.Changes.{Change, AliveSet, SignalPut, set_in_order}
 use Rattle.world_model.specs.Events.{event, Event, History}
 use Rattle.world_model.specs.Names.{Pid}
 use Rattle.world_model.specs.Requests.{Program}
@@ -58,8 +58,8 @@ latest (Some (e ∷ h)) = Some e
 
 -- the step that a change opens: a life opens the turns of its process, a signal its delivery
 abbrev pub opened_by : Change → Option Step
-opened_by (Lives p) = Some (Turn p)
-opened_by (Puts s r signal) = Some (Deliver s r)
+opened_by (AliveSet p) = Some (Turn p)
+opened_by (SignalPut s r signal) = Some (Deliver s r)
 opened_by change = None
 
 abbrev pub with_opened : Option Step → List Step → List Step

@@ -3,7 +3,7 @@ use Rattle.std.specs.Prelude.{◌<◌, ◌++◌, ◌∷◌, ◌≡◌, ◌↔◌
 use Rattle.world_model.specs.Calls.{TableArgument}
 use Rattle.world_model.specs.Cells.{TableName}
 use Rattle.world_model.specs.Events.{History}
-use Rattle.world_model.specs.Found.{Found}
+use Rattle.world_model.specs.TableAccess.{Found}
 use Rattle.world_model.specs.Names.{Name, Pid, Ref, IsAmong}
 use Rattle.world_model.specs.Requests.{Program}
 use Rattle.world_model.specs.Run.{IsRun}
@@ -50,6 +50,6 @@ OwnersHaveTables = (a : Program) (h : History) (p : Pid) (t : Ref) → IsRun a h
 abbrev pub TargetsHaveWatches : Type 0
 TargetsHaveWatches = (a : Program) (h : History) (p : Pid) (ref : Ref) → IsRun a h → IsAmong ref (watches_of h p) ↔ (watched h ref ≡ Some p)
 
--- who is linked to another, that is linked to it
+-- links are mutual
 abbrev pub LinksAreMutual : Type 0
 LinksAreMutual = (h : History) (p q : Pid) → IsAmong q (linked h p) ↔ IsAmong p (linked h q)

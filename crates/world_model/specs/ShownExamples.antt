@@ -5,7 +5,7 @@ use Rattle.term_core.specs.declared.step.Step.TheVariants.{Turn}
 use Rattle.core_tree.specs.Syntax.{ModuleTree}
 use Rattle.core_calls.specs.declared.call.CallKind.TheVariants as kinds
 use Rattle.world_model.specs.Asking.{program_of}
-use Rattle.world_model.specs.Happenings.{P, P_2, t, a_1, error_of}
+use Rattle.world_model.specs.ExampleRuns.{P, P_2, t, a_1, error_of}
 use Rattle.world_model.specs.Run.{run}
 use Rattle.world_model.specs.Shown.{Identity, End, RefusedCall, Flags, shown, errors_of, refusals_of}
 use Rattle.world_model.specs.TableExamples.{writes, stranger}

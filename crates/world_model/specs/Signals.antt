@@ -3,7 +3,7 @@ use Rattle.std.specs.List.{list_any}
 use Rattle.std.specs.Prelude.{Bool, not, ◌&&◌, List, [], ◌∷◌, Option, Some, None, is_some, if◌then◌else◌, codes, drop, false}
 use Rattle.term_core.specs.Meaning.{Meaning}
 use Rattle.world_model.specs.Cells.{Cell, Trap, Front, Tail, Links, Watch, Watchers, Contents}
-use Rattle.world_model.specs.Changes.{Change, Puts, Parts, Unwatches, Sheds}
+use Rattle.world_model.specs.Changes.{Change, SignalPut, PartnerRemoved, WatchCleared, WatcherRemoved}
 use Rattle.world_model.specs.Events.{Signal, Message, Exit, LinkExit, Down, Fate, Arrives, IsIgnored, IsDropped, Kills}
 use Rattle.world_model.specs.Names.{Pid, Ref, same_pid}
 use Rattle.world_model.specs.Terms.{reference, atom, process, tuple, is_atom}
@@ -34,14 +34,14 @@ first_of (x ∷ xs) = Some x
 
 -- a signal is put for a process that lives
 abbrev pub put_if : Bool → Pid → Pid → Signal → List Change
-put_if lives s r signal = if lives then Puts s r signal ∷ [] else []
+put_if lives s r signal = if lives then SignalPut s r signal ∷ [] else []
 
 -- ---- what becomes of a signal
 
 abbrev pub is_normal : Meaning → Bool
 is_normal reason = is_atom (codes "normal") reason
 
--- a process that traps exits gets a message; reason 'normal' is ignored, but from itself; any other ends it
+-- a process that traps exits gets a message; reason 'normal' is ignored, except from itself; any other ends it
 abbrev pub as_exit : Bool → Bool → Pid → Meaning → Fate
 as_exit traps is_own s reason = if traps then Arrives (exit_message s reason) else (if is_normal reason && not is_own then IsIgnored else Kills reason)
 
@@ -49,11 +49,11 @@ as_exit traps is_own s reason = if traps then Arrives (exit_message s reason) el
 abbrev pub exit_fate : Bool → Bool → Pid → Meaning → Fate
 exit_fate traps is_own s reason = if is_atom (codes "kill") reason then Kills (atom (codes "killed")) else as_exit traps is_own s reason
 
--- of a link that stands no more nothing comes
+-- the signal of a link that is gone is dropped
 abbrev pub link_fate : Bool → Bool → Pid → Meaning → Fate
 link_fate stands traps s reason = if stands then as_exit traps false s reason else IsDropped
 
--- of a watch that stands no more nothing comes
+-- the signal of a watch that is gone is dropped
 abbrev pub down_fate : Option Pid → Ref → Pid → Meaning → Fate
 down_fate target ref s reason = if is_some target then Arrives (down_message ref s reason) else IsDropped
 
@@ -63,7 +63,7 @@ fate_of v s r (Exit reason) = exit_fate (v (Trap r)) false s reason
 fate_of v s r (LinkExit reason) = link_fate (list_any (same_pid s) (v (Links r))) (v (Trap r)) s reason
 fate_of v s r (Down ref reason) = down_fate (v (Watch ref)) ref s reason
 
--- what it reads for that: of a link that stands no more nothing comes, whether its receiver traps exits or not
+-- what it reads for that: the signal of a link that is gone is dropped, whether its receiver traps exits or not
 abbrev pub trap_if : Bool → Pid → List Cell
 trap_if stands r = if stands then Trap r ∷ [] else []
 
@@ -75,10 +75,10 @@ reads_of_fate v s r (Down ref reason) = Watch ref ∷ Watchers s ∷ []
 
 -- what goes with a signal, whatever becomes of it: the link, or the watch
 abbrev pub pair_goes : Pid → Pid → List Change
-pair_goes p q = Parts p q ∷ Parts q p ∷ []
+pair_goes p q = PartnerRemoved p q ∷ PartnerRemoved q p ∷ []
 
 abbrev pub goes_with : Pid → Pid → Signal → List Change
 goes_with s r (Message message) = []
 goes_with s r (Exit reason) = []
 goes_with s r (LinkExit reason) = pair_goes s r
-goes_with s r (Down ref reason) = Unwatches ref ∷ Sheds s ref ∷ []
+goes_with s r (Down ref reason) = WatchCleared ref ∷ WatcherRemoved s ref ∷ []

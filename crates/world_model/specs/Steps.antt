@@ -4,10 +4,10 @@ use Rattle.term_core.specs.Meaning.{Meaning}
 use Rattle.term_core.specs.declared.step.Step.{Step}
 use Rattle.term_core.specs.declared.step.Step.TheVariants.{Turn, Deliver}
 use Rattle.core_calls.specs.declared.call.CallKind.{CallKind}
-use Rattle.eval_rules.specs.Asked as answered
+use Rattle.core_semantics.specs.Asked as answered
 use Rattle.world_model.specs.Calls.{Call, SendExit, IsAlive, call_of}
 use Rattle.world_model.specs.Cells.{Cell, Alive, Contents, Trap, Course, Machine, Front, Tail}
-use Rattle.world_model.specs.Changes.{Change, Turns, Picks, Mails, Fetches, after}
+use Rattle.world_model.specs.Changes.{Change, TurnTaken, MessageTaken, MessageAdded, SignalDelivered, after}
 use Rattle.world_model.specs.Ends.{ends, reads_of_end}
 use Rattle.world_model.specs.Events.{Signal, Fate, Arrives, IsIgnored, IsDropped, Kills, Refusal, Deed, Served, Refused, Ended, EndedItself, Received, TimedOut, RanAway, Badarg, NoProcess, ByRule, Delivered}
 use Rattle.world_model.specs.Lines.{line}
@@ -54,7 +54,7 @@ deed_of_call v p kind arguments =
 
 -- ---- turns
 
--- a receive takes the oldest message that a clause selects; where none is, it waits, or comes to its timeout
+-- a receive takes the oldest message that a clause selects; where there is none, it waits, or reaches its timeout
 abbrev pub received : Bool → Option Meaning → Option Deed
 received waits (Some message) = Some (Received message)
 received true None = None
@@ -82,13 +82,13 @@ runaway = atom (codes "runaway")
 
 -- each turn counts, and all but an end answer
 abbrev pub changes_of_turn : Contents → Pid → Deed → List Change
-changes_of_turn v p (Served kind arguments answer) = Turns p (answered.Value answer ∷ []) ∷ (line v p (call_of kind arguments)).changes
-changes_of_turn v p (Refused kind arguments refusal) = Turns p (answered.Raise (atom (raised_by refusal)) ∷ []) ∷ []
-changes_of_turn v p (EndedItself kind arguments reason) = Turns p [] ∷ ends v p reason
-changes_of_turn v p (Received message) = Turns p (answered.Message message ∷ []) ∷ Picks p message ∷ []
-changes_of_turn v p TimedOut = Turns p (answered.TimedOut ∷ []) ∷ []
-changes_of_turn v p (Ended reason) = Turns p [] ∷ ends v p reason
-changes_of_turn v p RanAway = Turns p [] ∷ ends v p runaway
+changes_of_turn v p (Served kind arguments answer) = TurnTaken p (answered.Value answer ∷ []) ∷ (line v p (call_of kind arguments)).changes
+changes_of_turn v p (Refused kind arguments refusal) = TurnTaken p (answered.Raise (atom (raised_by refusal)) ∷ []) ∷ []
+changes_of_turn v p (EndedItself kind arguments reason) = TurnTaken p [] ∷ ends v p reason
+changes_of_turn v p (Received message) = TurnTaken p (answered.Message message ∷ []) ∷ MessageTaken p message ∷ []
+changes_of_turn v p TimedOut = TurnTaken p (answered.TimedOut ∷ []) ∷ []
+changes_of_turn v p (Ended reason) = TurnTaken p [] ∷ ends v p reason
+changes_of_turn v p RanAway = TurnTaken p [] ∷ ends v p runaway
 changes_of_turn v p (Delivered signal fate) = []
 
 abbrev pub reads_if_ended : Contents → Pid → Option Meaning → List Cell
@@ -112,14 +112,14 @@ deed_delivered v s r None = None
 deed_delivered v s r (Some signal) = Some (Delivered signal (fate_of v s r signal))
 
 abbrev pub changes_of_fate : Contents → Pid → Fate → List Change
-changes_of_fate v r (Arrives message) = Mails r message ∷ []
+changes_of_fate v r (Arrives message) = MessageAdded r message ∷ []
 changes_of_fate v r IsIgnored = []
 changes_of_fate v r IsDropped = []
 changes_of_fate v r (Kills reason) = ends v r reason
 
 -- it leaves the channel, with it goes what it is about, and then its fate
 abbrev pub changes_of_delivery : Contents → Pid → Pid → Deed → List Change
-changes_of_delivery v s r (Delivered signal fate) = Fetches s r ∷ (goes_with s r signal ++ changes_of_fate (after (goes_with s r signal) v) r fate)
+changes_of_delivery v s r (Delivered signal fate) = SignalDelivered s r ∷ (goes_with s r signal ++ changes_of_fate (after (goes_with s r signal) v) r fate)
 changes_of_delivery v s r deed = []
 
 abbrev pub reads_if_killed : Contents → Pid → Fate → List Cell

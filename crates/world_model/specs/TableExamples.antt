@@ -7,7 +7,7 @@ use Rattle.core_tree.specs.Syntax.{ModuleTree, Tree}
 use Rattle.core_calls.specs.declared.call.CallKind.TheVariants as kinds
 use Rattle.core_calls.specs.declared.pure.PureCall.TheVariants as pures
 use Rattle.world_model.specs.Events.{event, Delivered, Message, Arrives, Received, TimedOut}
-use Rattle.world_model.specs.Happenings.{t, P, Happens, made_it, serves_it, a_1, ends_it, normal, HasNoRun, EndsWith, P_2, refuses_it, error_of, spawned, P_1, P_3}
+use Rattle.world_model.specs.ExampleRuns.{t, P, Happens, made_it, serves_it, a_1, ends_it, normal, HasNoRun, EndsWith, P_2, refuses_it, error_of, spawned, P_1, P_3}
 use Rattle.world_model.specs.Modules.{the, module_of, main, in_turn, new_table, put_one, look_up, spawn_child, child, with_result, ask_for, the_table, the_atom, the_tuple, the_list, the_number, function, mention, compute, on, any, receive, wait}
 use Rattle.world_model.specs.Signals.{transfer_message}
 use Rattle.world_model.specs.Terms.{ok, atom, list_of, process, tuple}
@@ -44,7 +44,7 @@ StrangerFindsNone = EndsWith stranger (Turn P ∷ Turn P ∷ Turn P ∷ Turn P_2
 abbrev pub StrangerEnds : Type 0
 StrangerEnds = EndsWith stranger (Turn P ∷ Turn P ∷ Turn P_2 ∷ Turn P_2 ∷ []) (ends_it P_2 (error_of (codes "badarg")))
 
--- ---- a table is given away: its old owner writes it no more
+-- ---- a table is given away: its old owner no longer writes it
 
 abbrev pub gives : ModuleTree
 gives = module_of (main (in_turn (new_table []) (with_result (codes "C") spawn_child (in_turn (ask_for kinds.GiveAway (the_table ∷ the (codes "C") ∷ the_atom (codes "d") ∷ [])) put_one))) ∷ child wait ∷ [])

@@ -8,7 +8,7 @@ use Rattle.core_calls.specs.declared.call.CallKind.{CallKind}
 use Rattle.world_model.specs.Calls.{TableArgument, TableCall, call_of, OnTable}
 use Rattle.world_model.specs.Cells.{Machine, Cell, meet}
 use Rattle.world_model.specs.Events.{History, Served, event, Refused, ByRule, Refusal}
-use Rattle.world_model.specs.Judging.{told_owner}
+use Rattle.world_model.specs.TableRules.{told_owner}
 use Rattle.world_model.specs.Names.{Pid, Ref}
 use Rattle.world_model.specs.Requests.{Program, Calls}
 use Rattle.world_model.specs.Rows.{Key, some_if, Object}
@@ -27,7 +27,7 @@ pub record IsAsked (a : Program) (h : History) (p : Pid) (kind : CallKind) (argu
 abbrev pub ServedWhereNone : Type 0
 ServedWhereNone = (a : Program) (h : History) (p : Pid) (kind : CallKind) (arguments : List Meaning) (argument : TableArgument) (call : TableCall) → IsAsked a h p kind arguments argument call → rule_of h p argument call ≡ None → next_event a h (Turn p) ≡ Some (event (Turn p) (Served kind arguments (answer_of h p (OnTable argument call))))
 
--- and else it is refused by the one rule, with the owner then where that is told
+-- and else it is refused by the one rule, with the owner at that time where the rule reports it
 abbrev pub RefusedByRule : Type 0
 RefusedByRule = (a : Program) (h : History) (p : Pid) (kind : CallKind) (arguments : List Meaning) (argument : TableArgument) (call : TableCall) (rule : Rule) → IsAsked a h p kind arguments argument call → rule_of h p argument call ≡ Some rule → next_event a h (Turn p) ≡ Some (event (Turn p) (Refused kind arguments (ByRule rule (told_owner rule (found h argument)))))
 

@@ -4,15 +4,15 @@ use Rattle.std.specs.Prelude.{◌∷◌, if◌then◌else◌, Option, List, None
 use Rattle.term_core.specs.Meaning.{Meaning}
 use Rattle.world_model.specs.Calls.{Increment, TableCall, Lookup, Member, LookupElement, First, Last, Next, Prev, ToList, Insert, InsertNew, DeleteTable, DeleteKey, DeleteObject, DeleteAll, Take, UpdateCounter, UpdateElement, GiveAway, SetOptions, Info, has_items}
 use Rattle.world_model.specs.Cells.{Row, Rows, Contents}
-use Rattle.world_model.specs.Changes.{Change, Writes, Wipes}
-use Rattle.world_model.specs.Found.{Found}
+use Rattle.world_model.specs.Changes.{Change, RowWritten, RowsCleared}
+use Rattle.world_model.specs.TableAccess.{Found}
 use Rattle.world_model.specs.Names.{Pid}
 use Rattle.world_model.specs.Objects.{objects_rule, stores, given, counter_rule, sum_of, place_of, keys_asked, element_rule, element_answer, one_present, one_object, removes, update_rule, alters}
-use Rattle.world_model.specs.Owning.{destroyed, target_rule, gives_to, heirs_rule, heirs_set}
+use Rattle.world_model.specs.Ownership.{destroyed, target_rule, gives_to, heirs_rule, heirs_set}
 use Rattle.world_model.specs.Rows.{Key, Object, Alters, tuples, all_objects, Clears}
 use Rattle.world_model.specs.Signals.{first_of}
 use Rattle.world_model.specs.Terms.{ok, truth}
-use Rattle.world_model.specs.Touch.{Touch, RowsOfKeys, EachRow, NoRow}
+use Rattle.world_model.specs.RowFootprints.{Touch, RowsOfKeys, EachRow, NoRow}
 use Rattle.world_model.specs.Walks.{read_by_item, key_or_end, last_key, walk_rule, key_after, key_before, item_rule, item_value}
 use Rattle.world_model.specs.declared.rule.Rule.{Rule}
 
@@ -35,7 +35,7 @@ insert_new_line present f objects = unless (objects_rule f.table.position object
 
 -- the sum is put in the place of what was there
 abbrev pub counter_line : Found → Key → Increment → List Object → Line
-counter_line f key increment there = unless (counter_rule f.table increment there) (sum_of f.table increment there) (Writes f.ref key (Alters (place_of f.table.position increment) (sum_of f.table increment there)) ∷ [])
+counter_line f key increment there = unless (counter_rule f.table increment there) (sum_of f.table increment there) (RowWritten f.ref key (Alters (place_of f.table.position increment) (sum_of f.table increment there)) ∷ [])
 
 -- ---- the rows that a line reads
 
@@ -85,13 +85,13 @@ table_line v p f (InsertNew objects) = insert_new_line (one_present v f.ref (key
 -- delete/1
 table_line v p f DeleteTable = gives ok (destroyed f)
 -- delete/2
-table_line v p f (DeleteKey key) = gives ok (Writes f.ref key Clears ∷ [])
+table_line v p f (DeleteKey key) = gives ok (RowWritten f.ref key Clears ∷ [])
 -- delete_object/2
 table_line v p f (DeleteObject object) = unless (objects_rule f.table.position (one_object object)) ok (removes f object)
 -- delete_all_objects/1
-table_line v p f DeleteAll = gives ok (Wipes f.ref ∷ [])
+table_line v p f DeleteAll = gives ok (RowsCleared f.ref ∷ [])
 -- take/2
-table_line v p f (Take key) = gives (tuples (v (Row f.ref key))) (Writes f.ref key Clears ∷ [])
+table_line v p f (Take key) = gives (tuples (v (Row f.ref key))) (RowWritten f.ref key Clears ∷ [])
 -- update_counter/3
 table_line v p f (UpdateCounter key increment) = counter_line f key increment (v (Row f.ref key))
 -- update_element/3

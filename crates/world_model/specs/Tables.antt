@@ -9,7 +9,7 @@ use Rattle.world_model.specs.declared.table.Kind.TheVariants.{Set, OrderedSet, B
 use Rattle.world_model.specs.declared.table.Protection.{Protection}
 use Rattle.world_model.specs.declared.table.Protection.TheVariants.{Public, Protected, Private}
 
--- who inherits a table, if anyone, and the data that it is told
+-- who inherits a table, if anyone, and the data that it is given
 abbrev pub Heir : Type 0
 Heir = Option (Pid × Meaning)
 
@@ -57,7 +57,7 @@ plain_options =
     ∷ (codes "public", Protects Public) ∷ (codes "protected", Protects Protected) ∷ (codes "private", Protects Private)
     ∷ (codes "named_table", Named) ∷ (codes "compressed", Tunes) ∷ []
 
--- what stands beside a text
+-- what is listed with a text
 abbrev pub found_beside : {A : Type 0} → Name → List (Name × A) → Option A
 found_beside text [] = None
 found_beside text (x ∷ xs) = if same_name x.0 text then Some x.1 else found_beside text xs

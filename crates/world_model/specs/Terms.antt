@@ -84,7 +84,7 @@ each_in read m = None
 abbrev pub items_in : Meaning → Option (List Meaning)
 items_in m = each_in (λ item. Some item) m
 
--- a position among the parts of a tuple, from 1 on; 0 stands for what is below
+-- a position among the parts of a tuple, from 1 on; 0 means what is below
 abbrev pub position_of : ℤ → ℕ
 position_of (pos n) = n
 position_of (negsuc n) = 0

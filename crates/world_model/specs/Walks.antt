@@ -1,4 +1,4 @@
--- Walks over the keys of a table, and the items that are told of it (ets manual, `first/1`, `last/1`, `next/2`, `prev/2`, `info/2`).
+-- Walks over the keys of a table, and the items that are reported about it (ets manual, `first/1`, `last/1`, `next/2`, `prev/2`, `info/2`).
 use Rattle.std.specs.FinMap.{keys, contains_key}
 use Rattle.std.specs.List.{filter}
 use Rattle.std.specs.Ordering.{is_lt, is_gt}
@@ -7,14 +7,14 @@ use Rattle.term_core.specs.Meaning.{Meaning}
 use Rattle.term_core.specs.Order.{order_of_terms}
 use Rattle.world_model.specs.Cells.{Rows, Contents}
 use Rattle.world_model.specs.Ends.{heir_pid}
-use Rattle.world_model.specs.Found.{Found}
+use Rattle.world_model.specs.TableAccess.{Found}
 use Rattle.world_model.specs.Names.{Name}
 use Rattle.world_model.specs.Rows as rows
 use Rattle.world_model.specs.Rows.{Key, all_objects}
 use Rattle.world_model.specs.Signals.{first_of}
 use Rattle.world_model.specs.Tables.{is_ordered}
 use Rattle.world_model.specs.Terms.{atom, ok, process, number, process_or, truth}
-use Rattle.world_model.specs.Touch.{Touch, EachRow, NoRow}
+use Rattle.world_model.specs.RowFootprints.{Touch, EachRow, NoRow}
 use Rattle.world_model.specs.declared.rule.Rule.{Rule}
 use Rattle.world_model.specs.declared.rule.Rule.TheVariants.{NoKey, BadItem}
 use Rattle.world_model.specs.declared.table.Item.{Item}

@@ -1,16 +1,16 @@
--- What a history leaves in each cell, and what it tells.
+-- What a history leaves in each cell, and what it says.
 use Rattle.std.specs.FinMap.{empty}
 use Rattle.std.specs.Prelude.{◌∷◌, [], None, false, Bool, ℕ, List, Option, option_map}
 use Rattle.term_core.specs.Meaning.{Meaning}
 use Rattle.term_core.specs.declared.step.Step.{Step}
-use Rattle.eval_rules.specs.Ask.{is_first}
-use Rattle.eval_rules.specs.Asked.{Answered}
+use Rattle.core_semantics.specs.Ask.{is_first}
+use Rattle.core_semantics.specs.Asked.{Answered}
 use Rattle.world_model.specs.Calls.{Call, TableArgument, TableCall}
 use Rattle.world_model.specs.Cells.{Table, Row, Rows, Contents, Machine, Alive, Trap, Taken, Mailed, Front, Tail, Links, Watch, Watchers, Holder, NameOf, TableName, Owned}
 use Rattle.world_model.specs.Changes.{after}
 use Rattle.world_model.specs.Events.{Deed, History, Signal, Refusal}
-use Rattle.world_model.specs.Found.{Found, find}
-use Rattle.world_model.specs.Judging.{table_rule}
+use Rattle.world_model.specs.TableAccess.{Found, find}
+use Rattle.world_model.specs.TableRules.{table_rule}
 use Rattle.world_model.specs.Lines.{line}
 use Rattle.world_model.specs.Mailboxes.{mailbox_in}
 use Rattle.world_model.specs.Names.{Name, Ref, Pid}
@@ -53,7 +53,7 @@ unfoldable pub contents : History → Contents
 contents [] = beginning
 contents (e ∷ h) = grown (contents h) e.step e.deed
 
--- ---- what it tells of processes
+-- ---- what it says of processes
 
 -- whether a process lives
 abbrev pub alive : History → Pid → Bool
@@ -79,11 +79,11 @@ waiting h s r = waiting_in (contents h) s r
 abbrev pub mailbox : History → Pid → List Meaning
 mailbox h p = mailbox_in (contents h) p
 
--- to whom it is linked
+-- the processes that it is linked to
 abbrev pub linked : History → Pid → List Pid
 linked h p = contents h (Links p)
 
--- whom a watch is of, and the watches of a process
+-- the process that a watch is for, and the watches of a process
 abbrev pub watched : History → Ref → Option Pid
 watched h ref = contents h (Watch ref)
 
@@ -97,7 +97,7 @@ holder h name = contents h (Holder name)
 abbrev pub name_of : History → Pid → Option Name
 name_of h p = contents h (NameOf p)
 
--- ---- what it tells of tables
+-- ---- what it says of tables
 
 -- the table that an argument finds
 abbrev pub found : History → TableArgument → Option Found

@@ -27,7 +27,7 @@ pub enum Rule {
     NotObject = 10,
     /// An object is too short to have a key.
     ShortObject = 11,
-    /// A position is none, or that of the key where it is to be written, or an object has none there.
+    /// A position is not a valid one, or is that of the key where it is to be written, or an object has no part there.
     BadPosition = 12,
     /// There is no object under the key.
     NoKey = 13,

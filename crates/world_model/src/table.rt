@@ -24,7 +24,7 @@ pub enum Protection {
     Private,
 }
 
-/// What a call does with a table, by which it is known who may call.
+/// What a call does with a table, which determines who may call.
 #[derive(Clone, Copy, Debug, PartialEq, Eq)]
 pub enum Class {
     /// It reads objects.
@@ -37,7 +37,7 @@ pub enum Class {
     Open,
 }
 
-/// What `ets:info/2` tells about a table.
+/// What `ets:info/2` says about a table.
 #[derive(Clone, Copy, Debug, PartialEq, Eq)]
 pub enum Item {
     /// The name with which it was made.

@@ -19,7 +19,7 @@ use Rattle.world_records.specs.Records.{Agrees}
 use Rattle.world_records.specs.inside.Applied.{Applies}
 use Rattle.world_records.specs.declared.cell.Cell as stored
 use Rattle.world_records.specs.declared.change.Change.{Change}
-use Rattle.world_records.specs.declared.change.Change.TheVariants.{Touches, Writes}
+use Rattle.world_records.specs.declared.change.Change.TheVariants.{CellTouched, RowWritten}
 use Rattle.world_records.specs.declared.change.RowChange.{RowChange}
 use Rattle.world_records.specs.declared.records.Records.{Records}
 use Rattle.world_records.proofs.Changing.{agrees_same}
@@ -37,21 +37,21 @@ pub follows_as : {E T : Type 0} (r : Result T E) (change form : Change) (old new
 follows_as r change form old new is done = applies_as r change form old new is (on_ok r (λ follows m v told can. follows m v told) done)
 
 -- a change of rows that is of this form
-pub rewrites_as : {E T : Type 0} (r : Result T E) (id : RefId) (key : Term) (change form : RowChange) (old new : Records) → change ≡ form → OnOk r (Applies (Writes id key form) old new) → OnOk r (Applies (Writes id key change) old new)
-rewrites_as r id key change form old new is done = subst (λ k. OnOk r (Applies (Writes id key k) old new)) (sym is) done
+pub rewrites_as : {E T : Type 0} (r : Result T E) (id : RefId) (key : Term) (change form : RowChange) (old new : Records) → change ≡ form → OnOk r (Applies (RowWritten id key form) old new) → OnOk r (Applies (RowWritten id key change) old new)
+rewrites_as r id key change form old new is done = subst (λ k. OnOk r (Applies (RowWritten id key k) old new)) (sym is) done
 
 -- a cell that is touched is what it was
 either : {A : Type 0} (b : Bool) (x : A) → (if b then x else x) ≡ x
 either true x = refl
 either false x = refl
 
-same_touched : (touched : cells.Cell) (v : Contents) (c : cells.Cell) → changed (changes.Touches touched) v c ≡ v c
+same_touched : (touched : cells.Cell) (v : Contents) (c : cells.Cell) → changed (changes.CellTouched touched) v c ≡ v c
 same_touched touched v c = either (cells.meet touched c) (v c)
 
-pub touches : (change : Change) (cell : stored.Cell) (old : Records) → change ≡ Touches cell → Applies change old old
+pub touches : (change : Change) (cell : stored.Cell) (old : Records) → change ≡ CellTouched cell → Applies change old old
 touches change cell old is = subst (λ k. Applies k old old) (sym is)
     (λ m v told can. let same = same_touched (cell_in cell) v in
-    agrees_same m old v (changed (changes.Touches (cell_in cell)) v) (λ c here. same c) (λ c here. same c) (λ c here. same c) (λ c here. same c) (λ c here. same c) (λ c here. same c) (λ c here. same c) told)
+    agrees_same m old v (changed (changes.CellTouched (cell_in cell)) v) (λ c here. same c) (λ c here. same c) (λ c here. same c) (λ c here. same c) (λ c here. same c) (λ c here. same c) (λ c here. same c) told)
 
 -- ---- rows of a table that is there
 

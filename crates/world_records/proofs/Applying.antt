@@ -4,8 +4,8 @@ use Rattle.core_tree.specs.Syntax.{ModuleTree}
 use Rattle.world_model.specs.Calls.{TableArgument, TableCall, GiveAway, OnTable, First}
 use Rattle.world_model.specs.Cells.{Contents}
 use Rattle.world_model.specs.Changes.{after}
-use Rattle.world_model.specs.Found.{Found, allowed, allowed_at, find}
-use Rattle.world_model.specs.Judging.{found_line, on_table_line, table_rule}
+use Rattle.world_model.specs.TableAccess.{Found, access_rule, access_rule_at, find}
+use Rattle.world_model.specs.TableRules.{found_line, on_table_line, table_rule}
 use Rattle.world_model.specs.Names.{Pid, same_pid}
 use Rattle.world_model.specs.TableLines.{table_line}
 use Rattle.world_model.specs.declared.table.Class.TheVariants.{Owners}
@@ -50,13 +50,13 @@ no_names call = refl
 
 -- ---- what it puts is of its caller
 
-is_owner : (protection : Protection) (own : Bool) → allowed Owners protection own ≡ None → own ≡ true
+is_owner : (protection : Protection) (own : Bool) → access_rule Owners protection own ≡ None → own ≡ true
 is_owner protection true e = refl
 is_owner Public false e = absurd (true≢false (ap is_some e))
 is_owner Protected false e = absurd (true≢false (ap is_some e))
 is_owner Private false e = absurd (true≢false (ap is_some e))
 
-line_passes : (v : Contents) (p : Pid) (f : Found) (call : TableCall) → allowed_at p f call ≡ None → AllPass p (table_line v p f call).changes
+line_passes : (v : Contents) (p : Pid) (f : Found) (call : TableCall) → access_rule_at p f call ≡ None → AllPass p (table_line v p f call).changes
 line_passes v p f (GiveAway None gift) e = tt
 line_passes v p f (GiveAway (Some to) gift) e = (refl, (refl, (refl, (pids_same f.table.owner p (is_owner f.table.protection (same_pid f.table.owner p) e), tt))))
 line_passes v p f First e = tt

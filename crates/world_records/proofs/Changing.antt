@@ -1,4 +1,4 @@
--- Records of which one part followed changes of its own sorts of cells.
+-- Records in which one part followed changes of its own sorts of cells.
 use Rattle.std.proofs.Common.{List, refl}
 use Rattle.core_tree.specs.Syntax.{ModuleTree}
 use Rattle.world_model.specs.Cells.{Contents}

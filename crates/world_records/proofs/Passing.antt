@@ -3,7 +3,7 @@ use Rattle.std.proofs.Common.{◌≡◌, ◌∙◌, ◌||◌, ◌==◌, Bool, tr
 use Rattle.term_core.specs.Meaning.{Meaning}
 use Rattle.world_model.specs.Cells as cells
 use Rattle.world_model.specs.Cells.{Contents}
-use Rattle.world_model.specs.Changes.{Change, Puts, Frees, after, changed, cell_of}
+use Rattle.world_model.specs.Changes.{Change, SignalPut, TableNameCleared, after, changed, cell_of}
 use Rattle.world_model.specs.Ends.{tables_pass, table_passes, passed, living_heir}
 use Rattle.world_model.specs.Events.{Message, Exit, LinkExit, Down}
 use Rattle.world_model.specs.Names.{Pid, Ref}
@@ -20,7 +20,7 @@ use Rattle.world_records.proofs.Parts.{of_tables, of_channels, Same, same_after,
 
 -- a change of a table, or a message that this process puts
 abbrev pub PassesBy : Pid → Change → Type 0
-PassesBy p (Puts s r (Message message)) = s ≡ p
+PassesBy p (SignalPut s r (Message message)) = s ≡ p
 PassesBy p k = is_among of_tables (cell_of k) ≡ true
 
 abbrev pub AllPass : Pid → List Change → Type 0
@@ -32,8 +32,8 @@ pass_both p [] ls first second = second
 pass_both p (k ∷ ks) ls first second = (first.0, pass_both p ks ls first.1 second)
 
 pass_if : (p : Pid) (k : Change) → is_among of_tables (cell_of k) ≡ true → PassesBy p k
-pass_if p (Puts s r (Message m)) e = absurd (true≢false (sym e))
-pass_if p (Puts s r signal) e = e
+pass_if p (SignalPut s r (Message m)) e = absurd (true≢false (sym e))
+pass_if p (SignalPut s r signal) e = e
 pass_if p k e = e
 
 pub all_pass : (p : Pid) (ks : List Change) → AllAmong of_tables ks → AllPass p ks
@@ -44,21 +44,21 @@ all_pass p (k ∷ ks) all = (pass_if p k all.0, all_pass p ks all.1)
 
 after_sends : (p : Pid) (xs ys : List (Pid × Meaning)) → sent_by p (xs ++ ys) ≡ sent_by p xs ++ sent_by p ys
 after_sends p [] ys = refl
-after_sends p (x ∷ xs) ys = ap (λ ks. Puts p x.0 (Message x.1) ∷ ks) (after_sends p xs ys)
+after_sends p (x ∷ xs) ys = ap (λ ks. SignalPut p x.0 (Message x.1) ∷ ks) (after_sends p xs ys)
 
 one_table : (p : Pid) (k : Change) → is_among of_tables (cell_of k) ≡ true → transfer_in k ≡ [] → (v w : Contents) → Same of_channels v w → Same of_channels (changed k v) (after (sent_by p (transfer_in k)) w)
 one_table p k e none v w same c here =
     ap (λ xs. after (sent_by p xs) w c) none ∙ same c here ∙ sym (same_after of_channels of_tables (k ∷ []) v (e, tt) refl c here)
 
 no_transfer : (k : Change) → is_among of_tables (cell_of k) ≡ true → transfer_in k ≡ []
-no_transfer (Puts s r signal) e = absurd (true≢false (sym e))
+no_transfer (SignalPut s r signal) e = absurd (true≢false (sym e))
 no_transfer k e = refl
 
 one_after : (p : Pid) (k : Change) → PassesBy p k → (v w : Contents) → Same of_channels v w → Same of_channels (changed k v) (after (sent_by p (transfer_in k)) w)
-one_after p (Puts s r (Message m)) is v w same c here = ap (λ q. changed (Puts q r (Message m)) w c) (sym is) ∙ follows (Puts s r (Message m) ∷ []) w v c (same c here)
-one_after p (Puts s r (Exit m)) e v w same c here = absurd (true≢false (sym e))
-one_after p (Puts s r (LinkExit m)) e v w same c here = absurd (true≢false (sym e))
-one_after p (Puts s r (Down ref m)) e v w same c here = absurd (true≢false (sym e))
+one_after p (SignalPut s r (Message m)) is v w same c here = ap (λ q. changed (SignalPut q r (Message m)) w c) (sym is) ∙ follows (SignalPut s r (Message m) ∷ []) w v c (same c here)
+one_after p (SignalPut s r (Exit m)) e v w same c here = absurd (true≢false (sym e))
+one_after p (SignalPut s r (LinkExit m)) e v w same c here = absurd (true≢false (sym e))
+one_after p (SignalPut s r (Down ref m)) e v w same c here = absurd (true≢false (sym e))
 one_after p k e v w same c here = one_table p k e (no_transfer k e) v w same c here
 
 pub all_after : (p : Pid) (ks : List Change) → AllPass p ks → (v w : Contents) → Same of_channels v w → Same of_channels (after ks v) (after (sent_by p (transfers_in ks)) w)
@@ -74,7 +74,7 @@ channels_passed p ks channels v all are = channels_same channels (after (sent_by
 
 -- ---- the changes of an end
 
-freed_pass : (p : Pid) (table : tables.Table) (b : Bool) → AllPass p (if b then Frees table.name ∷ [] else [])
+freed_pass : (p : Pid) (table : tables.Table) (b : Bool) → AllPass p (if b then TableNameCleared table.name ∷ [] else [])
 freed_pass p table true = (refl, tt)
 freed_pass p table false = tt
 
@@ -99,7 +99,7 @@ or_true true b e = refl
 or_true false b e = e
 
 one_among : (p : Pid) (k : Change) → PassesBy p k → is_among of_passing (cell_of k) ≡ true
-one_among p (Puts s r signal) is = refl
+one_among p (SignalPut s r signal) is = refl
 one_among p k e = or_true (5 == sort_of (cell_of k)) (is_among of_tables (cell_of k)) e
 
 pub all_among : (p : Pid) (ks : List Change) → AllPass p ks → AllAmong of_passing ks

@@ -1,9 +1,8 @@
 -- The cells of the code, in the words of the explored world.
 use Rattle.std.specs.Prelude.{List, map}
 use Rattle.term_core.specs.Term.{meaning_of}
-use Rattle.proc_links.specs.Process.{ref_of}
 use Rattle.world_model.specs.Cells as cells
-use Rattle.world_model.specs.Names.{Name, Pid, Ref}
+use Rattle.world_model.specs.Names.{Name, Pid, Ref, ref_of}
 use Rattle.world_records.specs.declared.cell.Cell as stored
 use Rattle.world_records.specs.declared.cell.Cell.TheVariants.{OfProcess, OfChannel, OfName, OfReference, Row, Rows}
 use Rattle.world_records.specs.declared.cell.ProcessPart.{ProcessPart}

@@ -1,6 +1,6 @@
 // Changes of processes, of what they send, and of what they are to each other, each applied by itself.
 ghost use Rattle.std.specs.Prelude.{◌≡◌, OnOk};
-ghost use Rattle.world_records.specs.declared.change.Change.TheVariants.{Begins, Dies, Mails, Picks, Puts, Unwatches, Registers, Unregisters, Bares};
+ghost use Rattle.world_records.specs.declared.change.Change.TheVariants.{ProcessStarted, ProcessEnded, MessageAdded, MessageTaken, SignalPut, WatchCleared, NameRegistered, NameUnregistered, NameCleared};
 ghost use Rattle.world_records.specs.inside.Applied.{Applies};
 
 use crate::records::Records;
@@ -9,7 +9,7 @@ use std::alloc::{AllocError, Global};
 use term_core::{Atom, Pid, RefId, Term, Terms};
 
 impl<'m> Records<'m> {
-    // A process begins, with copies of the arguments.
+    /// A process begins, with copies of the arguments.
     pub(crate) fn begin_copy(
         &mut self,
         alloc: Global,
@@ -18,49 +18,49 @@ impl<'m> Records<'m> {
         function_name: &Atom,
         arguments: &Terms,
     ) -> Result<(), AllocError>
-        ensures { OnOk result (Applies (Begins child.now module_name.now function_name.now arguments.now) self.old self.new) }
+        ensures { OnOk result (Applies (ProcessStarted child.now module_name.now function_name.now arguments.now) self.old self.new) }
     {
         let arguments = arguments.copy(alloc)?;
         self.begin(alloc, child, module_name, function_name, arguments)?;
         Ok(())
     }
 
-    // A process ends, whatever the reason, and lives no more.
+    /// A process ends, whatever the reason, and no longer lives.
     pub(crate) fn die(&mut self, alloc: Global, pid: &Pid, _reason: &Term) -> Result<(), AllocError>
-        ensures { OnOk result (Applies (Dies pid.now _reason.now) self.old self.new) }
+        ensures { OnOk result (Applies (ProcessEnded pid.now _reason.now) self.old self.new) }
     {
         self.processes.kill(alloc, pid)?;
         Ok(())
     }
 
-    // A copy of a message comes into a mailbox.
+    /// A copy of a message comes into a mailbox.
     pub(crate) fn mail_copy(
         &mut self,
         alloc: Global,
         pid: &Pid,
         message: &Term,
     ) -> Result<(), AllocError>
-        ensures { OnOk result (Applies (Mails pid.now message.now) self.old self.new) }
+        ensures { OnOk result (Applies (MessageAdded pid.now message.now) self.old self.new) }
     {
         let message = message.copy()?;
         self.mail(alloc, pid, message)?;
         Ok(())
     }
 
-    // A message leaves a mailbox, where it first stands.
+    /// A message leaves a mailbox, where it first occurs.
     pub(crate) fn take_out(
         &mut self,
         alloc: Global,
         pid: &Pid,
         message: &Term,
     ) -> Result<(), AllocError>
-        ensures { OnOk result (Applies (Picks pid.now message.now) self.old self.new) }
+        ensures { OnOk result (Applies (MessageTaken pid.now message.now) self.old self.new) }
     {
         self.mailboxes.remove(alloc, pid, message)?;
         Ok(())
     }
 
-    // A copy of a signal is put.
+    /// A copy of a signal is put.
     pub(crate) fn put_copy(
         &mut self,
         alloc: Global,
@@ -68,40 +68,40 @@ impl<'m> Records<'m> {
         to: &Pid,
         signal: &Signal,
     ) -> Result<(), AllocError>
-        ensures { OnOk result (Applies (Puts from.now to.now signal.now) self.old self.new) }
+        ensures { OnOk result (Applies (SignalPut from.now to.now signal.now) self.old self.new) }
     {
         let signal = signal.copy()?;
         self.put_anyway(alloc, from, to, signal)?;
         Ok(())
     }
 
-    // A reference watches a process no more.
+    /// A reference no longer watches a process.
     pub(crate) fn unwatch(&mut self, id: &RefId, target: &Pid) -> Result<(), AllocError>
-        ensures { OnOk result (Applies (Unwatches id.now target.now) self.old self.new) }
+        ensures { OnOk result (Applies (WatchCleared id.now target.now) self.old self.new) }
     {
         self.watchers.unwatch(id, target)?;
         Ok(())
     }
 
-    // A process gets a name.
+    /// A process gets a name.
     pub(crate) fn give_name(&mut self, name: &Atom, pid: &Pid) -> Result<(), AllocError>
-        ensures { OnOk result (Applies (Registers name.now pid.now) self.old self.new) }
+        ensures { OnOk result (Applies (NameRegistered name.now pid.now) self.old self.new) }
     {
         self.names.put(name, pid)?;
         Ok(())
     }
 
-    // A name is taken from the process that has it.
+    /// A name is taken from the process that has it.
     pub(crate) fn take_name(&mut self, name: &Atom, pid: &Pid) -> Result<(), AllocError>
-        ensures { OnOk result (Applies (Unregisters name.now pid.now) self.old self.new) }
+        ensures { OnOk result (Applies (NameUnregistered name.now pid.now) self.old self.new) }
     {
         self.names.take(name, pid)?;
         Ok(())
     }
 
-    // A process has no name.
+    /// A process has no name.
     pub(crate) fn bare(&mut self, pid: &Pid) -> Result<(), AllocError>
-        ensures { OnOk result (Applies (Bares pid.now) self.old self.new) }
+        ensures { OnOk result (Applies (NameCleared pid.now) self.old self.new) }
     {
         self.names.bare(pid)?;
         Ok(())

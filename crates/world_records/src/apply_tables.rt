@@ -1,7 +1,7 @@
 // Changes of tables, each applied by itself.
 ghost use Rattle.std.specs.Prelude.{◌≡◌, IfOk, OnOk};
 ghost use Rattle.ets_store.specs.Tables.{heir_in};
-ghost use Rattle.world_records.specs.declared.change.Change.TheVariants.{Writes, Wipes, Makes, Passes, Inherits, Goes, Means, Frees, Gains, Loses, Empties};
+ghost use Rattle.world_records.specs.declared.change.Change.TheVariants.{RowWritten, RowsCleared, TableSet, OwnerSet, HeirSet, TableRemoved, TableNameSet, TableNameCleared, OwnedAdded, OwnedRemoved, OwnedCleared};
 ghost use Rattle.world_records.specs.declared.change.RowChange.TheVariants.{Stores, Removes, Clears, Alters};
 ghost use Rattle.world_records.specs.inside.Applied.{Applies};
 
@@ -30,7 +30,7 @@ impl<'m> Records<'m> {
         _kind: Kind,
         object: &Object,
     ) -> Result<(), AllocError>
-        ensures { OnOk result (Applies (Writes id.now key.now (Stores _kind object.now)) self.old self.new) }
+        ensures { OnOk result (Applies (RowWritten id.now key.now (Stores _kind object.now)) self.old self.new) }
     {
         let object = object.copy()?;
         self.tables.store(alloc, id, key, object)?;
@@ -45,7 +45,7 @@ impl<'m> Records<'m> {
         key: &Term,
         object: &Object,
     ) -> Result<(), AllocError>
-        ensures { OnOk result (Applies (Writes id.now key.now (Removes object.now)) self.old self.new) }
+        ensures { OnOk result (Applies (RowWritten id.now key.now (Removes object.now)) self.old self.new) }
     {
         self.tables.erase(alloc, id, key, object)?;
         Ok(())
@@ -53,7 +53,7 @@ impl<'m> Records<'m> {
 
     // All objects are taken out under a key of a table.
     fn delete_key(&mut self, id: &RefId, key: &Term) -> Result<(), AllocError>
-        ensures { OnOk result (Applies (Writes id.now key.now Clears) self.old self.new) }
+        ensures { OnOk result (Applies (RowWritten id.now key.now Clears) self.old self.new) }
     {
         self.tables.delete_key(id, key)?;
         Ok(())
@@ -68,14 +68,14 @@ impl<'m> Records<'m> {
         position: usize,
         value: &Term,
     ) -> Result<(), AllocError>
-        ensures { OnOk result (Applies (Writes id.now key.now (Alters position value.now)) self.old self.new) }
+        ensures { OnOk result (Applies (RowWritten id.now key.now (Alters position value.now)) self.old self.new) }
     {
         let value = value.copy()?;
         self.tables.alter(alloc, id, key, position, value)?;
         Ok(())
     }
 
-    // The objects under a key of a table change.
+    /// The objects under a key of a table change.
     pub(crate) fn rewrite(
         &mut self,
         alloc: Global,
@@ -83,7 +83,7 @@ impl<'m> Records<'m> {
         key: &Term,
         change: &RowChange,
     ) -> Result<(), AllocError>
-        ensures { OnOk result (Applies (Writes id.now key.now change.now) self.old self.new) }
+        ensures { OnOk result (Applies (RowWritten id.now key.now change.now) self.old self.new) }
     {
         match change {
             RowChange::Stores(kind, object) => self.store(alloc, id, key, *kind, object),
@@ -93,15 +93,15 @@ impl<'m> Records<'m> {
         }
     }
 
-    // All rows of a table go.
+    /// All rows of a table go.
     pub(crate) fn wipe(&mut self, alloc: Global, id: &RefId) -> Result<(), AllocError>
-        ensures { OnOk result (Applies (Wipes id.now) self.old self.new) }
+        ensures { OnOk result (Applies (RowsCleared id.now) self.old self.new) }
     {
         self.tables.wipe(alloc, id)?;
         Ok(())
     }
 
-    // A table without rows is made.
+    /// A table without rows is made.
     pub(crate) fn put_table(
         &mut self,
         alloc: Global,
@@ -110,72 +110,72 @@ impl<'m> Records<'m> {
         name: &Atom,
         options: &Vec<TableOption>,
     ) -> Result<(), AllocError>
-        ensures { OnOk result (Applies (Makes id.now owner.now name.now options.now) self.old self.new) }
+        ensures { OnOk result (Applies (TableSet id.now owner.now name.now options.now) self.old self.new) }
     {
         self.tables.put(alloc, owner, id, name, options.as_slice())?;
         Ok(())
     }
 
-    // A table passes to another owner.
+    /// A table passes to another owner.
     pub(crate) fn hand(&mut self, id: &RefId, owner: &Pid) -> Result<(), AllocError>
-        ensures { OnOk result (Applies (Passes id.now owner.now) self.old self.new) }
+        ensures { OnOk result (Applies (OwnerSet id.now owner.now) self.old self.new) }
     {
         self.tables.hand(id, owner)?;
         Ok(())
     }
 
-    // A table has a copy of another heir, or none.
+    /// A table has a copy of another heir, or none.
     pub(crate) fn inherit(&mut self, id: &RefId, heir: &Option<Heir>) -> Result<(), AllocError>
-        ensures { OnOk result (Applies (Inherits id.now heir.now) self.old self.new) }
+        ensures { OnOk result (Applies (HeirSet id.now heir.now) self.old self.new) }
     {
         let heir = copied(heir)?;
         self.tables.inherit(id, heir)?;
         Ok(())
     }
 
-    // A table goes, with all its rows.
+    /// A table goes, with all its rows.
     pub(crate) fn take_table(&mut self, id: &RefId) -> Result<(), AllocError>
-        ensures { OnOk result (Applies (Goes id.now) self.old self.new) }
+        ensures { OnOk result (Applies (TableRemoved id.now) self.old self.new) }
     {
         self.tables.take(id)?;
         Ok(())
     }
 
-    // A name means a table.
+    /// A name means a table.
     pub(crate) fn mean(&mut self, name: &Atom, id: &RefId) -> Result<(), AllocError>
-        ensures { OnOk result (Applies (Means name.now id.now) self.old self.new) }
+        ensures { OnOk result (Applies (TableNameSet name.now id.now) self.old self.new) }
     {
         self.tables.mean(name, id)?;
         Ok(())
     }
 
-    // A name means no table.
+    /// A name means no table.
     pub(crate) fn free(&mut self, name: &Atom) -> Result<(), AllocError>
-        ensures { OnOk result (Applies (Frees name.now) self.old self.new) }
+        ensures { OnOk result (Applies (TableNameCleared name.now) self.old self.new) }
     {
         self.tables.free(name)?;
         Ok(())
     }
 
-    // A process has a table.
+    /// A process has a table.
     pub(crate) fn gain(&mut self, alloc: Global, pid: &Pid, id: &RefId) -> Result<(), AllocError>
-        ensures { OnOk result (Applies (Gains pid.now id.now) self.old self.new) }
+        ensures { OnOk result (Applies (OwnedAdded pid.now id.now) self.old self.new) }
     {
         self.tables.gain(alloc, pid, id)?;
         Ok(())
     }
 
-    // A process has a table no more.
+    /// A process no longer has a table.
     pub(crate) fn lose(&mut self, pid: &Pid, id: &RefId) -> Result<(), AllocError>
-        ensures { OnOk result (Applies (Loses pid.now id.now) self.old self.new) }
+        ensures { OnOk result (Applies (OwnedRemoved pid.now id.now) self.old self.new) }
     {
         self.tables.lose(pid, id)?;
         Ok(())
     }
 
-    // A process has no tables.
+    /// A process has no tables.
     pub(crate) fn empty(&mut self, pid: &Pid) -> Result<(), AllocError>
-        ensures { OnOk result (Applies (Empties pid.now) self.old self.new) }
+        ensures { OnOk result (Applies (OwnedCleared pid.now) self.old self.new) }
     {
         self.tables.empty(pid)?;
         Ok(())

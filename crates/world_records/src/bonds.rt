@@ -1,16 +1,15 @@
 // Links and watches (Erlang reference manual, "Processes": "Links" and "Monitors").
 ghost use Rattle.std.specs.Prelude.{◌≡◌, ◌∷◌, ◌++◌, [], IfOk, OnOk};
 ghost use Rattle.proc_links.specs.Links.{way_of};
-ghost use Rattle.core_tree.specs.Syntax.{ModuleTree};
-ghost use Rattle.proc_links.specs.Process.{is_alive, ref_of};
+ghost use Rattle.proc_links.specs.Process.{is_alive};
 ghost use Rattle.proc_machines.specs.Processes.{lives_in};
 ghost use Rattle.proc_signals.specs.Signal.{signal_of};
 ghost use Rattle.term_core.specs.Term.{meaning_of};
 ghost use Rattle.world_model.specs.Cells as cells;
-ghost use Rattle.world_model.specs.Cells.{Contents};
+ghost use Rattle.world_model.specs.Names.{ref_of};
 ghost use Rattle.world_model.specs.ProcessLines.{pair_begins, link_way, link_changes, watch_begins, gone_told, watch_ends, noproc};
 ghost use Rattle.world_model.specs.Signals.{pair_goes, goes_with};
-ghost use Rattle.world_records.specs.Records.{Agrees, Follows, processes_of};
+ghost use Rattle.world_records.specs.Records.{Follows, OfWorld, processes_of};
 
 use crate::records::Records;
 use proc_links::{Life, Linking};
@@ -18,7 +17,7 @@ use proc_signals::Signal;
 use std::alloc::{AllocError, Global};
 use term_core::{Pid, RefId, Term};
 
-// The reason that is told of a process that is gone.
+// The reason that is reported for a process that is gone.
 fn no_process(alloc: Global) -> Result<Term, AllocError>
     ensures { IfOk result (λ reason. meaning_of reason ≡ noproc) }
 {
@@ -46,7 +45,7 @@ impl<'m> Records<'m> {
         Ok(())
     }
 
-    /// Two processes are linked no more (erlang manual, `unlink/1`). `AllocError` if there is no memory.
+    /// Two processes are no longer linked (erlang manual, `unlink/1`). `AllocError` if there is no memory.
     pub fn unpair(&mut self, pid: &Pid, other: &Pid) -> Result<(), AllocError>
         ensures { OnOk result (Follows (λ v. pair_goes pid.now other.now) self.old self.new) }
     {
@@ -54,11 +53,10 @@ impl<'m> Records<'m> {
         Ok(())
     }
 
-    /// A process asks to be linked to another, and it is told what that came to; of one that is gone an exit signal
+    /// A process asks to be linked to another, and is given what that resulted in; from one that is gone an exit signal
     /// comes where the caller traps exits (erlang manual, `link/1`). `AllocError` if there is no memory.
     pub fn link(&mut self, alloc: Global, pid: &Pid, other: &Pid) -> Result<Linking, AllocError>
-        ensures way { IfOk result (λ linking. (m : ModuleTree) (v : Contents) → Agrees m self.old v →
-            way_of linking ≡ link_way pid.now other.now (v (cells.Links pid.now)) (v (cells.Alive other.now)) (v (cells.Trap pid.now))) }
+        ensures way { IfOk result (λ linking. OfWorld self.old (λ m v. way_of linking ≡ link_way pid.now other.now (v (cells.Links pid.now)) (v (cells.Alive other.now)) (v (cells.Trap pid.now)))) }
         ensures ok { IfOk result (λ linking. Follows (λ v. link_changes pid.now other.now (way_of linking)) self.old self.new) }
     {
         let life = self.life(other);

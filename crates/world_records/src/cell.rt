@@ -15,9 +15,9 @@ pub enum ProcessPart {
     Taken,
     /// What came into its mailbox.
     Mailed,
-    /// To whom it is linked.
+    /// The processes that it is linked to.
     Links,
-    /// By whom it is watched.
+    /// The processes that watch it.
     Watchers,
     /// Which name it has.
     NameOf,
@@ -46,7 +46,7 @@ pub enum NamePart {
 /// What of a reference a cell holds.
 #[derive(Clone, Copy)]
 pub enum ReferencePart {
-    /// Whom it watches.
+    /// The process that it watches.
     Watch,
     /// The table of its creation, without its rows.
     Table,

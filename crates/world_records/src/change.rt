@@ -22,11 +22,11 @@ pub enum RowChange {
     Alters(usize, Term),
 }
 
-/// A change of the records, besides that a process takes a turn and that a signal leaves its channel.
+/// A change of the records, except that a process takes a turn and that a signal leaves its channel.
 #[derive(Drop)]
 pub enum Change {
     /// A process begins in a function of a module with these arguments, and lives.
-    Begins {
+    ProcessStarted {
         /// The process.
         child: Pid,
         /// The module of the function.
@@ -36,52 +36,52 @@ pub enum Change {
         /// What the function is given.
         arguments: Terms,
     },
-    /// A process ends with this reason, and lives no more.
-    Dies(Pid, Term),
+    /// A process ends with this reason, and no longer lives.
+    ProcessEnded(Pid, Term),
     /// Exit signals are messages to a process from now on, or end it.
-    Traps(Pid, Exits),
+    TrapSet(Pid, Exits),
     /// A message comes into a mailbox.
-    Mails(Pid, Term),
-    /// A message leaves a mailbox, where it first stands.
-    Picks(Pid, Term),
+    MessageAdded(Pid, Term),
+    /// A message leaves a mailbox, where it first occurs.
+    MessageTaken(Pid, Term),
     /// The first process puts a signal for the second.
-    Puts(Pid, Pid, Signal),
+    SignalPut(Pid, Pid, Signal),
     /// Two processes are linked.
-    Pairs(Pid, Pid),
-    /// Two processes are linked no more.
-    Unpairs(Pid, Pid),
+    LinkAdded(Pid, Pid),
+    /// Two processes are no longer linked.
+    LinkRemoved(Pid, Pid),
     /// A reference watches a process.
-    Watches(RefId, Pid),
-    /// A reference watches a process no more.
-    Unwatches(RefId, Pid),
+    WatchSet(RefId, Pid),
+    /// A reference no longer watches a process.
+    WatchCleared(RefId, Pid),
     /// A process gets a name.
-    Registers(Atom, Pid),
+    NameRegistered(Atom, Pid),
     /// A name is taken from the process that has it.
-    Unregisters(Atom, Pid),
+    NameUnregistered(Atom, Pid),
     /// A process has no name.
-    Bares(Pid),
+    NameCleared(Pid),
     /// The objects under a key of a table change.
-    Writes(RefId, Term, RowChange),
+    RowWritten(RefId, Term, RowChange),
     /// All rows of a table go.
-    Wipes(RefId),
+    RowsCleared(RefId),
     /// A table without rows is made for a process, with this name and these options.
-    Makes(RefId, Pid, Atom, Vec<TableOption>),
+    TableSet(RefId, Pid, Atom, Vec<TableOption>),
     /// A table passes to another owner.
-    Passes(RefId, Pid),
+    OwnerSet(RefId, Pid),
     /// A table has another heir, or none.
-    Inherits(RefId, Option<Heir>),
+    HeirSet(RefId, Option<Heir>),
     /// A table goes, with all its rows.
-    Goes(RefId),
+    TableRemoved(RefId),
     /// A name means a table.
-    Means(Atom, RefId),
+    TableNameSet(Atom, RefId),
     /// A name means no table.
-    Frees(Atom),
+    TableNameCleared(Atom),
     /// A process has a table.
-    Gains(Pid, RefId),
-    /// A process has a table no more.
-    Loses(Pid, RefId),
+    OwnedAdded(Pid, RefId),
+    /// A process no longer has a table.
+    OwnedRemoved(Pid, RefId),
     /// A process has no tables.
-    Empties(Pid),
+    OwnedCleared(Pid),
     /// A cell counts as written, and holds what it did.
-    Touches(Cell),
+    CellTouched(Cell),
 }

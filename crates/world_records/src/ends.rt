@@ -5,7 +5,7 @@ ghost use Rattle.proc_links.specs.Put.{put_of, puts_by};
 ghost use Rattle.proc_signals.specs.Channels.{AreChannels};
 ghost use Rattle.term_core.specs.Term.{meaning_of};
 ghost use Rattle.world_model.specs.Cells.{Contents};
-ghost use Rattle.world_model.specs.Changes.{Turns, after};
+ghost use Rattle.world_model.specs.Changes.{TurnTaken, after};
 ghost use Rattle.world_model.specs.Ends.{ends, left_by};
 ghost use Rattle.world_records.specs.Records.{Follows};
 ghost use Rattle.world_records.specs.inside.Sending.{sent_by};
@@ -49,8 +49,8 @@ fn put_signals(
 }
 
 impl<'m> Records<'m> {
-    // A process that is dead leaves what it has: its tables go to their heirs, its partners and its watchers are told,
-    // and its name is free.
+    // A process that is dead leaves what it has: its tables go to their heirs, its partners and its watchers are
+    // informed, and its name is free.
     fn leave(&mut self, alloc: Global, pid: &Pid, reason: &Term) -> Result<(), AllocError>
         ensures { OnOk result (Follows (λ v. left_by v pid.now (meaning_of reason.now)) self.old self.new) }
     {
@@ -65,7 +65,7 @@ impl<'m> Records<'m> {
 
     /// A process ends with this reason by a turn of its own. `AllocError` if there is no memory.
     pub fn end(&mut self, alloc: Global, pid: &Pid, reason: &Term) -> Result<(), AllocError>
-        ensures { OnOk result (Follows (λ v. Turns pid.now [] ∷ ends v pid.now (meaning_of reason.now)) self.old self.new) }
+        ensures { OnOk result (Follows (λ v. TurnTaken pid.now [] ∷ ends v pid.now (meaning_of reason.now)) self.old self.new) }
     {
         self.processes.end(alloc, pid)?;
         self.leave(alloc, pid, reason)?;

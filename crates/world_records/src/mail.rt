@@ -1,18 +1,15 @@
 // Messages and signals (Erlang reference manual, "Processes": "Sending Signals").
 ghost use Rattle.std.specs.Prelude.{◌≡◌, ◌∷◌, [], IfOk, OnOk, IsSome, None, true, option_map};
-ghost use Rattle.core_tree.specs.Syntax.{ModuleTree};
-ghost use Rattle.proc_links.specs.Process.{ref_of};
-ghost use Rattle.proc_machines.specs.Processes.{lives_in, selects_in};
+ghost use Rattle.proc_machines.specs.Processes.{lives_in};
 ghost use Rattle.proc_signals.specs.Signal.{signal_of};
 ghost use Rattle.term_core.specs.Term.{meaning_of};
 ghost use Rattle.world_model.specs.Cells as cells;
-ghost use Rattle.world_model.specs.Cells.{Contents};
-ghost use Rattle.world_model.specs.Changes.{Fetches, Mails, Puts, is_of_watch};
+ghost use Rattle.world_model.specs.Changes.{SignalDelivered, MessageAdded, SignalPut, is_of_watch};
 ghost use Rattle.world_model.specs.Mailboxes.{mailbox_in, picked, selected_of};
 ghost use Rattle.world_model.specs.ProcessLines.{sent, exited};
-ghost use Rattle.world_model.specs.Names.{same_pid};
+ghost use Rattle.world_model.specs.Names.{same_pid, ref_of};
 ghost use Rattle.world_model.specs.Signals.{first_of, put_if, waiting_in};
-ghost use Rattle.world_records.specs.Records.{Agrees, AreAlike, Follows, processes_of};
+ghost use Rattle.world_records.specs.Records.{AreAlike, Follows, OfWorld, processes_of, selected_in};
 
 use crate::records::Records;
 use proc_links::exit_message;
@@ -44,8 +41,8 @@ impl<'m> Records<'m> {
         Ok(())
     }
 
-    /// A signal is put for a process, whether or not that lives: what `link/1` and `monitor/2` are told of one that
-    /// is gone. `AllocError` if there is no memory.
+    /// A signal is put for a process, whether or not that lives: what `link/1` and `monitor/2` get of one that is gone.
+    /// `AllocError` if there is no memory.
     pub(crate) fn put_anyway(
         &mut self,
         alloc: Global,
@@ -53,7 +50,7 @@ impl<'m> Records<'m> {
         to: &Pid,
         signal: Signal,
     ) -> Result<(), AllocError>
-        ensures { OnOk result (Follows (λ v. Puts from.now to.now (signal_of signal) ∷ []) self.old self.new) }
+        ensures { OnOk result (Follows (λ v. SignalPut from.now to.now (signal_of signal) ∷ []) self.old self.new) }
     {
         self.channels.send(alloc, from, to, signal)?;
         Ok(())
@@ -61,7 +58,7 @@ impl<'m> Records<'m> {
 
     /// A message comes into a mailbox. `AllocError` if there is no memory.
     pub fn mail(&mut self, alloc: Global, pid: &Pid, message: Term) -> Result<(), AllocError>
-        ensures { OnOk result (Follows (λ v. Mails pid.now (meaning_of message) ∷ []) self.old self.new) }
+        ensures { OnOk result (Follows (λ v. MessageAdded pid.now (meaning_of message) ∷ []) self.old self.new) }
     {
         self.mailboxes.put(alloc, pid, message)?;
         Ok(())
@@ -109,8 +106,8 @@ impl<'m> Records<'m> {
     /// The oldest signal from one process to another leaves its channel, if one waits there. `AllocError` if there is
     /// no memory.
     pub fn fetch(&mut self, from: &Pid, to: &Pid) -> Result<Option<Signal>, AllocError>
-        ensures fetched { IfOk result (λ fetched. (m : ModuleTree) (v : Contents) → Agrees m self.old v → option_map signal_of fetched ≡ first_of (waiting_in v from.now to.now)) }
-        ensures ok { IfOk result (λ fetched. IsSome fetched → Follows (λ v. Fetches from.now to.now ∷ []) self.old self.new) }
+        ensures fetched { IfOk result (λ fetched. OfWorld self.old (λ m v. option_map signal_of fetched ≡ first_of (waiting_in v from.now to.now))) }
+        ensures ok { IfOk result (λ fetched. IsSome fetched → Follows (λ v. SignalDelivered from.now to.now ∷ []) self.old self.new) }
         ensures none { IfOk result (λ fetched. fetched ≡ None → AreAlike self.old self.new) }
     {
         let fetched = self.channels.take_front(from, to)?;
@@ -120,8 +117,7 @@ impl<'m> Records<'m> {
     /// The oldest message that the receive of a process selects leaves its mailbox, if there is one. `AllocError` if
     /// there is no memory.
     pub fn pick(&mut self, alloc: Global, pid: &Pid) -> Result<Option<Term>, AllocError>
-        ensures taken { IfOk result (λ taken. (m : ModuleTree) (v : Contents) → Agrees m self.old v → lives_in (processes_of self.old) pid.now ≡ true →
-            option_map meaning_of taken ≡ selected_of (selects_in (processes_of self.old) pid.now) (mailbox_in v pid.now)) }
+        ensures taken { IfOk result (λ taken. OfWorld self.old (λ m v. lives_in (processes_of self.old) pid.now ≡ true → option_map meaning_of taken ≡ selected_in self.old v pid.now)) }
         ensures ok { IfOk result (λ taken. Follows (λ v. picked pid.now (option_map meaning_of taken)) self.old self.new) }
     {
         let Some(receiver) = self.processes.receiver(pid) else {

@@ -39,8 +39,8 @@ impl Drop for Records<'_> {
 }
 
 impl<'m> Records<'m> {
-    /// The parts in the beginning: the first process stands at the first request of `main/0` of the module, and all
-    /// else is empty. `AllocError` if there is no memory.
+    /// The parts in the beginning: the first process is at the first request of `main/0` of the module, and all else is
+    /// empty. `AllocError` if there is no memory.
     pub fn open(alloc: Global, program: &'m Module) -> Result<Records<'m>, AllocError>
         ensures { IfOk result (λ opened. Agrees program.now opened beginning) }
     {

@@ -1,21 +1,17 @@
 // Tables (the Erlang manual, module `ets`).
-ghost use Rattle.std.specs.FinMap.{empty};
-ghost use Rattle.std.specs.Prelude.{◌≡◌, None, IfOk, OnOk, map};
-ghost use Rattle.core_tree.specs.Syntax.{ModuleTree};
+ghost use Rattle.std.specs.Prelude.{◌≡◌, IfOk, OnOk, map};
 ghost use Rattle.ets_calls.specs.Arguments.{argument_in};
 ghost use Rattle.ets_calls.specs.Calls.{call_in};
 ghost use Rattle.ets_calls.specs.Options.{option_in};
-ghost use Rattle.proc_links.specs.Process.{ref_of};
+ghost use Rattle.world_model.specs.Names.{ref_of};
 ghost use Rattle.proc_signals.specs.Channels.{AreChannels};
 ghost use Rattle.term_core.specs.Term.{meaning_of};
-ghost use Rattle.world_model.specs.Cells as cells;
 ghost use Rattle.world_model.specs.Cells.{Contents};
 ghost use Rattle.world_model.specs.Changes.{after};
-ghost use Rattle.world_model.specs.Judging.{on_table_line, table_rule};
-ghost use Rattle.world_model.specs.NewTables.{made};
+ghost use Rattle.world_model.specs.TableRules.{table_rule};
 ghost use Rattle.world_model.specs.Tables.{handle_of, table_of};
 ghost use Rattle.ets_rules.specs.Tables.{told_in};
-ghost use Rattle.world_records.specs.Records.{Agrees};
+ghost use Rattle.world_records.specs.Records.{Agrees, MakesTable, OfServedCall, OfWorld};
 ghost use Rattle.world_records.specs.inside.Sending.{sent_by};
 
 use crate::records::Records;
@@ -46,7 +42,7 @@ impl<'m> Records<'m> {
     /// The one rule by which a call of a table by this process is refused; `None` where it is served. It takes no
     /// memory.
     pub fn judge(&self, caller: &Pid, argument: &TableArgument, call: &TableCall) -> Option<Rule>
-        ensures { (m : ModuleTree) (v : Contents) → Agrees m self.now v → result ≡ table_rule v caller.now (argument_in argument.now) (call_in call.now) }
+        ensures { OfWorld self.now (λ m v. result ≡ table_rule v caller.now (argument_in argument.now) (call_in call.now)) }
     {
         self.tables
             .judge(caller, argument, call, self.processes.living())
@@ -63,8 +59,7 @@ impl<'m> Records<'m> {
         options: &[TableOption],
     ) -> Result<Term, AllocError>
         ensures answer { IfOk result (λ answer. meaning_of answer ≡ handle_of (ref_of id.now) (table_of owner.now name.now (map option_in options.now))) }
-        ensures ok { OnOk result ((m : ModuleTree) (v : Contents) → v (cells.Rows (ref_of id.now)) ≡ empty → Agrees m self.old v →
-            Agrees m self.new (after (made owner.now (ref_of id.now) name.now (map option_in options.now)) v)) }
+        ensures ok { OnOk result (MakesTable owner.now (ref_of id.now) name.now (map option_in options.now) self.old self.new) }
     {
         let answer = self.tables.make(alloc, owner, id, name, options)?;
         Ok(answer)
@@ -79,10 +74,8 @@ impl<'m> Records<'m> {
         argument: &TableArgument,
         call: &TableCall,
     ) -> Result<Term, AllocError>
-        ensures answer { IfOk result (λ answer. (m : ModuleTree) (v : Contents) → Agrees m self.old v → table_rule v caller.now (argument_in argument.now) (call_in call.now) ≡ None →
-            meaning_of answer ≡ (on_table_line v caller.now (argument_in argument.now) (call_in call.now)).answer) }
-        ensures ok { OnOk result ((m : ModuleTree) (v : Contents) → Agrees m self.old v → table_rule v caller.now (argument_in argument.now) (call_in call.now) ≡ None →
-            Agrees m self.new (after (on_table_line v caller.now (argument_in argument.now) (call_in call.now)).changes v)) }
+        ensures answer { IfOk result (λ answer. OfServedCall self.old caller.now (argument_in argument.now) (call_in call.now) (λ m v l. meaning_of answer ≡ l.answer)) }
+        ensures ok { OnOk result (OfServedCall self.old caller.now (argument_in argument.now) (call_in call.now) (λ m v l. Agrees m self.new (after l.changes v))) }
     {
         let Done { answer, transfer } = self.tables.apply(alloc, argument, call)?;
         put_message(alloc, &mut self.channels, caller, transfer)?;

@@ -5,7 +5,7 @@ ghost use Rattle.core_tree.specs.Syntax.{ModuleTree};
 ghost use Rattle.proc_machines.specs.Processes.{turns_in};
 ghost use Rattle.term_core.specs.Meaning.{Meaning};
 ghost use Rattle.world_model.specs.Cells.{Contents};
-ghost use Rattle.world_model.specs.Changes.{after, Begins, Dies, Halts, Lives, Turns};
+ghost use Rattle.world_model.specs.Changes.{after, MachineStarted, AliveCleared, MachineHalted, AliveSet, TurnTaken};
 ghost use Rattle.world_model.specs.Requests.{Spawned};
 ghost use Rattle.world_records.specs.Records.{Agrees, Follows, processes_of};
 
@@ -26,16 +26,16 @@ impl<'m> Records<'m> {
 
     /// A process takes a turn, and runs on with what it is answered. `AllocError` if there is no memory.
     pub fn turn(&mut self, alloc: Global, pid: &Pid, answer: Answer) -> Result<(), AllocError>
-        ensures { OnOk result (Follows (λ v. Turns pid.now (answered_of answer ∷ []) ∷ []) self.old self.new) }
+        ensures { OnOk result (Follows (λ v. TurnTaken pid.now (answered_of answer ∷ []) ∷ []) self.old self.new) }
     {
         self.processes.turn(alloc, pid, answer)?;
         Ok(())
     }
 
-    /// A process takes its last turn, ends, and lives no more; what else its end leaves is not done. `AllocError` if
+    /// A process takes its last turn, ends, and no longer lives; what else its end leaves is not done. `AllocError` if
     /// there is no memory.
     pub fn end_turn(&mut self, alloc: Global, pid: &Pid) -> Result<(), AllocError>
-        ensures { OnOk result ((m : ModuleTree) (v : Contents) (reason : Meaning) → Agrees m self.old v → Agrees m self.new (after (Turns pid.now [] ∷ Halts pid.now reason ∷ Dies pid.now ∷ []) v)) }
+        ensures { OnOk result ((m : ModuleTree) (v : Contents) (reason : Meaning) → Agrees m self.old v → Agrees m self.new (after (TurnTaken pid.now [] ∷ MachineHalted pid.now reason ∷ AliveCleared pid.now ∷ []) v)) }
     {
         self.processes.end(alloc, pid)?;
         Ok(())
@@ -51,7 +51,7 @@ impl<'m> Records<'m> {
         function_name: &Atom,
         arguments: Terms,
     ) -> Result<(), AllocError>
-        ensures { OnOk result (Follows (λ v. Begins child.now (Spawned module_name.now function_name.now arguments) ∷ Lives child.now ∷ []) self.old self.new) }
+        ensures { OnOk result (Follows (λ v. MachineStarted child.now (Spawned module_name.now function_name.now arguments) ∷ AliveSet child.now ∷ []) self.old self.new) }
     {
         self.processes
             .begin(alloc, child, module_name, function_name, arguments)?;

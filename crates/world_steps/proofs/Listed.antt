@@ -24,7 +24,7 @@ use Rattle.world_model.specs.StepLaws.{ComesBefore, AreInOrder}
 use Rattle.world_model.specs.Steps.{deed_delivered, next_deed}
 use Rattle.world_model.specs.World.{contents}
 use Rattle.world_model.proofs.Opened.{enabled_listed, listed_enabled, listed_in_order}
-use Rattle.coverage.proofs.Steps as steps
+use Rattle.world_model.proofs.StepLists as steps
 use Rattle.world_steps.specs.inside.Enabling.{PutsEnabled, is_enabled_at, turns_of, deliveries_of}
 use Rattle.world_records.specs.Records.{Agrees}
 use Rattle.world_records.specs.declared.records.Records.{Records}
@@ -171,7 +171,7 @@ listed m h ps pairs sorted ordered lives waits =
     let now = sym (mapped_some (event s) (next_deed a (contents h) s)) ∙ listed_enabled a h s there in
     is_kept test s all now (is_candidate m (contents h) ps pairs lives waits s now))
 
--- ---- steps that are put behind others
+-- ---- steps that are put after others
 
 pub puts_none : (r : Records) (old : List Step) → PutsEnabled r [] old old
 puts_none r old = λ m v told. sym (append-nil old)

@@ -12,11 +12,11 @@ ghost use Rattle.world_records.specs.Records.{Agrees};
 
 use std::alloc::{AllocError, Global};
 use std::collections::BTreeSet;
-use step_plans::is_enabled;
 use term_core::{Pid, Step};
+use world_plans::is_enabled;
 use world_records::Records;
 
-// Puts a step behind others, if it is enabled.
+// Puts a step after others, if it is enabled.
 fn push_if_enabled(
     records: &Records<'_>,
     alloc: Global,
@@ -31,7 +31,7 @@ fn push_if_enabled(
     Ok(())
 }
 
-// Puts the turns of processes behind other steps, those that are enabled.
+// Puts the turns of processes after other steps, those that are enabled.
 fn push_turns(
     records: &Records<'_>,
     alloc: Global,
@@ -47,7 +47,7 @@ fn push_turns(
     Ok(())
 }
 
-// Puts the deliveries between pairs of processes behind other steps, those that are enabled.
+// Puts the deliveries between pairs of processes after other steps, those that are enabled.
 fn push_deliveries(
     records: &Records<'_>,
     alloc: Global,

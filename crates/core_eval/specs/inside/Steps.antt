@@ -1,6 +1,6 @@
 -- The steps of the code: what it has on top of its stack means something as a whole, and the work that is left grows less.
 use Rattle.std.specs.Prelude.{ℕ, ◌+◌, ◌*◌, ◌<◌, ◌≤◌, ◌≡◌, List, [], ◌∷◌, ◌++◌, Bool, true, false, not, ◌&&◌, Option, Some, None, option_map}
-use Rattle.core_tree.specs.Syntax.{Mention, Tree, ClauseTree, clauses_of, trees_of}
+use Rattle.core_tree.specs.Syntax.{Mention, Tree, ClauseTree, clauses_of, patterns_of, trees_of}
 use Rattle.core_tree.specs.inside.Sizes.{size_of, size_of_list, size_of_clause_list}
 use Rattle.core_tree.specs.Tree.{tree_of}
 use Rattle.term_core.specs.Meaning.{Meaning}
@@ -11,12 +11,12 @@ use Rattle.core_eval.specs.declared.control.Halt.{Halt}
 use Rattle.core_eval.specs.declared.control.Halt.TheVariants as halts
 use Rattle.core_eval.specs.declared.control.Pause.{Pause}
 use Rattle.core_eval.specs.declared.control.Pause.TheVariants as pauses
-use Rattle.core_stack.specs.Matching.{Environment, bound}
-use Rattle.eval_rules.specs.Evaluation.{State, before, Outcome, Yields, Raises, Setting, then_do, called, choose, guarded, is_true, limited_answer, within, evaluate, evaluate_all}
-use Rattle.pure_calls.specs.Calls.{answer_of}
-use Rattle.eval_rules.specs.Applications.{body_with}
-use Rattle.eval_rules.specs.Ask.{request_of}
-use Rattle.eval_rules.specs.Asked.{Answered}
+use Rattle.core_stack.specs.Matching.{Environment, bound, match_each}
+use Rattle.core_semantics.specs.Evaluation.{State, before, Outcome, Yields, Raises, Setting, then_do, called, choose, guarded, is_true, limited_answer, within, evaluate, evaluate_all, receive, timed, waits_with, at_rest, is_taken}
+use Rattle.core_pure_calls.specs.Calls.{answer_of}
+use Rattle.core_semantics.specs.Applications.{body_with}
+use Rattle.core_semantics.specs.Ask.{request_of}
+use Rattle.core_semantics.specs.Asked.{Answered}
 use Rattle.core_eval.specs.Told.{Told}
 use Rattle.core_eval.specs.Told as told
 use Rattle.core_stack.specs.Holes.{Purpose, Hole, only_keeps, scope, receive_on, waits_on, keeps_on_top}
@@ -63,7 +63,7 @@ gave_true (pauses.Halt (halts.Ask kind arguments)) = false
 gave_true (pauses.Halt (halts.Wait waits)) = false
 gave_true (pauses.Application function arguments) = false
 
--- the clauses of the receive that a stack stands at
+-- the clauses of the receive that a stack waits at
 abbrev pub stands_in : List Hole → Told → Option (List ClauseTree)
 stands_in holes (told.Receive waits) = option_map (λ w. w.0) (waits_on holes)
 stands_in holes (told.Call kind arguments) = None
@@ -74,6 +74,14 @@ stands_in holes told.Runaway = None
 abbrev pub Answers : List Hole → List Hole → Told → Answered → Option Control → Type 0
 Answers old new request answer None = (new ≡ old) × ((setting : Setting) (later : List Answered) → standing setting old request (answer ∷ later) ≡ standing setting old request later)
 Answers old new request answer (Some next) = (setting : Setting) (later : List Answered) → standing setting old request (answer ∷ later) ≡ request_of (going setting new next (before later))
+
+-- a process that goes on like this asks this next, whatever it is answered later, and its new stack waits for the answer
+abbrev pub AsksNext : Setting → List Hole → Control → List Hole → Told → Type 0
+AsksNext setting old control new request = (answers : List Answered) → standing setting new request answers ≡ request_of (going setting old control (before answers))
+
+-- whether a message matches a clause whose guard holds
+abbrev pub is_selected_by : Setting → Environment → ClauseTree → Meaning → Bool
+is_selected_by setting env clause message = is_taken (match_each (patterns_of clause.patterns) (message ∷ []) []) env (λ inner. evaluate setting clause.guard inner at_rest)
 
 -- the work that is left in what is on top of a stack
 abbrev pub load : Control → ℕ
@@ -113,7 +121,7 @@ abbrev pub work : List Hole → ℕ
 work [] = 0
 work (hole ∷ holes) = work_in hole + work holes
 
--- whether no more than the top of a stack does nothing but keep variables
+-- whether at most the top of a stack only keeps variables
 abbrev pub keeps_once : List Hole → Bool
 keeps_once [] = true
 keeps_once (hole ∷ holes) = not (only_keeps hole && keeps_on_top holes)
@@ -126,6 +134,10 @@ pub record GoesOn (old new : List Hole) (next : Control) (got : Setting → Stat
 -- what is on top of the new stack is the evaluation of an expression in the old one
 abbrev pub Enters : List Hole → List Hole → Control → Tree → Type 0
 Enters old new next t = GoesOn old new next (λ setting s. evaluate setting t (scope old) s) (4 * size_of t)
+
+-- what is on top of the new stack is a receive with this timeout in the old one, with its clauses and its action
+abbrev pub EntersReceive : List Hole → List Hole → Control → Meaning → List ClauseTree → Tree → Type 0
+EntersReceive old new next timeout clauses action = GoesOn old new next (λ setting s. timed (waits_with timeout) (λ waits s'. receive setting waits (clauses_of clauses) action (scope old) s') s) 3
 
 -- what several values are for, once those that are left are there
 abbrev pub gathered : Setting → Purpose → List Meaning → List Tree → Environment → State → Outcome

@@ -1,4 +1,4 @@
--- The code of what a machine stands at, by which proofs tell values apart.
+-- The code of what a machine waits at, by which proofs distinguish values.
 use Rattle.std.specs.Prelude.{◌≡◌, ◌⊎◌, Bool, List, refl}
 use Rattle.std.specs.Coded.{Coded, code_by, coded×, coded⊎, coded_list, coded_bool}
 use Rattle.std.proofs.Common.{inl, inr}

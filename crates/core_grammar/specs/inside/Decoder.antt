@@ -95,7 +95,7 @@ word_number k.Receive = 15
 word_number k.After = 16
 word_number k.Letrec = 17
 
--- the keyword that stands after clauses
+-- the keyword that follows clauses
 abbrev pub word_behind : Subject → Keyword
 word_behind subjects.Values = k.End
 word_behind subjects.Message = k.After
@@ -108,7 +108,7 @@ abbrev pub is_word : Keyword → Shape → Bool
 is_word x (lexemes.Word y) = word_number y == word_number x
 is_word x shape = false
 
--- what stands after the mark, if the mark comes next
+-- what follows the mark, if the mark comes next
 abbrev pub after_mark : Mark → List Piece → Option (List Piece)
 after_mark x [] = None
 after_mark x (p ∷ ps) = if is_mark x p.shape then Some ps else None
@@ -131,7 +131,7 @@ is_foreign (lexemes.Mark m.Hash) = true
 is_foreign (lexemes.Mark m.Tilde) = true
 is_foreign shape = false
 
--- the fault at a token that cannot stand here
+-- the fault at a token that cannot be here
 abbrev pub fault_of : ℕ → List Piece → ReadFault
 fault_of stop [] = Expected stop
 fault_of stop (p ∷ ps) = if is_foreign p.shape then UnsupportedForm p.at else Expected p.at
@@ -214,7 +214,7 @@ mention_by at shape = None
 unfoldable pub bare_variable_at : State → Read Mention
 bare_variable_at s = taken (λ p. mention_by p.at p.shape) s.pieces s (fault s)
 
--- what stands after a function's atom
+-- what follows a function's atom
 unfoldable pub behind_atom_at : ℕ → List ℕ → State → Read NamedAt
 behind_atom_at at t s = do
   s1 ← mark_at m.Slash s
@@ -276,7 +276,7 @@ module _ {X : Type 0} (item : State → Read X) where
     xs ← items_at s
     tail_at xs.0 (after_mark m.Bar xs.1.pieces) xs.1
 
-  -- what stands after the bracket of a list
+  -- what follows the bracket of a list
   unfoldable pub brackets_at : State → Read (List X × Option X)
   brackets_at s = brackets_by (after_mark m.RightBracket s.pieces) s
 
@@ -342,7 +342,7 @@ module _ (inner : State → Read Constant) where
     cs ← closed_at inner m.RightBracket s2
     mark_at m.RightParenthesis cs.1
 
-  -- what stands in the parentheses of an annotation, and the end of that
+  -- what is in the parentheses of an annotation, and the end of that
   unfoldable pub in_note_at : {X : Type 0} → (State → Read X) → State → Read X
   in_note_at item s = do
     x ← item s

@@ -62,7 +62,7 @@ deep_expression s = refusal s.refused (deep_expression_of s.stop s.pieces)
 unfoldable pub expression_fault : State → ReadFault
 expression_fault s = refusal s.refused (expression_fault_of s.stop s.pieces)
 
--- the fault where the atom of a call should stand; the first argument is the place of the call
+-- the fault where the atom of a call should be; the first argument is the place of the call
 abbrev pub callee_fault_of : ℕ → ℕ → List Piece → ReadFault
 callee_fault_of at stop [] = Expected stop
 callee_fault_of at stop (p ∷ ps) =
@@ -79,7 +79,7 @@ bare_callee_at at s = taken (λ p. atom_in p.shape) s.pieces s (callee_fault at 
 unfoldable pub callee_at : ℕ → ℕ → State → Read (List ℕ)
 callee_at at n s = noted_at (λ _. bare_callee_at at) n s
 
--- the fault where the name of the function of an `apply` should stand
+-- the fault where the name of the function of an `apply` should be
 abbrev pub applied_fault_of : ℕ → List Piece → ReadFault
 applied_fault_of stop [] = Expected stop
 applied_fault_of stop (p ∷ ps) =
@@ -106,7 +106,7 @@ bare_applied_at s = do
 unfoldable pub applied_at : ℕ → State → Read NamedAt
 applied_at n s = noted_at (λ _. bare_applied_at) n s
 
--- an exported function of the module `own`, as far as the names tell
+-- an exported function of the module `own`, as far as the names show
 abbrev pub export_called : List ℕ → List ℕ → List ℕ → ℕ → Option Callee
 export_called own module_name function_name arity =
     if same_text own module_name && nat_lt arity 256 then Some (callees.Exported (record { name = function_name; arity = arity })) else None
@@ -133,7 +133,7 @@ abbrev pub earlier : Unserved → Option Unserved → Unserved
 earlier u None = u
 earlier u (Some v) = if nat_lt (place_of_unserved u) (place_of_unserved v) then u else v
 
--- something that is not served: what is read goes on, since it may stand in something whose place is less
+-- something that is not served: what is read goes on, since it may be inside something whose place is less
 abbrev pub refuse : Unserved → State → State
 refuse u s = record { pieces = s.pieces; refused = Some (earlier u s.refused); stop = s.stop }
 
@@ -289,7 +289,7 @@ module _ (own : List ℕ) (n : ℕ) (inner : State → Read Tree) where
     b ← body_at g.1
     Ok ((g.0, b.0), b.1)
 
-  -- what stands after the patterns of a clause
+  -- what follows the patterns of a clause
   unfoldable pub behind_patterns_at : List Pattern → State → Read ClauseTree
   behind_patterns_at qs s = do
     s1 ← word_at k.When s
@@ -304,7 +304,7 @@ module _ (own : List ℕ) (n : ℕ) (inner : State → Read Tree) where
   clause_of (ManyPatterns qs) s = behind_patterns_at qs s
   clause_of (WholeClause c) s = Ok (c, s)
 
-  -- in parentheses the start of a clause goes on to the whole of it, where `when` stands after its patterns
+  -- in parentheses the start of a clause goes on to the whole of it, where `when` follows its patterns
   abbrev pub start_by : Start → Option (List Piece) → State → Read Start
   start_by x None s = Ok (x, s)
   start_by x (Some ps) s = do
@@ -327,7 +327,7 @@ module _ (own : List ℕ) (n : ℕ) (inner : State → Read Tree) where
     Ok (OnePattern p.0, p.1)
   aliased x s = Ok (x, s)
 
-  -- a start of a clause in the parentheses of an annotation; its parts stand at n levels
+  -- a start of a clause in the parentheses of an annotation; its parts are at n levels
   unfoldable pub noted_start_at : (State → Read Start) → State → Read Start
   noted_start_at start s = do
     x ← in_note_at (constant_at n) (inside_start_at start) s
@@ -341,7 +341,7 @@ angles_at n subjects.Message s = do
   s1 ← mark_at m.Greater qs.1
   Ok (qs.0, s1)
 
--- patterns that no parenthesis stands before
+-- patterns without a parenthesis before them
 abbrev pub bare_start_by : ℕ → Subject → Option (List Piece) → State → Read Start
 bare_start_by n subject (Some ps) s = do
   qs ← angles_at n subject (with_pieces s ps)
@@ -369,13 +369,13 @@ module _ (own : List ℕ) where
       x ← start subject s
       clause_of own n inner x.0 x.1
 
-    -- the clauses as far as the keyword after them, of which these were read before
+    -- the clauses as far as the keyword after them, when these were read before
     unfoldable pub clauses_at : Subject → List ClauseTree → State → Read (List ClauseTree)
     clauses_at subject front s = do
       cs ← rows_at (clause_at subject) (word_behind subject) s
       Ok (front ++ cs.0, cs.1)
 
-    -- what stands after the value of a `case`
+    -- what follows the value of a `case`
     unfoldable pub choices_at : State → Read (List ClauseTree)
     choices_at s = do
       s1 ← word_at k.Of s
@@ -435,7 +435,7 @@ module _ (own : List ℕ) where
     expression_at zero s = Err (deep_expression s)
     expression_at (suc n) s = form_at n (expression_at n) (start_at n) s
 
-    -- what a clause begins with, whose parts have at most so many levels
+    -- what a clause with parts of at most so many levels begins with
     pub start_at : ℕ → Subject → State → Read Start
     start_at zero subject s = start_last subject (after_mark m.LeftParenthesis s.pieces) s
     start_at (suc n) subject s = start_next n subject (expression_at n) (start_at n subject) (after_mark m.LeftParenthesis s.pieces) s

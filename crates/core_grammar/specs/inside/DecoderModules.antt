@@ -35,7 +35,7 @@ module _ (own : List ℕ) where
   unfoldable pub fun_at : ℕ → ℕ → State → Read (List Mention × Tree)
   fun_at arity n s = noted_at (bare_fun_at arity) n s
 
-  -- what stands after the name of a definition
+  -- what follows the name of a definition
   unfoldable pub behind_name_at : ℕ → NamedAt → State → Read DefinitionTree
   behind_name_at n named s = do
     s1 ← mark_at m.Equals s
@@ -48,7 +48,7 @@ pub data Opening : Type 0 where
   WholeDefinition : (definition : DefinitionTree) → Opening
 
 module _ (own : List ℕ) where
-  -- in parentheses a name goes on to the whole definition, where `=` stands after it
+  -- in parentheses a name goes on to the whole definition, where `=` follows it
   abbrev pub opening_by : ℕ → NamedAt → Option (List Piece) → State → Read Opening
   opening_by n named None s = Ok (TheName named, s)
   opening_by n named (Some ps) s = do

@@ -17,7 +17,7 @@ pub opens_some : (b : Bool) (n : ℕ) (s s1 : State) → b ≡ true → Opens n 
 opens_some true n s s1 f h = h
 opens_some false n s s1 f h = absurd cc
 
--- ---- what stands in the parentheses of an annotation
+-- ---- what is in the parentheses of an annotation
 
 module _ {X : Type 0} (inner : State → Read Constant) (item : State → Read X) where
   pub in_note_fails : (e : ReadFault) (s : State) → item s ≡ Err e → in_note_at inner item s ≡ Err e

@@ -1,4 +1,4 @@
--- The variables that are bound where the code stands, and the functions that may be called there.
+-- The variables that are bound around the code, and the functions that may be called there.
 use Rattle.std.specs.Prelude.{◌≡◌, ◌≢◌, ℕ, List, [], ◌∷◌, ◌++◌, length, map, take, if◌then◌else◌, false, Option, Some, None, Result, Ok, Err}
 use denote.Ref.{Bor}
 use Rattle.indexmap.specs.IndexSet.{IndexSet}

@@ -1,4 +1,4 @@
--- The codes of stacks, by which proofs tell values apart.
+-- The codes of stacks, by which proofs distinguish values.
 use Rattle.std.specs.Prelude.{◌≡◌, ◌⊎◌, List, refl}
 use Rattle.std.specs.Coded.{Coded, code_by, coded×, coded⊎, coded_list, coded_ℕ}
 use Rattle.std.proofs.Common.{inl, inr}

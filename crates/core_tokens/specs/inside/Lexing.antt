@@ -99,7 +99,7 @@ mark_at (c ∷ bytes) = if c == 45 then mark_behind_minus bytes else option_map 
 
 -- ---- numbers
 
--- whether a minus stands at the front, and what follows the sign
+-- whether a minus comes first, and what follows the sign
 unfoldable pub sign_at : List ℕ → Bool × List ℕ
 sign_at [] = (false, [])
 sign_at (c ∷ bytes) = if c == 45 then (true, bytes) else (if c == 43 then (false, bytes) else (false, c ∷ bytes))
@@ -164,7 +164,7 @@ abbrev pub with_digit : ℕ → List ℕ → Option (ℕ × List ℕ) → ℕ ×
 with_digit n bytes None = (n, bytes)
 with_digit n bytes (Some d) = (8 * n + d.0, d.1)
 
--- a number with one more octal digit, where one stands
+-- a number with one more octal digit, if there is one
 unfoldable pub longer_octal : ℕ → List ℕ → ℕ × List ℕ
 longer_octal n bytes = with_digit n bytes (octal_digit_at bytes)
 
@@ -266,11 +266,11 @@ unfoldable pub behind_blank_at : List ℕ → Option (List ℕ)
 behind_blank_at [] = None
 behind_blank_at (c ∷ bytes) = if is_blank c then Some bytes else (if c == 37 then Some (behind_run is_in_line bytes) else None)
 
--- blanks and comments alone stand before the rest: what the rest spells, the bytes spell
+-- only blanks and comments come before the rest: what the rest spells, the bytes spell
 abbrev pub Skips : List ℕ → List ℕ → Type 0
 Skips bytes rest = (stop : ℕ) (behind_slash last_slash : Bool) (ps : List Piece) (end : List ℕ) → Spelt stop behind_slash rest ps last_slash end → Spelt stop behind_slash bytes ps last_slash end
 
--- neither a blank nor a comment stands at the front
+-- neither a blank nor a comment comes first
 abbrev pub BeginsNoBlank : List ℕ → Type 0
 BeginsNoBlank [] = Unit {0}
 BeginsNoBlank (c ∷ bytes) = (is_blank c ≡ false) × (c ≢ 37)

@@ -17,7 +17,7 @@ fn is_blank(c: u8) -> bool
     c == b' ' || c == b'\t' || is_line_end(c)
 }
 
-// How many bytes stand before the line ends.
+// How many bytes come before the line ends.
 fn line_count(text: &[u8]) -> usize
     ensures count { result ≡ prefix_len is_in_line text.now }
     ensures within { result ≤ length text.now }

@@ -10,7 +10,7 @@ ghost use Rattle.core_tokens.specs.inside.Lexing.{GivesUnlessMemory, run_of, beh
 use super::trouble::TokenError;
 use crate::token::Lexeme;
 
-// Whether a minus stands at the front, and what follows the sign.
+// Whether a minus comes first, and what follows the sign.
 #[tactic(auto, unfolding(crate::specs::inside::Lexing::sign_at))]
 fn sign(text: &[u8]) -> (bool, &[u8])
     ensures { (result.0, result.1.now) ≡ sign_at text.now }
@@ -22,7 +22,7 @@ fn sign(text: &[u8]) -> (bool, &[u8])
     }
 }
 
-// How many digits stand at the front.
+// How many digits come first.
 fn digit_count(text: &[u8]) -> usize
     ensures count { result ≡ prefix_len is_ascii_digit text.now }
     ensures within { result ≤ length text.now }
@@ -106,7 +106,7 @@ fn integer(negative: bool, digits: &[u8]) -> Result<i64, TokenError>
 ///
 /// # Errors
 ///
-/// `NoToken` where no number stands there, `OutOfRange` for an integer that does not fit 64 bits.
+/// `NoToken` where there is no number, `OutOfRange` for an integer that does not fit 64 bits.
 #[tactic(auto, unfolding(crate::specs::inside::Lexing::number_at))]
 pub(crate) fn number(text: &[u8]) -> Result<(Lexeme, &[u8]), TokenError>
     ensures { GivesUnlessMemory (λ x. (shape_of x.0, x.1.now)) result (number_at text.now) }

@@ -1,4 +1,4 @@
-// Characters, escapes and what stands between quotes.
+// Characters, escapes and what is between quotes.
 ghost use Rattle.std.specs.Prelude.{◌≡◌, ◌+◌, ◌*◌, ◌^◌, ◌<◌, ◌≤◌, IfSome, Ok, encode_utf8_all, string_bytes};
 ghost use Rattle.std.specs.Option.{option_map};
 ghost use Rattle.std.specs.Str.{continuation_len};
@@ -64,7 +64,7 @@ fn octal_digit(text: &[u8]) -> Option<(u32, &[u8])>
     }
 }
 
-// The number with one more octal digit, where one stands, and what follows.
+// The number with one more octal digit, if there is one, and what follows.
 #[tactic(auto, unfolding(crate::specs::inside::Lexing::longer_octal))]
 fn longer_octal(number: u32, text: &[u8]) -> (u32, &[u8])
     requires { number < 2 ^ 16 }
@@ -161,7 +161,7 @@ fn behind_quote(quote: u8, text: &[u8]) -> Option<&[u8]>
 ///
 /// # Errors
 ///
-/// `NoToken` where the quote is not closed, or no character or escape stands before that.
+/// `NoToken` where the quote is not closed, or where no character or escape comes before that.
 pub(crate) fn quoted(
     alloc: Global,
     quote: u8,

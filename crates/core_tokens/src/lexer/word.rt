@@ -70,7 +70,7 @@ fn keyword(word: &[u8]) -> Option<Keyword>
     None
 }
 
-// How many lower-case letters stand at the front.
+// How many lower-case letters come first.
 fn letter_count(text: &[u8]) -> usize
     ensures count { result ≡ prefix_len is_ascii_lowercase text.now }
     ensures within { result ≤ length text.now }
@@ -101,7 +101,7 @@ fn is_in_name(c: u8) -> bool
     c.is_ascii_alphanumeric() || c == b'_' || c == b'@'
 }
 
-// How many bytes that a name may have stand at the front.
+// How many bytes that a name may have come first.
 fn name_count(text: &[u8]) -> usize
     ensures count { result ≡ prefix_len is_in_name text.now }
     ensures within { result ≤ length text.now }

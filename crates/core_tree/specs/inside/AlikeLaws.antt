@@ -1,4 +1,4 @@
--- Parts that are compared as the same are the same but for their places, and the other way round.
+-- Parts that are compared as the same are the same except for their places, and the other way round.
 use Rattle.std.specs.Prelude.{◌≡◌, ◌↔◌, ℕ, ℤ, List, [], ◌∷◌, map, Bool, true, false, ◌==◌, ◌&&◌, IsTrue, refl}
 use Rattle.std.proofs.Common.{sym, ap, ◌∙◌}
 use Rattle.std.proofs.lemmas.Bool.{and_from, and_parts}

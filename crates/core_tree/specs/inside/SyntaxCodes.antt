@@ -1,4 +1,4 @@
--- The codes of trees, by which proofs tell values apart.
+-- The codes of trees, by which proofs distinguish values.
 use Rattle.std.specs.Prelude.{◌≡◌, ℕ, zero, suc, ℤ, pos, negsuc, List, [], ◌∷◌, get_or, refl}
 use Rattle.std.specs.Coded.{Coded, code_by, coded×, coded_list, coded_ℕ}
 use base.Stored.{Gv, gnil, gnum, gcons}
@@ -227,7 +227,7 @@ abbrev other_clauses : Clauses → Clauses
 other_clauses trees.NoClause = trees.NoClause
 other_clauses (trees.Clause ps g b cs) = cs
 
--- what stands after the three expressions of a `try`
+-- what follows the three expressions of a `try`
 abbrev tail_of_try : Gv → Gv
 tail_of_try g = tail_in (tail_in (tail_in g))
 

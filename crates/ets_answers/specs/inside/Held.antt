@@ -1,13 +1,15 @@
 -- The line of a call by the settings and the rows of a table, in place of the contents of cells.
 use Rattle.std.specs.FinMap.{empty, keys}
-use Rattle.std.specs.Prelude.{ℕ, Bool, not, ◌||◌, if◌then◌else◌, List, [], ◌∷◌, Option, Some, None, codes, length}
+use Rattle.std.specs.Prelude.{◌≡◌, ℕ, Bool, not, ◌||◌, if◌then◌else◌, List, [], ◌∷◌, Option, Some, None, codes, length}
 use Rattle.term_core.specs.Meaning.{Meaning}
-use Rattle.ets_store.specs.TableRows.{with_objects, without_object, one_has_key, with_new_objects}
-use Rattle.world_model.specs.Calls.{TableCall, Lookup, Member, LookupElement, First, Last, Next, Prev, ToList, Insert, InsertNew, DeleteTable, DeleteKey, DeleteObject, DeleteAll, Take, UpdateCounter, UpdateElement, GiveAway, SetOptions, Info, has_items}
+use Rattle.ets_store.specs.TableRows.{TableRows, with_objects, without_object, one_has_key, with_new_objects, with_rows}
+use Rattle.ets_store.specs.Tables.{settings_in}
+use Rattle.ets_store.specs.declared.table.Table.{Table}
+use Rattle.world_model.specs.Calls.{Increment, TableCall, Lookup, Member, LookupElement, First, Last, Next, Prev, ToList, Insert, InsertNew, DeleteTable, DeleteKey, DeleteObject, DeleteAll, Take, UpdateCounter, UpdateElement, GiveAway, SetOptions, Info, has_items}
 use Rattle.world_model.specs.Ends.{heir_pid}
 use Rattle.world_model.specs.Names.{Pid}
 use Rattle.world_model.specs.Objects.{given, objects_rule, one_object, element_rule, element_answer, counter_rule, sum_of, place_of, update_rule}
-use Rattle.world_model.specs.Owning.{gift_rule, heirs_rule}
+use Rattle.world_model.specs.Ownership.{gift_rule, heirs_rule}
 use Rattle.world_model.specs.Rows as rows
 use Rattle.world_model.specs.Rows.{Key, Object, rows_rewritten, Clears, Alters, tuples, under, all_objects, parts_at}
 use Rattle.world_model.specs.RowsLeft.{unless_present, key_of_object}
@@ -15,7 +17,7 @@ use Rattle.world_model.specs.Signals.{first_of}
 use Rattle.world_model.specs.Tables as tables
 use Rattle.world_model.specs.Tables.{is_ordered}
 use Rattle.world_model.specs.Terms.{atom, ok, process, number, process_or, truth}
-use Rattle.world_model.specs.Touch.{Touch, NoRow, RowsOfKeys, EachRow}
+use Rattle.world_model.specs.RowFootprints.{Touch, NoRow, RowsOfKeys, EachRow}
 use Rattle.world_model.specs.Walks.{item_rule, key_or_end, last_key, key_after, key_before, kind_name, protection_name}
 use Rattle.world_model.specs.declared.rule.Rule.{Rule}
 use Rattle.world_model.specs.declared.rule.Rule.TheVariants.{DeadTarget, NoKey}
@@ -143,3 +145,18 @@ held_written t all (Take key) = RowsOfKeys (key ∷ [])
 held_written t all (UpdateCounter key increment) = RowsOfKeys (key ∷ [])
 held_written t all (UpdateElement key change) = RowsOfKeys (key ∷ [])
 held_written t all call = NoRow
+
+-- ---- at a table, where no counter is refused
+
+-- a call has this answer
+abbrev pub IsHeldAnswer : Table → TableCall → Meaning → Type 0
+IsHeldAnswer t call answer = held_counter (settings_in t) t.rows.rows call ≡ None → answer ≡ held_answer (settings_in t) t.rows.rows call
+
+-- a counter comes to this sum
+abbrev pub IsHeldSum : Table → Key → Increment → Meaning → Type 0
+IsHeldSum t key increment sum = counter_rule (settings_in t) increment (under t.rows.rows key) ≡ None → sum ≡ sum_of (settings_in t) increment (under t.rows.rows key)
+
+-- these are the rows with the sum in its place
+abbrev pub AreHeldCounted : Table → Key → Increment → TableRows → Type 0
+AreHeldCounted t key increment new = counter_rule (settings_in t) increment (under t.rows.rows key) ≡ None
+    → new ≡ with_rows t.rows (rows_rewritten key (Alters (place_of (settings_in t).position increment) (sum_of (settings_in t) increment (under t.rows.rows key))) t.rows.rows)

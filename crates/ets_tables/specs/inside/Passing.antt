@@ -1,6 +1,6 @@
--- How tables pass at an end, of those of whom it is known whether they live.
+-- How tables pass at an end, with which processes live.
 use Rattle.std.specs.Prelude.{Bool, ◌∷◌, ◌++◌, [], List, Option, Some, None, if◌then◌else◌}
-use Rattle.world_model.specs.Changes.{Change, Goes, Wipes}
+use Rattle.world_model.specs.Changes.{Change, TableRemoved, RowsCleared}
 use Rattle.world_model.specs.Ends.{passed}
 use Rattle.world_model.specs.Names.{Pid, Ref}
 use Rattle.world_model.specs.Tables as tables
@@ -13,7 +13,7 @@ heir_if lives (Some heir) = if lives heir.0 then Some heir else None
 
 -- one table passes, and several
 abbrev pub one_passes : (Pid → Bool) → Pid → Ref → Option tables.Table → List Change
-one_passes lives p t None = Goes t ∷ Wipes t ∷ []
+one_passes lives p t None = TableRemoved t ∷ RowsCleared t ∷ []
 one_passes lives p t (Some table) = passed p t table (heir_if lives table.heir)
 
 abbrev pub all_pass : (Pid → Bool) → Pid → (Ref → Option tables.Table) → List Ref → List Change

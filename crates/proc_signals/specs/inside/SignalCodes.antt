@@ -1,4 +1,4 @@
--- The codes of signals, by which proofs tell values apart.
+-- The codes of signals, by which proofs distinguish values.
 use Rattle.std.specs.Prelude.{◌≡◌, ◌⊎◌, ℕ, List, refl}
 use Rattle.std.specs.Coded.{Coded, code_by, coded_list, coded_ℕ, coded×, coded⊎}
 use mathlib.Core.Logic.{inl, inr}

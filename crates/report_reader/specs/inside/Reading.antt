@@ -1,21 +1,22 @@
--- What stands at the beginning of the text of a report, piece by piece.
+-- What is at the beginning of the text of a report, piece by piece.
+use denote.Ref.{Bor}
 use Rattle.std.specs.Fmt.{decimal}
 use Rattle.std.specs.List.{AllByRecursion}
-use Rattle.std.specs.Prelude.{◌≡◌, ◌⊎◌, ◌==◌, ℕ, ◌+◌, ◌-◌, ◌<◌, ◌^◌, Bool, false, true, List, [], ◌∷◌, ◌++◌, length, take, codes, if◌then◌else◌}
+use Rattle.std.specs.Prelude.{◌≡◌, ◌⊎◌, ◌==◌, ℕ, ◌+◌, ◌-◌, ◌<◌, ◌^◌, Bool, false, true, List, [], ◌∷◌, ◌++◌, length, take, codes, if◌then◌else◌, Result, MatchResult}
 use Rattle.std.specs.declared.cmp.Ordering.TheVariants.{Less}
 use Rattle.term_core.specs.Schedule.{AreLawful}
 use Rattle.term_core.specs.Text.{text_of_schedule}
 use Rattle.term_core.specs.declared.step.Step.{Step}
 use Rattle.world_model.specs.Shown.{Identity, Flags, is_refusal}
-use Rattle.coverage.specs.Findings.{Finding}
-use Rattle.coverage.specs.Identities.{order_of_identities}
-use Rattle.excuses.specs.Excuses.{Excuses, are_any, counts, is_normal}
-use Rattle.findings.specs.Merging.{merged}
-use Rattle.findings.specs.declared.outcome.Outcome.{Outcome}
-use Rattle.findings.specs.declared.outcome.Outcome.TheVariants.{Complete, Incomplete}
-use Rattle.identity_reader.specs.Lawful.{IsLawfulIdentity, height_in}
-use Rattle.identity_reader.specs.declared.fault.IdentityFault.{IdentityFault}
-use Rattle.identity_reader.specs.declared.fault.IdentityFault.TheVariants as faults
+use Rattle.tree_coverage.specs.Findings.{Finding}
+use Rattle.world_identities.specs.Order.{order_of_identities}
+use Rattle.tree_excuses.specs.Excuses.{Excuses, are_any, counts, is_normal}
+use Rattle.tree_findings.specs.Merging.{merged}
+use Rattle.tree_findings.specs.declared.outcome.Outcome.{Outcome}
+use Rattle.tree_findings.specs.declared.outcome.Outcome.TheVariants.{Complete, Incomplete}
+use Rattle.report_identities.specs.Lawful.{IsLawfulIdentity, height_in}
+use Rattle.report_identities.specs.declared.fault.IdentityFault.{IdentityFault}
+use Rattle.report_identities.specs.declared.fault.IdentityFault.TheVariants as faults
 use Rattle.report_text.specs.IdentityText.{text_of_identity}
 use Rattle.report_text.specs.ReportText.{findings_from, text_of_incomplete, text_of_nodes, text_of_report}
 use Rattle.report_reader.specs.Lawful.{AreLawfulFindings, HasHigh, IsLawfulFinding, IsLawfulOutcome, ends_in}
@@ -43,7 +44,7 @@ HasNoBack back text = (front : List ℕ) → text ≡ front ++ back → ⊥
 abbrev pub LacksMark : ℕ → List ℕ → Type 0
 LacksMark mark bytes = AllByRecursion (λ byte. (byte == mark) ≡ false) bytes
 
--- what stands before the first mark, and what behind it
+-- what comes before the first mark, and what after it
 abbrev pub IsCut : ℕ → List ℕ → List ℕ → List ℕ → Type 0
 IsCut mark text front behind = LacksMark mark front × (text ≡ front ++ mark ∷ behind)
 
@@ -52,12 +53,12 @@ HasNoMark mark text = (front behind : List ℕ) → LacksMark mark front → tex
 
 -- ---- reading
 
--- what is said at the beginning of a text with this behind it, and nothing else is
+-- what is said at the beginning of a text with this after it, and nothing else is
 pub record IsRead {A : Type 0} (Says : A → List ℕ → Type 0) (a : A) (rest : List ℕ) : Type 0 where
   pub says : Says a rest
   pub only : (b : A) (more : List ℕ) → Says b more → (a ≡ b) × (rest ≡ more)
 
--- where reading stops at what is said: never at something bad, at a term that is nested too deep only where this is so, and for want of memory
+-- where reading stops at what is said: never at something bad, at a term that is nested too deep only where this is true, and for lack of memory
 abbrev pub MayStop : Type 0 → Stop → Type 0
 MayStop High (Bad left) = ⊥
 MayStop High (Deep left) = High
@@ -67,13 +68,17 @@ MayStop High Memory = Unit {0}
 abbrev pub Refuses : {A : Type 0} → (A → Type 0) → (A → List ℕ → Type 0) → Stop → Type 0
 Refuses {A} High Says stop = (a : A) (rest : List ℕ) → Says a rest → MayStop (High a) stop
 
+-- what is read is what is said, as it is seen, with the rest of the text; and where reading stops, it may
+abbrev pub Reads : {A B : Type 0} → (B → A) → (A → Type 0) → (A → List ℕ → Type 0) → Result (B × Bor (List ℕ)) Stop → Type 0
+Reads seen High Says result = MatchResult result (λ p. IsRead Says (seen p.0) p.1.now) (λ stop. Refuses High Says stop)
+
 -- where reading stops at an identity
 abbrev pub stop_of : IdentityFault → ℕ → Stop
 stop_of faults.BadIdentity left = Bad left
 stop_of faults.TooDeep left = Deep left
 stop_of faults.Memory left = Memory
 
--- the line in which the first of so many bytes at the end of a text stands
+-- the line that has the first of so many bytes at the end of a text
 abbrev pub line_at : List ℕ → ℕ → ℕ
 line_at text left = ends_in (take (length text - left) text) + 1
 
@@ -104,11 +109,11 @@ IsHighFinding f = IsHigh f.identity
 abbrev pub SaysIdentity : List ℕ → Identity → List ℕ → Type 0
 SaysIdentity text i rest = IsLawfulIdentity i × (text ≡ text_of_identity i ++ 10 ∷ rest)
 
--- a schedule behind two blanks to the end of the line
+-- a schedule after two blanks to the end of the line
 abbrev pub SaysSchedule : List ℕ → List Step → List ℕ → Type 0
 SaysSchedule text s rest = AreLawful s × (text ≡ codes "  " ++ (text_of_schedule s ++ 10 ∷ rest))
 
--- a finding behind its kind
+-- a finding after its kind
 abbrev pub SaysFinding : ℕ → List ℕ → Finding → List ℕ → Type 0
 SaysFinding number text f rest =
     IsLawfulFinding f × (text ≡ (decimal number ++ codes ": ") ++ (text_of_identity f.identity ++ 10 ∷ (codes "  " ++ (text_of_schedule f.schedule ++ 10 ∷ rest))))
@@ -133,13 +138,13 @@ is_of Normal flags x = is_normal flags x
 abbrev pub AllComeBefore : List Finding → Identity → Type 0
 AllComeBefore fs i = AllByRecursion (λ f. order_of_identities f.identity i ≡ Less) fs
 
--- the next finding of a kind behind these
+-- the next finding of a kind after these
 pub record SaysNext (kind : Kind) (flags : Flags) (x : Excuses) (fs : List Finding) (text : List ℕ) (f : Finding) (rest : List ℕ) : Type 0 where
   pub finding : SaysFinding (length fs + 1) text f rest
   pub is_one : is_of kind flags x f.identity ≡ true
   pub in_order : AllComeBefore fs f.identity
 
--- all of a kind: no other stands behind them
+-- all of a kind: no other follows them
 pub record SaysFindings (kind : Kind) (flags : Flags) (x : Excuses) (text : List ℕ) (fs : List Finding) (rest : List ℕ) : Type 0 where
   pub lawful : AreLawfulFindings (is_of kind flags x) fs
   pub ends : HasNoFront (label_of kind) rest
@@ -206,7 +211,7 @@ end_of x reach l = counts_line x (length l.errors) (length l.refusals) (length l
 abbrev pub EndsAt : Excuses → Reach → Lists → List ℕ → List ℕ → Type 0
 EndsAt x reach l text rest = text ≡ end_of x reach l ++ rest
 
--- they do not stand there
+-- they are not there
 abbrev pub SaysNoEnd : Excuses → Reach → Lists → List ℕ → Stop → Type 0
 SaysNoEnd x reach l text (Bad left) = HasNoFront (end_of x reach l) text
 SaysNoEnd x reach l text (Deep left) = ⊥

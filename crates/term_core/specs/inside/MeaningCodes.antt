@@ -1,4 +1,4 @@
--- The codes of meanings, by which proofs tell values apart.
+-- The codes of meanings, by which proofs distinguish values.
 use Rattle.std.specs.Prelude.{◌≡◌, ℕ, zero, suc, pos, negsuc, List, [], ◌∷◌, refl}
 use Rattle.std.specs.Coded.{Coded, code_by}
 use base.Stored.{Gv, gnil, gnum, gcons}

@@ -129,7 +129,7 @@ code_cmp-list (a ∷ xs) [] r s = refl
 code_cmp-list (a ∷ xs) (b ∷ ys) r s =
     (λ i. ordering_then (int_cmp-pos a b i) (code_cmp-list xs ys r s i)) ∙ sym (then_then (nat_cmp a b) (order_of_lists xs ys) (code_cmp r s))
 
--- tuples whose sizes are not told apart have as many parts
+-- tuples that are not distinguished by their sizes have as many parts
 length_Equal : (xs ys : Meanings) → order_of_sizes xs ys ≡ Equal → length (parts_of xs) ≡ length (parts_of ys)
 length_Equal xs ys e = same_number _ _ e
 

@@ -1,4 +1,4 @@
--- A text that is written in pieces: what is still owed of it, and what each piece does to that.
+-- A text that is written in pieces: what of it is still to be written, and what each piece does to that.
 use Rattle.std.proofs.Common.{◌≡◌, ℕ, List, [], ◌++◌, Bool, false, Option, None, Some, refl, ap, sym, ◌∙◌, append_assoc, append-nil, subst, take, drop, length, ◌||◌, ◌&&◌, not, ◌+◌, ◌<◌, ◌≤◌, get_or, arith}
 use Rattle.std.specs.Bool.{◌==◌}
 use Rattle.std.specs.Prelude.{Result, Ok, Err}
@@ -43,7 +43,7 @@ begins_nothing s t text h = record { written = []; unwritten = text; parts = ref
     appends_kept (Some xs) None h = absurd h
     appends_kept (Some xs) (Some ys) h = h ∙ sym (append-nil xs)
 
--- at `now` the text `whole`, whose writing began at `start`, is written but for `rest`
+-- from `start` to `now` the text `whole` is written except for `rest`
 pub record Owes (start now : Option (List ℕ)) (rest whole : List ℕ) : Type 0 where
   pub finishes : (new : Option (List ℕ)) → Appends now new rest → Appends start new whole
   pub breaks : (new : Option (List ℕ)) → AppendsBeginning now new rest → AppendsBeginning start new whole

@@ -91,8 +91,7 @@ impl Ord for Pid {
 
     ghost matches_eq = { texts_ties };
 
-    /// By their numbers, of which the first that differs decides; a pid comes before its longer ones.
-    /// It takes no memory.
+    /// By their numbers: the first that differs decides; a pid comes before its longer ones. It takes no memory.
     fn cmp(&self, other: &Pid) -> Ordering {
         self.numbers().cmp(other.numbers())
     }

@@ -59,15 +59,15 @@ impl Ord for Step {
     }
 }
 
-/// Which of two schedules comes first: the shorter one, and of two of one length the one whose step is
-/// the lesser where they first differ. It takes no memory.
+/// Which of two schedules comes first: the shorter one, and of two of one length the one with the lesser step where
+/// they first differ. It takes no memory.
 pub fn compare_schedules(a: &[Step], b: &[Step]) -> Ordering
     ensures { result ≡ order_of_schedules a.now b.now }
 {
     a.len().cmp(&b.len()).then_with(|| a.cmp(b))
 }
 
-/// The order of schedules is total, and it tells any two schedules apart that are not the same.
+/// The order of schedules is total, and it distinguishes any two schedules that are not the same.
 pub fn schedules_are_ordered()
     ensures total { IsTotalOrder order_of_schedules }
     ensures same { (a b : List Step) → order_of_schedules a b ≡ Ordering.Equal → a ≡ b }

@@ -11,15 +11,15 @@ use crate::step::Step;
 use std::alloc::{AllocError, Global};
 use std::str;
 
-/// The place of the first `mark`.
+// The place of the first `mark`.
 fn place_of(bytes: &[u8], mark: u8) -> Option<usize>
     ensures { result ≡ position (λ byte. byte == mark) bytes.now }
 {
     bytes.iter().position(|byte| *byte == mark)
 }
 
-/// Splits before the first `mark`: what stands before it, and the rest, which begins with it. Where
-/// there is none, the rest is empty.
+/// Splits before the first `mark`: what comes before it, and the rest, which begins with it. Without a mark, the rest
+/// is empty.
 pub(crate) fn split_before(bytes: &[u8], mark: u8) -> (&[u8], &[u8])
     ensures front { result.0.now ≡ before_first (λ byte. byte == mark) bytes.now }
     ensures rest { result.1.now ≡ drop (position_or_len (λ byte. byte == mark) bytes.now) bytes.now }
@@ -27,7 +27,7 @@ pub(crate) fn split_before(bytes: &[u8], mark: u8) -> (&[u8], &[u8])
     bytes.split_at(place_of(bytes, mark).unwrap_or(bytes.len()))
 }
 
-/// The step whose text this is, or `None` where it is the text of none.
+/// The step with this text, or `None` where no step has it.
 pub(crate) fn read_step(alloc: Global, word: &[u8]) -> Result<Option<Step>, AllocError>
     ensures { IfOk result (λ found. MatchOption found
         ((step : Step) → IsLawfulStep step → word.now ≡ text_of_step step → ⊥)
@@ -46,7 +46,7 @@ pub(crate) fn read_step(alloc: Global, word: &[u8]) -> Result<Option<Step>, Allo
     Ok(Some(Step::Deliver(from, to)))
 }
 
-/// The pid whose text this is, or `None` where it is the text of none.
+// The pid with this text, or `None` where no pid has it.
 fn read_pid(alloc: Global, text: &[u8]) -> Result<Option<Pid>, AllocError>
     ensures { IfOk result (λ found. MatchOption found
         ((pid : List ℕ) → IsLawfulPid pid → text.now ≡ text_of_pid pid → ⊥)
@@ -70,7 +70,7 @@ fn read_pid(alloc: Global, text: &[u8]) -> Result<Option<Pid>, AllocError>
     Ok(Some(Pid::new(alloc, numbers)?))
 }
 
-/// The number that these digits are, or `None` where they are none.
+// The number that these digits write, or `None` where they write no number.
 fn read_number(digits: &[u8]) -> Option<u64>
     ensures { MatchOption result
         ((n : ℕ) → IsLawfulNumber n → digits.now ≡ decimal n → ⊥)
@@ -82,7 +82,7 @@ fn read_number(digits: &[u8]) -> Option<u64>
     str::from_utf8(digits).ok()?.parse().ok()
 }
 
-/// Whether the first byte is a digit that a number may begin with.
+// Whether the first byte is a digit that a number may begin with.
 fn begins_number(digits: &[u8]) -> bool
     ensures { IsTrue result ↔ ((49 ≤ slice_index digits.now 0) × (slice_index digits.now 0 ≤ 57)) }
 {

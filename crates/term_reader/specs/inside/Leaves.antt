@@ -6,7 +6,7 @@ use Rattle.term_core.specs.Term.{meaning_of}
 use Rattle.term_core.specs.Text.{dotted}
 use Rattle.term_core.specs.TermText.{text_of_term}
 use Rattle.term_core.specs.declared.term.Term.{Term}
-use Rattle.term_reader.specs.Lawful.{IsLawful, item_of, marks}
+use Rattle.term_reader.specs.Lawful.{AreNumbers, IsLawful, item_of, marks}
 use Rattle.term_reader.specs.declared.leaves.Leaf.{Leaf}
 use Rattle.term_reader.specs.declared.leaves.Leaf.TheVariants.{Read, Bad}
 
@@ -22,7 +22,7 @@ IsAlike [] (b ∷ bs) = ⊥
 IsAlike (a ∷ xs) [] = ⊥
 IsAlike (a ∷ xs) (b ∷ bs) = a ≡ b
 
--- what stands before the first mark
+-- what comes before the first mark
 abbrev pub word_of : List ℕ → List ℕ
 word_of text = before_first marks text
 
@@ -30,15 +30,23 @@ word_of text = before_first marks text
 abbrev pub behind_word : List ℕ → List ℕ
 behind_word text = drop (position_or_len marks text) text
 
--- each number behind a dot
+-- each number after a dot
 abbrev pub text_of_numbers : List ℕ → List ℕ
 text_of_numbers numbers = flat_map dotted numbers
+
+-- a text is that of these numbers
+abbrev pub IsOfNumbers : List ℕ → List ℕ → Type 0
+IsOfNumbers text numbers = AreNumbers numbers × (text ≡ text_of_numbers numbers)
+
+-- a text is that of no numbers
+abbrev pub IsOfNoNumbers : List ℕ → Type 0
+IsOfNoNumbers text = (numbers : List ℕ) → AreNumbers numbers → text ≡ text_of_numbers numbers → ⊥
 
 -- the first byte is one of `1` to `9`
 abbrev pub BeginsNumber : List ℕ → Type 0
 BeginsNumber bytes = (49 ≤ slice_index bytes 0) × (slice_index bytes 0 ≤ 57)
 
--- and so may be the one behind a sign
+-- and so may be the one after a sign
 abbrev pub BeginsInteger : List ℕ → Type 0
 BeginsInteger bytes = BeginsNumber bytes ⊎ ((slice_index bytes 0 ≡ 45) × BeginsNumber (drop 1 bytes))
 
@@ -68,7 +76,7 @@ ReadsWord word found = MatchOption found
     ((m : Meaning) → IsWord m → IsLawful m → word ≡ text_of_term m → ⊥)
     (λ term. IsWord (meaning_of term) × IsLawful (meaning_of term) × (word ≡ text_of_term (meaning_of term)))
 
--- the text begins with the text of this leaf, and with that of no other before a mark or the end, also if other bytes stood behind
+-- the text begins with the text of this leaf, and with that of no other before a mark or the end, also if other bytes followed
 pub record Reads (text : List ℕ) (term : Meaning) (behind : List ℕ) : Type 0 where
   pub leaf : IsLeaf term
   pub lawful : IsLawful term

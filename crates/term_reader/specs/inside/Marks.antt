@@ -34,7 +34,7 @@ abbrev pub parts_onto : List Meaning → Meanings → Meanings
 parts_onto [] others = others
 parts_onto (part ∷ parts) others = Also part (parts_onto parts others)
 
--- the term stands in what is open, the bytes are left, and the whole is this term
+-- the term has its place in what is open, the bytes are left, and the whole is this term
 pub data Continues : List Opened → Meaning → List ℕ → Meaning → Type 0 where
   AtEnd : {term : Meaning} {rest : List ℕ} {whole : Meaning} → whole ≡ term → rest ≡ [] → Continues [] term rest whole
   AmongParts : {parts : List Meaning} {outer : List Opened} {term : Meaning} {rest : List ℕ} {whole : Meaning} (others : Meanings) (behind : List ℕ)
@@ -47,7 +47,7 @@ pub data Continues : List Opened → Meaning → List ℕ → Meaning → Type 0
       → rest ≡ 93 ∷ behind → Continues outer (list_onto heads (Cons head term)) behind whole
       → Continues (InTail heads head ∷ outer) term rest whole
 
--- some term begins the bytes that are left, stands in what is open, and the whole is this term
+-- some term begins the bytes that are left, has its place in what is open, and the whole is this term
 pub record Begins (outer : List Opened) (rest : List ℕ) (whole : Meaning) : Type 0 where
   pub term : Meaning
   pub behind : List ℕ
@@ -74,11 +74,11 @@ pub record IsSame (P Q : Meaning → Type 0) : Type 0 where
   pub to : (m : Meaning) → P m → Q m
   pub from : (m : Meaning) → Q m → P m
 
--- other bytes that can stand wherever these do: they begin with the same byte, or with no bracket
+-- other bytes that can replace these: they begin with the same byte, or with no bracket
 abbrev pub IsLike : List ℕ → List ℕ → Type 0
 IsLike rest other = (slice_index other 0 ≡ slice_index rest 0) ⊎ (slice_index other 0 ≢ 91)
 
--- what a step came to: the whole can be the same terms as before, also if other bytes were left, and fewer are left
+-- what a step results in: the whole can be the same terms as before, also if other bytes were left, and fewer are left
 pub record GoesOn (before : List ℕ → Meaning → Type 0) (rest : List ℕ) (state : State) : Type 0 where
   pub read : List ℕ
   pub parts : rest ≡ read ++ rest_of state
@@ -87,7 +87,7 @@ pub record GoesOn (before : List ℕ → Meaning → Type 0) (rest : List ℕ) (
   pub wider : (left : List ℕ) (m : Meaning) → IsLike (rest_of state) left → MeansAt state left m → before (read ++ left) m
   pub back : (left : List ℕ) (m : Meaning) → IsAlike (rest_of state) left → before (read ++ left) m → MeansAt state left m
 
--- a fault where these bytes are left of the text: what stands before can go on
+-- a fault where these bytes are left of the text: what comes before can go on
 pub record LiesAt (before : List ℕ → Meaning → Type 0) (rest text : List ℕ) (at : ℕ) : Type 0 where
   pub read : List ℕ
   pub behind : List ℕ
@@ -98,7 +98,7 @@ pub record LiesAt (before : List ℕ → Meaning → Type 0) (rest text : List �
   pub like : IsLike rest (read ++ left)
   pub goes_on : before (read ++ left) term
 
--- and with the item that stands there nothing goes on
+-- and with the item at that place nothing goes on
 pub record BadAt (before : List ℕ → Meaning → Type 0) (rest text : List ℕ) (at : ℕ) : Type 0 where
   pub read : List ℕ
   pub behind : List ℕ

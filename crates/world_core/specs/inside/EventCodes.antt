@@ -1,4 +1,4 @@
--- The codes of events, by which proofs tell values apart.
+-- The codes of events, by which proofs distinguish values.
 use Rattle.std.specs.Prelude.{◌≡◌, ◌⊎◌, ℕ, List, Option, refl}
 use Rattle.std.specs.Coded.{Coded, code_by, coded×, coded⊎, coded_list, coded_option, coded_ℕ}
 use Rattle.std.proofs.Common.{inl, inr}

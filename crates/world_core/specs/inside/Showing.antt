@@ -1,14 +1,21 @@
--- What an event shows, as it is stored.
-use Rattle.std.specs.Prelude.{◌+◌, ℕ, List, [], ◌∷◌, Option, Some, None}
+-- What an event shows, as it is stored, and what a world shows.
+use Rattle.std.specs.Prelude.{◌≡◌, ◌+◌, ℕ, List, [], ◌∷◌, ◌++◌, Option, Some, None}
 use Rattle.term_core.specs.declared.step.Step.{Step}
 use Rattle.term_core.specs.declared.step.Step.TheVariants.{Turn, Deliver}
-use Rattle.findings.specs.Identities.{identity_in}
-use Rattle.findings.specs.declared.identity.Identity.{Identity}
+use Rattle.core_tree.specs.Syntax.{ModuleTree}
+use Rattle.world_identities.specs.Identities.{identity_in}
+use Rattle.world_identities.specs.declared.identity.Identity.{Identity}
+use Rattle.world_model.specs.Events as events
+use Rattle.world_model.specs.Events.{History}
 use Rattle.world_model.specs.Names.{Pid}
+use Rattle.world_model.specs.Run.{latest, living}
 use Rattle.world_model.specs.Shown as shown
-use Rattle.world_model.specs.Shown.{shown_by}
-use Rattle.step_plans.specs.Deeds.{deed_in}
-use Rattle.step_plans.specs.declared.deed.Event.{Event}
+use Rattle.world_model.specs.Shown.{deadlock_of, shown_by, shown_last}
+use Rattle.world_model.specs.World.{contents}
+use Rattle.world_records.specs.Records.{Agrees}
+use Rattle.world_records.specs.declared.records.Records.{Records}
+use Rattle.world_plans.specs.Deeds.{deed_in}
+use Rattle.world_plans.specs.declared.deed.Event.{Event}
 
 -- an identity, if there is one
 abbrev pub told_by : Option Identity → List shown.Identity
@@ -29,3 +36,7 @@ next_request turns (Deliver s r) = 0
 abbrev pub last_shown : (Pid → ℕ) → Option Event → List shown.Identity
 last_shown turns None = []
 last_shown turns (Some e) = shown_by e.step (request_by turns e.step) (deed_in e.deed)
+
+-- these are what a world shows with these records and this last event, where these steps are enabled
+abbrev pub AreShownBy : Records → Option events.Event → List Step → List shown.Identity → Type 0
+AreShownBy records last enabled identities = (m : ModuleTree) (h : History) → Agrees m records (contents h) → last ≡ latest (Some h) → identities ≡ shown_last h ++ deadlock_of enabled (living h)

@@ -2,13 +2,13 @@
 ghost use Rattle.world_model.specs.Commuting.{IndependentCommute};
 ghost use Rattle.world_model.specs.Frames.{LeavesOthers, ReadsSettle};
 
-/// Steps that are independent after a history commute there: each is enabled after the other, with the
-/// same event, and both orders leave the same in every cell, so that all that is told is the same.
+/// Steps that are independent after a history commute there: each is enabled after the other, with the same event, and
+/// both orders leave the same in every cell, so that all that histories say is the same.
 pub fn independent_steps_commute()
     ensures { IndependentCommute }
 {}
 
-/// An event leaves every cell as it was that meets none of those which it writes.
+/// An event leaves as it was every cell that meets none of those that it writes.
 pub fn events_leave_other_cells()
     ensures { LeavesOthers }
 {}

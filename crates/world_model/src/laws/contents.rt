@@ -16,7 +16,7 @@ pub fn deleted_tables_are_gone()
     ensures rows { DeletedHasNoRows }
 {}
 
-/// Who ends is no heir of its own table.
+/// A process that ends is no heir of its own table.
 #[tactic(auto, unfolding(crate::specs::World::contents))]
 pub fn nobody_inherits_from_itself()
     ensures { OwnHeirIsNone }
@@ -53,7 +53,7 @@ pub fn insert_new_is_all_or_nothing()
     ensures { AllOrNothing }
 {}
 
-/// Keys may stand at another place; sums have 64 bits.
+/// Keys may be at another place; sums have 64 bits.
 #[tactic(auto, unfolding(crate::specs::World::contents))]
 pub fn places_and_sums_have_their_range()
     ensures place { ShortHasNoPlace }

@@ -20,13 +20,13 @@ pub fn strangers_are_refused()
     ensures ends { StrangerEnds }
 {}
 
-/// Who gave a table away may not write it any more.
+/// A process that gave a table away may no longer write it.
 #[tactic(auto, unfolding(crate::specs::World::contents))]
 pub fn old_owners_are_refused()
     ensures { OldOwnerIsRefused }
 {}
 
-/// A table goes to its heir, which is told, and its rows with it; with no heir that lives it is gone.
+/// A table goes to its heir, which is informed, and its rows with it; without a living heir it is gone.
 #[tactic(auto, unfolding(crate::specs::World::contents))]
 pub fn heirs_get_tables()
     ensures told { HeirIsTold }
@@ -35,7 +35,7 @@ pub fn heirs_get_tables()
     ensures gone { NoHeirNoTable }
 {}
 
-/// Not who once made a table of this name is its owner, but who made the present one.
+/// The owner of a table is the process that made it, not one that once made a table of this name.
 #[tactic(auto, unfolding(crate::specs::World::contents))]
 pub fn present_owners_count()
     ensures { PresentOwnerCounts }
@@ -66,14 +66,14 @@ pub fn strange_functions_end()
     ensures { UndefinedEnds }
 {}
 
-/// An exit signal with reason kill ends any process; that a linked one ended so is told like any reason.
+/// An exit signal with reason kill ends any process; that a linked process ended so is reported like any reason.
 #[tactic(auto, unfolding(crate::specs::World::contents))]
 pub fn kills_end()
     ensures kills { KillEnds }
     ensures told { KillIsTold }
 {}
 
-/// The end of a watched process is told.
+/// The end of a watched process is reported.
 #[tactic(auto, unfolding(crate::specs::World::contents))]
 pub fn ends_are_told()
     ensures { EndIsTold }
@@ -94,8 +94,7 @@ pub fn signals_come_first()
     ensures gone { ThenItIsGone }
 {}
 
-/// A receive takes the oldest message that it selects; where there is none, it waits, or comes to its
-/// timeout.
+/// A receive takes the oldest message that it selects; without one it waits, or reaches its timeout.
 #[tactic(auto, unfolding(crate::specs::World::contents))]
 pub fn receives_select()
     ensures waits { WaitsForIts }
@@ -118,8 +117,8 @@ pub fn identities_are_shown()
     ensures normal { NormalEndShowsNothing }
 {}
 
-/// The signal of a link or a watch that is gone is dropped, and of a watch that ended before there is none;
-/// with `flush` its message goes too.
+/// The signal of a link or a watch that is gone is dropped, and a watch that ended before has none; with `flush` its
+/// message goes too.
 #[tactic(auto, unfolding(crate::specs::World::contents))]
 pub fn bonds_end()
     ensures unlinked { UnlinkedIsDropped }
@@ -130,20 +129,20 @@ pub fn bonds_end()
     ensures stays { MessageStays }
 {}
 
-/// That a process ran away is told its partners.
+/// The partners of a process that ran away are informed.
 #[tactic(auto, unfolding(crate::specs::World::contents))]
 pub fn runaways_are_told()
     ensures { RunawayIsTold }
 {}
 
-/// Who had a name or a table before takes it from nobody at its end.
+/// A process that had a name or a table before takes it from nobody at its end.
 #[tactic(auto, unfolding(crate::specs::World::contents))]
 pub fn former_owners_take_nothing()
     ensures name { FormerHolderFreesNoName }
     ensures table { FormerOwnerDestroysNoTable }
 {}
 
-/// A link to a process that is gone is told so, where exits are trapped, and so is a watch.
+/// A link to a process that is gone is reported as such, where exits are trapped, and so is a watch.
 #[tactic(auto, unfolding(crate::specs::World::contents))]
 pub fn late_bonds_are_told()
     ensures link { LateLinkIsTold }

@@ -55,7 +55,7 @@ pub fn exits_read_the_flag()
     ensures { ExitComesAfterFlag }
 {}
 
-/// So does what becomes of the signal of a link, but not where the link stands no more.
+/// So does what becomes of the signal of a link, except where the link is gone.
 #[tactic(auto, unfolding(crate::specs::World::contents))]
 pub fn standing_links_read_the_flag()
     ensures stands { LinkReadsFlag }
@@ -71,8 +71,7 @@ pub fn mailboxes_keep_an_order()
     ensures sends { SendsAreFree }
 {}
 
-/// A receive and a flush that find their message do not depend on a delivery behind it; those that find
-/// none do.
+/// A receive and a flush that find their message do not depend on a delivery after it; those that find none do.
 #[tactic(auto, unfolding(crate::specs::World::contents))]
 pub fn messages_come_behind()
     ensures received { ReceiveIsFree }

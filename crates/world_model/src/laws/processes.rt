@@ -1,8 +1,8 @@
-// The laws of processes: what is told after an event, by what was told before it.
+// The laws of processes: what is so after an event, by what was so before it.
 ghost use Rattle.world_model.specs.Bonds.{LinkedIsTold, WatchedIsTold, HolderIsTold};
 ghost use Rattle.world_model.specs.Mail.{MailboxIsTold, WaitingIsTold};
 ghost use Rattle.world_model.specs.Posted.{PutsAreTold};
-ghost use Rattle.world_model.specs.Told.{AliveIsTold, TurnsAreTold, AnswersAreTold, TrapsAreTold};
+ghost use Rattle.world_model.specs.ProcessHistory.{AliveIsTold, TurnsAreTold, AnswersAreTold, TrapsAreTold};
 
 /// A process lives from where it begins, the first from the beginning, until an event ends it.
 pub fn lives_are_told()
@@ -20,7 +20,7 @@ pub fn flags_are_told()
     ensures { TrapsAreTold }
 {}
 
-/// Who is linked to whom, whom a watch is of and who holds a name: by the latest event about it.
+/// Which processes are linked, which process a watch is for and who holds a name: by the latest event about it.
 pub fn bonds_are_told()
     ensures linked { LinkedIsTold }
     ensures watched { WatchedIsTold }

@@ -1,6 +1,6 @@
 // What holds of every history that really happens.
 ghost use Rattle.world_model.specs.Bonds.{HolderIsToldInRuns};
-ghost use Rattle.world_model.specs.OwnerTold.{OwnerIsTold};
+ghost use Rattle.world_model.specs.OwnerHistory.{OwnerIsTold};
 ghost use Rattle.world_model.specs.RunLaws.{NamesAreNew, NamesMeanTheirs, FindsOne, OwnersLive, HoldersHaveNames, OwnersHaveTables, TargetsHaveWatches, LinksAreMutual};
 
 /// Names do not repeat: what a process creates next, and later, has the name of nothing that there was.

@@ -1,8 +1,8 @@
 // The laws of steps and schedules.
 ghost use Rattle.world_model.specs.StepLaws.{EnabledAreListed, ListedAreEnabled, AreListedInOrder, IsRunOfSchedule, RunsAreReal};
 
-/// The enabled steps of a history are listed, in their order, each once: no other step is enabled than
-/// turns of processes that were begun, and deliveries of channels in which a signal was put.
+/// The enabled steps of a history are listed, in their order, each once. Only turns of processes that were begun, and
+/// deliveries of channels in which a signal was put, can be enabled.
 pub fn enabled_steps_are_listed()
     ensures all { EnabledAreListed }
     ensures only { ListedAreEnabled }

@@ -1,12 +1,12 @@
 // The laws of calls of tables.
-ghost use Rattle.world_model.specs.FoundTold.{TablesAreFound, FoundAreThere, FoundIsTold};
-ghost use Rattle.world_model.specs.Owners.{LeavesTable, MakesTable, PassesTables, PassesRows};
+ghost use Rattle.world_model.specs.FindingHistory.{TablesAreFound, FoundAreThere, FoundIsTold};
+ghost use Rattle.world_model.specs.OwnershipLaws.{LeavesTable, MakesTable, PassesTables, PassesRows};
 ghost use Rattle.world_model.specs.RowsLeft.{WritesRows, LeavesRows, KeepsTheLast};
-ghost use Rattle.world_model.specs.TablesTold.{TableIsTold, RowsAreTold};
+ghost use Rattle.world_model.specs.TableHistory.{TableIsTold, RowsAreTold};
 ghost use Rattle.world_model.specs.TableLaws.{ServedWhereNone, RefusedByRule, ServedOnlyWhereNone, RefusedLeaves, RefusedFinds, AreRows, AreByKey, AreWalked};
 
-/// A call of a table is served, with its answer, exactly where no rule fails, and else refused by the one
-/// rule, with the owner then where that is told.
+/// A call of a table is served, with its answer, exactly where no rule fails, and else refused by the one rule, with
+/// the owner at that time where the rule reports it.
 pub fn calls_are_judged()
     ensures served { ServedWhereNone }
     ensures refused { RefusedByRule }

@@ -15,7 +15,7 @@ use Rattle.world_records.specs.declared.records.Records.{Records}
 abbrev pub is_enabled_at : ModuleTree → Contents → Step → Bool
 is_enabled_at m v step = is_some (next_deed (program_of m) v step)
 
--- those of some steps that are enabled are put behind others
+-- those of some steps that are enabled are put after others
 abbrev pub PutsEnabled : Records → List Step → List Step → List Step → Type 0
 PutsEnabled records steps old new = (m : ModuleTree) (v : Contents) → Agrees m records v → new ≡ old ++ filter (is_enabled_at m v) steps
 

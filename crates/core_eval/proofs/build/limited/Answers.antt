@@ -1,5 +1,5 @@
 use Rattle.std.proofs.Common.{arith}
-use Rattle.eval_rules.specs.Evaluation.{limited}
+use Rattle.core_semantics.specs.Evaluation.{limited}
 use Rattle.term_core.specs.Term.{meaning_of}
 use Rattle.core_eval.proofs.Errors.{same_error, limited-over}
 use Rattle.core_eval.proofs.build.limited.Goals as goal

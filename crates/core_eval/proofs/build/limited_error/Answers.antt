@@ -1,5 +1,5 @@
 use Rattle.std.proofs.Common.{arith}
-use Rattle.eval_rules.specs.Evaluation.{limited_error}
+use Rattle.core_semantics.specs.Evaluation.{limited_error}
 use Rattle.term_core.specs.Term.{meaning_of}
 use Rattle.core_eval.proofs.Errors.{same_error, limited_error-over}
 use Rattle.core_eval.proofs.build.limited_error.Goals as goal

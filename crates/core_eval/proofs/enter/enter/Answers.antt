@@ -2,7 +2,7 @@ use Rattle.std.proofs.Common.{◌≡◌, IfOk, sym, ap, subst, ◌∙◌, arith}
 use Rattle.core_tree.specs.Syntax.{Tree}
 use Rattle.core_tree.specs.Expression as trees
 use Rattle.core_tree.specs.Tree.{tree_of}
-use Rattle.eval_rules.specs.Evaluation.{evaluate}
+use Rattle.core_semantics.specs.Evaluation.{evaluate}
 use Rattle.core_stack.specs.Holes.{scope}
 use Rattle.core_eval.specs.inside.Steps.{Enters}
 use Rattle.core_eval.proofs.Errors.{enters}

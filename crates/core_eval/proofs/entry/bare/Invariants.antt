@@ -1,5 +1,5 @@
 use Rattle.std.proofs.Common.{◌≡◌, length}
-use Rattle.eval_rules.specs.Evaluation.{Setting, Outcome}
+use Rattle.core_semantics.specs.Evaluation.{Setting, Outcome}
 use Rattle.core_eval.specs.Filled.{through}
 use Rattle.core_eval.proofs.entry.bare.Given as goal
 

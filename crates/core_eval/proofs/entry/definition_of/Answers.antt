@@ -1,6 +1,6 @@
 use Rattle.std.proofs.Common.{◌∙◌, ap}
 use Rattle.std.specs.Prelude.{option_map}
-use Rattle.eval_rules.specs.Applications.{definition}
+use Rattle.core_semantics.specs.Applications.{definition}
 use Rattle.core_eval.specs.inside.Functions.{function_in}
 use Rattle.core_eval.proofs.Lookups.{lookup-definition}
 use Rattle.core_eval.proofs.entry.definition_of.Goals as goal

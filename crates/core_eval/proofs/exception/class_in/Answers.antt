@@ -1,6 +1,6 @@
 use Rattle.std.proofs.Common.{◌∙◌, length, ap, sym, arith}
 use Rattle.term_core.specs.Term.{meaning_of}
-use Rattle.eval_rules.specs.Evaluation.{class_in}
+use Rattle.core_semantics.specs.Evaluation.{class_in}
 use Rattle.core_eval.proofs.Errors.{no_trace}
 use Rattle.core_eval.proofs.exception.class_in.Goals as goal
 

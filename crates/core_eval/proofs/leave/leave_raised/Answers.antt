@@ -1,7 +1,7 @@
 use Rattle.std.proofs.Common.{sym, subst, arith, IfOk}
 use Rattle.term_core.specs.Term.{meaning_of}
 use Rattle.core_stack.specs.declared.frame.Frame.{Frame}
-use Rattle.eval_rules.specs.Evaluation.{Raises, caught}
+use Rattle.core_semantics.specs.Evaluation.{Raises, caught}
 use Rattle.core_stack.specs.inside.Frames.{hole_of}
 use Rattle.core_stack.specs.Holes.{scope}
 use Rattle.core_eval.specs.Filled.{filled}

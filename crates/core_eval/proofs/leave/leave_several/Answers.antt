@@ -1,5 +1,5 @@
 use Rattle.std.proofs.Common.{◌+◌, sym, subst, arith}
-use Rattle.eval_rules.specs.Evaluation.{Yields}
+use Rattle.core_semantics.specs.Evaluation.{Yields}
 use Rattle.core_stack.specs.inside.Frames.{hole_of}
 use Rattle.core_stack.specs.Holes.{scope}
 use Rattle.core_eval.specs.Filled.{filled}

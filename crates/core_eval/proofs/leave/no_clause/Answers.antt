@@ -1,7 +1,7 @@
 use Rattle.std.proofs.Common.{◌∷◌, [], ◌∙◌}
 use Rattle.std.specs.Prelude.{codes}
 use Rattle.term_core.specs.Meaning.{Tuple, meanings_of}
-use Rattle.eval_rules.specs.Evaluation.{as_one, name}
+use Rattle.core_semantics.specs.Evaluation.{as_one, name}
 use Rattle.core_eval.proofs.Errors.{same_limited_error}
 use Rattle.core_eval.proofs.leave.no_clause.Goals as goal
 

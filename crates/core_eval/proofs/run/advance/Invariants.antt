@@ -1,5 +1,5 @@
 use Rattle.std.proofs.Common.{◌≡◌, ◌+◌}
-use Rattle.eval_rules.specs.Evaluation.{Setting, State}
+use Rattle.core_semantics.specs.Evaluation.{Setting, State}
 use Rattle.core_eval.specs.inside.Steps.{going, load, work}
 use Rattle.core_eval.proofs.run.advance.Given as goal
 

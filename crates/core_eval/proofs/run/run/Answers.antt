@@ -1,8 +1,8 @@
 use Rattle.std.proofs.Common.{◌≡◌, ◌∙◌, refl, ap, sym, arith}
-use Rattle.eval_rules.specs.Applications.{setting_of}
-use Rattle.eval_rules.specs.Ask.{request_of}
-use Rattle.eval_rules.specs.Asked.{Asked}
-use Rattle.eval_rules.specs.Evaluation.{Setting, State}
+use Rattle.core_semantics.specs.Applications.{setting_of}
+use Rattle.core_semantics.specs.Ask.{request_of}
+use Rattle.core_semantics.specs.Asked.{Asked}
+use Rattle.core_semantics.specs.Evaluation.{Setting, State}
 use Rattle.core_stack.specs.Holes.{Hole}
 use Rattle.std.specs.Prelude.{List}
 use Rattle.core_eval.specs.declared.control.Pause.{Pause}

@@ -1,8 +1,8 @@
 use Rattle.std.proofs.Common.{◌≡◌, List}
-use Rattle.eval_rules.specs.Applications.{setting_of}
-use Rattle.eval_rules.specs.Ask.{request_of}
-use Rattle.eval_rules.specs.Asked.{Answered}
-use Rattle.eval_rules.specs.Evaluation.{before}
+use Rattle.core_semantics.specs.Applications.{setting_of}
+use Rattle.core_semantics.specs.Ask.{request_of}
+use Rattle.core_semantics.specs.Asked.{Answered}
+use Rattle.core_semantics.specs.Evaluation.{before}
 use Rattle.core_eval.specs.inside.Steps.{going}
 use Rattle.core_eval.proofs.run.run.Given as goal
 

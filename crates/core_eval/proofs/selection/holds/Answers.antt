@@ -1,7 +1,7 @@
 use Rattle.std.proofs.Common.{◌∙◌, ap, refl, sym}
 use Rattle.core_tree.specs.Tree.{tree_of}
-use Rattle.eval_rules.specs.Applications.{setting_of}
-use Rattle.eval_rules.specs.Evaluation.{at_rest, holds}
+use Rattle.core_semantics.specs.Applications.{setting_of}
+use Rattle.core_semantics.specs.Evaluation.{at_rest, holds}
 use Rattle.core_stack.specs.Holes.{scope}
 use Rattle.core_eval.proofs.Selecting.{apart, judged_apart}
 use Rattle.core_eval.proofs.selection.holds.Goals as goal

@@ -1,5 +1,5 @@
 use Rattle.term_core.specs.Term.{meaning_of}
-use Rattle.eval_rules.specs.Applications.{setting_of}
+use Rattle.core_semantics.specs.Applications.{setting_of}
 use Rattle.core_stack.specs.Holes.{scope}
 use Rattle.core_eval.proofs.Fitting.{clause_selects, clause_passes}
 use Rattle.core_eval.proofs.selection.selects.Goals as goal

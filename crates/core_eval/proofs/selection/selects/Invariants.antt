@@ -1,8 +1,8 @@
 use Rattle.std.proofs.Common.{◌≡◌, length}
 use Rattle.core_tree.specs.Syntax.{ModuleTree, clauses_of}
 use Rattle.term_core.specs.Term.{meaning_of}
-use Rattle.eval_rules.specs.Applications.{setting_of}
-use Rattle.eval_rules.specs.Evaluation.{selects}
+use Rattle.core_semantics.specs.Applications.{setting_of}
+use Rattle.core_semantics.specs.Evaluation.{selects}
 use Rattle.core_stack.specs.Holes.{scope}
 use Rattle.core_eval.proofs.selection.selects.Given as goal
 

@@ -3,8 +3,8 @@ use Rattle.std.specs.Prelude.{is_some}
 use Rattle.term_core.specs.Term.{meaning_of}
 use Rattle.core_tree.specs.Syntax.{ClauseTree, patterns_of}
 use Rattle.core_tree.specs.Tree.{tree_of}
-use Rattle.eval_rules.specs.Applications.{setting_of}
-use Rattle.eval_rules.specs.Evaluation.{at_rest, evaluate}
+use Rattle.core_semantics.specs.Applications.{setting_of}
+use Rattle.core_semantics.specs.Evaluation.{at_rest, evaluate}
 use Rattle.core_stack.specs.Holes.{scope}
 use Rattle.core_stack.specs.Matching.{match_each}
 use Rattle.core_eval.proofs.Fitting.{true_is_taken, unmatched_is_not}

@@ -2,7 +2,7 @@ use Rattle.std.proofs.Common.{◌++◌, map, ap, ◌∙◌}
 use Rattle.std.proofs.lemmas.List.{map-append}
 use Rattle.term_core.specs.Term.{meaning_of}
 use Rattle.world_model.specs.Events.{LinkExit, Down}
-use Rattle.proc_links.specs.Process.{ref_of}
+use Rattle.world_model.specs.Names.{ref_of}
 use Rattle.proc_links.specs.Put.{put_of}
 use Rattle.proc_links.proofs.Telling.{puts_joined}
 use Rattle.proc_links.proofs.signal.on_end.Goals as goal

@@ -1,6 +1,6 @@
 use Rattle.std.proofs.Common.{◌++◌, codes}
 use Rattle.std.specs.Fmt.{decimal}
-use Rattle.excuses.specs.Excuses.{excuses_in}
+use Rattle.tree_excuses.specs.Excuses.{excuses_in}
 use Rattle.report_reader.specs.inside.Reading.{normal_told}
 use Rattle.report_reader.proofs.Cuts.{no_first, no_second}
 use Rattle.report_reader.proofs.Fronts.{two_fronts}

@@ -1,6 +1,6 @@
 use Rattle.std.proofs.Common.{ap, ◌++◌, codes}
 use Rattle.std.specs.Fmt.{decimal}
-use Rattle.excuses.specs.Excuses.{excuses_in}
+use Rattle.tree_excuses.specs.Excuses.{excuses_in}
 use Rattle.report_reader.specs.inside.Reading.{normal_told}
 use Rattle.report_reader.proofs.Fronts.{same_front, told_none, told_some}
 use Rattle.report_reader.proofs.ends.behind_normal.Goals as goal

@@ -1,4 +1,4 @@
-use Rattle.findings.specs.Identities.{identity_in}
+use Rattle.world_identities.specs.Identities.{identity_in}
 use Rattle.report_reader.proofs.FindingTexts.{identity_read, identity_refused, identity_unended}
 use Rattle.report_reader.proofs.finding_lines.read_identity_line.Goals as goal
 

@@ -1,7 +1,7 @@
 use Rattle.std.proofs.Common.{◌≡◌, ◌-◌, ◌<◌, length, get_or, rules, sym}
 use Rattle.std.proofs.lemmas.Option.{get_or_from_slice_get}
-use Rattle.findings.specs.Found.{finding_in}
-use Rattle.findings.specs.Identities.{identity_in}
+use Rattle.tree_findings.specs.Found.{finding_in}
+use Rattle.world_identities.specs.Identities.{identity_in}
 use Rattle.report_reader.proofs.ListLaws.{last_decides}
 use Rattle.report_reader.proofs.lists.comes_last.Goals as goal
 

@@ -1,6 +1,6 @@
 use Rattle.std.proofs.Common.{ap, length, arith}
 use Rattle.std.proofs.lemmas.List.{length-map}
-use Rattle.findings.specs.Found.{finding_in}
+use Rattle.tree_findings.specs.Found.{finding_in}
 use Rattle.report_reader.proofs.lists.next_number.Goals as goal
 
 pub returns : goal.returns

@@ -1,6 +1,6 @@
 use Rattle.std.proofs.lemmas.Result.{err_from_is_err_and}
-use Rattle.excuses.specs.Excuses.{excuses_in}
-use Rattle.findings.specs.Identities.{flags_in}
+use Rattle.tree_excuses.specs.Excuses.{excuses_in}
+use Rattle.world_identities.specs.Identities.{flags_in}
 use Rattle.report_reader.proofs.Listing.{all_read, goes_on, stopped}
 use Rattle.report_reader.proofs.lists.read_findings.Goals as goal
 

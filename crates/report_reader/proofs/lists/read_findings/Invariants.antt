@@ -1,6 +1,6 @@
 use Rattle.std.proofs.Common.{length}
-use Rattle.excuses.specs.Excuses.{excuses_in}
-use Rattle.findings.specs.Identities.{flags_in}
+use Rattle.tree_excuses.specs.Excuses.{excuses_in}
+use Rattle.world_identities.specs.Identities.{flags_in}
 use Rattle.report_reader.proofs.Listing.{IsReadSoFar}
 use Rattle.report_reader.proofs.lists.read_findings.Given as goal
 

@@ -1,5 +1,5 @@
 use Rattle.std.proofs.Common.{length}
-use Rattle.excuses.specs.Excuses.{excuses_in}
+use Rattle.tree_excuses.specs.Excuses.{excuses_in}
 use Rattle.report_reader.specs.inside.Reading.{counts_line, result_line}
 use Rattle.report_reader.proofs.Cuts.{joined, no_first, no_second}
 use Rattle.report_reader.proofs.reading.read_end.Goals as goal

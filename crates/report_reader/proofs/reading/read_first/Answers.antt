@@ -1,6 +1,6 @@
 use Rattle.std.proofs.lemmas.Result.{err_from_is_err_and}
-use Rattle.excuses.specs.Excuses.{excuses_in}
-use Rattle.findings.specs.Identities.{flags_in}
+use Rattle.tree_excuses.specs.Excuses.{excuses_in}
+use Rattle.world_identities.specs.Identities.{flags_in}
 use Rattle.report_reader.proofs.ReportReads.{no_end, no_lists, no_reach, report_read}
 use Rattle.report_reader.proofs.reading.read_first.Goals as goal
 

@@ -1,6 +1,6 @@
 use Rattle.std.proofs.lemmas.Result.{err_from_is_err_and}
-use Rattle.excuses.specs.Excuses.{excuses_in}
-use Rattle.findings.specs.Identities.{flags_in}
+use Rattle.tree_excuses.specs.Excuses.{excuses_in}
+use Rattle.world_identities.specs.Identities.{flags_in}
 use Rattle.report_reader.proofs.ReportReads.{lists_read, no_errors, no_normal, no_refusals}
 use Rattle.report_reader.proofs.reading.read_lists.Goals as goal
 

@@ -1,5 +1,5 @@
-use Rattle.excuses.specs.Excuses.{excuses_in}
-use Rattle.findings.specs.Identities.{flags_in}
+use Rattle.tree_excuses.specs.Excuses.{excuses_in}
+use Rattle.world_identities.specs.Identities.{flags_in}
 use Rattle.report_reader.proofs.ReportReads.{may_refuse}
 use Rattle.report_reader.proofs.reading.read_report.Goals as goal
 

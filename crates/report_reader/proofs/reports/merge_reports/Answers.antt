@@ -1,6 +1,6 @@
 use Rattle.std.proofs.Common.{◌≡◌, length, rules, ap, ◌∙◌}
-use Rattle.excuses.specs.Excuses.{excuses_in}
-use Rattle.findings.specs.Identities.{flags_in}
+use Rattle.tree_excuses.specs.Excuses.{excuses_in}
+use Rattle.world_identities.specs.Identities.{flags_in}
 use Rattle.term_core.proofs.StepTexts.{no_bytes}
 use Rattle.report_reader.specs.Merged.{first_depth}
 use Rattle.report_reader.proofs.ReportsLaws.{all_reports, depth_is, first_read, first_stops, later_stops, merge_stops, one_more, these_reports}

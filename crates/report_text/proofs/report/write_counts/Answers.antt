@@ -2,7 +2,7 @@ use Rattle.std.proofs.Common.{codes}
 use Rattle.std.proofs.lemmas.Result.{err_from_is_err_and}
 use Rattle.term_core.specs.inside.Writing.{owes_all, owes_less, owes_break_in, writes_last, breaks_at, owes_same}
 use Rattle.std.proofs.Common.{◌∙◌, ap, length}
-use Rattle.excuses.specs.Excuses.{excuses_in}
+use Rattle.tree_excuses.specs.Excuses.{excuses_in}
 use Rattle.report_text.specs.ReportText.{text_of_normal}
 use Rattle.report_text.proofs.ReportTexts.{text_of_counts-numbers}
 use Rattle.report_text.proofs.report.write_counts.Goals as goal

@@ -1,8 +1,8 @@
 use Rattle.std.proofs.Common.{◌∙◌, ap, sym}
 use Rattle.std.proofs.lemmas.Result.{err_from_is_err_and}
 use Rattle.term_core.specs.inside.Writing.{owes_break_in, breaks_at}
-use Rattle.coverage.specs.Findings as coverage
-use Rattle.excuses.specs.Excuses.{excuses_in, stands, those_that}
+use Rattle.tree_coverage.specs.Findings as coverage
+use Rattle.tree_excuses.specs.Excuses.{excuses_in, stands, those_that}
 use Rattle.report_text.specs.ReportText.{findings_from, text_of_finding, text_of_findings}
 use Rattle.report_text.specs.Standing.{word_of}
 use Rattle.report_text.proofs.Listing.{listing_begins, listing_ends, listing_goes_on, listing_skips, owes_listed}

@@ -1,7 +1,7 @@
 use Rattle.std.proofs.Common.{codes}
 use Rattle.std.proofs.lemmas.Result.{err_from_is_err_and}
 use Rattle.term_core.specs.inside.Writing.{owes_all, owes_less, owes_break_in, writes_last, breaks_at, owes_same}
-use Rattle.findings.specs.Found.{finding_in}
+use Rattle.tree_findings.specs.Found.{finding_in}
 use Rattle.report_text.proofs.ReportTexts.{text_of_finding-schedule}
 use Rattle.report_text.proofs.report.write_finding.Goals as goal
 

@@ -1,6 +1,6 @@
 use Rattle.std.proofs.lemmas.Result.{err_from_is_err_and}
 use Rattle.term_core.specs.inside.Writing.{owes_all, owes_less, owes_break_in, writes_last, breaks_at, owes_same}
-use Rattle.excuses.specs.Excuses.{excuses_in}
+use Rattle.tree_excuses.specs.Excuses.{excuses_in}
 use Rattle.report_text.proofs.ReportTexts.{text_of_report-findings}
 use Rattle.report_text.proofs.report.write_report.Goals as goal
 

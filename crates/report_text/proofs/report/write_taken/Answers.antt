@@ -1,7 +1,7 @@
 use Rattle.std.proofs.Common.{codes}
 use Rattle.std.proofs.lemmas.Result.{err_from_is_err_and}
 use Rattle.term_core.specs.inside.Writing.{owes_all, owes_less, owes_break_in, writes_last, breaks_at, owes_same}
-use Rattle.excuses.specs.Excuses.{excuses_in, taken}
+use Rattle.tree_excuses.specs.Excuses.{excuses_in, taken}
 use Rattle.report_text.proofs.ReportTexts.{text_of_taken-number}
 use Rattle.report_text.proofs.report.write_taken.Goals as goal
 

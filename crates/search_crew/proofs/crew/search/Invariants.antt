@@ -1,4 +1,4 @@
-use Rattle.sleep_jobs.specs.Explorations.{program_in}
+use Rattle.search_jobs.specs.Explorations.{program_in}
 use Rattle.search_crew.proofs.crew.search.Given as goal
 
 abbrev pub ghosts-searched-N-PoolName : goal.ghosts-searched-N-PoolName

@@ -21,12 +21,12 @@ decreases-write_tuple g l = 4 * sum_of_nodes l.parts.now + 3
 abbrev pub decreases-write_list : goal.decreases-write_list
 decreases-write_list g l = 4 * (node_count l.pair.now.0 + node_count l.pair.now.1) + 4
 
--- the sink is sound, and the parts that are left are owed
+-- the sink is sound, and the parts that are left are still to be written
 abbrev pub invariant-write_tuple-loop-part : goal.invariant-write_tuple-loop-part
 invariant-write_tuple-loop-part g l =
     (g.S.Sink.has_failed l.sink ≡ false) × Owes (g.S.Sink.contents l.fn.sink) (g.S.Sink.contents l.sink) (marked l.mark (meanings_of (map meaning_of (drop l.part-index l.part-items)))) (text_of_tuple (meanings_of l.fn.parts))
 
--- the sink is sound, and the tail that is left is owed
+-- the sink is sound, and the tail that is left is still to be written
 abbrev pub invariant-write_list-loop-rest : goal.invariant-write_list-loop-rest
 invariant-write_list-loop-rest g l =
     (node_count (meaning_of l.rest) ≤ node_count l.fn.pair.1) × (g.S.Sink.has_failed l.sink ≡ false) × Owes (g.S.Sink.contents l.fn.sink) (g.S.Sink.contents l.sink) (text_of_tail (meaning_of l.rest)) (91 ∷ (text_of_term l.fn.pair.0 ++ text_of_tail l.fn.pair.1))

@@ -1,5 +1,5 @@
 use Rattle.std.proofs.Common.{◌≡◌, ◌++◌, ◌∙◌, map, ap, refl}
-use Rattle.findings.specs.Identities.{identity_in}
+use Rattle.world_identities.specs.Identities.{identity_in}
 use Rattle.proc_machines.specs.Processes.{lives_in}
 use Rattle.world_core.proofs.Showing.{all_dead}
 use Rattle.world_core.proofs.shows.push_deadlock.Goals as goal

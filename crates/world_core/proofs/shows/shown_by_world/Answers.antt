@@ -1,5 +1,5 @@
 use Rattle.std.proofs.Common.{◌≡◌, ◌++◌, ◌∙◌, map, ap, sym}
-use Rattle.findings.specs.Identities.{identity_in}
+use Rattle.world_identities.specs.Identities.{identity_in}
 use Rattle.proc_machines.specs.Processes.{lives_in}
 use Rattle.world_core.specs.inside.Showing.{told_by}
 use Rattle.world_core.proofs.Showing.{shows_all}

@@ -1,5 +1,5 @@
 use Rattle.std.proofs.Common.{◌∙◌, ap, sym}
-use Rattle.eval_rules.specs.Applications.{setting_of}
+use Rattle.core_semantics.specs.Applications.{setting_of}
 use Rattle.core_eval.specs.Requests.{told_by}
 use Rattle.core_eval.specs.Standing.{stands_at}
 use Rattle.core_eval.specs.Told.{told}

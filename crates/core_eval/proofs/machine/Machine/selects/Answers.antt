@@ -2,8 +2,8 @@ use Rattle.std.proofs.Common.{◌≡◌, ◌∙◌, ap, sym, subst, rules, IfOk}
 use Rattle.std.specs.Prelude.{None, Some}
 use Rattle.core_tree.specs.Syntax.{ModuleTree, clauses_of}
 use Rattle.term_core.specs.Term.{meaning_of}
-use Rattle.eval_rules.specs.Applications.{setting_of}
-use Rattle.eval_rules.specs.Evaluation.{selects}
+use Rattle.core_semantics.specs.Applications.{setting_of}
+use Rattle.core_semantics.specs.Evaluation.{selects}
 use Rattle.core_stack.specs.Holes.{scope}
 use Rattle.core_eval.specs.Standing.{Standing}
 use Rattle.core_eval.proofs.Selecting.{answers_as, takes_as}

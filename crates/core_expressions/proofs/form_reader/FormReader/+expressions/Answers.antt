@@ -112,7 +112,7 @@ pub start_in_note-returns : goal.start_in_note-returns
 start_in_note-returns t c =
     rw c.and.ensures (in_note_ends (constant_at c.args.levels) (inside_start_at c.args.own.now c.args.levels (expression_at c.args.own.now c.args.levels) (start_at c.args.own.now c.args.levels c.args.subject)) start_of _ c.note.result (state_in c.args.self.now) (state_in c.inside_start.new.self) (state_of c.note.new.self) c.in_ok-start.ensures c.note.ensures)
 
--- ---- a clause behind its patterns
+-- ---- a clause after its patterns
 
 pub behind_patterns-returns-in_err-guard : goal.behind_patterns-returns-in_err-guard
 behind_patterns-returns-in_err-guard t c =

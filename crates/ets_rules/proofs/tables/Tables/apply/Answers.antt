@@ -1,10 +1,10 @@
 use Rattle.std.proofs.Common.{Some, ap, subst, ◌∙◌}
 use Rattle.world_model.specs.Changes.{after}
-use Rattle.world_model.specs.Judging.{found_line}
+use Rattle.world_model.specs.TableRules.{found_line}
 use Rattle.ets_answers.specs.At.{found_at}
 use Rattle.ets_calls.specs.Arguments.{argument_in}
 use Rattle.ets_calls.specs.Calls.{call_in}
-use Rattle.proc_groups.specs.References.{ref_of}
+use Rattle.world_model.specs.Names.{ref_of}
 use Rattle.ets_rules.proofs.Holding.{served_at}
 use Rattle.ets_rules.specs.Tables.{Hold}
 use Rattle.ets_tables.specs.Tables.{held_at}

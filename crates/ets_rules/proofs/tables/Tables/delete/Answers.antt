@@ -1,8 +1,8 @@
 use Rattle.std.proofs.Common.{ap, subst}
 use Rattle.std.specs.Prelude.{option_map}
 use Rattle.world_model.specs.Changes.{after}
-use Rattle.proc_groups.specs.References.{ref_of}
-use Rattle.world_model.specs.Owning.{destroyed}
+use Rattle.world_model.specs.Names.{ref_of}
+use Rattle.world_model.specs.Ownership.{destroyed}
 use Rattle.ets_answers.specs.At.{found_at}
 use Rattle.ets_rules.proofs.Holding.{hold_after}
 use Rattle.ets_store.specs.Tables.{settings_in}

@@ -1,6 +1,6 @@
 use Rattle.std.proofs.Common.{map}
-use Rattle.world_model.specs.Owning.{heirs_set}
-use Rattle.proc_groups.specs.References.{ref_of}
+use Rattle.world_model.specs.Ownership.{heirs_set}
+use Rattle.world_model.specs.Names.{ref_of}
 use Rattle.ets_rules.proofs.Holding.{hold_after}
 use Rattle.ets_rules.proofs.Owning.{heirs_last}
 use Rattle.ets_store.specs.Tables.{heir_in}

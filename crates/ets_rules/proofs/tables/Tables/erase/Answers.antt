@@ -1,5 +1,5 @@
 use Rattle.std.proofs.Common.{ap, is_ok}
-use Rattle.proc_groups.specs.References.{ref_of}
+use Rattle.world_model.specs.Names.{ref_of}
 use Rattle.term_core.specs.Term.{meaning_of}
 use Rattle.world_model.specs.Rows.{Removes}
 use Rattle.ets_rules.proofs.RowsWritten.{none_there, not_held, write_holds}

@@ -1,10 +1,10 @@
 use Rattle.std.proofs.Common.{◌∷◌, []}
-use Rattle.world_model.specs.Changes.{Gains}
-use Rattle.proc_groups.specs.References.{ref_of}
+use Rattle.world_model.specs.Changes.{OwnedAdded}
+use Rattle.world_model.specs.Names.{ref_of}
 use Rattle.ets_rules.proofs.Holding.{hold_after}
 use Rattle.ets_rules.proofs.tables.Tables.gain.Goals as goal
 
 pub returns-clause-ok : goal.returns-clause-ok
 returns-clause-ok c = λ v hold.
     let t = ref_of c.args.id.now in
-    hold_after c.args.self.now (record { registry = c.gain.new.self }) (Gains c.args.pid.now t ∷ []) v hold (c.in_ok-gain.ensures.ok v hold.are)
+    hold_after c.args.self.now (record { registry = c.gain.new.self }) (OwnedAdded c.args.pid.now t ∷ []) v hold (c.in_ok-gain.ensures.ok v hold.are)

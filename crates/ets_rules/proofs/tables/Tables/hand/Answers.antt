@@ -1,10 +1,10 @@
 use Rattle.std.proofs.Common.{◌∷◌, []}
-use Rattle.world_model.specs.Changes.{Passes}
-use Rattle.proc_groups.specs.References.{ref_of}
+use Rattle.world_model.specs.Changes.{OwnerSet}
+use Rattle.world_model.specs.Names.{ref_of}
 use Rattle.ets_rules.proofs.Holding.{hold_after}
 use Rattle.ets_rules.proofs.tables.Tables.hand.Goals as goal
 
 pub returns-clause-ok : goal.returns-clause-ok
 returns-clause-ok c = λ v hold.
     let t = ref_of c.args.id.now in
-    hold_after c.args.self.now (record { registry = c.hand.new.self }) (Passes t c.args.to.now ∷ []) v hold (c.in_ok-hand.ensures.ok v hold.are)
+    hold_after c.args.self.now (record { registry = c.hand.new.self }) (OwnerSet t c.args.to.now ∷ []) v hold (c.in_ok-hand.ensures.ok v hold.are)

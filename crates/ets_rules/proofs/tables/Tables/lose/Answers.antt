@@ -1,10 +1,10 @@
 use Rattle.std.proofs.Common.{◌∷◌, []}
-use Rattle.world_model.specs.Changes.{Loses}
-use Rattle.proc_groups.specs.References.{ref_of}
+use Rattle.world_model.specs.Changes.{OwnedRemoved}
+use Rattle.world_model.specs.Names.{ref_of}
 use Rattle.ets_rules.proofs.Holding.{hold_after}
 use Rattle.ets_rules.proofs.tables.Tables.lose.Goals as goal
 
 pub returns-clause-ok : goal.returns-clause-ok
 returns-clause-ok c = λ v hold.
     let t = ref_of c.args.id.now in
-    hold_after c.args.self.now (record { registry = c.lose.new.self }) (Loses c.args.pid.now t ∷ []) v hold (c.in_ok-lose.ensures.ok v hold.are)
+    hold_after c.args.self.now (record { registry = c.lose.new.self }) (OwnedRemoved c.args.pid.now t ∷ []) v hold (c.in_ok-lose.ensures.ok v hold.are)

@@ -1,7 +1,7 @@
 use Rattle.std.proofs.Common.{sym, ◌∙◌}
 use Rattle.ets_answers.specs.At.{found_at}
 use Rattle.ets_calls.specs.Calls.{call_in}
-use Rattle.proc_groups.specs.References.{ref_of}
+use Rattle.world_model.specs.Names.{ref_of}
 use Rattle.ets_rules.proofs.RowChanges.{tells_nobody}
 use Rattle.ets_rules.proofs.tables.Tables.serve.Goals as goal
 

@@ -1,7 +1,7 @@
 use Rattle.std.proofs.Common.{ap, is_ok, subst}
-use Rattle.proc_groups.specs.References.{ref_of}
+use Rattle.world_model.specs.Names.{ref_of}
 use Rattle.term_core.specs.Term.{meaning_of}
-use Rattle.world_model.specs.Changes.{changed, Writes}
+use Rattle.world_model.specs.Changes.{changed, RowWritten}
 use Rattle.world_model.specs.Tables as tables
 use Rattle.world_model.specs.Rows.{Stores}
 use Rattle.ets_rules.specs.Tables.{Hold}
@@ -18,6 +18,6 @@ returns c = λ v settings there hold.
     let key = meaning_of c.args.key.now in
     let lent = c.in_ok-table.table.now in
     let new : Tables = record { registry = c.table_mut.follows.lender (record lent { rows = c.store.new.self }) } in
-    subst (λ kind. Hold new (changed (Writes t key (Stores kind c.args.object)) v)) (ap (λ (s : tables.Table). s.kind) (lent_settings c.args.self.now v t settings lent c.in_ok-table.ensures.table there hold))
+    subst (λ kind. Hold new (changed (RowWritten t key (Stores kind c.args.object)) v)) (ap (λ (s : tables.Table). s.kind) (lent_settings c.args.self.now v t settings lent c.in_ok-table.ensures.table there hold))
     (write_holds c.args.self.now new v t key (Stores lent.rows.kind c.args.object) settings lent c.store.new.self c.in_ok-store.ensures.ok c.in_ok-table.ensures.table c.in_ok-table.ensures.rows
     (c.table_mut.follows.holds (record lent { rows = c.store.new.self }) (ap is_ok c.in_ok-table.was)) there hold)

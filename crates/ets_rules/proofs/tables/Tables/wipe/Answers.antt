@@ -1,5 +1,5 @@
 use Rattle.std.proofs.Common.{◌∙◌, ap, is_ok, sym}
-use Rattle.proc_groups.specs.References.{ref_of}
+use Rattle.world_model.specs.Names.{ref_of}
 use Rattle.ets_store.specs.Tables.{settings_in}
 use Rattle.ets_rules.proofs.RowsWritten.{none_wiped, not_held, wipe_holds}
 use Rattle.ets_rules.proofs.tables.Tables.wipe.Goals as goal

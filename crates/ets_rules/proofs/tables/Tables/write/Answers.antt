@@ -1,6 +1,6 @@
 use Rattle.std.proofs.Common.{ap, is_ok}
 use Rattle.ets_calls.specs.Calls.{call_in}
-use Rattle.proc_groups.specs.References.{ref_of}
+use Rattle.world_model.specs.Names.{ref_of}
 use Rattle.ets_rules.proofs.Writing.{write_holds}
 use Rattle.ets_rules.proofs.tables.Tables.write.Goals as goal
 

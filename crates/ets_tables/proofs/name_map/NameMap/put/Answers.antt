@@ -1,6 +1,5 @@
 use Rattle.std.proofs.Common.{◌≡◌, Some, subst, if◌then◌else◌}
-use Rattle.world_model.specs.Names.{Name, same_name}
-use Rattle.proc_groups.specs.References.{ref_of}
+use Rattle.world_model.specs.Names.{Name, same_name, ref_of}
 use Rattle.proc_groups.proofs.Referring.{Id}
 use Rattle.ets_tables.specs.Shelves.{named_in}
 use Rattle.ets_tables.proofs.Shelving.{named_at}

@@ -1,7 +1,7 @@
 use Rattle.std.proofs.Common.{◌≡◌, ap}
 use Rattle.std.specs.BTreeMap.{is_at}
 use Rattle.term_core.specs.Order.{order_of_lists}
-use Rattle.proc_groups.specs.References.{ref_of}
+use Rattle.world_model.specs.Names.{ref_of}
 use Rattle.ets_tables.proofs.Shelving.{clones_show}
 use Rattle.ets_tables.proofs.name_map.NameMapClone.clone.Goals as goal
 

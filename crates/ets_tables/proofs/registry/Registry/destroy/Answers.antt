@@ -1,6 +1,6 @@
 use Rattle.std.proofs.Common.{ap, sym, subst, is_ok}
 use Rattle.world_model.specs.Changes.{after}
-use Rattle.proc_groups.specs.References.{ref_of}
+use Rattle.world_model.specs.Names.{ref_of}
 use Rattle.ets_tables.specs.Shelves.{AreShelved, changes_destroyed, table_on}
 use Rattle.ets_tables.proofs.Following.{still}
 use Rattle.ets_tables.proofs.registry.Registry.destroy.Goals as goal

@@ -1,5 +1,5 @@
 use Rattle.std.proofs.Common.{ap, sym, subst, is_ok}
-use Rattle.world_model.specs.Changes.{changed, Empties}
+use Rattle.world_model.specs.Changes.{changed, OwnedCleared}
 use Rattle.proc_groups.proofs.Grouping.{on_err}
 use Rattle.ets_tables.specs.Shelves.{AreShelved, AreSame}
 use Rattle.ets_tables.proofs.Following.{still, same_then, same_shelves, empties}
@@ -18,5 +18,5 @@ returns-clause-ok c =
     let old = c.args.self.now.shelves.value in
     let lent = c.in_ok-shelves.shelves.now in
     let same = same_shelves old lent c.in_ok-shelves.ensures.value in
-    λ v told. subst (λ s. AreShelved s (changed (Empties c.args.pid.now) v)) (sym (c.make_mut.follows.holds c.empty.new.self (ap is_ok c.in_ok-shelves.was)))
+    λ v told. subst (λ s. AreShelved s (changed (OwnedCleared c.args.pid.now) v)) (sym (c.make_mut.follows.holds c.empty.new.self (ap is_ok c.in_ok-shelves.was)))
     (empties lent c.empty.new.self c.args.pid.now v c.in_ok-empty.ensures.ok (still old lent v same told))

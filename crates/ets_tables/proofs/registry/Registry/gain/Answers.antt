@@ -1,7 +1,7 @@
 use Rattle.std.proofs.Common.{ap, sym, subst, is_ok}
-use Rattle.world_model.specs.Changes.{changed, Gains}
+use Rattle.world_model.specs.Changes.{changed, OwnedAdded}
 use Rattle.proc_groups.proofs.Grouping.{on_err}
-use Rattle.proc_groups.specs.References.{ref_of}
+use Rattle.world_model.specs.Names.{ref_of}
 use Rattle.ets_tables.specs.Shelves.{AreShelved, AreSame}
 use Rattle.ets_tables.proofs.Following.{still, same_then, same_shelves, gains}
 use Rattle.ets_tables.proofs.registry.Registry.gain.Goals as goal
@@ -20,5 +20,5 @@ returns-clause-ok c =
     let old = c.args.self.now.shelves.value in
     let lent = c.in_ok-shelves.shelves.now in
     let same = same_shelves old lent c.in_ok-shelves.ensures.value in
-    λ v told. subst (λ s. AreShelved s (changed (Gains c.args.pid.now t) v)) (sym (c.make_mut.follows.holds c.gain.new.self (ap is_ok c.in_ok-shelves.was)))
+    λ v told. subst (λ s. AreShelved s (changed (OwnedAdded c.args.pid.now t) v)) (sym (c.make_mut.follows.holds c.gain.new.self (ap is_ok c.in_ok-shelves.was)))
     (gains lent c.gain.new.self c.args.pid.now t v c.in_ok-gain.ensures.ok (still old lent v same told))

@@ -4,7 +4,7 @@ use Rattle.std.specs.Prelude.{option_map}
 use Rattle.term_core.specs.Order.{order_of_lists}
 use Rattle.world_model.specs.Changes.{after}
 use Rattle.ets_store.specs.Tables.{settings_in}
-use Rattle.proc_groups.specs.References.{ref_of}
+use Rattle.world_model.specs.Names.{ref_of}
 use Rattle.ets_tables.specs.Shelves.{AreShelved}
 use Rattle.ets_tables.specs.Tables.{table_at}
 use Rattle.ets_tables.specs.inside.Passing.{one_passes}

@@ -2,8 +2,7 @@ use Rattle.std.proofs.Common.{◌≡◌, [], ◌∷◌, ◌++◌, List, Bor, ap,
 use Rattle.std.specs.BTreeSet.{contains}
 use Rattle.term_core.specs.Order.{order_of_lists}
 use Rattle.term_core.specs.declared.pid.RefId.{RefId}
-use Rattle.world_model.specs.Names.{Ref}
-use Rattle.proc_groups.specs.References.{ref_of}
+use Rattle.world_model.specs.Names.{Ref, ref_of}
 use Rattle.ets_tables.specs.Ends.{transfer_of}
 use Rattle.ets_tables.specs.Tables.{table_at}
 use Rattle.ets_tables.specs.inside.Passing.{items_of}

@@ -3,7 +3,7 @@ use Rattle.std.specs.BTreeSet.{contains}
 use Rattle.term_core.specs.Order.{order_of_lists}
 use Rattle.world_model.specs.Cells.{Contents}
 use Rattle.world_model.specs.Changes.{after}
-use Rattle.proc_groups.specs.References.{ref_of}
+use Rattle.world_model.specs.Names.{ref_of}
 use Rattle.ets_tables.specs.Ends.{transfers_in, transfer_of}
 use Rattle.ets_tables.specs.Shelves.{AreShelved}
 use Rattle.ets_tables.specs.Tables.{table_at}

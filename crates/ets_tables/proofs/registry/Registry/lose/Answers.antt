@@ -1,6 +1,6 @@
 use Rattle.std.proofs.Common.{ap, sym, subst, is_ok}
-use Rattle.world_model.specs.Changes.{changed, Loses}
-use Rattle.proc_groups.specs.References.{ref_of}
+use Rattle.world_model.specs.Changes.{changed, OwnedRemoved}
+use Rattle.world_model.specs.Names.{ref_of}
 use Rattle.proc_groups.proofs.Grouping.{on_err}
 use Rattle.ets_tables.specs.Shelves.{AreShelved, AreSame}
 use Rattle.ets_tables.proofs.Following.{still, same_then, same_shelves, loses}
@@ -20,5 +20,5 @@ returns-clause-ok c =
     let old = c.args.self.now.shelves.value in
     let lent = c.in_ok-shelves.shelves.now in
     let same = same_shelves old lent c.in_ok-shelves.ensures.value in
-    λ v told. subst (λ s. AreShelved s (changed (Loses c.args.pid.now t) v)) (sym (c.make_mut.follows.holds c.lose.new.self (ap is_ok c.in_ok-shelves.was)))
+    λ v told. subst (λ s. AreShelved s (changed (OwnedRemoved c.args.pid.now t) v)) (sym (c.make_mut.follows.holds c.lose.new.self (ap is_ok c.in_ok-shelves.was)))
     (loses lent c.lose.new.self c.args.pid.now t v c.in_ok-lose.ensures.ok (still old lent v same told))

@@ -1,7 +1,7 @@
 use Rattle.std.proofs.Common.{sym, subst, ◌∙◌}
 use Rattle.world_model.specs.Changes.{after}
 use Rattle.ets_store.specs.Tables.{settings_in}
-use Rattle.proc_groups.specs.References.{ref_of}
+use Rattle.world_model.specs.Names.{ref_of}
 use Rattle.ets_tables.specs.Shelves.{AreShelved, IsMadeOn}
 use Rattle.ets_tables.specs.Tables.{changes_made}
 use Rattle.ets_tables.proofs.Following.{still, made_on, made_since}

@@ -2,7 +2,7 @@ use Rattle.std.proofs.Common.{◌≡◌, [], ◌∷◌, ◌++◌, ap, sym, subst
 use Rattle.std.specs.BTreeSet.{contains}
 use Rattle.term_core.specs.Order.{order_of_lists}
 use Rattle.world_model.specs.Cells as cells
-use Rattle.world_model.specs.Changes.{after, Empties}
+use Rattle.world_model.specs.Changes.{after, OwnedCleared}
 use Rattle.world_model.specs.Ends.{tables_pass}
 use Rattle.ets_tables.specs.Ends.{transfers_in}
 use Rattle.ets_tables.specs.Shelves.{AreShelved}
@@ -19,8 +19,8 @@ returns-clause-ok c =
     let copied = c.in_ok-shelves.shelves in
     λ v told alive.
     let are = all-is lives v p (table_at old) alive told.tables (owned_by old p) ∙ ap (tables_pass v p) (told.owned p) in
-    subst (λ s. AreShelved s (after (tables_pass v p (v (cells.Owned p)) ++ (Empties p ∷ [])) v)) (sym c.in_ok-self.ensures.ok)
-    (follows_both c.empty.new.self (tables_pass v p (v (cells.Owned p))) (Empties p ∷ []) v
+    subst (λ s. AreShelved s (after (tables_pass v p (v (cells.Owned p)) ++ (OwnedCleared p ∷ [])) v)) (sym c.in_ok-self.ensures.ok)
+    (follows_both c.empty.new.self (tables_pass v p (v (cells.Owned p))) (OwnedCleared p ∷ []) v
     (empties c.leave_all.new.shelves c.empty.new.self p (after (tables_pass v p (v (cells.Owned p))) v) c.in_ok-empty.ensures.ok
     (subst (λ ks. AreShelved c.leave_all.new.shelves (after ks v)) are (c.in_ok-transfers.ensures.ok v (still old.shelves.value copied v c.in_ok-shelves.ensures told)))))
 

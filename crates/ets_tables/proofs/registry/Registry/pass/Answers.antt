@@ -1,9 +1,8 @@
 use Rattle.std.proofs.Common.{◌≡◌, Some, ap, sym, subst}
 use Rattle.std.specs.Prelude.{option_map}
 use Rattle.world_model.specs.Changes.{after, without_first}
-use Rattle.world_model.specs.Names.{same_ref}
+use Rattle.world_model.specs.Names.{same_ref, ref_of}
 use Rattle.ets_store.specs.Tables.{settings_in}
-use Rattle.proc_groups.specs.References.{ref_of}
 use Rattle.ets_tables.specs.Shelves.{AreShelved, IsOwned, table_on}
 use Rattle.ets_tables.specs.Tables.{changes_passed}
 use Rattle.ets_tables.proofs.Following.{passed_on}

@@ -2,7 +2,7 @@ use Rattle.std.proofs.Common.{◌≡◌, Some, IsSome, refl, ap, sym, subst, is_
 use Rattle.std.specs.Borrow.{MutBor}
 use Rattle.ets_store.specs.Tables.{settings_in}
 use Rattle.ets_store.specs.declared.table.Table.{Table}
-use Rattle.proc_groups.specs.References.{ref_of}
+use Rattle.world_model.specs.Names.{ref_of}
 use Rattle.ets_tables.specs.Shelves.{AreSame, IsAltered, table_on, rows_on}
 use Rattle.ets_tables.proofs.Following.{same_then, same_shelves}
 use Rattle.ets_tables.proofs.Lending.{on_err_map, if_ok_map, altered_since}

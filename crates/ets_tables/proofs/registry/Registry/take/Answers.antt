@@ -1,6 +1,6 @@
 use Rattle.std.proofs.Common.{[], ◌∷◌, ap, sym, subst, is_ok}
-use Rattle.world_model.specs.Changes.{after, Goes, Wipes}
-use Rattle.proc_groups.specs.References.{ref_of}
+use Rattle.world_model.specs.Changes.{after, TableRemoved, RowsCleared}
+use Rattle.world_model.specs.Names.{ref_of}
 use Rattle.ets_tables.specs.Shelves.{AreShelved}
 use Rattle.ets_tables.proofs.Following.{still, same_shelves, goes}
 use Rattle.ets_tables.proofs.registry.Registry.take.Goals as goal
@@ -11,5 +11,5 @@ returns-clause-ok c =
     let old = c.args.self.now.shelves.value in
     let lent = c.in_ok-shelves.shelves.now in
     let same = same_shelves old lent c.in_ok-shelves.ensures.value in
-    λ v told. subst (λ s. AreShelved s (after (Goes t ∷ Wipes t ∷ []) v)) (sym (c.make_mut.follows.holds c.take.new.self (ap is_ok c.in_ok-shelves.was)))
+    λ v told. subst (λ s. AreShelved s (after (TableRemoved t ∷ RowsCleared t ∷ []) v)) (sym (c.make_mut.follows.holds c.take.new.self (ap is_ok c.in_ok-shelves.was)))
     (goes lent c.take.new.self t v c.take.ensures.left (still old lent v same told))

@@ -2,7 +2,7 @@ use Rattle.std.proofs.Common.{◌≡◌, Some, ap, sym, subst, ◌∙◌}
 use Rattle.std.specs.Prelude.{option_map}
 use Rattle.world_model.specs.Changes.{after}
 use Rattle.ets_store.specs.Tables.{settings_in}
-use Rattle.proc_groups.specs.References.{ref_of}
+use Rattle.world_model.specs.Names.{ref_of}
 use Rattle.ets_tables.specs.Shelves.{AreShelved, changes_destroyed, table_on}
 use Rattle.ets_tables.proofs.Following.{still, none_went, named_went, unnamed_went}
 use Rattle.ets_tables.proofs.shelves.Shelves.destroy.Goals as goal

@@ -1,5 +1,5 @@
 use Rattle.ets_store.specs.Tables.{settings_in}
-use Rattle.proc_groups.specs.References.{ref_of}
+use Rattle.world_model.specs.Names.{ref_of}
 use Rattle.ets_tables.proofs.Ending.{gone, gone_unnamed}
 use Rattle.ets_tables.proofs.shelves.Shelves.forget.Goals as goal
 

@@ -1,9 +1,8 @@
 use Rattle.std.proofs.Common.{◌≡◌, ap, bytes_eq, if◌then◌else◌, is_ok, subst}
 use Rattle.term_core.specs.StepOrder.{order_of_reference_ids}
 use Rattle.world_model.specs.Changes.{set_in_order}
-use Rattle.world_model.specs.Names.{Pid, order_of_refs}
+use Rattle.world_model.specs.Names.{Pid, order_of_refs, ref_of}
 use Rattle.proc_groups.specs.Groups.{members_in}
-use Rattle.proc_groups.specs.References.{ref_of}
 use Rattle.proc_groups.proofs.Grouping.{on_err}
 use Rattle.proc_groups.proofs.Referring.{Id, refs_in_order}
 use Rattle.ets_tables.proofs.Shelving.{owned_at, same_groups, still_owned}

@@ -2,8 +2,7 @@ use Rattle.std.proofs.Common.{ap, is_ok}
 use Rattle.std.specs.BTreeMap.{is_at}
 use Rattle.term_core.specs.StepOrder.{order_of_reference_ids}
 use Rattle.world_model.specs.Changes.{without_first}
-use Rattle.world_model.specs.Names.{same_ref}
-use Rattle.proc_groups.specs.References.{ref_of}
+use Rattle.world_model.specs.Names.{same_ref, ref_of}
 use Rattle.proc_groups.proofs.Referring.{refs_without}
 use Rattle.ets_tables.proofs.Shelving.{owned_at, same_groups}
 use Rattle.ets_tables.proofs.shelves.Shelves.lose.Goals as goal

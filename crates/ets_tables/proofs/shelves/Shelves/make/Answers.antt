@@ -1,8 +1,7 @@
 use Rattle.std.proofs.Common.{◌≡◌, true, false, Some, sym, subst, ◌∙◌}
 use Rattle.world_model.specs.Changes.{set_in_order}
-use Rattle.world_model.specs.Names.{order_of_refs}
+use Rattle.world_model.specs.Names.{order_of_refs, ref_of}
 use Rattle.ets_store.specs.Tables.{settings_in}
-use Rattle.proc_groups.specs.References.{ref_of}
 use Rattle.ets_tables.specs.Shelves.{IsOwned, IsMeant}
 use Rattle.ets_tables.proofs.Following.{named_made, unnamed_made}
 use Rattle.ets_tables.proofs.shelves.Shelves.make.Goals as goal

@@ -1,6 +1,6 @@
 use Rattle.std.proofs.Common.{Some, ap, is_ok}
 use Rattle.proc_groups.proofs.Grouping.{on_err}
-use Rattle.proc_groups.specs.References.{ref_of}
+use Rattle.world_model.specs.Names.{ref_of}
 use Rattle.ets_tables.proofs.Shelving.{meant_at, same_names, still_meant}
 use Rattle.ets_tables.proofs.shelves.Shelves.mean.Goals as goal
 

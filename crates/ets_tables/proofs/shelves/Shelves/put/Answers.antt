@@ -1,6 +1,6 @@
 use Rattle.std.proofs.Common.{Some, ap, subst}
 use Rattle.ets_store.specs.Tables.{settings_in}
-use Rattle.proc_groups.specs.References.{ref_of}
+use Rattle.world_model.specs.Names.{ref_of}
 use Rattle.proc_groups.proofs.Referring.{Id}
 use Rattle.ets_tables.specs.Shelves.{IsAltered}
 use Rattle.ets_tables.proofs.Shelving.{altered_at}

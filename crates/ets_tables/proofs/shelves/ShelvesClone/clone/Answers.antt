@@ -4,7 +4,7 @@ use Rattle.std.specs.Prelude.{option_map}
 use Rattle.term_core.specs.StepOrder.{order_of_reference_ids}
 use Rattle.ets_store.specs.Tables.{settings_in}
 use Rattle.proc_groups.specs.Groups.{members_in}
-use Rattle.proc_groups.specs.References.{ref_of}
+use Rattle.world_model.specs.Names.{ref_of}
 use Rattle.ets_tables.specs.Shelves.{named_in, rows_of}
 use Rattle.ets_tables.proofs.Shelving.{clones_show}
 use Rattle.ets_tables.proofs.shelves.ShelvesClone.clone.Goals as goal

@@ -1,6 +1,6 @@
 use Rattle.std.proofs.Common.{◌≡◌, ◌∙◌, ap, map}
 use Rattle.std.specs.List.{filter}
-use Rattle.proc_links.specs.Process.{ref_of}
+use Rattle.world_model.specs.Names.{ref_of}
 use Rattle.proc_links.specs.Watchers.{watchers_in}
 use Rattle.proc_links.proofs.Telling.{watchers_are_told, refs_filtered}
 use Rattle.proc_links.proofs.watchers.Watchers.told.Goals as goal

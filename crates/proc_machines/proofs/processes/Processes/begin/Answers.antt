@@ -1,5 +1,5 @@
 use Rattle.std.proofs.Common.{true, Some, if◌then◌else◌, refl, ap, subst, ◌∙◌}
-use Rattle.eval_rules.specs.Ask.{ask, entry}
+use Rattle.core_semantics.specs.Ask.{ask, entry}
 use Rattle.core_eval.specs.Standing.{StandsAt}
 use Rattle.world_model.specs.Names.{same_pid}
 use Rattle.world_model.specs.Requests.{Spawned}

@@ -1,5 +1,5 @@
 use Rattle.std.proofs.Common.{◌∙◌, Some, ap, refl, rules}
-use Rattle.proc_signals.specs.Signal.{ref_of}
+use Rattle.world_model.specs.Names.{ref_of}
 use Rattle.world_model.specs.Changes.{is_of_watch, without_first}
 use Rattle.proc_mailboxes.proofs.Kept.{changed_at, made_of, none_changed, on_err, unchanged_at}
 use Rattle.proc_mailboxes.proofs.mailbox_map.MailboxMap.flush.Goals as goal

@@ -2,7 +2,7 @@ use Rattle.std.proofs.Common.{◌≡◌, ◌∙◌, sym, ap, Some, None, rules}
 use Rattle.world_model.specs.Changes.{is_of_watch}
 use Rattle.world_model.specs.Mailboxes.{selected_of}
 use Rattle.proc_signals.specs.Mailbox.{first_place}
-use Rattle.proc_signals.specs.Signal.{ref_of}
+use Rattle.world_model.specs.Names.{ref_of}
 use Rattle.proc_signals.proofs.Cells.{picked_follows}
 use Rattle.proc_signals.proofs.Removing.{place_within, place_removed, none_removed}
 use Rattle.proc_signals.proofs.mailbox.Mailbox.flush_down.Goals as goal

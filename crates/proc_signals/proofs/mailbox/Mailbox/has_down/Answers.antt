@@ -1,5 +1,5 @@
 use Rattle.std.proofs.Common.{◌≡◌, ◌∙◌, ap, is_some, rules}
-use Rattle.proc_signals.specs.Signal.{ref_of}
+use Rattle.world_model.specs.Names.{ref_of}
 use Rattle.world_model.specs.Changes.{is_of_watch}
 use Rattle.world_model.specs.Mailboxes.{selected_of}
 use Rattle.proc_signals.proofs.Removing.{place_some}

@@ -2,7 +2,7 @@ use Rattle.std.proofs.Common.{◌≡◌, ◌+◌, ◌<◌, ◌^◌, map, length,
 use Rattle.std.specs.VecDeque.Iter.{deque_iter_rest}
 use Rattle.term_core.specs.Term.{meaning_of}
 use Rattle.proc_signals.specs.Mailbox.{first_place}
-use Rattle.proc_signals.specs.Signal.{ref_of}
+use Rattle.world_model.specs.Names.{ref_of}
 use Rattle.world_model.specs.Changes.{is_of_watch}
 use Rattle.proc_signals.proofs.messages.Messages.find_down.Given as goal
 

@@ -1,5 +1,5 @@
 use Rattle.world_model.proofs.Borne.{holder_told_in_runs}
-use Rattle.world_model.proofs.OwnerTold.{owner_told}
+use Rattle.world_model.proofs.OwnerHistory.{owner_told}
 use Rattle.world_model.proofs.laws.runs.owners_are_told.Goals as goal
 
 pub returns-clause-owner : goal.returns-clause-owner

@@ -1,4 +1,4 @@
-use Rattle.world_model.proofs.TablesTold.{table_told, rows_told}
+use Rattle.world_model.proofs.TableHistory.{table_told, rows_told}
 use Rattle.world_model.proofs.laws.tables.tables_are_told.Goals as goal
 
 pub returns-clause-table : goal.returns-clause-table

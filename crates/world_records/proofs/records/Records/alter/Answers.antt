@@ -1,10 +1,10 @@
 use Rattle.std.proofs.Common.{◌∷◌, [], refl, subst}
 use Rattle.ets_rules.specs.Tables.{Hold}
-use Rattle.proc_links.specs.Process.{ref_of}
+use Rattle.world_model.specs.Names.{ref_of}
 use Rattle.term_core.specs.Meaning.{Meaning}
 use Rattle.term_core.specs.Term.{meaning_of}
 use Rattle.world_model.specs.Cells as cells
-use Rattle.world_model.specs.Changes.{after, Writes}
+use Rattle.world_model.specs.Changes.{after, RowWritten}
 use Rattle.world_model.specs.Rows.{Alters}
 use Rattle.world_records.proofs.Applied.{with_table}
 use Rattle.world_records.proofs.Changing.{only_tables}
@@ -14,6 +14,6 @@ pub returns : goal.returns
 returns c = λ m v told can.
     let t = ref_of c.args.id.now in
     let key = meaning_of c.args.key.now in
-    only_tables m c.args.self.now c.alter.new.self (Writes t key (Alters c.args.position (meaning_of c.args.value.now)) ∷ []) v (refl, tt)
-    (subst (λ (value : Meaning). Hold c.alter.new.self (after (Writes t key (Alters c.args.position value) ∷ []) v)) c.in_ok-value.ensures
+    only_tables m c.args.self.now c.alter.new.self (RowWritten t key (Alters c.args.position (meaning_of c.args.value.now)) ∷ []) v (refl, tt)
+    (subst (λ (value : Meaning). Hold c.alter.new.self (after (RowWritten t key (Alters c.args.position value) ∷ []) v)) c.in_ok-value.ensures
     (with_table (v (cells.Table t)) can.0.0 (λ table there. c.in_ok-alter.ensures v table there told.tables_are))) told

@@ -1,5 +1,5 @@
 use Rattle.std.proofs.Common.{◌∷◌, [], subst}
-use Rattle.world_model.specs.Changes.{after, Begins, Lives}
+use Rattle.world_model.specs.Changes.{after, MachineStarted, AliveSet}
 use Rattle.world_model.specs.Requests.{Spawned}
 use Rattle.term_core.specs.Meaning.{Meaning}
 use Rattle.std.specs.Prelude.{List}
@@ -8,5 +8,5 @@ use Rattle.world_records.proofs.records.Records.begin_copy.Goals as goal
 
 pub returns : goal.returns
 returns c = λ m v told can.
-    subst (λ (arguments : List Meaning). Agrees m c.begin.new.self (after (Begins c.args.child.now (Spawned c.args.module_name.now c.args.function_name.now arguments) ∷ Lives c.args.child.now ∷ []) v))
+    subst (λ (arguments : List Meaning). Agrees m c.begin.new.self (after (MachineStarted c.args.child.now (Spawned c.args.module_name.now c.args.function_name.now arguments) ∷ AliveSet c.args.child.now ∷ []) v))
     c.in_ok-arguments.ensures (c.in_ok-begin.ensures m v told)

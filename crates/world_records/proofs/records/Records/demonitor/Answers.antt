@@ -1,5 +1,5 @@
 use Rattle.std.proofs.Common.{subst}
-use Rattle.proc_links.specs.Process.{ref_of}
+use Rattle.world_model.specs.Names.{ref_of}
 use Rattle.proc_links.specs.Watchers.{AreWatchers, AreWatches}
 use Rattle.world_model.specs.Cells as cells
 use Rattle.world_model.specs.Changes.{after}

@@ -1,4 +1,4 @@
-use Rattle.proc_links.specs.Process.{ref_of}
+use Rattle.world_model.specs.Names.{ref_of}
 use Rattle.world_model.specs.Changes.{is_of_watch}
 use Rattle.world_model.specs.Mailboxes.{mailbox_in, picked, selected_of}
 use Rattle.world_records.proofs.Among.{picked_among}

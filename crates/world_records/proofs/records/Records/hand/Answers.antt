@@ -1,10 +1,10 @@
 use Rattle.std.proofs.Common.{◌∷◌, [], refl}
-use Rattle.proc_links.specs.Process.{ref_of}
-use Rattle.world_model.specs.Changes.{Passes}
+use Rattle.world_model.specs.Names.{ref_of}
+use Rattle.world_model.specs.Changes.{OwnerSet}
 use Rattle.world_records.proofs.Changing.{only_tables}
 use Rattle.world_records.proofs.records.Records.hand.Goals as goal
 
 pub returns : goal.returns
 returns c = λ m v told can.
     let t = ref_of c.args.id.now in
-    only_tables m c.args.self.now c.hand.new.self (Passes t c.args.owner.now ∷ []) v (refl, tt) (c.in_ok-hand.ensures.ok v told.tables_are) told
+    only_tables m c.args.self.now c.hand.new.self (OwnerSet t c.args.owner.now ∷ []) v (refl, tt) (c.in_ok-hand.ensures.ok v told.tables_are) told

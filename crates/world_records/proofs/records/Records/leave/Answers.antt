@@ -15,4 +15,4 @@ returns c = λ m v told.
     leaves m c.args.self.now v c.args.pid.now (meaning_of c.args.reason.now) (map transfer_of c.as_slice.result.now) (map put_of c.as_slice-2.result.now)
     c.owner_ends.new.self c.put_messages.new.channels c.put_signals.new.channels c.free.new.self told
     (c.in_ok-transfers.ensures.tables v told.tables_are alive) (c.in_ok-transfers.ensures.told v told.tables_are alive ∙ sym (ap (map transfer_of) c.as_slice.ensures.value))
-    c.in_ok-put_messages.ensures (c.in_ok-told.ensures v told.links_are told.watchers_are (λ q. sym (alive q)) ∙ sym (ap (λ ts. puts_by c.args.pid.now (map put_of ts)) c.as_slice-2.ensures.value)) c.in_ok-put_signals.ensures c.in_ok-free.ensures.holders c.in_ok-free.ensures.names
+    c.in_ok-put_messages.ensures (c.in_ok-told.ensures v told.links_are told.watchers_are alive ∙ sym (ap (λ ts. puts_by c.args.pid.now (map put_of ts)) c.as_slice-2.ensures.value)) c.in_ok-put_signals.ensures c.in_ok-free.ensures.holders c.in_ok-free.ensures.names

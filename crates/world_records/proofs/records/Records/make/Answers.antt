@@ -1,6 +1,6 @@
 use Rattle.std.proofs.Common.{map}
 use Rattle.ets_calls.specs.Options.{option_in}
-use Rattle.proc_links.specs.Process.{ref_of}
+use Rattle.world_model.specs.Names.{ref_of}
 use Rattle.world_model.specs.NewTables.{made}
 use Rattle.world_records.proofs.Among.{made_among}
 use Rattle.world_records.proofs.Changing.{only_tables}

@@ -1,9 +1,9 @@
 use Rattle.std.proofs.Common.{◌∷◌, [], refl, subst}
 use Rattle.ets_rules.specs.Tables.{Hold}
-use Rattle.proc_links.specs.Process.{ref_of}
+use Rattle.world_model.specs.Names.{ref_of}
 use Rattle.term_core.specs.Term.{meaning_of}
 use Rattle.world_model.specs.Cells as cells
-use Rattle.world_model.specs.Changes.{after, Writes}
+use Rattle.world_model.specs.Changes.{after, RowWritten}
 use Rattle.world_model.specs.Rows.{Object, Stores}
 use Rattle.world_records.proofs.Applied.{with_kind}
 use Rattle.world_records.proofs.Changing.{only_tables}
@@ -15,7 +15,7 @@ returns c = λ m v told can.
     let key = meaning_of c.args.key.now in
     let kind = c.args._kind in
     let new = c.store.new.self in
-    only_tables m c.args.self.now new (Writes t key (Stores kind c.args.object.now) ∷ []) v (refl, tt)
-    (subst (λ (object : Object). Hold new (after (Writes t key (Stores kind object) ∷ []) v)) c.in_ok-object.ensures
-    (with_kind (v (cells.Table t)) kind c.in_ok-object.object (λ k. Hold new (after (Writes t key (Stores k c.in_ok-object.object) ∷ []) v)) can.0.0 can.0.1
+    only_tables m c.args.self.now new (RowWritten t key (Stores kind c.args.object.now) ∷ []) v (refl, tt)
+    (subst (λ (object : Object). Hold new (after (RowWritten t key (Stores kind object) ∷ []) v)) c.in_ok-object.ensures
+    (with_kind (v (cells.Table t)) kind c.in_ok-object.object (λ k. Hold new (after (RowWritten t key (Stores k c.in_ok-object.object) ∷ []) v)) can.0.0 can.0.1
     (λ table there. c.in_ok-store.ensures v table there told.tables_are))) told

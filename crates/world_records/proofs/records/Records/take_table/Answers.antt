@@ -1,10 +1,10 @@
 use Rattle.std.proofs.Common.{◌∷◌, [], refl}
-use Rattle.proc_links.specs.Process.{ref_of}
-use Rattle.world_model.specs.Changes.{Goes, Wipes}
+use Rattle.world_model.specs.Names.{ref_of}
+use Rattle.world_model.specs.Changes.{TableRemoved, RowsCleared}
 use Rattle.world_records.proofs.Changing.{only_tables}
 use Rattle.world_records.proofs.records.Records.take_table.Goals as goal
 
 pub returns : goal.returns
 returns c = λ m v told can.
     let t = ref_of c.args.id.now in
-    only_tables m c.args.self.now c.take.new.self (Goes t ∷ Wipes t ∷ []) v (refl, (refl, tt)) (c.in_ok-take.ensures.ok v told.tables_are) told
+    only_tables m c.args.self.now c.take.new.self (TableRemoved t ∷ RowsCleared t ∷ []) v (refl, (refl, tt)) (c.in_ok-take.ensures.ok v told.tables_are) told

@@ -1,7 +1,7 @@
 use Rattle.std.proofs.Common.{refl, sym, subst}
 use Rattle.world_model.specs.Changes.{after}
 use Rattle.world_model.specs.Signals.{pair_goes, goes_with}
-use Rattle.proc_links.specs.Process.{ref_of}
+use Rattle.world_model.specs.Names.{ref_of}
 use Rattle.term_core.specs.Term.{meaning_of}
 use Rattle.world_model.specs.Events as events
 use Rattle.proc_signals.specs.Signal.{signal_of}

@@ -1,8 +1,0 @@
-// The laws of covers as bytes.
-ghost use Rattle.cover_check.specs.CoverLaws.{OwnTextsAreCovers};
-
-/// What is written of a tree that shows nothing that counts as an error is the text of a good cover, so a check accepts
-/// it unless memory runs out.
-pub fn own_texts_are_covers()
-    ensures { OwnTextsAreCovers }
-{}

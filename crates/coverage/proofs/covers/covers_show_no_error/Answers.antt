@@ -1,5 +1,0 @@
-use Rattle.coverage.proofs.CoverLaws.{covers_clean}
-use Rattle.coverage.proofs.covers.covers_show_no_error.Goals as goal
-
-pub returns : goal.returns
-returns c = covers_clean

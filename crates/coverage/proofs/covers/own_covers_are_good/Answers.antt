@@ -1,5 +1,0 @@
-use Rattle.coverage.proofs.OwnCovers.{own_good}
-use Rattle.coverage.proofs.covers.own_covers_are_good.Goals as goal
-
-pub returns : goal.returns
-returns c = own_good

@@ -1,5 +1,0 @@
-use Rattle.excuses.proofs.Judged.{nothing_changes}
-use Rattle.excuses.proofs.laws.no_excuses_change_nothing.Goals as goal
-
-pub returns : goal.returns
-returns c = nothing_changes

@@ -1,5 +1,0 @@
-use Rattle.explorer_engine.proofs.MergeLaws.{above_is}
-use Rattle.explorer_engine.proofs.merge.depth_above.Goals as goal
-
-pub returns : goal.returns
-returns c = above_is c.args.at c.checked_sub.result c.checked_sub.ensures

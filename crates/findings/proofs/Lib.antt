@@ -1,6 +1,0 @@
-pub mod Least
-pub mod Putting
-pub mod Sorting
-pub mod Places
-pub mod Schedules
-pub mod Orders

@@ -1,7 +1,0 @@
-use Rattle.std.proofs.Common.{ap, ◌∙◌}
-use Rattle.std.specs.Ordering.{is_eq}
-use Rattle.findings.proofs.Orders.{identities_same}
-use Rattle.findings.proofs.order.IdentityPartialEq.eq.Goals as goal
-
-pub returns-clause-same : goal.returns-clause-same
-returns-clause-same c = identities_same _ _ _ (c.is_eq.ensures ∙ ap is_eq c.order_of.ensures)

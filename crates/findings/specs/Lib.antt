@@ -1,6 +1,0 @@
-pub mod inside
-pub mod Identities
-pub mod Found
-pub mod Merging
-pub mod Laws
-pub mod MergeExamples

@@ -1,6 +1,0 @@
-use Rattle.std.proofs.Common.{sym, ◌∙◌}
-use Rattle.identity_reader.proofs.IdentityTexts.{one_identity}
-use Rattle.identity_reader.proofs.laws.texts_say_one_identity.Goals as goal
-
-pub returns : goal.returns
-returns c = λ text i other l j e f. one_identity i other l j (sym e ∙ f)

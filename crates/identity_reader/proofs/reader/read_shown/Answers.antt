@@ -1,4 +1,0 @@
-use Rattle.identity_reader.proofs.reader.read_shown.Goals as goal
-
-pub returns-in-Some : goal.returns-in-Some
-returns-in-Some c = rw c.in-Some.ensures c.read_deadlock.ensures

@@ -1,5 +1,0 @@
-use Rattle.job_lines.proofs.Names.{one_job}
-use Rattle.job_lines.proofs.laws.lines_say_one_job.Goals as goal
-
-pub returns : goal.returns
-returns c = one_job

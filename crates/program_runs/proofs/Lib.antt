@@ -1,0 +1,9 @@
+pub mod CheckLaws
+pub mod ReplayLaws
+pub mod ExploredLaws
+pub mod InputLaws
+pub mod JobLaws
+pub mod MergeLaws
+pub mod ReportLaws
+pub mod RunLaws
+pub mod TheoremLaws

@@ -1,0 +1,226 @@
+-- The four statements of the theorem, from what is so of each run of the program.
+use Rattle.std.proofs.Common.{arith, ◌≡◌, ◌≤◌, ◌⊎◌, ℕ, Bool, List, [], ◌∷◌, Option, Some, None, inl, inr, refl, sym, subst, ◌∙◌}
+use Rattle.std.specs.Prelude.{Result, Ok, Err, string_bytes}
+use Rattle.term_core.specs.Stream.{WritesAll}
+use Rattle.term_core.specs.declared.step.Step.{Step}
+use Rattle.core_reader.specs.ModuleText.{SpellsModule}
+use Rattle.core_tokens.specs.declared.fault.ReadFault.{ReadFault}
+use Rattle.core_tokens.specs.declared.fault.ReadFault.TheVariants as read
+use Rattle.term_core.specs.declared.schedule.ScheduleFault.{ScheduleFault}
+use Rattle.term_core.specs.declared.schedule.ScheduleFault.TheVariants as schedule
+use Rattle.world_model.specs.Asking.{program_of}
+use Rattle.world_model.specs.Requests.{Program}
+use Rattle.world_model.specs.Run.{run}
+use Rattle.tree_coverage.specs.Findings.{Finding}
+use Rattle.tree_covers.specs.declared.fault.CoverFault.{CoverFault}
+use Rattle.tree_covers.specs.declared.fault.CoverFault.TheVariants as cover
+use Rattle.tree_excuses.specs.Excuses.{Excuses, counted, counts, excuses_in}
+use Rattle.world_identities.specs.Identities.{flags_in}
+use Rattle.tree_findings.specs.declared.options.Options.{Options}
+use Rattle.tree_findings.specs.declared.outcome.Outcome.{Outcome}
+use Rattle.tree_findings.specs.declared.outcome.Outcome.TheVariants as outcomes
+use Rattle.search_job_lines.specs.declared.fault.JobFault.{JobFault}
+use Rattle.search_job_lines.specs.declared.fault.JobFault.TheVariants as job
+use Rattle.search_crew.specs.declared.fault.SearchFault.{SearchFault}
+use Rattle.search_crew.specs.declared.fault.SearchFault.TheVariants as search
+use Rattle.report_reader.specs.declared.fault.ReportFault.{ReportFault}
+use Rattle.report_reader.specs.declared.fault.ReportFault.TheVariants as report
+use Rattle.world_replay.specs.Replay.{reached, stop}
+use Rattle.world_replay.specs.declared.replay_fault.ReplayFault.{ReplayFault}
+use Rattle.world_replay.specs.declared.replay_fault.ReplayFault.TheVariants as replay
+use Rattle.program_words.specs.Words.{AsksExplore, AsksReplay}
+use Rattle.program_words.specs.declared.words.Printed.{Printed}
+use Rattle.program_words.specs.declared.words.Words.{Words}
+use Rattle.program_words.specs.declared.words.Words.TheVariants.{Replay, Explore, ExploreJob, Jobs, Merge, Check}
+use Rattle.program_runs.specs.Replayed.{IsReplayOf}
+use Rattle.program_runs.specs.Explored.{IsCleanIfSaid, IsExplorationOf, IsExplored, IsReportOf, complete_verdict, print_of, verdict_of}
+use Rattle.program_runs.specs.Printing.{text_of_print}
+use Rattle.program_runs.specs.Program.{IsDone, Written}
+use Rattle.program_runs.specs.Status.{status_of, status_of_cover_fault, status_of_fault, status_of_job_fault, status_of_read_fault, status_of_replay_fault, status_of_report_fault, status_of_schedule_fault}
+use Rattle.program_runs.specs.Theorem.{CleanMeansNone, HasExactReport, HasNoError, HasTranscript, ReportIsExact, TranscriptIsTheRun}
+use Rattle.program_runs.specs.declared.verdict.RunFault.{RunFault}
+use Rattle.program_runs.specs.declared.verdict.RunFault.TheVariants as run_faults
+use Rattle.program_runs.specs.declared.verdict.Verdict.{Verdict}
+use Rattle.program_runs.specs.declared.verdict.Verdict.TheVariants.{Done, Clean, Errors, Incomplete}
+
+-- ---- numbers
+
+at_two : 2 ≤ 2
+at_two = omega arith
+
+at_three : 2 ≤ 3
+at_three = omega arith
+
+at_four : 2 ≤ 4
+at_four = omega arith
+
+one_is_not : ◌≡◌ {A = ℕ} 1 0 → ⊥
+one_is_not e = omega (arith, e)
+
+three_is_not : ◌≡◌ {A = ℕ} 3 0 → ⊥
+three_is_not e = omega (arith, e)
+
+three_is_more : 3 ≤ 1 → ⊥
+three_is_more e = omega (arith, e)
+
+zero_is_low : 0 ≤ 1
+zero_is_low = omega arith
+
+-- ---- a fault has a status of at least 2
+
+of_read : (f : ReadFault) → 2 ≤ status_of_read_fault f
+of_read read.Memory = at_three
+of_read _ = at_two
+
+of_schedule : (f : ScheduleFault) → 2 ≤ status_of_schedule_fault f
+of_schedule (schedule.BadStep at) = at_two
+of_schedule schedule.Memory = at_three
+
+of_replay : (f : ReplayFault) → 2 ≤ status_of_replay_fault f
+of_replay (replay.NotEnabled step) = at_two
+of_replay replay.Memory = at_three
+of_replay replay.Write = at_four
+
+of_cover : (f : CoverFault) → 2 ≤ status_of_cover_fault f
+of_cover cover.Memory = at_three
+of_cover _ = at_two
+
+of_job : (f : JobFault) → 2 ≤ status_of_job_fault f
+of_job job.Memory = at_three
+of_job _ = at_two
+
+of_report : (f : ReportFault) → 2 ≤ status_of_report_fault f
+of_report report.Memory = at_three
+of_report _ = at_two
+
+of_search : (f : SearchFault) → 2 ≤ status_of_fault (run_faults.Explore f)
+of_search search.Memory = at_three
+of_search search.NoThread = at_three
+of_search search.StrangePool = at_three
+
+of_fault : (f : RunFault) → 2 ≤ status_of_fault f
+of_fault (run_faults.Input fault) = of_read fault
+of_fault run_faults.ReadFailed = at_two
+of_fault (run_faults.Schedule fault) = of_schedule fault
+of_fault (run_faults.Replay fault) = of_replay fault
+of_fault (run_faults.Explore fault) = of_search fault
+of_fault (run_faults.Cover fault) = of_cover fault
+of_fault (run_faults.Job fault) = of_job fault
+of_fault (run_faults.Report fault) = of_report fault
+of_fault run_faults.ReportCutOff = at_three
+of_fault run_faults.CoverCutOff = at_three
+of_fault run_faults.Output = at_four
+
+no_fault : (f : RunFault) (n : ℕ) → status_of_fault f ≡ n → n ≤ 1 → ⊥
+no_fault f n e low = omega (arith, of_fault f, e, low)
+
+-- ---- clean means none
+
+-- an exploration does not end as a replay does
+never_done : (x : Excuses) (o : Outcome) → Done ≡ verdict_of x o → ⊥
+never_done x (outcomes.Complete findings extent) e = go (counted x findings.errors) e
+  where
+    go : (fs : List Finding) → Done ≡ complete_verdict fs → ⊥
+    go [] e = absurd cc
+    go (f ∷ fs) e = absurd cc
+never_done x (outcomes.Incomplete cause findings) e = absurd cc
+
+clean_said : (input : List ℕ) (options : Options) (x : Excuses) (what : Printed) (old new : Option (List ℕ)) (failed : Bool) (r : Result Verdict RunFault)
+    → IsExplorationOf input options x what old new failed r → IsCleanIfSaid input options x r → status_of r ≡ 0 → HasNoError input options.depth (counts (flags_in options.flags) x)
+clean_said input options x what old new failed (Ok Done) is clean good = absurd (never_done x is.outcome is.told)
+clean_said input options x what old new failed (Ok Clean) is clean good = clean refl
+clean_said input options x what old new failed (Ok Errors) is clean good = absurd (one_is_not good)
+clean_said input options x what old new failed (Ok Incomplete) is clean good = absurd (three_is_not good)
+clean_said input options x what old new failed (Err fault) is clean good = absurd (no_fault fault 0 good zero_is_low)
+
+clean_asked : (asked : Words) (input : List ℕ) (options : Options) (x : Excuses) (what : Printed) (output : Written) (r : Result Verdict RunFault)
+    → AsksExplore options x what asked → IsDone asked input output.old output.new output.failed r → status_of r ≡ 0 → HasNoError input options.depth (counts (flags_in options.flags) x)
+clean_asked (Explore found excused prints) input options x what output r asks done good =
+    subst (λ (o : Options). HasNoError input o.depth (counts (flags_in o.flags) x)) asks.0
+    (subst (λ (y : Excuses). HasNoError input found.depth (counts (flags_in found.flags) y)) asks.1.0 (clean_said input found (excuses_in excused) prints output.old output.new output.failed r done.0 done.1 good))
+clean_asked (Replay schedule) input options x what output r asks done good = absurd asks
+clean_asked (ExploreJob found excused line) input options x what output r asks done good = absurd asks
+clean_asked (Jobs depth) input options x what output r asks done good = absurd asks
+clean_asked (Merge depth at flags excused) input options x what output r asks done good = absurd asks
+clean_asked (Check depth flags excused) input options x what output r asks done good = absurd asks
+
+pub clean_means_none : CleanMeansNone
+clean_means_none r options x what e good =
+    let u = r.is_run in
+    clean_asked u.asked r.input options x what r.output u.outcome (u.explore options x what e) u.run (sym u.status_is ∙ good)
+
+-- ---- the report is exact
+
+-- what was written of a search that came to its end
+complete_report : (input : List ℕ) (options : Options) (x : Excuses) (what : Printed) (output : Written) (verdict : Verdict) (o : Outcome) (explored : IsExplored input options x o)
+    → WritesAll output.old output.new output.failed (text_of_print (print_of what (program_of explored.program) options.depth x o)) → verdict ≡ verdict_of x o → (verdict ≡ Incomplete → ⊥) → HasExactReport input options x what output
+complete_report input options x what output verdict (outcomes.Complete findings extent) explored written told whole = record {
+  program = explored.program;
+  module_text = explored.module_text;
+  findings = findings;
+  extent = extent;
+  exact = explored.is_exact;
+  got = written;
+}
+complete_report input options x what output verdict (outcomes.Incomplete cause findings) explored written told whole = absurd (whole told)
+
+report_said : (input : List ℕ) (options : Options) (x : Excuses) (what : Printed) (output : Written) (r : Result Verdict RunFault)
+    → IsExplorationOf input options x what output.old output.new output.failed r → status_of r ≤ 1 → HasExactReport input options x what output
+report_said input options x what output (Ok Done) is low = absurd (never_done x is.outcome is.told)
+report_said input options x what output (Ok Clean) is low = complete_report input options x what output Clean is.outcome is.explored is.written is.told (λ e. absurd cc)
+report_said input options x what output (Ok Errors) is low = complete_report input options x what output Errors is.outcome is.explored is.written is.told (λ e. absurd cc)
+report_said input options x what output (Ok Incomplete) is low = absurd (three_is_more low)
+report_said input options x what output (Err fault) is low = absurd (no_fault fault (status_of_fault fault) refl low)
+
+report_asked : (asked : Words) (input : List ℕ) (options : Options) (x : Excuses) (what : Printed) (output : Written) (r : Result Verdict RunFault)
+    → AsksExplore options x what asked → IsDone asked input output.old output.new output.failed r → status_of r ≤ 1 → HasExactReport input options x what output
+report_asked (Explore found excused prints) input options x what output r asks done low =
+    subst (λ (o : Options). HasExactReport input o x what output) asks.0
+    (subst (λ (y : Excuses). HasExactReport input found y what output) asks.1.0
+    (subst (λ (p : Printed). HasExactReport input found (excuses_in excused) p output) asks.1.1 (report_said input found (excuses_in excused) prints output r done.0 low)))
+report_asked (Replay schedule) input options x what output r asks done low = absurd asks
+report_asked (ExploreJob found excused line) input options x what output r asks done low = absurd asks
+report_asked (Jobs depth) input options x what output r asks done low = absurd asks
+report_asked (Merge depth at flags excused) input options x what output r asks done low = absurd asks
+report_asked (Check depth flags excused) input options x what output r asks done low = absurd asks
+
+-- 0 and 1 are at most 1
+low_status : (status n : ℕ) → status ≡ n → (status ≡ 0) ⊎ (status ≡ 1) → n ≤ 1
+low_status status n e (inl good) = omega (arith, e, good)
+low_status status n e (inr one) = omega (arith, e, one)
+
+pub report_is_exact : ReportIsExact
+report_is_exact r options x what e low =
+    let u = r.is_run in
+    report_asked u.asked r.input options x what r.output u.outcome (u.explore options x what e) u.run (low_status r.status (status_of u.outcome) u.status_is low)
+
+-- ---- the transcript is the run
+
+transcript_said : ((a : Program) (steps : List Step) → stop a steps ≡ None → run a steps ≡ Some (reached a steps)) → (input word : List ℕ) (output : Written) (r : Result Verdict RunFault)
+    → IsReplayOf input word output.old output.new output.failed r → status_of r ≡ 0 → HasTranscript input word output
+transcript_said whole input word output (Ok Done) is good = record {
+  program = is.program;
+  steps = is.steps;
+  given = is.given;
+  history = reached (program_of is.program) is.steps;
+  runs = whole (program_of is.program) is.steps is.end.0;
+  got = is.end.1;
+}
+transcript_said whole input word output (Ok Clean) is good = absurd is
+transcript_said whole input word output (Ok Errors) is good = absurd is
+transcript_said whole input word output (Ok Incomplete) is good = absurd is
+transcript_said whole input word output (Err fault) is good = absurd (no_fault fault 0 good zero_is_low)
+
+transcript_asked : ((a : Program) (steps : List Step) → stop a steps ≡ None → run a steps ≡ Some (reached a steps)) → (asked : Words) (input word : List ℕ) (output : Written) (r : Result Verdict RunFault)
+    → AsksReplay word asked → IsDone asked input output.old output.new output.failed r → status_of r ≡ 0 → HasTranscript input word output
+transcript_asked whole (Replay schedule) input word output r asks done good = subst (λ (w : List ℕ). HasTranscript input w output) asks (transcript_said whole input (string_bytes schedule) output r done good)
+transcript_asked whole (Explore found excused prints) input word output r asks done good = absurd asks
+transcript_asked whole (ExploreJob found excused line) input word output r asks done good = absurd asks
+transcript_asked whole (Jobs depth) input word output r asks done good = absurd asks
+transcript_asked whole (Merge depth at flags excused) input word output r asks done good = absurd asks
+transcript_asked whole (Check depth flags excused) input word output r asks done good = absurd asks
+
+pub transcript_is_the_run : ((a : Program) (steps : List Step) → stop a steps ≡ None → run a steps ≡ Some (reached a steps)) → TranscriptIsTheRun
+transcript_is_the_run whole r word e good =
+    let u = r.is_run in
+    transcript_asked whole u.asked r.input word r.output u.outcome (u.replay word e) u.run (sym u.status_is ∙ good)

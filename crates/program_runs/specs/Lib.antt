@@ -1,0 +1,14 @@
+pub mod FaultText
+pub mod Status
+pub mod Input
+pub mod Printing
+pub mod inside
+pub mod Refusals
+pub mod Ends
+pub mod Replayed
+pub mod Explored
+pub mod Checked
+pub mod JobRuns
+pub mod MergeRuns
+pub mod Program
+pub mod Theorem

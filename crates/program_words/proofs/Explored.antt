@@ -1,0 +1,178 @@
+-- What the program makes of the words of an exploration.
+use Rattle.std.proofs.Common.{◌≡◌, ◌∙◌, ◌⊎◌, ℕ, ◌≤◌, Bool, true, false, List, [], ◌∷◌, length, Option, Some, None, codes, option_map, refl, sym, ap, subst, inl, inr, arith}
+use Rattle.std.specs.Fmt.{decimal, digits}
+use Rattle.std.specs.Prelude.{MatchBool, option_and_then, slice_get}
+use Rattle.std.specs.Str.{bytes_eq}
+use Rattle.std.proofs.lemmas.Slice.Eq.{bytes_eq-Decides}
+use Rattle.clap.specs.Words.{Row, Text, fault_of, first_of, one_of, subcommand_of}
+use Rattle.clap.specs.declared.parser.matches.ValueSource.TheVariants.{CommandLine, DefaultValue}
+use Rattle.world_identities.specs.declared.flags.Flags.{Flags}
+use Rattle.tree_findings.specs.declared.options.Options.{Options}
+use Rattle.program_words.specs.declared.words.Printed.{Printed}
+use Rattle.program_words.specs.Words.{AreInRange, AreWordsOfExplore, Given, IsGivenOr, is_cover, is_explain, job, jobs_of, nodes_of, workers_of}
+use Rattle.program_words.specs.inside.CommandLine.{command_line, exploring}
+use Rattle.program_words.specs.inside.Found.{AreOptionsIn, AreOptionsOf, AreRead, IsCheckOf, ReadsNumber, job_in, schedule_in}
+use Rattle.program_words.proofs.Asked.{IsAsked, asked_enters, asked_has_no_schedule, asked_passes, at_most_once, depth_is_read, depth_read, flag_read, flags_read, number_not_read, number_read, rows_of_given}
+use Rattle.program_words.proofs.Entered.{entered_rows, number_fits}
+use Rattle.program_words.proofs.Once.{Each, lawful_by}
+use Rattle.program_words.proofs.Ranges.{depth_fits, nodes_fits, workers_fits}
+use Rattle.program_words.proofs.Rows.{cover_left, cover_row, explain_left, explain_row, given_row, job_left, job_row, nodes_left, nodes_row, put_all, row_at, row_of, row_or, row_with, text_of_row, workers_left, workers_row}
+
+-- ---- the options of an exploration, each once and in its range
+
+given_once : (default n : ℕ) (counts : List ℕ) → IsGivenOr default counts n → length counts ≤ 1
+given_once default n [] is = omega arith
+given_once default n (m ∷ []) is = omega arith
+given_once default n (m ∷ (k ∷ rest)) is = absurd is
+
+given_lawful : (high default n : ℕ) (counts : List ℕ) → IsGivenOr default counts n → 1 ≤ n → n ≤ high → Each (λ m. (1 ≤ m) × (m ≤ high)) counts
+given_lawful high default n [] is least most = tt
+given_lawful high default n (m ∷ []) is least most = ((subst (λ k. 1 ≤ k) is least, subst (λ k. k ≤ high) is most), tt)
+given_lawful high default n (m ∷ (k ∷ rest)) is least most = absurd is
+
+-- ---- the texts of its numbers
+
+million : codes "1000000" ≡ decimal 1000000
+unfolding digits
+million = refl
+
+one_digit : codes "1" ≡ decimal 1
+unfolding digits
+one_digit = refl
+
+-- a number that is given, or its default
+number_text : (id text : Text) (default n : ℕ) (rows : List Row) (counts : List ℕ) → text ≡ decimal default → IsGivenOr default counts n
+    → row_at id rows ≡ row_or id text (option_map (λ n. row_with CommandLine id (decimal n)) (slice_get counts 0)) → one_of id rows ≡ Some (decimal n)
+number_text id text default n rows [] spelled is row = text_of_row id text DefaultValue rows row ∙ ap Some (spelled ∙ ap decimal (sym is))
+number_text id text default n rows (m ∷ []) spelled is row = text_of_row id (decimal m) CommandLine rows row ∙ ap (λ k. Some (decimal k)) (sym is)
+number_text id text default n rows (m ∷ (k ∷ rest)) spelled is row = absurd is
+
+nodes_text : (given : List Given) (n : ℕ) → IsGivenOr 1000000 (nodes_of given) n → one_of (codes "nodes") (rows_of_given exploring given) ≡ Some (decimal n)
+nodes_text given n is =
+    number_text (codes "nodes") (codes "1000000") 1000000 n (rows_of_given exploring given) (nodes_of given) million is
+    (nodes_left (put_all [] given) ∙ ap (row_or (codes "nodes") (codes "1000000")) (given_row (codes "nodes") given refl ∙ nodes_row given))
+
+workers_text : (given : List Given) (n : ℕ) → IsGivenOr 1 (workers_of given) n → one_of (codes "workers") (rows_of_given exploring given) ≡ Some (decimal n)
+workers_text given n is =
+    number_text (codes "workers") (codes "1") 1 n (rows_of_given exploring given) (workers_of given) one_digit is
+    (workers_left (put_all [] given) ∙ ap (row_or (codes "workers") (codes "1")) (given_row (codes "workers") given refl ∙ workers_row given))
+
+-- ---- the line of its job
+
+job_given : (given : List Given) → first_of (codes "job") (rows_of_given exploring given) ≡ slice_get (jobs_of given) 0
+job_given given = ap (option_and_then (λ (r : Row). slice_get r.values 0)) (job_left (put_all [] given) ∙ given_row (codes "job") given refl ∙ job_row given) ∙ by (slice_get (jobs_of given) 0)
+  where
+    by : (o : Option Text) → option_and_then (λ (r : Row). slice_get r.values 0) (option_map (λ line. row_of (job line)) o) ≡ o
+    by None = refl
+    by (Some line) = refl
+
+-- ---- the words of an exploration
+
+module _ (words : List Text) (given : List Given) (options : Options) (printed : Printed) (says : AreWordsOfExplore words given options printed) where
+  asked : IsAsked exploring words given options.depth options.flags
+  asked = record {
+    name = says.name;
+    words_are = says.words_are;
+    depth = says.depth;
+    allow_deadlock = says.allow_deadlock;
+    strict_access = says.strict_access;
+    once = record {
+      depths = omega (arith, ap length says.depth);
+      nodes = given_once 1000000 options.nodes (nodes_of given) says.nodes;
+      workers = given_once 1 options.workers (workers_of given) says.workers;
+      allow_deadlock = at_most_once _ options.flags.allow_deadlock says.allow_deadlock;
+      main_deadlock = says.main_deadlock;
+      strict_access = at_most_once _ options.flags.strict_access says.strict_access;
+      explain = at_most_once _ printed.explained says.explain;
+      cover = at_most_once _ printed.cover says.cover;
+      ats = omega (arith, ap length says.no_at);
+      jobs = says.job;
+    };
+    lawful = lawful_by given (subst (Each (λ n. n ≤ 400)) (sym says.depth) (says.in_range.depth, tt))
+        (given_lawful 10000000 1000000 options.nodes (nodes_of given) says.nodes says.in_range.least_nodes says.in_range.most_nodes)
+        (given_lawful 16 1 options.workers (workers_of given) says.workers says.in_range.some_workers says.in_range.most_workers)
+        (omega (arith, ap length says.no_at)) says.normal says.line;
+    place = 0;
+    has_place = tt;
+    in_range = says.in_range.depth;
+  }
+
+  -- they have no fault
+  pub explore_passes : fault_of command_line words ≡ []
+  explore_passes = asked_passes exploring words given options.depth options.flags asked
+
+  pub explore_enters : subcommand_of command_line words ≡ Some (codes "explore", rows_of_given exploring given)
+  explore_enters = asked_enters exploring words given options.depth options.flags asked
+
+  -- no schedule is found of them
+  pub explore_has_no_schedule : schedule_in (subcommand_of command_line words) ≡ None
+  explore_has_no_schedule = asked_has_no_schedule exploring words given options.depth options.flags asked
+
+  -- and no check
+  pub explore_has_no_check : (read : ℕ × Flags) → IsCheckOf (subcommand_of command_line words) (Some read) → ⊥
+  explore_has_no_check read found =
+      let none : Some read ≡ None = subst (λ o. IsCheckOf o (Some read)) explore_enters found in
+      cc
+
+  -- the job that is found is the one that is given
+  pub explore_job : job_in (subcommand_of command_line words) ≡ slice_get (jobs_of given) 0
+  explore_job = ap job_in explore_enters ∙ job_given given
+
+  same_options : (found : Options) (prints : Printed) → AreRead (rows_of_given exploring given) found prints → found ≡ options
+  same_options found prints read =
+      let range = says.in_range in
+      let depth : found.depth ≡ options.depth = depth_read exploring words given options.depth options.flags asked found.depth read.depth in
+      let nodes : found.nodes ≡ options.nodes = number_read _ options.nodes found.nodes (omega (arith, range.most_nodes)) (nodes_text given options.nodes says.nodes) read.nodes in
+      let budget : found.budget ≡ options.budget = read.budget ∙ sym range.budget in
+      let workers : found.workers ≡ options.workers = number_read _ options.workers found.workers (omega (arith, range.most_workers)) (workers_text given options.workers says.workers) read.workers in
+      let flags : found.flags ≡ options.flags = flags_read exploring words given options.depth options.flags asked found.flags read.flags in
+      (λ i. record { depth = depth i; nodes = nodes i; budget = budget i; workers = workers i; flags = flags i })
+
+  same_printed : (found : Options) (prints : Printed) → AreRead (rows_of_given exploring given) found prints → prints ≡ printed
+  same_printed found prints read =
+      let rows = put_all [] given in
+      let explained : prints.explained ≡ printed.explained = flag_read exploring (codes "explain") is_explain given printed.explained prints.explained says.explain
+      (explain_left rows) (given_row (codes "explain") given refl ∙ explain_row given) read.prints.explained in
+      let cover : prints.cover ≡ printed.cover = flag_read exploring (codes "cover") is_cover given printed.cover prints.cover says.cover
+      (cover_left rows) (given_row (codes "cover") given refl ∙ cover_row given) read.prints.cover in
+      (λ i. record { explained = explained i; cover = cover i })
+
+  -- the options that are found are those that the words ask for
+  pub explore_reads : (read : Options × Printed) → AreOptionsOf (subcommand_of command_line words) (Some read) → (read.0 ≡ options) × (read.1 ≡ printed)
+  explore_reads read found =
+      let at : AreRead (rows_of_given exploring given) read.0 read.1 = subst (λ o. AreOptionsOf o (Some read)) explore_enters found in
+      (same_options read.0 read.1 at, same_printed read.0 read.1 at)
+
+  -- and there are some
+  pub explore_is_found : AreOptionsOf (subcommand_of command_line words) None → ⊥
+  explore_is_found read = by (subst (λ o. AreOptionsOf o None) explore_enters read)
+    where
+      by : ReadsNumber (one_of (codes "depth") (rows_of_given exploring given)) None
+          ⊎ (ReadsNumber (one_of (codes "nodes") (rows_of_given exploring given)) None ⊎ ReadsNumber (one_of (codes "workers") (rows_of_given exploring given)) None) → ⊥
+      by (inl depth) = depth_is_read exploring words given options.depth options.flags asked depth
+      by (inr (inl nodes)) = number_not_read _ options.nodes (omega (arith, says.in_range.most_nodes)) (nodes_text given options.nodes says.nodes) nodes
+      by (inr (inr workers)) = number_not_read _ options.workers (omega (arith, says.in_range.most_workers)) (workers_text given options.workers says.workers) workers
+
+-- ---- any words
+
+-- what is found of words that are not at fault is in its range
+pub found_in_range : (words : List Text) (found : Options × Printed) → fault_of command_line words ≡ [] → AreOptionsOf (subcommand_of command_line words) (Some found) → AreInRange found.0
+found_in_range words found none read = by (subcommand_of command_line words) refl read
+  where
+    in_rows : (rows : List Row) → subcommand_of command_line words ≡ Some (codes "explore", rows) → AreRead rows found.0 found.1 → AreInRange found.0
+    in_rows rows entered read =
+        let walk = entered_rows exploring words rows none entered in
+        let depth = number_fits 0 400 found.0.depth (one_of (codes "depth") rows) read.depth (λ text is. depth_fits exploring walk.words text walk.passes (ap (one_of (codes "depth")) (sym walk.rows_are) ∙ is)) in
+        let nodes = number_fits 1 10000000 found.0.nodes (one_of (codes "nodes") rows) read.nodes (λ text is. nodes_fits walk.words text walk.passes (ap (one_of (codes "nodes")) (sym walk.rows_are) ∙ is)) in
+        let workers = number_fits 1 16 found.0.workers (one_of (codes "workers") rows) read.workers (λ text is. workers_fits walk.words text walk.passes (ap (one_of (codes "workers")) (sym walk.rows_are) ∙ is)) in
+        record { depth = depth.1; least_nodes = nodes.0; most_nodes = nodes.1; budget = read.budget; some_workers = workers.0; most_workers = workers.1 }
+
+    by : (o : Option (Text × List Row)) → subcommand_of command_line words ≡ o → AreOptionsOf o (Some found) → AreInRange found.0
+    by None entered read = cc
+    by (Some p) entered read = at (bytes_eq p.0 (codes "explore")) refl read
+      where
+        at : (b : Bool) → bytes_eq p.0 (codes "explore") ≡ b → MatchBool b (AreOptionsIn p.1 (Some found)) (Some found ≡ None) → AreInRange found.0
+        at false is read = cc
+        at true is read =
+            let name : p.0 ≡ codes "explore" = (bytes_eq-Decides p.0 (codes "explore")).0 is in
+            in_rows p.1 (entered ∙ ap (λ (n : Text). Some (n, p.1)) name) read

@@ -1,0 +1,354 @@
+// The commands of the program and their arguments, and what the parser found of them.
+ghost use Rattle.std.specs.Prelude.{◌≡◌, codes, option_map, IfOk, IfErr};
+ghost use Rattle.clap.specs.Values.{kind_of};
+ghost use Rattle.clap.specs.Words.{app_of, found_of, one_of, rows_of, subcommand_rows_of};
+ghost use Rattle.program_words.specs.inside.CommandLine.{IsArgument, IsMadeAs, at_rule, check_command, command_line, depth_rule, explore_command, flag_rule, job_rule, jobs_command, merge_command, nodes_rule, normal_rule, replay_command, split_command, workers_rule};
+ghost use Rattle.program_words.specs.inside.Found.{AreFlagsOf, AreOptionsOf, IsCheckOf, IsPrintedOf, IsSplitOf, ReadsNumber, job_in, schedule_in};
+
+use crate::help;
+use crate::words::Printed;
+use clap::error::ErrorKind;
+use clap::{Arg, ArgAction, ArgMatches, Command, Error, value_parser};
+use std::alloc::Global;
+use tree_findings::Options;
+use world_identities::Flags;
+
+/// The name of the program.
+pub const NAME: &str = "schedule_explorer";
+
+/// How many nodes a worker visits before it hands the rest back.
+pub const BUDGET: u64 = 64;
+
+// Where a command splits the tree: into the jobs at one level, and what is above them.
+#[derive(Clone, Copy)]
+pub(crate) struct Split {
+    // How deep the tree is.
+    pub depth: u64,
+    // How deep the jobs are in it.
+    pub at: u64,
+    // What counts as an error.
+    pub flags: Flags,
+}
+
+/// The program's command line.
+pub(crate) fn command<'a>(alloc: Global) -> Result<Command<'a>, Error>
+    ensures line { IfOk result (λ made. app_of made ≡ command_line) }
+    ensures memory { IfErr result (λ e. kind_of e ≡ ErrorKind.OutOfMemory) }
+{
+    let explorer = Command::new(alloc, NAME)
+        .about("Runs a module of Core Erlang under schedules of its processes")
+        .after_help(help::OF_THE_PROGRAM)
+        .subcommand_required(true)
+        .subcommand(replay_command(alloc)?)?
+        .subcommand(explore_command(alloc)?)?
+        .subcommand(check_command(alloc)?)?
+        .subcommand(jobs_command(alloc)?)?
+        .subcommand(merge_command(alloc)?)?;
+    Ok(explorer)
+}
+
+// `replay SCHEDULE`.
+fn replay_command<'a>(alloc: Global) -> Result<Command<'a>, Error>
+    ensures line { IfOk result (λ made. IsMadeAs replay_command made) }
+    ensures memory { IfErr result (λ e. kind_of e ≡ ErrorKind.OutOfMemory) }
+{
+    let schedule = Arg::new(alloc, "SCHEDULE")
+        .required(true)
+        .action(ArgAction::Set)
+        .help("Steps with one blank between them, as one word: \"P P.2 P>P.2\"");
+    let replay = Command::new(alloc, "replay")
+        .about("Replays a schedule, and prints what each of its steps did")
+        .after_help(help::OF_REPLAY)
+        .arg(schedule)?;
+    Ok(replay)
+}
+
+// `explore` and its options.
+fn explore_command<'a>(alloc: Global) -> Result<Command<'a>, Error>
+    ensures line { IfOk result (λ made. IsMadeAs explore_command made) }
+    ensures memory { IfErr result (λ e. kind_of e ≡ ErrorKind.OutOfMemory) }
+{
+    let explore = Command::new(alloc, "explore")
+        .about("Explores all schedules up to a depth, and reports their errors")
+        .after_help(help::OF_EXPLORE)
+        .arg(depth_option(alloc))?
+        .arg(nodes_option(alloc))?
+        .arg(workers_option(alloc))?
+        .arg(allow_deadlock_flag(alloc))?
+        .arg(main_deadlock_flag(alloc))?
+        .arg(normal_option(alloc))?
+        .arg(strict_access_flag(alloc))?
+        .arg(flag(
+            alloc,
+            "explain",
+            "Prints below each finding what its schedule does, and\nwith the result of which schedules it tells",
+        ))?
+        .arg(flag(
+            alloc,
+            "cover",
+            "Prints behind a clean report its cover, for `check`",
+        ))?
+        .arg(job_option(alloc))?;
+    Ok(explore)
+}
+
+// `check` and its options.
+fn check_command<'a>(alloc: Global) -> Result<Command<'a>, Error>
+    ensures line { IfOk result (λ made. IsMadeAs check_command made) }
+    ensures memory { IfErr result (λ e. kind_of e ≡ ErrorKind.OutOfMemory) }
+{
+    let check = Command::new(alloc, "check")
+        .about("Checks a cover: that no schedule up to a depth leads to an error")
+        .after_help(help::OF_CHECK)
+        .arg(depth_option(alloc))?
+        .arg(allow_deadlock_flag(alloc))?
+        .arg(main_deadlock_flag(alloc))?
+        .arg(normal_option(alloc))?
+        .arg(strict_access_flag(alloc))?;
+    Ok(check)
+}
+
+// `jobs` and its options.
+fn jobs_command<'a>(alloc: Global) -> Result<Command<'a>, Error>
+    ensures line { IfOk result (λ made. IsMadeAs jobs_command made) }
+    ensures memory { IfErr result (λ e. kind_of e ≡ ErrorKind.OutOfMemory) }
+{
+    split_command(
+        alloc,
+        "jobs",
+        "Lists the jobs that stand at one depth of the tree of schedules",
+        help::OF_JOBS,
+    )
+}
+
+// `merge` and its options.
+fn merge_command<'a>(alloc: Global) -> Result<Command<'a>, Error>
+    ensures line { IfOk result (λ made. IsMadeAs merge_command made) }
+    ensures memory { IfErr result (λ e. kind_of e ≡ ErrorKind.OutOfMemory) }
+{
+    split_command(
+        alloc,
+        "merge",
+        "Puts the reports of the tree above a depth and of its jobs together",
+        help::OF_MERGE,
+    )
+}
+
+// A command that splits the tree, and its options.
+fn split_command<'a>(
+    alloc: Global,
+    name: &'a str,
+    about: &'a str,
+    after_help: &'a str,
+) -> Result<Command<'a>, Error>
+    ensures line { IfOk result (λ made. IsMadeAs (split_command name.entry.now) made) }
+    ensures memory { IfErr result (λ e. kind_of e ≡ ErrorKind.OutOfMemory) }
+{
+    let split = Command::new(alloc, name)
+        .about(about)
+        .after_help(after_help)
+        .arg(depth_option(alloc))?
+        .arg(at_option(alloc))?
+        .arg(allow_deadlock_flag(alloc))?
+        .arg(main_deadlock_flag(alloc))?
+        .arg(normal_option(alloc))?
+        .arg(strict_access_flag(alloc))?;
+    Ok(split)
+}
+
+// `--depth N`.
+fn depth_option<'a>(alloc: Global) -> Arg<'a>
+    ensures { IsArgument depth_rule result }
+{
+    Arg::new(alloc, "depth")
+        .long("depth")
+        .required(true)
+        .action(ArgAction::Set)
+        .value_name("N")
+        .value_parser(value_parser!(u64).range(0..=400))
+        .help("How many steps a schedule may have, from 0 to 400")
+}
+
+// `--at D`.
+fn at_option<'a>(alloc: Global) -> Arg<'a>
+    ensures { IsArgument at_rule result }
+{
+    Arg::new(alloc, "at")
+        .long("at")
+        .required(true)
+        .action(ArgAction::Set)
+        .value_name("D")
+        .value_parser(value_parser!(u64).range(0..=400))
+        .help("How many steps lead to each of the jobs, from 0 to N")
+}
+
+// `--nodes N`.
+fn nodes_option<'a>(alloc: Global) -> Arg<'a>
+    ensures { IsArgument nodes_rule result }
+{
+    Arg::new(alloc, "nodes")
+        .long("nodes")
+        .action(ArgAction::Set)
+        .value_name("N")
+        .value_parser(value_parser!(u64).range(1..=10_000_000))
+        .default_value("1000000")
+        .help("How many nodes of the tree of schedules may be visited,\nfrom 1 to 10000000")
+}
+
+// `--workers N`.
+fn workers_option<'a>(alloc: Global) -> Arg<'a>
+    ensures { IsArgument workers_rule result }
+{
+    Arg::new(alloc, "workers")
+        .long("workers")
+        .action(ArgAction::Set)
+        .value_name("N")
+        .value_parser(value_parser!(u64).range(1..=16))
+        .default_value("1")
+        .help("How many threads explore, from 1 to 16")
+}
+
+// `--allow-deadlock`.
+fn allow_deadlock_flag<'a>(alloc: Global) -> Arg<'a>
+    ensures { IsArgument (flag_rule (codes "allow-deadlock")) result }
+{
+    flag(
+        alloc,
+        "allow-deadlock",
+        "Does not count a deadlock as an error",
+    )
+}
+
+// `--main-deadlock`.
+fn main_deadlock_flag<'a>(alloc: Global) -> Arg<'a>
+    ensures { IsArgument (flag_rule (codes "main-deadlock")) result }
+{
+    flag(
+        alloc,
+        "main-deadlock",
+        "Counts a deadlock as an error only where P waits",
+    )
+}
+
+// `--normal TERM`.
+fn normal_option<'a>(alloc: Global) -> Arg<'a>
+    ensures { IsArgument normal_rule result }
+{
+    Arg::new(alloc, "normal")
+        .long("normal")
+        .action(ArgAction::Append)
+        .value_name("TERM")
+        .help("Does not count an end with this reason as an error,\nup to 16 times")
+}
+
+// `--job LINE`.
+fn job_option<'a>(alloc: Global) -> Arg<'a>
+    ensures { IsArgument job_rule result }
+{
+    Arg::new(alloc, "job")
+        .long("job")
+        .action(ArgAction::Set)
+        .value_name("LINE")
+        .help(
+            "Explores the nodes of one job alone, whose line `jobs`\nprints; not with --explain, and not with --cover",
+        )
+}
+
+// `--strict-access`.
+fn strict_access_flag<'a>(alloc: Global) -> Arg<'a>
+    ensures { IsArgument (flag_rule (codes "strict-access")) result }
+{
+    flag(
+        alloc,
+        "strict-access",
+        "Counts a call as an error that is refused because of\nwho makes it",
+    )
+}
+
+// An option without a value.
+fn flag<'a>(alloc: Global, name: &'a str, help: &'a str) -> Arg<'a>
+    ensures { IsArgument (flag_rule name.entry.now) result }
+{
+    Arg::new(alloc, name)
+        .long(name)
+        .action(ArgAction::SetTrue)
+        .help(help)
+}
+
+/// The schedule that is to be replayed.
+pub(crate) fn found_schedule<'a>(matches: &ArgMatches<'a>) -> Option<&'a str>
+    ensures { option_map (λ word. word.now) result ≡ schedule_in (subcommand_rows_of matches.now) }
+{
+    matches.subcommand_matches("replay")?.get_str("SCHEDULE")
+}
+
+/// The options of the exploration, and what it prints.
+pub(crate) fn found_options(matches: &ArgMatches<'_>) -> Option<(Options, Printed)>
+    ensures { AreOptionsOf (subcommand_rows_of matches.now) result }
+{
+    let given = matches.subcommand_matches("explore")?;
+    let options = Options {
+        depth: found_number(given, "depth")?,
+        nodes: found_number(given, "nodes")?,
+        budget: BUDGET,
+        workers: found_number(given, "workers")?,
+        flags: found_flags(given),
+    };
+    Some((options, found_printed(given)))
+}
+
+/// The depth to which a cover is checked, and what counts as an error.
+pub(crate) fn found_check(matches: &ArgMatches<'_>) -> Option<(u64, Flags)>
+    ensures { IsCheckOf (subcommand_rows_of matches.now) result }
+{
+    let given = matches.subcommand_matches("check")?;
+    Some((found_number(given, "depth")?, found_flags(given)))
+}
+
+/// The depth of the tree that this command splits, that of its jobs, and what counts as an error.
+pub(crate) fn found_split(matches: &ArgMatches<'_>, command: &str) -> Option<Split>
+    ensures { IsSplitOf command.now (subcommand_rows_of matches.now) result }
+{
+    let given = matches.subcommand_matches(command)?;
+    let depth = found_number(given, "depth")?;
+    let at = found_number(given, "at")?;
+    Some(Split {
+        depth,
+        at,
+        flags: found_flags(given),
+    })
+}
+
+/// The line of the job that is explored alone.
+pub(crate) fn found_job<'a>(matches: &ArgMatches<'a>) -> Option<&'a str>
+    ensures { option_map (λ line. line.now) result ≡ job_in (subcommand_rows_of matches.now) }
+{
+    matches.subcommand_matches("explore")?.get_str("job")
+}
+
+// What counts as an error.
+fn found_flags(matches: &ArgMatches<'_>) -> Flags
+    ensures { AreFlagsOf (rows_of (found_of matches.now)) result }
+{
+    Flags {
+        allow_deadlock: matches.get_flag("allow-deadlock"),
+        strict_access: matches.get_flag("strict-access"),
+    }
+}
+
+// What an exploration prints.
+fn found_printed(matches: &ArgMatches<'_>) -> Printed
+    ensures { IsPrintedOf (rows_of (found_of matches.now)) result }
+{
+    Printed {
+        explained: matches.get_flag("explain"),
+        cover: matches.get_flag("cover"),
+    }
+}
+
+// The number that an option has.
+fn found_number(matches: &ArgMatches<'_>, id: &str) -> Option<u64>
+    ensures { ReadsNumber (one_of id.now (rows_of (found_of matches.now))) result }
+{
+    matches.get_one::<u64>(id)
+}

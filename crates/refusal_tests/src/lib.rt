@@ -1,7 +1,0 @@
-// Tests of what stands before a run: the words, and the lines of refusals.
-#![tactic(auto)]
-
-#[cfg(test)]
-mod refusals;
-#[cfg(test)]
-mod words;

@@ -1,9 +1,0 @@
-use Rattle.std.proofs.Common.{[]}
-use Rattle.replay_core.proofs.StopLaws.{whole_on, stops_at}
-use Rattle.replay_core.proofs.replay.replays_are_runs.Goals as goal
-
-pub returns-clause-whole : goal.returns-clause-whole
-returns-clause-whole c = λ m steps. whole_on m [] 1 steps
-
-pub returns-clause-part : goal.returns-clause-part
-returns-clause-part c = stops_at

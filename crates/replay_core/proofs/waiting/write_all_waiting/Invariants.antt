@@ -1,9 +1,0 @@
-use Rattle.std.proofs.Common.{◌≡◌, false, drop}
-use Rattle.term_core.specs.inside.Writing.{Owes}
-use Rattle.replay_core.specs.Explained.{text_of_all_waiting}
-use Rattle.replay_core.proofs.waiting.write_all_waiting.Given as goal
-
--- the sink is sound, and the lines of the processes that are left are owed
-abbrev pub invariant-loop-pid : goal.invariant-loop-pid
-invariant-loop-pid g l =
-    (g.W.Sink.has_failed l.sink ≡ false) × Owes (g.W.Sink.contents l.fn.sink) (g.W.Sink.contents l.sink) (text_of_all_waiting l.fn.world.history (drop l.pid-index l.processes)) (text_of_all_waiting l.fn.world.history l.fn.processes)

@@ -1,0 +1,5 @@
+pub mod RunLaws
+pub mod Parts
+pub mod ExplainedTexts
+pub mod ExplainedLaws
+pub mod WaitingTexts

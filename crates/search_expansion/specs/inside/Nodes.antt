@@ -1,0 +1,33 @@
+-- Nodes of the tree: what their parts hold of a history.
+use Rattle.std.specs.Prelude.{◌≡◌, ◌∷◌, ◌++◌, List, Some, map}
+use Rattle.core_tree.specs.Syntax.{ModuleTree}
+use Rattle.world_identities.specs.Identities.{identity_in}
+use Rattle.world_identities.specs.declared.identity.Identity.{Identity}
+use Rattle.search_agenda.specs.Plans.{ArePlans, IsAgenda, IsPlan, IsWorld, Shared}
+use Rattle.search_agenda.specs.declared.agenda.Agenda.{Agenda}
+use Rattle.world_plans.specs.declared.plan.Plan.{Plan}
+use Rattle.world_model.specs.Asking.{program_of}
+use Rattle.world_model.specs.Events.{Event, History}
+use Rattle.world_model.specs.Requests.{Program}
+use Rattle.world_model.specs.Run.{enabled_steps, living, next_event}
+use Rattle.world_model.specs.Shown.{deadlock_of}
+use Rattle.world_records.specs.declared.records.Records.{Records}
+use Rattle.search_expansion.specs.declared.node.Node.{Node}
+
+-- the records are what the history leaves, the agenda is that of it, and the plans of what sleeps hold
+pub record IsNode (m : ModuleTree) (h : History) (n : Node) : Type 0 where
+  pub world : IsWorld m h n.records
+  pub agenda : IsAgenda (program_of m) h n.agenda
+  pub slept : ArePlans (program_of m) h n.slept.items
+
+-- the records after the event of a planned step, from those before it
+abbrev pub IsStepped : Records → Plan → Records → Type 0
+IsStepped old p new = (m : ModuleTree) (h : History) (e : Event) → IsWorld m h old → IsPlan (program_of m) h p → next_event (program_of m) h p.step ≡ Some e → IsWorld m (e ∷ h) new
+
+-- the node there, where these plans hold there
+abbrev pub IsBelow : Records → Agenda → Plan → List Shared → Node → Type 0
+IsBelow records agenda p slept n = (m : ModuleTree) (h : History) (e : Event) → IsWorld m h records → IsAgenda (program_of m) h agenda → IsPlan (program_of m) h p → next_event (program_of m) h p.step ≡ Some e → ArePlans (program_of m) (e ∷ h) slept → IsNode m (e ∷ h) n
+
+-- the deadlock that is shown after a history, if one is, is put after others
+abbrev pub AddsDeadlock : Program → History → List Identity → List Identity → Type 0
+AddsDeadlock a h old new = map identity_in new ≡ map identity_in old ++ deadlock_of (enabled_steps a h) (living h)

@@ -1,8 +1,0 @@
-use Rattle.std.proofs.Common.{[]}
-use Rattle.sleep_sets.specs.Search.{search}
-use Rattle.sleep_sets.specs.Toy.{stones, players}
-use Rattle.sleep_sets.proofs.Listing.{listed_nodes}
-use Rattle.sleep_sets.proofs.toy.nodes_are_listed.Goals as goal
-
-pub returns-clause-listed : goal.returns-clause-listed
-returns-clause-listed c = λ bag n w p. listed_nodes (stones bag) (search (stones bag) (players bag)) n tt w [] p

@@ -1,9 +1,0 @@
--- Calls that wait.
-use Rattle.std.specs.Prelude.{Option, None}
-use Rattle.world_model.specs.Calls.{Call, IsAlive}
-use Rattle.world_model.specs.Names.{Pid}
-
--- the process of which a call asks whether it lives
-abbrev pub asked_of : Call → Option Pid
-asked_of (IsAlive whom) = whom
-asked_of call = None

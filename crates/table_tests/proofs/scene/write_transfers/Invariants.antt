@@ -1,6 +1,0 @@
-use Rattle.std.proofs.Common.{◌≡◌, false}
-use Rattle.table_tests.proofs.scene.write_transfers.Given as goal
-
--- the sink has not failed
-abbrev pub invariant-loop-transfer : goal.invariant-loop-transfer
-invariant-loop-transfer l = l.sink.has_failed ≡ false

@@ -1,0 +1,7 @@
+// Tests of what comes before a run: the words, and the lines of refusals.
+#![tactic(auto)]
+
+#[cfg(test)]
+mod refusals;
+#[cfg(test)]
+mod words;

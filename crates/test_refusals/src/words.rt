@@ -1,0 +1,706 @@
+// The words of the command line.
+use program_runs::{NAME, Printed, Words, read_words, run, run_to_exit};
+use search_expansion::Unwatched;
+use std::process::ExitCode;
+use std::test::Fail;
+use term_core::write_term;
+use test_support::{MemorySink, MemorySource, same};
+use tree_excuses::Excuses;
+
+// Blanks stay as they are.
+#[test]
+fn reads_the_words_of_a_replay(rt: HostRuntime) -> Result<(), Fail> {
+    for text in ["P P.2>P", "", " P", "P "] {
+        let Words::Replay(schedule) = read_words(rt.alloc(), &[NAME, "replay", text])? else {
+            return Err(Fail::from("the words are no replay"));
+        };
+        assert_eq!(rt; schedule.as_str(), text);
+    }
+    Ok(())
+}
+
+const PLAIN: Printed = Printed {
+    explained: false,
+    cover: false,
+};
+
+const COVERED: Printed = Printed {
+    explained: false,
+    cover: true,
+};
+
+const EXPLAINED: Printed = Printed {
+    explained: true,
+    cover: false,
+};
+
+// Words of an exploration, and its depth, its limit of nodes, its flags, and what it prints.
+const EXPLORATIONS: [(&[&str], u64, u64, bool, bool, Printed); 6] = [
+    (
+        &[NAME, "explore", "--depth", "0"],
+        0,
+        1_000_000,
+        false,
+        false,
+        PLAIN,
+    ),
+    (
+        &[NAME, "explore", "--depth", "400", "--nodes", "10000000"],
+        400,
+        10_000_000,
+        false,
+        false,
+        PLAIN,
+    ),
+    (
+        &[
+            NAME,
+            "explore",
+            "--allow-deadlock",
+            "--nodes",
+            "1",
+            "--depth",
+            "7",
+        ],
+        7,
+        1,
+        true,
+        false,
+        PLAIN,
+    ),
+    (
+        &[
+            NAME,
+            "explore",
+            "--strict-access",
+            "--depth",
+            "12",
+            "--allow-deadlock",
+        ],
+        12,
+        1_000_000,
+        true,
+        true,
+        PLAIN,
+    ),
+    (
+        &[NAME, "explore", "--depth", "3", "--cover"],
+        3,
+        1_000_000,
+        false,
+        false,
+        COVERED,
+    ),
+    (
+        &[NAME, "explore", "--explain", "--depth", "3"],
+        3,
+        1_000_000,
+        false,
+        false,
+        EXPLAINED,
+    ),
+];
+
+#[test]
+fn reads_the_words_of_an_exploration(rt: HostRuntime) -> Result<(), Fail> {
+    for (words, depth, nodes, allow_deadlock, strict_access, wanted) in EXPLORATIONS {
+        let Words::Explore(options, excuses, printed) = read_words(rt.alloc(), words)? else {
+            return Err(Fail::from("the words are no exploration"));
+        };
+        assert_eq!(rt; options.depth, depth);
+        assert_eq!(rt; options.nodes, nodes);
+        assert_eq!(rt; options.flags.allow_deadlock, allow_deadlock);
+        assert_eq!(rt; options.flags.strict_access, strict_access);
+        assert_eq!(rt; printed, wanted);
+        assert!(rt; !excuses.are_any());
+    }
+    Ok(())
+}
+
+// Words of a check, and its depth and flags.
+const CHECKS: [(&[&str], u64, bool, bool); 3] = [
+    (&[NAME, "check", "--depth", "0"], 0, false, false),
+    (
+        &[NAME, "check", "--strict-access", "--depth", "400"],
+        400,
+        false,
+        true,
+    ),
+    (
+        &[NAME, "check", "--depth", "7", "--allow-deadlock"],
+        7,
+        true,
+        false,
+    ),
+];
+
+#[test]
+fn reads_the_words_of_a_check(rt: HostRuntime) -> Result<(), Fail> {
+    for (words, depth, allow_deadlock, strict_access) in CHECKS {
+        let Words::Check(found, flags, excuses) = read_words(rt.alloc(), words)? else {
+            return Err(Fail::from("the words are no check"));
+        };
+        assert_eq!(rt; found, depth);
+        assert!(rt; !excuses.are_any());
+        assert_eq!(rt; flags.allow_deadlock, allow_deadlock);
+        assert_eq!(rt; flags.strict_access, strict_access);
+    }
+    Ok(())
+}
+
+// Words of an exploration of one job, and its depth, what it excuses, and the line of the job.
+const ONE_JOB: [(&[&str], u64, bool, &str); 5] = [
+    (
+        &[NAME, "explore", "--depth", "4", "--job", "P P.1 | P"],
+        4,
+        false,
+        "P P.1 | P",
+    ),
+    (
+        &[
+            NAME,
+            "explore",
+            "--job",
+            " | ",
+            "--main-deadlock",
+            "--depth",
+            "400",
+        ],
+        400,
+        true,
+        " | ",
+    ),
+    (
+        &[NAME, "explore", "--depth", "4", "--job", "P>P.1 |  | P "],
+        4,
+        false,
+        "P>P.1 |  | P ",
+    ),
+    (
+        &[NAME, "explore", "--depth", "0", "--job", "no line"],
+        0,
+        false,
+        "no line",
+    ),
+    (
+        &[NAME, "explore", "--depth", "0", "--job", ""],
+        0,
+        false,
+        "",
+    ),
+];
+
+// The line stays as it is.
+#[test]
+fn reads_the_words_of_one_job(rt: HostRuntime) -> Result<(), Fail> {
+    for (words, depth, main_deadlock, wanted) in ONE_JOB {
+        let Words::ExploreJob(options, excuses, line) = read_words(rt.alloc(), words)? else {
+            return Err(Fail::from("the words are no exploration of a job"));
+        };
+        assert_eq!(rt; options.depth, depth);
+        assert_eq!(rt; options.nodes, 1_000_000);
+        assert_eq!(rt; options.workers, 1);
+        assert_eq!(rt; excuses.main_deadlock, main_deadlock);
+        assert_eq!(rt; line.as_str(), wanted);
+    }
+    Ok(())
+}
+
+// Words that ask for jobs, and their depth.
+const JOBS: [(&[&str], u64); 5] = [
+    (&[NAME, "jobs", "--depth", "0", "--at", "0"], 0),
+    (&[NAME, "jobs", "--at", "400", "--depth", "400"], 400),
+    (&[NAME, "jobs", "--depth", "400", "--at", "0"], 0),
+    (
+        &[
+            NAME,
+            "jobs",
+            "--allow-deadlock",
+            "--depth",
+            "12",
+            "--normal",
+            "'boom'",
+            "--at",
+            "3",
+            "--strict-access",
+            "--normal",
+            "[]",
+        ],
+        3,
+    ),
+    (
+        &[
+            NAME,
+            "jobs",
+            "--main-deadlock",
+            "--at",
+            "11",
+            "--depth",
+            "12",
+        ],
+        11,
+    ),
+];
+
+#[test]
+fn reads_the_words_of_jobs(rt: HostRuntime) -> Result<(), Fail> {
+    for (words, depth) in JOBS {
+        let Words::Jobs(found) = read_words(rt.alloc(), words)? else {
+            return Err(Fail::from("the words ask for no jobs"));
+        };
+        assert_eq!(rt; found, depth);
+    }
+    Ok(())
+}
+
+// Words of a merge, and the depth of its tree, that of its jobs, and its flags.
+const MERGES: [(&[&str], u64, u64, bool, bool); 5] = [
+    (
+        &[NAME, "merge", "--depth", "0", "--at", "0"],
+        0,
+        0,
+        false,
+        false,
+    ),
+    (
+        &[NAME, "merge", "--at", "400", "--depth", "400"],
+        400,
+        400,
+        false,
+        false,
+    ),
+    (
+        &[
+            NAME,
+            "merge",
+            "--depth",
+            "400",
+            "--strict-access",
+            "--at",
+            "0",
+        ],
+        400,
+        0,
+        false,
+        true,
+    ),
+    (
+        &[
+            NAME,
+            "merge",
+            "--allow-deadlock",
+            "--depth",
+            "12",
+            "--at",
+            "3",
+        ],
+        12,
+        3,
+        true,
+        false,
+    ),
+    (
+        &[
+            NAME,
+            "merge",
+            "--at",
+            "11",
+            "--strict-access",
+            "--allow-deadlock",
+            "--depth",
+            "12",
+        ],
+        12,
+        11,
+        true,
+        true,
+    ),
+];
+
+#[test]
+fn reads_the_words_of_a_merge(rt: HostRuntime) -> Result<(), Fail> {
+    for (words, depth, at, allow_deadlock, strict_access) in MERGES {
+        let Words::Merge(steps, place, flags, excuses) = read_words(rt.alloc(), words)? else {
+            return Err(Fail::from("the words are no merge"));
+        };
+        assert_eq!(rt; steps, depth);
+        assert_eq!(rt; place, at);
+        assert_eq!(rt; flags.allow_deadlock, allow_deadlock);
+        assert_eq!(rt; flags.strict_access, strict_access);
+        assert!(rt; !excuses.are_any());
+    }
+    Ok(())
+}
+
+// Words that excuse something: whether deadlocks count only where the first process waits, and the texts of the reasons.
+const EXCUSES: [(&[&str], bool, &[&str]); 6] = [
+    (
+        &[NAME, "explore", "--depth", "1", "--main-deadlock"],
+        true,
+        &[],
+    ),
+    (
+        &[NAME, "explore", "--normal", "'boom'", "--depth", "1"],
+        false,
+        &["'boom'"],
+    ),
+    (
+        &[
+            NAME, "explore", "--normal", "'boom'", "--depth", "1", "--job", "P | ", "--normal", "7",
+        ],
+        false,
+        &["'boom'", "7"],
+    ),
+    (
+        &[
+            NAME,
+            "check",
+            "--normal",
+            "{'shutdown',[1,2|'x']}",
+            "--depth",
+            "1",
+            "--main-deadlock",
+            "--normal",
+            "[]",
+            "--normal",
+            "{'shutdown',[1,2|'x']}",
+        ],
+        true,
+        &["{'shutdown',[1,2|'x']}", "[]", "{'shutdown',[1,2|'x']}"],
+    ),
+    (
+        &[
+            NAME, "check", "--depth", "1", "--normal", "[]", "--normal", "[]", "--normal", "[]",
+            "--normal", "[]", "--normal", "[]", "--normal", "[]", "--normal", "[]", "--normal",
+            "[]", "--normal", "[]", "--normal", "[]", "--normal", "[]", "--normal", "[]",
+            "--normal", "[]", "--normal", "[]", "--normal", "[]", "--normal", "[]",
+        ],
+        false,
+        &[
+            "[]", "[]", "[]", "[]", "[]", "[]", "[]", "[]", "[]", "[]", "[]", "[]", "[]", "[]",
+            "[]", "[]",
+        ],
+    ),
+    (
+        &[
+            NAME,
+            "merge",
+            "--normal",
+            "{'shutdown',[1,2|'x']}",
+            "--main-deadlock",
+            "--at",
+            "1",
+            "--depth",
+            "2",
+            "--normal",
+            "'boom'",
+        ],
+        true,
+        &["{'shutdown',[1,2|'x']}", "'boom'"],
+    ),
+];
+
+// What words excuse.
+fn excuses_of(words: Words) -> Option<Excuses> {
+    match words {
+        Words::Explore(_, excuses, _) => Some(excuses),
+        Words::ExploreJob(_, excuses, _) => Some(excuses),
+        Words::Check(_, _, excuses) => Some(excuses),
+        Words::Merge(_, _, _, excuses) => Some(excuses),
+        Words::Replay(_) | Words::Jobs(_) => None,
+    }
+}
+
+#[test]
+fn reads_what_is_excused(rt: HostRuntime) -> Result<(), Fail> {
+    for (words, main_deadlock, texts) in EXCUSES {
+        let Some(excuses) = excuses_of(read_words(rt.alloc(), words)?) else {
+            return Err(Fail::from("the words excuse nothing"));
+        };
+        assert_eq!(rt; excuses.main_deadlock, main_deadlock);
+        assert_eq!(rt; excuses.normal.len(), texts.len());
+        for (term, text) in excuses.normal.iter().zip(texts) {
+            let mut sink = MemorySink::with_room(rt.alloc(), 100)?;
+            write_term(term, &mut sink)?;
+            same(sink.bytes.as_slice(), text.as_bytes())?;
+        }
+    }
+    Ok(())
+}
+
+// Words of a command except for what they excuse, what they print of a job, or where they look for jobs, and the first
+// line of what is said of them.
+const UNREADABLE: [(&[&str], &str); 16] = [
+    (
+        &[NAME, "explore", "--depth", "1", "--normal", "boom"],
+        "error: 'boom' is no term: see its byte 1\n",
+    ),
+    (
+        &[
+            NAME, "check", "--depth", "1", "--normal", "[]", "--normal", "{'late'",
+        ],
+        "error: '{'late'' is no term: see its byte 8\n",
+    ),
+    (
+        &[NAME, "explore", "--depth", "1", "--normal", ""],
+        "error: '' is no term: see its byte 1\n",
+    ),
+    (
+        &[
+            NAME,
+            "explore",
+            "--depth",
+            "1",
+            "--normal",
+            "9223372036854775808",
+        ],
+        "error: '9223372036854775808' is no term: see its byte 1\n",
+    ),
+    (
+        &[
+            NAME,
+            "explore",
+            "--main-deadlock",
+            "--depth",
+            "1",
+            "--allow-deadlock",
+        ],
+        "error: the argument '--main-deadlock' cannot be used with '--allow-deadlock'\n",
+    ),
+    (
+        &[
+            NAME, "check", "--depth", "1", "--normal", "[]", "--normal", "[]", "--normal", "[]",
+            "--normal", "[]", "--normal", "[]", "--normal", "[]", "--normal", "[]", "--normal",
+            "[]", "--normal", "[]", "--normal", "[]", "--normal", "[]", "--normal", "[]",
+            "--normal", "[]", "--normal", "[]", "--normal", "[]", "--normal", "[]", "--normal",
+            "[]",
+        ],
+        "error: the argument '--normal' cannot be used more than 16 times\n",
+    ),
+    (
+        &[
+            NAME, "explore", "--depth", "1", "--job", " | ", "--normal", "boom",
+        ],
+        "error: 'boom' is no term: see its byte 1\n",
+    ),
+    (
+        &[
+            NAME,
+            "explore",
+            "--depth",
+            "1",
+            "--job",
+            "P | ",
+            "--explain",
+        ],
+        "error: the argument '--job' cannot be used with '--explain' or '--cover'\n",
+    ),
+    (
+        &[NAME, "explore", "--cover", "--depth", "1", "--job", ""],
+        "error: the argument '--job' cannot be used with '--explain' or '--cover'\n",
+    ),
+    (
+        &[NAME, "jobs", "--depth", "3", "--at", "4"],
+        "error: invalid value '4' for '--at <D>': 4 is not in 0..=3\n",
+    ),
+    (
+        &[
+            NAME, "jobs", "--depth", "1", "--at", "0", "--normal", "boom",
+        ],
+        "error: 'boom' is no term: see its byte 1\n",
+    ),
+    (
+        &[
+            NAME,
+            "jobs",
+            "--main-deadlock",
+            "--depth",
+            "1",
+            "--allow-deadlock",
+            "--at",
+            "1",
+        ],
+        "error: the argument '--main-deadlock' cannot be used with '--allow-deadlock'\n",
+    ),
+    (
+        &[NAME, "merge", "--at", "400", "--depth", "399"],
+        "error: invalid value '400' for '--at <D>': 400 is not in 0..=399\n",
+    ),
+    (
+        &[
+            NAME, "merge", "--depth", "2", "--at", "1", "--normal", "{'late'",
+        ],
+        "error: '{'late'' is no term: see its byte 8\n",
+    ),
+    (
+        &[
+            NAME,
+            "merge",
+            "--allow-deadlock",
+            "--at",
+            "1",
+            "--main-deadlock",
+            "--depth",
+            "1",
+        ],
+        "error: the argument '--main-deadlock' cannot be used with '--allow-deadlock'\n",
+    ),
+    (
+        &[
+            NAME, "merge", "--depth", "1", "--at", "1", "--normal", "[]", "--normal", "[]",
+            "--normal", "[]", "--normal", "[]", "--normal", "[]", "--normal", "[]", "--normal",
+            "[]", "--normal", "[]", "--normal", "[]", "--normal", "[]", "--normal", "[]",
+            "--normal", "[]", "--normal", "[]", "--normal", "[]", "--normal", "[]", "--normal",
+            "[]", "--normal", "[]",
+        ],
+        "error: the argument '--normal' cannot be used more than 16 times\n",
+    ),
+];
+
+#[test]
+fn tells_why_words_are_unreadable(rt: HostRuntime) -> Result<(), Fail> {
+    for (words, line) in UNREADABLE {
+        let Err(error) = read_words(rt.alloc(), words) else {
+            return Err(Fail::from("the words are those of a command"));
+        };
+        let text = format!(in rt.alloc(); "{error}")?;
+        assert!(rt; text.starts_with(line), "{text}");
+    }
+    Ok(())
+}
+
+// Words of no command.
+const REFUSED: [&[&str]; 48] = [
+    &[NAME],
+    &[NAME, "replay"],
+    &[NAME, "replay", "P", "P"],
+    &[NAME, "explore"],
+    &[NAME, "explore", "--depth", "401"],
+    &[NAME, "explore", "--depth", "-1"],
+    &[NAME, "explore", "--depth", "3", "--nodes", "0"],
+    &[NAME, "explore", "--depth", "3", "--nodes", "10000001"],
+    &[NAME, "explore", "--depth", "3", "--workers", "17"],
+    &[NAME, "check"],
+    &[NAME, "check", "--depth", "401"],
+    &[NAME, "check", "--depth", "3", "--cover"],
+    &[NAME, "explore", "--depth", "1", "--normal"],
+    &[
+        NAME,
+        "check",
+        "--depth",
+        "1",
+        "--main-deadlock",
+        "--main-deadlock",
+    ],
+    &[NAME, "explore", "--depth", "3", "--job"],
+    &[NAME, "explore", "--depth", "3", "--job", "-P | "],
+    &[
+        NAME, "explore", "--depth", "3", "--job", "P | ", "--job", "P | ",
+    ],
+    &[NAME, "explore", "--depth", "3", "--at", "1"],
+    &[NAME, "check", "--depth", "3", "--job", "P | "],
+    &[NAME, "check", "--depth", "3", "--at", "1"],
+    &[NAME, "jobs"],
+    &[NAME, "jobs", "--depth", "3"],
+    &[NAME, "jobs", "--at", "3"],
+    &[NAME, "jobs", "--depth", "401", "--at", "3"],
+    &[NAME, "jobs", "--depth", "400", "--at", "401"],
+    &[NAME, "jobs", "--depth", "3", "--at", "-1"],
+    &[NAME, "jobs", "--depth", "3", "--at", "1", "--at", "1"],
+    &[NAME, "jobs", "--depth", "3", "--at", "1", "--nodes", "5"],
+    &[NAME, "jobs", "--depth", "3", "--at", "1", "--cover"],
+    &[NAME, "jobs", "--depth", "3", "--at", "1", "--job", "P | "],
+    &[NAME, "jobs", "--help"],
+    &[NAME, "merge"],
+    &[NAME, "merge", "--depth", "3"],
+    &[NAME, "merge", "--at", "3"],
+    &[NAME, "merge", "--depth", "401", "--at", "3"],
+    &[NAME, "merge", "--depth", "400", "--at", "401"],
+    &[NAME, "merge", "--depth", "3", "--at", "1", "--depth", "3"],
+    &[NAME, "merge", "--depth", "3", "--at", "1", "--at", "1"],
+    &[NAME, "merge", "--depth", "3", "--at", "1", "--nodes", "5"],
+    &[NAME, "merge", "--depth", "3", "--at", "1", "--workers", "2"],
+    &[NAME, "merge", "--depth", "3", "--at", "1", "--explain"],
+    &[NAME, "merge", "--depth", "3", "--at", "1", "--job", "P | "],
+    &[NAME, "merge", "--depth", "3", "--at", "1", "m.reports"],
+    &[NAME, "merge", "--help"],
+    &[NAME, "replay", "P", "--normal", "[]"],
+    &[NAME, "help"],
+    &[NAME, "--help"],
+    &[NAME, "replay", "--help"],
+];
+
+#[test]
+fn refuses_other_words(rt: HostRuntime) {
+    for words in REFUSED {
+        assert!(rt; read_words(rt.alloc(), words).is_err(), "{words:?}");
+    }
+}
+
+// They end the program with status 64. Nothing is read, and the third stream alone gets the parser's text.
+#[test]
+fn reports_other_words(rt: HostRuntime) -> Result<(), Fail> {
+    for words in REFUSED {
+        let mut input = MemorySource::in_pieces(b"", 1, 0);
+        let mut output = MemorySink::with_room(rt.alloc(), 0)?;
+        let mut errors = MemorySink::with_room(rt.alloc(), 4000)?;
+        let status = run(
+            &rt,
+            rt.alloc(),
+            words,
+            &mut input,
+            &mut output,
+            &mut errors,
+            &Unwatched,
+        );
+        assert_eq!(rt; status, 64, "{words:?}");
+        assert!(rt; !input.has_failed && !output.has_failed);
+        let Err(error) = read_words(rt.alloc(), words) else {
+            return Err(Fail::from("the words are those of a command"));
+        };
+        let text = format!(in rt.alloc(); "{error}")?;
+        assert_eq!(rt; errors.bytes.as_slice(), text.as_bytes());
+    }
+    Ok(())
+}
+
+// A process that ends at once.
+const ENDS: &[u8] = b"module 'm' ['main'/0] attributes [] 'main'/0 = fun () -> 'ok' end";
+
+// The last word, if there was memory for the words; then the status, the output, and what the third stream gets.
+const EXITS: [(Option<&str>, u8, &[u8], &[u8]); 3] = [
+    (Some("P"), 0, b"1 P ends 'normal'\n", b""),
+    (
+        Some("P P"),
+        2,
+        b"1 P ends 'normal'\n",
+        b"replay: 1 NotEnabled at step 2\n",
+    ),
+    (None, 64, b"", b"error: out of memory\n"),
+];
+
+#[test]
+fn gives_the_status_as_an_exit_code(rt: HostRuntime) -> Result<(), Fail> {
+    for (schedule, status, lines, line) in EXITS {
+        let mut words = None;
+        if let Some(schedule) = schedule {
+            words = Some(vec![in rt.alloc(); NAME, "replay", schedule]?);
+        }
+        let mut input = MemorySource::new(ENDS);
+        let mut output = MemorySink::with_room(rt.alloc(), 100)?;
+        let mut errors = MemorySink::with_room(rt.alloc(), 100)?;
+        let exit = run_to_exit(
+            &rt,
+            rt.alloc(),
+            words,
+            &mut input,
+            &mut output,
+            &mut errors,
+            &Unwatched,
+        );
+        assert!(rt; exit == ExitCode::from(status));
+        same(output.bytes.as_slice(), lines)?;
+        same(errors.bytes.as_slice(), line)?;
+    }
+    Ok(())
+}

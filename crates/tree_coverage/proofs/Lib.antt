@@ -1,0 +1,9 @@
+pub mod Lists
+pub mod Instance
+pub mod Runs
+pub mod InOrder
+pub mod ShownLaws
+pub mod FindingLaws
+pub mod CoverLaws
+pub mod JobLaws
+pub mod OwnCovers

@@ -1,0 +1,9 @@
+pub mod Explored
+pub mod Trees
+pub mod Shown
+pub mod Findings
+pub mod FindingExamples
+pub mod Jobs
+pub mod Covers
+pub mod CoverExamples
+pub mod JobExamples

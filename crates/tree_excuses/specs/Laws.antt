@@ -1,0 +1,34 @@
+-- What the laws of excuses say.
+use Rattle.std.specs.Prelude.{◌≡◌, ◌↔◌, ◌⊎◌, ℕ, true, List, []}
+use Rattle.world_model.specs.Names.{IsAmong}
+use Rattle.world_model.specs.Requests.{Program}
+use Rattle.world_model.specs.Shown.{Identity, Flags, is_error}
+use Rattle.tree_coverage.specs.Findings.{Finding, IsFound}
+use Rattle.tree_coverage.specs.Shown.{IsShown}
+use Rattle.tree_cuts.specs.Cuts.{IsEverShown}
+use Rattle.tree_excuses.specs.Excuses.{Excuses, no_excuses, is_normal, counts, counted, taken}
+
+-- the errors that are listed are those for which this is true
+abbrev pub AreErrorsThat : Flags → (Identity → Type 0) → List Finding → Type 0
+AreErrorsThat flags Holds fs = (i : Identity) → IsFound i fs ↔ ((is_error flags i ≡ true) × Holds i)
+
+-- then those that count are listed exactly where this is true of them, and so are those that are taken as normal
+pub record AreJudged (flags : Flags) (x : Excuses) (Holds : Identity → Type 0) (fs : List Finding) : Type 0 where
+  pub errors : (i : Identity) → IsFound i (counted x fs) ↔ ((counts flags x i ≡ true) × Holds i)
+  pub normal : (i : Identity) → IsFound i (taken x fs) ↔ ((is_normal flags x i ≡ true) × Holds i)
+
+-- of what schedules of at most so many steps show
+abbrev pub JudgedAreExact : Type 0
+JudgedAreExact = (flags : Flags) (x : Excuses) (a : Program) (n : ℕ) (fs : List Finding) → AreErrorsThat flags (IsShown a n) fs → AreJudged flags x (IsShown a n) fs
+
+-- and of what schedules of whatever length show
+abbrev pub JudgedAreWhole : Type 0
+JudgedAreWhole = (flags : Flags) (x : Excuses) (a : Program) (fs : List Finding) → AreErrorsThat flags (IsEverShown a) fs → AreJudged flags x (IsEverShown a) fs
+
+-- each error that was found counts or is taken as normal, and nothing else is listed
+abbrev pub NothingIsLost : Type 0
+NothingIsLost = (x : Excuses) (f : Finding) (fs : List Finding) → IsAmong f fs ↔ (IsAmong f (counted x fs) ⊎ IsAmong f (taken x fs))
+
+-- without excuses all count, and none is taken as normal
+abbrev pub NoExcusesChangeNothing : Type 0
+NoExcusesChangeNothing = (fs : List Finding) → (counted no_excuses fs ≡ fs) × (taken no_excuses fs ≡ [])

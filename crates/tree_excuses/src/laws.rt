@@ -1,0 +1,20 @@
+// The laws of excuses.
+ghost use Rattle.tree_excuses.specs.Laws.{JudgedAreExact, JudgedAreWhole, NoExcusesChangeNothing, NothingIsLost};
+
+/// Where the errors that are listed are exactly those that some schedule shows, of at most so many steps or of whatever
+/// length, those that count are listed exactly where some schedule shows them, and so are those that are taken as
+/// normal.
+pub fn judged_are_exact()
+    ensures bounded { JudgedAreExact }
+    ensures all { JudgedAreWhole }
+{}
+
+/// Each error that was found counts or is taken as normal.
+pub fn nothing_is_lost()
+    ensures { NothingIsLost }
+{}
+
+/// Without excuses all errors count, and none is taken as normal.
+pub fn no_excuses_change_nothing()
+    ensures { NoExcusesChangeNothing }
+{}

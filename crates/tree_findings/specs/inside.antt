@@ -1,0 +1,2 @@
+pub mod FindingCodes
+pub mod Places

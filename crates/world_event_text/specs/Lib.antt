@@ -1,0 +1,2 @@
+pub mod CallText
+pub mod EventText

@@ -1,0 +1,3 @@
+pub mod inside
+pub mod Identities
+pub mod Order

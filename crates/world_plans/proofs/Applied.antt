@@ -1,0 +1,365 @@
+-- What a step changes can be applied.
+use Rattle.std.proofs.Common.{◌≡◌, ◌∙◌, ◌&&◌, Bool, true, false, List, [], ◌∷◌, ◌++◌, Option, Some, None, is_some, map, if◌then◌else◌, refl, sym, ap, subst, true≢false}
+use Rattle.std.specs.List.{list_any}
+use Rattle.std.specs.Prelude.{IsSome, option_and_then}
+use Rattle.core_calls.specs.declared.call.CallKind.{CallKind}
+use Rattle.term_core.specs.Meaning.{Meaning}
+use Rattle.term_core.specs.declared.step.Step.TheVariants.{Turn, Deliver}
+use Rattle.world_model.specs.Calls.{Call, Spawn, SpawnWay, Alone, Linked, Watched, Send, ToNobody, ToProcess, ToName, SendExit, Link, Unlink, Monitor, Demonitor, Flag, Register, Unregister, WhereIs, IsAlive, MakeRef, New, OnTable, Misfit, TableCall, Insert, InsertNew, DeleteTable, DeleteKey, DeleteObject, DeleteAll, Take, UpdateCounter, UpdateElement, GiveAway, SetOptions, call_of}
+use Rattle.world_model.specs.Cells as cells
+use Rattle.world_model.specs.Cells.{Contents}
+use Rattle.world_model.specs.Changes.{Change, RowWritten, TableSet, OwnedAdded, MessageTaken, OwnedCleared, AliveCleared, WatchCleared, WatcherRemoved, CellTouched, HeirSet, TableNameCleared, after, changed, is_of_watch}
+use Rattle.world_model.specs.Ends.{ends, left_by, living_heir, name_left, partners_told, passed, table_passes, tables_pass, watchers_told}
+use Rattle.world_model.specs.Events.{Deed, Served, Refused, EndedItself, Received, TimedOut, Ended, RanAway, Delivered, Refusal, Signal, Message, Exit, LinkExit, Down, Fate, Arrives, IsIgnored, IsDropped, Kills}
+use Rattle.world_model.specs.TableAccess.{Found, find}
+use Rattle.world_model.specs.TableRules.{found_line}
+use Rattle.world_model.specs.Lines.{line}
+use Rattle.world_model.specs.Mailboxes.{mailbox_in, selected_of}
+use Rattle.world_model.specs.Names.{Name, Pid, Ref, same_pid, same_term}
+use Rattle.world_model.specs.NewTables.{made, means_if}
+use Rattle.world_model.specs.Objects.{given, keys_asked, one_present, place_of, sum_of, removed_at, removes, stored_at, stores}
+use Rattle.world_model.specs.Ownership.{destroyed, gives_to, heirs_set}
+use Rattle.world_model.specs.ProcessLines.{LinkWay, Stands, Pairs, PairsGone, Fails, bound, exited, flushed, gone_told, link_changes, link_way, child_of, next_ref, ref_of_turn, sent, sent_to_holder, unregister_line, watch_ends}
+use Rattle.world_model.specs.Requests.{Calls, Ends, Program, Receives, Request, RunsAway}
+use Rattle.world_model.specs.Rows.{Key, Object, RowChange, Stores, Removes, Clears, Alters, part_at}
+use Rattle.world_model.specs.Signals.{goes_with, put_if}
+use Rattle.world_model.specs.Steps.{asked, changes_of_fate, deed_asked, deed_of_call, ended_or, ends_itself, judged, must_wait, next_deed, received, runaway}
+use Rattle.world_model.specs.TableLines.{insert_new_line, table_line}
+use Rattle.world_model.specs.Tables as tables
+use Rattle.world_model.specs.Tables.{Heir, TableOption, is_named, table_of}
+use Rattle.world_model.proofs.MailboxLaws.{selected_there}
+use Rattle.world_model.proofs.Named.{found_there}
+use Rattle.world_records.specs.Changes.{CanApply, CanHold, IsOfKind}
+use Rattle.world_plans.specs.Plans.{StepsCanBeApplied, first_changes}
+
+-- ---- changes that need nothing
+
+abbrev is_plain : Change → Bool
+is_plain (RowWritten t key change) = false
+is_plain (TableSet t table) = false
+is_plain (MessageTaken p message) = false
+is_plain k = true
+
+abbrev all_plain : List Change → Bool
+all_plain [] = true
+all_plain (k ∷ ks) = is_plain k && all_plain ks
+
+both_true : (a b : Bool) → (a && b) ≡ true → (a ≡ true) × (b ≡ true)
+both_true true b e = (refl, e)
+both_true false b e = absurd (true≢false (sym e))
+
+one_plain : (w : Contents) (k : Change) → is_plain k ≡ true → CanHold w k
+one_plain w (RowWritten t key change) e = absurd (true≢false (sym e))
+one_plain w (TableSet t table) e = absurd (true≢false (sym e))
+one_plain w (MessageTaken p message) e = absurd (true≢false (sym e))
+one_plain w k e = record {}
+
+plain_applies : (w : Contents) (ks : List Change) → all_plain ks ≡ true → CanApply w ks
+plain_applies w [] e = record {}
+plain_applies w (k ∷ ks) e =
+    let both = both_true (is_plain k) (all_plain ks) e in
+    (one_plain w k both.0, plain_applies (changed k w) ks both.1)
+
+plain_both : (ks ls : List Change) → all_plain ks ≡ true → all_plain ls ≡ true → all_plain (ks ++ ls) ≡ true
+plain_both [] ls first then_ = then_
+plain_both (k ∷ ks) ls first then_ =
+    let both = both_true (is_plain k) (all_plain ks) first in
+    (λ i. both.0 i && all_plain (ks ++ ls)) ∙ plain_both ks ls both.1 then_
+
+-- ---- signals, ends
+
+put_plain : (b : Bool) (s r : Pid) (x : Signal) → all_plain (put_if b s r x) ≡ true
+put_plain true s r x = refl
+put_plain false s r x = refl
+
+freed_plain : (b : Bool) (name : Name) → all_plain (if b then TableNameCleared name ∷ [] else []) ≡ true
+freed_plain true name = refl
+freed_plain false name = refl
+
+passed_plain : (p : Pid) (t : Ref) (table : tables.Table) (heir : Heir) → all_plain (passed p t table heir) ≡ true
+passed_plain p t table None = freed_plain table.is_named table.name
+passed_plain p t table (Some heir) = refl
+
+table_plain : (v : Contents) (p : Pid) (t : Ref) (o : Option tables.Table) → all_plain (table_passes v p t o) ≡ true
+table_plain v p t None = refl
+table_plain v p t (Some table) = passed_plain p t table (living_heir v table.heir)
+
+tables_plain : (v : Contents) (p : Pid) (ts : List Ref) → all_plain (tables_pass v p ts) ≡ true
+tables_plain v p [] = refl
+tables_plain v p (t ∷ ts) = plain_both (table_passes v p t (v (cells.Table t))) (tables_pass v p ts) (table_plain v p t (v (cells.Table t))) (tables_plain v p ts)
+
+partners_plain : (v : Contents) (p : Pid) (reason : Meaning) (qs : List Pid) → all_plain (partners_told v p reason qs) ≡ true
+partners_plain v p reason [] = refl
+partners_plain v p reason (q ∷ qs) = plain_both (put_if (v (cells.Alive q)) p q (LinkExit reason)) (partners_told v p reason qs) (put_plain (v (cells.Alive q)) p q (LinkExit reason)) (partners_plain v p reason qs)
+
+watchers_plain : (v : Contents) (p : Pid) (reason : Meaning) (refs : List Ref) → all_plain (watchers_told v p reason refs) ≡ true
+watchers_plain v p reason [] = refl
+watchers_plain v p reason (ref ∷ refs) = plain_both (put_if (v (cells.Alive ref.pid)) p ref.pid (Down ref reason)) (watchers_told v p reason refs) (put_plain (v (cells.Alive ref.pid)) p ref.pid (Down ref reason)) (watchers_plain v p reason refs)
+
+name_plain : (p : Pid) (o : Option Name) → all_plain (name_left p o) ≡ true
+name_plain p None = refl
+name_plain p (Some name) = refl
+
+left_plain : (v : Contents) (p : Pid) (reason : Meaning) → all_plain (left_by v p reason) ≡ true
+left_plain v p reason =
+    let partners = partners_told v p reason (v (cells.Links p)) in
+    let watchers = watchers_told v p reason (v (cells.Watchers p)) in
+    let name = name_left p (v (cells.NameOf p)) in
+    plain_both (tables_pass v p (v (cells.Owned p))) (OwnedCleared p ∷ (partners ++ (watchers ++ name))) (tables_plain v p (v (cells.Owned p)))
+    (plain_both partners (watchers ++ name) (partners_plain v p reason (v (cells.Links p))) (plain_both watchers name (watchers_plain v p reason (v (cells.Watchers p))) (name_plain p (v (cells.NameOf p)))))
+
+ends_plain : (v : Contents) (p : Pid) (reason : Meaning) → all_plain (ends v p reason) ≡ true
+ends_plain v p reason = left_plain (changed (AliveCleared p) v) p reason
+
+-- ---- deliveries
+
+goes_plain : (s r : Pid) (x : Signal) → all_plain (goes_with s r x) ≡ true
+goes_plain s r (Message m) = refl
+goes_plain s r (Exit reason) = refl
+goes_plain s r (LinkExit reason) = refl
+goes_plain s r (Down ref reason) = refl
+
+fate_plain : (v : Contents) (r : Pid) (fate : Fate) → all_plain (changes_of_fate v r fate) ≡ true
+fate_plain v r (Arrives message) = refl
+fate_plain v r IsIgnored = refl
+fate_plain v r IsDropped = refl
+fate_plain v r (Kills reason) = ends_plain v r reason
+
+-- ---- calls of processes
+
+bound_plain : (way : SpawnWay) (p child : Pid) (ref : Ref) → all_plain (bound way p child ref) ≡ true
+bound_plain Alone p child ref = refl
+bound_plain Linked p child ref = refl
+bound_plain Watched p child ref = refl
+
+sent_plain : (own : Bool) (v : Contents) (p q : Pid) (message : Meaning) → all_plain (sent own v p q message) ≡ true
+sent_plain true v p q message = refl
+sent_plain false v p q message = put_plain (v (cells.Alive q)) p q (Message message)
+
+holder_plain : (v : Contents) (p : Pid) (o : Option Pid) (message : Meaning) → all_plain (sent_to_holder v p o message) ≡ true
+holder_plain v p None message = refl
+holder_plain v p (Some to) message = sent_plain (same_pid p to) v p to message
+
+exited_plain : (own : Bool) (v : Contents) (p q : Pid) (reason : Meaning) → all_plain (exited own v p q reason) ≡ true
+exited_plain true v p q reason = refl
+exited_plain false v p q reason = put_plain (v (cells.Alive q)) p q (Exit reason)
+
+link_plain : (p q : Pid) (way : LinkWay) → all_plain (link_changes p q way) ≡ true
+link_plain p q Stands = refl
+link_plain p q Pairs = refl
+link_plain p q PairsGone = refl
+link_plain p q Fails = refl
+
+gone_plain : (b : Bool) (p q : Pid) (ref : Ref) → all_plain (gone_told b p q ref) ≡ true
+gone_plain true p q ref = refl
+gone_plain false p q ref = refl
+
+own_watch_plain : (b : Bool) (ref : Ref) (q : Pid) → all_plain (if b then WatchCleared ref ∷ WatcherRemoved q ref ∷ [] else CellTouched (cells.Watch ref) ∷ CellTouched (cells.Watchers q) ∷ []) ≡ true
+own_watch_plain true ref q = refl
+own_watch_plain false ref q = refl
+
+unwatch_plain : (p : Pid) (ref : Ref) (o : Option Pid) → all_plain (watch_ends p ref o) ≡ true
+unwatch_plain p ref None = refl
+unwatch_plain p ref (Some q) = own_watch_plain (same_pid ref.pid p) ref q
+
+-- a flush takes a message that is there
+flush_applies : (w : Contents) (b : Bool) (p : Pid) (o : Option Meaning) → ((m : Meaning) → o ≡ Some m → list_any (same_term m) (mailbox_in w p) ≡ true) → CanApply w (flushed b p o)
+flush_applies w true p None there = record {}
+flush_applies w true p (Some m) there = (there m refl, record {})
+flush_applies w false p o there = record {}
+
+-- changes that need nothing, and then others
+plain_then : (w : Contents) (ks ls : List Change) → all_plain ks ≡ true → CanApply (after ks w) ls → CanApply w (ks ++ ls)
+plain_then w [] ls e can = can
+plain_then w (k ∷ ks) ls e can =
+    let both = both_true (is_plain k) (all_plain ks) e in
+    (one_plain w k both.0, plain_then (changed k w) ks ls both.1 can)
+
+-- the end of a watch leaves mailboxes
+own_watch_alone : (b : Bool) (ref : Ref) (q : Pid) (w : Contents) (p : Pid) → mailbox_in (after (if b then WatchCleared ref ∷ WatcherRemoved q ref ∷ [] else CellTouched (cells.Watch ref) ∷ CellTouched (cells.Watchers q) ∷ []) w) p ≡ mailbox_in w p
+own_watch_alone true ref q w p = refl
+own_watch_alone false ref q w p = refl
+
+unwatch_alone : (p : Pid) (ref : Ref) (o : Option Pid) (w : Contents) → mailbox_in (after (watch_ends p ref o) w) p ≡ mailbox_in w p
+unwatch_alone p ref None w = refl
+unwatch_alone p ref (Some q) w = own_watch_alone (same_pid ref.pid p) ref q w p
+
+unregister_plain : (name : Name) (o : Option Pid) → all_plain (unregister_line name o).changes ≡ true
+unregister_plain name None = refl
+unregister_plain name (Some q) = refl
+
+-- ---- calls of tables
+
+means_plain : (b : Bool) (name : Name) (t : Ref) → all_plain (means_if b name t) ≡ true
+means_plain true name t = refl
+means_plain false name t = refl
+
+new_applies : (w : Contents) (p : Pid) (t : Ref) (name : Name) (os : List TableOption) → w (cells.Table t) ≡ None → CanApply w (made p t name os)
+new_applies w p t name os new = (new, plain_applies (changed (TableSet t (table_of p name os)) w) (OwnedAdded p t ∷ means_if (is_named os) name t) (means_plain (is_named os) name t))
+
+writable : (change : RowChange) (table : tables.Table) (o : Option tables.Table) → o ≡ Some table → IsOfKind change (Some table) → IsSome o × IsOfKind change o
+writable change table o held fits = subst (λ x. IsSome x × IsOfKind change x) (sym held) (refl, fits)
+
+stored_applies : (w : Contents) (f : Found) (object : Object) (key : Option Key) (ls : List Change) → w (cells.Table f.ref) ≡ Some f.table → ((u : Contents) → u (cells.Table f.ref) ≡ Some f.table → CanApply u ls) → CanApply w (stored_at f object key ++ ls)
+stored_applies w f object None ls held rest = rest w held
+stored_applies w f object (Some key) ls held rest = (writable (Stores f.table.kind object) f.table (w (cells.Table f.ref)) held refl, rest (changed (RowWritten f.ref key (Stores f.table.kind object)) w) held)
+
+stores_apply : (w : Contents) (f : Found) (os : List Object) → w (cells.Table f.ref) ≡ Some f.table → CanApply w (stores f os)
+stores_apply w f [] held = record {}
+stores_apply w f (o ∷ os) held = stored_applies w f o (part_at f.table.position o) (stores f os) held (λ u there. stores_apply u f os there)
+
+removed_apply : (w : Contents) (f : Found) (object : Object) (key : Option Key) → w (cells.Table f.ref) ≡ Some f.table → CanApply w (removed_at f object key)
+removed_apply w f object None held = record {}
+removed_apply w f object (Some key) held = (writable (Removes object) f.table (w (cells.Table f.ref)) held (record {}), record {})
+
+removes_apply : (w : Contents) (f : Found) (o : Option Object) → w (cells.Table f.ref) ≡ Some f.table → CanApply w (removes f o)
+removes_apply w f None held = record {}
+removes_apply w f (Some object) held = removed_apply w f object (part_at f.table.position object) held
+
+new_ones : (w : Contents) (f : Found) (present : Bool) (os : Option (List Object)) → w (cells.Table f.ref) ≡ Some f.table → CanApply w (insert_new_line present f os).changes
+new_ones w f true os held = record {}
+new_ones w f false os held = stores_apply w f (given os) held
+
+destroyed_plain : (f : Found) → all_plain (destroyed f) ≡ true
+destroyed_plain f = freed_plain f.table.is_named f.table.name
+
+gives_plain : (f : Found) (o : Option Pid) (gift : Meaning) → all_plain (gives_to f o gift) ≡ true
+gives_plain f None gift = refl
+gives_plain f (Some to) gift = refl
+
+inherits_plain : (t : Ref) (hs : List Heir) → all_plain (map (HeirSet t) hs) ≡ true
+inherits_plain t [] = refl
+inherits_plain t (h ∷ hs) = inherits_plain t hs
+
+heirs_plain : (t : Ref) (hs : List Heir) → all_plain (heirs_set t hs) ≡ true
+heirs_plain t [] = refl
+heirs_plain t (h ∷ hs) = inherits_plain t hs
+
+-- a line of a table that is found
+line_applies : (v w : Contents) (p : Pid) (f : Found) (call : TableCall) → w (cells.Table f.ref) ≡ Some f.table → CanApply w (table_line v p f call).changes
+line_applies v w p f (Insert objects) held = stores_apply w f (given objects) held
+line_applies v w p f (InsertNew objects) held = new_ones w f (one_present v f.ref (keys_asked p f objects)) objects held
+line_applies v w p f DeleteTable held = plain_applies w (destroyed f) (destroyed_plain f)
+line_applies v w p f (DeleteKey key) held = (writable Clears f.table (w (cells.Table f.ref)) held (record {}), record {})
+line_applies v w p f (DeleteObject object) held = removes_apply w f object held
+line_applies v w p f DeleteAll held = (record {}, record {})
+line_applies v w p f (Take key) held = (writable Clears f.table (w (cells.Table f.ref)) held (record {}), record {})
+line_applies v w p f (UpdateCounter key increment) held = (writable (Alters (place_of f.table.position increment) (sum_of f.table increment (v (cells.Row f.ref key)))) f.table (w (cells.Table f.ref)) held (record {}), record {})
+line_applies v w p f (UpdateElement key None) held = record {}
+line_applies v w p f (UpdateElement key (Some change)) held = (writable (Alters change.0 change.1) f.table (w (cells.Table f.ref)) held (record {}), record {})
+line_applies v w p f (GiveAway to gift) held = plain_applies w (gives_to f to gift) (gives_plain f to gift)
+line_applies v w p f (SetOptions heirs) held = plain_applies w (heirs_set f.ref (given heirs)) (heirs_plain f.ref (given heirs))
+line_applies v w p f call held = record {}
+
+found_applies : (v w : Contents) (p : Pid) (call : TableCall) (o : Option Found) → ((f : Found) → o ≡ Some f → w (cells.Table f.ref) ≡ Some f.table) → CanApply w (found_line v p call o).changes
+found_applies v w p call None held = record {}
+found_applies v w p call (Some f) held = line_applies v w p f call (held f refl)
+
+-- ---- a call whose changes come after its turn was counted
+
+call_applies : (v w : Contents) (p : Pid) (call : Call) → ((t : Ref) → w (cells.Table t) ≡ v (cells.Table t)) → mailbox_in w p ≡ mailbox_in v p → v (cells.Table (next_ref v p)) ≡ None → CanApply w (line v p call).changes
+call_applies v w p (Spawn way None) same mail new = record {}
+call_applies v w p (Spawn way (Some origin)) same mail new = plain_applies w (line v p (Spawn way (Some origin))).changes (bound_plain way p (child_of p (v (cells.Machine p))) (ref_of_turn p (v (cells.Machine p))))
+call_applies v w p (Send ToNobody message) same mail new = record {}
+call_applies v w p (Send (ToProcess q) message) same mail new = plain_applies w (sent (same_pid p q) v p q message) (sent_plain (same_pid p q) v p q message)
+call_applies v w p (Send (ToName name) message) same mail new = plain_applies w (sent_to_holder v p (v (cells.Holder name)) message) (holder_plain v p (v (cells.Holder name)) message)
+call_applies v w p (SendExit None reason) same mail new = record {}
+call_applies v w p (SendExit (Some q) reason) same mail new = plain_applies w (exited (same_pid p q) v p q reason) (exited_plain (same_pid p q) v p q reason)
+call_applies v w p (Link None) same mail new = record {}
+call_applies v w p (Link (Some q)) same mail new = let way = link_way p q (v (cells.Links p)) (v (cells.Alive q)) (v (cells.Trap p)) in plain_applies w (link_changes p q way) (link_plain p q way)
+call_applies v w p (Unlink None) same mail new = record {}
+call_applies v w p (Unlink (Some q)) same mail new = plain_applies w (line v p (Unlink (Some q))).changes refl
+call_applies v w p (Monitor false None) same mail new = record {}
+call_applies v w p (Monitor true None) same mail new = record {}
+call_applies v w p (Monitor false (Some q)) same mail new = record {}
+call_applies v w p (Monitor true (Some q)) same mail new = plain_applies w (line v p (Monitor true (Some q))).changes (gone_plain (v (cells.Alive q)) p q (ref_of_turn p (v (cells.Machine p))))
+call_applies v w p (Demonitor None flushes) same mail new = record {}
+call_applies v w p (Demonitor (Some ref) None) same mail new = record {}
+call_applies v w p (Demonitor (Some ref) (Some flushes)) same mail new =
+    let ends_ = watch_ends p ref (v (cells.Watch ref)) in
+    let found = selected_of (is_of_watch ref) (mailbox_in v p) in
+    plain_then w ends_ (flushed flushes p found) (unwatch_plain p ref (v (cells.Watch ref)))
+    (flush_applies (after ends_ w) flushes p found (λ m is. ap (list_any (same_term m)) (unwatch_alone p ref (v (cells.Watch ref)) w ∙ mail) ∙ selected_there (is_of_watch ref) (mailbox_in v p) m is))
+call_applies v w p (Flag None) same mail new = record {}
+call_applies v w p (Flag (Some traps)) same mail new = (record {}, record {})
+call_applies v w p (Register None None) same mail new = record {}
+call_applies v w p (Register None (Some q)) same mail new = record {}
+call_applies v w p (Register (Some name) None) same mail new = record {}
+call_applies v w p (Register (Some name) (Some q)) same mail new = (record {}, (record {}, record {}))
+call_applies v w p (Unregister None) same mail new = record {}
+call_applies v w p (Unregister (Some name)) same mail new = plain_applies w (unregister_line name (v (cells.Holder name))).changes (unregister_plain name (v (cells.Holder name)))
+call_applies v w p (WhereIs None) same mail new = record {}
+call_applies v w p (WhereIs (Some name)) same mail new = record {}
+call_applies v w p (IsAlive None) same mail new = record {}
+call_applies v w p (IsAlive (Some q)) same mail new = record {}
+call_applies v w p MakeRef same mail new = record {}
+call_applies v w p (New None options) same mail new = record {}
+call_applies v w p (New (Some name) None) same mail new = record {}
+call_applies v w p (New (Some name) (Some os)) same mail new = new_applies w p (next_ref v p) name os (same (next_ref v p) ∙ new)
+call_applies v w p (OnTable argument call) same mail new = found_applies v w p call (find v argument) (λ f found. same f.ref ∙ found_there v argument f found)
+call_applies v w p Misfit same mail new = record {}
+
+-- ---- a message that a turn takes
+
+abbrev selects_of : Request → Meaning → Bool
+selects_of (Receives waits selects) = selects
+selects_of request = λ _. false
+
+abbrev is_message : Option Deed → Bool
+is_message (Some (Received m)) = true
+is_message o = false
+
+judged_not : (kind : CallKind) (arguments : List Meaning) (r : Option Refusal) (answer : Meaning) → is_message (Some (judged kind arguments r answer)) ≡ false
+judged_not kind arguments None answer = refl
+judged_not kind arguments (Some r) answer = refl
+
+ended_not : (kind : CallKind) (arguments : List Meaning) (o : Option Meaning) (r : Option Refusal) (answer : Meaning) → is_message (Some (ended_or kind arguments o (judged kind arguments r answer))) ≡ false
+ended_not kind arguments None r answer = judged_not kind arguments r answer
+ended_not kind arguments (Some reason) r answer = refl
+
+waits_not : (b : Bool) (d : Deed) → is_message (Some d) ≡ false → is_message (if b then None else Some d) ≡ false
+waits_not true d e = refl
+waits_not false d e = e
+
+no_message : (v : Contents) (p : Pid) (kind : CallKind) (arguments : List Meaning) (message : Meaning) → deed_of_call v p kind arguments ≡ Some (Received message) → ⊥
+no_message v p kind arguments message e =
+    let call = call_of kind arguments in
+    true≢false (sym (ap is_message e) ∙ waits_not (must_wait v p call) (ended_or kind arguments (ends_itself v p call) (judged kind arguments (line v p call).refusal (line v p call).answer)) (ended_not kind arguments (ends_itself v p call) (line v p call).refusal (line v p call).answer))
+
+by_request : (v : Contents) (p : Pid) (r : Request) (message : Meaning) → deed_asked v p r ≡ Some (Received message) → selected_of (selects_of r) (mailbox_in v p) ≡ Some message
+by_request v p (Receives waits selects) message e = of_received waits (selected_of selects (mailbox_in v p)) message e
+  where
+    of_received : (b : Bool) (o : Option Meaning) (m : Meaning) → received b o ≡ Some (Received m) → o ≡ Some m
+    of_received b (Some x) m e = ap (λ d. option_and_then message_of d) e
+      where
+        message_of : Deed → Option Meaning
+        message_of (Received y) = Some y
+        message_of d = None
+    of_received true None m e = absurd cc
+    of_received false None m e = absurd cc
+by_request v p (Calls kind arguments) message e = absurd (no_message v p kind arguments message e)
+by_request v p (Ends reason) message e = absurd cc
+by_request v p RunsAway message e = absurd cc
+
+received_by : (a : Program) (v : Contents) (p : Pid) (message : Meaning) → next_deed a v (Turn p) ≡ Some (Received message) → selected_of (selects_of (asked a p (v (cells.Machine p)))) (mailbox_in v p) ≡ Some message
+received_by a v p message e = by_request v p (asked a p (v (cells.Machine p))) message (if_alive (v (cells.Alive p)) (deed_asked v p (asked a p (v (cells.Machine p)))) (Some (Received message)) e refl)
+  where
+    if_alive : (b : Bool) (x y : Option Deed) → (if b then x else None) ≡ y → is_some y ≡ true → x ≡ y
+    if_alive true x y e some = e
+    if_alive false x y e some = absurd (true≢false (sym some ∙ ap is_some (sym e)))
+
+-- ---- steps
+
+pub applies : StepsCanBeApplied
+applies a v (Turn p) (Served kind arguments answer) is new = call_applies v (after (first_changes (Turn p) (Served kind arguments answer)) v) p (call_of kind arguments) (λ t. refl) refl new
+applies a v (Turn p) (Refused kind arguments refusal) is new = record {}
+applies a v (Turn p) (EndedItself kind arguments reason) is new = plain_applies _ (left_by (changed (AliveCleared p) v) p reason) (left_plain (changed (AliveCleared p) v) p reason)
+applies a v (Turn p) (Received message) is new = (selected_there (selects_of (asked a p (v (cells.Machine p)))) (mailbox_in v p) message (received_by a v p message is), record {})
+applies a v (Turn p) TimedOut is new = record {}
+applies a v (Turn p) (Ended reason) is new = plain_applies _ (left_by (changed (AliveCleared p) v) p reason) (left_plain (changed (AliveCleared p) v) p reason)
+applies a v (Turn p) RanAway is new = plain_applies _ (left_by (changed (AliveCleared p) v) p runaway) (left_plain (changed (AliveCleared p) v) p runaway)
+applies a v (Turn p) (Delivered signal fate) is new = record {}
+applies a v (Deliver s r) (Delivered signal fate) is new =
+    plain_applies _ (goes_with s r signal ++ changes_of_fate (after (goes_with s r signal) v) r fate)
+    (plain_both (goes_with s r signal) (changes_of_fate (after (goes_with s r signal) v) r fate) (goes_plain s r signal) (fate_plain (after (goes_with s r signal) v) r fate))
+applies a v (Deliver s r) deed is new = record {}

@@ -1,0 +1,10 @@
+use Rattle.std.proofs.Common.{◌≡◌, ◌∙◌, false, subst}
+use Rattle.world_model.specs.Asking.{program_of}
+use Rattle.world_model.specs.Cells as cells
+use Rattle.world_plans.specs.Plans.{actor_of}
+use Rattle.world_plans.proofs.Apart.{none_asleep, none_now}
+use Rattle.world_plans.proofs.independence.asleep_below.Goals as goal
+
+pub returns-in-None : goal.returns-in-None
+returns-in-None c = λ m v told names.
+    c.new-in-None.ensures.items ∙ none_asleep (program_of m) v c.args.slept.now c.args.step.now (subst (λ s. v (cells.Alive (actor_of s)) ≡ false) c.in_ok-copy.ensures (none_now _ _ c.in-None.is c.in_ok-one.ensures.none m v told))
