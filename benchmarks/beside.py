@@ -1,11 +1,11 @@
 #!/usr/bin/env python3
-"""Explores modules with two programs side by side, and tells the nodes of each and how long they take.
+"""Explores modules with two programs side by side, and shows the nodes of each and how long they take.
 
     benchmarks/beside.py BEFORE AFTER [--runs N]
 
-A row tells a module, the depth, the nodes that each program visits, and the seconds of a processor of the fastest of N
-runs of each with one worker, in turns. But for the nodes both have to print the same. The modules are two of this folder,
-and such as were converted from Erlang (erlang/kept). It wants Python 3.9 or later and nothing besides.
+A row has a module, the depth, the nodes that each program visits, and the seconds of a processor of the fastest of N
+runs of each with one worker, in turns. Except for the nodes both have to print the same. The modules are two of this
+folder, and some that were converted from Erlang (erlang/kept). It needs Python 3.9 or later and nothing else.
 """
 import argparse
 import os
@@ -37,7 +37,7 @@ ROWS = [
 
 
 def run_of(program, module, depth):
-    """The seconds of a processor of one run, the nodes, and what was printed behind them."""
+    """The seconds of a processor of one run, the nodes, and what was printed after them."""
     words = [program, "explore", "--depth", str(depth), "--nodes", "10000000", "--workers", "1"]
     with open(module, "rb") as text, tempfile.TemporaryFile() as out:
         running = subprocess.Popen(words, stdin=text, stdout=out)

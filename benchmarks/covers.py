@@ -1,12 +1,12 @@
 #!/usr/bin/env python3
-"""Measures covers: what it takes to write one, and what to check it, beside the exploration.
+"""Measures covers: how long it takes to write one, and to check it, compared to the exploration.
 
     benchmarks/covers.py [--runs N] [--program PROGRAM]
 
-Explores two modules to several depths with one worker, then with the cover, and checks that cover. A row tells the
+Explores two modules to several depths with one worker, then with the cover, and checks that cover. A row has the
 nodes, the bytes of the cover, the seconds of the clock of the fastest of N runs of each, in turns, and how many times
-the exploration the check takes. The check has to say that the cover is good. It wants Python 3.9 or later and nothing
-besides.
+the exploration the check takes. The check has to say that the cover is good. It needs Python 3.9 or later and nothing
+else.
 """
 import argparse
 import subprocess

@@ -1,12 +1,12 @@
 #!/usr/bin/env python3
-"""Explores three modules with the built program, and tells how fast.
+"""Explores three modules with the built program, and shows how fast.
 
     benchmarks/explore.py [--runs N] [--workers N ..] [--program PROGRAM]
 
-A row tells a module, the depth, the nodes that were visited, which have to be as many as the row says, how many
-workers there were, the seconds of the clock of the fastest of N runs and those of a processor, how many nodes that is
-a second of the clock, how many times as fast as one worker that is, and the memory of the program. The report has to
-be the same for any number of workers. It wants Python 3.9 or later and nothing besides.
+A row has a module, the depth, the nodes that were visited, which have to be as many as ROWS says, the number of
+workers, the seconds of the clock of the fastest of N runs and those of a processor, how many nodes that is a second
+of the clock, how many times as fast as one worker that is, and the memory of the program. The report has to be the
+same for any number of workers. It needs Python 3.9 or later and nothing else.
 """
 import argparse
 import os

@@ -3,13 +3,13 @@
 
     benchmarks/measure.py [--program PATH] [--runs N] [--processor]
 
-Each module is run at half its size and at its whole size. A row tells the size, the seconds of the
+Each module is run at half its size and at its whole size. A row has the size, the seconds of the
 clock of the fastest of N runs, the most memory in MB, and how many times as long as the half the
-whole took: 2 where the cost is linear. With --processor the seconds are of a processor, which tells more where
+whole took: 2 where the cost is linear. With --processor the seconds are of a processor, which say more where
 much else runs on the machine. A run that does not print what it has to ends the measurement.
-It wants Python 3.9 or later and nothing besides. Without --program it takes the program that the
+It needs Python 3.9 or later and nothing else. Without --program it takes the program that the
 script `schedule_explorer` at the root of the repository built; run that once before.
-A schedule is one word of a command line, and Linux has none of more than 131,071 bytes; so no row has more steps.
+A schedule is one word of a command line, and Linux allows none of more than 131,071 bytes; so no row has more steps.
 """
 
 import argparse
@@ -28,7 +28,7 @@ DEPTH = 998
 
 
 class Row(NamedTuple):
-    """A module, a schedule and the transcript that has to come, each by the size."""
+    """A module, a schedule and the transcript that has to be printed, each by the size."""
 
     name: str
     size: int
@@ -270,7 +270,7 @@ SCHEDULES = [
 
 
 def run(words: argparse.Namespace, row: Row, size: int) -> Figure:
-    """One run of the program; its memory is told when it is waited for."""
+    """One run of the program; its memory is known once its end was waited for."""
     text, schedule = row.module(size).encode(), row.schedule(size)
     with tempfile.TemporaryFile() as source, tempfile.TemporaryFile() as sink:
         source.write(text)
@@ -290,14 +290,14 @@ def run(words: argparse.Namespace, row: Row, size: int) -> Figure:
 
 
 def fastest(words: argparse.Namespace, row: Row) -> Tuple[Figure, Figure]:
-    """The half and the whole, in turns, so that what else the machine does falls on both."""
+    """The half and the whole, in turns, so that what else the machine does affects both."""
     sizes = (row.size // 2, row.size)
     halves, wholes = zip(*([run(words, row, size) for size in sizes] for _ in range(words.runs)))
     return min(halves), min(wholes)
 
 
 def memory(figure: Figure) -> str:
-    """What the program took; a process begins with what its parent held, so less is not seen."""
+    """What the program took; a process begins with what its parent had, so less is not seen."""
     own = resource.getrusage(resource.RUSAGE_SELF).ru_maxrss / 1024
     return f"{figure.megabytes:.0f}" if figure.megabytes > own else f"under {own:.0f}"
 

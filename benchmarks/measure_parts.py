@@ -3,10 +3,10 @@
 
     benchmarks/measure_parts.py [--runs N]
 
-Runs the program `part_measures`, which `rt run` builds in its crate, at each size and at twice that size. A
-row tells the size, the seconds of the clock of the fastest of N runs, and how many times as long the double
+Runs the program `test_measures`, which `rt run` builds in its crate, at each size and at twice that size. A
+row has the size, the seconds of the clock of the fastest of N runs, and how many times as long the double
 took: 2 where the cost is linear, 1 where it does not depend on the size. The start of the program, which the
-first line tells, is within each. It wants Python 3.9 or later and nothing besides.
+first row shows, is part of each. It needs Python 3.9 or later and nothing else.
 """
 import argparse
 import subprocess
@@ -14,7 +14,7 @@ import sys
 import time
 from pathlib import Path
 
-PROGRAM = Path(__file__).resolve().parent.parent / "crates/part_measures/out/part_measures"
+PROGRAM = Path(__file__).resolve().parent.parent / "crates/test_measures/out/test_measures"
 # what is done, the word for it, its size, and what it has to print at a size
 ROWS = [
     ("nothing", "nothing", 1, lambda size: 0),
@@ -42,7 +42,7 @@ def seconds_of(word, size, wanted):
 
 
 def fastest(word, size, wanted, runs):
-    """The size and its double, in turns, so that what else the machine does falls on both."""
+    """The size and its double, in turns, so that what else the machine does affects both."""
     sizes = (size, 2 * size)
     single, double = zip(*([seconds_of(word, n, wanted(n)) for n in sizes] for _ in range(runs)))
     return min(single), min(double)
@@ -56,7 +56,7 @@ def main():
     if runs < 1:
         parser.error("--runs is at least 1")
     if not PROGRAM.is_file():
-        sys.exit("there is no program part_measures: run `rt run` in crates/part_measures")
+        sys.exit("there is no program test_measures: run `rt run` in crates/test_measures")
     print("| work | size | seconds | as many times at twice the size |")
     print("| --- | --- | --- | --- |")
     for name, word, size, wanted in ROWS:

@@ -3,10 +3,10 @@
 
     benchmarks/parallel.py [--runs N] [--program PROGRAM]
 
-A row tells a module, the depth, the nodes of its tree, the depth of the jobs and how many these are, the seconds of the
+A row has a module, the depth, the nodes of its tree, the depth of the jobs and how many these are, the seconds of the
 clock of the fastest of N runs and those of a processor, first of the program with four workers, then of
 tools/explore_with_parallel with four jobs at a time and a new folder, in turns, and how many times as long the second
-took. Both have to print the same. It wants Python 3.9 or later, and GNU parallel.
+took. Both have to print the same. It needs Python 3.9 or later, and GNU parallel.
 """
 import argparse
 import os

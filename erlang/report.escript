@@ -1,7 +1,7 @@
 #!/usr/bin/env escript
 %% -*- erlang -*-
 %%! +A0
-%% Tells an exploration to people: report.escript explore|replay FOLDER FILE COVERAGE CHART DRAWINGS, as ./explore calls
+%% Reports an exploration to people: report.escript explore|replay FOLDER FILE COVERAGE CHART DRAWINGS, as ./explore calls
 %% it. The modules of src/ whose names begin with report_ are compiled into out/ the first time, and again where a
 %% source is newer.
 -mode(compile).

@@ -1,5 +1,5 @@
-%% Functions of the module lists, and a few of erlang, as plain Erlang: 'lists:map'/2 stands
-%% for lists:map/2. Only what is called is copied into a converted module. Helpers have a
+%% Functions of the module lists, and a few of erlang, as plain Erlang: 'lists:map'/2 replaces
+%% lists:map/2. Only what is called is copied into a converted module. Helpers have a
 %% blank in their names, so that no call means one.
 -module(list_functions).
 -compile([export_all, nowarn_export_all]).

@@ -1,5 +1,5 @@
-%% Functions of the module maps. {'$map', [{Key, Value}, ..]}, in the order of keys, stands
-%% for a map; the converter writes the tuple that it really is.
+%% Functions of the module maps. {'$map', [{Key, Value}, ..]}, in the order of keys, represents
+%% a map; the converter writes the tuple that it really is.
 -module(map_functions).
 -compile([export_all, nowarn_export_all]).
 
@@ -151,6 +151,6 @@
 'erlang:is_map_key'(K, M) -> 'maps:is_key'(K, M).
 'erlang:map_get'(K, M) -> 'maps:get'(K, M).
 
-%% What a map pattern asks of a key: {ok, Value} or error, of no map error.
+%% What a map pattern asks of a key: {ok, Value} or error, and error for what is no map.
 'map pattern:look'(K, {'$map', L}) -> case lists:keyfind(K, 1, L) of {_, V} -> {ok, V}; false -> error end;
 'map pattern:look'(_, _) -> error.

@@ -1,5 +1,5 @@
 %% Functions of the module ets that the explorer does not have, made of those that it has.
-%% A walk is one step, as ets:tab2list/1 is there.
+%% A walk is one step, as ets:tab2list/1 is in the explorer.
 -module(table_functions).
 -compile([export_all, nowarn_export_all]).
 
@@ -18,7 +18,7 @@
     end;
 'ets bound'(_, []) -> [].
 
-%% Who may not write is refused first, as there.
+%% A process that may not write is refused first, as in ets itself.
 'ets:match_delete'(T, Pattern) ->
     true = ets:insert(T, []),
     'ets delete each'(T, 'ets:match_object'(T, Pattern)),
@@ -50,7 +50,7 @@
     ets:insert_new(T, setelement(1, Default, K)),
     ets:update_counter(T, K, Op).
 
-%% ---- match specifications: {Pattern, Guards, Body}; what is none is refused, as there
+%% ---- match specifications: {Pattern, Guards, Body}; what is none is refused, as in ets itself
 
 'ets clauses'(L) ->
     case is_list(L) andalso L =/= [] andalso 'ets are clauses'(L) of

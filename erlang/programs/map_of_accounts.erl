@@ -1,5 +1,5 @@
 %% A server keeps accounts in a map; a client reads and then writes what it read.
-%% want: main ends {badmatch,6} or {badmatch,7} where the two clients overlap, and is fine else
+%% want: main ends {badmatch,6} or {badmatch,7} where the two clients overlap, and is fine otherwise
 %% depth: 44
 %% error: P ends {{'badmatch',6},[]}
 %% error: P ends {{'badmatch',7},[]}

@@ -1,4 +1,4 @@
-%% A publisher keeps its subscribers in a map; who subscribes late misses the news.
+%% A publisher keeps its subscribers in a map; one that subscribes late misses the news.
 %% want: a subscriber waits for ever in some schedule
 %% depth: 16
 %% error: deadlock of P.2

@@ -1,4 +1,4 @@
-%% A broker keeps jobs in a queue; who asks while there is none waits in another.
+%% A broker keeps jobs in a queue; takers that ask while it is empty wait in another.
 %% want: clean: each taker gets one job
 %% depth: 32
 -module(queue_broker).

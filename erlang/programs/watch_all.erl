@@ -1,5 +1,5 @@
 %% Each worker is watched; main gathers their ends in any order.
-%% want: clean but for the worker that ends on purpose
+%% want: clean except for the worker that ends on purpose
 %% depth: 16
 %% error: P.1 ends 'odd'
 %% error: P.3 ends 'odd'

@@ -1,5 +1,5 @@
 %% `apply fun`: one function for each number of arguments. It takes a function that is
-%% a value apart and applies what it stands for.
+%% a value apart and applies the function that it represents.
 -module(apply_fun).
 
 -export([definition/3]).

@@ -104,7 +104,7 @@ prepared(#definition{code = Code, origin = Origin, home = Home} = D, #options{af
     {New, L2} = map_forms:replace(Home, L1, Lengthened),
     {D#definition{code = New}, L2}.
 
-%% The definitions that are come to from these names, in their order.
+%% The definitions that are reached from these names, in their order.
 reached(Definitions, Roots) ->
     ByName = maps:from_list([{N, Code} || #definition{name = N, code = Code} <- Definitions]),
     Seen = reached(Roots, ByName, #{}),

@@ -18,7 +18,7 @@ source(source, File) -> {source, File};
 source(library, _) -> library.
 
 function_name({F, A}) -> [atom(F), "/", integer_to_list(A)].
-%% Not so far to the right that a long function is mostly blanks.
+%% Limits the indent, so that a long function is not mostly blanks.
 line_end(Indent) -> ["\n", lists:duplicate(min(Indent, 80), $ )].
 joined(Texts) -> lists:join(",", Texts).
 
@@ -94,7 +94,7 @@ literal_tail([]) -> [];
 literal_tail([H | T]) -> [",", literal(H), literal_tail(T)];
 literal_tail(T) -> ["|", literal(T)].
 
-%% One text for one variable: those of the source as they are, but for an underscore in front,
+%% One text for one variable: those of the source as they are, except for an underscore in front,
 %% which those of the compiler and of the converter get, and for letters past ASCII.
 variable(#c_var{name = N}) when is_integer(N) -> ["_", integer_to_list(N)];
 variable(#c_var{name = Name}) ->

@@ -1,4 +1,4 @@
-%% Walks over Core Erlang, its variables and places, and short words to make it.
+%% Walks over Core Erlang, its variables and places, and short functions to make it.
 -module(core_tree).
 
 -export([walk/4, children/3, fold/3, free_variables/1, bound_variables/1]).

@@ -1,5 +1,5 @@
 %% Functions as values: each becomes a function of the module over the values that
-%% it takes along, and where it stood a tuple that says which (odd_tuples). A letrec
+%% it takes along, and in its place comes a tuple that says which (odd_tuples). A letrec
 %% becomes functions too; what is applied but no name goes through `apply fun`.
 -module(function_values).
 
@@ -85,7 +85,7 @@ create(Kind, #c_fun{vars = Vars, body = Body} = Fun, W) ->
 created(Name, Code, #work{created = New, home = Home, origin = Origin} = W) ->
     W#work{created = [#definition{name = Name, code = Code, origin = Origin, home = Home} | New]}.
 
-%% `fun in main/0 line 8`, with a number behind it where there is one of that name.
+%% `fun in main/0 line 8`, with a number after it where there is one of that name.
 new_name(Kind, Line, #work{home = Home, origin = Origin, names = Names} = W) ->
     Text = case Origin of
         source -> lists:concat([Kind, Home, " line ", Line]);

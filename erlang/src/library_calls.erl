@@ -14,7 +14,7 @@
 %%   wanted               the names of the library that are called
 -record(scope, {module, callbacks, library, approximate, origin, home, wanted = [], ledger}).
 
-%% The definitions, with the library's that they come to after them.
+%% The definitions, and after them those of the library that they reach.
 resolve(Definitions, Prepare, {Module, Callbacks, Library, Approximate}, Ledger) ->
     Scope = #scope{module = Module, callbacks = Callbacks, library = Library, approximate = Approximate, ledger = Ledger},
     {Own, Scope1} = lists:mapfoldl(fun definition/2, Scope, Definitions),
@@ -78,14 +78,14 @@ call(M, F, Args, N, Place, #scope{library = Library} = S) ->
 library_call({M, F, A} = Call, Name, #c_call{anno = Notes, args = Args}, Place, S) ->
     case refused(Call, Args, S) of
         {refuse, Text} ->
-            %% one refusal is enough; what stands in the arguments is still looked at
+            %% one refusal is enough; what is in the arguments is still looked at
             {inside, #c_tuple{es = Args}, S#scope{ledger = ledger:refuse(Place, S#scope.home, Text, S#scope.ledger)}};
         none ->
             S1 = lists:foldl(fun(Text, T) -> note(Text, [], T) end, S, notes_of(M, F, A, S#scope.origin)),
             {inside, core_tree:apply_to(Notes, Name, Args), want(Name, S1)}
     end.
 
-%% Why a call of the library is not taken as it stands.
+%% Why a call of the library is not taken as it is written.
 refused({ets, update_counter, 4}, _, #scope{approximate = false}) ->
     {refuse, "ets:update_counter/4 is two steps here: --approximate takes it"};
 refused({ets, update_counter, 4}, [Table, Key, Operation, _], #scope{module = Own}) ->

@@ -73,7 +73,7 @@ variables(Number, Count) ->
 as_values([Value]) -> Value;
 as_values(Values) -> #c_values{es = Values}.
 
-%% The compiler leaves no clause away that can be needed.
+%% The compiler leaves out no clause that can be needed.
 rest([], Values) -> [core_tree:clause(Values, core_tree:raise_error([], core_tree:literal(case_clause)))];
 rest(After, _) -> After.
 

@@ -71,7 +71,7 @@ has_arity(Size, Value, Arity) ->
             clauses = [core_tree:clause([Pattern], core_tree:call_erlang([], '=:=', [Its, Arity]), core_tree:literal(true)),
                        core_tree:clause([core_tree:variable('other@')], core_tree:literal(false))]}.
 
-%% A tuple that stands for no function and no map. The value is looked at three times, so it needs a name.
+%% A tuple that represents no function and no map. The value is looked at three times, so it needs a name.
 is_plain_tuple(Size, Node, Value, S) ->
     V = core_tree:variable('tuple@'),
     Odd = core_tree:call_erlang([], 'or', [is_tagged(Size, 'fun', V), is_tagged(Size, map, V)]),

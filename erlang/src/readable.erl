@@ -25,7 +25,7 @@ definition(#definition{name = {_, Arity}, origin = Origin, home = Home, code = #
         _ -> S2
     end.
 
-%% How deep construct stands within construct, by the text: a line is noted in parentheses, which are a level;
+%% How deep constructs are nested, by the text: a line is noted in parentheses, which are a level;
 %% a clause is none, and a list is one however long it is.
 levels(#c_clause{} = N) -> deepest(N);
 levels(#c_call{} = N) -> 2 + deepest(N);

@@ -68,7 +68,7 @@ taken(Loop, Message, Body) ->
 taken_by(_, Message, #c_clause{pats = [_], body = #c_seq{arg = #c_primop{name = #c_literal{val = remove_message}}, body = Body}} = C) ->
     [named(Message, C#c_clause{body = Body})];
 taken_by(_, Message, #c_clause{pats = [_], body = #c_primop{name = #c_literal{val = remove_message}}} = C) ->
-    %% nobody wants the value of this clause
+    %% the value of this clause is not used
     [named(Message, C#c_clause{body = core_tree:literal(ok)})];
 taken_by(Loop, _, #c_clause{pats = [#c_var{}], guard = #c_literal{val = true},
                             body = #c_seq{arg = #c_primop{name = #c_literal{val = recv_next}, args = []},

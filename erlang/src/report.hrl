@@ -1,4 +1,4 @@
-%% What happened in one step, as a line of a transcript tells it.
+%% What happened in one step, as a line of a transcript says it.
 %%   who    the name of the process whose turn it was, or {From, To} of a delivery
 %%   deed   {call, Module, Function, Arguments, Answer}, where an answer is {ok, Term}, {refused, Text} or {ends, Term};
 %%          {receives, Term}; timeout; {ends, Term}; runaway;

@@ -37,7 +37,7 @@ style() ->
      " text.refused{font-weight:bold} line.last{stroke:#dc2626} polygon.last,rect.last,circle.last{fill:#dc2626}"
      " text.last{fill:#dc2626;font-weight:bold}</style>\n"].
 
-%% ---- where everything stands
+%% ---- where everything is placed
 
 sheet(Title, Columns, Rows, Roles) ->
     Placed = lists:zip(Rows, [?TOP + ?ROW * I || I <- lists:seq(0, length(Rows) - 1)]),
@@ -120,7 +120,7 @@ drawn(#row{kind = Kind, column = From, other = To, text = Text} = Row, Y, Sheet)
      cover(Row, Middle - width(Text) div 2 - 2, Y - 16, width(Text) + 4),
      words(last(Row, "middle"), Middle, Y - 5, Text)].
 
-%% What is behind a text is covered, but for the band of the last event.
+%% What is behind a text is covered, except for the band of the last event.
 cover(#row{last = true}, _, _, _) -> "";
 cover(_, X, Y, Width) -> rectangle("cover", X, Y, Width, 14).
 

@@ -23,7 +23,7 @@ module(Text, Source) ->
         error:Reason -> {error, Reason}
     end.
 
-%% The lines in a .core file are those of the source that it was made of.
+%% The lines in a .core file are those of the source that it was made from.
 erlang_file(Source, Name) ->
     case filename:extension(Source) of
         ".core" -> atom_to_list(Name) ++ ".erl";
@@ -145,7 +145,7 @@ raised(Tree, Trace, Reason) ->
         _ -> Tree
     end.
 
-%% Where a tree stands in the source: {File, Line}, or none.
+%% Where a tree is in the source: {File, Line}, or none.
 place(Tree) ->
     cerl:abstract(case cerl:get_ann(Tree) of
         [Line, {file, File}] -> {File, Line};

@@ -1,7 +1,7 @@
 %% Plays a transcript on the machine: each process alone, with the answers and messages that the transcript gives it.
 %%
 %% So each request gets the line of the source that makes it, and each process that did not end the line where it
-%% stands. The machine is a second witness besides: where it asks otherwise than the transcript says, that is told.
+%% is. The machine is also a second witness: where it asks otherwise than the transcript says, that is reported.
 -module(report_machine).
 -export([load/1, play/2]).
 -export([ask/4, wait/2, not_taken/0, back/0, caught/2, raised/2]).
@@ -9,11 +9,11 @@
 
 -record(played, {
     lines = #{},        % the place of each event, by its number
-    stands = #{},       % the place where each process stands that did not end, by its name
+    stands = #{},       % the place where each process is that did not end, by its name
     differs = []        % what the machine does otherwise
 }).
 
-%% How many milliseconds a process may be silent: one that the transcript lets run away never tells anything more.
+%% How many milliseconds a process may be silent: one that the transcript lets run away never sends anything more.
 -define(PATIENCE, 30000).
 -define(PATIENCE_WITH_RUNAWAYS, 500).
 -define(GREATEST_HEAP, 20000000).
@@ -66,7 +66,7 @@ child({tuple, [{pid, Name}, _]}) -> Name.
 
 %% ---- one process
 
-%% A process of the machine waits on the stage until it is told what to play.
+%% A process of the machine waits on the stage until it is given what to play.
 stage() ->
     receive {play, Boss, Start, Script} -> perform(Boss, Start, Script) end.
 
@@ -93,7 +93,7 @@ ended_by(_, _) -> false.
 real_start(first, _) -> first;
 real_start({Module, Function, Arguments}, Named) -> {Module, Function, report_term:real(Arguments, Named)}.
 
-%% Takes in what the process tells, until it stands, has ended or is lost.
+%% Takes in what the process sends, until it has reached its last place, has ended or is lost.
 listen(Name, {Pid, Watch, Patience} = Player, Ended, Played) ->
     receive
         {told, Pid, {line, Number, Place}} ->
@@ -228,7 +228,7 @@ place(none) ->
     source_of(Stack);
 place(Place) -> Place.
 
-%% The innermost call on a stack that stands in the source, or the library where there is none.
+%% The innermost call on a stack that is in the source, or the library where no call is.
 source_of(Stack) ->
     Name = report_instrument:name(),
     Own = [Frame || {Module, _, _, _} = Frame <- Stack, Module =:= Name],

@@ -69,7 +69,7 @@ finding(Work, Place, {Kind, Number, Identity, Schedule}, Errors) ->
     end,
     Told.
 
-%% All that is told of a transcript: its events, their places, what the processes are, and what is left in mailboxes.
+%% All that is shown of a transcript: its events, their places, what the processes are, and what is left in mailboxes.
 told(Work, Text) ->
     Events = report_reader:transcript(Text),
     Played = case Work#work.module of
@@ -92,7 +92,7 @@ write_drawing(Folder, Name, Text) ->
         _ -> complain("~ts cannot be written", [File])
     end.
 
-%% The machine is a witness beside the program that explored: where they differ one of them is wrong.
+%% The machine is a second witness, beside the program that explored: where they differ one of them is wrong.
 disagreements(Told) ->
     case lists:usort(lists:flatmap(fun(One) -> maps:get(differs, One) end, Told)) of
         [] -> ok;

@@ -1,4 +1,4 @@
-%% What a transcript tells beyond its lines: what each process is, which send a delivery comes from, and which messages
+%% What a transcript says beyond its lines: what each process is, which send a delivery comes from, and which messages
 %% nobody took.
 -module(report_story).
 -export([processes/1, roles/2, places/2, mailboxes/1, schedule/1, earlier/3]).
@@ -61,7 +61,7 @@ place(#event{number = Number, who = Name, deed = Deed}, {Places, Sent}) ->
 sent_at(none) -> none;
 sent_at(Place) -> {sent, Place}.
 
-%% Where a delivery comes from, and what was sent besides. An end may tell several others, a send one.
+%% Where a delivery comes from, and what else was sent. An end may send to several others, a send to one.
 cause(From, _, {brings, Message}, Sent) -> cause({From, Message}, Sent);
 cause(From, To, {exit, Reason, _}, Sent) ->
     case cause({From, exit, To, Reason}, Sent) of
@@ -87,7 +87,7 @@ sends(_, _) -> [].
 ends({exit, _, {ends, Reason}}) -> [Reason];
 ends(_) -> [].
 
-%% The first item that is wanted, and the others.
+%% The first item that is sought, and the others.
 take(IsWanted, Items) ->
     case lists:splitwith(fun(Item) -> not IsWanted(Item) end, Items) of
         {_, []} -> none;

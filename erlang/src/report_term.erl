@@ -7,7 +7,7 @@
 
 %% ---- reading
 
-%% The term at the beginning of a text, and what stands behind it.
+%% The term at the beginning of a text, and what comes after it.
 read("'" ++ Rest) -> read_atom(Rest, []);
 read("{" ++ Rest) -> {Terms, Behind} = read_parts(Rest, $}, []), {{tuple, Terms}, Behind};
 read("[" ++ Rest) -> read_list(Rest, []);
@@ -16,7 +16,7 @@ read("P" ++ Rest) -> {Path, Behind} = read_path(Rest), {{pid, "P" ++ Path}, Behi
 read("-" ++ Rest) -> {N, Behind} = read_number(Rest), {{int, -N}, Behind};
 read(Text) -> {N, Behind} = read_number(Text), {{int, N}, Behind}.
 
-%% The arguments of a call, from behind the opening bracket.
+%% The arguments of a call, from after the opening bracket.
 read_arguments(Text) -> read_parts(Text, $), []).
 
 read_parts([Close | Rest], Close, Terms) -> {lists:reverse(Terms), Rest};

@@ -6,7 +6,7 @@
 
 -define(GREATEST_COLUMN, 76).
 
-%% A call as it stands in a source.
+%% A call as it is written in a source.
 call(erlang, '!', [To, Message]) -> [report_term:text(To), " ! ", report_term:text(Message)];
 call(erlang, Function, [{atom, _}, {atom, Name}, {list, Arguments, nil}])
   when Function =:= spawn; Function =:= spawn_link; Function =:= spawn_monitor ->
@@ -38,7 +38,7 @@ deed({down, _, {message, Term}}) -> deed({brings, Term});
 deed({exit, Reason, Fate}) -> ["exit signal ", report_term:text(Reason), " -> ", fate(Fate)];
 deed({down, Reference, Fate}) -> ["signal of the watch ", report_term:text(Reference), " -> ", fate(Fate)].
 
-%% The answer of a send is its message, and tells nothing.
+%% The answer of a send is its message, and says nothing new.
 answer('!', {ok, _}) -> "";
 answer(_, {ok, Term}) -> [" -> ", report_term:text(Term)];
 answer(_, {refused, Text}) -> [" -> ", Text];
@@ -62,7 +62,7 @@ role(Name, Arguments) ->
         _ -> [function(Name), "/", integer_to_list(length(Arguments))]
     end.
 
-%% Where something stands in the source.
+%% Where something is in the source.
 place(none) -> "";
 place({library, Module}) -> ["(", Module, ")"];
 place({sent, none}) -> "";
@@ -90,7 +90,7 @@ visited(First) ->
         _ -> ""
     end.
 
-%% The last lines: how many errors and refusals there are, as the program tells, and the result.
+%% The last lines: how many errors and refusals there are, as the program reports, and the result.
 tail(Coverage, First, Findings, [Counts | _]) ->
     Errors = length([error || {error, _, _, _} <- Findings]),
     ["\n", Counts, "\n",
@@ -105,7 +105,7 @@ result(_, false, ["all", _], _) -> "errors, all schedules";
 result(_, false, [_, Depth], _) -> ["errors to depth ", Depth, "; longer schedules were not explored"];
 result(_, true, [_, Depth], First) -> [lists:last(string:split(First, ", ")), " at depth ", Depth].
 
-%% The depth that the program tells.
+%% The depth that the program reports.
 depth(First) -> hd(string:lexemes(First, "depth ,")).
 
 %% A schedule as the words with which it is shown again.
@@ -144,7 +144,7 @@ waits(Name, #{mailboxes := Boxes}) ->
 
 stands(Name, #{stands := Stands}) -> maps:get(Name, Stands, none).
 
-%% Lines whose places stand in one column, a little further right than most lines reach.
+%% Lines with their places in one column, a little further right than most lines reach.
 in_columns(Lines) ->
     Flat = [{lists:flatten(Text), lists:flatten(place(Place))} || {Text, Place} <- Lines],
     Column = lists:min([?GREATEST_COLUMN, 2 + lists:max([0 | [length(Text) || {Text, _} <- Flat]])]),

@@ -11,7 +11,7 @@ explore(Program, Folder, Text, Depth) ->
     %% os:cmd hands the bytes on; they are UTF-8
     unicode:characters_to_list(list_to_binary(os:cmd(lists:flatten(Command)))).
 
-%% The errors of a report, as they stand behind their numbers.
+%% The errors of a report, as they are written after their numbers.
 errors(Report) ->
     [Text || "error " ++ Rest <- string:split(Report, "\n", all), [_, Text] <- [string:split(Rest, ": ")]].
 

@@ -1,4 +1,4 @@
-%% Concurrent programs, as their first lines say them:
+%% Concurrent programs, as their first lines describe them:
 %%   %% depth: N    no schedule is longer
 %%   %% error: E    the errors of the whole report, each of them
 %% Each end that shaken runs on the real machine show is one of them; and the text is the same each time.
@@ -39,7 +39,7 @@ report(Report, Errors) ->
         Others -> {failed, {wanted, Errors, found, Others, Report}}
     end.
 
-%% With one step more there is nothing more.
+%% With one more step nothing is added.
 whole(Report, Longer) ->
     case {nodes_of(Report), nodes_of(Longer)} of
         {{complete, N}, {complete, N}} -> passed;

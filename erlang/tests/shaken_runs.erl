@@ -5,7 +5,7 @@
 
 -include("../src/core.hrl").
 
-%% How long nothing may happen until all that live, where they all wait, are taken to wait for ever.
+%% After how many milliseconds without an event all that live, where they all wait, are taken to wait for ever.
 -define(QUIET, 80).
 
 %% The module with its pauses, loaded.
