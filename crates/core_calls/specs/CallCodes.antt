@@ -212,6 +212,3 @@ pure_of_number-number_of_pure calls.ModuleInfoItem = refl
 pure_of_number-number_of_pure calls.Reverse = refl
 pure_of_number-number_of_pure calls.Member = refl
 pure_of_number-number_of_pure calls.AppendLists = refl
-
-abbrev pub coded_pure : Coded PureCall
-coded_pure = code_by ℕ coded_ℕ number_of_pure pure_of_number pure_of_number-number_of_pure

@@ -1,3 +1,4 @@
 pub mod Calls
 pub mod PureCalls
 pub mod CallCodes
+pub mod inside

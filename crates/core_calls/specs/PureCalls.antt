@@ -4,7 +4,7 @@ use Rattle.core_calls.specs.Calls.{Signature, process_call, has_signature, first
 use Rattle.core_calls.specs.declared.pure.PureCall.{PureCall}
 use Rattle.core_calls.specs.declared.pure.PureCall.TheVariants as calls
 
-abbrev list_call : List ℕ → ℕ → Signature
+abbrev pub list_call : List ℕ → ℕ → Signature
 list_call f n = record { module_name = codes "lists"; function_name = f; arity = n }
 
 -- the names and the arity of each call

@@ -1,6 +1,9 @@
 // The calls of the world: those of processes and of tables.
 ghost use Rattle.std.specs.Prelude.{◌≡◌};
 ghost use Rattle.core_calls.specs.Calls.{signature, has_signature, call_with};
+ghost use Rattle.core_calls.specs.inside.Signatures.{signature_of};
+
+use crate::signature::{Signature, process_call, table_call};
 
 /// A call that the explored world serves: of a process (Erlang reference manual, module `erlang`) or
 /// of a table (module `ets`), each with its number of arguments.
@@ -127,113 +130,78 @@ pub const CALLS: [CallKind; 38] = [
 ];
 
 impl CallKind {
+    // The names of the call's module and function, and the number of its arguments.
+    fn signature(self) -> Signature
+        ensures { signature_of result ≡ signature self }
+    {
+        match self {
+            CallKind::Spawn => process_call("spawn", 3),
+            CallKind::SpawnLink => process_call("spawn_link", 3),
+            CallKind::SpawnMonitor => process_call("spawn_monitor", 3),
+            CallKind::Bang => process_call("!", 2),
+            CallKind::Send => process_call("send", 2),
+            CallKind::Exit => process_call("exit", 2),
+            CallKind::Link => process_call("link", 1),
+            CallKind::Unlink => process_call("unlink", 1),
+            CallKind::Monitor => process_call("monitor", 2),
+            CallKind::Demonitor => process_call("demonitor", 1),
+            CallKind::DemonitorWith => process_call("demonitor", 2),
+            CallKind::ProcessFlag => process_call("process_flag", 2),
+            CallKind::Register => process_call("register", 2),
+            CallKind::Unregister => process_call("unregister", 1),
+            CallKind::Whereis => process_call("whereis", 1),
+            CallKind::IsProcessAlive => process_call("is_process_alive", 1),
+            CallKind::MakeRef => process_call("make_ref", 0),
+            CallKind::New => table_call("new", 2),
+            CallKind::Lookup => table_call("lookup", 2),
+            CallKind::Member => table_call("member", 2),
+            CallKind::LookupElement => table_call("lookup_element", 3),
+            CallKind::First => table_call("first", 1),
+            CallKind::Last => table_call("last", 1),
+            CallKind::Next => table_call("next", 2),
+            CallKind::Prev => table_call("prev", 2),
+            CallKind::TableToList => table_call("tab2list", 1),
+            CallKind::Insert => table_call("insert", 2),
+            CallKind::InsertNew => table_call("insert_new", 2),
+            CallKind::DeleteTable => table_call("delete", 1),
+            CallKind::DeleteKey => table_call("delete", 2),
+            CallKind::DeleteObject => table_call("delete_object", 2),
+            CallKind::DeleteAllObjects => table_call("delete_all_objects", 1),
+            CallKind::Take => table_call("take", 2),
+            CallKind::UpdateCounter => table_call("update_counter", 3),
+            CallKind::UpdateElement => table_call("update_element", 3),
+            CallKind::GiveAway => table_call("give_away", 3),
+            CallKind::SetOptions => table_call("setopts", 2),
+            CallKind::Info => table_call("info", 2),
+        }
+    }
+
     /// The name of the call's module, `erlang` or `ets`.
     pub fn module_name(self) -> &'static str
         ensures { result.now ≡ (signature self).module_name }
     {
-        match self {
-            CallKind::Spawn
-            | CallKind::SpawnLink
-            | CallKind::SpawnMonitor
-            | CallKind::Bang
-            | CallKind::Send
-            | CallKind::Exit
-            | CallKind::Link
-            | CallKind::Unlink
-            | CallKind::Monitor
-            | CallKind::Demonitor
-            | CallKind::DemonitorWith
-            | CallKind::ProcessFlag
-            | CallKind::Register
-            | CallKind::Unregister
-            | CallKind::Whereis
-            | CallKind::IsProcessAlive
-            | CallKind::MakeRef => "erlang",
-            _ => "ets",
-        }
+        self.signature().module_name
     }
 
     /// The name of the call's function, as `insert`.
     pub fn function_name(self) -> &'static str
         ensures { result.now ≡ (signature self).function_name }
     {
-        match self {
-            CallKind::Spawn => "spawn",
-            CallKind::SpawnLink => "spawn_link",
-            CallKind::SpawnMonitor => "spawn_monitor",
-            CallKind::Bang => "!",
-            CallKind::Send => "send",
-            CallKind::Exit => "exit",
-            CallKind::Link => "link",
-            CallKind::Unlink => "unlink",
-            CallKind::Monitor => "monitor",
-            CallKind::Demonitor => "demonitor",
-            CallKind::DemonitorWith => "demonitor",
-            CallKind::ProcessFlag => "process_flag",
-            CallKind::Register => "register",
-            CallKind::Unregister => "unregister",
-            CallKind::Whereis => "whereis",
-            CallKind::IsProcessAlive => "is_process_alive",
-            CallKind::MakeRef => "make_ref",
-            CallKind::New => "new",
-            CallKind::Lookup => "lookup",
-            CallKind::Member => "member",
-            CallKind::LookupElement => "lookup_element",
-            CallKind::First => "first",
-            CallKind::Last => "last",
-            CallKind::Next => "next",
-            CallKind::Prev => "prev",
-            CallKind::TableToList => "tab2list",
-            CallKind::Insert => "insert",
-            CallKind::InsertNew => "insert_new",
-            CallKind::DeleteTable => "delete",
-            CallKind::DeleteKey => "delete",
-            CallKind::DeleteObject => "delete_object",
-            CallKind::DeleteAllObjects => "delete_all_objects",
-            CallKind::Take => "take",
-            CallKind::UpdateCounter => "update_counter",
-            CallKind::UpdateElement => "update_element",
-            CallKind::GiveAway => "give_away",
-            CallKind::SetOptions => "setopts",
-            CallKind::Info => "info",
-        }
+        self.signature().function_name
     }
 
     /// The number of the call's arguments, 0 to 3.
     pub fn arity(self) -> usize
         ensures { result ≡ (signature self).arity }
     {
-        match self {
-            CallKind::MakeRef => 0,
-            CallKind::Link
-            | CallKind::Unlink
-            | CallKind::Demonitor
-            | CallKind::Unregister
-            | CallKind::Whereis
-            | CallKind::IsProcessAlive
-            | CallKind::First
-            | CallKind::Last
-            | CallKind::TableToList
-            | CallKind::DeleteTable
-            | CallKind::DeleteAllObjects => 1,
-            CallKind::Spawn
-            | CallKind::SpawnLink
-            | CallKind::SpawnMonitor
-            | CallKind::LookupElement
-            | CallKind::UpdateCounter
-            | CallKind::UpdateElement
-            | CallKind::GiveAway => 3,
-            _ => 2,
-        }
+        self.signature().arity
     }
 
     // Whether the call has these names and so many arguments.
     fn has_signature(self, module_name: &str, function_name: &str, arity: usize) -> bool
         ensures { result ≡ has_signature module_name.now function_name.now arity (signature self) }
     {
-        self.module_name() == module_name
-            && self.function_name() == function_name
-            && self.arity() == arity
+        self.signature().is_of(module_name, function_name, arity)
     }
 
     /// The call with these names and so many arguments, if there is one.

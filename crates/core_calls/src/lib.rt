@@ -4,6 +4,7 @@
 
 pub mod call;
 pub mod pure;
+mod signature;
 
 pub use call::{CALLS, CallKind};
 pub use pure::{PURE_CALLS, PureCall};

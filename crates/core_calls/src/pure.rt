@@ -2,6 +2,9 @@
 ghost use Rattle.std.specs.Prelude.{◌≡◌};
 ghost use Rattle.core_calls.specs.Calls.{has_signature};
 ghost use Rattle.core_calls.specs.PureCalls.{pure_signature, pure_call_with};
+ghost use Rattle.core_calls.specs.inside.Signatures.{signature_of};
+
+use crate::signature::{Signature, list_call, process_call};
 
 /// A call that takes part in no exchange with the world: its value, or what it raises, depends on its arguments alone
 /// (Erlang reference manual, modules `erlang` and `lists`), except for `erlang:self/0`, which gives the pid of the
@@ -180,123 +183,95 @@ pub const PURE_CALLS: [PureCall; 55] = [
 ];
 
 impl PureCall {
-    /// The name of the call's module: `erlang` or `lists`.
+    // The names of the call's module and function, and the number of its arguments.
+    fn signature(self) -> Signature
+        ensures { signature_of result ≡ pure_signature self }
+    {
+        match self {
+            PureCall::Add => process_call("+", 2),
+            PureCall::Subtract => process_call("-", 2),
+            PureCall::Multiply => process_call("*", 2),
+            PureCall::Keep => process_call("+", 1),
+            PureCall::Negate => process_call("-", 1),
+            PureCall::Divide => process_call("div", 2),
+            PureCall::Remainder => process_call("rem", 2),
+            PureCall::Absolute => process_call("abs", 1),
+            PureCall::BitAnd => process_call("band", 2),
+            PureCall::BitOr => process_call("bor", 2),
+            PureCall::BitXor => process_call("bxor", 2),
+            PureCall::BitNot => process_call("bnot", 1),
+            PureCall::Equal => process_call("==", 2),
+            PureCall::NotEqual => process_call("/=", 2),
+            PureCall::Same => process_call("=:=", 2),
+            PureCall::NotSame => process_call("=/=", 2),
+            PureCall::Less => process_call("<", 2),
+            PureCall::AtMost => process_call("=<", 2),
+            PureCall::Greater => process_call(">", 2),
+            PureCall::AtLeast => process_call(">=", 2),
+            PureCall::And => process_call("and", 2),
+            PureCall::Or => process_call("or", 2),
+            PureCall::Xor => process_call("xor", 2),
+            PureCall::Not => process_call("not", 1),
+            PureCall::IsInteger => process_call("is_integer", 1),
+            PureCall::IsNumber => process_call("is_number", 1),
+            PureCall::IsAtom => process_call("is_atom", 1),
+            PureCall::IsBoolean => process_call("is_boolean", 1),
+            PureCall::IsTuple => process_call("is_tuple", 1),
+            PureCall::IsList => process_call("is_list", 1),
+            PureCall::IsPid => process_call("is_pid", 1),
+            PureCall::IsReference => process_call("is_reference", 1),
+            PureCall::IsFloat => process_call("is_float", 1),
+            PureCall::IsBinary => process_call("is_binary", 1),
+            PureCall::IsRecord => process_call("is_record", 3),
+            PureCall::Element => process_call("element", 2),
+            PureCall::SetElement => process_call("setelement", 3),
+            PureCall::TupleSize => process_call("tuple_size", 1),
+            PureCall::Head => process_call("hd", 1),
+            PureCall::Tail => process_call("tl", 1),
+            PureCall::Length => process_call("length", 1),
+            PureCall::Append => process_call("++", 2),
+            PureCall::Without => process_call("--", 2),
+            PureCall::TupleToList => process_call("tuple_to_list", 1),
+            PureCall::ListToTuple => process_call("list_to_tuple", 1),
+            PureCall::OwnPid => process_call("self", 0),
+            PureCall::Error => process_call("error", 1),
+            PureCall::ErrorWith => process_call("error", 2),
+            PureCall::Exit => process_call("exit", 1),
+            PureCall::Throw => process_call("throw", 1),
+            PureCall::ModuleInfo => process_call("get_module_info", 1),
+            PureCall::ModuleInfoItem => process_call("get_module_info", 2),
+            PureCall::Reverse => list_call("reverse", 1),
+            PureCall::Member => list_call("member", 2),
+            PureCall::AppendLists => list_call("append", 2),
+        }
+    }
+
+    /// The name of the call's module, `erlang` or `lists`.
     pub fn module_name(self) -> &'static str
         ensures { result.now ≡ (pure_signature self).module_name }
     {
-        match self {
-            PureCall::Reverse | PureCall::Member | PureCall::AppendLists => "lists",
-            _ => "erlang",
-        }
+        self.signature().module_name
     }
 
     /// The name of the call's function, as `element`.
     pub fn function_name(self) -> &'static str
         ensures { result.now ≡ (pure_signature self).function_name }
     {
-        match self {
-            PureCall::Add => "+",
-            PureCall::Subtract => "-",
-            PureCall::Multiply => "*",
-            PureCall::Keep => "+",
-            PureCall::Negate => "-",
-            PureCall::Divide => "div",
-            PureCall::Remainder => "rem",
-            PureCall::Absolute => "abs",
-            PureCall::BitAnd => "band",
-            PureCall::BitOr => "bor",
-            PureCall::BitXor => "bxor",
-            PureCall::BitNot => "bnot",
-            PureCall::Equal => "==",
-            PureCall::NotEqual => "/=",
-            PureCall::Same => "=:=",
-            PureCall::NotSame => "=/=",
-            PureCall::Less => "<",
-            PureCall::AtMost => "=<",
-            PureCall::Greater => ">",
-            PureCall::AtLeast => ">=",
-            PureCall::And => "and",
-            PureCall::Or => "or",
-            PureCall::Xor => "xor",
-            PureCall::Not => "not",
-            PureCall::IsInteger => "is_integer",
-            PureCall::IsNumber => "is_number",
-            PureCall::IsAtom => "is_atom",
-            PureCall::IsBoolean => "is_boolean",
-            PureCall::IsTuple => "is_tuple",
-            PureCall::IsList => "is_list",
-            PureCall::IsPid => "is_pid",
-            PureCall::IsReference => "is_reference",
-            PureCall::IsFloat => "is_float",
-            PureCall::IsBinary => "is_binary",
-            PureCall::IsRecord => "is_record",
-            PureCall::Element => "element",
-            PureCall::SetElement => "setelement",
-            PureCall::TupleSize => "tuple_size",
-            PureCall::Head => "hd",
-            PureCall::Tail => "tl",
-            PureCall::Length => "length",
-            PureCall::Append => "++",
-            PureCall::Without => "--",
-            PureCall::TupleToList => "tuple_to_list",
-            PureCall::ListToTuple => "list_to_tuple",
-            PureCall::OwnPid => "self",
-            PureCall::Error => "error",
-            PureCall::ErrorWith => "error",
-            PureCall::Exit => "exit",
-            PureCall::Throw => "throw",
-            PureCall::ModuleInfo => "get_module_info",
-            PureCall::ModuleInfoItem => "get_module_info",
-            PureCall::Reverse => "reverse",
-            PureCall::Member => "member",
-            PureCall::AppendLists => "append",
-        }
+        self.signature().function_name
     }
 
     /// The number of the call's arguments, 0 to 3.
     pub fn arity(self) -> usize
         ensures { result ≡ (pure_signature self).arity }
     {
-        match self {
-            PureCall::OwnPid => 0,
-            PureCall::Keep
-            | PureCall::Negate
-            | PureCall::Absolute
-            | PureCall::BitNot
-            | PureCall::Not
-            | PureCall::IsInteger
-            | PureCall::IsNumber
-            | PureCall::IsAtom
-            | PureCall::IsBoolean
-            | PureCall::IsTuple
-            | PureCall::IsList
-            | PureCall::IsPid
-            | PureCall::IsReference
-            | PureCall::IsFloat
-            | PureCall::IsBinary
-            | PureCall::TupleSize
-            | PureCall::Head
-            | PureCall::Tail
-            | PureCall::Length
-            | PureCall::TupleToList
-            | PureCall::ListToTuple
-            | PureCall::Error
-            | PureCall::Exit
-            | PureCall::Throw
-            | PureCall::ModuleInfo
-            | PureCall::Reverse => 1,
-            PureCall::IsRecord | PureCall::SetElement => 3,
-            _ => 2,
-        }
+        self.signature().arity
     }
 
     // Whether the call has these names and so many arguments.
     fn has_signature(self, module_name: &str, function_name: &str, arity: usize) -> bool
         ensures { result ≡ has_signature module_name.now function_name.now arity (pure_signature self) }
     {
-        self.module_name() == module_name
-            && self.function_name() == function_name
-            && self.arity() == arity
+        self.signature().is_of(module_name, function_name, arity)
     }
 
     /// The call with these names and so many arguments, if there is one.

@@ -1,9 +1,7 @@
 // The steps of the machine into an expression.
 ghost use Rattle.std.specs.Prelude.{◌≤◌, [], IfOk, IfSome, map};
-ghost use Rattle.core_tree.specs.Syntax.{trees_of, clauses_of};
-ghost use Rattle.core_tree.specs.Expression as trees;
 ghost use Rattle.core_tree.specs.Callee as callees;
-ghost use Rattle.core_tree.specs.Tree.{callee_of, tree_of};
+ghost use Rattle.core_tree.specs.Tree.{callee_of, onto_tree, let_tree, case_tree, do_tree, call_tree, try_tree, catch_tree, receive_tree, tree_of};
 ghost use Rattle.term_core.specs.Term.{meaning_of};
 ghost use Rattle.core_semantics.specs.Evaluation.{called_with, limited, value_or_error};
 ghost use Rattle.core_stack.specs.Matching.{lookup, text_of};
@@ -79,7 +77,7 @@ fn enter_onto<'m>(
     stack: &mut Stack<'m>,
     onto: &'m Onto,
 ) -> Result<Control<'m>, AllocError>
-    ensures { IfOk result (λ next. Enters stack.old stack.new next (trees.Onto (trees_of onto.now.0) onto.now.1)) }
+    ensures { IfOk result (λ next. Enters stack.old stack.new next (onto_tree onto.now)) }
 {
     enter_parts(
         alloc,
@@ -91,7 +89,7 @@ fn enter_onto<'m>(
 
 // Into the value of a `let`.
 fn enter_let<'m>(stack: &mut Stack<'m>, inner: &'m Let) -> Result<Control<'m>, AllocError>
-    ensures { IfOk result (λ next. Enters stack.old stack.new next (trees.Let inner.now.0 inner.now.1 inner.now.2)) }
+    ensures { IfOk result (λ next. Enters stack.old stack.new next (let_tree inner.now)) }
 {
     stack.push(Frame::Body(inner.variables.as_slice(), &inner.body))?;
     Ok(Control::Evaluate(&inner.value))
@@ -99,7 +97,7 @@ fn enter_let<'m>(stack: &mut Stack<'m>, inner: &'m Let) -> Result<Control<'m>, A
 
 // Into the first expression of a `do`.
 fn enter_do<'m>(stack: &mut Stack<'m>, both: &'m Do) -> Result<Control<'m>, AllocError>
-    ensures { IfOk result (λ next. Enters stack.old stack.new next (trees.Do both.now.0 both.now.1)) }
+    ensures { IfOk result (λ next. Enters stack.old stack.new next (do_tree both.now)) }
 {
     stack.push(Frame::Second(&both.second))?;
     Ok(Control::Evaluate(&both.first))
@@ -107,7 +105,7 @@ fn enter_do<'m>(stack: &mut Stack<'m>, both: &'m Do) -> Result<Control<'m>, Allo
 
 // Into the expression whose values the clauses of a `case` match.
 fn enter_case<'m>(stack: &mut Stack<'m>, case: &'m Case) -> Result<Control<'m>, AllocError>
-    ensures { IfOk result (λ next. Enters stack.old stack.new next (trees.Case case.now.0 case.now.1 (clauses_of case.now.2))) }
+    ensures { IfOk result (λ next. Enters stack.old stack.new next (case_tree case.now)) }
 {
     stack.push(Frame::Clauses(case.clauses.0.as_slice()))?;
     Ok(Control::Evaluate(&case.value))
@@ -115,8 +113,7 @@ fn enter_case<'m>(stack: &mut Stack<'m>, case: &'m Case) -> Result<Control<'m>, 
 
 // Into the timeout of a receive.
 fn enter_receive<'m>(stack: &mut Stack<'m>, receive: &'m Receive) -> Result<Control<'m>, AllocError>
-    ensures { IfOk result (λ next.
-        Enters stack.old stack.new next (trees.Receive receive.now.0 (clauses_of receive.now.1) receive.now.2 receive.now.3)) }
+    ensures { IfOk result (λ next. Enters stack.old stack.new next (receive_tree receive.now)) }
 {
     stack.push(Frame::Receive(receive))?;
     Ok(Control::Evaluate(&receive.timeout))
@@ -124,8 +121,7 @@ fn enter_receive<'m>(stack: &mut Stack<'m>, receive: &'m Receive) -> Result<Cont
 
 // Into the expression that a `try` protects.
 fn enter_try<'m>(stack: &mut Stack<'m>, protected: &'m Try) -> Result<Control<'m>, AllocError>
-    ensures { IfOk result (λ next.
-        Enters stack.old stack.new next (trees.Try protected.now.0 protected.now.1 protected.now.2 protected.now.3 protected.now.4 protected.now.5)) }
+    ensures { IfOk result (λ next. Enters stack.old stack.new next (try_tree protected.now)) }
 {
     stack.push(Frame::Try(protected))?;
     Ok(Control::Evaluate(&protected.value))
@@ -133,7 +129,7 @@ fn enter_try<'m>(stack: &mut Stack<'m>, protected: &'m Try) -> Result<Control<'m
 
 // Into the expression that a `catch` protects.
 fn enter_catch<'m>(stack: &mut Stack<'m>, protected: &'m Catch) -> Result<Control<'m>, AllocError>
-    ensures { IfOk result (λ next. Enters stack.old stack.new next (trees.Catch protected.now.0 protected.now.1)) }
+    ensures { IfOk result (λ next. Enters stack.old stack.new next (catch_tree protected.now)) }
 {
     stack.push(Frame::Catch)?;
     Ok(Control::Evaluate(&protected.value))
@@ -157,8 +153,7 @@ fn enter_call<'m>(
     stack: &mut Stack<'m>,
     call: &'m Call,
 ) -> Result<Control<'m>, AllocError>
-    ensures { IfOk result (λ next.
-        Enters stack.old stack.new next (trees.Call call.now.0 call.now.1 (trees_of call.now.2))) }
+    ensures { IfOk result (λ next. Enters stack.old stack.new next (call_tree call.now)) }
 {
     let purpose = Purpose::Call(&call.callee);
     enter_parts(alloc, stack, purpose, call.arguments.0.as_slice())

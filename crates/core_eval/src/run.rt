@@ -1,4 +1,7 @@
-// The run of a machine to its next request.
+// The run of a machine to its next request. `Control` is what is to be done next: an expression to evaluate, or a result to
+// hand on. A frame of the stack is what is still to do with the result of what stands in it. `advance` takes one step after
+// another, into an expression (`enter`) or out of a frame with its result (`leave`), until the body stops (`Halt`) or
+// applies a function (`Pause`). `run` counts the applications.
 ghost use Rattle.std.specs.Prelude.{◌≡◌, List, IfOk};
 ghost use Rattle.core_semantics.specs.Applications.{setting_of};
 ghost use Rattle.core_semantics.specs.Ask.{request_of};

@@ -42,10 +42,6 @@ character at c = record { at = at; shape = lexemes.Character c }
 abbrev pub text : ℕ → List ℕ → Piece
 text at cs = record { at = at; shape = lexemes.Text cs }
 
--- what spells an X
-abbrev pub Spelling : Type 0 → Type 1
-Spelling X = List Piece → X → List Piece → Type 0
-
 -- the levels of construct within construct that a text may have
 abbrev pub level_limit : ℕ
 level_limit = 1000

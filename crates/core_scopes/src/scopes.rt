@@ -3,8 +3,7 @@
 ghost use Rattle.std.specs.Prelude.{◌≡◌, [], ◌∷◌, ◌++◌};
 ghost use Rattle.core_tree.specs.Syntax.{patterns_of, trees_of, clauses_of};
 ghost use Rattle.core_tree.specs.Callee as callees;
-ghost use Rattle.core_tree.specs.Expression as trees;
-ghost use Rattle.core_tree.specs.Tree.{callee_of, pattern_of, tree_of};
+ghost use Rattle.core_tree.specs.Tree.{callee_of, onto_pattern, alias_pattern, pattern_of, onto_tree, let_tree, case_tree, do_tree, call_tree, try_tree, catch_tree, receive_tree, tree_of};
 ghost use Rattle.core_tree.specs.Definitions.{keys_in};
 ghost use Rattle.core_scopes.specs.Scopes.{bound_by, variables_of, variables_of_all};
 ghost use Rattle.core_scopes.specs.inside.Environment.{shown, bound_in, setting_in, AddsUnlessMemory, BindsUnlessMemory, check_clause};
@@ -110,7 +109,7 @@ fn bind_pattern<'a>(names: &mut IndexSet<&'a [u8]>, pattern: &'a Pattern) -> Res
 
 #[cycle(patterns)]
 fn bind_onto<'a>(names: &mut IndexSet<&'a [u8]>, onto: &'a OntoPattern) -> Result<(), ReadFault>
-    ensures { AddsUnlessMemory (variables_of_all (patterns_of onto.now.0) ++ variables_of onto.now.1) result (shown names.old.keys) (shown names.new.keys) }
+    ensures { AddsUnlessMemory (variables_of (onto_pattern onto.now)) result (shown names.old.keys) (shown names.new.keys) }
 {
     bind_patterns(names, &onto.items)?;
     bind_pattern(names, &onto.tail)
@@ -119,7 +118,7 @@ fn bind_onto<'a>(names: &mut IndexSet<&'a [u8]>, onto: &'a OntoPattern) -> Resul
 // The variable for the whole comes before those of its pattern.
 #[cycle(patterns)]
 fn bind_alias<'a>(names: &mut IndexSet<&'a [u8]>, alias: &'a Alias) -> Result<(), ReadFault>
-    ensures { AddsUnlessMemory (alias.now.0 ∷ variables_of alias.now.1) result (shown names.old.keys) (shown names.new.keys) }
+    ensures { AddsUnlessMemory (variables_of (alias_pattern alias.now)) result (shown names.old.keys) (shown names.new.keys) }
 {
     bind(names, &alias.variable)?;
     bind_pattern(names, &alias.whole)
@@ -253,7 +252,7 @@ fn check_within<'a, 's, 'n>(
 
 #[cycle(scopes)]
 fn check_onto<'n>(setting: &Setting, scope: &Scope<'_, 'n>, onto: &'n Onto) -> Result<(), ReadFault>
-    ensures { GivesUnlessMemory (λ u. u) result (check_tree (setting_in setting.now) (bound_in scope.now) (trees.Onto (trees_of onto.now.0) onto.now.1)) }
+    ensures { GivesUnlessMemory (λ u. u) result (check_tree (setting_in setting.now) (bound_in scope.now) (onto_tree onto.now)) }
 {
     check_exprs(setting, scope, &onto.items)?;
     check_expr(setting, scope, &onto.tail)
@@ -266,7 +265,7 @@ fn check_let<'n>(
     scope: &Scope<'_, 'n>,
     binding: &'n Let,
 ) -> Result<(), ReadFault>
-    ensures { GivesUnlessMemory (λ u. u) result (check_tree (setting_in setting.now) (bound_in scope.now) (trees.Let binding.now.0 binding.now.1 binding.now.2)) }
+    ensures { GivesUnlessMemory (λ u. u) result (check_tree (setting_in setting.now) (bound_in scope.now) (let_tree binding.now)) }
 {
     let names = distinct(setting.alloc, &binding.variables)?;
     check_expr(setting, scope, &binding.value)?;
@@ -275,7 +274,7 @@ fn check_let<'n>(
 
 #[cycle(scopes)]
 fn check_case<'n>(setting: &Setting, scope: &Scope<'_, 'n>, case: &'n Case) -> Result<(), ReadFault>
-    ensures { GivesUnlessMemory (λ u. u) result (check_tree (setting_in setting.now) (bound_in scope.now) (trees.Case case.now.0 case.now.1 (clauses_of case.now.2))) }
+    ensures { GivesUnlessMemory (λ u. u) result (check_tree (setting_in setting.now) (bound_in scope.now) (case_tree case.now)) }
 {
     check_expr(setting, scope, &case.value)?;
     check_clauses(setting, scope, &case.clauses)
@@ -283,7 +282,7 @@ fn check_case<'n>(setting: &Setting, scope: &Scope<'_, 'n>, case: &'n Case) -> R
 
 #[cycle(scopes)]
 fn check_do<'n>(setting: &Setting, scope: &Scope<'_, 'n>, both: &'n Do) -> Result<(), ReadFault>
-    ensures { GivesUnlessMemory (λ u. u) result (check_tree (setting_in setting.now) (bound_in scope.now) (trees.Do both.now.0 both.now.1)) }
+    ensures { GivesUnlessMemory (λ u. u) result (check_tree (setting_in setting.now) (bound_in scope.now) (do_tree both.now)) }
 {
     check_expr(setting, scope, &both.first)?;
     check_expr(setting, scope, &both.second)
@@ -291,7 +290,7 @@ fn check_do<'n>(setting: &Setting, scope: &Scope<'_, 'n>, both: &'n Do) -> Resul
 
 #[cycle(scopes)]
 fn check_call<'n>(setting: &Setting, scope: &Scope<'_, 'n>, call: &'n Call) -> Result<(), ReadFault>
-    ensures { GivesUnlessMemory (λ u. u) result (check_tree (setting_in setting.now) (bound_in scope.now) (trees.Call call.now.0 call.now.1 (trees_of call.now.2))) }
+    ensures { GivesUnlessMemory (λ u. u) result (check_tree (setting_in setting.now) (bound_in scope.now) (call_tree call.now)) }
 {
     check_callee(setting, call.at, &call.callee)?;
     check_exprs(setting, scope, &call.arguments)
@@ -305,7 +304,7 @@ fn check_try<'n>(
     scope: &Scope<'_, 'n>,
     handled: &'n Try,
 ) -> Result<(), ReadFault>
-    ensures { GivesUnlessMemory (λ u. u) result (check_tree (setting_in setting.now) (bound_in scope.now) (trees.Try handled.now.0 handled.now.1 handled.now.2 handled.now.3 handled.now.4 handled.now.5)) }
+    ensures { GivesUnlessMemory (λ u. u) result (check_tree (setting_in setting.now) (bound_in scope.now) (try_tree handled.now)) }
 {
     check_expr(setting, scope, &handled.value)?;
     let names = distinct(setting.alloc, &handled.variables)?;
@@ -320,7 +319,7 @@ fn check_catch<'n>(
     scope: &Scope<'_, 'n>,
     caught: &'n Catch,
 ) -> Result<(), ReadFault>
-    ensures { GivesUnlessMemory (λ u. u) result (check_tree (setting_in setting.now) (bound_in scope.now) (trees.Catch caught.now.0 caught.now.1)) }
+    ensures { GivesUnlessMemory (λ u. u) result (check_tree (setting_in setting.now) (bound_in scope.now) (catch_tree caught.now)) }
 {
     check_expr(setting, scope, &caught.value)
 }
@@ -333,7 +332,7 @@ fn check_receive<'n>(
     scope: &Scope<'_, 'n>,
     receive: &'n Receive,
 ) -> Result<(), ReadFault>
-    ensures { GivesUnlessMemory (λ u. u) result (check_tree (setting_in setting.now) (bound_in scope.now) (trees.Receive receive.now.0 (clauses_of receive.now.1) receive.now.2 receive.now.3)) }
+    ensures { GivesUnlessMemory (λ u. u) result (check_tree (setting_in setting.now) (bound_in scope.now) (receive_tree receive.now)) }
 {
     check_effect(setting, receive.at)?;
     check_clauses(setting, scope, &receive.clauses)?;

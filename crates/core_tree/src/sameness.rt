@@ -4,7 +4,7 @@ ghost use Rattle.std.specs.Ordering.{on, eq_of_both};
 ghost use Rattle.std.specs.Cmp.{partial_equiv_from_equiv, on_equiv, and_equiv};
 ghost use Rattle.std.specs.Cmp.Lexicographic.{pointwise, lists_equiv};
 ghost use Rattle.core_tree.specs.Syntax.{patterns_of, trees_of, clauses_of, constants_of};
-ghost use Rattle.core_tree.specs.Tree.{callee_of, pattern_of, tree_of, constant_of};
+ghost use Rattle.core_tree.specs.Tree.{callee_of, onto_pattern, alias_pattern, pattern_of, onto_tree, let_tree, case_tree, do_tree, call_tree, try_tree, catch_tree, receive_tree, tree_of, onto_constant, constant_of};
 ghost use Rattle.core_tree.specs.Definitions.{definition_of};
 ghost use Rattle.core_tree.specs.Sameness.{bare_module};
 ghost use Rattle.core_tree.specs.Alike.{same_mention, same_kind, same_pure, same_callee, same_pattern, same_patterns, same_tree, same_trees, same_clause, same_clauses, same_constant, same_constants, same_named, same_attribute, same_definition, same_module};
@@ -98,14 +98,14 @@ fn same_pattern(a: &Pattern, b: &Pattern) -> bool
 
 #[cycle(patterns)]
 fn same_onto_pattern(a: &OntoPattern, b: &OntoPattern) -> bool
-    ensures { result ≡ (same_patterns (patterns_of a.now.0) (patterns_of b.now.0) && same_pattern a.now.1 b.now.1) }
+    ensures { result ≡ same_pattern (onto_pattern a.now) (onto_pattern b.now) }
 {
     same_patterns(&a.items, &b.items) && same_pattern(&a.tail, &b.tail)
 }
 
 #[cycle(patterns)]
 fn same_alias(a: &Alias, b: &Alias) -> bool
-    ensures { result ≡ (same_mention a.now.0 b.now.0 && same_pattern a.now.1 b.now.1) }
+    ensures { result ≡ same_pattern (alias_pattern a.now) (alias_pattern b.now) }
 {
     a.variable == b.variable && same_pattern(&a.whole, &b.whole)
 }
@@ -154,42 +154,42 @@ fn same_expr(a: &Expr, b: &Expr) -> bool
 
 #[cycle(sameness)]
 fn same_onto(a: &Onto, b: &Onto) -> bool
-    ensures { result ≡ (same_trees (trees_of a.now.0) (trees_of b.now.0) && same_tree a.now.1 b.now.1) }
+    ensures { result ≡ same_tree (onto_tree a.now) (onto_tree b.now) }
 {
     same_exprs(&a.items, &b.items) && same_expr(&a.tail, &b.tail)
 }
 
 #[cycle(sameness)]
 fn same_let(a: &Let, b: &Let) -> bool
-    ensures { result ≡ (pointwise same_mention a.now.0 b.now.0 && (same_tree a.now.1 b.now.1 && same_tree a.now.2 b.now.2)) }
+    ensures { result ≡ same_tree (let_tree a.now) (let_tree b.now) }
 {
     a.variables == b.variables && same_expr(&a.value, &b.value) && same_expr(&a.body, &b.body)
 }
 
 #[cycle(sameness)]
 fn same_do(a: &Do, b: &Do) -> bool
-    ensures { result ≡ (same_tree a.now.0 b.now.0 && same_tree a.now.1 b.now.1) }
+    ensures { result ≡ same_tree (do_tree a.now) (do_tree b.now) }
 {
     same_expr(&a.first, &b.first) && same_expr(&a.second, &b.second)
 }
 
 #[cycle(sameness)]
 fn same_call(a: &Call, b: &Call) -> bool
-    ensures { result ≡ (same_callee a.now.1 b.now.1 && same_trees (trees_of a.now.2) (trees_of b.now.2)) }
+    ensures { result ≡ same_tree (call_tree a.now) (call_tree b.now) }
 {
     same_callee(&a.callee, &b.callee) && same_exprs(&a.arguments, &b.arguments)
 }
 
 #[cycle(sameness)]
 fn same_case(a: &Case, b: &Case) -> bool
-    ensures { result ≡ (same_tree a.now.1 b.now.1 && same_clauses (clauses_of a.now.2) (clauses_of b.now.2)) }
+    ensures { result ≡ same_tree (case_tree a.now) (case_tree b.now) }
 {
     same_expr(&a.value, &b.value) && same_clauses(&a.clauses, &b.clauses)
 }
 
 #[cycle(sameness)]
 fn same_receive(a: &Receive, b: &Receive) -> bool
-    ensures { result ≡ (same_clauses (clauses_of a.now.1) (clauses_of b.now.1) && (same_tree a.now.2 b.now.2 && same_tree a.now.3 b.now.3)) }
+    ensures { result ≡ same_tree (receive_tree a.now) (receive_tree b.now) }
 {
     same_clauses(&a.clauses, &b.clauses)
         && same_expr(&a.timeout, &b.timeout)
@@ -223,7 +223,7 @@ fn same_clauses(a: &Clauses, b: &Clauses) -> bool
 
 #[cycle(sameness)]
 fn same_try(a: &Try, b: &Try) -> bool
-    ensures { result ≡ (same_tree a.now.1 b.now.1 && (pointwise same_mention a.now.2 b.now.2 && (same_tree a.now.3 b.now.3 && (pointwise same_mention a.now.4 b.now.4 && same_tree a.now.5 b.now.5)))) }
+    ensures { result ≡ same_tree (try_tree a.now) (try_tree b.now) }
 {
     same_expr(&a.value, &b.value)
         && a.variables == b.variables
@@ -234,7 +234,7 @@ fn same_try(a: &Try, b: &Try) -> bool
 
 #[cycle(sameness)]
 fn same_catch(a: &Catch, b: &Catch) -> bool
-    ensures { result ≡ same_tree a.now.1 b.now.1 }
+    ensures { result ≡ same_tree (catch_tree a.now) (catch_tree b.now) }
 {
     same_expr(&a.value, &b.value)
 }
@@ -274,7 +274,7 @@ fn same_const(a: &Const, b: &Const) -> bool
 
 #[cycle(constants)]
 fn same_onto_const(a: &OntoConst, b: &OntoConst) -> bool
-    ensures { result ≡ (same_constants (constants_of a.now.0) (constants_of b.now.0) && same_constant a.now.1 b.now.1) }
+    ensures { result ≡ same_constant (onto_constant a.now) (onto_constant b.now) }
 {
     same_consts(&a.items, &b.items) && same_const(&a.tail, &b.tail)
 }

@@ -30,25 +30,24 @@ pub fn class_of(call: &TableCall) -> Class
     ensures { result ≡ class_of (call_in call.now) }
 {
     match call {
-        TableCall::Lookup(_) => Class::Read,
-        TableCall::Member(_) => Class::Read,
-        TableCall::LookupElement(_, _) => Class::Read,
-        TableCall::First => Class::Read,
-        TableCall::Last => Class::Read,
-        TableCall::Next(_) => Class::Read,
-        TableCall::Prev(_) => Class::Read,
-        TableCall::ToList => Class::Read,
-        TableCall::Insert(_) => Class::Write,
-        TableCall::InsertNew(_) => Class::Write,
-        TableCall::DeleteTable => Class::Write,
-        TableCall::DeleteKey(_) => Class::Write,
-        TableCall::DeleteObject(_) => Class::Write,
-        TableCall::DeleteAll => Class::Write,
-        TableCall::Take(_) => Class::Write,
-        TableCall::UpdateCounter(_, _) => Class::Write,
-        TableCall::UpdateElement(_, _) => Class::Write,
-        TableCall::GiveAway(_, _) => Class::Owners,
-        TableCall::SetOptions(_) => Class::Owners,
+        TableCall::Lookup(_)
+        | TableCall::Member(_)
+        | TableCall::LookupElement(_, _)
+        | TableCall::First
+        | TableCall::Last
+        | TableCall::Next(_)
+        | TableCall::Prev(_)
+        | TableCall::ToList => Class::Read,
+        TableCall::Insert(_)
+        | TableCall::InsertNew(_)
+        | TableCall::DeleteTable
+        | TableCall::DeleteKey(_)
+        | TableCall::DeleteObject(_)
+        | TableCall::DeleteAll
+        | TableCall::Take(_)
+        | TableCall::UpdateCounter(_, _)
+        | TableCall::UpdateElement(_, _) => Class::Write,
+        TableCall::GiveAway(_, _) | TableCall::SetOptions(_) => Class::Owners,
         TableCall::Info(_) => Class::Open,
     }
 }
@@ -59,9 +58,7 @@ pub fn rule_of_none(class: Class) -> Option<Rule>
     ensures { result ≡ rule_of_none class }
 {
     match class {
-        Class::Read => Some(Rule::NoTable),
-        Class::Write => Some(Rule::NoTable),
-        Class::Owners => Some(Rule::NoTable),
+        Class::Read | Class::Write | Class::Owners => Some(Rule::NoTable),
         Class::Open => None,
     }
 }
@@ -118,12 +115,7 @@ fn is_short(position: usize, object: &Object) -> bool
 fn has_short(position: usize, objects: &[Object]) -> bool
     ensures { result ≡ list_any (is_short position) objects.now }
 {
-    for object in objects {
-        if is_short(position, object) {
-            return true;
-        }
-    }
-    false
+    objects.iter().any(|object| is_short(position, object))
 }
 
 /// The rule that refuses objects to be put in where keys have this position: they are no objects, or one is too short

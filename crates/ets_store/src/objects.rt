@@ -90,12 +90,7 @@ impl Objects {
     pub(crate) fn holds(&self, object: &Object) -> bool
         ensures { result ≡ list_any (same_object object.now) self.now }
     {
-        for item in &self.items {
-            if object.is_same(item) {
-                return true;
-            }
-        }
-        false
+        self.items.iter().any(|item| object.is_same(item))
     }
 
     /// Those that are not this object, each a copy, or `AllocError` if there is no memory for them.

@@ -19,6 +19,15 @@ pub const NAME: &str = "schedule_explorer";
 /// How many nodes a worker visits before it hands the rest back.
 pub const BUDGET: u64 = 64;
 
+// How many steps a schedule may have.
+const MOST_STEPS: i64 = 400;
+
+// How many nodes may be visited, where `--nodes` says so.
+const MOST_NODES: i64 = 10_000_000;
+
+// How many threads may explore.
+const MOST_WORKERS: i64 = 16;
+
 // Where a command splits the tree: into the jobs at one level, and what is above them.
 #[derive(Clone, Copy)]
 pub(crate) struct Split {
@@ -165,7 +174,7 @@ fn depth_option<'a>(alloc: Global) -> Arg<'a>
         .required(true)
         .action(ArgAction::Set)
         .value_name("N")
-        .value_parser(value_parser!(u64).range(0..=400))
+        .value_parser(value_parser!(u64).range(0..=MOST_STEPS))
         .help("How many steps a schedule may have, from 0 to 400")
 }
 
@@ -178,7 +187,7 @@ fn at_option<'a>(alloc: Global) -> Arg<'a>
         .required(true)
         .action(ArgAction::Set)
         .value_name("D")
-        .value_parser(value_parser!(u64).range(0..=400))
+        .value_parser(value_parser!(u64).range(0..=MOST_STEPS))
         .help("How many steps lead to each of the jobs, from 0 to N")
 }
 
@@ -190,7 +199,7 @@ fn nodes_option<'a>(alloc: Global) -> Arg<'a>
         .long("nodes")
         .action(ArgAction::Set)
         .value_name("N")
-        .value_parser(value_parser!(u64).range(1..=10_000_000))
+        .value_parser(value_parser!(u64).range(1..=MOST_NODES))
         .default_value("1000000")
         .help("How many nodes of the tree of schedules may be visited,\nfrom 1 to 10000000")
 }
@@ -203,7 +212,7 @@ fn workers_option<'a>(alloc: Global) -> Arg<'a>
         .long("workers")
         .action(ArgAction::Set)
         .value_name("N")
-        .value_parser(value_parser!(u64).range(1..=16))
+        .value_parser(value_parser!(u64).range(1..=MOST_WORKERS))
         .default_value("1")
         .help("How many threads explore, from 1 to 16")
 }

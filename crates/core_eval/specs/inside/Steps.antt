@@ -83,6 +83,10 @@ AsksNext setting old control new request = (answers : List Answered) → standin
 abbrev pub is_selected_by : Setting → Environment → ClauseTree → Meaning → Bool
 is_selected_by setting env clause message = is_taken (match_each (patterns_of clause.patterns) (message ∷ []) []) env (λ inner. evaluate setting clause.guard inner at_rest)
 
+-- ---- the work that is left: each step between two applications makes that of what is on top and that of the stack together
+-- ---- smaller, so such steps end. A node of an expression counts 4: it is entered, its parts are gathered, what they make is
+-- ---- answered, and the result is handed on. An answer to come counts 3, a result 2, and what ends these steps nothing
+
 -- the work that is left in what is on top of a stack
 abbrev pub load : Control → ℕ
 load (Evaluate expression) = 4 * size_of (tree_of expression.now)

@@ -5,7 +5,7 @@ use Rattle.std.specs.Prelude.{Result, Ok, Err}
 use Rattle.std.proofs.lemmas.List.{take-append-drop, at_drop_more, at_drop_all}
 use Rattle.std.specs.List.{flat_map}
 use Rattle.std.proofs.lemmas.Bool.Decides.{nat_tests}
-use Rattle.std.specs.Io.KnownBytes.{Appends, Keeps}
+use Rattle.std.specs.Io.KnownBytes.{Appends}
 use Rattle.term_core.specs.Stream.{AppendsBeginning, WritesAll, BreaksOff, Writes}
 
 pub appends_none : (s : Option (List ℕ)) → Appends s s []
@@ -33,15 +33,6 @@ begins_first s t a b k = record {
   parts = ap (λ w. w ++ b) k.parts ∙ append_assoc k.written k.unwritten b;
   appends = k.appends;
 }
-
--- known bytes that stay grow by nothing
-pub begins_nothing : (s t : Option (List ℕ)) (text : List ℕ) → Keeps s t → AppendsBeginning s t text
-begins_nothing s t text h = record { written = []; unwritten = text; parts = refl; appends = appends_kept s t h }
-  where
-    appends_kept : (s t : Option (List ℕ)) → Keeps s t → Appends s t []
-    appends_kept None t h = tt
-    appends_kept (Some xs) None h = absurd h
-    appends_kept (Some xs) (Some ys) h = h ∙ sym (append-nil xs)
 
 -- from `start` to `now` the text `whole` is written except for `rest`
 pub record Owes (start now : Option (List ℕ)) (rest whole : List ℕ) : Type 0 where
