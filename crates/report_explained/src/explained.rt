@@ -3,7 +3,7 @@ ghost use Rattle.std.specs.Prelude.{◌≡◌, [], false, OnOk, codes};
 ghost use Rattle.term_core.specs.Stream.{Writes};
 ghost use Rattle.tree_excuses.specs.Excuses.{excuses_in};
 ghost use Rattle.tree_findings.specs.Found.{finding_in};
-ghost use Rattle.world_plans.specs.Deeds.{event_in};
+ghost use Rattle.world_footprints.specs.Deeds.{event_in};
 ghost use Rattle.world_event_text.specs.EventText.{text_of_event};
 ghost use Rattle.world_core.specs.Seen.{program_in};
 ghost use Rattle.world_model.specs.Asking.{program_of};

@@ -18,10 +18,10 @@ use Rattle.tree_coverage.specs.Explored.{same_step}
 use Rattle.tree_coverage.proofs.Lists.{found_by}
 use Rattle.tree_sleep_sets.specs.Search.{is_among}
 use Rattle.world_records.specs.Cells.{cells_in}
-use Rattle.world_plans.specs.Turns.{written_in}
+use Rattle.world_footprints.specs.Footprints.{written_in}
 use Rattle.search_agenda.specs.Plans.{ArePlans, IsAgenda, IsPlan, Shared, enabled_in, steps_in}
 use Rattle.search_agenda.specs.declared.agenda.Agenda.{Agenda}
-use Rattle.world_plans.specs.declared.plan.Plan.{Plan}
+use Rattle.world_footprints.specs.declared.plan.Plan.{Plan}
 use Rattle.search_agenda.proofs.Putting.{all_append, all_held, held_at}
 use Rattle.search_agenda.proofs.Settling.{enabled_here, footprint_here, plan_stays, writes_are}
 

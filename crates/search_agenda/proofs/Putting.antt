@@ -23,12 +23,13 @@ use Rattle.world_steps.proofs.Names.{names_mean}
 use Rattle.world_steps.specs.inside.Enabling.{turns_of, deliveries_of, is_enabled_at}
 use Rattle.world_records.specs.Records.{Agrees}
 use Rattle.world_records.specs.declared.records.Records.{Records}
-use Rattle.world_plans.specs.Plans.{NamesMeanTables, actor_of}
-use Rattle.world_plans.specs.Turns as turns
-use Rattle.world_plans.specs.declared.plan.Plan.{Plan}
+use Rattle.world_planned.specs.Replies.{NamesMeanTables}
+use Rattle.world_footprints.specs.Plans.{actor_of}
+use Rattle.world_footprints.specs.Footprints as footprints
+use Rattle.world_footprints.specs.declared.plan.Plan.{Plan}
 use Rattle.world_plans.proofs.Apart.{dead_off}
 use Rattle.world_records.specs.Cells.{cells_in}
-use Rattle.world_plans.specs.Turns.{written_in}
+use Rattle.world_footprints.specs.Footprints.{written_in}
 use Rattle.world_model.specs.Independence.{some_meet}
 use Rattle.search_agenda.specs.Plans.{ArePlans, IsPlan, IsWorld, Shared, enabled_in}
 use Rattle.search_agenda.specs.declared.above.Above.{Above}
@@ -110,7 +111,7 @@ met_at above place s within same met =
     record { plan = here.0; held = held_at above.plans.now place here.0 within here.1; same = same here.0 here.1; met = met here.0 here.1 }
 
 -- one that is made
-pub puts_new : (records : Records) (above : Option Above) (s : Step) (made : Plan) (p : Shared) (old new : List Shared) → made.step ≡ s → ((m : ModuleTree) (v : Contents) → Agrees m records v → NamesMeanTables v → turns.IsPlan (program_of m) v made) → p.value ≡ made → new ≡ old ++ p ∷ [] → PutsPlans records above (s ∷ []) old new
+pub puts_new : (records : Records) (above : Option Above) (s : Step) (made : Plan) (p : Shared) (old new : List Shared) → made.step ≡ s → ((m : ModuleTree) (v : Contents) → Agrees m records v → NamesMeanTables v → footprints.IsPlan (program_of m) v made) → p.value ≡ made → new ≡ old ++ p ∷ [] → PutsPlans records above (s ∷ []) old new
 puts_new records above s made p old new is holds same now = λ m h world takes all.
     let plan : IsPlan (program_of m) h made = holds m (contents h) world.agrees (names_mean (program_of m) h world.is_run) in
     has_one (program_of m) h s p old new now (subst (IsPlan (program_of m) h) (sym same) plan) (ap (λ (q : Plan). q.step) same ∙ is) all

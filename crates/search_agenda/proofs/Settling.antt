@@ -16,9 +16,9 @@ use Rattle.world_model.proofs.Outcomes.{Outcome, meets, outcome, touches, with_c
 use Rattle.world_model.proofs.StepFrames.{frames}
 use Rattle.world_records.specs.Cells.{cells_in}
 use Rattle.world_plans.specs.Independence.{are_independent, footprint, is_enabled, written_of}
-use Rattle.world_plans.specs.Plans.{first_changes, other_changes, others_if}
-use Rattle.world_plans.specs.Turns.{footprint_in, written_in}
-use Rattle.world_plans.specs.declared.plan.Plan.{Plan}
+use Rattle.world_footprints.specs.Plans.{first_changes, other_changes, others_if}
+use Rattle.world_footprints.specs.Footprints.{footprint_in, written_in}
+use Rattle.world_footprints.specs.declared.plan.Plan.{Plan}
 use Rattle.world_plans.proofs.Apart.{enabled_is, footprint_is}
 use Rattle.world_plans.proofs.Turning.{in_order}
 use Rattle.search_agenda.specs.Plans.{ArePlans, IsPlan, PlansSettle, Shared, TakesOver}

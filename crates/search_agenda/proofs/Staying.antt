@@ -10,7 +10,7 @@ use Rattle.world_model.specs.Independence.{are_independent, footprint, some_meet
 use Rattle.world_model.specs.Requests.{Program}
 use Rattle.world_model.specs.Run.{is_enabled, next_event}
 use Rattle.search_agenda.specs.Plans.{ArePlans, IsPlan, Shared, steps_in}
-use Rattle.world_plans.specs.declared.plan.Plan.{Plan}
+use Rattle.world_footprints.specs.declared.plan.Plan.{Plan}
 use Rattle.search_agenda.proofs.Putting.{all_append, all_held, held_at}
 use Rattle.search_agenda.proofs.Settling.{plan_stays}
 

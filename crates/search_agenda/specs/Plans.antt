@@ -17,8 +17,8 @@ use Rattle.world_model.specs.World.{contents}
 use Rattle.world_records.specs.Cells.{cells_in}
 use Rattle.world_records.specs.Records.{Agrees}
 use Rattle.world_records.specs.declared.records.Records.{Records}
-use Rattle.world_plans.specs.Turns as turns
-use Rattle.world_plans.specs.declared.plan.Plan.{Plan}
+use Rattle.world_footprints.specs.Footprints as footprints
+use Rattle.world_footprints.specs.declared.plan.Plan.{Plan}
 use Rattle.search_agenda.specs.declared.agenda.Agenda.{Agenda}
 
 -- the records are what a history leaves, and the history is a run
@@ -28,7 +28,7 @@ pub record IsWorld (m : ModuleTree) (h : History) (records : Records) : Type 0 w
 
 -- a plan holds of a history where it is that of its step at the contents which the history leaves
 abbrev pub IsPlan : Program → History → Plan → Type 0
-IsPlan a h p = turns.IsPlan a (contents h) p
+IsPlan a h p = footprints.IsPlan a (contents h) p
 
 -- plans that are shared, and the steps of those that are enabled
 abbrev pub Shared : Type 0

@@ -2,7 +2,7 @@
 ghost use Rattle.std.specs.Prelude.{◌≡◌, ◌⊎◌, ◌<◌, true, false, get_or, length, None, IfSome};
 ghost use Rattle.search_agenda.specs.Plans.{Shared};
 ghost use Rattle.search_agenda.specs.inside.Planning.{IsHeldIn, IsMetIn, IsPassed, step_in};
-ghost use Rattle.world_plans.specs.Turns.{written_in};
+ghost use Rattle.world_footprints.specs.Footprints.{written_in};
 ghost use Rattle.world_model.specs.Independence.{some_meet};
 ghost use Rattle.world_records.specs.Cells.{cells_in};
 

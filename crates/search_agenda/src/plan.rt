@@ -1,7 +1,7 @@
 // Plans that nodes share.
 ghost use Rattle.std.specs.Prelude.{◌≡◌, ◌&&◌, true, not, IfOk, IsTrue, is_some};
 ghost use Rattle.tree_coverage.specs.Explored.{same_step};
-ghost use Rattle.world_plans.specs.Turns.{written_in};
+ghost use Rattle.world_footprints.specs.Footprints.{written_in};
 ghost use Rattle.world_model.specs.Independence.{some_meet};
 ghost use Rattle.world_records.specs.Cells.{cells_in};
 

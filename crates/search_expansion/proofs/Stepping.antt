@@ -19,11 +19,11 @@ use Rattle.world_model.specs.Cells.{Contents}
 use Rattle.world_records.specs.Records.{Agrees}
 use Rattle.world_records.specs.declared.records.Records.{Records}
 use Rattle.search_agenda.specs.Plans.{IsPlan, IsWorld}
-use Rattle.world_plans.specs.Deeds.{deed_in}
-use Rattle.world_plans.specs.Plans.{IsNewFor, left}
-use Rattle.world_plans.specs.Turns as turns
-use Rattle.world_plans.specs.declared.deed.Deed.{Deed}
-use Rattle.world_plans.specs.declared.plan.Plan.{Plan}
+use Rattle.world_footprints.specs.Deeds.{deed_in}
+use Rattle.world_footprints.specs.Plans.{IsNewFor, left}
+use Rattle.world_footprints.specs.Footprints as footprints
+use Rattle.world_footprints.specs.declared.deed.Deed.{Deed}
+use Rattle.world_footprints.specs.declared.plan.Plan.{Plan}
 use Rattle.world_core.proofs.Worlds.{grown_world, new_for, next_is, not_none, planned_next, planned_none}
 use Rattle.search_expansion.specs.inside.Nodes.{AddsDeadlock}
 use Rattle.search_jobs.proofs.Lists.{none_left}
@@ -31,7 +31,7 @@ use Rattle.search_expansion.proofs.Runs.{some_is}
 
 -- what was done as planned
 abbrev pub IsDoneAs : Records → Plan → Records → Type 0
-IsDoneAs old p new = (m : ModuleTree) (v : Contents) → Agrees m old v → turns.IsPlan (program_of m) v p → IsNewFor v p.step → Agrees m new (left v p.step (option_map deed_in p.deed))
+IsDoneAs old p new = (m : ModuleTree) (v : Contents) → Agrees m old v → footprints.IsPlan (program_of m) v p → IsNewFor v p.step → Agrees m new (left v p.step (option_map deed_in p.deed))
 
 pub done : (m : ModuleTree) (h : History) (e : Event) (p : Plan) (old new : Records) → IsWorld m h old → IsPlan (program_of m) h p → next_event (program_of m) h p.step ≡ Some e → IsDoneAs old p new → IsWorld m (e ∷ h) new
 done m h e p old new world plan next is = go p.deed refl

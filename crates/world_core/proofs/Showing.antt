@@ -21,11 +21,11 @@ use Rattle.world_model.specs.Shown.{deadlock_of, request_in, shown_by, shown_las
 use Rattle.world_model.specs.World.{contents, turns}
 use Rattle.world_records.specs.Records.{Agrees, processes_of}
 use Rattle.world_records.specs.declared.records.Records.{Records}
-use Rattle.world_plans.specs.Deeds.{deed_in, event_in}
-use Rattle.world_plans.specs.Turns.{IsPlan}
-use Rattle.world_plans.specs.declared.deed.Deed.{Deed}
-use Rattle.world_plans.specs.declared.deed.Event.{Event}
-use Rattle.world_plans.specs.declared.plan.Plan.{Plan}
+use Rattle.world_footprints.specs.Deeds.{deed_in, event_in}
+use Rattle.world_footprints.specs.Footprints.{IsPlan}
+use Rattle.world_footprints.specs.declared.deed.Deed.{Deed}
+use Rattle.world_footprints.specs.declared.deed.Event.{Event}
+use Rattle.world_footprints.specs.declared.plan.Plan.{Plan}
 use Rattle.world_core.specs.inside.Showing.{last_shown, next_request, request_by}
 use Rattle.world_model.proofs.Lives.{turns_told}
 use Rattle.world_model.proofs.Meeting.{pid_itself}

@@ -15,11 +15,11 @@ use Rattle.world_model.specs.World.{beginning, contents, turns}
 use Rattle.world_model.proofs.Fresh.{names_new}
 use Rattle.world_records.specs.Records.{Agrees, AreAlike}
 use Rattle.world_records.specs.declared.records.Records.{Records}
-use Rattle.world_plans.specs.Deeds.{deed_in}
-use Rattle.world_plans.specs.Plans.{IsNewFor, actor_of, left}
-use Rattle.world_plans.specs.Turns.{IsPlan}
-use Rattle.world_plans.specs.declared.deed.Deed.{Deed}
-use Rattle.world_plans.specs.declared.plan.Plan.{Plan}
+use Rattle.world_footprints.specs.Deeds.{deed_in}
+use Rattle.world_footprints.specs.Plans.{IsNewFor, actor_of, left}
+use Rattle.world_footprints.specs.Footprints.{IsPlan}
+use Rattle.world_footprints.specs.declared.deed.Deed.{Deed}
+use Rattle.world_footprints.specs.declared.plan.Plan.{Plan}
 use Rattle.world_plans.proofs.Apart.{dead_off}
 use Rattle.world_core.specs.inside.Worlds.{IsWorld}
 

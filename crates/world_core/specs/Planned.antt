@@ -8,8 +8,8 @@ use Rattle.world_model.specs.Shown.{Identity, shown_last}
 use Rattle.world_model.specs.World.{contents}
 use Rattle.world_records.specs.Records.{Agrees}
 use Rattle.world_records.specs.declared.records.Records.{Records}
-use Rattle.world_plans.specs.Turns.{IsPlan}
-use Rattle.world_plans.specs.declared.plan.Plan.{Plan}
+use Rattle.world_footprints.specs.Footprints.{IsPlan}
+use Rattle.world_footprints.specs.declared.plan.Plan.{Plan}
 
 -- the event that the step adds shows these, after each history that the records and the plan are of
 abbrev pub WillShow : Records → Plan → List Identity → Type 0

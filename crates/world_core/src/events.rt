@@ -3,7 +3,7 @@ ghost use Rattle.std.specs.Prelude.{◌≡◌, ◌∷◌, Some, IfOk, option_map
 ghost use Rattle.world_core.specs.Shared.{events_in};
 ghost use Rattle.world_model.specs.Run.{latest};
 ghost use Rattle.world_model.specs.Events.{Event as Happening};
-ghost use Rattle.world_plans.specs.Deeds.{event_in};
+ghost use Rattle.world_footprints.specs.Deeds.{event_in};
 
 use std::alloc::{AllocError, Global};
 use std::marker::Model;
@@ -37,7 +37,7 @@ impl Model for Link {
 
     ghost coded = { coded_history };
 
-    ghost use Rattle.world_plans.specs.Deeds.{event_in};
+    ghost use Rattle.world_footprints.specs.Deeds.{event_in};
     ghost use Rattle.world_core.specs.Shared.{events_in};
 
     ghost view = { λ l. event_in l.event ∷ events_in l.before };

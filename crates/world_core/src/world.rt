@@ -10,8 +10,8 @@ ghost use Rattle.world_model.specs.Shown.{deadlock_of, shown, shown_last};
 ghost use Rattle.world_model.specs.StepLaws.{AreInOrder};
 ghost use Rattle.world_model.specs.World.{alive, contents};
 ghost use Rattle.world_records.specs.Records.{Agrees};
-ghost use Rattle.world_plans.specs.Deeds.{event_in};
-ghost use Rattle.world_plans.specs.Turns.{IsPlan};
+ghost use Rattle.world_footprints.specs.Deeds.{event_in};
+ghost use Rattle.world_footprints.specs.Footprints.{IsPlan};
 ghost use Rattle.world_model.specs.Events.{Event as Happening};
 
 use crate::events::Events;

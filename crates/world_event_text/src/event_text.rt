@@ -5,8 +5,8 @@ ghost use Rattle.term_core.specs.Term.{meaning_of};
 ghost use Rattle.proc_links.specs.Effects.{fate_in};
 ghost use Rattle.proc_signals.specs.Signal.{signal_of};
 ghost use Rattle.world_model.specs.Names.{ref_of};
-ghost use Rattle.world_plans.specs.Replies.{refusal_in};
-ghost use Rattle.world_plans.specs.Deeds.{deed_in, event_in};
+ghost use Rattle.world_planned.specs.Replies.{refusal_in};
+ghost use Rattle.world_footprints.specs.Deeds.{deed_in, event_in};
 ghost use Rattle.world_event_text.specs.EventText.{text_of_end, text_of_answer, text_of_refusal, text_of_refused, text_of_last_call, text_of_received, text_of_fate, text_of_message, text_of_exit, text_of_down, text_of_delivered, text_of_deed, text_of_event};
 
 use crate::call_text::{write_broken_rule, write_call};

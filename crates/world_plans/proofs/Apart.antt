@@ -14,13 +14,13 @@ use Rattle.world_model.specs.Requests.{Program}
 use Rattle.world_model.specs.Signals.{first_of, waiting_in}
 use Rattle.world_model.specs.Steps.{asked, deed_asked, deed_delivered, next_deed}
 use Rattle.world_records.specs.Changes.{all_changes_in}
-use Rattle.world_plans.specs.Deeds.{deed_in}
+use Rattle.world_footprints.specs.Deeds.{deed_in}
 use Rattle.world_plans.specs.Independence.{are_independent, asleep_below, footprint, is_enabled, written_of}
-use Rattle.world_plans.specs.Plans.{actor_of, first_changes, other_changes, others_if, written_by}
-use Rattle.world_plans.specs.Turns.{IsPlan, footprint_in}
-use Rattle.world_plans.specs.declared.deed.Deed as stored
-use Rattle.world_plans.specs.declared.plan.Plan.{Plan}
-use Rattle.world_plans.proofs.Adding.{map_both}
+use Rattle.world_footprints.specs.Plans.{actor_of, first_changes, other_changes, others_if, written_by}
+use Rattle.world_footprints.specs.Footprints.{IsPlan, footprint_in}
+use Rattle.world_footprints.specs.declared.deed.Deed as stored
+use Rattle.world_footprints.specs.declared.plan.Plan.{Plan}
+use Rattle.world_planned.proofs.Adding.{map_both}
 use Rattle.world_plans.proofs.Turning.{in_order}
 
 -- of an option that is known

@@ -30,7 +30,7 @@ use Rattle.world_model.specs.Tables.{Heir, TableOption, is_named, table_of}
 use Rattle.world_model.proofs.MailboxLaws.{selected_there}
 use Rattle.world_model.proofs.Named.{found_there}
 use Rattle.world_records.specs.Changes.{CanApply, CanHold, IsOfKind}
-use Rattle.world_plans.specs.Plans.{StepsCanBeApplied, first_changes}
+use Rattle.world_footprints.specs.Plans.{StepsCanBeApplied, first_changes}
 
 -- ---- changes that need nothing
 

@@ -1,12 +1,5 @@
-pub mod Adding
 pub mod Apart
 pub mod Applied
-pub mod Calling
 pub mod Doing
-pub mod Ending
-pub mod Going
-pub mod Masks
 pub mod Performed
-pub mod Seeing
 pub mod Turning
-pub mod Writing

@@ -12,11 +12,11 @@ use Rattle.world_model.specs.Steps.{changes_by, deed_delivered, next_deed}
 use Rattle.std.proofs.lemmas.List.{take-append-drop}
 use Rattle.world_records.specs.Changes.{CanApply, all_changes_in, changes_in}
 use Rattle.world_records.specs.declared.change.Change as kept
-use Rattle.world_plans.proofs.Adding.{all_both}
-use Rattle.world_plans.proofs.Writing.{all_rest, all_taken}
+use Rattle.world_planned.proofs.Adding.{all_both}
+use Rattle.world_footprints.proofs.Writing.{all_rest, all_taken}
 use Rattle.world_records.specs.Records.{Agrees}
 use Rattle.world_records.specs.declared.records.Records.{Records}
-use Rattle.world_plans.specs.Plans.{IsNewFor, first_changes, first_of_delivery, other_changes, others_if}
+use Rattle.world_footprints.specs.Plans.{IsNewFor, first_changes, first_of_delivery, other_changes, others_if}
 use Rattle.world_plans.proofs.Applied.{applies}
 use Rattle.world_plans.proofs.Turning.{in_order}
 

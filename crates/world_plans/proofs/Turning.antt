@@ -17,18 +17,18 @@ use Rattle.world_model.specs.Names.{Pid}
 use Rattle.world_model.specs.Requests.{Program, Request, Calls, Ends, RunsAway}
 use Rattle.world_model.specs.Steps.{asked, changes_of_fate, deed_asked, deed_delivered, deed_of_call, ended_or, ends_itself, judged, must_wait, reads_if_killed, reads_of_signal, received, runaway}
 use Rattle.world_model.specs.Signals.{fate_of, first_of, goes_with, reads_of_fate, waiting_in}
-use Rattle.world_plans.specs.Deeds.{deed_in}
-use Rattle.world_plans.specs.Planned.{Adds}
-use Rattle.world_plans.specs.Plans.{ChangesAreInOrder, others_if, others_of_turn}
-use Rattle.world_plans.specs.Replies.{IsPlanned, IsReply, changes_of_reply}
-use Rattle.world_plans.specs.Turns.{IsPlannedDelivery, IsPlannedStep, IsPlannedTurn}
+use Rattle.world_footprints.specs.Deeds.{deed_in}
+use Rattle.world_planned.specs.inside.Planned.{Adds}
+use Rattle.world_footprints.specs.Plans.{ChangesAreInOrder, others_if, others_of_turn}
+use Rattle.world_planned.specs.inside.PlannedCalls.{IsPlanned, IsReply, changes_of_reply}
+use Rattle.world_plans.specs.inside.Turns.{IsPlannedDelivery, IsPlannedStep, IsPlannedTurn}
 use Rattle.world_plans.specs.inside.Called.{deed_of_reply}
 use Rattle.world_plans.specs.inside.Delivered.{IsPlannedSignal}
-use Rattle.world_plans.specs.declared.deed.Deed as stored
-use Rattle.world_plans.specs.declared.planned.Planned.{Planned}
-use Rattle.world_plans.specs.declared.reply.Reply.{Reply}
-use Rattle.world_plans.specs.declared.reply.Reply.TheVariants.{Served, Refused, Ends}
-use Rattle.world_plans.proofs.Adding.{adds_as, adds_then}
+use Rattle.world_footprints.specs.declared.deed.Deed as stored
+use Rattle.world_planned.specs.declared.planned.Planned.{Planned}
+use Rattle.world_planned.specs.declared.reply.Reply.{Reply}
+use Rattle.world_planned.specs.declared.reply.Reply.TheVariants.{Served, Refused, Ends}
+use Rattle.world_planned.proofs.Adding.{adds_as, adds_then}
 
 -- ---- the changes of an event: first those of its deed, and then the others
 

@@ -11,7 +11,7 @@ use Rattle.world_model.specs.Requests.{Program}
 use Rattle.world_model.specs.Run.{IsRun}
 use Rattle.world_model.specs.Steps.{changes_by, next_deed, reads}
 use Rattle.world_model.specs.World.{contents}
-use Rattle.world_plans.specs.Plans.{NamesMeanTables}
+use Rattle.world_planned.specs.Replies.{NamesMeanTables}
 
 -- the cells of the changes of what a step does; none where it does nothing
 abbrev pub written_of : Contents → Step → Option Deed → List Cell

@@ -4,8 +4,8 @@ ghost use Rattle.std.specs.List.{list_any};
 ghost use Rattle.proc_links.specs.Effects.{fate_in};
 ghost use Rattle.proc_links.specs.Links.{AreLinks};
 ghost use Rattle.proc_signals.specs.Signal.{signal_of};
-ghost use Rattle.world_plans.specs.Planned.{Adds};
-ghost use Rattle.world_plans.specs.Turns.{PlansDelivery};
+ghost use Rattle.world_planned.specs.inside.Planned.{Adds};
+ghost use Rattle.world_plans.specs.inside.Turns.{PlansDelivery};
 ghost use Rattle.world_plans.specs.inside.Delivered.{PlansFate, PlansKilled, PlansSignal, PlansUnlinked, PlansUnwatched};
 ghost use Rattle.world_model.specs.Cells as cells;
 ghost use Rattle.world_model.specs.Cells.{Contents};
@@ -15,14 +15,14 @@ ghost use Rattle.world_model.specs.Names.{same_pid, ref_of};
 ghost use Rattle.world_model.specs.Signals.{fate_of, goes_with, reads_of_fate, trap_if};
 ghost use Rattle.world_records.specs.Records.{OfWorld};
 
-use crate::deed::Deed;
-use crate::ends::leave;
-use crate::planned::Planned;
-use crate::readings::{front, has_partner};
 use proc_links::{Effect, Links, on_signal};
 use proc_signals::Signal;
 use std::alloc::{AllocError, Global};
 use term_core::{Pid, RefId, Term};
+use world_footprints::deed::Deed;
+use world_planned::ends::leave;
+use world_planned::planned::Planned;
+use world_planned::readings::{front, has_partner};
 use world_records::{Change, ChannelPart, ProcessPart, Records, ReferencePart};
 
 // What becomes of a signal.

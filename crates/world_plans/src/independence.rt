@@ -3,19 +3,19 @@
 ghost use Rattle.std.specs.Prelude.{◌≡◌, ◌&&◌, IfOk, is_some};
 ghost use Rattle.std.specs.List.{filter};
 ghost use Rattle.world_plans.specs.Independence.{are_independent, asleep_below};
-ghost use Rattle.world_plans.specs.Plans.{NamesMeanTables};
-ghost use Rattle.world_plans.specs.Turns.{IsPlan, footprint_in};
+ghost use Rattle.world_planned.specs.Replies.{NamesMeanTables};
+ghost use Rattle.world_footprints.specs.Footprints.{IsPlan, footprint_in};
 ghost use Rattle.world_model.specs.Asking.{program_of};
 ghost use Rattle.world_model.specs.Cells.{Contents};
 ghost use Rattle.world_model.specs.Independence.{are_apart};
 ghost use Rattle.world_model.specs.Requests.{Program};
 ghost use Rattle.world_records.specs.Records.{OfWorld};
 
-use crate::comparing::{both_write, meets};
-use crate::plan::Plan;
 use crate::step::plan_step;
 use std::alloc::{AllocError, Global};
 use term_core::Step;
+use world_footprints::comparing::{both_write, meets};
+use world_footprints::plan::Plan;
 use world_records::Records;
 
 // Whether two steps are enabled where their plans were made.

@@ -1,7 +1,7 @@
 // Laws of plans: what an event changes is what its deed says itself, and then the changes that a plan has; and footprints
 // and independence at contents are those of histories, where a history leaves the contents.
 ghost use Rattle.world_plans.specs.Independence.{FootprintIsOfHistory, IndependenceIsOfHistory, RunsNameTables, SleepIsOfHistory};
-ghost use Rattle.world_plans.specs.Plans.{ChangesAreInOrder, StepsCanBeApplied};
+ghost use Rattle.world_footprints.specs.Plans.{ChangesAreInOrder, StepsCanBeApplied};
 
 /// Of each step and each deed: first its turn counts, or its signal leaves the channel, and then come the others.
 #[tactic(auto, using(crate::proofs::Turning::in_order))]

@@ -1,9 +1,9 @@
 // A step is done as it was planned.
 ghost use Rattle.std.specs.Prelude.{◌≡◌, Some, IfOk, OnOk, option_map};
-ghost use Rattle.world_plans.specs.Deeds.{deed_in};
-ghost use Rattle.world_plans.specs.Plans.{IsNewFor, first_changes, first_of_turn, left};
-ghost use Rattle.world_plans.specs.Replies.{refusal_in};
-ghost use Rattle.world_plans.specs.Turns.{IsPlan};
+ghost use Rattle.world_footprints.specs.Deeds.{deed_in};
+ghost use Rattle.world_footprints.specs.Plans.{IsNewFor, first_changes, first_of_turn, left};
+ghost use Rattle.world_planned.specs.Replies.{refusal_in};
+ghost use Rattle.world_footprints.specs.Footprints.{IsPlan};
 ghost use Rattle.term_core.specs.Term.{meaning_of};
 ghost use Rattle.world_model.specs.Asking.{program_of};
 ghost use Rattle.world_model.specs.Changes.{after};
@@ -12,12 +12,12 @@ ghost use Rattle.world_model.specs.Terms.{atom};
 ghost use Rattle.world_records.specs.Changes.{CanApply, all_changes_in};
 ghost use Rattle.world_records.specs.Records.{Agrees, Follows, OfWorld};
 
-use crate::deed::Deed;
-use crate::plan::Plan;
-use crate::reply::Refusal;
 use core_eval::Answer;
 use std::alloc::{AllocError, Global};
 use term_core::{Pid, Step, Term, Word};
+use world_footprints::deed::Deed;
+use world_footprints::plan::Plan;
+use world_planned::reply::Refusal;
 use world_records::{Change, Records};
 
 // The reason of the error that a refused call raises (erlang manual).

@@ -1,20 +1,22 @@
 // The plan of a step.
 ghost use Rattle.std.specs.Prelude.{◌≡◌, false, true, IfNone, IfOk, IfSome};
-ghost use Rattle.world_plans.specs.Plans.{NamesMeanTables, actor_of};
-ghost use Rattle.world_plans.specs.Turns.{IsPlan, IsPlannedStep};
+ghost use Rattle.world_planned.specs.Replies.{NamesMeanTables};
+ghost use Rattle.world_footprints.specs.Plans.{actor_of};
+ghost use Rattle.world_footprints.specs.Footprints.{IsPlan};
+ghost use Rattle.world_plans.specs.inside.Turns.{IsPlannedStep};
 ghost use Rattle.term_core.specs.declared.step.Step.TheVariants.{Deliver, Turn};
 ghost use Rattle.world_model.specs.Asking.{program_of};
 ghost use Rattle.world_model.specs.Cells as cells;
 ghost use Rattle.world_records.specs.Records.{OfWorld};
 
-use crate::deed::Deed;
 use crate::delivery::plan_delivery;
-use crate::plan::Plan;
-use crate::planned::Planned;
-use crate::readings::lives;
 use crate::turn::plan_turn;
 use std::alloc::{AllocError, Global};
 use term_core::{Pid, Step};
+use world_footprints::deed::Deed;
+use world_footprints::plan::Plan;
+use world_planned::planned::Planned;
+use world_planned::readings::lives;
 use world_records::{ChannelPart, ProcessPart, Records};
 
 // The turn of a process that lives.

@@ -4,26 +4,20 @@ ghost use Rattle.std.specs.Prelude.{◌≡◌, true, IfOk, OnOk, option_map, sli
 ghost use Rattle.core_eval.specs.Requests.{told_by};
 ghost use Rattle.proc_mailboxes.specs.Mailboxes.{messages_in};
 ghost use Rattle.proc_machines.specs.Processes.{request_with, selects_in};
-ghost use Rattle.world_plans.specs.Deeds.{deed_in};
-ghost use Rattle.world_plans.specs.Planned.{Adds};
-ghost use Rattle.world_plans.specs.Replies.{Plans};
+ghost use Rattle.world_footprints.specs.Deeds.{deed_in};
+ghost use Rattle.world_planned.specs.inside.Planned.{Adds};
+ghost use Rattle.world_planned.specs.inside.PlannedCalls.{Plans};
 ghost use Rattle.world_plans.specs.inside.Called.{deed_of_reply};
-ghost use Rattle.world_plans.specs.Turns.{PlansAsked, PlansTurn};
+ghost use Rattle.world_plans.specs.inside.Turns.{PlansAsked, PlansTurn};
 ghost use Rattle.term_core.specs.Term.{meaning_of};
 ghost use Rattle.world_model.specs.Calls.{call_of};
 ghost use Rattle.world_model.specs.Cells as cells;
 ghost use Rattle.world_model.specs.Ends.{reads_of_end};
 ghost use Rattle.world_model.specs.Requests as requests;
 ghost use Rattle.world_records.specs.Records.{OfWorld, mailboxes_of, processes_of, selected_in};
-ghost use Rattle.world_plans.specs.inside.Messages.{PlansPicked};
-ghost use Rattle.world_plans.specs.inside.Seen.{left_at_end};
+ghost use Rattle.world_planned.specs.inside.Messages.{PlansPicked};
+ghost use Rattle.world_planned.specs.inside.Seen.{left_at_end};
 
-use crate::deed::Deed;
-use crate::ends::leave;
-use crate::on_tables::plan_table_call;
-use crate::planned::Planned;
-use crate::processes::plan_process_call;
-use crate::reply::{Refusal, Reply};
 use crate::waiting::must_wait;
 use core_eval::Request;
 use core_tree::CallKind;
@@ -31,7 +25,13 @@ use proc_calls::ProcessRequest;
 use std::alloc::{AllocError, Global};
 use std::sync::Arc;
 use term_core::{Pid, Term, Terms};
+use world_footprints::deed::Deed;
+use world_planned::ends::leave;
+use world_planned::planned::Planned;
+use world_planned::reply::{Refusal, Reply};
+use world_process_calls::processes::plan_process_call;
 use world_records::{Change, ProcessPart, Records};
+use world_table_calls::on_tables::plan_table_call;
 
 // A call: what it results in. A call with another number of arguments than it has, which no module that is read makes,
 // is refused.

@@ -6,7 +6,7 @@ use Rattle.world_model.specs.Requests.{Program}
 use Rattle.world_model.specs.Run.{IsRun}
 use Rattle.world_model.specs.World.{contents}
 use Rattle.world_model.proofs.Named.{names_mean_theirs}
-use Rattle.world_plans.specs.Plans.{NamesMeanTables}
+use Rattle.world_planned.specs.Replies.{NamesMeanTables}
 
 -- each name that means a table means one that is there
 pub names_mean : (a : Program) (h : History) → IsRun a h → NamesMeanTables (contents h)

@@ -14,7 +14,7 @@ use Rattle.world_model.specs.Requests.{Program}
 use Rattle.world_model.specs.Run.{is_enabled}
 use Rattle.world_records.specs.declared.records.Records.{Records}
 use Rattle.world_records.specs.Cells.{cells_in}
-use Rattle.world_plans.specs.Turns.{written_in}
+use Rattle.world_footprints.specs.Footprints.{written_in}
 use Rattle.search_agenda.specs.Plans.{ArePlans, IsWorld, Shared, TakesOver, enabled_in}
 use Rattle.search_agenda.specs.declared.above.Above.{Above}
 use Rattle.search_agenda.specs.declared.lent.LentStep.{LentStep}

@@ -5,7 +5,7 @@ use Rattle.world_identities.specs.Identities.{identity_in}
 use Rattle.world_identities.specs.declared.identity.Identity.{Identity}
 use Rattle.search_agenda.specs.Plans.{ArePlans, IsAgenda, IsPlan, IsWorld, Shared}
 use Rattle.search_agenda.specs.declared.agenda.Agenda.{Agenda}
-use Rattle.world_plans.specs.declared.plan.Plan.{Plan}
+use Rattle.world_footprints.specs.declared.plan.Plan.{Plan}
 use Rattle.world_model.specs.Asking.{program_of}
 use Rattle.world_model.specs.Events.{Event, History}
 use Rattle.world_model.specs.Requests.{Program}

@@ -14,8 +14,8 @@ use Rattle.world_model.specs.Shown.{deadlock_of, shown_by, shown_last}
 use Rattle.world_model.specs.World.{contents}
 use Rattle.world_records.specs.Records.{Agrees}
 use Rattle.world_records.specs.declared.records.Records.{Records}
-use Rattle.world_plans.specs.Deeds.{deed_in}
-use Rattle.world_plans.specs.declared.deed.Event.{Event}
+use Rattle.world_footprints.specs.Deeds.{deed_in}
+use Rattle.world_footprints.specs.declared.deed.Event.{Event}
 
 -- an identity, if there is one
 abbrev pub told_by : Option Identity → List shown.Identity

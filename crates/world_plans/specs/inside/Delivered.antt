@@ -14,11 +14,11 @@ use Rattle.world_model.specs.Signals.{fate_of, goes_with, pair_goes, trap_if}
 use Rattle.world_model.specs.Steps.{changes_of_fate, reads_if_killed, reads_of_signal}
 use Rattle.world_records.specs.Records.{Agrees}
 use Rattle.world_records.specs.declared.records.Records.{Records}
-use Rattle.world_plans.specs.Deeds.{deed_in}
-use Rattle.world_plans.specs.Planned.{Adds}
-use Rattle.world_plans.specs.Plans.{other_changes}
-use Rattle.world_plans.specs.declared.deed.Deed.{Deed}
-use Rattle.world_plans.specs.declared.planned.Planned.{Planned}
+use Rattle.world_footprints.specs.Deeds.{deed_in}
+use Rattle.world_planned.specs.inside.Planned.{Adds}
+use Rattle.world_footprints.specs.Plans.{other_changes}
+use Rattle.world_footprints.specs.declared.deed.Deed.{Deed}
+use Rattle.world_planned.specs.declared.planned.Planned.{Planned}
 
 pub record IsPlannedSignal (v : Contents) (s r : Pid) (signal : Signal) (deed : Deed) (old new : Planned) : Type 0 where
   pub is_delivered : deed_in deed ≡ Delivered signal (fate_of v s r signal)

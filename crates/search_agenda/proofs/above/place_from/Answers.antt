@@ -3,7 +3,7 @@ use Rattle.term_core.specs.StepOrder.{order_of_steps}
 use Rattle.term_core.specs.inside.StepOrderLaws.{same_step}
 use Rattle.search_agenda.specs.Plans.{Shared}
 use Rattle.search_agenda.specs.inside.Planning.{step_in}
-use Rattle.world_plans.specs.declared.plan.Plan.{Plan}
+use Rattle.world_footprints.specs.declared.plan.Plan.{Plan}
 use Rattle.search_agenda.proofs.Putting.{at_same}
 use Rattle.search_agenda.proofs.above.place_from.Goals as goal
 

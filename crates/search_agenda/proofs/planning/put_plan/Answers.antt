@@ -1,8 +1,8 @@
 use Rattle.std.proofs.Common.{◌≡◌, ◌∙◌, ◌∷◌, [], subst, sym}
 use Rattle.std.specs.Prelude.{IfSome}
 use Rattle.core_tree.specs.Syntax.{ModuleTree}
-use Rattle.world_plans.specs.Plans.{NamesMeanTables}
-use Rattle.world_plans.specs.Turns.{IsPlan}
+use Rattle.world_planned.specs.Replies.{NamesMeanTables}
+use Rattle.world_footprints.specs.Footprints.{IsPlan}
 use Rattle.world_model.specs.Asking.{program_of}
 use Rattle.world_model.specs.Cells.{Contents}
 use Rattle.world_records.specs.Records.{Agrees}

@@ -4,7 +4,7 @@ use Rattle.world_model.specs.Events.{History}
 use Rattle.world_model.specs.Independence.{are_independent}
 use Rattle.world_model.specs.Requests.{Program}
 use Rattle.search_agenda.specs.Plans.{ArePlans, IsPlan, Shared, steps_in}
-use Rattle.world_plans.specs.declared.plan.Plan.{Plan}
+use Rattle.world_footprints.specs.declared.plan.Plan.{Plan}
 use Rattle.world_model.specs.World.{contents}
 use Rattle.search_agenda.proofs.Settling.{independent_as}
 use Rattle.search_agenda.proofs.Staying.{one_more, one_plan_more, plan_among, stays_asleep}

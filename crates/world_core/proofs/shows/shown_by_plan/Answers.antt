@@ -1,7 +1,7 @@
 use Rattle.std.proofs.Common.{◌≡◌, ◌++◌, ◌∙◌, map, ap}
 use Rattle.world_model.specs.Asking.{program_of}
 use Rattle.world_identities.specs.Identities.{identity_in}
-use Rattle.world_plans.specs.Deeds.{deed_in}
+use Rattle.world_footprints.specs.Deeds.{deed_in}
 use Rattle.world_core.specs.inside.Showing.{told_by}
 use Rattle.world_core.proofs.Showing.{plan_shows, plan_shows_none}
 use Rattle.world_core.proofs.Worlds.{next_is, not_none, planned_next}

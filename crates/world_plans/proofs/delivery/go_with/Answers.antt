@@ -6,7 +6,7 @@ use Rattle.proc_signals.specs.declared.signal.Signal.{Signal}
 use Rattle.world_model.specs.Cells.{Contents}
 use Rattle.world_model.specs.Signals.{goes_with, reads_of_fate}
 use Rattle.world_records.specs.Records.{Agrees}
-use Rattle.world_plans.specs.Planned.{Adds}
+use Rattle.world_planned.specs.inside.Planned.{Adds}
 use Rattle.world_plans.proofs.delivery.go_with.Goals as goal
 
 pub returns-in-LinkExit : goal.returns-in-LinkExit

@@ -3,8 +3,8 @@ use Rattle.proc_links.specs.Links.{AreLinks}
 use Rattle.proc_signals.specs.Signal.{signal_of}
 use Rattle.world_model.specs.Changes.{AliveCleared, MachineHalted, after}
 use Rattle.world_model.specs.Signals.{goes_with}
-use Rattle.world_plans.proofs.Adding.{adds_as, adds_then}
-use Rattle.world_plans.proofs.Seeing.{sees_killed}
+use Rattle.world_planned.proofs.Adding.{adds_as, adds_then}
+use Rattle.world_planned.proofs.Seeing.{sees_killed}
 use Rattle.world_plans.proofs.delivery.kill.Goals as goal
 
 pub returns : goal.returns

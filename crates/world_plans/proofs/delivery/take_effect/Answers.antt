@@ -4,7 +4,7 @@ use Rattle.proc_signals.specs.Signal.{signal_of}
 use Rattle.world_model.specs.Changes.{after}
 use Rattle.world_model.specs.Signals.{goes_with}
 use Rattle.world_model.specs.Steps.{changes_of_fate, reads_if_killed}
-use Rattle.world_plans.specs.Planned.{Adds}
+use Rattle.world_planned.specs.inside.Planned.{Adds}
 use Rattle.world_plans.proofs.Turning.{on_ok}
 use Rattle.world_plans.proofs.delivery.take_effect.Goals as goal
 

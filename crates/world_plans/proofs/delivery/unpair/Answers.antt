@@ -3,7 +3,7 @@ use Rattle.std.specs.List.{list_any}
 use Rattle.world_model.specs.Cells as cells
 use Rattle.world_model.specs.Names.{same_pid}
 use Rattle.world_model.specs.Signals.{pair_goes, trap_if}
-use Rattle.world_plans.proofs.Adding.{adds_as, adds_then, end_nil}
+use Rattle.world_planned.proofs.Adding.{adds_as, adds_then, end_nil}
 use Rattle.world_plans.proofs.delivery.unpair.Goals as goal
 
 pub returns : goal.returns

@@ -4,7 +4,7 @@ use Rattle.std.proofs.lemmas.List.{take_all}
 use Rattle.term_core.specs.declared.step.Step.{Step}
 use Rattle.world_model.specs.Asking.{program_of}
 use Rattle.world_plans.specs.Independence.{are_independent}
-use Rattle.world_plans.proofs.Adding.{end_nil}
+use Rattle.world_planned.proofs.Adding.{end_nil}
 use Rattle.world_plans.proofs.Apart.{keeps}
 use Rattle.world_plans.proofs.independence.independent_of.Goals as goal
 use Rattle.world_plans.proofs.independence.independent_of.Goals.{then-branch+in_ok-copy+in_ok-push, else-branch}

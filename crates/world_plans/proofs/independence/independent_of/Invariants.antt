@@ -5,8 +5,8 @@ use Rattle.world_model.specs.Asking.{program_of}
 use Rattle.world_model.specs.Cells.{Contents}
 use Rattle.world_records.specs.Records.{Agrees}
 use Rattle.world_plans.specs.Independence.{are_independent}
-use Rattle.world_plans.specs.Plans.{NamesMeanTables}
-use Rattle.world_plans.specs.Turns.{IsPlan}
+use Rattle.world_planned.specs.Replies.{NamesMeanTables}
+use Rattle.world_footprints.specs.Footprints.{IsPlan}
 use Rattle.world_plans.proofs.independence.independent_of.Given as goal
 
 -- of those before this one

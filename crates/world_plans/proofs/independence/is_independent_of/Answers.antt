@@ -1,7 +1,7 @@
 use Rattle.std.proofs.Common.{◌≡◌, false, subst}
 use Rattle.world_model.specs.Asking.{program_of}
 use Rattle.world_model.specs.Cells as cells
-use Rattle.world_plans.specs.Plans.{actor_of}
+use Rattle.world_footprints.specs.Plans.{actor_of}
 use Rattle.world_plans.proofs.Apart.{dead_apart, none_now}
 use Rattle.world_plans.proofs.independence.is_independent_of.Goals as goal
 

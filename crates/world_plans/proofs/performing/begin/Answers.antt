@@ -5,8 +5,8 @@ use Rattle.world_model.specs.Asking.{program_of}
 use Rattle.world_model.specs.Changes.{after}
 use Rattle.world_model.specs.Steps.{next_deed}
 use Rattle.world_records.specs.Records.{Agrees}
-use Rattle.world_plans.specs.Deeds.{deed_in}
-use Rattle.world_plans.specs.Plans.{first_changes}
+use Rattle.world_footprints.specs.Deeds.{deed_in}
+use Rattle.world_footprints.specs.Plans.{first_changes}
 use Rattle.world_plans.proofs.Performed.{fetches, is_there}
 use Rattle.world_plans.proofs.Turning.{on_ok}
 use Rattle.world_plans.proofs.performing.begin.Goals as goal

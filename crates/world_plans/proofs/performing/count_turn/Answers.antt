@@ -3,9 +3,9 @@ use Rattle.std.specs.Prelude.{OnOk}
 use Rattle.core_semantics.specs.Asked as answered
 use Rattle.world_model.specs.Changes.{TurnTaken, after}
 use Rattle.world_records.specs.Records.{Agrees, Follows}
-use Rattle.world_plans.specs.Deeds.{deed_in}
-use Rattle.world_plans.specs.Plans.{first_of_turn}
-use Rattle.world_plans.specs.declared.deed.Deed.{Deed}
+use Rattle.world_footprints.specs.Deeds.{deed_in}
+use Rattle.world_footprints.specs.Plans.{first_of_turn}
+use Rattle.world_footprints.specs.declared.deed.Deed.{Deed}
 use Rattle.world_plans.proofs.Turning.{on_ok}
 use Rattle.world_plans.proofs.performing.count_turn.Goals as goal
 

@@ -3,8 +3,8 @@ use Rattle.world_model.specs.Asking.{program_of}
 use Rattle.world_model.specs.Steps.{next_deed}
 use Rattle.world_records.specs.Changes.{all_changes_in}
 use Rattle.world_records.specs.Records.{Agrees}
-use Rattle.world_plans.specs.Deeds.{deed_in}
-use Rattle.world_plans.specs.Plans.{left}
+use Rattle.world_footprints.specs.Deeds.{deed_in}
+use Rattle.world_footprints.specs.Plans.{left}
 use Rattle.world_plans.proofs.Performed.{can_perform, performed}
 use Rattle.world_plans.proofs.Turning.{on_ok}
 use Rattle.world_plans.proofs.performing.perform.Goals as goal

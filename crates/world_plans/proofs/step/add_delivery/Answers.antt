@@ -1,4 +1,4 @@
-use Rattle.world_plans.proofs.Adding.{adds_then}
+use Rattle.world_planned.proofs.Adding.{adds_then}
 use Rattle.world_plans.proofs.Turning.{delivery_steps, if_ok}
 use Rattle.world_plans.proofs.step.add_delivery.Goals as goal
 

@@ -2,8 +2,8 @@ use Rattle.std.proofs.Common.{◌≡◌, true, sym, subst}
 use Rattle.world_model.specs.Asking.{program_of}
 use Rattle.world_model.specs.Cells as cells
 use Rattle.world_model.specs.Cells.{Contents}
-use Rattle.world_plans.specs.Plans.{actor_of}
-use Rattle.world_plans.specs.Turns.{IsPlannedStep}
+use Rattle.world_footprints.specs.Plans.{actor_of}
+use Rattle.world_plans.specs.inside.Turns.{IsPlannedStep}
 use Rattle.world_plans.proofs.Turning.{if_ok}
 use Rattle.world_plans.proofs.step.add_step.Goals as goal
 

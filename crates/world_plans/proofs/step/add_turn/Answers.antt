@@ -1,4 +1,4 @@
-use Rattle.world_plans.proofs.Adding.{adds_then}
+use Rattle.world_planned.proofs.Adding.{adds_then}
 use Rattle.world_plans.proofs.Turning.{if_ok, turn_steps}
 use Rattle.world_plans.proofs.step.add_turn.Goals as goal
 

@@ -1,7 +1,7 @@
 use Rattle.std.proofs.Common.{◌∙◌, sym, ap, subst}
 use Rattle.world_model.specs.Calls.{call_of}
 use Rattle.world_model.specs.Steps.{must_wait}
-use Rattle.world_plans.specs.Replies.{IsPlanned}
+use Rattle.world_planned.specs.inside.PlannedCalls.{IsPlanned}
 use Rattle.world_plans.specs.inside.Called.{deed_of_reply}
 use Rattle.world_plans.proofs.Turning.{call_goes, call_waits}
 use Rattle.world_plans.proofs.turn.call.Goals as goal

@@ -5,8 +5,8 @@ use Rattle.core_eval.specs.declared.request.Request.{Request}
 use Rattle.proc_machines.specs.Processes.{request_with, selects_in}
 use Rattle.world_model.specs.Events.{Ended}
 use Rattle.world_records.specs.Records.{processes_of}
-use Rattle.world_plans.specs.Turns.{IsPlannedTurn, PlansTurn}
-use Rattle.world_plans.specs.declared.deed.Deed.TheVariants as stored
+use Rattle.world_plans.specs.inside.Turns.{IsPlannedTurn, PlansTurn}
+use Rattle.world_footprints.specs.declared.deed.Deed.TheVariants as stored
 use Rattle.world_plans.proofs.Turning.{end_plans, runaway_plans}
 use Rattle.world_plans.proofs.turn.plan_request.Goals as goal
 

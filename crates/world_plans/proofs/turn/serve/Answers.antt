@@ -2,7 +2,7 @@ use Rattle.std.proofs.Common.{sym, subst}
 use Rattle.std.specs.Prelude.{IfOk}
 use Rattle.proc_calls.specs.Requests.{IsReadAs}
 use Rattle.world_model.specs.Calls.{call_of}
-use Rattle.world_plans.specs.Replies.{Plans}
+use Rattle.world_planned.specs.inside.PlannedCalls.{Plans}
 use Rattle.world_plans.proofs.Turning.{if_ok}
 use Rattle.world_plans.proofs.turn.serve.Goals as goal
 

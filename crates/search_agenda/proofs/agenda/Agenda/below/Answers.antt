@@ -1,6 +1,6 @@
 use Rattle.std.proofs.Common.{◌∷◌, sym, subst}
-use Rattle.world_plans.proofs.Calling.{if_ok}
-use Rattle.world_plans.specs.Turns.{written_in}
+use Rattle.world_planned.proofs.Calling.{if_ok}
+use Rattle.world_footprints.specs.Footprints.{written_in}
 use Rattle.world_model.specs.Asking.{program_of}
 use Rattle.search_agenda.specs.Plans.{ArePlans}
 use Rattle.search_agenda.proofs.Settling.{taken_over, writes_are}

@@ -3,7 +3,7 @@ use Rattle.std.proofs.lemmas.List.{drop_all, drop_more}
 use Rattle.tree_coverage.specs.Explored.{same_step}
 use Rattle.tree_sleep_sets.specs.Search.{is_among}
 use Rattle.search_agenda.specs.Plans.{Shared, enabled_in}
-use Rattle.world_plans.specs.declared.plan.Plan.{Plan}
+use Rattle.world_footprints.specs.declared.plan.Plan.{Plan}
 use Rattle.search_agenda.proofs.Looking.{is_of, not_enabled, skipped}
 use Rattle.search_agenda.proofs.agenda.Agenda.enabled_plan.Goals as goal
 

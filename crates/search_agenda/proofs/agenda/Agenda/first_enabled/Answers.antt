@@ -1,5 +1,5 @@
 use Rattle.std.proofs.Common.{◌∙◌, Some, ap, sym, is_some}
-use Rattle.world_plans.specs.declared.plan.Plan.{Plan}
+use Rattle.world_footprints.specs.declared.plan.Plan.{Plan}
 use Rattle.search_agenda.proofs.Looking.{first_found, none_found, none_so_far}
 use Rattle.search_agenda.proofs.agenda.Agenda.first_enabled.Goals as goal
 

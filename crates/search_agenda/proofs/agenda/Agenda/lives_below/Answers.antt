@@ -1,9 +1,9 @@
 use Rattle.std.proofs.Common.{◌∙◌, ap, not, sym, is_some}
 use Rattle.std.specs.Prelude.{◌&&◌}
 use Rattle.world_records.specs.Cells.{cells_in}
-use Rattle.world_plans.specs.Turns.{written_in}
+use Rattle.world_footprints.specs.Footprints.{written_in}
 use Rattle.world_model.specs.Independence.{some_meet}
-use Rattle.world_plans.specs.declared.plan.Plan.{Plan}
+use Rattle.world_footprints.specs.declared.plan.Plan.{Plan}
 use Rattle.search_agenda.proofs.Looking.{all_met, met_more, plan_at, stays_enabled}
 use Rattle.search_agenda.proofs.agenda.Agenda.lives_below.Goals as goal
 

@@ -3,7 +3,7 @@ use Rattle.world_model.specs.Asking.{program_of}
 use Rattle.world_model.specs.Run.{next_event}
 use Rattle.world_model.specs.World.{contents}
 use Rattle.search_agenda.specs.Plans.{IsPlan, IsWorld}
-use Rattle.world_plans.specs.declared.plan.Plan.{Plan}
+use Rattle.world_footprints.specs.declared.plan.Plan.{Plan}
 use Rattle.search_expansion.proofs.Stepping.{dies_out, goes, goes_not, lives_on, none_there, some_there}
 use Rattle.search_expansion.proofs.frame.Frame.add_deadlock.Goals as goal
 

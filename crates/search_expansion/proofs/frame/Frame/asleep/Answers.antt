@@ -3,7 +3,7 @@ use Rattle.tree_coverage.specs.Jobs.{asleep_below}
 use Rattle.world_model.specs.Asking.{program_of}
 use Rattle.world_model.specs.Run.{next_event}
 use Rattle.search_agenda.specs.Plans.{ArePlans, IsPlan, steps_in}
-use Rattle.world_plans.specs.declared.plan.Plan.{Plan}
+use Rattle.world_footprints.specs.declared.plan.Plan.{Plan}
 use Rattle.search_expansion.proofs.frame.Frame.asleep.Goals as goal
 
 pub returns-clause-steps : goal.returns-clause-steps

@@ -3,7 +3,7 @@ use Rattle.std.specs.Global.{Global}
 use Rattle.world_model.specs.Asking.{program_of}
 use Rattle.world_model.specs.Run.{next_event}
 use Rattle.search_agenda.specs.Plans.{IsPlan, Shared, steps_in}
-use Rattle.world_plans.specs.declared.plan.Plan.{Plan}
+use Rattle.world_footprints.specs.declared.plan.Plan.{Plan}
 use Rattle.search_expansion.proofs.frame.Frame.into_node.Goals as goal
 
 pub returns : goal.returns

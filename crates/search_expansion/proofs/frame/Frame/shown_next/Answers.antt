@@ -2,7 +2,7 @@ use Rattle.std.proofs.Common.{ap, sym, subst, ◌∙◌}
 use Rattle.world_model.specs.Asking.{program_of}
 use Rattle.world_model.specs.Run.{next_event}
 use Rattle.search_agenda.specs.Plans.{IsPlan}
-use Rattle.world_plans.specs.declared.plan.Plan.{Plan}
+use Rattle.world_footprints.specs.declared.plan.Plan.{Plan}
 use Rattle.search_expansion.proofs.frame.Frame.shown_next.Goals as goal
 
 pub returns : goal.returns

@@ -3,8 +3,8 @@ use Rattle.world_model.specs.Asking.{program_of}
 use Rattle.world_model.specs.Events.{event}
 use Rattle.world_model.specs.Run.{extended, next_event}
 use Rattle.world_model.specs.World.{contents}
-use Rattle.world_plans.specs.Deeds.{deed_in}
-use Rattle.world_plans.specs.Turns.{IsPlan}
+use Rattle.world_footprints.specs.Deeds.{deed_in}
+use Rattle.world_footprints.specs.Footprints.{IsPlan}
 use Rattle.world_core.specs.Seen.{Seen, program_in}
 use Rattle.world_core.specs.inside.Worlds.{IsWorld}
 use Rattle.world_core.specs.Shared.{events_in}

@@ -1,6 +1,6 @@
 use Rattle.std.proofs.Common.{◌∙◌, ap, subst}
-use Rattle.world_plans.specs.Turns.{IsPlan}
-use Rattle.world_plans.proofs.Calling.{if_ok}
+use Rattle.world_footprints.specs.Footprints.{IsPlan}
+use Rattle.world_planned.proofs.Calling.{if_ok}
 use Rattle.world_model.specs.Asking.{program_of}
 use Rattle.world_model.specs.World.{contents}
 use Rattle.world_core.specs.Seen.{Seen, program_in}

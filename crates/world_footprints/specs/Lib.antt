@@ -1,0 +1,5 @@
+pub mod Deeds
+pub mod Footprints
+pub mod Plans
+pub mod Views
+pub mod inside

@@ -1,0 +1,4 @@
+pub mod Adding
+pub mod Calling
+pub mod Ending
+pub mod Seeing

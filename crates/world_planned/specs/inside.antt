@@ -1,0 +1,4 @@
+pub mod Messages
+pub mod Planned
+pub mod PlannedCalls
+pub mod Seen

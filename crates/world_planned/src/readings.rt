@@ -1,0 +1,91 @@
+// What the records of a world say of single cells. None of this takes memory.
+ghost use Rattle.std.specs.List.{list_any};
+ghost use Rattle.std.specs.Prelude.{◌≡◌, true, option_copied, option_map, is_some};
+ghost use Rattle.proc_machines.specs.Processes.{lives_in};
+ghost use Rattle.proc_signals.specs.Signal.{signal_of};
+ghost use Rattle.term_core.specs.Term.{meaning_of};
+ghost use Rattle.world_model.specs.Cells as cells;
+ghost use Rattle.world_model.specs.Cells.{Contents};
+ghost use Rattle.world_model.specs.Changes.{AliveCleared, changed, is_of_watch};
+ghost use Rattle.world_model.specs.Mailboxes.{mailbox_in, selected_of};
+ghost use Rattle.world_model.specs.Names as names;
+ghost use Rattle.world_model.specs.Names.{same_pid, ref_of};
+ghost use Rattle.world_model.specs.Signals.{first_of, waiting_in};
+ghost use Rattle.world_records.specs.Records.{OfWorld, processes_of};
+
+use proc_links::Exits;
+use proc_signals::Signal;
+use term_core::{Atom, Pid, RefId, Term};
+use world_records::Records;
+
+/// Whether a process lives.
+pub fn lives(records: &Records<'_>, pid: &Pid) -> bool
+    ensures { OfWorld records.now (λ m v. result ≡ v (cells.Alive pid.now)) }
+{
+    records.processes().lives(pid)
+}
+
+/// Whether a process lives when another one is dead.
+pub(crate) fn outlives(records: &Records<'_>, pid: &Pid, other: &Pid) -> bool
+    ensures { (w : Contents) → ((q : names.Pid) → lives_in (processes_of records.now) q ≡ w (cells.Alive q)) → result ≡ changed (AliveCleared pid.now) w (cells.Alive other.now) }
+{
+    if *pid == *other {
+        return false;
+    }
+    records.processes().lives(other)
+}
+
+/// Whether a process traps exits (erlang manual, `process_flag/2`).
+pub fn traps(records: &Records<'_>, pid: &Pid) -> bool
+    ensures { OfWorld records.now (λ m v. result ≡ v (cells.Trap pid.now)) }
+{
+    match records.processes().exits(pid) {
+        Exits::Trapped => true,
+        Exits::Untrapped => false,
+    }
+}
+
+/// Whether a process has another one among its partners.
+pub fn has_partner(records: &Records<'_>, pid: &Pid, other: &Pid) -> bool
+    ensures { OfWorld records.now (λ m v. result ≡ list_any (same_pid other.now) (v (cells.Links pid.now))) }
+{
+    records.links().are_linked(pid, other)
+}
+
+/// Who holds a name.
+pub fn holder<'r>(records: &'r Records<'_>, name: &Atom) -> Option<&'r Pid>
+    ensures { OfWorld records.now (λ m v. option_copied result ≡ v (cells.Holder name.now)) }
+{
+    records.names().whereis(name)
+}
+
+/// Whether a process has a name.
+pub fn has_name(records: &Records<'_>, pid: &Pid) -> bool
+    ensures { OfWorld records.now (λ m v. result ≡ is_some (v (cells.NameOf pid.now))) }
+{
+    records.names().name_of(pid).is_some()
+}
+
+/// The process that a reference watches.
+pub fn watched<'r>(records: &'r Records<'_>, reference: &RefId) -> Option<&'r Pid>
+    ensures { OfWorld records.now (λ m v. option_copied result ≡ v (cells.Watch (ref_of reference.now))) }
+{
+    records.watchers().watch_of(reference)
+}
+
+/// The oldest signal on its way from one process to another.
+pub fn front<'r>(records: &'r Records<'_>, from: &Pid, to: &Pid) -> Option<&'r Signal>
+    ensures { OfWorld records.now (λ m v. option_map (λ signal. signal_of signal.now) result ≡ first_of (waiting_in v from.now to.now)) }
+{
+    records.channels().front(from, to)
+}
+
+/// The message of a watch in the mailbox of a process, if it is there.
+pub fn down<'r>(records: &'r Records<'_>, pid: &Pid, reference: &RefId) -> Option<&'r Term>
+    ensures { OfWorld records.now (λ m v. option_map (λ message. meaning_of message.now) result ≡ selected_of (is_of_watch (ref_of reference.now)) (mailbox_in v pid.now)) }
+{
+    match records.mailboxes().of(pid) {
+        Some(mailbox) => mailbox.down(reference),
+        None => None,
+    }
+}

@@ -1,8 +1,0 @@
-use Rattle.std.proofs.Common.{sym, subst}
-use Rattle.std.specs.Prelude.{IfOk}
-use Rattle.world_model.specs.Calls as calls
-use Rattle.world_plans.specs.Replies.{Plans}
-use Rattle.world_plans.proofs.naming.is_alive.Goals as goal
-
-pub returns-in-Some : goal.returns-in-Some
-returns-in-Some c = subst (λ o. IfOk c.ask_life.result (λ reply. Plans c.args.caller.now (calls.IsAlive o) c.args.records.now reply c.args.planned.now c.ask_life.new.planned)) (sym c.in-Some.is) c.ask_life.ensures

@@ -1,9 +1,0 @@
-use Rattle.std.proofs.Common.{sym, subst}
-use Rattle.std.specs.Prelude.{IfOk}
-use Rattle.world_model.specs.Calls as calls
-use Rattle.world_model.specs.Names as names
-use Rattle.world_plans.specs.Replies.{Plans}
-use Rattle.world_plans.proofs.naming.whereis.Goals as goal
-
-pub returns-in-Some : goal.returns-in-Some
-returns-in-Some c = subst (λ o. IfOk c.find_name.result (λ reply. (caller : names.Pid) → Plans caller (calls.WhereIs o) c.args.records.now reply c.args.planned.now c.find_name.new.planned)) (sym c.in-Some.is) c.find_name.ensures

@@ -1,0 +1,344 @@
+// Links and watches (erlang manual, `link/1`, `unlink/1`, `monitor/2`, `demonitor/2`).
+ghost use Rattle.std.specs.Prelude.{◌≡◌, ◌∷◌, ◌++◌, [], false, true, IfOk, OnOk, Some, option_copied, option_map};
+ghost use Rattle.proc_calls.specs.Arguments.{flushes, is_process};
+ghost use Rattle.world_model.specs.Names.{ref_of};
+ghost use Rattle.proc_links.specs.Links.{way_of};
+ghost use Rattle.world_planned.specs.inside.Planned.{Adds};
+ghost use Rattle.world_planned.specs.inside.PlannedCalls.{Plans};
+ghost use Rattle.term_core.specs.Term.{meaning_of};
+ghost use Rattle.world_model.specs.Calls as calls;
+ghost use Rattle.world_model.specs.Cells as cells;
+ghost use Rattle.world_model.specs.Changes as changes;
+ghost use Rattle.world_model.specs.Changes.{is_of_watch};
+ghost use Rattle.world_model.specs.Mailboxes.{mailbox_in, selected_of};
+ghost use Rattle.world_model.specs.ProcessLines.{demonitor_reads, gone_told, link_changes, link_way, noproc, watch_begins, watch_ends};
+ghost use Rattle.world_records.specs.Records.{OfWorld};
+ghost use Rattle.world_records.specs.declared.records.Records as declared;
+ghost use Rattle.world_planned.specs.inside.Messages.{PlansFlushed, PlansPicked};
+
+use proc_calls::{Flushing, MonitorType};
+use proc_links::Linking;
+use proc_signals::Signal;
+use std::alloc::{AllocError, Global};
+use term_core::{Pid, RefId, Term};
+use world_planned::planned::Planned;
+use world_planned::readings::{down, has_partner, lives, traps, watched};
+use world_planned::reply::{Refusal, Reply, done};
+use world_planned::spawning::next_reference;
+use world_records::{Change, ProcessPart, Records, ReferencePart};
+
+// The reason that is reported for a process that is gone.
+fn no_process(alloc: Global) -> Result<Term, AllocError>
+    ensures { IfOk result (λ reason. meaning_of reason ≡ noproc) }
+{
+    let reason = Term::atom(alloc, "noproc")?;
+    Ok(reason)
+}
+
+// What `link/1` results in.
+fn link_way(records: &Records<'_>, caller: &Pid, to: &Pid) -> Linking
+    ensures { OfWorld records.now (λ m v. way_of result ≡ link_way caller.now to.now (v (cells.Links caller.now)) (v (cells.Alive to.now)) (v (cells.Trap caller.now))) }
+{
+    if *caller == *to {
+        return Linking::Stands;
+    }
+    if has_partner(records, caller, to) {
+        return Linking::Stands;
+    }
+    if lives(records, to) {
+        return Linking::Pairs;
+    }
+    if traps(records, caller) {
+        return Linking::PairsGone;
+    }
+    Linking::Fails
+}
+
+// A link that is there stays.
+fn keep_link(caller: &Pid, to: &Pid, planned: &mut Planned) -> Result<(), AllocError>
+    ensures { OnOk result (Adds [] (link_changes caller.now to.now (way_of Linking.Stands)) planned.old planned.new) }
+{
+    planned.touch_process(ProcessPart::Links, caller)?;
+    planned.touch_process(ProcessPart::Links, to)
+}
+
+// A link to a process that is gone, which is reported.
+fn link_gone(alloc: Global, caller: &Pid, to: &Pid, planned: &mut Planned) -> Result<(), AllocError>
+    ensures { OnOk result (Adds [] (link_changes caller.now to.now (way_of Linking.PairsGone)) planned.old planned.new) }
+{
+    planned.change(Change::LinkAdded(caller.copy()?, to.copy()?))?;
+    let exit = Signal::LinkExit(no_process(alloc)?);
+    planned.change(Change::SignalPut(to.copy()?, caller.copy()?, exit))
+}
+
+// What `link/1` changes.
+fn change_links(
+    alloc: Global,
+    caller: &Pid,
+    to: &Pid,
+    linking: Linking,
+    planned: &mut Planned,
+) -> Result<(), AllocError>
+    ensures { OnOk result (Adds [] (link_changes caller.now to.now (way_of linking)) planned.old planned.new) }
+{
+    match linking {
+        Linking::Stands => keep_link(caller, to, planned),
+        Linking::Pairs => planned.change(Change::LinkAdded(caller.copy()?, to.copy()?)),
+        Linking::PairsGone => link_gone(alloc, caller, to, planned),
+        Linking::Fails => Ok(()),
+    }
+}
+
+// What `link/1` reads.
+fn read_link(caller: &Pid, to: &Pid, planned: &mut Planned) -> Result<(), AllocError>
+    ensures { OnOk result (Adds (cells.Alive to.now ∷ cells.Trap caller.now ∷ cells.Links caller.now ∷ []) [] planned.old planned.new) }
+{
+    planned.read_process(ProcessPart::Alive, to)?;
+    planned.read_process(ProcessPart::Trap, caller)?;
+    planned.read_process(ProcessPart::Links, caller)
+}
+
+// `link/1` of a process.
+fn link_process(
+    records: &Records<'_>,
+    alloc: Global,
+    caller: &Pid,
+    to: &Pid,
+    planned: &mut Planned,
+) -> Result<Reply, AllocError>
+    ensures { IfOk result (λ reply. Plans caller.now (calls.Link (Some to.now)) records.now reply planned.old planned.new) }
+{
+    read_link(caller, to, planned)?;
+    let linking = link_way(records, caller, to);
+    change_links(alloc, caller, to, linking, planned)?;
+    match linking {
+        Linking::Fails => Ok(Reply::Refused(Refusal::NoProcess)),
+        Linking::Stands | Linking::Pairs | Linking::PairsGone => Ok(Reply::Served(done())),
+    }
+}
+
+/// `link/1`. `AllocError` if there is no memory.
+pub(crate) fn link(
+    records: &Records<'_>,
+    alloc: Global,
+    caller: &Pid,
+    to: Option<Pid>,
+    planned: &mut Planned,
+) -> Result<Reply, AllocError>
+    ensures { IfOk result (λ reply. Plans caller.now (calls.Link to) records.now reply planned.old planned.new) }
+{
+    match to {
+        Some(to) => link_process(records, alloc, caller, &to, planned),
+        None => Ok(Reply::Refused(Refusal::BadArgument)),
+    }
+}
+
+// `unlink/1` of a process.
+fn unlink_process(caller: &Pid, from: Pid, planned: &mut Planned) -> Result<Reply, AllocError>
+    ensures { IfOk result (λ reply. (records : declared.Records) → Plans caller.now (calls.Unlink (Some from)) records reply planned.old planned.new) }
+{
+    planned.read_process(ProcessPart::Alive, &from)?;
+    planned.change(Change::LinkRemoved(caller.copy()?, from))?;
+    Ok(Reply::Served(done()))
+}
+
+/// `unlink/1`. `AllocError` if there is no memory.
+pub(crate) fn unlink(
+    caller: &Pid,
+    from: Option<Pid>,
+    planned: &mut Planned,
+) -> Result<Reply, AllocError>
+    ensures { IfOk result (λ reply. (records : declared.Records) → Plans caller.now (calls.Unlink from) records reply planned.old planned.new) }
+{
+    match from {
+        Some(from) => unlink_process(caller, from, planned),
+        None => Ok(Reply::Refused(Refusal::BadArgument)),
+    }
+}
+
+// A watch begins, and a process that is gone is reported at once.
+fn begin_watch(
+    alloc: Global,
+    caller: &Pid,
+    whom: &Pid,
+    reference: &RefId,
+    lives: bool,
+    planned: &mut Planned,
+) -> Result<(), AllocError>
+    ensures { OnOk result (Adds [] (watch_begins (ref_of reference.now) whom.now ++ gone_told lives caller.now whom.now (ref_of reference.now)) planned.old planned.new) }
+{
+    planned.change(Change::WatchSet(reference.copy()?, whom.copy()?))?;
+    if !lives {
+        let down = Signal::Down(reference.copy()?, no_process(alloc)?);
+        planned.change(Change::SignalPut(whom.copy()?, caller.copy()?, down))?;
+    }
+    Ok(())
+}
+
+// A process is watched.
+fn watch(
+    records: &Records<'_>,
+    alloc: Global,
+    caller: &Pid,
+    whom: &Pid,
+    planned: &mut Planned,
+) -> Result<Reply, AllocError>
+    ensures { IfOk result (λ reply. Plans caller.now (calls.Monitor true (Some whom.now)) records.now reply planned.old planned.new) }
+{
+    planned.read_process(ProcessPart::Alive, whom)?;
+    let reference = next_reference(records, alloc, caller)?;
+    let lives = lives(records, whom);
+    begin_watch(alloc, caller, whom, &reference, lives, planned)?;
+    Ok(Reply::Served(Term::Ref(reference)))
+}
+
+// A process is named in a call that is refused.
+fn refuse_watch(caller: &Pid, whom: &Pid, planned: &mut Planned) -> Result<Reply, AllocError>
+    ensures { IfOk result (λ reply. (records : declared.Records) → Plans caller.now (calls.Monitor false (Some whom.now)) records reply planned.old planned.new) }
+{
+    planned.read_process(ProcessPart::Alive, whom)?;
+    Ok(Reply::Refused(Refusal::BadArgument))
+}
+
+/// `monitor/2`. `AllocError` if there is no memory.
+pub(crate) fn monitor(
+    records: &Records<'_>,
+    alloc: Global,
+    caller: &Pid,
+    kind: MonitorType,
+    whom: Option<Pid>,
+    planned: &mut Planned,
+) -> Result<Reply, AllocError>
+    ensures { IfOk result (λ reply. Plans caller.now (calls.Monitor (is_process kind) whom) records.now reply planned.old planned.new) }
+{
+    let Some(whom) = whom else {
+        return Ok(Reply::Refused(Refusal::BadArgument));
+    };
+    match kind {
+        MonitorType::Process => watch(records, alloc, caller, &whom, planned),
+        MonitorType::Another => refuse_watch(caller, &whom, planned),
+    }
+}
+
+// What `demonitor/2` reads of a watch.
+fn read_watch(
+    reference: &RefId,
+    target: Option<&Pid>,
+    planned: &mut Planned,
+) -> Result<(), AllocError>
+    ensures { OnOk result (Adds (demonitor_reads (ref_of reference.now) (option_copied target.entry)) [] planned.old planned.new) }
+{
+    planned.read_reference(ReferencePart::Watch, reference)?;
+    if let Some(target) = target {
+        planned.read_process(ProcessPart::Alive, target)?;
+    }
+    Ok(())
+}
+
+// A watch of a process ends, if the caller made it.
+fn end_watch_of(
+    caller: &Pid,
+    reference: &RefId,
+    target: &Pid,
+    planned: &mut Planned,
+) -> Result<(), AllocError>
+    ensures { OnOk result (Adds [] (watch_ends caller.now (ref_of reference.now) (Some target.now)) planned.old planned.new) }
+{
+    if *reference.pid() == *caller {
+        return planned.change(Change::WatchCleared(reference.copy()?, target.copy()?));
+    }
+    planned.touch_reference(ReferencePart::Watch, reference)?;
+    planned.touch_process(ProcessPart::Watchers, target)
+}
+
+// A watch ends, if there is one.
+fn end_watch(
+    caller: &Pid,
+    reference: &RefId,
+    target: Option<&Pid>,
+    planned: &mut Planned,
+) -> Result<(), AllocError>
+    ensures { OnOk result (Adds [] (watch_ends caller.now (ref_of reference.now) (option_copied target.entry)) planned.old planned.new) }
+{
+    match target {
+        Some(target) => end_watch_of(caller, reference, target, planned),
+        None => planned.touch_reference(ReferencePart::Watch, reference),
+    }
+}
+
+// A message is taken from the mailbox of a process.
+fn pick(pid: &Pid, message: &Term, planned: &mut Planned) -> Result<(), AllocError>
+    ensures { OnOk result (Adds [] (changes.MessageTaken pid.now (meaning_of message.now) ∷ []) planned.old planned.new) }
+{
+    planned.change(Change::MessageTaken(pid.copy()?, message.copy()?))
+}
+
+// The message of a watch is taken, if it is there.
+fn flush(
+    records: &Records<'_>,
+    caller: &Pid,
+    reference: &RefId,
+    planned: &mut Planned,
+) -> Result<(), AllocError>
+    ensures { OnOk result (OfWorld records.now (λ m v. PlansPicked caller.now (selected_of (is_of_watch (ref_of reference.now)) (mailbox_in v caller.now)) planned.old planned.new)) }
+{
+    planned.read_process(ProcessPart::Taken, caller)?;
+    let Some(message) = down(records, caller, reference) else {
+        planned.read_process(ProcessPart::Mailed, caller)?;
+        return Ok(());
+    };
+    pick(caller, message, planned)?;
+    Ok(())
+}
+
+// The message of a watch is taken, or stays.
+fn flush_if(
+    records: &Records<'_>,
+    caller: &Pid,
+    reference: &RefId,
+    flushing: Flushing,
+    planned: &mut Planned,
+) -> Result<(), AllocError>
+    ensures { OnOk result (OfWorld records.now (λ m v. PlansFlushed (flushes flushing) caller.now (selected_of (is_of_watch (ref_of reference.now)) (mailbox_in v caller.now)) planned.old planned.new)) }
+{
+    match flushing {
+        Flushing::Flushes => flush(records, caller, reference, planned),
+        Flushing::Keeps => Ok(()),
+    }
+}
+
+// A watch of this reference ends, or where the options are no such the call is refused.
+fn unwatch(
+    records: &Records<'_>,
+    caller: &Pid,
+    reference: &RefId,
+    flushing: Option<Flushing>,
+    planned: &mut Planned,
+) -> Result<Reply, AllocError>
+    ensures { IfOk result (λ reply. Plans caller.now (calls.Demonitor (Some (ref_of reference.now)) (option_map flushes flushing)) records.now reply planned.old planned.new) }
+{
+    let target = watched(records, reference);
+    read_watch(reference, target, planned)?;
+    let Some(flushing) = flushing else {
+        return Ok(Reply::Refused(Refusal::BadArgument));
+    };
+    end_watch(caller, reference, target, planned)?;
+    flush_if(records, caller, reference, flushing, planned)?;
+    Ok(Reply::Served(done()))
+}
+
+/// `demonitor/1` and `demonitor/2`. `AllocError` if there is no memory.
+pub(crate) fn demonitor(
+    records: &Records<'_>,
+    caller: &Pid,
+    reference: Option<RefId>,
+    flushing: Option<Flushing>,
+    planned: &mut Planned,
+) -> Result<Reply, AllocError>
+    ensures { IfOk result (λ reply. Plans caller.now (calls.Demonitor (option_map ref_of reference) (option_map flushes flushing)) records.now reply planned.old planned.new) }
+{
+    match reference {
+        Some(reference) => unwatch(records, caller, &reference, flushing, planned),
+        None => Ok(Reply::Refused(Refusal::BadArgument)),
+    }
+}

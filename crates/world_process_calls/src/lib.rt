@@ -1,0 +1,9 @@
+// What each call of processes would do: its reply, the cells that it reads, and what it changes.
+#![tactic(auto)]
+
+mod binding;
+mod naming;
+pub mod processes;
+mod sending;
+
+pub use processes::plan_process_call;
