@@ -1,5 +1,5 @@
 -- What each mark does to what is open.
-use Rattle.std.proofs.Common.{◌≡◌, ◌≢◌, inl, inr, ℕ, ◌+◌, ◌≤◌, ◌<◌, true, List, [], ◌∷◌, ◌++◌, length, get_or, slice_index, ap, sym, refl, ◌∙◌, subst, arith, append_assoc, append-nil, Result, Ok, Err, IfOk, IfErr, MatchResult, ℤ, pos, length-append}
+use Rattle.std.proofs.Common.{◌≡◌, ◌≢◌, ◌⊎◌, inl, inr, ℕ, ◌+◌, ◌≤◌, ◌<◌, true, List, [], ◌∷◌, ◌++◌, length, get_or, slice_index, ap, sym, refl, ◌∙◌, subst, arith, append_assoc, append-nil, Result, Ok, Err, IfOk, IfErr, MatchResult, ℤ, pos, length-append}
 use Rattle.std.specs.Fmt.{signed_decimal}
 use Rattle.term_core.specs.Integers.{has_64_bits}
 use Rattle.term_core.specs.Meaning.{Meaning, Meanings, Int, Atom, Ref, Pid, Tuple, Nil, Cons, NoMore, Also, meanings_of}
@@ -9,9 +9,9 @@ use Rattle.term_reader.proofs.IntegerTexts.{integer_first, zero_text}
 use Rattle.term_reader.proofs.Items.{alike_after, alike_index, alike_items, alike_other, alike_self, alike_under, item_none}
 use Rattle.term_reader.proofs.LeafLaws.{leaf_byte}
 use Rattle.term_reader.specs.Height.{height, height_over}
-use Rattle.term_reader.specs.Lawful.{IsLawful, AreLawful, MayRefuse, IsPlace, IsFault, HasPlace, item_of}
+use Rattle.term_reader.specs.Lawful.{IsLawful, AreLawful, MayRefuse, IsFault, IsTooDeep, HasPlace, closed_by, item_of}
 use Rattle.term_reader.specs.inside.Leaves.{Ends, IsAlike, IsLeaf, Reads, NoLeaf}
-use Rattle.term_reader.specs.inside.Marks.{Opened, InTuple, InList, InTail, opened_in, open_in, parts_onto, Continues, AtEnd, AmongParts, AmongHeads, AsTail, Begins, IsSame, IsLike, Means, MeansAt, rest_of, GoesOn, LiesAt, BadAt, Lies, Refuses, Follows, IsTooMuch, IsBefore, GoesIn}
+use Rattle.term_reader.specs.inside.Marks.{Opened, InTuple, InList, InTail, opened_in, open_in, parts_onto, Continues, AtEnd, AmongParts, AmongHeads, AsTail, Begins, IsSame, IsLike, Means, MeansAt, rest_of, GoesOn, DeepAt, BadAt, Lies, Refuses, Follows, IsTooMuch, IsBefore, GoesIn}
 use Rattle.term_core.specs.declared.term.Term.{Term}
 use Rattle.term_reader.specs.declared.brackets.Open.{Open}
 use Rattle.term_reader.specs.declared.brackets.State.{State}
@@ -433,8 +433,8 @@ depth (AmongParts {parts = ps} {term = x} o b l e k) = omega (arith, depth k, pa
 depth (AmongHeads {heads = hs} {term = x} t b l e k) = omega (arith, depth k, list_onto_high hs (Cons x t))
 depth (AsTail {heads = hs} {head = h} {term = x} b e k) = omega (arith, depth k, list_onto_high hs (Cons h x))
 
-deep : (o : Opened) (outer : List Opened) (rest : List ℕ) (m : Meaning) → Begins (o ∷ outer) rest m → 10000 ≤ length outer → 10000 < height m
-deep o outer rest m p h = omega (arith, depth p.next)
+too_high : (o : Opened) (outer : List Opened) (rest : List ℕ) (m : Meaning) → Begins (o ∷ outer) rest m → 10000 ≤ length outer → 10000 < height m
+too_high o outer rest m p h = omega (arith, depth p.next)
 
 -- WHERE READING CAN GO ON
 
@@ -460,15 +460,6 @@ closing (InTail hs h ∷ outer) x =
 -- a 0 where a term is wanted
 with_zero : (outer : List Opened) (left : List ℕ) (m : Meaning) → Continues outer (Int (pos 0)) left m → Begins outer (48 ∷ left) m
 with_zero outer left m k = record { term = Int (pos 0); behind = left; lawful = refl; text = ap (λ w. w ++ left) (sym zero_text); next = k }
-
-lies_here : (before : List ℕ → Meaning → Type 0) (rest text left : List ℕ) (at : ℕ) (m : Meaning) → at + length rest ≡ length text + 1 → slice_index left 0 ≢ 91 → before left m → LiesAt before rest text at
-lies_here before rest text left at m e like b = record { read = []; behind = rest; left = left; term = m; parts = refl; place = e; like = inr like; goes_on = b }
-
-begins_here : (outer : List Opened) (rest text : List ℕ) (at : ℕ) → at + length rest ≡ length text + 1 → LiesAt (Begins outer) rest text at
-begins_here outer rest text at e = let k = closing outer (Int (pos 0)) in lies_here (Begins outer) rest text (48 ∷ k.left) at k.whole e (omega arith) (with_zero outer k.left k.whole k.next)
-
-continues_here : (outer : List Opened) (x : Meaning) (rest text : List ℕ) (at : ℕ) → at + length rest ≡ length text + 1 → LiesAt (Continues outer x) rest text at
-continues_here outer x rest text at e = let k = closing outer x in lies_here (Continues outer x) rest text k.left at k.whole e k.like k.next
 
 -- STEPS
 
@@ -539,10 +530,27 @@ no_list_item hs outer x behind list e (b ∷ bs) m item k =
 pub no_end_item : (o : Opened) (outer : List Opened) (x : Meaning) (rest : List ℕ) → rest ≡ [] → (other : List ℕ) (m : Meaning) → item_of other ≡ item_of rest → Continues (o ∷ outer) x other m → ⊥
 no_end_item o outer x rest e other m item k = no_end_at o outer x other (item_none other (item ∙ ap item_of e)) m k
 
-too_much : (o : Opened) (outer : List Opened) (mark : ℕ) (behind text : List ℕ) (fault : TermFault) → IsSame (Begins outer (mark ∷ behind)) (Begins (o ∷ outer) behind) → IsBefore behind text fault → IsTooMuch outer fault → Refuses (Begins outer) (mark ∷ behind) text fault
-too_much o outer mark behind text (BadTerm at) s p t = absurd t
-too_much o outer mark behind text (TooDeep at) s p t = record { place = begins_here outer (mark ∷ behind) text at (omega (arith, p)); refuses = λ m b. deep o outer behind m (s.to m b) t }
-too_much o outer mark behind text Memory s p t = no_memory (Begins outer) (mark ∷ behind) text
+-- one more was too much
+too_much : (o : Opened) (outer : List Opened) (mark : ℕ) (behind text : List ℕ) (fault : TermFault) → (mark ≡ 91) ⊎ (mark ≡ 123) → slice_index behind 0 ≢ closed_by mark → ((left : List ℕ) → slice_index left 0 ≢ closed_by mark → IsSame (Begins outer (mark ∷ left)) (Begins (o ∷ outer) left)) → ((left : List ℕ) (m : Meaning) → Begins (o ∷ outer) left m → Begins outer (mark ∷ left) m) → IsBefore behind text fault → IsTooMuch outer fault → Refuses (Begins outer) (mark ∷ behind) text fault
+too_much o outer mark behind text (BadTerm at) opens stays into out p t = absurd t
+too_much o outer mark behind text (TooDeep at) opens stays into out p t =
+    let k = closing (o ∷ outer) (Int (pos 0)) in
+    record {
+      place = record {
+        mark = mark;
+        behind = behind;
+        left = 48 ∷ k.left;
+        term = k.whole;
+        parts = refl;
+        place = p;
+        opens = opens;
+        stays = stays;
+        goes_on = out (48 ∷ k.left) k.whole (with_zero (o ∷ outer) k.left k.whole k.next);
+        deep = λ other m free b. too_high o outer other m ((into other free).to m b) t;
+      };
+      refuses = λ m b. too_high o outer behind m ((into behind stays).to m b) t;
+    }
+too_much o outer mark behind text Memory opens stays into out p t = no_memory (Begins outer) (mark ∷ behind) text
 
 -- a step that does not look at what is left
 pub steps : (before : List ℕ → Meaning → Type 0) (rest : List ℕ) (state : State) (read : List ℕ) → rest ≡ read ++ rest_of state → length (rest_of state) < length rest → ((left : List ℕ) → IsSame (before (read ++ left)) (MeansAt state left)) → GoesOn before rest state
@@ -556,16 +564,16 @@ steps before rest state read e less s = record {
 }
 
 -- into what a mark opens
-pub goes_in : (o : Opened) (outer : List Opened) (mark : ℕ) (behind text : List ℕ) (result : Result State TermFault) → ((left : List ℕ) → IsAlike behind left → IsSame (Begins outer (mark ∷ left)) (Begins (o ∷ outer) left)) → ((left : List ℕ) (m : Meaning) → Begins (o ∷ outer) left m → Begins outer (mark ∷ left) m) → GoesIn outer o behind text result → Follows (Begins outer) (mark ∷ behind) text result
-goes_in o outer mark behind text (Ok state) into out g = record {
+pub goes_in : (o : Opened) (outer : List Opened) (mark : ℕ) (behind text : List ℕ) (result : Result State TermFault) → (mark ≡ 91) ⊎ (mark ≡ 123) → slice_index behind 0 ≢ closed_by mark → ((left : List ℕ) → slice_index left 0 ≢ closed_by mark → IsSame (Begins outer (mark ∷ left)) (Begins (o ∷ outer) left)) → ((left : List ℕ) (m : Meaning) → Begins (o ∷ outer) left m → Begins outer (mark ∷ left) m) → GoesIn outer o behind text result → Follows (Begins outer) (mark ∷ behind) text result
+goes_in o outer mark behind text (Ok state) opens stays into out g = record {
   read = mark ∷ [];
   parts = ap (λ w. mark ∷ w) (sym g.1);
   less = omega (arith, ap length g.1);
-  same = same_then _ _ _ (into behind (alike_self behind)) (subst (λ (w : List ℕ). IsSame (Begins (o ∷ outer) w) (Means state)) g.1 (g.0 (rest_of state)));
+  same = same_then _ _ _ (into behind stays) (subst (λ (w : List ℕ). IsSame (Begins (o ∷ outer) w) (Means state)) g.1 (g.0 (rest_of state)));
   wider = λ left m like k. out left m ((g.0 left).from m k);
-  back = λ left m alike b. (g.0 left).to m ((into left (subst (λ (w : List ℕ). IsAlike w left) g.1 alike)).to m b);
+  back = λ left m alike b. (g.0 left).to m ((into left (alike_other behind left (closed_by mark) (subst (λ (w : List ℕ). IsAlike w left) g.1 alike) stays)).to m b);
 }
-goes_in o outer mark behind text (Err fault) into out g = too_much o outer mark behind text fault (into behind (alike_self behind)) g.0 g.1
+goes_in o outer mark behind text (Err fault) opens stays into out g = too_much o outer mark behind text fault opens stays into out g.0 g.1
 
 pub out_of_tuple : (outer : List Opened) (left : List ℕ) (m : Meaning) → Begins (InTuple [] ∷ outer) left m → Begins outer (123 ∷ left) m
 out_of_tuple outer left m p = goes_out_of_tuple outer left m p.term p.behind p.lawful p.text p.next
@@ -679,16 +687,21 @@ pub refused_on : (text : List ℕ) (state : State) (fault : TermFault) (result :
 refused_on text state fault (Ok s) h f e = absurd (no_err e)
 refused_on text state fault (Err g) h f e = λ m l t. let same : g ≡ fault = cc in subst (MayRefuse m) same (f.refuses m (h.same.to m (l, t)))
 
-place_at : (text : List ℕ) (state : State) (at : ℕ) → Holds text state → LiesAt (MeansAt state) (rest_of state) text at → IsPlace text at
-place_at text state at h p =
-    let parts : text ≡ (h.read ++ p.read) ++ p.behind = h.parts ∙ ap (λ w. h.read ++ w) p.parts ∙ sym (append_assoc h.read p.read p.behind) in
-    let has = has_text h.read p.read p.left p.term (h.wider (p.read ++ p.left) p.term p.like p.goes_on) in
+deep_at : (text : List ℕ) (state : State) (at : ℕ) → Holds text state → DeepAt (MeansAt state) (rest_of state) text at → IsTooDeep text at
+deep_at text state at h p =
+    let parts : text ≡ h.read ++ p.mark ∷ p.behind = h.parts ∙ ap (λ w. h.read ++ w) p.parts in
+    let alike : (left : List ℕ) → IsAlike (rest_of state) (p.mark ∷ left) = λ left. subst (λ (w : List ℕ). IsAlike w (p.mark ∷ left)) (sym p.parts) refl in
+    let has = has_text h.read (p.mark ∷ []) p.left p.term (h.wider (p.mark ∷ p.left) p.term (inl (alike_index (rest_of state) (p.mark ∷ p.left) (alike p.left))) p.goes_on) in
     record {
-      before = h.read ++ p.read;
+      before = h.read;
+      mark = p.mark;
       behind = p.behind;
       parts = parts;
-      place = omega (arith, p.place, ap length parts, length-append (h.read ++ p.read) p.behind);
+      place = omega (arith, p.place, ap length parts, length-append h.read (p.mark ∷ p.behind));
+      opens = p.opens;
+      stays = p.stays;
       goes_on = record { rest = p.left; term = p.term; lawful = has.0; text = has.1 };
+      deep = λ rest term free l e. p.deep rest term free (h.back (p.mark ∷ rest) term (alike rest) (l, e));
     }
 
 fault_at : (text : List ℕ) (state : State) (at : ℕ) → Holds text state → BadAt (MeansAt state) (rest_of state) text at → IsFault text at
@@ -708,7 +721,7 @@ fault_at text state at h p =
 
 pub fault_place : (text : List ℕ) (state : State) (fault : TermFault) → Holds text state → Lies (MeansAt state) (rest_of state) text fault → HasPlace text fault
 fault_place text state (BadTerm at) h p = fault_at text state at h p
-fault_place text state (TooDeep at) h p = place_at text state at h p
+fault_place text state (TooDeep at) h p = deep_at text state at h p
 fault_place text state Memory h p = tt
 
 pub place_on : (text : List ℕ) (state : State) (fault : TermFault) (result : Result State TermFault) → Holds text state → Follows (MeansAt state) (rest_of state) text result → result ≡ Err fault → HasPlace text fault

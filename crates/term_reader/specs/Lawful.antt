@@ -1,5 +1,5 @@
 -- The terms whose texts are read, and which of them a reader may refuse.
-use Rattle.std.specs.Prelude.{◌≡◌, ◌==◌, ◌||◌, if◌then◌else◌, ℕ, ◌+◌, ◌<◌, ◌^◌, Bool, true, List, [], ◌∷◌, ◌++◌, length, IsUtf8}
+use Rattle.std.specs.Prelude.{◌≡◌, ◌≢◌, ◌⊎◌, ◌==◌, ◌||◌, if◌then◌else◌, ℕ, ◌+◌, ◌<◌, ◌^◌, Bool, true, List, [], ◌∷◌, ◌++◌, length, slice_index, IsUtf8}
 use Rattle.std.specs.List.{AllByRecursion, before_first}
 use Rattle.term_core.specs.Integers.{has_64_bits}
 use Rattle.term_core.specs.Meaning.{Meaning, Meanings, Int, Atom, Ref, Pid, Tuple, Nil, Cons, NoMore, Also}
@@ -49,15 +49,7 @@ pub record CanGoOn (bytes : List ℕ) : Type 0 where
   pub lawful : IsLawful term
   pub text : bytes ++ rest ≡ text_of_term term
 
--- a place of the text, counted from 1, or one past its end: the bytes before it can go on to the text of a lawful term
-pub record IsPlace (text : List ℕ) (at : ℕ) : Type 0 where
-  pub before : List ℕ
-  pub behind : List ℕ
-  pub parts : text ≡ before ++ behind
-  pub place : length before + 1 ≡ at
-  pub goes_on : CanGoOn before
-
--- such a place where, with the item at that place, they can go on to that of none
+-- a place of the text, counted from 1, or one past its end: the bytes before it can go on to the text of a lawful term, and with the item at that place to that of none
 pub record IsFault (text : List ℕ) (at : ℕ) : Type 0 where
   pub before : List ℕ
   pub behind : List ℕ
@@ -66,8 +58,24 @@ pub record IsFault (text : List ℕ) (at : ℕ) : Type 0 where
   pub goes_on : CanGoOn before
   pub bad : (rest : List ℕ) (term : Meaning) → item_of rest ≡ item_of behind → IsLawful term → before ++ rest ≡ text_of_term term → ⊥
 
+-- the mark that closes a list or a tuple, by the one that opens it
+abbrev pub closed_by : ℕ → ℕ
+closed_by mark = if mark == 91 then 93 else 125
+
+-- the place of a bracket or a brace that is not closed at once: the bytes to it can go on to the text of a lawful term, and, unless it is closed at once, only to terms higher than 10,000
+pub record IsTooDeep (text : List ℕ) (at : ℕ) : Type 0 where
+  pub before : List ℕ
+  pub mark : ℕ
+  pub behind : List ℕ
+  pub parts : text ≡ before ++ mark ∷ behind
+  pub place : length before + 1 ≡ at
+  pub opens : (mark ≡ 91) ⊎ (mark ≡ 123)
+  pub stays : slice_index behind 0 ≢ closed_by mark
+  pub goes_on : CanGoOn (before ++ mark ∷ [])
+  pub deep : (rest : List ℕ) (term : Meaning) → slice_index rest 0 ≢ closed_by mark → IsLawful term → before ++ mark ∷ rest ≡ text_of_term term → 10000 < height term
+
 -- a fault has its place
 abbrev pub HasPlace : List ℕ → TermFault → Type 0
 HasPlace text (BadTerm at) = IsFault text at
-HasPlace text (TooDeep at) = IsPlace text at
+HasPlace text (TooDeep at) = IsTooDeep text at
 HasPlace text Memory = Unit {0}

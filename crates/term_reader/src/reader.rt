@@ -37,7 +37,8 @@ pub fn read_term(alloc: Global, text: &[u8]) -> Result<Term, TermFault>
     ensures only { (term : Meaning) → IsLawful term → text.now ≡ text_of_term term
         → MatchResult result (λ read. meaning_of read ≡ term) (λ fault. MayRefuse term fault) }
 
-    // What comes before the place of a fault can go on to the text of a term, and with the item there to none.
+    // What comes before the place of a bad item can go on to the text of a term, and with that item to none. What ends in
+    // a bracket or a brace too many can go on too, and, unless it is closed at once, only to terms that are too high.
     ensures place { IfErr result (λ fault. HasPlace text.now fault) }
 {
     let mut state = State::Wanted(Vec::new(alloc), text);

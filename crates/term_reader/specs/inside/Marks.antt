@@ -4,7 +4,8 @@ use Rattle.term_core.specs.Meaning.{Meaning, Meanings, Also, Cons}
 use Rattle.term_core.specs.Meaning as terms
 use Rattle.term_core.specs.Term.{meaning_of, list_onto}
 use Rattle.term_core.specs.TermText.{text_of_term, text_of_tail, text_of_others}
-use Rattle.term_reader.specs.Lawful.{IsLawful, AreLawful, MayRefuse, item_of}
+use Rattle.term_reader.specs.Height.{height}
+use Rattle.term_reader.specs.Lawful.{IsLawful, AreLawful, MayRefuse, closed_by, item_of}
 use Rattle.term_reader.specs.inside.Leaves.{IsAlike}
 use Rattle.term_reader.specs.declared.brackets.Open.{Open}
 use Rattle.term_reader.specs.declared.brackets.Open.TheVariants as opens
@@ -87,18 +88,20 @@ pub record GoesOn (before : List ℕ → Meaning → Type 0) (rest : List ℕ) (
   pub wider : (left : List ℕ) (m : Meaning) → IsLike (rest_of state) left → MeansAt state left m → before (read ++ left) m
   pub back : (left : List ℕ) (m : Meaning) → IsAlike (rest_of state) left → before (read ++ left) m → MeansAt state left m
 
--- a fault where these bytes are left of the text: what comes before can go on
-pub record LiesAt (before : List ℕ → Meaning → Type 0) (rest text : List ℕ) (at : ℕ) : Type 0 where
-  pub read : List ℕ
+-- the mark at which these bytes begin opens too much: with it something goes on, and, unless it is closed at once, only terms higher than 10,000
+pub record DeepAt (before : List ℕ → Meaning → Type 0) (rest text : List ℕ) (at : ℕ) : Type 0 where
+  pub mark : ℕ
   pub behind : List ℕ
   pub left : List ℕ
   pub term : Meaning
-  pub parts : rest ≡ read ++ behind
-  pub place : at + length behind ≡ length text + 1
-  pub like : IsLike rest (read ++ left)
-  pub goes_on : before (read ++ left) term
+  pub parts : rest ≡ mark ∷ behind
+  pub place : at + length behind ≡ length text
+  pub opens : (mark ≡ 91) ⊎ (mark ≡ 123)
+  pub stays : slice_index behind 0 ≢ closed_by mark
+  pub goes_on : before (mark ∷ left) term
+  pub deep : (other : List ℕ) (m : Meaning) → slice_index other 0 ≢ closed_by mark → before (mark ∷ other) m → 10000 < height m
 
--- and with the item at that place nothing goes on
+-- a fault where these bytes are left of the text: what comes before can go on, and with the item at that place nothing does
 pub record BadAt (before : List ℕ → Meaning → Type 0) (rest text : List ℕ) (at : ℕ) : Type 0 where
   pub read : List ℕ
   pub behind : List ℕ
@@ -112,7 +115,7 @@ pub record BadAt (before : List ℕ → Meaning → Type 0) (rest text : List �
 
 abbrev pub Lies : (List ℕ → Meaning → Type 0) → List ℕ → List ℕ → TermFault → Type 0
 Lies before rest text (BadTerm at) = BadAt before rest text at
-Lies before rest text (TooDeep at) = LiesAt before rest text at
+Lies before rest text (TooDeep at) = DeepAt before rest text at
 Lies before rest text Memory = Unit {0}
 
 -- or a fault, which each term that the whole can be may have
