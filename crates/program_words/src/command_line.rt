@@ -45,7 +45,7 @@ pub(crate) fn command<'a>(alloc: Global) -> Result<Command<'a>, Error>
     ensures memory { IfErr result (λ e. kind_of e ≡ ErrorKind.OutOfMemory) }
 {
     let explorer = Command::new(alloc, NAME)
-        .about("Runs a module of Core Erlang under schedules of its processes")
+        .about("Explores the schedules of a concurrent Core Erlang module")
         .after_help(help::OF_THE_PROGRAM)
         .subcommand_required(true)
         .subcommand(replay_command(alloc)?)?
@@ -66,7 +66,7 @@ fn replay_command<'a>(alloc: Global) -> Result<Command<'a>, Error>
         .action(ArgAction::Set)
         .help("Steps with one blank between them, as one word: \"P P.2 P>P.2\"");
     let replay = Command::new(alloc, "replay")
-        .about("Replays a schedule, and prints what each of its steps did")
+        .about("Replays one schedule, and prints what each of its steps did")
         .after_help(help::OF_REPLAY)
         .arg(schedule)?;
     Ok(replay)
@@ -90,12 +90,12 @@ fn explore_command<'a>(alloc: Global) -> Result<Command<'a>, Error>
         .arg(flag(
             alloc,
             "explain",
-            "Prints below each finding what its schedule does, and\nwith the result of which schedules it tells",
+            "Prints below each finding what its schedule does, and\nsays which schedules the result is about",
         ))?
         .arg(flag(
             alloc,
             "cover",
-            "Prints behind a clean report its cover, for `check`",
+            "Prints after a clean report its cover, for `check`",
         ))?
         .arg(job_option(alloc))?;
     Ok(explore)
@@ -107,7 +107,7 @@ fn check_command<'a>(alloc: Global) -> Result<Command<'a>, Error>
     ensures memory { IfErr result (λ e. kind_of e ≡ ErrorKind.OutOfMemory) }
 {
     let check = Command::new(alloc, "check")
-        .about("Checks a cover: that no schedule up to a depth leads to an error")
+        .about("Checks a cover: that no schedule up to a depth shows an error")
         .after_help(help::OF_CHECK)
         .arg(depth_option(alloc))?
         .arg(allow_deadlock_flag(alloc))?
@@ -125,7 +125,7 @@ fn jobs_command<'a>(alloc: Global) -> Result<Command<'a>, Error>
     split_command(
         alloc,
         "jobs",
-        "Lists the jobs that stand at one depth of the tree of schedules",
+        "Lists the jobs at one depth of the tree of schedules",
         help::OF_JOBS,
     )
 }
@@ -138,7 +138,7 @@ fn merge_command<'a>(alloc: Global) -> Result<Command<'a>, Error>
     split_command(
         alloc,
         "merge",
-        "Puts the reports of the tree above a depth and of its jobs together",
+        "Makes one report from those of the jobs at one depth and of the tree above",
         help::OF_MERGE,
     )
 }
@@ -188,7 +188,7 @@ fn at_option<'a>(alloc: Global) -> Arg<'a>
         .action(ArgAction::Set)
         .value_name("D")
         .value_parser(value_parser!(u64).range(0..=MOST_STEPS))
-        .help("How many steps lead to each of the jobs, from 0 to N")
+        .help("How many steps lead to each job, from 0 to N")
 }
 
 // `--nodes N`.
@@ -224,7 +224,7 @@ fn allow_deadlock_flag<'a>(alloc: Global) -> Arg<'a>
     flag(
         alloc,
         "allow-deadlock",
-        "Does not count a deadlock as an error",
+        "Counts no deadlock as an error, and lists none",
     )
 }
 
@@ -247,7 +247,7 @@ fn normal_option<'a>(alloc: Global) -> Arg<'a>
         .long("normal")
         .action(ArgAction::Append)
         .value_name("TERM")
-        .help("Does not count an end with this reason as an error,\nup to 16 times")
+        .help("Takes an end with this reason as normal; may be given\n16 times")
 }
 
 // `--job LINE`.
@@ -259,7 +259,7 @@ fn job_option<'a>(alloc: Global) -> Arg<'a>
         .action(ArgAction::Set)
         .value_name("LINE")
         .help(
-            "Explores the nodes of one job alone, whose line `jobs`\nprints; not with --explain, and not with --cover",
+            "Visits the nodes of one job only, whose LINE `jobs`\nprints; not with --explain, and not with --cover",
         )
 }
 
@@ -270,7 +270,7 @@ fn strict_access_flag<'a>(alloc: Global) -> Arg<'a>
     flag(
         alloc,
         "strict-access",
-        "Counts a call as an error that is refused because of\nwho makes it",
+        "Counts a table call as an error if it is refused because\nof who makes it",
     )
 }
 

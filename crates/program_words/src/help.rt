@@ -2,20 +2,20 @@
 
 /// Of the program.
 pub(crate) const OF_THE_PROGRAM: &str = "\
-Standard input is the text of one module, at most 1048576 bytes; for `check`
-its cover stands behind it, and for `merge` there are reports and no module.
-A refusal is one line on standard error.
-`schedule_explorer COMMAND --help` says more of each command.
+The program reads the text of one module, at most 1048576 bytes, from standard
+input. `check` also reads a cover, after the module. `merge` reads reports, and
+no module. A refusal is one line on standard error.
+`schedule_explorer COMMAND --help` says more about each command.
 
 Statuses:
-  0   the schedule was replayed, or all nodes were visited and none shows an
-      error, or the cover is good, or the jobs were listed
+  0   the schedule was replayed; or all nodes were visited and none shows an
+      error; or the cover is good; or the jobs were listed
   1   all nodes were visited, and some show errors
   2   the module, the schedule, the cover, the job or a report was refused, or
-      a read failed
-  3   memory was wanting, or not all nodes were visited
-  4   the output failed
-  64  the words were refused, or ask for help
+      the input could not be read
+  3   memory ran out, or not all nodes were visited
+  4   the output could not be written
+  64  the words on the command line were refused, or ask for this help
 
 Example:
   schedule_explorer explore --depth 20 --explain < m.core";
@@ -25,15 +25,15 @@ pub(crate) const OF_REPLAY: &str = "\
 A step is a turn of a process, its pid (P, P.2.1), or a delivery (P>P.2).
 
 Standard input: the text of one module, at most 1048576 bytes.
-Standard output: the transcript, a line for each step.
+Standard output: the transcript, one line for each step.
 
 Statuses:
   0   the whole schedule was replayed
-  2   the module or the schedule was refused, a step is not enabled, or a
-      read failed
-  3   memory was wanting
-  4   the output failed
-  64  the words were refused, or ask for help
+  2   the module or the schedule was refused, or a step is not enabled, or the
+      input could not be read
+  3   memory ran out
+  4   the output could not be written
+  64  the words on the command line were refused, or ask for this help
 
 Example:
   schedule_explorer replay \"P P P.2 P>P.2\" < m.core";
@@ -42,34 +42,35 @@ Example:
 pub(crate) const OF_EXPLORE: &str = "\
 Standard input: the text of one module, at most 1048576 bytes.
 Standard output: the report, each finding with a schedule that `replay` takes.
-A TERM is written as the report prints it: 'shutdown' or {'error',1}. What is
-excused by --normal or --main-deadlock is listed all the same, as normal.
-A LINE is one that `jobs` prints for this module and depth. With --job the nodes
-of that job are all nodes: its own, and those below it.
+A TERM is written as the report prints it: 'shutdown' or {'error',1}. What
+--normal or --main-deadlock takes as normal is still listed, as normal, and does
+not count as an error.
+A LINE is one that `jobs` prints for this module and depth. With --job only the
+nodes of that job are visited: its own node, and those below it.
 
 Statuses:
   0   all nodes were visited, and none shows an error
   1   all nodes were visited, and some show errors
-  2   the module or the job was refused, or a read failed
-  3   memory was wanting, or not all nodes were visited
-  4   the output failed
-  64  the words were refused, or ask for help
+  2   the module or the job was refused, or the input could not be read
+  3   memory ran out, or not all nodes were visited
+  4   the output could not be written
+  64  the words on the command line were refused, or ask for this help
 
 Example:
   schedule_explorer explore --depth 20 --explain < m.core";
 
 /// Of `check`.
 pub(crate) const OF_CHECK: &str = "\
-Standard input: the text of one module, and behind it, from the line %%cover on,
-its cover, the tree that `explore --cover` prints. Anybody may have written it.
-Standard output: one line, where the cover is good.
+Standard input: the text of one module, and after it, from the line %%cover on,
+its cover: the tree that `explore --cover` prints. Anybody may have written it.
+Standard output: one line, if the cover is good.
 
 Statuses:
-  0   the cover is good, so no schedule of so many steps leads to an error
-  2   the module or the cover was refused, or a read failed
-  3   memory was wanting
-  4   the output failed
-  64  the words were refused, or ask for help
+  0   the cover is good, so no schedule of at most N steps shows an error
+  2   the module or the cover was refused, or the input could not be read
+  3   memory ran out
+  4   the output could not be written
+  64  the words on the command line were refused, or ask for this help
 
 Example:
   schedule_explorer explore --depth 12 --cover < m.core > m.report
@@ -79,19 +80,19 @@ Example:
 /// Of `jobs`.
 pub(crate) const OF_JOBS: &str = "\
 Standard input: the text of one module, at most 1048576 bytes.
-Standard output: a line for each job, SCHEDULE | SLEEPING: the D steps that lead
-to its node, and the steps that sleep there. `explore --job LINE` explores its
-nodes alone. The nodes of all these jobs are those of the tree, but for the ones
-that fewer than D steps lead to.
-The options that say what counts as an error are read as `check` reads them, so
-that one list of options does for all commands. They change no job.
+Standard output: one line for each job, SCHEDULE | SLEEPING: the D steps that
+lead to its node, and the steps that sleep there. `explore --job LINE` visits the
+nodes of that job only. The nodes of all these jobs, and the nodes that fewer
+than D steps lead to, are the whole tree.
+The options that say what counts as an error change no job. They are taken here
+so that one list of options serves all commands.
 
 Statuses:
   0   all jobs at depth D were listed, or there are none
-  2   the module was refused, or a read failed
-  3   memory was wanting
-  4   the output failed
-  64  the words were refused, or ask for help
+  2   the module was refused, or the input could not be read
+  3   memory ran out
+  4   the output could not be written
+  64  the words on the command line were refused, or ask for this help
 
 Example:
   schedule_explorer jobs --depth 20 --at 4 < m.core > m.jobs
@@ -99,20 +100,21 @@ Example:
 
 /// Of `merge`.
 pub(crate) const OF_MERGE: &str = "\
-Standard input: reports of `explore`, one behind another: first that of the tree
-to depth D - 1, unless D is 0, and then those of the jobs at depth D, in any
-order, each explored with --job to depth N. All were made with the options that
-say here what counts as an error, and none with --explain or --cover.
-Standard output: one report, that of the tree to depth N if no job is missing.
-How many jobs there are the reports do not tell.
+Standard input: reports of `explore`, one after another. The first is that of the
+tree to depth D - 1, unless D is 0. Then come those of the jobs at depth D, in
+any order, each explored with --job to depth N. All of them were made with the
+options given here that say what counts as an error, and none with --explain or
+--cover.
+Standard output: one report. It is that of the tree to depth N if no job is
+missing; the reports do not tell how many jobs there are.
 
 Statuses:
   0   all nodes were visited, and none shows an error
   1   all nodes were visited, and some show errors
-  2   a report was refused, or a read failed
-  3   memory was wanting, or not all nodes were visited
-  4   the output failed
-  64  the words were refused, or ask for help
+  2   a report was refused, or the input could not be read
+  3   memory ran out, or not all nodes were visited
+  4   the output could not be written
+  64  the words on the command line were refused, or ask for this help
 
 Example:
   schedule_explorer explore --depth 3 < m.core > m.reports
