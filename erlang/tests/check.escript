@@ -4,13 +4,13 @@
 %% Runs the tests of the converter with that program, and a folder to write in. Parts are snippets,
 %% random, refusals, command, library and programs; without one all of them.
 -mode(compile).
+-include("../built.hrl").
 
 main([Program, Folder | Parts]) ->
     ok = io:setopts(standard_io, [{encoding, utf8}]),
     logger:set_primary_config(level, none),
     Here = filename:dirname(filename:absname(escript:script_name())),
-    Out = filename:join(filename:dirname(Here), "out"),
-    true = code:add_patha(Out),
+    Out = built(filename:dirname(Here), "converter", fun(_) -> error(not_converted_before) end),
     [load(File) || File <- filelib:wildcard(filename:join(Here, "*.erl"))],
     {ok, Bytes} = file:read_file(filename:join(Out, "library.terms")),
     Library = binary_to_term(Bytes),
