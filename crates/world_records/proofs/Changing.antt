@@ -4,16 +4,13 @@ use Rattle.core_tree.specs.Syntax.{ModuleTree}
 use Rattle.world_model.specs.Cells.{Contents}
 use Rattle.world_model.specs.Changes.{Change, after}
 use Rattle.world_model.proofs.SortLaws.{AllAmong}
-use Rattle.proc_links.specs.Links.{AreLinks}
 use Rattle.proc_links.specs.Names.{AreHolders, AreBorne}
 use Rattle.proc_links.specs.Watchers.{AreWatchers, AreWatches}
-use Rattle.proc_links.specs.declared.links.Links.{Links}
 use Rattle.proc_links.specs.declared.names.Names.{Names}
 use Rattle.proc_links.specs.declared.watchers.Watchers.{Watchers}
 use Rattle.proc_machines.specs.Processes as processes
 use Rattle.proc_machines.specs.declared.processes.Processes.{Processes}
 use Rattle.proc_mailboxes.specs.Mailboxes.{AreMailboxes, Mailboxes}
-use Rattle.proc_signals.specs.Channels.{AreChannels, Senders}
 use Rattle.ets_rules.specs.Tables.{Hold}
 use Rattle.ets_rules.specs.declared.tables.Tables.{Tables}
 use Rattle.world_records.specs.Records.{Agrees}
@@ -58,32 +55,6 @@ only_mailboxes m r new ks v all are told = record {
   holders_are = holders_same r.names v (after ks v) (same_after of_names of_mailboxes ks v all refl) told.holders_are;
   borne_are = borne_same r.names v (after ks v) (same_after of_names of_mailboxes ks v all refl) told.borne_are;
   tables_are = tables_same r.tables v (after ks v) (same_after of_tables of_mailboxes ks v all refl) told.tables_are;
-}
-
-pub only_channels : (m : ModuleTree) (r : Records) (new : Senders) (ks : List Change) (v : Contents) → AllAmong of_channels ks → AreChannels new (after ks v) → Agrees m r v → Agrees m (record r { channels = new }) (after ks v)
-only_channels m r new ks v all are told = record {
-  processes_are = processes_same m r.processes v (after ks v) (same_after of_processes of_channels ks v all refl) told.processes_are;
-  mailboxes_are = mailboxes_same r.mailboxes v (after ks v) (same_after of_mailboxes of_channels ks v all refl) told.mailboxes_are;
-  channels_are = are;
-  links_are = links_same r.links v (after ks v) (same_after of_links of_channels ks v all refl) told.links_are;
-  watchers_are = watchers_same r.watchers v (after ks v) (same_after of_watches of_channels ks v all refl) told.watchers_are;
-  watches_are = watches_same r.watchers v (after ks v) (same_after of_watches of_channels ks v all refl) told.watches_are;
-  holders_are = holders_same r.names v (after ks v) (same_after of_names of_channels ks v all refl) told.holders_are;
-  borne_are = borne_same r.names v (after ks v) (same_after of_names of_channels ks v all refl) told.borne_are;
-  tables_are = tables_same r.tables v (after ks v) (same_after of_tables of_channels ks v all refl) told.tables_are;
-}
-
-pub only_links : (m : ModuleTree) (r : Records) (new : Links) (ks : List Change) (v : Contents) → AllAmong of_links ks → AreLinks new (after ks v) → Agrees m r v → Agrees m (record r { links = new }) (after ks v)
-only_links m r new ks v all are told = record {
-  processes_are = processes_same m r.processes v (after ks v) (same_after of_processes of_links ks v all refl) told.processes_are;
-  mailboxes_are = mailboxes_same r.mailboxes v (after ks v) (same_after of_mailboxes of_links ks v all refl) told.mailboxes_are;
-  channels_are = channels_same r.channels v (after ks v) (same_after of_channels of_links ks v all refl) told.channels_are;
-  links_are = are;
-  watchers_are = watchers_same r.watchers v (after ks v) (same_after of_watches of_links ks v all refl) told.watchers_are;
-  watches_are = watches_same r.watchers v (after ks v) (same_after of_watches of_links ks v all refl) told.watches_are;
-  holders_are = holders_same r.names v (after ks v) (same_after of_names of_links ks v all refl) told.holders_are;
-  borne_are = borne_same r.names v (after ks v) (same_after of_names of_links ks v all refl) told.borne_are;
-  tables_are = tables_same r.tables v (after ks v) (same_after of_tables of_links ks v all refl) told.tables_are;
 }
 
 pub only_watchers : (m : ModuleTree) (r : Records) (new : Watchers) (ks : List Change) (v : Contents) → AllAmong of_watches ks → AreWatchers new (after ks v) → AreWatches new (after ks v) → Agrees m r v → Agrees m (record r { watchers = new }) (after ks v)

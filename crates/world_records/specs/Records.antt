@@ -1,18 +1,11 @@
 -- The records of a world: all its parts, and what they say of its cells.
-use Rattle.std.specs.FinMap.{empty}
-use Rattle.std.specs.Prelude.{◌≡◌, List, Option, None}
+use Rattle.std.specs.Prelude.{List, Option}
 use Rattle.core_tree.specs.Syntax.{ModuleTree}
 use Rattle.term_core.specs.Meaning.{Meaning}
-use Rattle.world_model.specs.Calls.{TableArgument, TableCall}
-use Rattle.world_model.specs.Cells as cells
 use Rattle.world_model.specs.Cells.{Contents}
 use Rattle.world_model.specs.Changes.{Change, after}
 use Rattle.world_model.specs.Mailboxes.{mailbox_in, selected_of}
-use Rattle.world_model.specs.Names.{Name, Pid, Ref}
-use Rattle.world_model.specs.NewTables.{made}
-use Rattle.world_model.specs.ProcessLines.{CallLine}
-use Rattle.world_model.specs.TableRules.{on_table_line, table_rule}
-use Rattle.world_model.specs.Tables.{TableOption}
+use Rattle.world_model.specs.Names.{Pid}
 use Rattle.proc_mailboxes.specs.Mailboxes.{AreMailboxes, Mailboxes}
 use Rattle.proc_signals.specs.Channels.{AreChannels, Senders}
 use Rattle.proc_links.specs.Links.{AreLinks}
@@ -65,10 +58,6 @@ pub record Agrees (m : ModuleTree) (records : Records) (v : Contents) : Type 0 w
 abbrev pub OfWorld : Records → (ModuleTree → Contents → Type 0) → Type 0
 OfWorld records IsSo = (m : ModuleTree) (v : Contents) → Agrees m records v → IsSo m v
 
--- this is so of the line of a call of tables, where no rule refuses it
-abbrev pub OfServedCall : Records → Pid → TableArgument → TableCall → (ModuleTree → Contents → CallLine → Type 0) → Type 0
-OfServedCall records p argument call IsSo = (m : ModuleTree) (v : Contents) → Agrees m records v → table_rule v p argument call ≡ None → IsSo m v (on_table_line v p argument call)
-
 -- the oldest message in the mailbox of a process that its receive selects, if there is one
 abbrev pub selected_in : Records → Contents → Pid → Option Meaning
 selected_in records v p = selected_of (processes.selects_in records.processes p) (mailbox_in v p)
@@ -80,7 +69,3 @@ Follows changes old new = (m : ModuleTree) (v : Contents) → Agrees m old v →
 -- the records agree with the same contents
 abbrev pub AreAlike : Records → Records → Type 0
 AreAlike old new = (m : ModuleTree) (v : Contents) → Agrees m old v → Agrees m new v
-
--- a table is made under a reference that has no rows
-abbrev pub MakesTable : Pid → Ref → Name → List TableOption → Records → Records → Type 0
-MakesTable p t name options old new = (m : ModuleTree) (v : Contents) → v (cells.Rows t) ≡ empty → Agrees m old v → Agrees m new (after (made p t name options) v)

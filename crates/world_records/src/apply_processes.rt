@@ -1,9 +1,13 @@
 // Changes of processes, of what they send, and of what they are to each other, each applied by itself.
-ghost use Rattle.std.specs.Prelude.{◌≡◌, OnOk};
+ghost use Rattle.std.specs.Prelude.{◌≡◌, ◌∷◌, [], OnOk};
+ghost use Rattle.proc_links.specs.Process.{are_trapped};
+ghost use Rattle.world_model.specs.Changes.{TrapSet};
+ghost use Rattle.world_records.specs.Records.{Follows};
 ghost use Rattle.world_records.specs.declared.change.Change.TheVariants.{ProcessStarted, ProcessEnded, MessageAdded, MessageTaken, SignalPut, WatchCleared, NameRegistered, NameUnregistered, NameCleared};
 ghost use Rattle.world_records.specs.inside.Applied.{Applies};
 
 use crate::records::Records;
+use proc_links::Exits;
 use proc_signals::Signal;
 use std::alloc::{AllocError, Global};
 use term_core::{Atom, Pid, RefId, Term, Terms};
@@ -30,6 +34,14 @@ impl<'m> Records<'m> {
         ensures { OnOk result (Applies (ProcessEnded pid.now _reason.now) self.old self.new) }
     {
         self.processes.kill(alloc, pid)?;
+        Ok(())
+    }
+
+    /// Exit signals are messages to a process from now on, or end it.
+    pub(crate) fn set_trap(&mut self, pid: &Pid, exits: Exits) -> Result<(), AllocError>
+        ensures { OnOk result (Follows (λ v. TrapSet pid.now (are_trapped exits) ∷ []) self.old self.new) }
+    {
+        self.processes.set_trap(pid, exits)?;
         Ok(())
     }
 

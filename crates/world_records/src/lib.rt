@@ -5,12 +5,10 @@
 pub mod apply;
 mod apply_processes;
 mod apply_tables;
-pub mod bonds;
+mod bonds;
 pub mod cell;
 pub mod change;
-pub mod ends;
 pub mod mail;
-pub mod names;
 pub mod records;
 pub mod tables;
 pub mod turns;

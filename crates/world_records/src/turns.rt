@@ -43,7 +43,7 @@ impl<'m> Records<'m> {
 
     /// A process begins with a function of a module and its arguments, and runs to its first request (erlang manual,
     /// `spawn/3`). `AllocError` if there is no memory.
-    pub fn begin(
+    pub(crate) fn begin(
         &mut self,
         alloc: Global,
         child: &Pid,
