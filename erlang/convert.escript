@@ -1,5 +1,5 @@
 #!/usr/bin/env escript
-%%! +A0
+%%! +A0 +fnu
 %% convert.escript FILE.erl [--entry f/0] [--after-timeout MS] [--approximate] [--notes] [-I DIR] [-D NAME[=VALUE]]
 %% Prints the Core Erlang module that the explorer reads. README.md in this folder says more.
 -mode(compile).

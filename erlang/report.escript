@@ -1,6 +1,6 @@
 #!/usr/bin/env escript
 %% -*- erlang -*-
-%%! +A0
+%%! +A0 +fnu
 %% Reports an exploration to people: report.escript explore|replay FOLDER FILE COVERAGE CHART DRAWINGS, as ./explore calls
 %% it. The modules of src/ whose names begin with report_ are compiled the first time (built.hrl).
 -mode(compile).

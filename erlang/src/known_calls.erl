@@ -37,7 +37,7 @@ objection(Own, {erlang, Spawn, 3}, [Module, Function, _]) when Spawn =:= spawn; 
     begins(Own, Module, Function);
 objection(_, {erlang, process_flag, 2}, [#c_literal{val = trap_exit}, _]) -> none;
 objection(_, {erlang, process_flag, 2}, [#c_literal{val = Flag}, _]) ->
-    {refuse, io_lib:format("process_flag(~w, ..) is not known here", [Flag])};
+    {refuse, io_lib:format("process_flag(~tw, ..) is not known here", [Flag])};
 objection(_, {erlang, process_flag, 2}, _) -> {refuse, "process_flag/2 of a computed flag is not known here"};
 objection(_, {erlang, monitor, 2}, [#c_literal{val = process}, #c_literal{}]) ->
     {refuse, "monitor/2 of a name is not known here: use whereis/1"};
@@ -45,18 +45,18 @@ objection(_, {erlang, monitor, 2}, [#c_literal{val = process}, #c_tuple{}]) ->
     {refuse, "monitor/2 of a name is not known here: use whereis/1"};
 objection(_, {erlang, monitor, 2}, [#c_literal{val = process}, _]) -> {note, "monitor/2 of what turns out to be a name is badarg here"};
 objection(_, {erlang, monitor, 2}, [#c_literal{val = Kind}, _]) ->
-    {refuse, io_lib:format("monitor(~w, ..) is not known here", [Kind])};
+    {refuse, io_lib:format("monitor(~tw, ..) is not known here", [Kind])};
 objection(_, {erlang, monitor, 2}, _) -> {refuse, "monitor/2 of a computed kind is not known here"};
 objection(_, {erlang, demonitor, 2}, [_, #c_literal{val = Options}]) when Options =:= []; Options =:= [flush] -> none;
 objection(_, {erlang, demonitor, 2}, [_, #c_literal{val = Options}]) ->
-    {refuse, io_lib:format("demonitor/2 with ~w is not known here", [Options])};
+    {refuse, io_lib:format("demonitor/2 with ~tw is not known here", [Options])};
 objection(_, {erlang, demonitor, 2}, _) -> {refuse, "demonitor/2 with computed options is not known here"};
 objection(_, {erlang, Send, 2}, [#c_tuple{}, _]) when Send =:= '!'; Send =:= send -> to_a_node();
 objection(_, {erlang, Send, 2}, [#c_literal{val = To}, _]) when is_tuple(To), Send =:= '!' orelse Send =:= send -> to_a_node();
 objection(_, {ets, info, 2}, [_, #c_literal{val = Item}]) ->
     case lists:member(Item, [name, owner, heir, size, type, protection, keypos, named_table]) of
         true -> none;
-        false -> {refuse, io_lib:format("ets:info(.., ~w) is not known here", [Item])}
+        false -> {refuse, io_lib:format("ets:info(.., ~tw) is not known here", [Item])}
     end;
 objection(_, {ets, F, 3} = Call, [_, _, Operation]) when F =:= update_counter; F =:= update_element ->
     operation(Call, shape(Operation));

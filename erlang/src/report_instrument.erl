@@ -5,7 +5,7 @@
 %% another file than the source. The module that is made has a name of its own, so that it takes the place of no module
 %% of the machine.
 -module(report_instrument).
--export([module/2, name/0, first/0]).
+-export([module/2, read/1, name/0, first/0]).
 
 %% The name of the module that is made, and that of its function which is what the first process runs.
 name() -> '$played'.
@@ -14,13 +14,39 @@ first() -> '$first'.
 %% The name of the module that a text spells, what its first process runs, and its code; or why there is none.
 module(Text, Source) ->
     try
-        {ok, Tokens, _} = core_scan:string(Text),
-        {ok, Core} = core_parse:parse(Tokens),
+        Core = read(Text),
         Name = cerl:concrete(cerl:module_name(Core)),
         {ok, _, Code} = compile:forms(made(noted(Core, erlang_file(Source, Name)), Name), [from_core, binary]),
         {ok, Name, first_of(Core), Code}
     catch
         error:Reason -> {error, Reason}
+    end.
+
+%% The tree of a text of Core Erlang. The scanner of the machine takes no characters past ASCII, so each is written in
+%% ASCII before, between two marks, and put back into the atoms and strings after.
+read(Text) ->
+    Mark = mark(Text),
+    {ok, Tokens, _} = core_scan:string(lists:flatmap(fun(C) -> in_ascii(C, Mark) end, Text)),
+    {ok, Core} = core_parse:parse([from_ascii(Token, Mark) || Token <- Tokens]),
+    Core.
+
+%% A character that the text has neither as it is nor as an escape.
+mark(Text) ->
+    hd([C || C <- lists:seq(1, 7), not lists:member(C, Text), string:find(Text, io_lib:format("\\~3.8.0b", [C])) =:= nomatch]).
+
+in_ascii(C, Mark) when C > 127 -> [Mark] ++ integer_to_list(C) ++ [Mark];
+in_ascii(C, _) -> [C].
+
+from_ascii({atom, Line, Atom}, Mark) -> {atom, Line, list_to_atom(put_back(atom_to_list(Atom), Mark))};
+from_ascii({string, Line, String}, Mark) -> {string, Line, put_back(String, Mark)};
+from_ascii(Token, _) -> Token.
+
+put_back(Text, Mark) ->
+    case lists:splitwith(fun(C) -> C =/= Mark end, Text) of
+        {_, ""} -> Text;
+        {Before, [Mark | Rest]} ->
+            {Number, [Mark | After]} = lists:splitwith(fun(C) -> C =/= Mark end, Rest),
+            Before ++ [list_to_integer(Number) | put_back(After, Mark)]
     end.
 
 %% The lines in a .core file are those of the source that it was made from.
