@@ -11,8 +11,12 @@
 %% and what is drawn.
 -record(work, {folder, source, module, first, chart, drawings}).
 
-main([Kind, Folder, Source, Coverage, Chart, Drawings]) ->
-    ok = io:setopts(standard_io, [{encoding, unicode}]),
+main(Words) ->
+    [ok = io:setopts(Device, [{encoding, unicode}]) || Device <- [standard_io, standard_error]],
+    ran(Words).
+
+ran(["normal", Folder]) -> spelled(Folder);
+ran([Kind, Folder, Source, Coverage, Chart, Drawings]) ->
     {Module, First} = prepare(filename:join(Folder, "module.core"), filename:basename(Source)),
     Work = #work{folder = Folder, source = filename:basename(Source), module = Module, first = First,
                  chart = Chart =:= "yes", drawings = Drawings},
@@ -35,6 +39,27 @@ read(File) ->
     unicode:characters_to_list(Bytes).
 
 complain(Format, Arguments) -> io:format(standard_error, "explore: " ++ Format ++ "~n", Arguments).
+
+%% ---- terms that were typed
+
+%% Prints the terms of the file `normal`, each with a zero after it there, in the spelling of the program, a line each. A
+%% text that is no term has status 64.
+spelled(Folder) ->
+    Texts = lists:droplast(string:split(read(filename:join(Folder, "normal")), [0], all)),
+    Module = try report_instrument:read(read(filename:join(Folder, "module.core"))) catch error:_ -> none end,
+    [print([spelling(Text, Module), "\n"]) || Text <- Texts].
+
+spelling(Text, Module) ->
+    case report_spelling:spelled(Text, Module) of
+        {ok, Spelling} -> Spelling;
+        {no_term, Place} ->
+            complain("\"~ts\" is no term: see its character ~w. --normal takes a term as the report shows it: "
+                     "shutdown, {shutdown,1}, 'two words', [1,2], P.3", [Text, Place]),
+            halt(64);
+        {not_there, Name} ->
+            complain("--normal cannot tell \"~ts\" by its name: write it as --raw shows it", [Name]),
+            halt(64)
+    end.
 
 %% ---- one schedule
 

@@ -3,7 +3,7 @@
 %% A term that was read is {int, N}, {atom, A}, {tuple, Terms}, {list, Terms, Tail}, {pid, Name} or {ref, Name}; the
 %% tail of a proper list is nil.
 -module(report_term).
--export([read/1, read_arguments/1, text/1, real/2, of_real/2, names/1]).
+-export([read/1, read_arguments/1, escaped/1, text/1, text_of_fun/2, real/2, of_real/2, names/1]).
 
 %% ---- reading
 
@@ -42,6 +42,7 @@ read_atom([$\\, A, B, C | Rest], Characters) when A >= $0, A =< $7 ->
 read_atom([$\\, C | Rest], Characters) -> read_atom(Rest, [escaped(C) | Characters]);
 read_atom([C | Rest], Characters) -> read_atom(Rest, [C | Characters]).
 
+%% The character that a letter after a backslash stands for.
 escaped($b) -> 8;
 escaped($t) -> 9;
 escaped($n) -> 10;

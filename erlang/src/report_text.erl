@@ -103,7 +103,8 @@ result(Errors, false, ["limit", Depth], First) ->
 result(0, false, [_, Depth], _) -> ["clean to depth ", Depth, "; longer schedules were not explored"];
 result(_, false, ["all", _], _) -> "errors, all schedules";
 result(_, false, [_, Depth], _) -> ["errors to depth ", Depth, "; longer schedules were not explored"];
-result(_, true, [_, Depth], First) -> [lists:last(string:split(First, ", ")), " at depth ", Depth].
+result(Errors, true, [_, Depth], First) ->
+    [if Errors =:= 0 -> ""; true -> "errors, " end, lists:last(string:split(First, ", ")), " at depth ", Depth].
 
 %% The depth that the program reports.
 depth(First) -> hd(string:lexemes(First, "depth ,")).
