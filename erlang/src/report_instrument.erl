@@ -92,6 +92,7 @@ played(Tree, Name) ->
         'receive' -> waiting(inside(Tree, Below));
         apply -> applied(inside(Tree, Below));
         'catch' -> caught(cerl:catch_body(inside(Tree, Below)));
+        clause -> cerl:update_c_clause(Tree, cerl:clause_pats(Tree), cerl:clause_guard(Tree), Below(cerl:clause_body(Tree)));
         primop -> raised(inside(Tree, Below));
         _ -> inside(Tree, Below)
     end.
@@ -110,9 +111,15 @@ call(Tree, Name) ->
         true ->
             What = [place(Tree), cerl:abstract(Module), cerl:abstract(Function), cerl:make_list(Arguments)],
             kept(ask(cerl:get_ann(Tree), ask, What));
-        false when Module =:= Name -> cerl:update_c_call(Tree, cerl:abstract(name()), cerl:call_name(Tree), Arguments);
-        false -> Tree
+        false when Module =:= Name ->
+            counted(Tree, Arguments, fun(Given) -> cerl:update_c_call(Tree, cerl:abstract(name()), cerl:call_name(Tree), Given) end);
+        false -> built(Tree)
     end.
+
+%% A call that its process answers by itself, with what it gives shown to the machine.
+built(Tree) ->
+    Value = cerl:c_var('Built@'),
+    cerl:c_let([Value], Tree, cerl:c_seq(ask([], built, [place(Tree), Value]), Value)).
 
 atom_of(Tree) ->
     case cerl:is_c_atom(Tree) of
@@ -140,10 +147,19 @@ waiting(Tree) ->
     cerl:c_seq(ask(Notes, wait, [place(Tree), cerl:receive_timeout(Tree)]), Receive).
 
 applied(Tree) ->
-    case cerl:get_ann(Tree) of
-        [] -> Tree;
-        _ -> kept(Tree)
-    end.
+    counted(Tree, cerl:apply_args(Tree), fun(Arguments) ->
+        Application = cerl:update_c_apply(Tree, cerl:apply_op(Tree), Arguments),
+        case cerl:get_ann(Tree) of
+            [] -> Application;
+            _ -> kept(Application)
+        end
+    end).
+
+%% An application is counted when its arguments are there, as the explorer counts it.
+counted(Tree, Arguments, Application) ->
+    Given = [cerl:c_var(list_to_atom("Argument@" ++ integer_to_list(I))) || I <- lists:seq(1, length(Arguments))],
+    cerl:c_let(Given, cerl:c_values(Arguments),
+               cerl:c_seq(ask([], applied, [place(Tree), cerl:make_list(Given)]), Application(Given))).
 
 %% A request, or an application in the source, leaves its caller on the stack, so that the line is found from which a
 %% library function was called.

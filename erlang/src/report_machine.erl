@@ -4,19 +4,25 @@
 %% is. The machine is also a second witness: where it asks otherwise than the transcript says, that is reported.
 -module(report_machine).
 -export([load/1, play/2]).
--export([ask/4, wait/2, not_taken/0, back/0, caught/2, raised/2]).
+-export([ask/4, wait/2, not_taken/0, back/0, applied/2, built/2, caught/2, raised/2]).
 -include("report.hrl").
 
 -record(played, {
     lines = #{},        % the place of each event, by its number
     stands = #{},       % the place where each process is that did not end, by its name
+    limits = #{},       % the limit of the explorer that an event comes from, by its number: {Limit, Place}
     differs = []        % what the machine does otherwise
 }).
 
-%% How many milliseconds a process may be silent: one that the transcript lets run away never sends anything more.
+%% How many milliseconds a process may be silent.
 -define(PATIENCE, 30000).
--define(PATIENCE_WITH_RUNAWAYS, 500).
 -define(GREATEST_HEAP, 20000000).
+
+%% The limits of the explorer (docs/LANGUAGE.md, "Evaluation"): how many applications a process makes between two
+%% requests, how many nodes a term has, and how many bits an integer has beside its sign.
+-define(APPLICATIONS, 10000).
+-define(NODES, 10000).
+-define(BITS, 63).
 
 load(Code) ->
     Name = report_instrument:name(),
@@ -30,7 +36,8 @@ play(Module, Events) ->
     Result = lists:foldl(fun(Start, Played) -> play_process(Start, Events, Named, Played) end,
                          #played{}, [{"P", first} | starts(Module, Events)]),
     [exit(Pid, kill) || Pid <- maps:values(Named), is_pid(Pid)],
-    #{lines => Result#played.lines, stands => Result#played.stands, differs => lists:reverse(Result#played.differs)}.
+    #{lines => Result#played.lines, stands => Result#played.stands, limits => Result#played.limits,
+      differs => lists:reverse(Result#played.differs)}.
 
 %% ---- names
 
@@ -74,13 +81,9 @@ play_process({Name, Start}, Events, Named, Played) ->
     Pid = maps:get({pid, Name}, Named),
     Own = [Event || #event{who = Who} = Event <- Events, Who =:= Name],
     Ended = lists:any(fun(Event) -> ended_by(Name, Event) end, Events),
-    Patience = case lists:keymember(runaway, #event.deed, Own) of
-        true -> ?PATIENCE_WITH_RUNAWAYS;
-        false -> ?PATIENCE
-    end,
     Watch = monitor(process, Pid),
     Pid ! {play, self(), real_start(Start, Named), {Own, Named}},
-    listen(Name, {Pid, Watch, Patience}, Ended, Played).
+    listen(Name, {Pid, Watch}, Ended, Played).
 
 %% Whether a delivery ended the process.
 ended_by(Name, #event{who = {_, Name}, deed = Deed}) when is_tuple(Deed) ->
@@ -94,11 +97,14 @@ real_start(first, _) -> first;
 real_start({Module, Function, Arguments}, Named) -> {Module, Function, report_term:real(Arguments, Named)}.
 
 %% Takes in what the process sends, until it has reached its last place, has ended or is lost.
-listen(Name, {Pid, Watch, Patience} = Player, Ended, Played) ->
+listen(Name, {Pid, Watch} = Player, Ended, Played) ->
     receive
         {told, Pid, {line, Number, Place}} ->
             Lines = Played#played.lines,
             listen(Name, Player, Ended, Played#played{lines = Lines#{Number => Place}});
+        {told, Pid, {limit, Number, Limit, Place}} ->
+            #played{lines = Lines, limits = Limits} = Played,
+            Played#played{lines = Lines#{Number => Place}, limits = Limits#{Number => {Limit, Place}}};
         {told, Pid, {stands, _}} when Ended -> Played;
         {told, Pid, {stands, Place}} ->
             Stands = Played#played.stands,
@@ -107,7 +113,7 @@ listen(Name, {Pid, Watch, Patience} = Player, Ended, Played) ->
             Played#played{differs = [Name ++ ": " ++ Text | Played#played.differs]};
         {told, Pid, ended} -> Played;
         {'DOWN', Watch, process, Pid, _} -> Played
-    after Patience -> Played
+    after ?PATIENCE -> Played
     end.
 
 perform(Boss, Start, {Own, Named}) ->
@@ -115,6 +121,7 @@ perform(Boss, Start, {Own, Named}) ->
     put('$boss', Boss),
     put('$events', Own),
     put('$named', Named),
+    put('$applied', 0),
     ended(try begin_with(Start) of _ -> {{atom, normal}, none}
           catch Class:Reason:Stack -> {reason(Class, of_real(Reason)), source_of(Stack)}
           end).
@@ -146,6 +153,7 @@ ask(Place, Module, Function, Arguments) ->
     case next() of
         #event{number = Number, deed = {call, Module, Function, Asked, Answer}} ->
             tell({line, Number, Here}),
+            put('$applied', 0),
             answer(Answer);
         none -> tell({stands, Here}), stop();
         #event{deed = runaway} -> tell(ended), stop();
@@ -162,6 +170,7 @@ wait(Place, Timeout) ->
     is_timeout(Timeout) orelse erlang:error(timeout_value),
     Here = place(Place),
     put('$taken', none),
+    put('$applied', 0),
     case next() of
         #event{number = Number, deed = {receives, Term}} = Event ->
             tell({line, Number, Here}),
@@ -202,14 +211,53 @@ next() ->
 
 tell(What) -> get('$boss') ! {told, self(), What}.
 
+%% ---- the limits of the explorer
+
+%% An application, before it is made, with its arguments: the explorer lets the process run away where there were as many
+%% as there may be since its last request.
+applied(Place, Arguments) ->
+    [built(Place, Argument) || Argument <- Arguments],
+    case {get('$applied'), get('$events')} of
+        {?APPLICATIONS, [#event{number = Number, deed = runaway} | _]} -> met(Number, applications, place(Place));
+        {Count, _} -> put('$applied', Count + 1)
+    end.
+
+%% A value that the process has. If it is past a limit, the explorer ends the process here or lets it catch the error.
+built(Place, Value) ->
+    case {limit_of(Value), get('$events')} of
+        {none, _} -> ok;
+        {Limit, [#event{number = Number, deed = {ends, {tuple, [{atom, system_limit}, _]}}} | _]} -> met(Number, Limit, place(Place));
+        {_, _} -> put('$is_past_limit', true)
+    end.
+
+limit_of(Value) when is_integer(Value), Value >= 1 bsl ?BITS; is_integer(Value), Value < -(1 bsl ?BITS) -> bits;
+limit_of(Value) ->
+    case erts_debug:flat_size(Value) >= ?NODES andalso nodes_left(Value, ?NODES) < 0 of
+        true -> nodes;
+        false -> none
+    end.
+
+%% How many nodes more there may be after those of a term; less than 0 where it has too many. No term has more than one
+%% node more than it takes words of memory.
+nodes_left(_, Left) when Left < 0 -> Left;
+nodes_left([First | Rest], Left) -> nodes_left(Rest, nodes_left(First, Left - 1));
+nodes_left(Tuple, Left) when is_tuple(Tuple) -> lists:foldl(fun nodes_left/2, Left - 1, tuple_to_list(Tuple));
+nodes_left(_, Left) -> Left - 1.
+
+met(Number, Limit, Place) -> tell({limit, Number, Limit, Place}), stop().
+
 %% Nothing that the module could catch ends its part here.
 stop() -> receive {never, _, _, _} -> ok end.
 
-%% The limits of the explorer are not those of the machine, and where it ends for one there is nothing to compare.
-differ(#event{deed = {ends, {tuple, [{atom, system_limit}, _]}}}, _) -> tell(ended), stop();
+%% The limits of the explorer are not those of the machine: where it goes on, the process met one of them.
+%% Where the module catches that error, the machine goes on in another way, and nothing more can be compared.
+differ(#event{number = Number, deed = {ends, {tuple, [{atom, system_limit}, _]}}}, _) -> met(Number, some, none);
 differ(#event{number = Number, deed = Deed}, Does) ->
-    tell({differs, lists:flatten(["at event ", integer_to_list(Number), " the transcript says \"",
-                                  report_text:deed(Deed), "\", and the machine ", Does])}),
+    tell(case get('$is_past_limit') of
+        true -> ended;
+        undefined -> {differs, lists:flatten(["at event ", integer_to_list(Number), " the transcript says \"",
+                                              report_text:deed(Deed), "\", and the machine ", Does])}
+    end),
     stop().
 
 of_real(Term) ->

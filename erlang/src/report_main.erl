@@ -87,8 +87,8 @@ finding(Work, Place, {Kind, Number, Identity, Schedule}, Errors) ->
     case Kind of
         error ->
             Earlier = report_story:earlier(Read, Errors, maps:get(events, Told)),
-            print(["\n", Title, "\n", report_text:schedule(Schedule), report_text:earlier(Earlier),
-                   report_text:transcript(Read, Told)]),
+            print(["\n", Title, "\n", report_text:limit(report_story:limit(Told)), report_text:schedule(Schedule),
+                   report_text:earlier(Earlier), report_text:transcript(Read, Told)]),
             draw(Work, ["error_", integer_to_list(Number)], Title, Read, Told);
         _ -> print(report_text:brief(Title, Schedule, Told))
     end,
@@ -98,7 +98,7 @@ finding(Work, Place, {Kind, Number, Identity, Schedule}, Errors) ->
 told(Work, Text) ->
     Events = report_reader:transcript(Text),
     Played = case Work#work.module of
-        none -> #{lines => #{}, stands => #{}, differs => []};
+        none -> #{lines => #{}, stands => #{}, limits => #{}, differs => []};
         Module -> report_machine:play(Module, Events)
     end,
     Played#{events => Events, places => report_story:places(Events, maps:get(lines, Played)),

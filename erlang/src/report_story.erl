@@ -1,7 +1,7 @@
 %% What a transcript says beyond its lines: what each process is, which send a delivery comes from, and which messages
 %% nobody took.
 -module(report_story).
--export([processes/1, roles/2, places/2, mailboxes/1, schedule/1, earlier/3]).
+-export([processes/1, roles/2, places/2, mailboxes/1, schedule/1, earlier/3, limit/1]).
 -include("report.hrl").
 
 %% The names of the processes, in the order in which they appear.
@@ -43,6 +43,22 @@ shown(#event{who = Name, deed = {ends, Reason}}) -> [{ends, Name, Reason}];
 shown(#event{who = Name, deed = {call, _, _, _, {ends, Reason}}}) -> [{ends, Name, Reason}];
 shown(#event{who = Name, deed = runaway}) -> [{runaway, Name}];
 shown(_) -> [].
+
+%% ---- limits
+
+%% The limit of the explorer that the last event comes from, as {Limit, Place}, or none: that a process runs away is such
+%% a limit, and an end may come from one that the machine met; so may an end by the signal of another process.
+limit(#{events := []}) -> none;
+limit(#{events := Events, limits := Limits}) -> limit(lists:last(Events), Events, Limits).
+
+limit(#event{number = Number, deed = runaway}, _, Limits) -> maps:get(Number, Limits, {applications, none});
+limit(#event{who = {From, _}, deed = {exit, Reason, {ends, Reason}}}, Events, Limits) ->
+    Causes = [Number || #event{number = Number, who = Who, deed = {ends, Of}} <- Events, Who =:= From, Of =:= Reason],
+    case [maps:get(Number, Limits) || Number <- Causes, maps:is_key(Number, Limits)] of
+        [Found | _] -> Found;
+        [] -> none
+    end;
+limit(#event{number = Number}, _, Limits) -> maps:get(Number, Limits, none).
 
 %% ---- deliveries
 

@@ -1,7 +1,7 @@
 %% The report for people.
 -module(report_text).
 -export([call/3, deed/1, identity/1, place/1, role/2, waits/2, stands/2]).
--export([head/3, tail/4, schedule/1, earlier/1, transcript/2, brief/3]).
+-export([head/3, tail/4, schedule/1, limit/1, earlier/1, transcript/2, brief/3]).
 -include("report.hrl").
 
 -define(GREATEST_COLUMN, 76).
@@ -111,6 +111,19 @@ depth(First) -> hd(string:lexemes(First, "depth ,")).
 
 %% A schedule as the words with which it is shown again.
 schedule(Schedule) -> ["  --replay \"", Schedule, "\"\n"].
+
+%% That an error is there for a limit of the explorer (docs/LANGUAGE.md, "Evaluation"), and where that was met.
+limit(none) -> "";
+limit({Limit, Place}) -> ["  this is a limit of the explorer, not of Erlang: ", limit_in_words(Limit), where(Place), "\n"].
+
+limit_in_words(applications) ->
+    "a process may call 10,000 functions of its module before it sends, receives or asks for anything";
+limit_in_words(nodes) -> "a term may have 10,000 nodes, which are its numbers, atoms, tuples, list cells and so on";
+limit_in_words(bits) -> "an integer may have 64 bits";
+limit_in_words(some) -> "a term may have 10,000 nodes, and an integer 64 bits".
+
+where(none) -> "";
+where(Place) -> [" (", place(Place), ")"].
 
 %% An error that another one comes after may follow from it.
 earlier(none) -> "";
