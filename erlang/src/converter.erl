@@ -86,15 +86,17 @@ convert(File, Options, Library) ->
     end.
 
 converted(File, Module, Exports0, Source, #options{entry = Entry, approximate = Approximate} = Options, Library, L0) ->
-    {Begun, Exports, L1} = entry_point:settle(Entry, File, Module, Exports0, Source, L0),
+    {Begun, Exported, L1} = entry_point:settle(Entry, File, Module, Exports0, Source, L0),
+    Needed = reach:from_main(Begun, Module, Exported, Library),
+    Exports = [E || E <- Exported, lists:member(E, Needed)],
     Prepare = fun(D, L) -> prepared(D, Options, L) end,
-    {Prepared, L2} = lists:mapfoldl(Prepare, L1, reached(Begun, [{main, 0} | Exports])),
+    {Prepared, L2} = lists:mapfoldl(Prepare, L1, [D || D <- Begun, lists:member(D#definition.name, Needed)]),
     {Resolved, L3} = library_calls:resolve(Prepared, Prepare, {Module, Exports, Library, Approximate}, L2),
     Size = odd_tuples:free_size([D#definition.code || D <- Resolved]),
     Plain = [odd_tuples:replace(Size, D) || D <- Resolved],
     {FirstOrder, NewExports, L4} = function_values:replace(Plain, Module, Size, L3),
     AllExports = lists:usort(Exports ++ NewExports),
-    Reached = reached(FirstOrder, [{main, 0} | AllExports]),
+    Reached = reach:by_names(FirstOrder, [{main, 0} | AllExports]),
     Ledger = readable:check(File, Reached, Module, AllExports, L4),
     {ok, fun() -> core_text:module(File, Module, AllExports, Reached) end, Ledger}.
 
@@ -103,18 +105,3 @@ prepared(#definition{code = Code, origin = Origin, home = Home} = D, #options{af
     {Lengthened, L1} = timeouts:lengthen(Origin, Home, Limit, L, receives:restore(Code)),
     {New, L2} = map_forms:replace(Home, L1, Lengthened),
     {D#definition{code = New}, L2}.
-
-%% The definitions that are reached from these names, in their order.
-reached(Definitions, Roots) ->
-    ByName = maps:from_list([{N, Code} || #definition{name = N, code = Code} <- Definitions]),
-    Seen = reached(Roots, ByName, #{}),
-    [D || #definition{name = N} = D <- Definitions, maps:is_key(N, Seen)].
-
-reached([], _, Seen) -> Seen;
-reached([Name | T], ByName, Seen) ->
-    case {Seen, ByName} of
-        {#{Name := _}, _} -> reached(T, ByName, Seen);
-        {_, #{Name := Code}} ->
-            reached([V || {_, _} = V <- core_tree:free_variables(Code)] ++ T, ByName, Seen#{Name => true});
-        _ -> reached(T, ByName, Seen)
-    end.

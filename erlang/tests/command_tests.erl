@@ -11,9 +11,14 @@ all(Folder, Work) ->
     [{"command: " ++ Title, outcome(Wanted, run(Script, Place, Words))} || {Title, Words, Wanted} <- cases()].
 
 files() ->
-    [{"good.erl", "-module(good).\n-export([main/0, other/0]).\nmain() -> self() ! x, receive x -> ok end.\nother() -> self() ! y.\n"},
+    [{"good.erl", "-module(good).\n-export([main/0, other/0]).\nmain() -> self() ! x, receive x -> ok end.\nother() -> main().\n"},
      {"bad.erl", "-module(bad).\n-export([main/0]).\nmain() -> <<1, (f(2))>>.\nf(X) ->\n  put(a, X).\n"},
      {"unused.erl", "-module(unused).\n-export([main/0]).\nmain() -> ok.\nf() -> receive #{a := X} -> <<X>> end.\n"},
+     {"exported.erl", "-module(exported).\n-export([main/0, go/0, by_name/1, called/0, as_fun/1, test/0]).\n"
+                      "main() -> spawn(?MODULE, by_name, [1]), ?MODULE:called().\nby_name(_) -> ok.\ncalled() -> lists:foreach(fun ?MODULE:as_fun/1, [1]).\n"
+                      "as_fun(_) -> ok.\ngo() -> ok.\ntest() -> eunit:test(?MODULE), <<1, (go())>>.\n"},
+     {"computed.erl", "-module(computed).\n-export([main/0, f/0, g/1, test/0]).\nmain() -> start(f).\nstart(F) -> spawn(?MODULE, F, []).\n"
+                      "f() -> ok.\ng(X) -> <<X>>.\ntest() -> <<(f())>>.\n"},
      {"wrong.erl", "-module(wrong).\n-export([main/0]).\nmain() -> x(.\n"},
      {"unbound.erl", "-module(unbound).\n-export([main/0]).\nmain() -> X.\n"},
      {"with.erl", "-module(with).\n-export([main/0]).\n-include(\"part.hrl\").\nmain() -> [part(), ?WORD].\n"},
@@ -26,10 +31,14 @@ files() ->
 %% {Status, what standard output has to have in it (or none), standard error}
 cases() ->
     Usage = "usage: convert.escript FILE.erl [--entry f/0] [--after-timeout MS] [--approximate] [--notes] [-I DIR] [-D NAME[=VALUE]]\n",
-    [{"a module", "good.erl", {0, "module 'good' ['main'/0,'other'/0]", ""}},
+    [{"a module", "good.erl", {0, "module 'good' ['main'/0]", ""}},
      {"an entry", "good.erl --entry other/0", {0, "'main'/0 =\n  fun () ->\n    apply 'other'/0()", ""}},
      {"the source's main is another then", "--entry other/0 good.erl", {0, "'main of the module'/0 =", ""}},
      {"what nothing comes to", "unused.erl --notes", {0, "module 'unused' ['main'/0]\n    attributes []\n'main'/0 =\n  fun () ->\n    'ok'\nend", ""}},
+     {"an exported function that nothing reaches", "exported.erl --notes", {0, "module 'exported' ['as_fun'/1,'by_name'/1,'called'/0,'main'/0]\n", "note: functions are tuples here: they sort among tuples, element/2 and tuple_size/1 take them, and two of one place and the same values are equal\n"}},
+     {"the same from an entry", "exported.erl --entry go/0", {0, "module 'exported' ['go'/0]\n    attributes []\n'go'/0 =\n  fun () ->\n    'ok'\n'main'/0 =\n  fun () ->\n    apply 'go'/0()\nend", ""}},
+     {"an entry that is not read", "exported.erl --entry test/0", {2, none, "exported.erl:8: binaries are not read (in test/0)\nexported.erl:8: eunit:test/1 is not known here (in test/0)\n"}},
+     {"a process that begins with a computed function", "computed.erl", {2, none, "computed.erl:7: binaries are not read (in test/0)\n"}},
      {"lines of the source", "good.erl", {0, "-| [3] )", ""}},
      {"an include file's lines", "with.erl -D WORD=7", {0, "-| [4,{'file',[112,97,114,116,46,104,114,108]}] )", ""}},
      {"a macro", "with.erl -D WORD", {0, ",'true']", ""}},
