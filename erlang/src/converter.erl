@@ -5,10 +5,10 @@
 
 -include("core.hrl").
 
--record(options, {file, entry = none, after_timeout = none, notes = false, approximate = false, compiler = []}).
+-record(options, {file, entry = none, after_timeout = none, notes = false, doubts = none, approximate = false, compiler = []}).
 
 usage() ->
-    "usage: convert.escript FILE.erl [--entry f/0] [--after-timeout MS] [--approximate] [--notes] [-I DIR] [-D NAME[=VALUE]]\n".
+    "usage: convert.escript FILE.erl [--entry f/0] [--after-timeout MS] [--approximate] [--notes] [--doubts FILE] [-I DIR] [-D NAME[=VALUE]]\n".
 
 %% Prints, and gives the status. Library is the folder's library, {Name, Arity} => function.
 main(Words, Library) ->
@@ -28,7 +28,7 @@ run(Words, Library) ->
 
 options(["--entry", Entry | T], O) ->
     case string:split(Entry, "/") of
-        [F, "0"] when F =/= "" -> options(T, O#options{entry = list_to_atom(F)});
+        [F, "0"] when F =/= "" -> options(T, O#options{entry = {named, list_to_atom(F)}});
         _ -> error
     end;
 options(["--after-timeout", Text | T], O) ->
@@ -37,6 +37,7 @@ options(["--after-timeout", Text | T], O) ->
         _ -> error
     end;
 options(["--notes" | T], O) -> options(T, O#options{notes = true});
+options(["--doubts", File | T], O) -> options(T, O#options{doubts = File});
 options(["--approximate" | T], O) -> options(T, O#options{approximate = true});
 options(["-I", Directory | T], #options{compiler = C} = O) -> options(T, O#options{compiler = C ++ [{i, Directory}]});
 options(["-D", Text | T], #options{compiler = C} = O) -> options(T, O#options{compiler = C ++ [defined(Text)]});
@@ -61,7 +62,8 @@ defined(Text) ->
     end.
 
 told({error, Lines}, _) -> {2, "", Lines};
-told({ok, Text, Ledger}, #options{file = File, notes = WithNotes}) ->
+told({ok, Text, Ledger}, #options{file = File, notes = WithNotes, doubts = Doubts}) ->
+    Doubts =:= none orelse (ok = file:write_file(Doubts, unicode:characters_to_binary(ledger:doubts(Ledger)))),
     Notes = case WithNotes of true -> ledger:notes(Ledger); false -> "" end,
     case ledger:refusals(Ledger) of
         [] -> small(File, unicode:characters_to_binary(Text()), Notes);
@@ -89,8 +91,9 @@ converted(File, Module, Exports0, Source, #options{entry = Entry, approximate = 
     {Begun, Exported, L1} = entry_point:settle(Entry, File, Module, Exports0, Source, L0),
     Needed = reach:from_main(Begun, Module, Exported, Library),
     Exports = [E || E <- Exported, lists:member(E, Needed)],
+    Looked = [D || D <- Begun, lists:member(D#definition.name, Needed)],
     Prepare = fun(D, L) -> prepared(D, Options, L) end,
-    {Prepared, L2} = lists:mapfoldl(Prepare, L1, [D || D <- Begun, lists:member(D#definition.name, Needed)]),
+    {Prepared, L2} = lists:mapfoldl(Prepare, doubts:find(Looked, L1), Looked),
     {Resolved, L3} = library_calls:resolve(Prepared, Prepare, {Module, Exports, Library, Approximate}, L2),
     Size = odd_tuples:free_size([D#definition.code || D <- Resolved]),
     Plain = [odd_tuples:replace(Size, D) || D <- Resolved],

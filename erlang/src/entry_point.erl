@@ -5,7 +5,7 @@
 
 -include("core.hrl").
 
-%% Asked is a name, or none: then main/0, or else the one exported function without arguments.
+%% Asked is {named, Name}, or none: then main/0, or else the one exported function without arguments.
 settle(Asked, File, Module, Exports, Definitions, Ledger) ->
     Names = [D#definition.name || D <- Definitions],
     case first(Asked, Exports, Names) of
@@ -24,9 +24,9 @@ first(none, Exports, Names) ->
             Listed = lists:join(",", [io_lib:format("~ts", [F]) || F <- Fs]),
             {refuse, io_lib:format("no function main/0: say which of [~ts] with --entry f/0", [Listed])}
     end;
-first(main, _, Names) ->
+first({named, main}, _, Names) ->
     case lists:member({main, 0}, Names) of true -> main; false -> {refuse, "no function main/0"} end;
-first(F, _, Names) ->
+first({named, F}, _, Names) ->
     case lists:member({F, 0}, Names) of
         true -> {asked, F};
         false -> {refuse, io_lib:format("no function ~ts/0", [F])}

@@ -1,10 +1,10 @@
-%% What a conversion has to say besides its text: refusals and notes. It also
+%% What a conversion has to say besides its text: refusals, notes, and doubts about what is explored of it. It also
 %% hands out numbers for new names.
 -module(ledger).
 
--export([new/0, refuse/4, refuse_file/3, note/3, number/1, refusals/1, notes/1]).
+-export([new/0, refuse/4, refuse_file/3, note/3, doubt/3, number/1, refusals/1, notes/1, doubts/1]).
 
--record(ledger, {refusals = [], notes = [], count = 0}).
+-record(ledger, {refusals = [], notes = [], doubts = [], count = 0}).
 
 new() -> #ledger{}.
 
@@ -18,6 +18,9 @@ refuse_file(File, Text, #ledger{refusals = Rs} = L) -> L#ledger{refusals = [{Fil
 note(Format, Arguments, #ledger{notes = Ns} = L) ->
     L#ledger{notes = [lists:flatten(io_lib:format(Format, Arguments)) | Ns]}.
 
+%% Text says what makes a verdict doubtful, and at which place.
+doubt({File, Line}, Text, #ledger{doubts = Ds} = L) -> L#ledger{doubts = [{File, Line, Text} | Ds]}.
+
 number(#ledger{count = N} = L) -> {N + 1, L#ledger{count = N + 1}}.
 
 %% Lines in the order of files, lines and texts, each once.
@@ -28,3 +31,6 @@ line({File, 0, Text}) -> io_lib:format("~ts: ~ts~n", [File, Text]);
 line({File, Line, Text}) -> io_lib:format("~ts:~w: ~ts~n", [File, Line, Text]).
 
 notes(#ledger{notes = Ns}) -> [io_lib:format("note: ~ts~n", [N]) || N <- lists:usort(Ns)].
+
+%% In the order of files, lines and texts, each once.
+doubts(#ledger{doubts = Ds}) -> [io_lib:format("~ts~n", [T]) || {_, _, T} <- lists:usort([{F, N, lists:flatten(T)} || {F, N, T} <- Ds])].

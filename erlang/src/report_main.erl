@@ -1,8 +1,8 @@
 %% From the files of an exploration to what people read.
 %%
 %% The folder of the exploration has the report of the program (`report`), the transcripts of its findings
-%% (`transcripts/1`, `transcripts/2` ..), and the module (`module.core`),
-%% which has the lines of its source as annotations.
+%% (`transcripts/1`, `transcripts/2` ..), the module (`module.core`), which has the lines of its source as annotations,
+%% and where it was converted what makes its verdict doubtful (`doubts`).
 -module(report_main).
 -export([main/1]).
 -include("report.hrl").
@@ -77,7 +77,12 @@ explored(Work, Coverage) ->
     Errors = [{Number, report_reader:identity(Identity)} || {error, Number, Identity, _} <- Findings],
     Told = [finding(Work, Place, Finding, Errors) || {Place, Finding} <- lists:enumerate(Findings)],
     print(report_text:tail(Coverage, First, Findings, Last)),
+    print(report_text:doubts(doubts(Work))),
     disagreements(Told).
+
+doubts(#work{folder = Folder}) ->
+    File = filename:join(Folder, "doubts"),
+    [Line || filelib:is_file(File), Line <- string:split(read(File), "\n", all), Line =/= ""].
 
 %% One finding: an error with all that leads to it, a refusal and what is taken as normal with the last event.
 finding(Work, Place, {Kind, Number, Identity, Schedule}, Errors) ->

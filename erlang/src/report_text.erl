@@ -1,7 +1,7 @@
 %% The report for people.
 -module(report_text).
 -export([call/3, deed/1, identity/1, place/1, role/2, waits/2, stands/2]).
--export([head/3, tail/4, schedule/1, limit/1, earlier/1, transcript/2, brief/3]).
+-export([head/3, tail/4, doubts/1, schedule/1, limit/1, earlier/1, transcript/2, brief/3]).
 -include("report.hrl").
 
 -define(GREATEST_COLUMN, 76).
@@ -105,6 +105,9 @@ result(_, false, ["all", _], _) -> "errors, all schedules";
 result(_, false, [_, Depth], _) -> ["errors to depth ", Depth, "; longer schedules were not explored"];
 result(Errors, true, [_, Depth], First) ->
     [if Errors =:= 0 -> ""; true -> "errors, " end, lists:last(string:split(First, ", ")), " at depth ", Depth].
+
+%% What makes the result doubtful, below it.
+doubts(Lines) -> [["but: ", Line, "\n"] || Line <- Lines].
 
 %% The depth that the program reports.
 depth(First) -> hd(string:lexemes(First, "depth ,")).

@@ -14,6 +14,7 @@ files() ->
     [{"good.erl", "-module(good).\n-export([main/0, other/0]).\nmain() -> self() ! x, receive x -> ok end.\nother() -> main().\n"},
      {"bad.erl", "-module(bad).\n-export([main/0]).\nmain() -> <<1, (f(2))>>.\nf(X) ->\n  put(a, X).\n"},
      {"unused.erl", "-module(unused).\n-export([main/0]).\nmain() -> ok.\nf() -> receive #{a := X} -> <<X>> end.\n"},
+     {"none.erl", "-module(none).\n-export([none/0, other/0]).\nnone() -> ok.\nother() -> ok.\n"},
      {"exported.erl", "-module(exported).\n-export([main/0, go/0, by_name/1, called/0, as_fun/1, test/0]).\n"
                       "main() -> spawn(?MODULE, by_name, [1]), ?MODULE:called().\nby_name(_) -> ok.\ncalled() -> lists:foreach(fun ?MODULE:as_fun/1, [1]).\n"
                       "as_fun(_) -> ok.\ngo() -> ok.\ntest() -> eunit:test(?MODULE), <<1, (go())>>.\n"},
@@ -30,9 +31,11 @@ files() ->
 
 %% {Status, what standard output has to have in it (or none), standard error}
 cases() ->
-    Usage = "usage: convert.escript FILE.erl [--entry f/0] [--after-timeout MS] [--approximate] [--notes] [-I DIR] [-D NAME[=VALUE]]\n",
+    Usage = "usage: convert.escript FILE.erl [--entry f/0] [--after-timeout MS] [--approximate] [--notes] [--doubts FILE] [-I DIR] [-D NAME[=VALUE]]\n",
     [{"a module", "good.erl", {0, "module 'good' ['main'/0]", ""}},
      {"an entry", "good.erl --entry other/0", {0, "'main'/0 =\n  fun () ->\n    apply 'other'/0()", ""}},
+     {"an entry with the name none", "none.erl --entry none/0", {0, "'main'/0 =\n  fun () ->\n    apply 'none'/0()", ""}},
+     {"doubts in a file", "good.erl --doubts doubts", {0, "module 'good' ['main'/0]", ""}},
      {"the source's main is another then", "--entry other/0 good.erl", {0, "'main of the module'/0 =", ""}},
      {"what nothing comes to", "unused.erl --notes", {0, "module 'unused' ['main'/0]\n    attributes []\n'main'/0 =\n  fun () ->\n    'ok'\nend", ""}},
      {"an exported function that nothing reaches", "exported.erl --notes", {0, "module 'exported' ['as_fun'/1,'by_name'/1,'called'/0,'main'/0]\n", "note: functions are tuples here: they sort among tuples, element/2 and tuple_size/1 take them, and two of one place and the same values are equal\n"}},
