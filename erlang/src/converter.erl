@@ -63,12 +63,15 @@ defined(Text) ->
 
 told({error, Lines}, _) -> {2, "", Lines};
 told({ok, Text, Ledger}, #options{file = File, notes = WithNotes, doubts = Doubts}) ->
-    Doubts =:= none orelse (ok = file:write_file(Doubts, unicode:characters_to_binary(ledger:doubts(Ledger)))),
     Notes = case WithNotes of true -> ledger:notes(Ledger); false -> "" end,
-    case ledger:refusals(Ledger) of
-        [] -> small(File, unicode:characters_to_binary(Text()), Notes);
-        Refusals -> {2, "", [Notes, Refusals]}
+    case {ledger:refusals(Ledger), written(Doubts, Ledger)} of
+        {[], ok} -> small(File, unicode:characters_to_binary(Text()), Notes);
+        {Refusals, ok} -> {2, "", [Notes, Refusals]};
+        {Refusals, _} -> {2, "", [Notes, Refusals, io_lib:format("~ts cannot be written~n", [Doubts])]}
     end.
+
+written(none, _) -> ok;
+written(File, Ledger) -> file:write_file(File, unicode:characters_to_binary(ledger:doubts(Ledger))).
 
 %% The explorer reads no larger text.
 small(File, Text, Notes) when byte_size(Text) > 1048576 ->

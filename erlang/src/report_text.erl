@@ -120,7 +120,7 @@ limit(none) -> "";
 limit({Limit, Place}) -> ["  this is a limit of the explorer, not of Erlang: ", limit_in_words(Limit), where(Place), "\n"].
 
 limit_in_words(applications) ->
-    "a process may call 10,000 functions of its module before it sends, receives or asks for anything";
+    "a process may call functions of its module 10,000 times before it sends, receives or asks for anything";
 limit_in_words(nodes) -> "a term may have 10,000 nodes, which are its numbers, atoms, tuples, list cells and so on";
 limit_in_words(bits) -> "an integer may have 64 bits";
 limit_in_words(some) -> "a term may have 10,000 nodes, and an integer 64 bits".

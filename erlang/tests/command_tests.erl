@@ -36,6 +36,7 @@ cases() ->
      {"an entry", "good.erl --entry other/0", {0, "'main'/0 =\n  fun () ->\n    apply 'other'/0()", ""}},
      {"an entry with the name none", "none.erl --entry none/0", {0, "'main'/0 =\n  fun () ->\n    apply 'none'/0()", ""}},
      {"doubts in a file", "good.erl --doubts doubts", {0, "module 'good' ['main'/0]", ""}},
+     {"doubts in a folder that is not there", "good.erl --doubts none/doubts", {2, none, "none/doubts cannot be written\n"}},
      {"the source's main is another then", "--entry other/0 good.erl", {0, "'main of the module'/0 =", ""}},
      {"what nothing comes to", "unused.erl --notes", {0, "module 'unused' ['main'/0]\n    attributes []\n'main'/0 =\n  fun () ->\n    'ok'\nend", ""}},
      {"an exported function that nothing reaches", "exported.erl --notes", {0, "module 'exported' ['as_fun'/1,'by_name'/1,'called'/0,'main'/0]\n", "note: functions are tuples here: they sort among tuples, element/2 and tuple_size/1 take them, and two of one place and the same values are equal\n"}},
