@@ -30,7 +30,7 @@ no_term(Rest) -> throw({no_term, Rest}).
 %% The term at the beginning of a text, and what comes after it. Blanks may come between its parts.
 read(Text) -> read_term(skip(Text)).
 
-read_term("'" ++ _ = Text) -> {Name, Rest} = read_quoted(Text), {{atom, list_to_atom(Name)}, Rest};
+read_term("'" ++ _ = Text) -> {Name, Rest} = read_quoted(Text), {atom(Name, Text), Rest};
 read_term("\"" ++ _ = Text) -> {String, Rest} = read_quoted(Text), {list_of([{int, C} || C <- String]), Rest};
 read_term("{" ++ Rest) -> {Terms, After} = read_parts(Rest, "}"), {{tuple, Terms}, After};
 read_term("[" ++ Rest) -> read_list(Rest);
@@ -43,7 +43,7 @@ read_term([C | _] = Text) when C >= $0, C =< $9 -> {N, After} = read_number(Text
 read_term([C | _] = Text) ->
     is_small(C) orelse no_term(Text),
     {Name, After} = lists:splitwith(fun is_of_name/1, Text),
-    {{atom, list_to_atom(Name)}, After};
+    {atom(Name, Text), After};
 read_term("") -> no_term("").
 
 skip(Text) -> lists:dropwhile(fun(C) -> C =:= $\s orelse C =:= $\t orelse C =:= $\n end, Text).
@@ -57,6 +57,10 @@ is_of_name(C) -> is_small(C) orelse is_large(C) orelse is_digit(C) orelse C =:= 
 is_digit(C) -> C >= $0 andalso C =< $9.
 
 list_of(Terms) -> {list, Terms, nil}.
+
+%% The machine has no longer atoms.
+atom(Name, Text) when length(Name) > 255 -> no_term(Text);
+atom(Name, _) -> {atom, list_to_atom(Name)}.
 
 %% Integers of the explorer have 64 bits.
 integer(N, _) when N >= -16#8000000000000000, N < 16#8000000000000000 -> {int, N};
