@@ -126,6 +126,7 @@ limit_in_words(bits) -> "an integer may have 64 bits";
 limit_in_words(some) -> "a term may have 10,000 nodes, and an integer 64 bits".
 
 where(none) -> "";
+where({library, Module}) -> [" (in ", Module, ")"];
 where(Place) -> [" (", place(Place), ")"].
 
 %% An error that another one comes after may follow from it.
