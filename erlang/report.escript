@@ -2,7 +2,8 @@
 %% -*- erlang -*-
 %%! +A0 +fnu
 %% Reports an exploration to people: report.escript explore|replay FOLDER FILE COVERAGE CHART DRAWINGS, as ./explore calls
-%% it. The modules of src/ whose names begin with report_ are compiled the first time (built.hrl).
+%% it. report.escript normal FOLDER prints terms that people wrote in the spelling of the program. The modules of src/ whose
+%% names begin with report_ are compiled the first time (built.hrl).
 -mode(compile).
 -include("built.hrl").
 
