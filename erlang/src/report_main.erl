@@ -76,7 +76,7 @@ explored(Work, Coverage) ->
     print(report_text:head(Work#work.source, Coverage, First)),
     Errors = [{Number, report_reader:identity(Identity)} || {error, Number, Identity, _} <- Findings],
     Told = [finding(Work, Place, Finding, Errors) || {Place, Finding} <- lists:enumerate(Findings)],
-    print(report_text:tail(Coverage, First, Findings, Last)),
+    print(report_text:tail(Coverage, First, Last)),
     print(report_text:doubts(doubts(Work))),
     disagreements(Told).
 
@@ -86,7 +86,8 @@ doubts(#work{folder = Folder}) ->
 
 %% One finding: an error with all that leads to it, a refusal and what is taken as normal with the last event.
 finding(Work, Place, {Kind, Number, Identity, Schedule}, Errors) ->
-    Told = told(Work, read(filename:join([Work#work.folder, "transcripts", integer_to_list(Place)]))),
+    File = filename:join([Work#work.folder, "transcripts", integer_to_list(Place)]),
+    Told = (told(Work, read(File)))#{waits => report_reader:waits(read(File ++ ".waits"))},
     Read = report_reader:identity(Identity),
     Title = [atom_to_list(Kind), " ", integer_to_list(Number), ": ", report_text:identity(Read)],
     case Kind of
@@ -99,7 +100,8 @@ finding(Work, Place, {Kind, Number, Identity, Schedule}, Errors) ->
     end,
     Told.
 
-%% All that is shown of a transcript: its events, their places, what the processes are, and what is left in mailboxes.
+%% All that is shown of a transcript: its events, their places, and what the processes are; to that come, of a finding, the
+%% processes that wait with what is in their mailboxes.
 told(Work, Text) ->
     Events = report_reader:transcript(Text),
     Played = case Work#work.module of
@@ -107,7 +109,7 @@ told(Work, Text) ->
         Module -> report_machine:play(Module, Events)
     end,
     Played#{events => Events, places => report_story:places(Events, maps:get(lines, Played)),
-            roles => report_story:roles(Events, Work#work.first), mailboxes => report_story:mailboxes(Events)}.
+            roles => report_story:roles(Events, Work#work.first)}.
 
 draw(Work, Name, Title, Finding, Told) ->
     Rows = report_rows:rows(Finding, Told),

@@ -1,10 +1,17 @@
 %% The lines of a transcript and of a report, read.
 -module(report_reader).
--export([transcript/1, report/1, identity/1]).
+-export([transcript/1, waits/1, report/1, identity/1]).
 -include("report.hrl").
 
 %% The events of a transcript.
 transcript(Text) -> [event(Line) || Line <- lines(Text)].
+
+%% The processes that wait at a deadlock, each with the messages in its mailbox, the oldest first.
+waits(Text) -> [waiting(Line) || Line <- lines(Text)].
+
+waiting(Line) ->
+    [Name, "waits, mailbox " ++ Mailbox] = string:split(Line, " "),
+    {Name, whole(Mailbox)}.
 
 lines(Text) -> [Line || Line <- string:split(Text, "\n", all), Line =/= ""].
 

@@ -1,7 +1,6 @@
-%% What a transcript says beyond its lines: what each process is, which send a delivery comes from, and which messages
-%% nobody took.
+%% What a transcript says beyond its lines: what each process is, and which send a delivery comes from.
 -module(report_story).
--export([processes/1, roles/2, places/2, mailboxes/1, schedule/1, earlier/3, limit/1]).
+-export([processes/1, roles/2, places/2, schedule/1, earlier/3, limit/1]).
 -include("report.hrl").
 
 %% The names of the processes, in the order in which they appear.
@@ -109,48 +108,3 @@ take(IsWanted, Items) ->
         {_, []} -> none;
         {Before, [Item | Behind]} -> {Item, Before ++ Behind}
     end.
-
-%% ---- mailboxes
-
-%% The messages that came to each process and that it did not take, the oldest first.
-mailboxes(Events) ->
-    {Boxes, _} = lists:foldl(fun(Event, {Boxes, Holders}) -> mail(Event, Boxes, Holders) end, {#{}, #{}}, Events),
-    Boxes.
-
-mail(#event{who = {_, To}, deed = {brings, Message}}, Boxes, Holders) -> {put_in(To, Message, Boxes), Holders};
-mail(#event{who = {_, To}, deed = Deed}, Boxes, Holders) ->
-    case element(tuple_size(Deed), Deed) of
-        {message, Message} -> {put_in(To, Message, Boxes), Holders};
-        _ -> {Boxes, Holders}
-    end;
-mail(#event{who = Name, deed = {receives, Message}}, Boxes, Holders) ->
-    {_, Left} = take(fun(Term) -> Term =:= Message end, maps:get(Name, Boxes, [])),
-    {Boxes#{Name => Left}, Holders};
-mail(#event{who = Name, deed = {call, erlang, Function, Arguments, {ok, _}}}, Boxes, Holders) ->
-    called(Function, Arguments, Name, Boxes, Holders);
-mail(_, Boxes, Holders) -> {Boxes, Holders}.
-
-%% What a process sends to itself is there at once; a watch that ends with flush takes its message along.
-called(register, [{atom, Alias}, Pid], _, Boxes, Holders) -> {Boxes, Holders#{Alias => Pid}};
-called(Send, [To, Message], Name, Boxes, Holders) when Send =:= '!'; Send =:= send ->
-    case holder(To, Holders) of
-        {pid, Name} -> {put_in(Name, Message, Boxes), Holders};
-        _ -> {Boxes, Holders}
-    end;
-called(exit, [{pid, Name} = Pid, Reason], Name, Boxes, Holders) ->
-    {put_in(Name, {tuple, [{atom, 'EXIT'}, Pid, Reason]}, Boxes), Holders};
-called(demonitor, [Watch, {list, Options, nil}], Name, Boxes, Holders) ->
-    Left = case lists:member({atom, flush}, Options) of
-        true -> [Term || Term <- maps:get(Name, Boxes, []), not is_down(Watch, Term)];
-        false -> maps:get(Name, Boxes, [])
-    end,
-    {Boxes#{Name => Left}, Holders};
-called(_, _, _, Boxes, Holders) -> {Boxes, Holders}.
-
-holder({atom, Alias}, Holders) -> maps:get(Alias, Holders, none);
-holder(Pid, _) -> Pid.
-
-is_down(Watch, {tuple, [{atom, 'DOWN'}, Watch, _, _, _]}) -> true;
-is_down(_, _) -> false.
-
-put_in(Name, Message, Boxes) -> Boxes#{Name => maps:get(Name, Boxes, []) ++ [Message]}.

@@ -1,7 +1,7 @@
 %% The report for people.
 -module(report_text).
 -export([call/3, deed/1, identity/1, place/1, role/2, waits/2, stands/2]).
--export([head/3, tail/4, doubts/1, schedule/1, limit/1, earlier/1, transcript/2, brief/3]).
+-export([head/3, tail/3, doubts/1, schedule/1, limit/1, earlier/1, transcript/2, brief/3]).
 -include("report.hrl").
 
 -define(GREATEST_COLUMN, 76).
@@ -90,21 +90,14 @@ visited(First) ->
         _ -> ""
     end.
 
-%% The last lines: how many errors and refusals there are, as the program reports, and the result.
-tail(Coverage, First, Findings, [Counts | _]) ->
-    Errors = length([error || {error, _, _, _} <- Findings]),
-    ["\n", Counts, "\n",
-     "result: ", result(Errors, is_incomplete(First), Coverage, First), "\n"].
+%% The last lines: how many errors and refusals there are, and the result, as the program prints them; and below these what
+%% was not explored, where something was not.
+tail(Coverage, First, [Counts, Result]) -> ["\n", Counts, "\n", Result, "\n", unexplored(Coverage, First, is_incomplete(First))].
 
-result(0, false, ["all", _], _) -> "clean, all schedules";
-result(Errors, false, ["limit", Depth], First) ->
-    [if Errors =:= 0 -> "clean"; true -> "errors" end, " to depth ", depth(First), "; depth ", Depth,
-     " has more nodes than may be visited (--nodes N)"];
-result(0, false, [_, Depth], _) -> ["clean to depth ", Depth, "; longer schedules were not explored"];
-result(_, false, ["all", _], _) -> "errors, all schedules";
-result(_, false, [_, Depth], _) -> ["errors to depth ", Depth, "; longer schedules were not explored"];
-result(Errors, true, [_, Depth], First) ->
-    [if Errors =:= 0 -> ""; true -> "errors, " end, lists:last(string:split(First, ", ")), " at depth ", Depth].
+unexplored(["all", _], _, _) -> "";
+unexplored(["limit", Depth], _, false) -> ["depth ", Depth, " has more nodes than may be visited (--nodes N)\n"];
+unexplored(_, First, true) -> ["not all nodes were visited: ", lists:last(string:split(First, "incomplete: ")), " at depth ", depth(First), "\n"];
+unexplored(_, _, false) -> "longer schedules were not explored\n".
 
 %% What makes the result doubtful, below it.
 doubts(Lines) -> [["but: ", Line, "\n"] || Line <- Lines].
@@ -157,8 +150,9 @@ waiting({deadlock, Names}, Width, Told) ->
     [{["       ", string:pad(Name, Width), "  ", waits(Name, Told)], stands(Name, Told)} || Name <- Names];
 waiting(_, _, _) -> [].
 
-waits(Name, #{mailboxes := Boxes}) ->
-    ["waits for ever, mailbox ", report_term:text({list, maps:get(Name, Boxes, []), nil})].
+waits(Name, #{waits := Waits}) ->
+    {Name, Mailbox} = lists:keyfind(Name, 1, Waits),
+    ["waits for ever, mailbox ", report_term:text(Mailbox)].
 
 stands(Name, #{stands := Stands}) -> maps:get(Name, Stands, none).
 
