@@ -4,6 +4,8 @@
 #[cfg(test)]
 mod budgets;
 #[cfg(test)]
+mod handwritten;
+#[cfg(test)]
 mod jobs;
 #[cfg(test)]
 mod modules;
