@@ -236,7 +236,7 @@ fn push_word(text: &mut String, word: &str) -> Result<(), AllocError> {
 }
 
 // The words of the cells that are read.
-fn reads_of(alloc: Global, planned: &Planned) -> Result<String, AllocError> {
+pub(crate) fn reads_of(alloc: Global, planned: &Planned) -> Result<String, AllocError> {
     let mut text = String::new(alloc);
     for cell in planned.reads.iter() {
         push_word(&mut text, cell_word(cell))?;
@@ -245,7 +245,7 @@ fn reads_of(alloc: Global, planned: &Planned) -> Result<String, AllocError> {
 }
 
 // The words of the changes.
-fn changes_of(alloc: Global, planned: &Planned) -> Result<String, AllocError> {
+pub(crate) fn changes_of(alloc: Global, planned: &Planned) -> Result<String, AllocError> {
     let mut text = String::new(alloc);
     for change in planned.changes.iter() {
         push_word(&mut text, change_word(change))?;
@@ -306,7 +306,7 @@ fn write_deed(deed: &Deed, sink: &mut Output<Vec<u8>>) -> Result<(), WriteFault>
 }
 
 // The text of what a step does, and that of nothing.
-fn text_of(alloc: Global, deed: &Option<Deed>) -> Result<Vec<u8>, WriteFault> {
+pub(crate) fn text_of(alloc: Global, deed: &Option<Deed>) -> Result<Vec<u8>, WriteFault> {
     let mut sink = Output::new(Vec::new(alloc));
     match deed {
         Some(deed) => write_deed(deed, &mut sink)?,
@@ -335,7 +335,7 @@ fn does(alloc: Global, records: &Records<'_>, step: Step, line: &Line) -> Result
 }
 
 // The process of this number: the first of 0, and of another the one that the request with this number spawned.
-fn pid_of(alloc: Global, number: u64) -> Result<Pid, AllocError> {
+pub(crate) fn pid_of(alloc: Global, number: u64) -> Result<Pid, AllocError> {
     let mut numbers = Vec::new(alloc);
     if number > 0 {
         numbers.push(number)?;
