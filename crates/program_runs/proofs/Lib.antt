@@ -4,6 +4,7 @@ pub mod ExploredLaws
 pub mod InputLaws
 pub mod JobLaws
 pub mod MergeLaws
+pub mod ReportEnds
 pub mod ReportLaws
 pub mod RunLaws
 pub mod TheoremLaws

@@ -1,9 +1,12 @@
--- The four statements of the theorem, from what is so of each run of the program.
-use Rattle.std.proofs.Common.{arith, ◌≡◌, ◌≤◌, ◌⊎◌, ℕ, Bool, List, [], ◌∷◌, Option, Some, None, inl, inr, refl, sym, subst, ◌∙◌}
+-- The statements of the theorem, from what is so of each run of the program.
+use Rattle.std.proofs.Common.{arith, ◌≡◌, ◌≤◌, ◌⊎◌, ℕ, Bool, List, [], ◌∷◌, ◌++◌, length, Option, Some, None, inl, inr, refl, sym, ap, subst, ◌∙◌}
+use Rattle.std.proofs.lemmas.List.{append_cancel_left, length-map}
+use Rattle.std.specs.Io.KnownBytes.{Appends}
 use Rattle.std.specs.Prelude.{Result, Ok, Err, string_bytes}
 use Rattle.term_core.specs.Stream.{WritesAll}
 use Rattle.term_core.specs.declared.step.Step.{Step}
 use Rattle.core_reader.specs.ModuleText.{SpellsModule}
+use Rattle.core_tree.specs.Syntax.{ModuleTree}
 use Rattle.core_tokens.specs.declared.fault.ReadFault.{ReadFault}
 use Rattle.core_tokens.specs.declared.fault.ReadFault.TheVariants as read
 use Rattle.term_core.specs.declared.schedule.ScheduleFault.{ScheduleFault}
@@ -11,11 +14,14 @@ use Rattle.term_core.specs.declared.schedule.ScheduleFault.TheVariants as schedu
 use Rattle.world_model.specs.Asking.{program_of}
 use Rattle.world_model.specs.Requests.{Program}
 use Rattle.world_model.specs.Run.{run}
-use Rattle.tree_coverage.specs.Findings.{Finding}
+use Rattle.tree_coverage.specs.Findings.{ErrorsAreOfNodes, Finding, Findings, FindingsAreSorted, RefusalsAreOfNodes}
+use Rattle.tree_coverage.specs.Jobs.{RootHasAllNodes, nodes_of, root}
+use Rattle.tree_coverage.specs.Trees.{NodesRun}
 use Rattle.tree_covers.specs.declared.fault.CoverFault.{CoverFault}
 use Rattle.tree_covers.specs.declared.fault.CoverFault.TheVariants as cover
 use Rattle.tree_excuses.specs.Excuses.{Excuses, counted, counts, excuses_in}
 use Rattle.world_identities.specs.Identities.{flags_in}
+use Rattle.tree_findings.specs.declared.extent.Extent.{Extent}
 use Rattle.tree_findings.specs.declared.options.Options.{Options}
 use Rattle.tree_findings.specs.declared.outcome.Outcome.{Outcome}
 use Rattle.tree_findings.specs.declared.outcome.Outcome.TheVariants as outcomes
@@ -28,20 +34,24 @@ use Rattle.report_reader.specs.declared.fault.ReportFault.TheVariants as report
 use Rattle.world_replay.specs.Replay.{reached, stop}
 use Rattle.world_replay.specs.declared.replay_fault.ReplayFault.{ReplayFault}
 use Rattle.world_replay.specs.declared.replay_fault.ReplayFault.TheVariants as replay
-use Rattle.program_words.specs.Words.{AsksExplore, AsksReplay}
+use Rattle.search_crew.specs.Outcomes.{all_findings, whole_extent}
+use Rattle.search_jobs.specs.Explorations.{ExplorationSeen, explored_by, program_in}
+use Rattle.report_text.specs.Clean.{IsCleanOfAll}
+use Rattle.program_words.specs.Words.{AsksExplore, AsksReplay, IsExplore}
 use Rattle.program_words.specs.declared.words.Printed.{Printed}
 use Rattle.program_words.specs.declared.words.Words.{Words}
 use Rattle.program_words.specs.declared.words.Words.TheVariants.{Replay, Explore, ExploreJob, Jobs, Merge, Check}
 use Rattle.program_runs.specs.Replayed.{IsReplayOf}
-use Rattle.program_runs.specs.Explored.{IsCleanIfSaid, IsExplorationOf, IsExplored, IsReportOf, complete_verdict, print_of, verdict_of}
+use Rattle.program_runs.specs.Explored.{IsCleanIfSaid, IsExplorationOf, IsExplored, IsReportOf, ShowsNoErrorEver, complete_verdict, has_cover, print_of, text_of_form, verdict_of}
 use Rattle.program_runs.specs.Printing.{text_of_print}
 use Rattle.program_runs.specs.Program.{IsDone, Written}
 use Rattle.program_runs.specs.Status.{status_of, status_of_cover_fault, status_of_fault, status_of_job_fault, status_of_read_fault, status_of_replay_fault, status_of_report_fault, status_of_schedule_fault}
-use Rattle.program_runs.specs.Theorem.{CleanMeansNone, HasExactReport, HasNoError, HasTranscript, ReportIsExact, TranscriptIsTheRun}
+use Rattle.program_runs.specs.Theorem.{AllMeansAll, AreOfTree, CleanMeansNone, HasNoError, HasTranscript, IsExtentOf, ProgramRun, ReportEndsWith, ReportIsExact, TranscriptIsTheRun, text_after}
 use Rattle.program_runs.specs.declared.verdict.RunFault.{RunFault}
 use Rattle.program_runs.specs.declared.verdict.RunFault.TheVariants as run_faults
 use Rattle.program_runs.specs.declared.verdict.Verdict.{Verdict}
 use Rattle.program_runs.specs.declared.verdict.Verdict.TheVariants.{Done, Clean, Errors, Incomplete}
+use Rattle.program_runs.proofs.ReportEnds.{before_cover, clean_of_all, report_ends, said}
 
 -- ---- numbers
 
@@ -128,7 +138,7 @@ never_done x (outcomes.Incomplete cause findings) e = absurd cc
 clean_said : (input : List ℕ) (options : Options) (x : Excuses) (what : Printed) (old new : Option (List ℕ)) (failed : Bool) (r : Result Verdict RunFault)
     → IsExplorationOf input options x what old new failed r → IsCleanIfSaid input options x r → status_of r ≡ 0 → HasNoError input options.depth (counts (flags_in options.flags) x)
 clean_said input options x what old new failed (Ok Done) is clean good = absurd (never_done x is.outcome is.told)
-clean_said input options x what old new failed (Ok Clean) is clean good = clean refl
+clean_said input options x what old new failed (Ok Clean) is clean good = (is.explored.program, is.explored.module_text, clean refl is.explored.program is.explored.module_text)
 clean_said input options x what old new failed (Ok Errors) is clean good = absurd (one_is_not good)
 clean_said input options x what old new failed (Ok Incomplete) is clean good = absurd (three_is_not good)
 clean_said input options x what old new failed (Err fault) is clean good = absurd (no_fault fault 0 good zero_is_low)
@@ -149,50 +159,127 @@ clean_means_none r options x what e good =
     let u = r.is_run in
     clean_asked u.asked r.input options x what r.output u.outcome (u.explore options x what e) u.run (sym u.status_is ∙ good)
 
--- ---- the report is exact
+-- ---- a report of all nodes
 
--- what was written of a search that came to its end
-complete_report : (input : List ℕ) (options : Options) (x : Excuses) (what : Printed) (output : Written) (verdict : Verdict) (o : Outcome) (explored : IsExplored input options x o)
-    → WritesAll output.old output.new output.failed (text_of_print (print_of what (program_of explored.program) options.depth x o)) → verdict ≡ verdict_of x o → (verdict ≡ Incomplete → ⊥) → HasExactReport input options x what output
-complete_report input options x what output verdict (outcomes.Complete findings extent) explored written told whole = record {
-  program = explored.program;
-  module_text = explored.module_text;
-  findings = findings;
-  extent = extent;
-  exact = explored.is_exact;
-  got = written;
-}
-complete_report input options x what output verdict (outcomes.Incomplete cause findings) explored written told whole = absurd (whole told)
+-- what the search of all nodes found was written
+record IsWholeReport (input : List ℕ) (options : Options) (x : Excuses) (what : Printed) (output : Written) : Type 0 where
+  findings : Findings
+  extent : Extent
+  explored : IsExplored input options x (outcomes.Complete findings extent)
+  written : WritesAll output.old output.new output.failed (text_of_print (print_of what (program_of explored.program) options.depth x (outcomes.Complete findings extent)))
+  of_all : IsCleanOfAll x (outcomes.Complete findings extent) → (m : ModuleTree) → SpellsModule input m → ShowsNoErrorEver m options x
 
-report_said : (input : List ℕ) (options : Options) (x : Excuses) (what : Printed) (output : Written) (r : Result Verdict RunFault)
-    → IsExplorationOf input options x what output.old output.new output.failed r → status_of r ≤ 1 → HasExactReport input options x what output
-report_said input options x what output (Ok Done) is low = absurd (never_done x is.outcome is.told)
-report_said input options x what output (Ok Clean) is low = complete_report input options x what output Clean is.outcome is.explored is.written is.told (λ e. absurd cc)
-report_said input options x what output (Ok Errors) is low = complete_report input options x what output Errors is.outcome is.explored is.written is.told (λ e. absurd cc)
-report_said input options x what output (Ok Incomplete) is low = absurd (three_is_more low)
-report_said input options x what output (Err fault) is low = absurd (no_fault fault (status_of_fault fault) refl low)
+complete_report : (input : List ℕ) (options : Options) (x : Excuses) (what : Printed) (output : Written) (verdict : Verdict) (is : IsReportOf input options x what output.old output.new output.failed verdict)
+    → (verdict ≡ Incomplete → ⊥) → IsWholeReport input options x what output
+complete_report input options x what output verdict is whole = go is.outcome is.explored is.written is.told is.of_all
+  where
+    go : (o : Outcome) (explored : IsExplored input options x o) → WritesAll output.old output.new output.failed (text_of_print (print_of what (program_of explored.program) options.depth x o)) → verdict ≡ verdict_of x o
+        → (IsCleanOfAll x o → (m : ModuleTree) → SpellsModule input m → ShowsNoErrorEver m options x) → IsWholeReport input options x what output
+    go (outcomes.Complete findings extent) explored written told of_all = record { findings = findings; extent = extent; explored = explored; written = written; of_all = of_all }
+    go (outcomes.Incomplete cause findings) explored written told of_all = absurd (whole told)
 
-report_asked : (asked : Words) (input : List ℕ) (options : Options) (x : Excuses) (what : Printed) (output : Written) (r : Result Verdict RunFault)
-    → AsksExplore options x what asked → IsDone asked input output.old output.new output.failed r → status_of r ≤ 1 → HasExactReport input options x what output
-report_asked (Explore found excused prints) input options x what output r asks done low =
-    subst (λ (o : Options). HasExactReport input o x what output) asks.0
-    (subst (λ (y : Excuses). HasExactReport input found y what output) asks.1.0
-    (subst (λ (p : Printed). HasExactReport input found (excuses_in excused) p output) asks.1.1 (report_said input found (excuses_in excused) prints output r done.0 low)))
-report_asked (Replay schedule) input options x what output r asks done low = absurd asks
-report_asked (ExploreJob found excused line) input options x what output r asks done low = absurd asks
-report_asked (Jobs depth) input options x what output r asks done low = absurd asks
-report_asked (Merge depth at flags excused) input options x what output r asks done low = absurd asks
-report_asked (Check depth flags excused) input options x what output r asks done low = absurd asks
+whole_said : (input : List ℕ) (options : Options) (x : Excuses) (what : Printed) (output : Written) (r : Result Verdict RunFault)
+    → IsExplorationOf input options x what output.old output.new output.failed r → status_of r ≤ 1 → IsWholeReport input options x what output
+whole_said input options x what output (Ok Done) is low = absurd (never_done x is.outcome is.told)
+whole_said input options x what output (Ok Clean) is low = complete_report input options x what output Clean is (λ e. absurd cc)
+whole_said input options x what output (Ok Errors) is low = complete_report input options x what output Errors is (λ e. absurd cc)
+whole_said input options x what output (Ok Incomplete) is low = absurd (three_is_more low)
+whole_said input options x what output (Err fault) is low = absurd (no_fault fault (status_of_fault fault) refl low)
+
+whole_asked : (asked : Words) (input : List ℕ) (options : Options) (x : Excuses) (what : Printed) (output : Written) (r : Result Verdict RunFault)
+    → AsksExplore options x what asked → IsDone asked input output.old output.new output.failed r → status_of r ≤ 1 → IsWholeReport input options x what output
+whole_asked (Explore found excused prints) input options x what output r asks done low =
+    subst (λ (o : Options). IsWholeReport input o x what output) asks.0
+    (subst (λ (y : Excuses). IsWholeReport input found y what output) asks.1.0
+    (subst (λ (p : Printed). IsWholeReport input found (excuses_in excused) p output) asks.1.1 (whole_said input found (excuses_in excused) prints output r done.0 low)))
+whole_asked (Replay schedule) input options x what output r asks done low = absurd asks
+whole_asked (ExploreJob found excused line) input options x what output r asks done low = absurd asks
+whole_asked (Jobs depth) input options x what output r asks done low = absurd asks
+whole_asked (Merge depth at flags excused) input options x what output r asks done low = absurd asks
+whole_asked (Check depth flags excused) input options x what output r asks done low = absurd asks
 
 -- 0 and 1 are at most 1
 low_status : (status n : ℕ) → status ≡ n → (status ≡ 0) ⊎ (status ≡ 1) → n ≤ 1
 low_status status n e (inl good) = omega (arith, e, good)
 low_status status n e (inr one) = omega (arith, e, one)
 
-pub report_is_exact : ReportIsExact
-report_is_exact r options x what e low =
+whole_report : (r : ProgramRun) (options : Options) (x : Excuses) (what : Printed) → IsExplore r.words options x what → (r.status ≡ 0) ⊎ (r.status ≡ 1) → IsWholeReport r.input options x what r.output
+whole_report r options x what e low =
     let u = r.is_run in
-    report_asked u.asked r.input options x what r.output u.outcome (u.explore options x what e) u.run (low_status r.status (status_of u.outcome) u.status_is low)
+    whole_asked u.asked r.input options x what r.output u.outcome (u.explore options x what e) u.run (low_status r.status (status_of u.outcome) u.status_is low)
+
+-- ---- all means all
+
+-- an output that reports its bytes got one text
+one_text : (before : List ℕ) (old new : Option (List ℕ)) (s t : List ℕ) → old ≡ Some before → Appends old new s → Appends old new t → s ≡ t
+one_text before old new s t is p q = go new (subst (λ (o : Option (List ℕ)). Appends o new s) is p) (subst (λ (o : Option (List ℕ)). Appends o new t) is q)
+  where
+    go : (end : Option (List ℕ)) → Appends (Some before) end s → Appends (Some before) end t → s ≡ t
+    go None a b = absurd a
+    go (Some all) a b = append_cancel_left before s t (sym a ∙ b)
+
+-- a report that ends with the line is clean of all schedules
+all_said : (input : List ℕ) (options : Options) (x : Excuses) (what : Printed) (output : Written) (is : IsWholeReport input options x what output) → ReportEndsWith said output → IsCleanOfAll x (outcomes.Complete is.findings is.extent)
+all_said input options x what output is ends = clean_of_all what a options.depth x is.findings is.extent ends.front
+    (before_cover (has_cover what (verdict_of x outcome)) a options.depth (text_of_form what a options.depth x outcome) ends.front ends.cover (report_ends what a options.depth x is.findings is.extent)
+    (one_text ends.before output.old output.new (text_of_print (print_of what a options.depth x outcome)) (ends.front ++ (said ++ text_after ends.cover)) ends.reports is.written.appends ends.got.appends))
+  where
+    a : Program
+    a = program_of is.explored.program
+
+    outcome : Outcome
+    outcome = outcomes.Complete is.findings is.extent
+
+pub all_means_all : AllMeansAll
+all_means_all r options x what e low ends =
+    let is = whole_report r options x what e low in
+    (is.explored.program, is.explored.module_text, is.of_all (all_said r.input options x what r.output is ends) is.explored.program is.explored.module_text)
+
+-- ---- the report is exact
+
+-- what the laws of the tree say of what its nodes show
+pub record TreeLaws : Type 0 where
+  pub sorted : FindingsAreSorted
+  pub runs : NodesRun
+  pub errors : ErrorsAreOfNodes
+  pub refusals : RefusalsAreOfNodes
+  pub root : RootHasAllNodes
+
+errors_of_tree : TreeLaws → (e : ExplorationSeen) → AreOfTree (program_in e) e.depth (all_findings e).errors
+errors_of_tree law e =
+    let least = law.errors e.flags (program_in e) e.depth in
+    record { each_once = (law.sorted e.flags (program_in e) e.depth).0; short = λ f there. (law.runs (program_in e) e.depth f.schedule (least f there).is_among).0; least = least }
+
+refusals_of_tree : TreeLaws → (e : ExplorationSeen) → AreOfTree (program_in e) e.depth (all_findings e).refusals
+refusals_of_tree law e =
+    let least = law.refusals e.flags (program_in e) e.depth in
+    record { each_once = (law.sorted e.flags (program_in e) e.depth).1; short = λ f there. (law.runs (program_in e) e.depth f.schedule (least f there).is_among).0; least = least }
+
+-- the nodes of the root are those of the tree
+extent_of_tree : TreeLaws → (e : ExplorationSeen) → IsExtentOf (program_in e) e.depth (whole_extent e)
+extent_of_tree law e = record {
+  nodes = sym (length-map (nodes_of (program_in e) e.depth root) (λ v. v.schedule)) ∙ ap length (law.root (program_in e) e.depth);
+  cut = refl;
+}
+
+pub report_is_exact : TreeLaws → ReportIsExact
+report_is_exact law r options x what e low =
+    let is = whole_report r options x what e low in
+    let seen : ExplorationSeen = explored_by is.explored.program options in
+    let found = sym is.explored.is_outcome.0 in
+    record {
+      program = is.explored.program;
+      module_text = is.explored.module_text;
+      findings = is.findings;
+      extent = is.extent;
+      exact = is.explored.is_exact;
+      of_all = is.explored.is_whole;
+      errors = subst (λ (fs : Findings). AreOfTree (program_in seen) seen.depth fs.errors) found (errors_of_tree law seen);
+      refusals = subst (λ (fs : Findings). AreOfTree (program_in seen) seen.depth fs.refusals) found (refusals_of_tree law seen);
+      settled = is.explored.is_outcome.0;
+      size = subst (IsExtentOf (program_in seen) seen.depth) (sym is.explored.is_outcome.1) (extent_of_tree law seen);
+      got = is.written;
+    }
 
 -- ---- the transcript is the run
 

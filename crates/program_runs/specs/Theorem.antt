@@ -1,5 +1,5 @@
--- What the program promises, in four statements about each of its runs.
-use Rattle.std.specs.Prelude.{◌≡◌, ◌⊎◌, ℕ, Bool, List, ◌∷◌, Option, Some}
+-- What the program promises, in five statements about each of its runs.
+use Rattle.std.specs.Prelude.{◌≡◌, ◌⊎◌, ◌≤◌, ℕ, Bool, true, List, [], ◌∷◌, ◌++◌, length, codes, Option, Some, None}
 use Rattle.term_core.specs.Meaning.{Meaning}
 use Rattle.term_core.specs.Stream.{WritesAll}
 use Rattle.term_core.specs.declared.step.Step.{Step}
@@ -10,18 +10,22 @@ use Rattle.world_model.specs.Asking.{program_of}
 use Rattle.world_model.specs.Calls.{call_of}
 use Rattle.world_model.specs.Events.{Event, History}
 use Rattle.world_model.specs.Headline.{IsTableCall, first_rule, judged_by}
-use Rattle.world_model.specs.Names.{Pid}
+use Rattle.world_model.specs.Names.{IsAmong, Pid}
+use Rattle.world_model.specs.Requests.{Program}
 use Rattle.world_model.specs.Run as schedules
 use Rattle.world_model.specs.Run.{run}
 use Rattle.world_model.specs.Shown.{Identity}
-use Rattle.tree_coverage.specs.Covers.{ShowsNothing}
-use Rattle.tree_coverage.specs.Findings.{Findings}
+use Rattle.tree_coverage.specs.Covers.{Lines, ShowsNothing}
+use Rattle.tree_coverage.specs.Findings.{AreSorted, Finding, Findings, IsLeast}
+use Rattle.tree_coverage.specs.Trees.{node_count, nodes}
+use Rattle.tree_covers.specs.CoverText.{text_of_cover}
+use Rattle.tree_cuts.specs.Cuts.{IsEverShown, cuts_of}
 use Rattle.tree_excuses.specs.Excuses.{Excuses, counts}
 use Rattle.world_identities.specs.Identities.{flags_in}
 use Rattle.tree_findings.specs.declared.extent.Extent.{Extent}
 use Rattle.tree_findings.specs.declared.options.Options.{Options}
 use Rattle.tree_findings.specs.declared.outcome.Outcome.TheVariants.{Complete}
-use Rattle.search_crew.specs.Outcomes.{IsListedOf}
+use Rattle.search_crew.specs.Outcomes.{IsListedOf, IsListedOfAll, all_findings}
 use Rattle.search_jobs.specs.Explorations.{explored_by}
 use Rattle.world_event_text.specs.EventText.{text_of_events}
 use Rattle.program_words.specs.Words.{IsExplore, IsReplay}
@@ -45,17 +49,50 @@ pub record ProgramRun : Type 0 where
 abbrev pub Got : Written → List ℕ → Type 0
 Got output text = WritesAll output.old output.new output.failed text
 
--- no schedule of the module in these bytes that has at most so many steps shows anything that counts as an error
+-- these bytes are the text of a module, no schedule of which that has at most so many steps shows anything that counts as an error
 abbrev pub HasNoError : List ℕ → ℕ → (Identity → Bool) → Type 0
-HasNoError text depth is_counted = (m : ModuleTree) → SpellsModule text m → ShowsNothing is_counted (program_of m) depth
+HasNoError text depth is_counted = (m : ModuleTree) × SpellsModule text m × ShowsNothing is_counted (program_of m) depth
 
--- the output got the report of findings that list each error and each refusal exactly where some schedule of at most so many steps shows it
+-- these bytes are the text of a module, no schedule of which shows anything that counts as an error, whatever its length
+abbrev pub HasNoErrorEver : List ℕ → (Identity → Bool) → Type 0
+HasNoErrorEver text is_counted = (m : ModuleTree) × SpellsModule text m × ((i : Identity) → is_counted i ≡ true → IsEverShown (program_of m) i → ⊥)
+
+-- what comes after a report: nothing, or a cover
+abbrev pub text_after : Option Lines → List ℕ
+text_after None = []
+text_after (Some lines) = text_of_cover lines
+
+-- the output, which reports its bytes, got a text that ends with this line, or with this line and a cover after it, whatever comes before the line
+pub record ReportEndsWith (line : List ℕ) (output : Written) : Type 0 where
+  pub before : List ℕ
+  pub reports : output.old ≡ Some before
+  pub front : List ℕ
+  pub cover : Option Lines
+  pub got : Got output (front ++ (line ++ text_after cover))
+
+-- each finding is listed once, in their order; beside it is a schedule of at most so many steps, that of a node of the tree to this depth, which shows it; and no schedule of a node that shows it is less
+pub record AreOfTree (a : Program) (depth : ℕ) (fs : List Finding) : Type 0 where
+  pub each_once : AreSorted fs
+  pub short : (f : Finding) → IsAmong f fs → length f.schedule ≤ depth
+  pub least : (f : Finding) → IsAmong f fs → IsLeast a (nodes a depth) f
+
+-- the tree to this depth has so many nodes, and it is cut at so many of them
+pub record IsExtentOf (a : Program) (depth : ℕ) (extent : Extent) : Type 0 where
+  pub nodes : extent.nodes ≡ node_count a depth
+  pub cut : extent.cut ≡ cuts_of a depth
+
+-- the output got the report of these findings and of a tree of this extent. An error is listed exactly where some schedule of at most so many steps shows it, and so is a refusal; where the tree is cut at no node, exactly where some schedule does, of whatever length. Each is listed once, with the least schedule of a node. The module, the depth and the flags settle what is listed. The nodes and the cuts are those of the tree.
 pub record HasExactReport (input : List ℕ) (options : Options) (x : Excuses) (what : Printed) (output : Written) : Type 0 where
   pub program : ModuleTree
   pub module_text : SpellsModule input program
   pub findings : Findings
   pub extent : Extent
   pub exact : (i : Identity) → IsListedOf (explored_by program options) findings i
+  pub of_all : extent.cut ≡ 0 → (i : Identity) → IsListedOfAll (explored_by program options) findings i
+  pub errors : AreOfTree (program_of program) options.depth findings.errors
+  pub refusals : AreOfTree (program_of program) options.depth findings.refusals
+  pub settled : findings ≡ all_findings (explored_by program options)
+  pub size : IsExtentOf (program_of program) options.depth extent
   pub got : Got output (text_of_print (print_of what (program_of program) options.depth x (Complete findings extent)))
 
 -- the output got the lines of the events of the one run of the schedule in this word
@@ -69,11 +106,15 @@ pub record HasTranscript (input word : List ℕ) (output : Written) : Type 0 whe
 
 -- ---- the theorem
 
--- Clean means none: where an exploration ends with status 0, no schedule of at most so many steps shows an error.
+-- Clean means none: where an exploration ends with status 0, no schedule of its module that has at most so many steps shows an error.
 abbrev pub CleanMeansNone : Type 0
 CleanMeansNone = (r : ProgramRun) (options : Options) (x : Excuses) (what : Printed) → IsExplore r.words options x what → r.status ≡ 0 → HasNoError r.input options.depth (counts (flags_in options.flags) x)
 
--- The report is exact: where an exploration ends with status 0 or 1, it lists the errors and refusals of these schedules, and no others.
+-- All means all: where an exploration ends with status 0 or 1, and the last line of its report is `result: clean, all schedules`, no schedule of its module shows an error, whatever its length.
+abbrev pub AllMeansAll : Type 0
+AllMeansAll = (r : ProgramRun) (options : Options) (x : Excuses) (what : Printed) → IsExplore r.words options x what → (r.status ≡ 0) ⊎ (r.status ≡ 1) → ReportEndsWith (codes "result: clean, all schedules\n") r.output → HasNoErrorEver r.input (counts (flags_in options.flags) x)
+
+-- The report is exact: where an exploration ends with status 0 or 1, it lists the errors and refusals that schedules of at most so many steps show, and no others, each once, with the least schedule of a node that shows it.
 abbrev pub ReportIsExact : Type 0
 ReportIsExact = (r : ProgramRun) (options : Options) (x : Excuses) (what : Printed) → IsExplore r.words options x what → (r.status ≡ 0) ⊎ (r.status ≡ 1) → HasExactReport r.input options x what r.output
 

@@ -1,11 +1,20 @@
-use Rattle.program_runs.proofs.TheoremLaws.{clean_means_none, report_is_exact, transcript_is_the_run}
+use Rattle.program_runs.proofs.TheoremLaws.{all_means_all, clean_means_none, report_is_exact, transcript_is_the_run}
 use Rattle.program_runs.proofs.theorem.runs_keep_the_theorem.Goals as goal
 
 pub returns-clause-clean : goal.returns-clause-clean
 returns-clause-clean c = clean_means_none
 
+pub returns-clause-all : goal.returns-clause-all
+returns-clause-all c = all_means_all
+
 pub returns-clause-exact : goal.returns-clause-exact
-returns-clause-exact c = report_is_exact
+returns-clause-exact c = report_is_exact record {
+  sorted = c.findings_are_exact.ensures.order;
+  runs = c.nodes_are_listed.ensures.runs;
+  errors = c.findings_are_of_nodes.ensures.errors;
+  refusals = c.findings_are_of_nodes.ensures.refusals;
+  root = c.jobs_have_their_nodes.ensures.root;
+}
 
 pub returns-clause-transcript : goal.returns-clause-transcript
 returns-clause-transcript c = transcript_is_the_run c.replays_are_runs.ensures.whole
