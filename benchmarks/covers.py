@@ -15,6 +15,9 @@ import time
 from pathlib import Path
 
 ROOT = Path(__file__).resolve().parent.parent
+sys.path.insert(0, str(ROOT / "tools"))
+from programs import proved
+
 # the modules, and the depths of each
 ROWS = {"inserts": (14, 16, 18), "messages": (16, 20, 24)}
 MARK = b"%%cover\n"
@@ -51,12 +54,11 @@ def row_of(program, module, depth, runs):
 def main():
     parser = argparse.ArgumentParser(description=__doc__, formatter_class=argparse.RawDescriptionHelpFormatter)
     parser.add_argument("--runs", type=int, default=5)
-    parser.add_argument("--program", default=str(ROOT / "crates/schedule_explorer/out/schedule_explorer"))
+    parser.add_argument("--program")
     given = parser.parse_args()
     if given.runs < 1:
         parser.error("--runs is at least 1")
-    if not Path(given.program).is_file():
-        sys.exit("there is no program: run ./schedule_explorer once")
+    given.program = given.program or str(proved())
     print("| module | depth | nodes | bytes of the cover | explore | with the cover | check | check by explore |")
     print("| --- | --- | --- | --- | --- | --- | --- | --- |")
     for module, depths in ROWS.items():

@@ -18,7 +18,9 @@ import time
 from pathlib import Path
 
 HERE = Path(__file__).resolve().parent
-PROGRAM = HERE.parent / "crates/schedule_explorer/out/schedule_explorer"
+sys.path.insert(0, str(HERE.parent / "tools"))
+from programs import proved
+
 # the module, the depth, and the nodes of its tree
 ROWS = [
     ("inserts", 20, 747_115),
@@ -69,12 +71,11 @@ def main():
     parser = argparse.ArgumentParser(description=__doc__, formatter_class=argparse.RawDescriptionHelpFormatter)
     parser.add_argument("--runs", type=int, default=3)
     parser.add_argument("--workers", type=int, nargs="+", default=[1, 2, 4, 16])
-    parser.add_argument("--program", default=PROGRAM)
+    parser.add_argument("--program")
     asked = parser.parse_args()
     if asked.runs < 1:
         parser.error("--runs is at least 1")
-    if not Path(asked.program).is_file():
-        sys.exit("there is no program: run the script schedule_explorer at the root first")
+    asked.program = asked.program or str(proved())
     print("| module | depth | nodes | workers | seconds | of a processor | nodes a second | times one worker | MB |")
     print("| --- | --- | --- | --- | --- | --- | --- | --- | --- |")
     for name, depth, nodes in ROWS:

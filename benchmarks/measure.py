@@ -22,7 +22,9 @@ import time
 from pathlib import Path
 from typing import Callable, Iterator, List, NamedTuple, Tuple
 
-PROGRAM = Path(__file__).resolve().parent.parent / "crates/schedule_explorer/out/schedule_explorer"
+sys.path.insert(0, str(Path(__file__).resolve().parent.parent / "tools"))
+from programs import proved
+
 MODULE_BYTES = 1_048_000
 DEPTH = 998
 
@@ -320,14 +322,13 @@ def print_table(words: argparse.Namespace, title: str, rows: List[Row]) -> None:
 def main() -> None:
     layout = argparse.RawDescriptionHelpFormatter
     parser = argparse.ArgumentParser(description=__doc__, formatter_class=layout)
-    parser.add_argument("--program", type=Path, default=PROGRAM)
+    parser.add_argument("--program", type=Path)
     parser.add_argument("--runs", type=int, default=9)
     parser.add_argument("--processor", action="store_true")
     words = parser.parse_args()
     if words.runs < 1:
         parser.error("--runs is at least 1")
-    if not words.program.is_file():
-        sys.exit(f"there is no program {words.program}")
+    words.program = words.program or proved()
     print_table(words, "read, bytes", READING)
     print_table(words, "evaluated until it is too large, bytes", BUILDING)
     print_table(words, "evaluated in one turn, items", EVALUATION)

@@ -20,6 +20,9 @@ from pathlib import Path
 
 HERE = Path(__file__).resolve().parent
 ROOT = HERE.parent
+sys.path.insert(0, str(ROOT / "tools"))
+from programs import proved
+
 SCRIPT = ROOT / "tools/explore_with_parallel"
 # the module, the depth of the tree, and that of the jobs
 ROWS = [
@@ -68,12 +71,11 @@ def row_of(program, name, depth, place, runs):
 def main():
     parser = argparse.ArgumentParser(description=__doc__, formatter_class=argparse.RawDescriptionHelpFormatter)
     parser.add_argument("--runs", type=int, default=3)
-    parser.add_argument("--program", default=str(ROOT / "crates/schedule_explorer/out/schedule_explorer"))
+    parser.add_argument("--program")
     asked = parser.parse_args()
     if asked.runs < 1:
         parser.error("--runs is at least 1")
-    if not Path(asked.program).is_file():
-        sys.exit("there is no program: run the script schedule_explorer at the root first")
+    asked.program = asked.program or str(proved())
     if not shutil.which("parallel"):
         sys.exit("GNU parallel is not on PATH")
     os.environ["PROGRAM"] = asked.program

@@ -108,6 +108,13 @@ PROVED = Kind("proved", ("src", "specs", "proofs"))
 CHECKED = Kind("checked", ("src",))
 
 
+def proved():
+    """The proved program of the present sources; where there is none, this process ends, and says how to get one."""
+    import sys
+
+    return PROVED.present() or sys.exit("there is no proved program of the present sources: tools/prove_program proves and builds it")
+
+
 def files_below(path):
     """The file, or the files below the folder, in the order of their names."""
     if not os.path.isdir(path):
