@@ -1,6 +1,8 @@
-// Tests of plans: what steps would do, and that they are done so; and of worlds that are copied.
+// Tests of plans: what steps would do, and that they are done so; and of worlds: who lives in them, and their copies.
 #![tactic(auto)]
 
+#[cfg(test)]
+mod lives;
 #[cfg(test)]
 mod plans;
 #[cfg(test)]
