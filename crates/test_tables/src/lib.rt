@@ -1,4 +1,5 @@
-// Tests of tables: what each call answers or by which rule it is refused, who may call, and what an end leaves.
+// Tests of tables: what each call answers or by which rule it is refused, which rows it writes, who may call, and what an
+// end leaves.
 #![tactic(auto)]
 
 #[cfg(test)]
@@ -11,3 +12,5 @@ mod refusals;
 mod scene;
 #[cfg(test)]
 mod walks;
+#[cfg(test)]
+mod written;
