@@ -1,10 +1,9 @@
 // The program: names the three streams and the words, shows how far it is, and does the rest in `program_runs`.
 #![tactic(auto)]
 
-mod blocks;
 mod progress;
 
-use blocks::Blocks;
+use either::Either;
 use program_runs::run_to_exit;
 use progress::{Erasing, Progress};
 use std::env;
@@ -19,14 +18,17 @@ fn words_of(rt: &HostRuntime) -> Option<Vec<String>> {
     words.collect(rt.alloc()).ok()
 }
 
-// Standard output, before which the line of progress is erased.
+// A writer in blocks, or, where there is no memory for a block, one that writes each piece as it comes.
+type Blocks<W> = Either<BufWriter<W>, W>;
+
+// Standard output in blocks, before which the line of progress is erased.
 fn stdout_of<'p, 'r>(
     rt: &HostRuntime,
     progress: &'p Progress<'r, HostRuntime>,
 ) -> Blocks<Erasing<'p, 'r, HostRuntime, Stdout>> {
     match BufWriter::new(rt.alloc(), Erasing::new(progress, rt.stdout())) {
-        Ok(writer) => Blocks::Gathered(writer),
-        Err(_) => Blocks::AtOnce(Erasing::new(progress, rt.stdout())),
+        Ok(writer) => Either::Left(writer),
+        Err(_) => Either::Right(Erasing::new(progress, rt.stdout())),
     }
 }
 
