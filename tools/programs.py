@@ -4,7 +4,10 @@ There are two. The proved program was built by `rattle` or `rt`, which build onl
 definitions and the proofs. The checked program was built by tools/build_checked, with checks at run time in the place of
 proofs; it depends on the code alone. Each is kept in a folder that has the sum of these sources as its name:
 out/proved/SUM/schedule_explorer and out/checked/SUM/schedule_explorer. So a program is never taken for that of other
-sources, and is there again where a change is taken back.
+sources, and is there again where a change is taken back. Who builds one has to see that the sum is still the same at the
+end: a source may be edited while it is read.
+
+(Each run of the program begins here, so what takes long to import is imported where it is used.)
 """
 import hashlib
 import os
