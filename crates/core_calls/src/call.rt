@@ -190,13 +190,6 @@ impl CallKind {
         self.signature().function_name
     }
 
-    /// The number of the call's arguments, 0 to 3.
-    pub fn arity(self) -> usize
-        ensures { result ≡ (signature self).arity }
-    {
-        self.signature().arity
-    }
-
     // Whether the call has these names and so many arguments.
     fn has_signature(self, module_name: &str, function_name: &str, arity: usize) -> bool
         ensures { result ≡ has_signature module_name.now function_name.now arity (signature self) }

@@ -246,27 +246,6 @@ impl PureCall {
         }
     }
 
-    /// The name of the call's module, `erlang` or `lists`.
-    pub fn module_name(self) -> &'static str
-        ensures { result.now ≡ (pure_signature self).module_name }
-    {
-        self.signature().module_name
-    }
-
-    /// The name of the call's function, as `element`.
-    pub fn function_name(self) -> &'static str
-        ensures { result.now ≡ (pure_signature self).function_name }
-    {
-        self.signature().function_name
-    }
-
-    /// The number of the call's arguments, 0 to 3.
-    pub fn arity(self) -> usize
-        ensures { result ≡ (pure_signature self).arity }
-    {
-        self.signature().arity
-    }
-
     // Whether the call has these names and so many arguments.
     fn has_signature(self, module_name: &str, function_name: &str, arity: usize) -> bool
         ensures { result ≡ has_signature module_name.now function_name.now arity (pure_signature self) }

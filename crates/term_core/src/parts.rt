@@ -1,5 +1,5 @@
 // The parts of a tuple: made, added to, read, and taken out.
-ghost use Rattle.std.specs.Prelude.{◌≡◌, ◌-◌, ◌^◌, min, [], ◌∷◌, ◌++◌, length, map, IsTrue, ◌↔◌, OnOk, OnErr};
+ghost use Rattle.std.specs.Prelude.{◌≡◌, ◌-◌, ◌^◌, min, [], ◌∷◌, ◌++◌, length, map, OnOk, OnErr};
 ghost use Rattle.term_core.specs.Meaning.{sum_of_nodes};
 ghost use Rattle.term_core.specs.Term.{meaning_of};
 
@@ -53,13 +53,6 @@ impl Terms {
         ensures { result ≡ length self.now }
     {
         self.items.len()
-    }
-
-    /// Whether the list is empty.
-    pub fn is_empty(&self) -> bool
-        ensures { IsTrue result ↔ (self.now ≡ []) }
-    {
-        self.items.is_empty()
     }
 
     /// The terms.

@@ -62,13 +62,23 @@ fn integers(alloc: Global, count: usize) -> Result<Vec<Term>, Fail> {
     Ok(terms)
 }
 
+// How many arguments a call has: by its names and so many it is found.
+fn arity_of(kind: CallKind) -> usize {
+    for count in 0..4 {
+        if CallKind::named(kind.module_name(), kind.function_name(), count) == Some(kind) {
+            return count;
+        }
+    }
+    0
+}
+
 // Checks that a call is written and read back as it was.
 fn says_call(alloc: Global, kind: CallKind) -> Result<(), Fail> {
     let made = refusal(
         alloc,
         1,
         kind,
-        integers(alloc, kind.arity())?,
+        integers(alloc, arity_of(kind))?,
         Rule::NoTable,
         None,
     )?;

@@ -53,9 +53,7 @@ fn is_call_of(expression: &Expr, kind: CallKind) -> bool {
         return false;
     };
     match &call.callee {
-        Callee::World(called) => {
-            called.function_name() == kind.function_name() && called.arity() == kind.arity()
-        }
+        Callee::World(called) => *called == kind,
         _ => false,
     }
 }

@@ -2,7 +2,7 @@
 use core_reader::{ReadFault, read_module};
 use core_tree::{
     Call, CallKind, Callee, Case, Clauses, Definition, Expr, Exprs, FunctionName, Module,
-    NamedFunction, PURE_CALLS, PureCall, Variable,
+    NamedFunction, PureCall, Variable,
 };
 use std::alloc::{AllocError, Global};
 use std::test::Fail;
@@ -25,7 +25,7 @@ fn names_calls(rt: HostRuntime) {
     for (kind, module_name, function_name, arity) in CALL_NAMES {
         assert_eq!(rt; kind.module_name(), module_name);
         assert_eq!(rt; kind.function_name(), function_name);
-        assert_eq!(rt; kind.arity(), arity);
+        assert_eq!(rt; CallKind::named(module_name, function_name, arity), Some(kind));
     }
 }
 
@@ -42,23 +42,10 @@ const PURE_CALL_NAMES: [(PureCall, &str, &str, usize); 8] = [
 ];
 
 #[test]
-fn names_pure_calls(rt: HostRuntime) {
+fn finds_pure_calls(rt: HostRuntime) {
     for (call, module_name, function_name, arity) in PURE_CALL_NAMES {
-        assert_eq!(rt; call.module_name(), module_name);
-        assert_eq!(rt; call.function_name(), function_name);
-        assert_eq!(rt; call.arity(), arity);
-    }
-}
-
-#[test]
-fn tells_pure_calls_apart(rt: HostRuntime) {
-    for (i, a) in PURE_CALLS.iter().enumerate() {
-        for (j, b) in PURE_CALLS.iter().enumerate() {
-            let alike = a.module_name() == b.module_name()
-                && a.function_name() == b.function_name()
-                && a.arity() == b.arity();
-            assert_eq!(rt; alike, i == j);
-        }
+        assert_eq!(rt; PureCall::named(module_name, function_name, arity), Some(call));
+        assert_eq!(rt; PureCall::named(module_name, function_name, arity + 3), None);
     }
 }
 

@@ -3,7 +3,7 @@ mod long;
 mod rows;
 mod words;
 
-use crate::term_words::{Word, terms};
+use crate::term_words::Word;
 use core_tree::{PURE_CALLS, PureCall};
 use rows::{COMPARISONS, EACH, KINDS, LISTS, NUMBERS, RAISING, Row, TUPLES};
 use std::alloc::Global;
@@ -26,9 +26,8 @@ fn check(alloc: Global, rows: &[Row]) -> Result<(), Fail> {
 
 #[test]
 fn each_call_answers(rt: HostRuntime) -> Result<(), Fail> {
-    for (i, (call, words, _)) in EACH.iter().enumerate() {
+    for (i, (call, _, _)) in EACH.iter().enumerate() {
         assert_eq!(rt; *call, PURE_CALLS[i]);
-        assert_eq!(rt; terms(rt.alloc(), words)?.len(), call.arity());
     }
     check(rt.alloc(), &EACH)
 }
