@@ -13,4 +13,6 @@ mod scene;
 #[cfg(test)]
 mod walks;
 #[cfg(test)]
+mod world;
+#[cfg(test)]
 mod written;

@@ -157,8 +157,9 @@ const GIVE_AWAY_TO_ONESELF: [Line; 2] = [
     ),
 ];
 
-const GIVE_AWAY_AND_BACK: [Line; 5] = [
+const GIVE_AWAY_AND_BACK: [Line; 6] = [
     ("", 0, "new", "'t',['named_table']", "'t'"),
+    ("C0", 0, "pid", "0", "P"),
     ("C2", 0, "pid", "2", "P.2"),
     (
         "",
@@ -171,7 +172,7 @@ const GIVE_AWAY_AND_BACK: [Line; 5] = [
         "",
         2,
         "give_away",
-        "'t',call 'erlang':'self'(),{'back',1}",
+        "'t',C0,{'back',1}",
         "'true', P gets {'ETS-TRANSFER','t',P.2,{'back',1}}",
     ),
     ("", 0, "info", "'t','owner'", "P"),

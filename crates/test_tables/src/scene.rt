@@ -1,6 +1,7 @@
 // A few processes and their tables: each line is a call of one of them, and what it results in is compared as text.
 ghost use Rattle.std.specs.Prelude.{◌≡◌, false};
 
+use crate::world::happen_in_a_world;
 use core_eval::{Answer, Machine, Request, start};
 use core_reader::{Module, ReadFault, read_module};
 use core_tree::CallKind;
@@ -38,7 +39,7 @@ struct Scene {
 }
 
 // The process of a number: the first of 0, and of another the one that the request with this number spawned.
-fn pid_of(alloc: Global, number: u64) -> Result<Pid, AllocError> {
+pub(crate) fn pid_of(alloc: Global, number: u64) -> Result<Pid, AllocError> {
     let mut numbers = Vec::new(alloc);
     if number > 0 {
         numbers.push(number)?;
@@ -379,8 +380,9 @@ fn lines_happen_in(alloc: Global, program: &Module, lines: &[Line]) -> Result<()
 }
 
 /// Checks that each of these lines results in what it says, one after the other, with four processes and no table at
-/// first.
+/// first: by calls of the tables alone, and then in a world, where each step is planned and done as it was planned.
 pub(crate) fn happen(alloc: Global, lines: &[Line]) -> Result<(), Fail> {
     let program = program_of(alloc, lines)?;
-    lines_happen_in(alloc, &program, lines)
+    lines_happen_in(alloc, &program, lines)?;
+    happen_in_a_world(alloc, lines)
 }
