@@ -5,3 +5,4 @@ pub mod Lookups
 pub mod Selecting
 pub mod Choosing
 pub mod Fitting
+pub mod Sameness

@@ -40,3 +40,13 @@ is_spent m = m.spent
 pub record StandsAt (m : Standing) (future : List Answered → Asked) : Type 0 where
   pub lives : is_spent m ≡ false
   pub asks : (answers : List Answered) → after m answers ≡ future answers
+
+-- a machine of the same module as another asks the same after all further answers, and neither is spent
+pub record AreOne (m n : Standing) : Type 0 where
+  pub one_lives : is_spent m ≡ false
+  pub other_lives : is_spent n ≡ false
+  pub asks : (answers : List Answered) → after m answers ≡ after n answers
+
+-- the module of a machine
+abbrev pub module_in : Standing → ModuleTree
+module_in m = m.program

@@ -3,7 +3,7 @@ ghost use Rattle.std.specs.Prelude.{◌≡◌, ◌∷◌, true, false, List, IfO
 ghost use Rattle.core_semantics.specs.Ask.{ask, entry};
 ghost use Rattle.core_semantics.specs.Asked.{Answered};
 ghost use Rattle.core_eval.specs.Requests.{told_by, answered_of};
-ghost use Rattle.core_eval.specs.Standing.{StandsAt, after, is_spent, stands_at};
+ghost use Rattle.core_eval.specs.Standing.{AreOne, StandsAt, after, is_spent, module_in, stands_at};
 ghost use Rattle.core_eval.specs.Told.{is_selected, told};
 ghost use Rattle.core_eval.specs.inside.Steps.{stands_in};
 ghost use Rattle.term_core.specs.Term.{meaning_of};
@@ -73,8 +73,9 @@ pub fn start<'m>(
     function_name: &Atom,
     arguments: Terms,
 ) -> Result<Machine<'m>, AllocError>
-    ensures { IfOk result (λ machine.
+    ensures stands { IfOk result (λ machine.
         StandsAt machine (ask program.now pid (entry module_name.now function_name.now arguments))) }
+    ensures program { IfOk result (λ machine. module_in machine ≡ program.now) }
 {
     let mut stack = Stack::new(alloc);
     let found = first_definition(program, &pid, module_name, function_name, &arguments)?;
@@ -106,6 +107,7 @@ impl<'m> Machine<'m> {
         ensures goes_on { OnOk result ((later : List Answered) →
             after self.new later ≡ after self.old (answered_of answer ∷ later)) }
         ensures lives { OnOk result (is_spent self.new ≡ false) }
+        ensures program { OnOk result (module_in self.new ≡ module_in self.old) }
         ensures spent { OnErr result (is_spent self.new ≡ true) }
         ensures stays_spent { is_spent self.old ≡ true → IsErr result }
     {
@@ -151,6 +153,26 @@ impl<'m> Machine<'m> {
             Request::Receive { waits: _ } => self.stack.receive(),
             Request::Call(_, _) | Request::End(_) | Request::Runaway => None,
         }
+    }
+
+    /// Whether two machines of one module wait at the same request with the same left to do, wherever its code is in the
+    /// text. It takes no memory. No machine is the same as one that is spent.
+    pub fn is_same(&self, other: &Machine<'_>) -> bool
+        ensures { result ≡ true → module_in self.now ≡ module_in other.now → AreOne self.now other.now }
+    {
+        if self.is_spent {
+            return false;
+        }
+        if other.is_spent {
+            return false;
+        }
+        if self.pid != other.pid {
+            return false;
+        }
+        if !self.request.is_same(&other.request) {
+            return false;
+        }
+        self.stack.is_same(&other.stack)
     }
 
     /// The same machine, or `AllocError` if there is no memory for it or the machine is spent. The two

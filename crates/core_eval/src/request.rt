@@ -1,6 +1,7 @@
 // What a process asks of the world that it runs in, and what it is answered.
-ghost use Rattle.std.specs.Prelude.{◌≡◌, IfOk};
+ghost use Rattle.std.specs.Prelude.{◌≡◌, IfOk, true};
 ghost use Rattle.core_eval.specs.Requests.{told_by};
+ghost use Rattle.term_core.specs.Term.{meaning_of};
 
 use core_tree::CallKind;
 use std::alloc::AllocError;
@@ -34,7 +35,40 @@ pub enum Answer {
     TimedOut,
 }
 
+fn same_kind(a: CallKind, b: CallKind) -> bool
+    ensures { result ≡ true → a ≡ b }
+{
+    a == b
+}
+
+fn same_terms(a: &Terms, b: &Terms) -> bool
+    ensures { result ≡ true → a.now ≡ b.now }
+{
+    *a == *b
+}
+
+fn same_term(a: &Term, b: &Term) -> bool
+    ensures { result ≡ true → meaning_of a.now ≡ meaning_of b.now }
+{
+    *a == *b
+}
+
 impl Request {
+    /// Whether two requests say the same. It takes no memory.
+    pub fn is_same(&self, other: &Request) -> bool
+        ensures { result ≡ true → told_by self.now ≡ told_by other.now }
+    {
+        match (self, other) {
+            (Request::Call(kind, arguments), Request::Call(asked, others)) => {
+                same_kind(*kind, *asked) && same_terms(arguments, others)
+            }
+            (Request::Receive { waits }, Request::Receive { waits: others }) => *waits == *others,
+            (Request::End(reason), Request::End(other)) => same_term(reason, other),
+            (Request::Runaway, Request::Runaway) => true,
+            _ => false,
+        }
+    }
+
     /// The same request, or `AllocError` where its copies can no longer be counted. It takes no memory.
     pub fn copy(&self) -> Result<Request, AllocError>
         ensures { IfOk result (λ copied. told_by copied ≡ told_by self.now) }

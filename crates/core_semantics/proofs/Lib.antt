@@ -2,3 +2,4 @@ pub mod Rooms
 pub mod ApplyLaw
 pub mod WorkedRows
 pub mod ReadRequests
+pub mod Places

@@ -1,3 +1,4 @@
 pub mod Binding
 pub mod Matches
 pub mod Fitted
+pub mod Alike

@@ -5,3 +5,4 @@ pub mod Layers
 pub mod Matched
 pub mod Fitted
 pub mod Fitting
+pub mod Bare

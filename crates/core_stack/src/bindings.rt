@@ -1,5 +1,5 @@
 // The values of variables.
-ghost use Rattle.std.specs.Prelude.{◌≡◌, ◌∷◌, ◌++◌, [], IfOk, OnOk, option_map};
+ghost use Rattle.std.specs.Prelude.{◌≡◌, ◌∷◌, ◌++◌, [], IfOk, OnOk, option_map, true};
 ghost use Rattle.core_stack.specs.Matching.{bound, lookup};
 ghost use Rattle.term_core.specs.Term.{meaning_of};
 
@@ -9,7 +9,7 @@ use std::marker::Model;
 use term_core::{Term, Terms};
 
 /// A variable and its value.
-#[derive(Drop)]
+#[derive(PartialEq, Drop)]
 pub struct Binding<'m> {
     name: &'m [u8],
     value: Term,
@@ -100,6 +100,13 @@ impl<'m> Bindings<'m> {
             }
         }
         None
+    }
+
+    /// Whether the variables have the same names and values, in the same order. It takes no memory.
+    pub fn is_same(&self, other: &Bindings<'_>) -> bool
+        ensures { result ≡ true → self.now ≡ other.now }
+    {
+        self.0 == other.0
     }
 
     /// The same variables, or `AllocError` if there is no memory for it.

@@ -1,6 +1,7 @@
 // The frames that copies of a stack share.
-ghost use Rattle.std.specs.Prelude.{◌≡◌, ◌∷◌, ◌++◌, [], IfOk, OnOk, MatchOption, option_map};
+ghost use Rattle.std.specs.Prelude.{◌≡◌, ◌∷◌, ◌++◌, [], IfOk, OnOk, MatchOption, option_map, true};
 ghost use Rattle.core_stack.specs.inside.Frames.{hole_of};
+ghost use Rattle.core_stack.specs.inside.Bare.{bare_holes};
 ghost use Rattle.core_stack.specs.inside.Layers.{holes_in, holes_onto};
 ghost use Rattle.core_stack.specs.Holes.{scope};
 ghost use Rattle.core_stack.specs.Matching.{lookup};
@@ -9,6 +10,7 @@ ghost use Rattle.term_core.specs.Term.{meaning_of};
 
 use crate::bindings::Seen;
 use crate::frame::Frame;
+use crate::sameness::same_frame;
 use core_tree::Receive;
 use std::alloc::{AllocError, Global};
 use std::marker::Model;
@@ -182,6 +184,30 @@ impl<'m> Layers<'m> {
             left = &layer.below;
         }
         Ok(())
+    }
+
+    /// Whether two stacks of frames have the same values and the same code, wherever that is in the text. It takes no
+    /// memory.
+    pub fn is_same(&self, other: &Layers<'_>) -> bool
+        ensures { result ≡ true → bare_holes (holes_in self.now) ≡ bare_holes (holes_in other.now) }
+    {
+        let mut left = self;
+        let mut right = other;
+        loop {
+            match (left, right) {
+                (Layers::End, Layers::End) => return true,
+                (Layers::On(one), Layers::On(two)) => {
+                    let one: &Layer = one;
+                    let two: &Layer = two;
+                    if !same_frame(&one.frame, &two.frame) {
+                        return false;
+                    }
+                    left = &one.below;
+                    right = &two.below;
+                }
+                _ => return false,
+            }
+        }
     }
 
     /// The receive on top.

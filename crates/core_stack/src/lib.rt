@@ -6,6 +6,7 @@ mod fitting;
 mod frame;
 mod layers;
 mod matching;
+mod sameness;
 mod stack;
 
 pub use bindings::Bindings;

@@ -1,5 +1,6 @@
 // The stack of a machine.
-ghost use Rattle.std.specs.Prelude.{◌≡◌, ◌∷◌, [], OnOk, IfOk, MatchOption, option_map};
+ghost use Rattle.std.specs.Prelude.{◌≡◌, ◌∷◌, [], OnOk, IfOk, MatchOption, option_map, true};
+ghost use Rattle.core_stack.specs.inside.Bare.{bare_holes};
 ghost use Rattle.core_stack.specs.inside.Frames.{hole_of};
 ghost use Rattle.core_stack.specs.Holes.{scope};
 ghost use Rattle.core_stack.specs.Matching.{lookup};
@@ -119,6 +120,14 @@ impl<'m> Stack<'m> {
             Some(frame) => frame.receive(),
             None => self.below.receive(),
         }
+    }
+
+    /// Whether two stacks have the same values and the same code, wherever that is in the text, both of them settled; no
+    /// more is said of stacks that are not. It takes no memory.
+    pub fn is_same(&self, other: &Stack<'_>) -> bool
+        ensures { result ≡ true → bare_holes self.now ≡ bare_holes other.now }
+    {
+        self.top.is_empty() && other.top.is_empty() && self.below.is_same(&other.below)
     }
 
     /// Whether the frame on top only keeps variables.

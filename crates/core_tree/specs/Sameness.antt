@@ -1,6 +1,6 @@
 -- Modules without the places of their parts in the text: each place is set to 0.
 use Rattle.std.specs.Prelude.{map}
-use Rattle.core_tree.specs.Syntax.{Mention, NamedAt, Callee, Pattern, Patterns, Tree, Trees, Clauses, DefinitionTree, ModuleTree}
+use Rattle.core_tree.specs.Syntax.{Mention, NamedAt, Callee, Pattern, Patterns, Tree, Trees, Clauses, ClauseTree, DefinitionTree, ModuleTree}
 use Rattle.core_tree.specs.Callee as callees
 use Rattle.core_tree.specs.Pattern as patterns
 use Rattle.core_tree.specs.Expression as trees
@@ -69,6 +69,10 @@ abbrev mutual
   pub bare_clauses : Clauses → Clauses
   bare_clauses trees.NoClause = trees.NoClause
   bare_clauses (trees.Clause ps g b cs) = trees.Clause (map bare_pattern ps) (bare_tree g) (bare_tree b) (bare_clauses cs)
+
+-- a clause
+abbrev pub bare_clause : ClauseTree → ClauseTree
+bare_clause c = record { patterns = map bare_pattern c.patterns; guard = bare_tree c.guard; body = bare_tree c.body }
 
 -- a definition
 abbrev pub bare_definition : DefinitionTree → DefinitionTree

@@ -1,14 +1,14 @@
 // Whether two modules are the same except for the places of their parts.
 ghost use Rattle.std.specs.Prelude.{◌≡◌, ◌↔◌, ◌&&◌, IsTrue, map};
 ghost use Rattle.std.specs.Ordering.{on, eq_of_both};
-ghost use Rattle.std.specs.Cmp.{partial_equiv_from_equiv, on_equiv, and_equiv};
+ghost use Rattle.std.specs.Cmp.{partial_equiv_from_equiv, on_per, on_equiv, and_equiv};
 ghost use Rattle.std.specs.Cmp.Lexicographic.{pointwise, lists_equiv};
 ghost use Rattle.core_tree.specs.Syntax.{patterns_of, trees_of, clauses_of, constants_of};
 ghost use Rattle.core_tree.specs.Tree.{callee_of, onto_pattern, alias_pattern, pattern_of, onto_tree, let_tree, case_tree, do_tree, call_tree, try_tree, catch_tree, receive_tree, tree_of, onto_constant, constant_of};
 ghost use Rattle.core_tree.specs.Definitions.{definition_of};
 ghost use Rattle.core_tree.specs.Sameness.{bare_module};
 ghost use Rattle.core_tree.specs.Alike.{same_mention, same_kind, same_pure, same_callee, same_pattern, same_patterns, same_tree, same_trees, same_clause, same_clauses, same_constant, same_constants, same_named, same_attribute, same_definition, same_module};
-ghost use Rattle.core_tree.specs.inside.AlikeLaws.{mentions_equal, exports_equal, attributes_equal, trees_equal, modules_equal};
+ghost use Rattle.core_tree.specs.inside.AlikeLaws.{mentions_equal, exports_equal, attributes_equal, trees_equal, callees_equal, choices_equal, modules_equal};
 
 use crate::constant::{Const, Consts, OntoConst};
 use crate::module::{Attribute, Definition, FunctionName, Module, NamedFunction};
@@ -293,6 +293,39 @@ fn same_consts(a: &Consts, b: &Consts) -> bool
         }
     }
     true
+}
+
+impl PartialEq for Callee {
+    ghost eq = { on callee_of same_callee };
+
+    ghost laws = { on_per callee_of (partial_equiv_from_equiv callees_equal) };
+
+    /// Whether the two apply the same, wherever they are.
+    fn eq(&self, other: &Callee) -> bool {
+        same_callee(self, other)
+    }
+}
+
+impl PartialEq for Expr {
+    ghost eq = { on tree_of same_tree };
+
+    ghost laws = { on_per tree_of (partial_equiv_from_equiv trees_equal) };
+
+    /// Whether the two are of one form and have the same parts, wherever they are. It takes no memory.
+    fn eq(&self, other: &Expr) -> bool {
+        same_expr(self, other)
+    }
+}
+
+impl PartialEq for Clause {
+    ghost eq = { same_clause };
+
+    ghost laws = { partial_equiv_from_equiv choices_equal };
+
+    /// Whether the two have the same patterns, the same guard and the same body, wherever they are.
+    fn eq(&self, other: &Clause) -> bool {
+        same_clause(self, other)
+    }
 }
 
 impl PartialEq for Attribute {

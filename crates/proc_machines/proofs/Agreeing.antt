@@ -6,7 +6,7 @@ use Rattle.core_tree.specs.Syntax.{ModuleTree}
 use Rattle.core_semantics.specs.Ask.{ask, is_first}
 use Rattle.core_semantics.specs.Asked.{Answered}
 use Rattle.core_eval.specs.Standing as standing
-use Rattle.core_eval.specs.Standing.{Standing, is_spent}
+use Rattle.core_eval.specs.Standing.{Standing, is_spent, module_in}
 use Rattle.world_model.specs.Asking.{entry_of}
 use Rattle.world_model.specs.Cells as cells
 use Rattle.world_model.specs.Cells.{Contents}
@@ -189,12 +189,15 @@ shift [] a ys = refl
 shift (x ∷ xs) a ys = ap (λ zs. x ∷ zs) (shift xs a ys)
 
 -- a machine that ran on with an answer is where its course is with that answer
-pub ran_on : (m : ModuleTree) (p : Pid) (c : cells.Course) (old copied new : Standing) (a : Answered) → copied ≡ old → is_spent new ≡ false
+pub ran_on : (m : ModuleTree) (p : Pid) (c : cells.Course) (old copied new : Standing) (a : Answered) → copied ≡ old → is_spent new ≡ false → module_in new ≡ module_in copied
     → ((later : List Answered) → standing.after new later ≡ standing.after copied (a ∷ later)) → StandsAs m p c (Some old) → StandsAs m p (turned (a ∷ []) c) (Some new)
-ran_on m p c old copied new a same lives goes_on told = record {
-  lives = lives;
-  asks = λ later. goes_on later ∙ ap (λ s. standing.after s (a ∷ later)) same ∙ told.asks (a ∷ later) ∙ ap (ask m p (entry_of m c.origin)) (shift c.answers a later);
-}
+ran_on m p c old copied new a same lives program goes_on told = (
+  program ∙ ap module_in same ∙ told.0,
+  record {
+    lives = lives;
+    asks = λ later. goes_on later ∙ ap (λ s. standing.after s (a ∷ later)) same ∙ told.1.asks (a ∷ later) ∙ ap (ask m p (entry_of m c.origin)) (shift c.answers a later);
+  },
+)
 
 some_stands : (m : ModuleTree) (p : Pid) (c : cells.Course) (machine : Option Standing) → StandsAs m p c machine → is_some machine ≡ true
 some_stands m p c None stands = absurd stands

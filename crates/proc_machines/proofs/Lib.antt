@@ -2,3 +2,4 @@ pub mod Agreeing
 pub mod Placing
 pub mod Listing
 pub mod Ordered
+pub mod Alike

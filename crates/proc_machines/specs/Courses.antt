@@ -1,10 +1,10 @@
 -- How far processes have come.
 use Rattle.std.specs.Map.{lookup}
-use Rattle.std.specs.Prelude.{◌≡◌, ◌+◌, ◌++◌, ℕ, List, Option, Some, None, map, if◌then◌else◌}
+use Rattle.std.specs.Prelude.{◌≡◌, ◌+◌, ◌++◌, ℕ, List, [], ◌∷◌, Option, Some, None, map, if◌then◌else◌}
 use Rattle.core_tree.specs.Syntax.{ModuleTree}
 use Rattle.core_semantics.specs.Ask.{ask}
 use Rattle.core_semantics.specs.Asked.{Answered}
-use Rattle.core_eval.specs.Standing.{Standing, StandsAt}
+use Rattle.core_eval.specs.Standing.{AreOne, Standing, StandsAt, module_in}
 use Rattle.world_model.specs.Asking.{entry_of}
 use Rattle.world_model.specs.Cells as cells
 use Rattle.world_model.specs.Names.{Pid, same_pid}
@@ -22,10 +22,10 @@ abbrev pub standing_of : Option Course → Option Standing
 standing_of None = None
 standing_of (Some course) = course.machine
 
--- a machine is, and after all further answers will be, at what the program asks after the answers of a course
+-- a machine of the module is, and after all further answers will be, at what the program asks after the answers of a course
 abbrev pub StandsAs : ModuleTree → Pid → cells.Course → Option Standing → Type 0
 StandsAs m p course None = ⊥
-StandsAs m p course (Some machine) = StandsAt machine (λ later. ask m p (entry_of m course.origin) (course.answers ++ later))
+StandsAs m p course (Some machine) = (module_in machine ≡ m) × StandsAt machine (λ later. ask m p (entry_of m course.origin) (course.answers ++ later))
 
 -- a course with a turn more, with what it is answered
 abbrev pub turned : List Answered → cells.Course → cells.Course
@@ -50,3 +50,29 @@ HasAt p course old new = (q : Pid) → course_at new q ≡ (if same_pid p q then
 -- the same courses
 abbrev pub AreSame : Courses → Courses → Type 0
 AreSame old new = (q : Pid) → course_at new q ≡ course_at old q
+
+-- two machines of one module ask the same, or there are none
+abbrev pub AreOneIf : Option Standing → Option Standing → Type 0
+AreOneIf None None = Unit {0}
+AreOneIf (Some a) (Some b) = module_in a ≡ module_in b → AreOne a b
+AreOneIf a b = ⊥
+
+-- as many turns, and machines that ask the same
+pub record IsSameCourse (a b : Course) : Type 0 where
+  pub turns : a.turns ≡ b.turns
+  pub machine : AreOneIf a.machine b.machine
+
+abbrev pub AreSameIf : Option Course → Option Course → Type 0
+AreSameIf None None = Unit {0}
+AreSameIf (Some a) (Some b) = IsSameCourse a b
+AreSameIf a b = ⊥
+
+-- the same processes in one order, each with courses that are the same
+abbrev pub AreSameLists : List (Pid × Course) → List (Pid × Course) → Type 0
+AreSameLists [] [] = Unit {0}
+AreSameLists (e ∷ es) (f ∷ fs) = (e.0 ≡ f.0) × IsSameCourse e.1 f.1 × AreSameLists es fs
+AreSameLists es fs = ⊥
+
+-- each process has courses that are the same
+abbrev pub AreSameCourses : Courses → Courses → Type 0
+AreSameCourses one other = (p : Pid) → AreSameIf (course_at one p) (course_at other p)

@@ -86,3 +86,7 @@ pub record IsClosed (p : Pid) (course : Course) (old new : Processes) : Type 0 w
   pub alive : (q : Pid) → lives_in new q ≡ (if same_pid p q then false else lives_in old q)
   pub trap : (q : Pid) → traps_in new q ≡ traps_in old q
   pub courses : (q : Pid) → course_in new q ≡ (if same_pid p q then Some course else course_in old q)
+
+-- what one agrees with the other agrees with too, where both are of one module
+abbrev pub AgreesToo : Processes → Processes → Type 0
+AgreesToo one other = (m : ModuleTree) (v w : Contents) → Agrees m one v → Agrees m other w → Agrees m one w

@@ -1,5 +1,5 @@
 // How far one process has come.
-ghost use Rattle.std.specs.Prelude.{◌≡◌, ◌∷◌, ◌+◌, [], Some, None, IfOk, option_copied};
+ghost use Rattle.std.specs.Prelude.{◌≡◌, ◌∷◌, ◌+◌, [], Some, None, IfOk, option_copied, true};
 ghost use Rattle.core_eval.specs.Requests.{answered_of};
 ghost use Rattle.core_tree.specs.Syntax.{ModuleTree};
 ghost use Rattle.world_model.specs.Cells as cells;
@@ -15,7 +15,7 @@ pub(crate) struct Course<'m> {
     pub(crate) turns: u64,
 }
 
-ghost use Rattle.proc_machines.specs.Courses.{StandsAs, turned, turns_of, standing_of};
+ghost use Rattle.proc_machines.specs.Courses.{AreOneIf, IsSameCourse, StandsAs, turned, turns_of, standing_of};
 
 /// How many turns a process took; none where it was never begun.
 pub(crate) fn turns_of(course: Option<&Course<'_>>) -> u64
@@ -116,5 +116,28 @@ pub(crate) fn killed<'m>(course: Option<&Course<'m>>) -> Course<'m>
     Course {
         machine: None,
         turns: turns_of(course),
+    }
+}
+
+// Whether two machines of one module ask the same, or there are none.
+fn same_machine(one: Option<&Machine<'_>>, other: Option<&Machine<'_>>) -> bool
+    ensures { result ≡ true → AreOneIf (option_copied one.entry) (option_copied other.entry) }
+{
+    match (one, other) {
+        (None, None) => true,
+        (Some(one), Some(other)) => one.is_same(other),
+        _ => false,
+    }
+}
+
+impl Course<'_> {
+    /// Whether two courses have as many turns and machines that ask the same. It takes no memory.
+    pub(crate) fn is_same(&self, other: &Course<'_>) -> bool
+        ensures { result ≡ true → IsSameCourse self.now other.now }
+    {
+        if self.turns != other.turns {
+            return false;
+        }
+        same_machine(self.machine.as_ref(), other.machine.as_ref())
     }
 }

@@ -1,5 +1,5 @@
 // How far each process has come: copies share it until one of them is changed.
-ghost use Rattle.std.specs.Prelude.{◌≡◌, ◌≢◌, ◌<◌, ◌≤◌, length, IfOk, OnOk, OnErr, None, option_copied, position};
+ghost use Rattle.std.specs.Prelude.{◌≡◌, ◌≢◌, ◌<◌, ◌≤◌, length, IfOk, OnOk, OnErr, None, option_copied, position, true};
 ghost use Rattle.std.specs.List.{AllWithin, HoldsAt};
 ghost use Rattle.std.specs.List.Sorted.{IsStrictlySortedBy, IsStrictlySortedBy-prop};
 ghost use Rattle.std.specs.Map.{keys_of};
@@ -41,7 +41,35 @@ impl<'m> Clone for CourseList<'m> {
 }
 
 impl<'m> CourseList<'m> {
-    ghost use Rattle.proc_machines.specs.Courses.{IsPut, listed};
+    ghost use Rattle.proc_machines.specs.Courses.{AreSameLists, IsPut, IsSameCourse, listed};
+
+    // Whether two entries are of one process, with courses that are the same.
+    fn same_entry(one: &(Pid, Arc<Course<'m>>), other: &(Pid, Arc<Course<'_>>)) -> bool
+        ensures pid { result ≡ true → one.now.0 ≡ other.now.0 }
+        ensures course { result ≡ true → IsSameCourse one.now.1.value other.now.1.value }
+    {
+        if one.0 != other.0 {
+            return false;
+        }
+        one.1.is_same(&other.1)
+    }
+
+    /// Whether two lists have the same processes, each with courses that are the same. It takes no memory.
+    fn is_same(&self, other: &CourseList<'_>) -> bool
+        ensures { result ≡ true → AreSameLists (listed self.now) (listed other.now) }
+    {
+        let left = self.entries.as_slice();
+        let right = other.entries.as_slice();
+        if left.len() != right.len() {
+            return false;
+        }
+        for place in 0..left.len() {
+            if !Self::same_entry(&left[place], &right[place]) {
+                return false;
+            }
+        }
+        true
+    }
 
     // Where a process is or is put in: after those that come before it.
     fn room(&self, pid: &Pid) -> usize
@@ -102,7 +130,14 @@ pub(crate) struct Courses<'m> {
 }
 
 impl<'m> Courses<'m> {
-    ghost use Rattle.proc_machines.specs.Courses.{AreSame, HasAt, course_at};
+    ghost use Rattle.proc_machines.specs.Courses.{AreSame, AreSameCourses, HasAt, course_at};
+
+    /// Whether each process has courses that are the same. It takes no memory.
+    pub(crate) fn is_same(&self, other: &Courses<'_>) -> bool
+        ensures { result ≡ true → AreSameCourses self.now other.now }
+    {
+        self.courses.is_same(&other.courses)
+    }
 
     /// No courses, or `AllocError` if there is no memory.
     pub(crate) fn new(alloc: Global) -> Result<Courses<'m>, AllocError>

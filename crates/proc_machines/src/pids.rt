@@ -37,6 +37,13 @@ impl Pids {
         })
     }
 
+    /// Whether the same processes are among them. It takes no memory.
+    pub(crate) fn is_same(&self, other: &Pids) -> bool
+        ensures { result ≡ true → AreSame self.now other.now }
+    {
+        *self.pids == *other.pids
+    }
+
     /// Whether a process is among them. It takes no memory.
     pub(crate) fn has(&self, pid: &Pid) -> bool
         ensures { result ≡ is_in self.now pid.now }

@@ -1,12 +1,12 @@
 // The processes of a world (Erlang reference manual, "Processes").
-ghost use Rattle.std.specs.Prelude.{◌≡◌, ◌+◌, ◌∷◌, [], false, IfOk, OnOk, OnErr, IfSome, IfNone, Some, None, option_copied, option_map, is_some};
+ghost use Rattle.std.specs.Prelude.{◌≡◌, ◌+◌, ◌∷◌, [], false, true, IfOk, OnOk, OnErr, IfSome, IfNone, Some, None, option_copied, option_map, is_some};
 ghost use Rattle.std.specs.BTreeSet.{contains};
 ghost use Rattle.core_eval.specs.Requests.{answered_of, told_by};
 ghost use Rattle.core_tree.specs.Syntax.{ModuleTree};
 ghost use Rattle.proc_links.specs.Process.{are_trapped};
 ghost use Rattle.proc_machines.specs.Courses.{StandsAs};
 ghost use Rattle.proc_machines.specs.Receivers.{taken_by};
-ghost use Rattle.proc_machines.specs.Processes.{Agrees, IsClosed, IsRequestOf, IsUnchanged, changes_begun, lives_in, traps_in, turns_in, module_of, request_with, selects_in, standing_in};
+ghost use Rattle.proc_machines.specs.Processes.{Agrees, AgreesToo, IsClosed, IsRequestOf, IsUnchanged, changes_begun, lives_in, traps_in, turns_in, module_of, request_with, selects_in, standing_in};
 ghost use Rattle.term_core.specs.Meaning.{Meaning};
 ghost use Rattle.term_core.specs.Order.{order_of_lists};
 ghost use Rattle.world_model.specs.Cells as cells;
@@ -93,6 +93,20 @@ impl<'m> Processes<'m> {
             living: self.living.copy()?,
             trapping: self.trapping.copy()?,
         })
+    }
+
+    /// Whether these processes agree with all that others agree with, both of one module: the same processes live and trap
+    /// exits, and each took as many turns and will ask the same. It takes no memory.
+    pub fn is_same(&self, other: &Processes<'_>) -> bool
+        ensures { result ≡ true → AgreesToo self.now other.now }
+    {
+        if !self.living.is_same(&other.living) {
+            return false;
+        }
+        if !self.trapping.is_same(&other.trapping) {
+            return false;
+        }
+        self.courses.is_same(&other.courses)
     }
 
     /// Whether a process lives: it was begun and has not ended. It takes no memory.

@@ -5,6 +5,7 @@ mod exceptions;
 mod own_calls;
 mod receives;
 mod runs;
+mod sameness;
 
 use crate::requests::text_of;
 use core_eval::{Answer, Machine};

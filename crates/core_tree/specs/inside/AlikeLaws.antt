@@ -2,7 +2,7 @@
 use Rattle.std.specs.Prelude.{◌≡◌, ◌↔◌, ℕ, ℤ, List, [], ◌∷◌, map, Bool, true, false, ◌==◌, ◌&&◌, IsTrue, refl}
 use Rattle.std.proofs.Common.{sym, ap, ◌∙◌}
 use Rattle.std.proofs.lemmas.Bool.{and_from, and_parts}
-use Rattle.std.specs.Ordering.{int_eq}
+use Rattle.std.specs.Ordering.{int_eq, on}
 use Rattle.std.specs.Cmp.{IsEquivalence, signed_Decides, unsigned_Decides}
 use Rattle.std.specs.Cmp.Lexicographic.{pointwise}
 use Rattle.core_calls.specs.declared.call.CallKind.{CallKind}
@@ -10,13 +10,13 @@ use Rattle.core_calls.specs.declared.pure.PureCall.{PureCall}
 use Rattle.core_calls.specs.CallCodes.{number_of_call, call_of_number, call_of_number-number_of_call}
 use Rattle.core_calls.specs.CallCodes.{number_of_pure, pure_of_number, pure_of_number-number_of_pure}
 use Rattle.core_tree.specs.Functions.{same_function}
-use Rattle.core_tree.specs.Syntax.{Function, Callee, Pattern, Patterns, Tree, Trees, Clauses, Constant, Constants, AttributeTree, ModuleTree}
+use Rattle.core_tree.specs.Syntax.{Function, Callee, Pattern, Patterns, Tree, Trees, Clauses, ClauseTree, Constant, Constants, AttributeTree, ModuleTree}
 use Rattle.core_tree.specs.Callee as callees
 use Rattle.core_tree.specs.Pattern as patterns
 use Rattle.core_tree.specs.Expression as trees
 use Rattle.core_tree.specs.Constant as constants
-use Rattle.core_tree.specs.Sameness.{bare_mention, bare_callee, bare_pattern, bare_patterns, bare_tree, bare_trees, bare_clauses, bare_named, bare_definition, bare_module}
-use Rattle.core_tree.specs.Alike.{same_mention, same_kind, same_pure, same_callee, same_pattern, same_patterns, same_pattern_list, same_tree, same_trees, same_clauses, same_constant, same_constants, same_named, same_attribute, same_definition, same_module}
+use Rattle.core_tree.specs.Sameness.{bare_mention, bare_callee, bare_pattern, bare_patterns, bare_tree, bare_trees, bare_clauses, bare_clause, bare_named, bare_definition, bare_module}
+use Rattle.core_tree.specs.Alike.{same_mention, same_kind, same_pure, same_callee, same_pattern, same_patterns, same_pattern_list, same_tree, same_trees, same_clauses, same_clause, same_constant, same_constants, same_named, same_attribute, same_definition, same_module}
 use Rattle.term_core.specs.Kinds.{same_text}
 
 -- a test by which two values have one image
@@ -101,7 +101,7 @@ text_itself : (xs : List ℕ) → same_text xs xs ≡ true
 text_itself [] = refl
 text_itself (x ∷ xs) = and_from (x == x) (same_text xs xs) (number_itself x) (text_itself xs)
 
-kind_tells : (k l : CallKind) → same_kind k l ≡ true → k ≡ l
+pub kind_tells : (k l : CallKind) → same_kind k l ≡ true → k ≡ l
 kind_tells k l e =
     sym (call_of_number-number_of_call k) ∙ ap call_of_number (same_number _ _ e) ∙ call_of_number-number_of_call l
 
@@ -369,6 +369,28 @@ mutual
 pub tree_bears : Bears bare_tree same_tree
 tree_bears = record { tells = tree_tells; itself = tree_itself; images = tree_images }
 
+pub callee_bears : Bears bare_callee same_callee
+callee_bears = record { tells = callee_tells; itself = callee_itself; images = callee_images }
+
+pub clause_bears : Bears bare_clause same_clause
+clause_bears = record {
+  tells = λ c d e.
+      let p = and_parts (same_pattern_list c.patterns d.patterns) (same_tree c.guard d.guard && same_tree c.body d.body) e in
+      let q = and_parts (same_tree c.guard d.guard) (same_tree c.body d.body) p.1 in
+      λ i. record { patterns = pattern_list_tells c.patterns d.patterns p.0 i; guard = tree_tells c.guard d.guard q.0 i; body = tree_tells c.body d.body q.1 i };
+  itself = λ c. and_from _ _ (pattern_list_itself c.patterns) (and_from _ _ (tree_itself c.guard) (tree_itself c.body));
+  images = λ c d. λ i. pattern_list_images c.patterns d.patterns i && (tree_images c.guard d.guard i && tree_images c.body d.body i);
+}
+
+-- values whose images are compared
+pub rows_tell : {X K : Type 0} (f : X → K) {B : K → K} {S : K → K → Bool} → Bears B S → (xs ys : List X) → pointwise (on f S) xs ys ≡ true → map B (map f xs) ≡ map B (map f ys)
+rows_tell f b [] [] e = refl
+rows_tell f b [] (y ∷ ys) e = cc
+rows_tell f b (x ∷ xs) [] e = cc
+rows_tell f {B} {S} b (x ∷ xs) (y ∷ ys) e =
+    let p = and_parts (S (f x) (f y)) (pointwise (on f S) xs ys) e in
+    λ i. b.tells (f x) (f y) p.0 i ∷ rows_tell f b xs ys p.1 i
+
 -- ---- constants
 
 mutual
@@ -472,6 +494,12 @@ attributes_equal = equivalent attribute_bears
 
 pub trees_equal : IsEquivalence same_tree
 trees_equal = equivalent tree_bears
+
+pub callees_equal : IsEquivalence same_callee
+callees_equal = equivalent callee_bears
+
+pub choices_equal : IsEquivalence same_clause
+choices_equal = equivalent clause_bears
 
 pub modules_equal : IsEquivalence same_module
 modules_equal = equivalent module_bears
