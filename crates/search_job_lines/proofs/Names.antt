@@ -1,13 +1,16 @@
 -- A line is the text of one job alone, and what a fault says of a line is not so of that of a job.
 use Rattle.std.proofs.Common.{◌≡◌, ◌<◌, ◌+◌, ℕ, true≢false, List, [], ◌∷◌, ◌++◌, length, Some, inl, inr, refl, sym, ap, ◌∙◌, subst, arith, Result, Ok, Err, IfErr}
 use Rattle.term_core.proofs.ScheduleTexts.{no_schedule, schedule_injective}
+use Rattle.term_core.specs.Schedule.{IsLawfulStep}
 use Rattle.term_core.specs.Text.{text_of_schedule}
 use Rattle.term_core.specs.declared.step.Step.{Step}
 use Rattle.world_model.specs.Events.{History}
 use Rattle.world_model.specs.Names.{IsAmong}
 use Rattle.world_model.specs.Run.{is_enabled, run}
 use Rattle.tree_coverage.specs.Jobs.{Job}
-use Rattle.tree_coverage.proofs.Lists.{among_right}
+use Rattle.world_model.proofs.Runs.{runs_real}
+use Rattle.world_pids.proofs.Texts.{enabled_lawful, events_of, schedule_lawful}
+use Rattle.tree_coverage.proofs.Lists.{all_among, among_right}
 use Rattle.search_jobs.specs.Explorations.{ExplorationSeen, JobSeen, program_in}
 use Rattle.search_jobs.proofs.Runs.{not_none, stopped}
 use Rattle.tree_levels.specs.Levels.{JobsCanBeTaken}
@@ -102,11 +105,16 @@ is_read e line name job same t n = subst (IsJobLine e line) same (record { text 
 -- ---- the jobs of a depth
 
 pub own_texts : JobsCanBeTaken → OwnTextsAreJobLines
-own_texts taken e d name short among lawful =
+own_texts taken e d name fits short among =
     let job = taken (program_in e) d name among in
+    let long = events_of (program_in e) name.prefix job.1 job.2 in
+    let real = (runs_real (program_in e) name.prefix job.1 job.2).0 in
     record {
       text = refl;
-      lawful = lawful;
+      lawful = (
+        schedule_lawful e.program name.prefix job.1 job.2 (omega (arith, fits, short, job.0)),
+        all_among IsLawfulStep name.slept (λ s there. enabled_lawful e.program job.1 s real (omega (arith, long, fits, short, job.0)) (job.3 s there)),
+      );
       is_job = record { short = omega (arith, short, job.0); history = job.1; reached = job.2 };
       asleep = job.3;
     }

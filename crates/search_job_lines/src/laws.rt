@@ -8,8 +8,8 @@ pub fn lines_say_one_job()
     ensures { LinesSayOneJob }
 {}
 
-/// The text of each job at a depth of the tree is the line of that job, so it is read unless memory runs out, where a
-/// text may have the numbers of its pids.
+/// Where the depth is below 2^64, the text of each job at a depth of the tree is the line of that job, so it is read
+/// unless memory runs out.
 pub fn own_texts_are_job_lines()
     ensures { OwnTextsAreJobLines }
 {

@@ -7,3 +7,4 @@ pub mod FindingLaws
 pub mod CoverLaws
 pub mod JobLaws
 pub mod OwnCovers
+pub mod NodeTexts

@@ -1,6 +1,6 @@
 -- Elements of lists, and tests over them.
 use Rattle.std.proofs.Common.{◌≡◌, ◌⊎◌, inl, inr, Bool, true, false, ◌&&◌, ◌||◌, List, [], ◌∷◌, ◌++◌, map, filter, cond, refl, sym, ap, ◌∙◌, true≢false}
-use Rattle.std.specs.List.{list_all}
+use Rattle.std.specs.List.{AllByRecursion, list_all}
 use Rattle.tree_sleep_sets.specs.Search.{is_among, is_each}
 use Rattle.tree_sleep_sets.specs.Tree as theory
 use Rattle.world_model.specs.Names.{IsAmong}
@@ -50,6 +50,10 @@ pub among_map : {X Y : Type 0} (f : X → Y) (xs : List X) (x : X) → IsAmong x
 among_map f [] x h = absurd h
 among_map f (y ∷ ys) x (inl p) = inl (ap f p)
 among_map f (y ∷ ys) x (inr q) = inr (among_map f ys x q)
+
+pub all_among : {X : Type 0} (P : X → Type 0) (xs : List X) → ((x : X) → IsAmong x xs → P x) → AllByRecursion P xs
+all_among P [] each = tt
+all_among P (x ∷ xs) each = (each x (inl refl), all_among P xs (λ y there. each y (inr there)))
 
 -- where an element of a mapped list comes from
 pub record Source {X Y : Type 0} (f : X → Y) (xs : List X) (y : Y) : Type 0 where

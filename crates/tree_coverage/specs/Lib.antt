@@ -7,3 +7,4 @@ pub mod Jobs
 pub mod Covers
 pub mod CoverExamples
 pub mod JobExamples
+pub mod NodeTexts

@@ -1,17 +1,21 @@
 -- The lines that the search writes, node by node, and that their text is that of a good cover.
 use Rattle.std.proofs.Common.{◌≡◌, ◌==◌, inl, ℕ, zero, suc, false, List, [], ◌∷◌, ◌++◌, map, Option, Some, None, refl, sym, ap, ◌∙◌, arith, append_assoc, append-nil}
+use Rattle.std.specs.List.{AllByRecursion}
 use Rattle.term_core.proofs.Pieces.{Lacks, all-append}
 use Rattle.term_core.proofs.PidTexts.{lacks-pid}
 use Rattle.term_core.specs.Schedule.{IsLawfulStep, AreLawful}
 use Rattle.term_core.specs.Text.{text_of_pid, text_of_step, text_of_schedule}
 use Rattle.term_core.specs.declared.step.Step.{Step}
 use Rattle.term_core.specs.declared.step.Step.TheVariants.{Turn, Deliver}
+use Rattle.world_model.specs.Asking.{program_of}
 use Rattle.world_model.specs.Events.{Event, History}
 use Rattle.world_model.specs.Requests.{Program}
 use Rattle.world_model.specs.Run.{next_event}
 use Rattle.tree_coverage.specs.Covers.{Lines, cover_of, lines_of}
 use Rattle.tree_coverage.specs.Jobs.{Node, asleep_below, awake_steps, taken_steps, nodes_after, nodes_along, nodes_from, root}
+use Rattle.tree_coverage.specs.NodeTexts.{IsLawfulNode}
 use Rattle.tree_coverage.proofs.JobLaws.{map_join, none_left}
+use Rattle.tree_coverage.proofs.NodeTexts.{nodes_have_texts}
 use Rattle.tree_coverage.proofs.OwnCovers.{own_good}
 use Rattle.tree_covers.specs.CoverLaws.{OwnTextsAreCovers}
 use Rattle.tree_covers.specs.CoverText.{lines_in, text_of_lines, AreLawfulLines}
@@ -102,9 +106,16 @@ lines_read (line ∷ lines) h =
     ∙ line_and (text_of_schedule line) (text_of_lines lines) (lacks_line line h.0)
     ∙ ap (λ ls. text_of_schedule line ∷ ls) (lines_read lines h.1)
 
+lines_lawful : (vs : List Node) → AllByRecursion IsLawfulNode vs → AreLawfulLines (lines_of vs)
+lines_lawful [] h = tt
+lines_lawful (v ∷ vs) h = (h.0.1, lines_lawful vs h.1)
+
 pub own_texts : OwnTextsAreCovers
-own_texts counts a n lawful none = record {
-  lines = lines_of (cover_of a n root);
-  spells = record { lawful = lawful; spelt = lines_read (lines_of (cover_of a n root)) lawful };
-  good = own_good counts a n none;
-}
+own_texts counts m n fits none =
+    let a : Program = program_of m in
+    let lawful = lines_lawful (cover_of a n root) (nodes_have_texts m n root fits (omega arith)) in
+    record {
+      lines = lines_of (cover_of a n root);
+      spells = record { lawful = lawful; spelt = lines_read (lines_of (cover_of a n root)) lawful };
+      good = own_good counts a n none;
+    }

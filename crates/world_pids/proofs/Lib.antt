@@ -1,0 +1,10 @@
+pub mod Told
+pub mod PureAnswers
+pub mod Evaluated
+pub mod Rows
+pub mod Kept
+pub mod Arguments
+pub mod Lines
+pub mod Steps
+pub mod Numbered
+pub mod Texts
