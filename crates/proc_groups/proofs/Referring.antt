@@ -9,7 +9,7 @@ use Rattle.std.proofs.lemmas.Map.Text.{is_eq-slice_cmp}
 use Rattle.term_core.specs.Order.{order_of_lists}
 use Rattle.term_core.specs.StepOrder.{order_of_reference_ids}
 use Rattle.world_model.specs.Changes.{set_before, set_in_order, without_first}
-use Rattle.world_model.specs.Names.{Ref, same_pid, same_ref, order_of_refs, ref_of}
+use Rattle.world_model.specs.Names.{same_pid, same_ref, order_of_refs, ref_of}
 
 abbrev pub Id : Type 0
 Id = List ℕ × ℕ

@@ -1,5 +1,5 @@
 // Sets, one for each process.
-ghost use Rattle.std.specs.Prelude.{◌≡◌, ℕ, List, [], IfOk, OnOk, OnErr, bytes_eq, option_copied, if◌then◌else◌};
+ghost use Rattle.std.specs.Prelude.{◌≡◌, ℕ, List, [], IfOk, OnOk, OnErr, bytes_eq, option_copied, if◌then◌else◌, true};
 ghost use Rattle.std.specs.List.{list_any};
 ghost use Rattle.std.specs.BTreeMap.{is_at};
 ghost use Rattle.world_model.specs.Changes.{set_in_order, without_first};
@@ -8,17 +8,28 @@ use std::alloc::{AllocError, Global};
 use std::collections::{BTreeMap, BTreeSet};
 use term_core::{Pid, RefId};
 
-/// What sets are of: a clone of an item is the same item.
+/// What sets are of: a clone of an item is the same item, and items that compare as equal are the same item.
 pub trait Member: Ord + Clone + Drop {
     ghost same: { (a b : Self) → Self.is_clone a b → b ≡ a };
+
+    ghost equal: { (a b : Self) → Self.eq a b ≡ true → a ≡ b };
 }
 
 impl Member for Pid {
+    ghost use Rattle.std.proofs.lemmas.Slice.Eq.{bytes_eq-Decides};
+
     ghost same = { λ a b clone. clone };
+
+    ghost equal = { λ a b. (bytes_eq-Decides a b).0 };
 }
 
 impl Member for RefId {
+    ghost use Rattle.std.specs.Prelude.{refl};
+    ghost use Rattle.term_core.proofs.Equality.{reference_ids_same};
+
     ghost same = { λ a b clone. clone };
+
+    ghost equal = { λ a b. (reference_ids_same a b _ refl).0 };
 }
 
 /// A set for each process, which is empty at first and takes no room while it is.
@@ -50,6 +61,13 @@ impl<K: Member> Groups<K> {
         Groups {
             sets: BTreeMap::new(alloc),
         }
+    }
+
+    /// Whether each process has the same items. It takes no memory.
+    pub fn is_same(&self, other: &Groups<K>) -> bool
+        ensures { result ≡ true → (p : List ℕ) → members_in other.now p ≡ members_in self.now p }
+    {
+        self.sets == other.sets
     }
 
     /// The set of a process, or `None` where it is empty. It takes no memory.

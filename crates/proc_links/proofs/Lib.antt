@@ -1,3 +1,4 @@
+pub mod Alike
 pub mod Linked
 pub mod Named
 pub mod Telling

@@ -1,5 +1,5 @@
 -- What watches there are after one begins or ends.
-use Rattle.std.proofs.Common.{◌≡◌, ◌⊎◌, inl, inr, ℕ, List, Option, Some, None, map, bytes_eq, if◌then◌else◌, ap, ◌∙◌}
+use Rattle.std.proofs.Common.{◌≡◌, ◌⊎◌, inl, inr, List, Option, Some, None, map, bytes_eq, if◌then◌else◌, ap, ◌∙◌}
 use Rattle.std.specs.BTreeMap.{get, is_at}
 use Rattle.term_core.specs.StepOrder.{order_of_reference_ids}
 use Rattle.world_model.specs.Cells as cells

@@ -1,5 +1,5 @@
 // The links of processes (Erlang reference manual, "Processes": "Links").
-ghost use Rattle.std.specs.Prelude.{◌≡◌, [], IfOk, OnOk, OnErr, option_copied};
+ghost use Rattle.std.specs.Prelude.{◌≡◌, [], IfOk, OnOk, OnErr, option_copied, true};
 ghost use Rattle.std.specs.List.{filter, list_any};
 ghost use Rattle.proc_groups.specs.Groups.{members_in, members_of};
 ghost use Rattle.world_model.specs.Names as names;
@@ -20,7 +20,7 @@ use std::collections::BTreeSet;
 use std::sync::Arc;
 use term_core::{Pid, Term};
 
-/// What `link/1` resulted in.
+/// What `link/1` results in.
 #[derive(Clone, Copy, Debug, PartialEq, Eq)]
 pub enum Linking {
     /// The two are linked already, or they are one process: nothing is done.
@@ -84,6 +84,15 @@ impl Links {
         })
     }
 
+    /// Whether each process has the same partners: where it is so, these agree with all contents that the others agree
+    /// with. It takes no memory.
+    pub fn is_same(&self, other: &Links) -> bool
+        ensures same { result ≡ true → (r : names.Pid) → partners_in other.now r ≡ partners_in self.now r }
+        ensures agrees { result ≡ true → (v : Contents) → AreLinks other.now v → AreLinks self.now v }
+    {
+        self.partners.is_same(&other.partners)
+    }
+
     /// The processes that a process is linked to, in the order of pids; `None` where there is none. It takes no memory.
     pub fn partners(&self, pid: &Pid) -> Option<&BTreeSet<Pid>>
         ensures { members_of (option_copied result) ≡ partners_in self.now pid.now }
@@ -127,8 +136,9 @@ impl Links {
         Ok(())
     }
 
-    // What `link/1` of this process to another results in.
-    fn way(&self, pid: &Pid, other: &Pid, life: Life, exits: Exits) -> Linking
+    /// What `link/1` of a process to another results in, with whether that lives and with what exit signals are to the
+    /// caller. It takes no memory.
+    pub fn way(&self, pid: &Pid, other: &Pid, life: Life, exits: Exits) -> Linking
         ensures { way_of result ≡ link_way pid.now other.now (partners_in self.now pid.now) (is_alive life) (are_trapped exits) }
     {
         if pid == other || self.are_linked(pid, other) {

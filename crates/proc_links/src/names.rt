@@ -1,5 +1,5 @@
 // The names of processes (Erlang reference manual, "Processes": "Registered Processes").
-ghost use Rattle.std.specs.Prelude.{◌≡◌, ◌∷◌, [], IfOk, OnOk, OnErr, Some, None, option_copied};
+ghost use Rattle.std.specs.Prelude.{◌≡◌, ◌∷◌, [], IfOk, IsSome, OnOk, OnErr, Some, None, option_copied, true};
 ghost use Rattle.std.specs.BTreeMap.{get};
 ghost use Rattle.term_core.specs.Order.{order_of_lists};
 ghost use Rattle.world_model.specs.Names as names;
@@ -59,28 +59,53 @@ impl Clone for Bearers {
 impl Bearers {
     ghost use Rattle.proc_links.specs.Bearers.{AreSame, IsPut, put_at};
 
-    // Gives a name to a process, where neither has the other.
+    // Whether each name has the same holder, and each process the same name.
+    fn is_same(&self, other: &Bearers) -> bool
+        ensures { result ≡ true → AreSame self.now other.now }
+    {
+        if self.holders != other.holders {
+            return false;
+        }
+        self.names == other.names
+    }
+
+    // A process holds a name, and has it, whatever either had before.
     fn put(&mut self, name: &Atom, pid: &Pid) -> Result<(), AllocError>
-        requires { get order_of_lists self.old.holders name.now ≡ None }
         ensures ok { OnOk result (IsPut name.now pid.now (Some pid.now) (Some name.now) self.old self.new) }
         ensures err { OnErr result (AreSame self.old self.new) }
     {
-        self.hold(name, pid)?;
+        let before = self.hold(name, pid)?;
         if let Err(refused) = self.bear(pid, name) {
-            self.vacate(name);
+            self.give_back(name, before);
             return Err(refused);
         }
         Ok(())
     }
 
-    // A process holds a name.
-    fn hold(&mut self, name: &Atom, pid: &Pid) -> Result<(), AllocError>
+    // A process holds a name, which another one may have held before.
+    fn hold(&mut self, name: &Atom, pid: &Pid) -> Result<Option<Pid>, AllocError>
+        ensures before { IfOk result (λ before. before ≡ get order_of_lists self.old.holders name.now) }
         ensures ok { OnOk result ((m : names.Name) → get order_of_lists self.new.holders m ≡ put_at name.now (Some pid.now) m (get order_of_lists self.old.holders m)) }
         ensures names { (r : names.Pid) → get order_of_lists self.new.names r ≡ get order_of_lists self.old.names r }
         ensures err { OnErr result (AreSame self.old self.new) }
     {
-        self.holders.insert(name.copy()?, pid.copy()?)?;
-        Ok(())
+        let before = self.holders.insert(name.copy()?, pid.copy()?)?;
+        Ok(before)
+    }
+
+    // A name that is held has the holder that it had before, or none.
+    fn give_back(&mut self, name: &Atom, before: Option<Pid>)
+        requires { IsSome (get order_of_lists self.old.holders name.now) }
+        ensures holders { (m : names.Name) → get order_of_lists self.new.holders m ≡ put_at name.now before m (get order_of_lists self.old.holders m) }
+        ensures names { (r : names.Pid) → get order_of_lists self.new.names r ≡ get order_of_lists self.old.names r }
+    {
+        let Some(pid) = before else {
+            self.vacate(name);
+            return;
+        };
+        if let Some(holder) = self.holders.get_mut(name) {
+            *holder = pid;
+        }
     }
 
     // A process has a name.
@@ -139,6 +164,16 @@ impl Names {
         })
     }
 
+    /// Whether each name has the same holder, and each process the same name: where it is so, these agree with all
+    /// contents that the others agree with. It takes no memory.
+    pub fn is_same(&self, other: &Names) -> bool
+        ensures same { result ≡ true → IsUnchanged self.now other.now }
+        ensures holders { result ≡ true → (v : Contents) → AreHolders other.now v → AreHolders self.now v }
+        ensures names { result ≡ true → (v : Contents) → AreBorne other.now v → AreBorne self.now v }
+    {
+        self.bearers.is_same(&other.bearers)
+    }
+
     /// `whereis/1`: who holds a name, or `None`. It takes no memory.
     pub fn whereis(&self, name: &Atom) -> Option<&Pid>
         ensures { option_copied result ≡ holder_in self.now name.now }
@@ -153,8 +188,8 @@ impl Names {
         self.bearers.names.get(pid)
     }
 
-    // Whether `register/2` is served.
-    fn judge(&self, name: &Atom, pid: &Pid, life: Life) -> Naming
+    /// Whether `register/2` of a name for a process is served, with whether the process lives. It takes no memory.
+    pub fn judge_registration(&self, name: &Atom, pid: &Pid, life: Life) -> Naming
         ensures { refusal_of result ≡ register_refusal name.now (is_alive life) (holder_in self.now name.now) (name_in self.now pid.now) }
     {
         let is_free = self.whereis(name).is_none() && self.name_of(pid).is_none();
@@ -175,35 +210,24 @@ impl Names {
         ensures names { IfOk result (λ naming. (v : Contents) → AreBorne self.old v → AreBorne self.new (after (changes_registered naming name.now pid.now) v)) }
         ensures err { OnErr result (IsUnchanged self.old self.new) }
     {
-        match self.judge(name, pid, life) {
-            Naming::Served => {
-                self.give(name, pid)?;
-                Ok(Naming::Served)
-            }
-            Naming::Refused => Ok(Naming::Refused),
+        let naming = self.judge_registration(name, pid, life);
+        match naming {
+            Naming::Served => self.put(name, pid)?,
+            Naming::Refused => {}
         }
+        Ok(naming)
     }
 
-    // Gives a name that is not in use to a process.
-    fn give(&mut self, name: &Atom, pid: &Pid) -> Result<(), AllocError>
-        requires { holder_in self.old name.now ≡ None }
+    /// A process holds a name, and has it, whatever either had before. `AllocError` if there is no memory, and then
+    /// nothing is changed.
+    pub fn put(&mut self, name: &Atom, pid: &Pid) -> Result<(), AllocError>
         ensures ok { OnOk result (IsNamed name.now pid.now (Some pid.now) (Some name.now) self.old self.new) }
+        ensures holders { OnOk result ((v : Contents) → AreHolders self.old v → AreHolders self.new (after (HolderSet name.now pid.now ∷ NameSet pid.now name.now ∷ []) v)) }
+        ensures names { OnOk result ((v : Contents) → AreBorne self.old v → AreBorne self.new (after (HolderSet name.now pid.now ∷ NameSet pid.now name.now ∷ []) v)) }
         ensures err { OnErr result (IsUnchanged self.old self.new) }
     {
         let bearers = Arc::make_mut(&mut self.bearers)?;
         bearers.put(name, pid)?;
-        Ok(())
-    }
-
-    /// A process holds a name, and has it, whatever either had before. `AllocError` if there is no memory, and
-    /// then the process may hold the name and not have it.
-    pub fn put(&mut self, name: &Atom, pid: &Pid) -> Result<(), AllocError>
-        ensures holders { OnOk result ((v : Contents) → AreHolders self.old v → AreHolders self.new (after (HolderSet name.now pid.now ∷ NameSet pid.now name.now ∷ []) v)) }
-        ensures names { OnOk result ((v : Contents) → AreBorne self.old v → AreBorne self.new (after (HolderSet name.now pid.now ∷ NameSet pid.now name.now ∷ []) v)) }
-    {
-        let bearers = Arc::make_mut(&mut self.bearers)?;
-        bearers.hold(name, pid)?;
-        bearers.bear(pid, name)?;
         Ok(())
     }
 

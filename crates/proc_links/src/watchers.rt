@@ -1,5 +1,5 @@
 // The watches of processes (the Erlang manual, `monitor/2` and `demonitor/2`).
-ghost use Rattle.std.specs.Prelude.{◌≡◌, [], IfOk, OnOk, OnErr, Some, None, is_some, map, option_copied, ℕ, List};
+ghost use Rattle.std.specs.Prelude.{◌≡◌, [], IfOk, OnOk, OnErr, Some, None, is_some, map, option_copied, ℕ, List, true};
 ghost use Rattle.std.specs.BTreeMap.{get};
 ghost use Rattle.std.specs.List.{filter};
 ghost use Rattle.term_core.specs.StepOrder.{order_of_reference_ids};
@@ -57,6 +57,16 @@ impl Clone for Watches {
 
 impl Watches {
     ghost use Rattle.proc_links.specs.inside.Watched.{AreSame, IsTargetSet, IsWatchAdded, IsWatchRemoved};
+
+    // Whether each process has the same watches, and each reference watches the same process.
+    fn is_same(&self, other: &Watches) -> bool
+        ensures { result ≡ true → AreSame self.now other.now }
+    {
+        if !self.watchers.is_same(&other.watchers) {
+            return false;
+        }
+        self.targets == other.targets
+    }
 
     // A reference watches a process.
     fn watch(&mut self, alloc: Global, reference: &RefId, target: &Pid) -> Result<(), AllocError>
@@ -118,6 +128,16 @@ impl Watchers {
         Ok(Watchers {
             watches: Arc::try_clone(&self.watches)?,
         })
+    }
+
+    /// Whether each process has the same watches, and each reference watches the same process: where it is so, these
+    /// agree with all contents that the others agree with. It takes no memory.
+    pub fn is_same(&self, other: &Watchers) -> bool
+        ensures same { result ≡ true → IsUnchanged self.now other.now }
+        ensures watchers { result ≡ true → (v : Contents) → AreWatchers other.now v → AreWatchers self.now v }
+        ensures watches { result ≡ true → (v : Contents) → AreWatches other.now v → AreWatches self.now v }
+    {
+        self.watches.is_same(&other.watches)
     }
 
     /// The watches of a process, in the order of references; `None` where it has none. It takes no memory.

@@ -39,7 +39,7 @@ if_either true x = refl
 if_either false x = refl
 
 -- what is selected at one process is taken there, if it is
-pub picked_follows : (test : Meaning → Bool) (p : Pid) (old new : Mailboxes) (v : Contents) (o : Option Meaning) → selected_of test (messages_in old p) ≡ o → IsChangedAt p (without_first test) old new → AreMailboxes old v → AreMailboxes new (after (picked p o) v)
+picked_follows : (test : Meaning → Bool) (p : Pid) (old new : Mailboxes) (v : Contents) (o : Option Meaning) → selected_of test (messages_in old p) ≡ o → IsChangedAt p (without_first test) old new → AreMailboxes old v → AreMailboxes new (after (picked p o) v)
 picked_follows test p old new v None is at told q =
     let same = if_alike (same_pid p q) (without_first test (messages_in old q)) (messages_in old q) (messages_in old q) (λ e. without_none test (messages_in old q) (ap (λ r. selected_of test (messages_in old r)) (sym (pids_same p q e)) ∙ is)) in
     subst (λ ms. IsMailbox ms v q) (sym (at q ∙ same ∙ if_either (same_pid p q) (messages_in old q))) (told q)

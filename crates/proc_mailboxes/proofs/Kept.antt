@@ -1,5 +1,5 @@
 -- What mailboxes are after a change at one process.
-use Rattle.std.proofs.Common.{◌≡◌, Bool, true, false, List, [], ◌∷◌, ◌++◌, Option, Some, None, refl, sym, ap, ◌∙◌, subst, if◌then◌else◌}
+use Rattle.std.proofs.Common.{◌≡◌, Bool, true, false, List, [], ◌∷◌, ◌++◌, Option, Some, refl, sym, ap, ◌∙◌, subst, if◌then◌else◌}
 use Rattle.std.proofs.lemmas.Map.Steps.{set_value_same}
 use Rattle.std.proofs.lemmas.Map.Text.{is_eq-slice_cmp}
 use Rattle.std.specs.BTreeMap.{is_at}
@@ -10,7 +10,7 @@ use Rattle.std.specs.declared.result.Result.TheVariants.{Ok, Err}
 use Rattle.term_core.specs.Meaning.{Meaning}
 use Rattle.term_core.specs.Order.{order_of_lists}
 use Rattle.world_model.specs.Names.{Pid, same_pid}
-use Rattle.proc_signals.proofs.Beside.{pids_same, kept_at}
+use Rattle.proc_signals.proofs.Beside.{pids_same}
 use Rattle.proc_signals.specs.Channels.{beside}
 use Rattle.proc_mailboxes.specs.Mailboxes.{Mailboxes, IsChangedAt, messages_in, messages_of}
 
@@ -45,12 +45,6 @@ begun_of now k was new message none empty made = made ∙ ap (λ ms. ms ++ messa
 -- a mailbox that is written back as it was
 pub unchanged_at : (es fs now : Mailboxes) (k : Pid) (was new : List Meaning) → es ≡ now → Some was ≡ lookup (is_at (order_of_lists k)) es → new ≡ was → fs ≡ set_value (is_at (order_of_lists k)) es new → fs ≡ now
 unchanged_at es fs now k was new view found same set = set ∙ set_value_same (is_at (order_of_lists k)) es new (sym found ∙ ap Some (sym same)) ∙ view
-
--- nothing is changed where a process has no mailbox, and f makes nothing of nothing
-pub none_changed : (f : List Meaning → List Meaning) (fs now : Mailboxes) (k : Pid) → None ≡ beside now k → f [] ≡ [] → fs ≡ now → IsChangedAt k f now fs
-none_changed f fs now k found empty same q =
-    let none : messages_in now k ≡ [] = ap messages_of (sym found) in
-    ap (λ m. messages_in m q) same ∙ kept_at (messages_in now) f k (none ∙ sym empty ∙ ap f (sym none)) q
 
 pub on_err : {A E P : Type 0} (r : Result A E) → P → OnErr r P
 on_err (Ok x) p = tt

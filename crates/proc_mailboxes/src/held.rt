@@ -1,14 +1,12 @@
 // A mailbox as the map holds it.
 ghost use Rattle.std.specs.Prelude.{◌≡◌, ◌<◌, [], ◌∷◌, ◌++◌, Some, IfOk, OnOk, OnErr, length, slice_get};
 ghost use Rattle.std.specs.List.{remove};
-ghost use Rattle.world_model.specs.Names.{ref_of};
 ghost use Rattle.term_core.specs.Term.{meaning_of};
-ghost use Rattle.world_model.specs.Changes.{is_of_watch, without_first};
 
 use proc_signals::Mailbox;
 use std::alloc::{AllocError, Global};
 use std::marker::Model;
-use term_core::{RefId, Term};
+use term_core::Term;
 
 /// A mailbox; a clone shares its messages. Contracts see its messages.
 #[derive(Drop)]
@@ -37,6 +35,21 @@ impl Clone for Held {
         Ok(Held {
             mailbox: self.mailbox.copy()?,
         })
+    }
+}
+
+impl PartialEq for Held {
+    ghost use Rattle.std.specs.Cmp.{partial_equiv_from_equiv};
+    ghost use Rattle.std.specs.Cmp.Lexicographic.{pointwise};
+    ghost use Rattle.proc_mailboxes.specs.inside.Alike.{same_messages, messages_equal};
+
+    ghost eq = { same_messages };
+
+    ghost laws = { partial_equiv_from_equiv messages_equal };
+
+    /// Whether the two have the same messages, in one order. It takes no memory.
+    fn eq(&self, other: &Held) -> bool {
+        self.mailbox.is_same(&other.mailbox)
     }
 }
 
@@ -75,14 +88,5 @@ impl Held {
     {
         let message = self.mailbox.take_at(place)?;
         Ok(message)
-    }
-
-    /// The oldest message of a watch is taken out, if there is one.
-    pub(crate) fn flush_down(&mut self, reference: &RefId) -> Result<(), AllocError>
-        ensures ok { OnOk result (self.new ≡ without_first (is_of_watch (ref_of reference.now)) self.old) }
-        ensures err { OnErr result (self.new ≡ self.old) }
-    {
-        self.mailbox.flush_down(reference)?;
-        Ok(())
     }
 }

@@ -1,4 +1,4 @@
-// The mailboxes of all processes: what comes in, what a receive takes, and what is flushed.
+// The mailboxes of all processes: what comes in, and what is found and taken.
 #![tactic(auto)]
 
 mod held;

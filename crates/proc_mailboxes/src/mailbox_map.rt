@@ -1,18 +1,16 @@
 // Mailboxes by their processes, as they lie in memory.
-ghost use Rattle.std.specs.Prelude.{◌≡◌, ◌<◌, [], ◌∷◌, ◌++◌, IfOk, OnOk, OnErr, length, option_copied, option_map, slice_get};
+ghost use Rattle.std.specs.Prelude.{◌≡◌, ◌<◌, [], ◌∷◌, ◌++◌, IfOk, OnOk, OnErr, length, option_copied, option_map, slice_get, true};
 ghost use Rattle.std.specs.List.{remove};
 ghost use Rattle.proc_mailboxes.specs.Mailboxes.{IsChangedAt, messages_in};
 ghost use Rattle.proc_signals.specs.Channels.{beside};
-ghost use Rattle.world_model.specs.Names.{ref_of};
 ghost use Rattle.term_core.specs.Term.{meaning_of};
-ghost use Rattle.world_model.specs.Changes.{is_of_watch, without_first};
 
 use crate::held::Held;
 use proc_signals::Mailbox;
 use std::alloc::{AllocError, Global};
 use std::collections::BTreeMap;
 use std::marker::Model;
-use term_core::{Pid, RefId, Term};
+use term_core::{Pid, Term};
 
 /// The mailbox of each process that ever had a message. Contracts see the processes in their order, each
 /// with its messages.
@@ -53,6 +51,13 @@ impl MailboxMap {
         MailboxMap {
             mailboxes: BTreeMap::new(alloc),
         }
+    }
+
+    /// Whether the same processes have mailboxes with the same messages. It takes no memory.
+    pub(crate) fn is_same(&self, other: &MailboxMap) -> bool
+        ensures { result ≡ true → self.now ≡ other.now }
+    {
+        self.mailboxes == other.mailboxes
     }
 
     /// The mailbox of a process, if it has one. It takes no memory.
@@ -102,18 +107,5 @@ impl MailboxMap {
         };
         let message = mailbox.take_at(place)?;
         Ok(Some(message))
-    }
-
-    /// Takes out the oldest message of a watch that a process has, if there is one, or `AllocError` if there is
-    /// no memory for it.
-    pub(crate) fn flush(&mut self, pid: &Pid, reference: &RefId) -> Result<(), AllocError>
-        ensures ok { OnOk result (IsChangedAt pid.now (without_first (is_of_watch (ref_of reference.now))) self.old self.new) }
-        ensures err { OnErr result (self.new ≡ self.old) }
-    {
-        let Some(mailbox) = self.mailboxes.get_mut(pid) else {
-            return Ok(());
-        };
-        mailbox.flush_down(reference)?;
-        Ok(())
     }
 }

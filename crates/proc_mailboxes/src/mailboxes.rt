@@ -1,14 +1,13 @@
 // The mailboxes of all processes: copies share them until one of them is changed.
-ghost use Rattle.std.specs.Prelude.{◌≡◌, ◌<◌, [], ◌∷◌, ◌++◌, IfOk, IfSome, OnOk, OnErr, None, length, option_and_then, option_copied, option_map, slice_get};
+ghost use Rattle.std.specs.Prelude.{◌≡◌, ◌<◌, [], ◌∷◌, ◌++◌, IfOk, IfSome, OnOk, OnErr, None, length, option_and_then, option_copied, option_map, slice_get, true};
 ghost use Rattle.std.specs.List.{remove};
 ghost use Rattle.proc_mailboxes.specs.Mailboxes.{AreMailboxes, IsChangedAt, IsTakenFrom, IsUnchanged, messages_in, messages_of};
 ghost use Rattle.proc_signals.specs.Mailbox.{first_place};
 ghost use Rattle.term_core.specs.Term.{meaning_of};
 ghost use Rattle.world_model.specs.Cells.{Contents};
-ghost use Rattle.world_model.specs.Changes.{MessageAdded, after, changed, is_of_watch, without_first};
-ghost use Rattle.world_model.specs.Mailboxes.{mailbox_in, picked, selected_of};
+ghost use Rattle.world_model.specs.Changes.{MessageAdded, after, changed};
+ghost use Rattle.world_model.specs.Mailboxes.{picked, selected_of};
 ghost use Rattle.world_model.specs.Names as names;
-ghost use Rattle.world_model.specs.Names.{ref_of};
 
 use crate::mailbox_map::MailboxMap;
 use crate::same::Same;
@@ -16,7 +15,7 @@ use proc_signals::{Mailbox, Selector};
 use std::alloc::{AllocError, Global};
 use std::marker::Model;
 use std::sync::Arc;
-use term_core::{Pid, RefId, Term};
+use term_core::{Pid, Term};
 
 /// The messages that arrived at each process, the oldest first (Erlang reference manual, "Processes",
 /// "Delivery of Signals"). Contracts read those of a process with `messages_in`. Copies share them until one
@@ -63,6 +62,15 @@ impl Mailboxes {
         Ok(Mailboxes {
             mailboxes: Arc::try_clone(&self.mailboxes)?,
         })
+    }
+
+    /// Whether each process has the same messages: where it is so, these agree with all contents that the others agree with.
+    /// It takes no memory.
+    pub fn is_same(&self, other: &Mailboxes) -> bool
+        ensures same { result ≡ true → IsUnchanged self.now other.now }
+        ensures agrees { result ≡ true → (v : Contents) → AreMailboxes other.now v → AreMailboxes self.now v }
+    {
+        self.mailboxes.is_same(&other.mailboxes)
     }
 
     /// The mailbox of a process, which may be empty, or `None` where no message ever came in. It takes no memory.
@@ -148,19 +156,5 @@ impl Mailboxes {
         let mailboxes = Arc::make_mut(&mut self.mailboxes)?;
         let taken = mailboxes.take_at(pid, place)?;
         Ok(taken)
-    }
-
-    /// Takes out the oldest message of a watch that a process has, if there is one: a tuple of five with this
-    /// reference second (OTP, module `erlang`, `demonitor/2` with the option `flush`). `AllocError` if there is
-    /// no memory, and then nothing is changed.
-    pub fn flush(&mut self, pid: &Pid, reference: &RefId) -> Result<(), AllocError>
-        ensures ok { OnOk result (IsChangedAt pid.now (without_first (is_of_watch (ref_of reference.now))) self.old self.new) }
-        ensures flushes { OnOk result ((v : Contents) → AreMailboxes self.old v →
-            AreMailboxes self.new (after (picked pid.now (selected_of (is_of_watch (ref_of reference.now)) (mailbox_in v pid.now))) v)) }
-        ensures err { OnErr result (IsUnchanged self.old self.new) }
-    {
-        let mailboxes = Arc::make_mut(&mut self.mailboxes)?;
-        mailboxes.flush(pid, reference)?;
-        Ok(())
     }
 }

@@ -1,5 +1,5 @@
 -- Lists without the item at a place, and the first place that passes a test.
-use Rattle.std.proofs.Common.{◌≡◌, ◌+◌, ◌<◌, ℕ, Bool, true, false, List, [], ◌∷◌, Option, Some, None, refl, sym, ap, ◌∙◌, subst, arith, true≢false, if◌then◌else◌, length, map, option_map, option_and_then, is_some, slice_get}
+use Rattle.std.proofs.Common.{◌≡◌, ◌+◌, ◌<◌, ℕ, Bool, true, false, List, [], ◌∷◌, Option, Some, None, refl, sym, ap, ◌∙◌, subst, arith, true≢false, if◌then◌else◌, length, map, option_map, option_and_then, slice_get}
 use Prim.Native.Nat.{suc, zero}
 use Rattle.std.specs.List.{remove}
 use Rattle.std.specs.Ordering.{is_eq}
@@ -126,13 +126,3 @@ found_selected test ms (Some n) is = place_selected test ms n (sym is)
 
 pub found_within : (test : Meaning → Bool) (ms : List Meaning) (n : ℕ) → Some n ≡ first_place test ms → n < length ms
 found_within test ms n is = place_within test ms n (sym is)
-
--- whether one is found
-some_by : (b : Bool) (m : Meaning) (o : Option ℕ) (q : Option Meaning) → is_some o ≡ is_some q → is_some (if b then Some 0 else Later o) ≡ is_some (if b then Some m else q)
-some_by true m o q same = refl
-some_by false m None q same = same
-some_by false m (Some k) q same = same
-
-pub place_some : (test : Meaning → Bool) (ms : List Meaning) → is_some (first_place test ms) ≡ is_some (selected_of test ms)
-place_some test [] = refl
-place_some test (m ∷ ms) = some_by (test m) m (first_place test ms) (selected_of test ms) (place_some test ms)

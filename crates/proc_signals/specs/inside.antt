@@ -1,1 +1,2 @@
 pub mod SignalCodes
+pub mod Alike

@@ -1,5 +1,5 @@
 // One channel.
-ghost use Rattle.std.specs.Prelude.{◌≡◌, ◌≢◌, ◌&&◌, [], ◌∷◌, ◌++◌, IfOk, OnOk, OnErr, IsTrue, ◌↔◌};
+ghost use Rattle.std.specs.Prelude.{◌≡◌, true, ◌≢◌, ◌&&◌, [], ◌∷◌, ◌++◌, IfOk, OnOk, OnErr, IsTrue, ◌↔◌};
 ghost use Rattle.world_model.specs.Names.{same_pid};
 ghost use Rattle.proc_signals.specs.Channels.{order_of_pairs};
 ghost use Rattle.proc_signals.specs.Signal.{signal_of};
@@ -60,6 +60,19 @@ impl Channel {
             to: self.to.copy()?,
             queue: Arc::try_clone(&self.queue)?,
         })
+    }
+
+    /// Whether the two have one sender, one receiver and the same signals. It takes no memory.
+    pub(crate) fn is_same(&self, other: &Channel) -> bool
+        ensures { result ≡ true → self.now ≡ other.now }
+    {
+        if self.from != other.from {
+            return false;
+        }
+        if self.to != other.to {
+            return false;
+        }
+        self.queue.is_same(&other.queue)
     }
 
     /// Its sender.

@@ -1,5 +1,5 @@
 // The channels between processes.
-ghost use Rattle.std.specs.Prelude.{◌≡◌, [], ◌∷◌, ◌++◌, drop, IfOk, IsSome, OnOk, OnErr, option_map, None, ◌↔◌, ◌≢◌};
+ghost use Rattle.std.specs.Prelude.{◌≡◌, true, [], ◌∷◌, ◌++◌, drop, IfOk, IsSome, OnOk, OnErr, option_map, None, ◌↔◌, ◌≢◌};
 ghost use Rattle.world_model.specs.Cells.{Contents};
 ghost use Rattle.world_model.specs.Changes.{changed, SignalPut, SignalDelivered};
 ghost use Rattle.world_model.specs.Names.{Pid as PidSeen, IsAmong};
@@ -50,6 +50,15 @@ impl Channels {
         Ok(Channels {
             senders: Arc::new(alloc, Senders::new(alloc))?,
         })
+    }
+
+    /// Whether the same signals are on their way: where it is so, these agree with all contents that the others agree with.
+    /// It takes no memory.
+    pub fn is_same(&self, other: &Channels) -> bool
+        ensures same { result ≡ true → self.now ≡ other.now }
+        ensures agrees { result ≡ true → (v : Contents) → AreChannels other.now v → AreChannels self.now v }
+    {
+        self.senders.is_same(&other.senders)
     }
 
     /// The same channels, or `AllocError` where their copies can no longer be counted. It takes no memory and

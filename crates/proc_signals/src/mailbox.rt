@@ -1,12 +1,13 @@
 // Mailboxes.
-ghost use Rattle.std.specs.Prelude.{◌≡◌, ◌<◌, Bool, [], ◌∷◌, ◌++◌, IfOk, IfSome, OnOk, OnErr, Some, is_some, length, slice_get, option_and_then, option_map};
+ghost use Rattle.std.specs.Prelude.{◌≡◌, ◌<◌, Bool, [], ◌∷◌, ◌++◌, IfOk, IfSome, OnOk, OnErr, Some, length, slice_get, option_and_then, option_map};
+ghost use Rattle.std.specs.Cmp.Lexicographic.{pointwise};
 ghost use Rattle.std.specs.List.{remove};
 ghost use Rattle.term_core.specs.Meaning.{Meaning};
 ghost use Rattle.term_core.specs.Term.{meaning_of};
 ghost use Rattle.world_model.specs.Cells.{Contents};
 ghost use Rattle.world_model.specs.Changes.{MessageAdded, after, changed, without_first, is_of_watch};
 ghost use Rattle.world_model.specs.Mailboxes.{mailbox_in, picked, selected_of};
-ghost use Rattle.world_model.specs.Names.{Pid as PidSeen, ref_of};
+ghost use Rattle.world_model.specs.Names.{Pid as PidSeen, ref_of, same_term};
 ghost use Rattle.proc_signals.specs.Mailbox.{first_place, IsMailbox, IsTakenAt};
 
 use crate::messages::Messages;
@@ -73,6 +74,13 @@ impl Mailbox {
         })
     }
 
+    /// Whether the two have the same messages, in one order. It takes no memory.
+    pub fn is_same(&self, other: &Mailbox) -> bool
+        ensures { result ≡ pointwise same_term self.now other.now }
+    {
+        self.messages.is_same(&other.messages)
+    }
+
     /// How many messages there are.
     pub fn len(&self) -> usize
         ensures { result ≡ length self.now }
@@ -129,14 +137,6 @@ impl Mailbox {
     {
         let messages = Arc::make_mut(&mut self.messages)?;
         Ok(messages.take_at(place))
-    }
-
-    /// Whether the message of a watch is there: a tuple of five with this reference second. It takes no memory.
-    #[tactic(auto, using(crate::proofs::Removing::place_some))]
-    pub fn has_down(&self, reference: &RefId) -> bool
-        ensures { result ≡ is_some (selected_of (is_of_watch (ref_of reference.now)) self.now) }
-    {
-        self.messages.find_down(reference).is_some()
     }
 
     /// The oldest message of a watch, if there is one: a tuple of five with this reference second (OTP, module

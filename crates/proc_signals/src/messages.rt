@@ -1,5 +1,6 @@
 // The messages of a mailbox, as they lie in memory.
 ghost use Rattle.std.specs.Prelude.{◌≡◌, ◌<◌, [], ◌∷◌, ◌++◌, IfOk, OnOk, OnErr, Some, length, slice_get, option_map, map};
+ghost use Rattle.std.specs.Cmp.Lexicographic.{pointwise};
 ghost use Rattle.std.specs.List.{remove};
 ghost use Rattle.term_core.specs.Term.{meaning_of};
 ghost use Rattle.proc_signals.specs.Mailbox.{first_place};
@@ -54,6 +55,13 @@ impl Messages {
         Messages {
             items: VecDeque::new(alloc),
         }
+    }
+
+    /// Whether the two have the same messages, in one order. It takes no memory.
+    pub(crate) fn is_same(&self, other: &Messages) -> bool
+        ensures { result ≡ pointwise same_term self.now other.now }
+    {
+        self.items == other.items
     }
 
     /// How many there are.

@@ -1,5 +1,5 @@
 // The signals of one channel.
-ghost use Rattle.std.specs.Prelude.{◌≡◌, [], ◌∷◌, ◌++◌, ◌≢◌, OnOk, OnErr, IsTrue, ◌↔◌};
+ghost use Rattle.std.specs.Prelude.{◌≡◌, true, [], ◌∷◌, ◌++◌, ◌≢◌, OnOk, OnErr, IsTrue, ◌↔◌};
 ghost use Rattle.proc_signals.specs.Signal.{signal_of};
 
 use crate::signal::Signal;
@@ -54,6 +54,16 @@ impl Queue {
             oldest: signal,
             later: VecDeque::new(alloc),
         }
+    }
+
+    /// Whether the two have the same signals, in one order. It takes no memory.
+    pub(crate) fn is_same(&self, other: &Queue) -> bool
+        ensures { result ≡ true → self.now ≡ other.now }
+    {
+        if self.oldest != other.oldest {
+            return false;
+        }
+        self.later == other.later
     }
 
     /// The oldest signal.

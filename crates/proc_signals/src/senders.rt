@@ -1,5 +1,5 @@
 // The channels of all senders.
-ghost use Rattle.std.specs.Prelude.{◌≡◌, ◌≢◌, ◌<◌, ◌≤◌, [], ◌∷◌, ◌++◌, None, drop, length, map, IfOk, IfSome, OnOk, OnErr, option_map};
+ghost use Rattle.std.specs.Prelude.{◌≡◌, true, ◌≢◌, ◌<◌, ◌≤◌, [], ◌∷◌, ◌++◌, None, drop, length, map, IfOk, IfSome, OnOk, OnErr, option_map};
 ghost use Rattle.std.specs.List.{AllWithin, HoldsAt};
 ghost use Rattle.std.specs.List.Sorted.{IsStrictlySortedBy};
 ghost use Rattle.std.specs.Map.{keys_of};
@@ -97,6 +97,23 @@ fn place_of(channels: &[Channel], from: &Pid, to: &Pid) -> Option<usize>
 }
 
 impl Senders {
+    /// Whether the two have the same channels. It takes no memory.
+    pub(crate) fn is_same(&self, other: &Senders) -> bool
+        ensures { result ≡ true → self.now ≡ other.now }
+    {
+        let left = self.channels.as_slice();
+        let right = other.channels.as_slice();
+        if left.len() != right.len() {
+            return false;
+        }
+        for place in 0..left.len() {
+            if !left[place].is_same(&right[place]) {
+                return false;
+            }
+        }
+        true
+    }
+
     /// No channels. It takes no memory.
     pub(crate) fn new(alloc: Global) -> Senders
         ensures { result ≡ [] }

@@ -19,6 +19,30 @@ pub enum Signal {
     Down(RefId, Term),
 }
 
+impl PartialEq for Signal {
+    ghost use Rattle.std.specs.Cmp.{on_per, partial_equiv_from_equiv};
+    ghost use Rattle.std.specs.Ordering.{on};
+    ghost use Rattle.proc_signals.specs.Alike.{same_signal};
+    ghost use Rattle.proc_signals.specs.inside.Alike.{signals_equal};
+
+    ghost eq = { on signal_of same_signal };
+
+    ghost laws = { on_per signal_of (partial_equiv_from_equiv signals_equal) };
+
+    /// Whether the two say the same. It takes no memory.
+    fn eq(&self, other: &Signal) -> bool {
+        match (self, other) {
+            (Signal::Message(message), Signal::Message(said)) => *message == *said,
+            (Signal::Exit(reason), Signal::Exit(given)) => *reason == *given,
+            (Signal::LinkExit(reason), Signal::LinkExit(given)) => *reason == *given,
+            (Signal::Down(reference, reason), Signal::Down(watch, given)) => {
+                *reference == *watch && *reason == *given
+            }
+            _ => false,
+        }
+    }
+}
+
 impl Signal {
     /// The same signal, or `AllocError` where the copies of its terms can no longer be counted. It takes
     /// no memory.

@@ -22,7 +22,7 @@ use proc_signals::Signal;
 use std::alloc::{AllocError, Global};
 use term_core::{Pid, RefId, Term};
 use world_planned::planned::Planned;
-use world_planned::readings::{down, has_partner, lives, traps, watched};
+use world_planned::readings::{down, exits, life, lives, watched};
 use world_planned::reply::{Refusal, Reply, done};
 use world_planned::spawning::next_reference;
 use world_records::{Change, ProcessPart, Records, ReferencePart};
@@ -39,19 +39,8 @@ fn no_process(alloc: Global) -> Result<Term, AllocError>
 fn link_way(records: &Records<'_>, caller: &Pid, to: &Pid) -> Linking
     ensures { OfWorld records.now (λ m v. way_of result ≡ link_way caller.now to.now (v (cells.Links caller.now)) (v (cells.Alive to.now)) (v (cells.Trap caller.now))) }
 {
-    if *caller == *to {
-        return Linking::Stands;
-    }
-    if has_partner(records, caller, to) {
-        return Linking::Stands;
-    }
-    if lives(records, to) {
-        return Linking::Pairs;
-    }
-    if traps(records, caller) {
-        return Linking::PairsGone;
-    }
-    Linking::Fails
+    let exits = exits(records, caller);
+    records.links().way(caller, to, life(records, to), exits)
 }
 
 // A link that is there stays.

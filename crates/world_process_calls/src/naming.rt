@@ -15,11 +15,11 @@ ghost use Rattle.world_records.specs.Records.{OfWorld};
 ghost use Rattle.world_records.specs.declared.records.Records as declared;
 
 use proc_calls::Trapping;
-use proc_links::Exits;
+use proc_links::{Exits, Naming};
 use std::alloc::{AllocError, Global};
 use term_core::{Atom, Pid, Term};
 use world_planned::planned::Planned;
-use world_planned::readings::{has_name, holder, lives, traps};
+use world_planned::readings::{holder, life, lives, traps};
 use world_planned::reply::{Refusal, Reply, done, truth};
 use world_records::{Change, ChannelPart, NamePart, ProcessPart, Records};
 
@@ -27,10 +27,11 @@ use world_records::{Change, ChannelPart, NamePart, ProcessPart, Records};
 fn can_register(records: &Records<'_>, name: &Atom, whom: &Pid) -> bool
     ensures { OfWorld records.now (λ m v. result ≡ is_none (register_refusal name.now (v (cells.Alive whom.now)) (v (cells.Holder name.now)) (v (cells.NameOf whom.now)))) }
 {
-    lives(records, whom)
-        && name.as_str() != "undefined"
-        && holder(records, name).is_none()
-        && !has_name(records, whom)
+    let life = life(records, whom);
+    match records.names().judge_registration(name, whom, life) {
+        Naming::Served => true,
+        Naming::Refused => false,
+    }
 }
 
 // What `register/2` reads.

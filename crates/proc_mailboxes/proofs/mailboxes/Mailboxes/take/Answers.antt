@@ -1,4 +1,4 @@
-use Rattle.std.proofs.Common.{◌≡◌, ◌<◌, ◌∙◌, Some, ap, length, option_map, rules, sym}
+use Rattle.std.proofs.Common.{◌<◌, ◌∙◌, ap, length, option_map, rules, sym}
 use Rattle.term_core.specs.Term.{meaning_of}
 use Rattle.proc_mailboxes.proofs.Cells.{is_there, picks_follow}
 use Rattle.proc_mailboxes.specs.Mailboxes.{messages_in}

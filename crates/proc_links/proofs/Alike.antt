@@ -1,0 +1,44 @@
+-- Links, watches and names that are compared as the same are the same.
+use Rattle.std.proofs.Common.{◌≡◌, ◌&&◌, ℕ, Bool, true, false, not, List, map, bytes_eq, refl, sym, ap, ◌∙◌}
+use Rattle.std.proofs.lemmas.Slice.Eq.{bytes_eq-Decides}
+use Rattle.std.specs.BTreeMap.{BTreeMap, get, is_at}
+use Rattle.std.specs.Cmp.Lexicographic.{pointwise}
+use Rattle.std.specs.Map.{lookup}
+use Rattle.std.specs.Ordering.{eq_by_cmp}
+use Rattle.term_core.proofs.Equality.{reference_ids_same}
+use Rattle.term_core.specs.Order.{order_of_lists}
+use Rattle.term_core.specs.StepOrder.{order_of_reference_ids}
+use Rattle.world_model.specs.Names.{ref_of}
+use Rattle.proc_groups.specs.declared.groups.Groups.{Groups}
+use Rattle.proc_groups.specs.Groups.{members_in}
+use Rattle.proc_groups.proofs.Alike.{entries_told}
+use Rattle.proc_links.specs.Bearers as bearers
+use Rattle.proc_links.specs.Names as naming
+use Rattle.proc_links.specs.Watchers as watching
+use Rattle.proc_links.specs.inside.Watched.{AreSame}
+use Rattle.proc_links.specs.declared.names.Names.{Names}
+use Rattle.proc_links.specs.declared.watchers.Watchers.{Watchers}
+
+pub not_off : (b : Bool) → false ≡ not b → b ≡ true
+not_off true e = refl
+not_off false e = cc
+
+-- what two references point to is the same where sets are
+pub members_of_both : {K : Type 0} {a b one other : Groups K} → a ≡ one → b ≡ other → ((p : List ℕ) → members_in b p ≡ members_in a p) → (p : List ℕ) → members_in other p ≡ members_in one p
+members_of_both left right same p = ap (λ g. members_in g p) (sym right) ∙ same p ∙ ap (λ g. members_in g p) left
+
+pub targets_told : (a b : BTreeMap (List ℕ × ℕ) (List ℕ)) → pointwise (λ p q. eq_by_cmp order_of_reference_ids p.0 q.0 && bytes_eq p.1 q.1) a.entries b.entries ≡ true → (id : List ℕ × ℕ) → get order_of_reference_ids a id ≡ get order_of_reference_ids b id
+targets_told a b e id =
+    ap (lookup (is_at (order_of_reference_ids id)))
+    (entries_told (eq_by_cmp order_of_reference_ids) bytes_eq (λ x y. (reference_ids_same x y _ refl).0) (λ x y. (bytes_eq-Decides x y).0) a.entries b.entries e)
+
+pub borne_told : (a b : BTreeMap (List ℕ) (List ℕ)) → pointwise (λ p q. bytes_eq p.0 q.0 && bytes_eq p.1 q.1) a.entries b.entries ≡ true → (m : List ℕ) → get order_of_lists a m ≡ get order_of_lists b m
+borne_told a b e m =
+    ap (lookup (is_at (order_of_lists m)))
+    (entries_told bytes_eq bytes_eq (λ x y. (bytes_eq-Decides x y).0) (λ x y. (bytes_eq-Decides x y).0) a.entries b.entries e)
+
+pub watches_of_both : (one other : Watchers) → AreSame one.watches.value other.watches.value → watching.IsUnchanged one other
+watches_of_both one other same = record { watchers = λ p. ap (map ref_of) (same.watchers p); watches = λ ref. same.targets (ref.pid, ref.number) }
+
+pub names_of_both : (one other : Names) → bearers.AreSame one.bearers.value other.bearers.value → naming.IsUnchanged one other
+names_of_both one other same = record { holders = same.holders; names = same.names }
