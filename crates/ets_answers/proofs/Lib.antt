@@ -1,3 +1,3 @@
 pub mod Behind
+pub mod Kept
 pub mod Lines
-pub mod Left

@@ -1,12 +1,11 @@
 -- A table that is held, as the calls of the explored world find it.
 use Rattle.std.specs.FinMap.{get}
-use Rattle.std.specs.Prelude.{◌≡◌, Bool, true, false, None, IsTrue}
+use Rattle.std.specs.Prelude.{◌≡◌, None}
 use Rattle.term_core.specs.Meaning.{Meaning}
 use Rattle.ets_store.specs.Tables.{settings_in}
 use Rattle.ets_store.specs.declared.table.Table.{Table}
-use Rattle.world_model.specs.Calls.{TableCall, DeleteTable}
+use Rattle.world_model.specs.Calls.{TableCall}
 use Rattle.world_model.specs.Cells.{Contents, Row, Rows}
-use Rattle.world_model.specs.Changes.{after}
 use Rattle.world_model.specs.TableAccess.{Found, access_rule_at}
 use Rattle.world_model.specs.TableLines.{Line, table_line}
 use Rattle.world_model.specs.Names.{Pid, Ref}
@@ -23,11 +22,6 @@ pub record HoldsRows (t : Table) (ref : Ref) (v : Contents) : Type 0 where
   pub rows : v (Rows ref) ≡ t.rows.rows
   pub row : (key : Key) → get t.rows.rows key ≡ some_if (v (Row ref key))
 
--- whether the table is still there after a call
-abbrev pub keeps_table : TableCall → Bool
-keeps_table DeleteTable = false
-keeps_table call = true
-
 -- this is so of the line of a call at a table that is found, where the call is served: its process has access, and no rule refuses its arguments
 abbrev pub WhereServed : Contents → Pid → Found → TableCall → (Line → Type 0) → Type 0
 WhereServed v p f call IsSo = access_rule_at p f call ≡ None → (table_line v p f call).rule ≡ None → IsSo (table_line v p f call)
@@ -41,7 +35,3 @@ IsAnswerAt t call answer = (v : Contents) (p : Pid) (ref : Ref) → HoldsRows t 
 -- these are the rows that it writes
 abbrev pub AreWrittenAt : Table → TableCall → Touch → Type 0
 AreWrittenAt t call touch = (v : Contents) (p : Pid) (ref : Ref) → HoldsRows t ref v → WhereServed v p (found_at ref t) call (λ l. touch ≡ rows_written v p (found_at ref t) call)
-
--- it leaves the table with the rows that its changes leave, where it does not destroy it
-abbrev pub LeavesAt : TableCall → Table → Table → Type 0
-LeavesAt call old new = (v : Contents) (p : Pid) (ref : Ref) → HoldsRows old ref v → WhereServed v p (found_at ref old) call (λ l. IsTrue (keeps_table call) → HoldsRows new ref (after l.changes v))

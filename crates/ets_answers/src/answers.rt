@@ -1,5 +1,5 @@
 // What a call answers (ets manual), before it writes.
-ghost use Rattle.std.specs.Prelude.{◌≡◌, ◌∷◌, [], IfOk, map, option_map, option_copied};
+ghost use Rattle.std.specs.Prelude.{◌≡◌, IfOk, map, option_map, option_copied};
 ghost use Rattle.ets_calls.specs.Arguments.{increment_in};
 ghost use Rattle.ets_calls.specs.Calls.{call_in};
 ghost use Rattle.ets_store.specs.TableRows.{one_has_key};
@@ -118,39 +118,17 @@ fn sum_answer(table: &Table, key: &Term, increment: Increment) -> Term
     ensures { IsHeldSum table.now (meaning_of key.now) (increment_in increment) (meaning_of result) }
 {
     match counter_of(table, key, increment) {
-        Ok(counter) => Term::Int(counter.sum),
+        Ok(sum) => Term::Int(sum),
         Err(_) => truth(true),
     }
 }
 
-// Whether the key that an object has is there.
-fn is_there(rows: &Rows, object: &Object) -> bool
-    ensures { result ≡ one_has_key rows.now.position (object.now ∷ []) rows.now.rows }
-{
-    match object.part(rows.position()) {
-        Some(key) => rows.has_key(key),
-        None => false,
-    }
-}
-
-// Whether one of these objects has a key that is there.
-fn one_of_them_is_there(rows: &Rows, objects: &[Object]) -> bool
-    ensures { result ≡ one_has_key rows.now.position objects.now rows.now.rows }
-{
-    for object in objects {
-        if is_there(rows, object) {
-            return true;
-        }
-    }
-    false
-}
-
 /// Whether one of the objects that are given has a key that is there. It takes no memory.
-pub(crate) fn one_is_there(rows: &Rows, objects: &Option<Vec<Object>>) -> bool
+pub fn one_is_there(rows: &Rows, objects: &Option<Vec<Object>>) -> bool
     ensures { result ≡ one_has_key rows.now.position (given (option_map (λ os. os.items) objects.now)) rows.now.rows }
 {
     match objects {
-        Some(objects) => one_of_them_is_there(rows, objects.as_slice()),
+        Some(objects) => rows.has_one(objects.as_slice()),
         None => false,
     }
 }

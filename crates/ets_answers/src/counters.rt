@@ -1,4 +1,4 @@
-// Counters (ets manual, `update_counter/3`): where a sum goes, and what it is. None takes memory.
+// Counters (ets manual, `update_counter/3`): what a sum is. None takes memory.
 ghost use Rattle.std.specs.Prelude.{◌≡◌, ◌+◌, None, Some, not, if◌then◌else◌, IfOk, MatchOption, option_map, option_copied, option_and_then};
 ghost use Rattle.ets_answers.specs.inside.Refused.{refused_by};
 ghost use Rattle.ets_calls.specs.Arguments.{increment_in};
@@ -6,7 +6,7 @@ ghost use Rattle.ets_store.specs.Tables.{settings_in};
 ghost use Rattle.term_core.specs.Meaning.{Int};
 ghost use Rattle.term_core.specs.Term.{meaning_of};
 ghost use Rattle.world_model.specs.Calls.{has_items};
-ghost use Rattle.world_model.specs.Objects.{addend_rule, sum_rule, sum_with, counter_rule, sum_of, place_of, is_key_or_none};
+ghost use Rattle.world_model.specs.Objects.{addend_rule, sum_rule, sum_with, counter_rule, sum_of, is_key_or_none};
 ghost use Rattle.world_model.specs.Rows.{parts_at, under};
 ghost use Rattle.world_model.specs.Signals.{first_of};
 ghost use Rattle.world_model.specs.Terms.{integer_in};
@@ -17,15 +17,6 @@ use ets_calls::Increment;
 use ets_store::{Object, Table};
 use term_core::Term;
 use world_model::rule::Rule;
-
-/// What `update_counter/3` puts in.
-#[derive(Clone, Copy, Debug, PartialEq, Eq)]
-pub(crate) struct Counter {
-    /// The position of the element.
-    pub(crate) place: usize,
-    /// The sum that it is then.
-    pub(crate) sum: i64,
-}
 
 // The first part that one of these objects has at a position.
 fn first_part(there: &[Object], position: usize) -> Option<&Term>
@@ -66,23 +57,20 @@ fn sum_with(element: &Term, number: i64) -> Result<i64, Rule>
 }
 
 // The sum of a number and the element that objects have at a position.
-fn sum_at(there: &[Object], place: usize, number: i64) -> Result<Counter, Rule>
+fn sum_at(there: &[Object], place: usize, number: i64) -> Result<i64, Rule>
     ensures rule { refused_by result ≡ sum_rule number (first_of (parts_at place there.now)) }
-    ensures place { IfOk result (λ counter. counter.place ≡ place) }
-    ensures sum { IfOk result (λ counter. counter.sum ≡ sum_with number (option_and_then integer_in (first_of (parts_at place there.now)))) }
+    ensures sum { IfOk result (λ sum. sum ≡ sum_with number (option_and_then integer_in (first_of (parts_at place there.now)))) }
 {
     let Some(element) = first_part(there, place) else {
         return Err(Rule::BadPosition);
     };
-    let sum = sum_with(element, number)?;
-    Ok(Counter { place, sum })
+    sum_with(element, number)
 }
 
 // The sum of a number and the element right after a position, where a key is there.
-fn sum_behind(there: &[Object], position: usize, number: i64) -> Result<Counter, Rule>
+fn sum_behind(there: &[Object], position: usize, number: i64) -> Result<i64, Rule>
     ensures rule { refused_by result ≡ (if not (has_items there.now) then Some NoKey else sum_rule number (first_of (parts_at (position + 1) there.now))) }
-    ensures place { IfOk result (λ counter. counter.place ≡ position + 1) }
-    ensures sum { IfOk result (λ counter. counter.sum ≡ sum_with number (option_and_then integer_in (first_of (parts_at (position + 1) there.now)))) }
+    ensures sum { IfOk result (λ sum. sum ≡ sum_with number (option_and_then integer_in (first_of (parts_at (position + 1) there.now)))) }
 {
     if there.is_empty() {
         return Err(Rule::NoKey);
@@ -94,10 +82,9 @@ fn sum_behind(there: &[Object], position: usize, number: i64) -> Result<Counter,
 }
 
 // The sum of a number and the element at a position that may be written, where a key is there.
-fn sum_at_place(there: &[Object], key: usize, place: usize, number: i64) -> Result<Counter, Rule>
+fn sum_at_place(there: &[Object], key: usize, place: usize, number: i64) -> Result<i64, Rule>
     ensures rule { refused_by result ≡ (if is_key_or_none key place then Some BadPosition else (if not (has_items there.now) then Some NoKey else sum_rule number (first_of (parts_at place there.now)))) }
-    ensures place { IfOk result (λ counter. counter.place ≡ place) }
-    ensures sum { IfOk result (λ counter. counter.sum ≡ sum_with number (option_and_then integer_in (first_of (parts_at place there.now)))) }
+    ensures sum { IfOk result (λ sum. sum ≡ sum_with number (option_and_then integer_in (first_of (parts_at place there.now)))) }
 {
     if is_key_or_none(key, place) {
         return Err(Rule::BadPosition);
@@ -108,14 +95,13 @@ fn sum_at_place(there: &[Object], key: usize, place: usize, number: i64) -> Resu
     sum_at(there, place, number)
 }
 
-/// What `update_counter/3` puts in under a key, or the rule that refuses it: the table is a bag, no integer is given,
-/// the position may not be written, no object is there, or it is too short, or has no integer there, or the sum has
-/// more than 64 bits.
+/// The sum that `update_counter/3` puts in under a key, or the rule that refuses it: the table is a bag, no integer is
+/// given, the position may not be written, no object is there, or it is too short, or has no integer there, or the sum
+/// has more than 64 bits.
 #[tactic(auto, using(crate::proofs::Behind::behind_is_free))]
-pub(crate) fn counter_of(table: &Table, key: &Term, increment: Increment) -> Result<Counter, Rule>
+pub(crate) fn counter_of(table: &Table, key: &Term, increment: Increment) -> Result<i64, Rule>
     ensures rule { refused_by result ≡ counter_rule (settings_in table.now) (increment_in increment) (under table.now.rows.rows (meaning_of key.now)) }
-    ensures place { IfOk result (λ counter. counter.place ≡ place_of (settings_in table.now).position (increment_in increment)) }
-    ensures sum { IfOk result (λ counter. Int counter.sum ≡ sum_of (settings_in table.now) (increment_in increment) (under table.now.rows.rows (meaning_of key.now))) }
+    ensures sum { IfOk result (λ sum. Int sum ≡ sum_of (settings_in table.now) (increment_in increment) (under table.now.rows.rows (meaning_of key.now))) }
 {
     if is_bag(table.kind()) {
         return Err(Rule::BagRefused);

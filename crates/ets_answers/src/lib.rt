@@ -1,5 +1,5 @@
-// What a call does at a table that is found: the rule that refuses its arguments, its answer, and what it writes
-// into the rows.
+// What a call comes to at a table that is found: the rule that refuses its caller or its arguments, its answer, and the
+// rows that it reads and writes.
 #![tactic(auto)]
 
 pub mod answers;
@@ -8,10 +8,8 @@ pub mod items;
 pub mod judging;
 pub mod rules;
 pub mod touched;
-pub mod writes;
 
-pub use answers::answer;
+pub use answers::{answer, one_is_there};
 pub use judging::argument_rule;
 pub use rules::{caller_rule, class_of, rule_of_none};
 pub use touched::{Touched, rows_read, rows_written};
-pub use writes::write;

@@ -2,6 +2,7 @@
 ghost use Rattle.std.specs.List.{list_any};
 ghost use Rattle.std.specs.Prelude.{◌≡◌, IfOk, map, option_map};
 ghost use Rattle.ets_calls.specs.Options.{option_in};
+ghost use Rattle.ets_store.specs.Tables.{heir_in};
 ghost use Rattle.term_core.specs.Term.{meaning_of};
 ghost use Rattle.world_model.specs.Tables.{found_beside, plain_options, tuning_words, pair_option, other_option, tuple_option, option_of, options_of};
 ghost use Rattle.world_model.specs.Terms.{is_atom};
@@ -28,6 +29,29 @@ pub enum TableOption {
     WithHeir(Option<Heir>),
     /// What only tunes, and is read and ignored.
     Tunes,
+}
+
+impl TableOption {
+    /// The same option. `AllocError` where the copies of what it has can no longer be counted.
+    pub fn copy(&self) -> Result<TableOption, AllocError>
+        ensures { IfOk result (λ copied. option_in copied ≡ option_in self.now) }
+    {
+        match self {
+            TableOption::OfKind(kind) => Ok(TableOption::OfKind(*kind)),
+            TableOption::Protects(protection) => Ok(TableOption::Protects(*protection)),
+            TableOption::Named => Ok(TableOption::Named),
+            TableOption::AtPosition(position) => Ok(TableOption::AtPosition(*position)),
+            TableOption::WithHeir(heir) => Ok(TableOption::WithHeir(copied(heir)?)),
+            TableOption::Tunes => Ok(TableOption::Tunes),
+        }
+    }
+}
+
+// The same heir.
+fn copied(heir: &Option<Heir>) -> Result<Option<Heir>, AllocError>
+    ensures { IfOk result (λ copied. heir_in copied ≡ heir_in heir.now) }
+{
+    heir.clone()
 }
 
 // The option that is the atom of this text.

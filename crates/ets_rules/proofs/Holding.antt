@@ -15,7 +15,7 @@ use Rattle.world_model.specs.TableLines.{table_line}
 use Rattle.world_model.specs.declared.rule.Rule.{Rule}
 use Rattle.world_model.proofs.Meeting.{refs_same}
 use Rattle.ets_answers.specs.At.{HoldsRows}
-use Rattle.ets_answers.proofs.Left.{kept}
+use Rattle.ets_answers.proofs.Kept.{kept}
 use Rattle.world_model.proofs.RowLaws.{listed_some}
 use Rattle.ets_rules.specs.Tables.{Hold}
 use Rattle.ets_rules.specs.inside.Parts.{KeepsOthers}
@@ -23,7 +23,7 @@ use Rattle.ets_store.specs.Tables.{settings_in}
 use Rattle.ets_store.specs.declared.table.Table.{Table}
 use Rattle.ets_tables.specs.Lending.{IsWritten}
 use Rattle.ets_tables.specs.Shelves.{rows_of}
-use Rattle.ets_tables.specs.Tables.{AreTables, IsUnchanged, held_at, table_at, rows_at}
+use Rattle.ets_tables.specs.Tables.{AreTables, held_at}
 use Rattle.ets_tables.specs.declared.registry.Registry.{Registry}
 use Rattle.ets_rules.specs.declared.tables.Tables.{Tables}
 
@@ -75,12 +75,3 @@ written_hold old new v w t was now tables held written same holds keeps = record
   if_under : (b : Bool) (x y : Rows) (key : Key) → under (if b then x else y) key ≡ (if b then under x key else under y key)
   if_under true x y key = refl
   if_under false x y key = refl
-
--- where it was written as it was, nothing is changed
-pub written_back : (old new : Registry) (t : Ref) (was : Table) → held_at old t ≡ Some was → IsWritten t was old new → IsUnchanged old new
-written_back old new t was held written = record {
-  tables = λ u. written.tables u ∙ either (same_ref t u) _ _ (table_at old u) (λ e. ap (table_at old) (sym (refs_same t u e)) ∙ ap (option_map settings_in) held) (λ e. refl);
-  rows = λ u. written.rows u ∙ either (same_ref t u) _ _ (rows_at old u) (λ e. ap (rows_at old) (sym (refs_same t u e)) ∙ ap rows_of held) (λ e. refl);
-  names = written.names;
-  owned = written.owned;
-}

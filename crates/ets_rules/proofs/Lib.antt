@@ -1,5 +1,9 @@
+pub mod Adding
+pub mod Apart
+pub mod Applied
+pub mod Finding
 pub mod Holding
-pub mod Owning
+pub mod Passing
+pub mod Planning
 pub mod RowChanges
 pub mod RowsWritten
-pub mod Writing

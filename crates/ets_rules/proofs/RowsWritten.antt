@@ -1,16 +1,16 @@
 -- One change of the rows of a table that was lent.
-use Rattle.std.proofs.Common.{◌≡◌, ◌∷◌, [], Bool, Bor, true, false, List, Option, Some, None, is_some, if◌then◌else◌, true≢false, refl, sym, ap, ◌∙◌}
+use Rattle.std.proofs.Common.{◌≡◌, ◌∷◌, [], Bool, Bor, true, false, Option, Some, None, is_some, if◌then◌else◌, true≢false, refl, sym, ap, ◌∙◌}
 use Rattle.std.specs.FinMap.{empty, get, get-empty}
 use Rattle.std.specs.Prelude.{option_copied, option_map, unwrap_or}
 use Rattle.term_core.specs.Order.{order_of_terms}
 use Rattle.world_model.specs.Cells as cells
 use Rattle.world_model.specs.Cells.{Contents}
-use Rattle.world_model.specs.Changes.{Change, RowsCleared, RowWritten, after, changed}
+use Rattle.world_model.specs.Changes.{Change, RowsCleared, RowWritten, changed}
 use Rattle.world_model.specs.Names.{Ref, same_ref}
-use Rattle.world_model.specs.Rows.{Key, Object, RowChange, Rows, listed, rows_rewritten, under}
+use Rattle.world_model.specs.Rows.{Key, RowChange, Rows, listed, rows_rewritten, under}
 use Rattle.world_model.specs.Tables as tables
 use Rattle.world_model.proofs.Meeting.{refs_same, ref_itself}
-use Rattle.ets_answers.proofs.Left.{kept}
+use Rattle.ets_answers.proofs.Kept.{kept}
 use Rattle.ets_rules.proofs.Holding.{hold_after, written_hold}
 use Rattle.ets_rules.proofs.RowChanges.{wipe_keeps, write_keeps}
 use Rattle.ets_rules.specs.Tables.{Hold}

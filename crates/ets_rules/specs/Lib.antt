@@ -1,2 +1,4 @@
+pub mod Changes
+pub mod Plans
 pub mod Tables
 pub mod inside

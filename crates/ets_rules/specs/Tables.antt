@@ -1,23 +1,23 @@
 -- The tables of a world, in its cells.
 use Rattle.std.specs.FinMap.{get}
-use Rattle.std.specs.Prelude.{◌≡◌, List, [], ◌∷◌, Option, Some, None}
+use Rattle.std.specs.Prelude.{◌≡◌, List, [], ◌∷◌, Option, Some, None, IfSome, option_map}
 use Rattle.term_core.specs.Meaning.{Meaning}
 use Rattle.world_model.specs.Calls.{TableArgument, TableCall}
 use Rattle.world_model.specs.Cells as cells
 use Rattle.world_model.specs.Cells.{Contents, Row, Rows}
 use Rattle.world_model.specs.Changes.{RowWritten, TableSet, after}
 use Rattle.world_model.specs.ProcessLines.{CallLine}
-use Rattle.world_model.specs.TableAccess.{Found}
+use Rattle.world_model.specs.TableAccess.{Found, find}
 use Rattle.world_model.specs.TableRules.{on_table_line, table_rule}
 use Rattle.world_model.specs.Tables as settings
 use Rattle.world_model.specs.Names.{Name, Pid, Ref, ref_of}
 use Rattle.world_model.specs.Rows.{Key, RowChange, some_if}
-use Rattle.ets_answers.specs.At.{found_at}
+use Rattle.ets_answers.specs.At.{HoldsRows, found_at}
 use Rattle.ets_store.specs.declared.table.Table.{Table}
 use Rattle.ets_tables.specs.Ends.{transfer_of}
 use Rattle.ets_tables.specs.Tables as registry
 use Rattle.ets_tables.specs.Tables.{AreTables}
-use Rattle.ets_tables.specs.declared.ends.Transfer.{Transfer}
+use Rattle.ets_tables.specs.declared.transfers.Transfer.{Transfer}
 use Rattle.ets_rules.specs.declared.found.FoundTable.{FoundTable}
 use Rattle.ets_rules.specs.declared.tables.Tables.{Tables}
 
@@ -48,6 +48,11 @@ found_of f = found_at (ref_of f.id.now) f.table.now
 abbrev pub told_in : Option Transfer → List (Pid × Meaning)
 told_in None = []
 told_in (Some transfer) = transfer_of transfer ∷ []
+
+-- this is what an argument finds, if anything, with the rows that the contents have of it
+pub record IsFoundBy (v : Contents) (argument : TableArgument) (found : Option FoundTable) : Type 0 where
+  pub finds : option_map found_of found ≡ find v argument
+  pub has_rows : IfSome found (λ f. HoldsRows f.table.now (ref_of f.id.now) v)
 
 -- ---- whatever contents the tables hold
 

@@ -5,7 +5,7 @@ ghost use Rattle.ets_answers.specs.At.{HoldsRows, found_at};
 ghost use Rattle.ets_calls.specs.Arguments.{argument_in};
 ghost use Rattle.ets_calls.specs.Calls.{call_in};
 ghost use Rattle.ets_calls.specs.Options.{option_in};
-ghost use Rattle.ets_rules.specs.Tables.{Hold};
+ghost use Rattle.ets_rules.specs.Tables.{Hold, IsFoundBy, found_of};
 ghost use Rattle.world_model.specs.Calls as calls;
 ghost use Rattle.world_model.specs.Cells.{AreAlive, Contents};
 ghost use Rattle.world_model.specs.Events.{ByRule};
@@ -17,6 +17,7 @@ ghost use Rattle.world_model.specs.NewTables.{by_rule};
 ghost use Rattle.std.specs.BTreeSet.{contains};
 ghost use Rattle.term_core.specs.Order.{order_of_lists};
 
+use crate::found::FoundTable;
 use crate::tables::Tables;
 use ets_answers::{argument_rule, caller_rule, class_of, rule_of_none};
 use ets_calls::settings::is_named;
@@ -50,6 +51,39 @@ fn tells_owner(rule: Rule) -> bool
     }
 }
 
+/// The one rule by which a call of this process is refused at what its argument finds, where those in the set live;
+/// `None` where it is served.
+pub fn judge_found(
+    caller: &Pid,
+    argument: &TableArgument,
+    found: Option<FoundTable<'_>>,
+    call: &TableCall,
+    living: &BTreeSet<Pid>,
+) -> Option<Rule>
+    ensures { (v : Contents) → IsFoundBy v (argument_in argument.now) found.entry → AreAlive (contains order_of_lists living.now) v → result ≡ table_rule v caller.now (argument_in argument.now) (call_in call.now) }
+{
+    if let TableArgument::ByNothing = argument {
+        return Some(Rule::BadTable);
+    }
+    match found {
+        Some(found) => rule_at(found.table, caller, call, living),
+        None => rule_of_none(class_of(call)),
+    }
+}
+
+/// The owner that a refusal by this rule reports, of the table that is found; `None` where it reports none.
+pub fn owner_of_found<'t>(found: Option<FoundTable<'t>>, rule: Rule) -> Option<&'t Pid>
+    ensures { option_copied result ≡ told_owner rule (option_map found_of found.entry) }
+{
+    if !tells_owner(rule) {
+        return None;
+    }
+    match found {
+        Some(found) => Some(&found.table.owner),
+        None => None,
+    }
+}
+
 impl Tables {
     /// The one rule by which a call of this process is refused, where those in the set live; `None` where it is
     /// served.
@@ -62,13 +96,7 @@ impl Tables {
     ) -> Option<Rule>
         ensures { (v : Contents) → Hold self.now v → AreAlive (contains order_of_lists living.now) v → result ≡ table_rule v caller.now (argument_in argument.now) (call_in call.now) }
     {
-        if let TableArgument::ByNothing = argument {
-            return Some(Rule::BadTable);
-        }
-        match self.find(argument) {
-            Some(found) => rule_at(found.table, caller, call, living),
-            None => rule_of_none(class_of(call)),
-        }
+        judge_found(caller, argument, self.find(argument), call, living)
     }
 
     /// The one rule by which a new table is refused: its name is no atom, its options are no such, or it is to be
@@ -93,12 +121,6 @@ impl Tables {
     pub fn told_owner<'t>(&'t self, argument: &'t TableArgument, rule: Rule) -> Option<&'t Pid>
         ensures { (v : Contents) → Hold self.now v → option_copied result ≡ told_owner rule (find v (argument_in argument.now)) }
     {
-        if !tells_owner(rule) {
-            return None;
-        }
-        match self.find(argument) {
-            Some(found) => Some(&found.table.owner),
-            None => None,
-        }
+        owner_of_found(self.find(argument), rule)
     }
 }

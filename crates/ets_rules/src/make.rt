@@ -1,9 +1,8 @@
 // A new table (ets manual, `new/2`).
 ghost use Rattle.std.specs.FinMap.{empty};
-ghost use Rattle.std.specs.Prelude.{◌≡◌, None, IfOk, OnOk, OnErr, map};
+ghost use Rattle.std.specs.Prelude.{◌≡◌, IfOk, OnOk, OnErr, map};
 ghost use Rattle.ets_calls.specs.Options.{option_in};
 ghost use Rattle.ets_rules.specs.Tables.{Hold, IsUnchanged};
-ghost use Rattle.ets_tables.specs.Tables.{rows_at};
 ghost use Rattle.world_model.specs.Names.{ref_of};
 ghost use Rattle.term_core.specs.Term.{meaning_of};
 ghost use Rattle.world_model.specs.Cells as cells;
@@ -12,12 +11,22 @@ ghost use Rattle.world_model.specs.Changes.{after};
 ghost use Rattle.world_model.specs.NewTables.{made};
 ghost use Rattle.world_model.specs.Tables.{handle_of, table_of};
 
+use crate::creating::create;
 use crate::tables::Tables;
 use ets_calls::TableOption;
-use ets_calls::settings::table_of;
-use ets_tables::handle;
 use std::alloc::{AllocError, Global};
 use term_core::{Atom, Pid, RefId, Term};
+
+// The same options.
+fn copies_of(alloc: Global, options: &[TableOption]) -> Result<Vec<TableOption>, AllocError>
+    ensures { IfOk result (λ copies. map option_in copies.items ≡ map option_in options.now) }
+{
+    let mut copies = Vec::new(alloc);
+    for option in options {
+        copies.push(option.copy()?)?;
+    }
+    Ok(copies)
+}
 
 impl Tables {
     /// Makes a table for a process, with this name and these options, under the reference of this creation, and
@@ -35,9 +44,12 @@ impl Tables {
         ensures tables { OnOk result ((v : Contents) → Hold self.old v → v (cells.Rows (ref_of id.now)) ≡ empty → Hold self.new (after (made owner.now (ref_of id.now) name.now (map option_in options.now)) v)) }
         ensures err { OnErr result (IsUnchanged self.old self.new) }
     {
-        let table = table_of(alloc, owner, name, options)?;
-        let answer = handle(id, &table)?;
-        self.registry.make(alloc, id, table)?;
-        Ok(answer)
+        let options = copies_of(alloc, options)?;
+        let created = create(alloc, owner, id, name, options)?;
+        let mut changed = self.copy()?;
+        changed.take(id)?;
+        changed.change_each(alloc, created.changes.as_slice())?;
+        *self = changed;
+        Ok(created.handle)
     }
 }

@@ -1,5 +1,5 @@
 // The tables of a world, and what finds one (ets manual, `new/2`).
-ghost use Rattle.std.specs.Prelude.{◌≡◌, [], None, Some, IfOk, IfSome, List, map, option_copied, option_map};
+ghost use Rattle.std.specs.Prelude.{◌≡◌, [], None, Some, IfOk, IfSome, List, map, option_copied, option_map, true};
 ghost use Rattle.ets_calls.specs.Arguments.{argument_in};
 ghost use Rattle.ets_rules.specs.Tables.{Hold, IsUnchanged, found_of, held_in, meant_in, owned_in};
 ghost use Rattle.proc_groups.specs.Groups.{members_of};
@@ -43,6 +43,15 @@ impl Tables {
         Ok(Tables {
             registry: self.registry.copy()?,
         })
+    }
+
+    /// Whether each reference finds the same table with the same rows, each name means the same, and each process owns
+    /// the same tables: where it is so, these hold all contents that the others hold. It takes no memory.
+    pub fn is_same(&self, other: &Tables) -> bool
+        ensures same { result ≡ true → IsUnchanged self.now other.now }
+        ensures agrees { result ≡ true → (v : Contents) → Hold other.now v → Hold self.now v }
+    {
+        self.registry.is_same(&other.registry)
     }
 
     /// A table by the reference of its creation: its name, owner, heir and settings, and its rows. It takes no

@@ -1,3 +1,4 @@
+pub mod Alike
 pub mod CellWrites
 pub mod Listing
 pub mod Maps

@@ -12,7 +12,7 @@ abbrev parts : Meaning → List Meaning
 parts (Tuple ms) = parts_of ms
 parts m = []
 
-untuple : (a b : Object) → tuple a ≡ tuple b → a ≡ b
+pub untuple : (a b : Object) → tuple a ≡ tuple b → a ≡ b
 untuple a b e = sym (parts_of-meanings_of a) ∙ ap parts e ∙ parts_of-meanings_of b
 
 pub objects_same : (a b : Object) (r : Bool) → r ≡ eq_by_cmp order_of_items a b → r ≡ same_object a b

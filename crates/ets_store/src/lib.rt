@@ -8,6 +8,7 @@ pub mod object;
 pub mod objects;
 pub(crate) mod row_map;
 pub mod rows;
+pub(crate) mod sameness;
 pub mod table;
 pub mod walks;
 pub mod writes;

@@ -53,8 +53,8 @@ impl Rows {
         self.map.size()
     }
 
-    // Whether one of these objects has a key that is there.
-    fn has_one(&self, objects: &[Object]) -> bool
+    /// Whether one of these objects has a key that is there (ets manual, `insert_new/2`). It takes no memory.
+    pub fn has_one(&self, objects: &[Object]) -> bool
         ensures { result ≡ one_has_key self.now.position objects.now self.now.rows }
     {
         for object in objects {

@@ -42,6 +42,20 @@ impl Clone for Object {
     }
 }
 
+impl PartialEq for Object {
+    ghost use Rattle.std.specs.Cmp.{partial_equiv_from_equiv};
+    ghost use Rattle.ets_store.specs.inside.Alike.{objects_equal};
+
+    ghost eq = { same_object };
+
+    ghost laws = { partial_equiv_from_equiv objects_equal };
+
+    /// Whether the two are the same tuple. It takes no memory.
+    fn eq(&self, other: &Object) -> bool {
+        self.is_same(other)
+    }
+}
+
 impl Object {
     /// The object that a tuple of these parts is. It takes no memory.
     pub fn new(parts: Arc<Terms>) -> Object

@@ -43,6 +43,20 @@ impl Clone for Objects {
     }
 }
 
+impl PartialEq for Objects {
+    ghost use Rattle.std.specs.Cmp.{partial_equiv_from_equiv};
+    ghost use Rattle.ets_store.specs.inside.Alike.{lists_equal, same_objects};
+
+    ghost eq = { same_objects };
+
+    ghost laws = { partial_equiv_from_equiv lists_equal };
+
+    /// Whether the two have the same objects, in one order. It takes no memory.
+    fn eq(&self, other: &Objects) -> bool {
+        self.items == other.items
+    }
+}
+
 impl Objects {
     /// No objects. It takes no memory.
     pub(crate) fn new(alloc: Global) -> Objects

@@ -27,10 +27,7 @@ impl Rows {
             return Ok(());
         };
         let key = key.copy()?;
-        let kind = self.kind;
-        let map = Arc::make_mut(&mut self.map)?;
-        map.store(alloc, kind, key, object)?;
-        Ok(())
+        self.store(alloc, &key, object)
     }
 
     /// Puts an object in under a key, as the kind of the table says, or `AllocError` if there is no memory for it:
@@ -100,10 +97,7 @@ impl Rows {
         let Some(key) = object.part(self.position) else {
             return Ok(());
         };
-        let key = key.copy()?;
-        let map = Arc::make_mut(&mut self.map)?;
-        map.erase(alloc, key, object)?;
-        Ok(())
+        self.erase(alloc, key, object)
     }
 
     /// Puts another part at a position of the first object under a key, if there is one that is that long (ets

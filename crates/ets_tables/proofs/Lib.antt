@@ -1,4 +1,4 @@
-pub mod Ending
+pub mod Alike
 pub mod Following
 pub mod Lending
 pub mod Shelving

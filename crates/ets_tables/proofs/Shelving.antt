@@ -1,5 +1,5 @@
 -- What is on the shelves after one change.
-use Rattle.std.proofs.Common.{◌≡◌, ◌⊎◌, inl, inr, ℕ, Bool, true, false, cond, Global, List, [], ◌∷◌, Option, Some, None, IsSome, map, bytes_eq, if◌then◌else◌, refl, sym, ap, subst, ◌∙◌}
+use Rattle.std.proofs.Common.{◌≡◌, ◌⊎◌, inl, inr, Bool, true, false, cond, Global, List, [], ◌∷◌, Option, Some, None, IsSome, map, bytes_eq, if◌then◌else◌, refl, sym, ap, subst, ◌∙◌}
 use Rattle.std.specs.Prelude.{option_map}
 use Rattle.std.specs.List.{AllZip}
 use Rattle.std.specs.Map.{lookup}
@@ -8,7 +8,7 @@ use Rattle.std.specs.declared.sync.Arc.{Arc}
 use Rattle.std.proofs.lemmas.Map.Text.{is_eq-slice_cmp}
 use Rattle.term_core.specs.Order.{order_of_lists}
 use Rattle.term_core.specs.StepOrder.{order_of_reference_ids}
-use Rattle.world_model.specs.Names.{Name, Pid, Ref, same_name, same_pid, same_ref, ref_of}
+use Rattle.world_model.specs.Names.{Name, Pid, Ref, same_name, same_ref, ref_of}
 use Rattle.world_model.specs.Rows.{Rows}
 use Rattle.world_model.specs.Tables as tables
 use Rattle.world_model.proofs.Meeting as meeting

@@ -1,8 +1,7 @@
 -- Where only the rows of a lent table were written.
-use Rattle.std.proofs.Common.{◌≡◌, Bool, true, false, Option, Some, if◌then◌else◌, refl, sym, ap, ◌∙◌}
-use Rattle.world_model.specs.Cells as cells
-use Rattle.world_model.specs.Names.{Ref, same_ref}
-use Rattle.world_model.specs.Rows.{Rows, Key, under}
+use Rattle.std.proofs.Common.{◌≡◌, Bool, true, false, Some, if◌then◌else◌, refl, sym, ap, ◌∙◌}
+use Rattle.world_model.specs.Names.{same_ref}
+use Rattle.world_model.specs.Rows.{Rows, under}
 use Rattle.world_model.proofs.Meeting as meeting
 use Rattle.ets_store.specs.Tables.{settings_in}
 use Rattle.ets_tables.specs.Shelves.{table_on, rows_on}

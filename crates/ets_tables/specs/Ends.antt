@@ -7,7 +7,7 @@ use Rattle.world_model.specs.Changes.{Change, SignalPut}
 use Rattle.world_model.specs.Ends.{tables_pass}
 use Rattle.world_model.specs.Events.{Message}
 use Rattle.world_model.specs.Names.{Pid}
-use Rattle.ets_tables.specs.declared.ends.Transfer.{Transfer}
+use Rattle.ets_tables.specs.declared.transfers.Transfer.{Transfer}
 
 -- the message that a change puts, and who it is for
 abbrev pub transfer_in : Change → List (Pid × Meaning)

@@ -1,15 +1,12 @@
 -- What is on the shelves: tables under their references, references under names, and who has which.
 use Rattle.std.specs.BTreeMap.{get}
 use Rattle.std.specs.FinMap.{empty}
-use Rattle.std.specs.Prelude.{◌≡◌, ◌&&◌, [], List, Option, Some, None, map, option_map, if◌then◌else◌}
+use Rattle.std.specs.Prelude.{◌≡◌, List, Option, None, Some, map, option_map, if◌then◌else◌}
 use Rattle.term_core.specs.Order.{order_of_lists}
 use Rattle.term_core.specs.StepOrder.{order_of_reference_ids}
 use Rattle.world_model.specs.Cells as cells
 use Rattle.world_model.specs.Cells.{Contents}
-use Rattle.world_model.specs.Changes.{Change, set_in_order}
-use Rattle.world_model.specs.TableAccess.{Found, as_found}
-use Rattle.world_model.specs.Names.{Name, Pid, Ref, same_name, same_pid, same_ref, order_of_refs, ref_of}
-use Rattle.world_model.specs.Ownership.{destroyed}
+use Rattle.world_model.specs.Names.{Name, Pid, Ref, same_name, same_pid, same_ref, ref_of}
 use Rattle.world_model.specs.Rows.{Rows, Key, under}
 use Rattle.world_model.specs.Tables as tables
 use Rattle.ets_store.specs.Tables.{settings_in}
@@ -86,18 +83,3 @@ pub record IsOwned (p : Pid) (change : List Ref → List Ref) (old new : Shelves
   pub rows : (u : Ref) → rows_on new u ≡ rows_on old u
   pub names : (name : Name) → meant_on new name ≡ meant_on old name
   pub owned : (q : Pid) → owned_on new q ≡ (if same_pid p q then change (owned_on old q) else owned_on old q)
-
--- a table is under its reference with its rows, its owner has it, and its name means it where it is found by that
-pub record IsMadeOn (t : Ref) (table : tables.Table) (rows : Rows) (old new : Shelves) : Type 0 where
-  pub tables : (u : Ref) → table_on new u ≡ (if same_ref t u then Some table else table_on old u)
-  pub rows_there : (u : Ref) → rows_on new u ≡ (if same_ref t u then rows else rows_on old u)
-  pub names : (name : Name) → meant_on new name ≡ (if table.is_named && same_name table.name name then Some t else meant_on old name)
-  pub owned : (p : Pid) → owned_on new p ≡ (if same_pid table.owner p then set_in_order order_of_refs t (owned_on old p) else owned_on old p)
-
--- what it changes that a table is destroyed (ets manual, `delete/1`)
-abbrev pub changes_of_destroyed : Option Found → List Change
-changes_of_destroyed None = []
-changes_of_destroyed (Some f) = destroyed f
-
-abbrev pub changes_destroyed : Ref → Option tables.Table → List Change
-changes_destroyed t table = changes_of_destroyed (as_found t table)

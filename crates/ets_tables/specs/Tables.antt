@@ -1,17 +1,15 @@
 -- The tables of a world, in the words of the explored world.
-pub use Rattle.ets_tables.specs.Shelves.{changes_destroyed}
 use Rattle.std.specs.FinMap.{empty}
-use Rattle.std.specs.Prelude.{◌≡◌, ◌∷◌, [], List, Option, Some, None}
+use Rattle.std.specs.Prelude.{◌≡◌, ◌∷◌, [], List, Option, None}
 use Rattle.world_model.specs.Cells as cells
 use Rattle.world_model.specs.Cells.{Contents}
-use Rattle.world_model.specs.Changes.{Change, OwnerSet, OwnedRemoved, OwnedAdded, TableSet, after}
+use Rattle.world_model.specs.Changes.{TableSet, after}
 use Rattle.world_model.specs.Names.{Name, Pid, Ref}
-use Rattle.world_model.specs.NewTables.{means_if}
 use Rattle.world_model.specs.Rows.{Rows}
 use Rattle.world_model.specs.Tables as tables
 use Rattle.ets_store.specs.Tables.{settings_in}
 use Rattle.ets_store.specs.declared.table.Table.{Table}
-use Rattle.ets_tables.specs.Shelves.{AreShelved, AreSame, IsMadeOn, held_on, table_on, rows_on, meant_on, owned_on}
+use Rattle.ets_tables.specs.Shelves.{AreShelved, AreSame, held_on, table_on, rows_on, meant_on, owned_on}
 use Rattle.ets_tables.specs.declared.registry.Registry.{Registry}
 
 -- the table that a reference finds, as it is held
@@ -45,16 +43,3 @@ IsUnchanged old new = AreSame old.shelves.value new.shelves.value
 -- a table without rows is added under a reference that finds none; no name means it yet, and nobody has it
 abbrev pub IsTableAdded : Ref → Table → Registry → Registry → Type 0
 IsTableAdded t table old new = (v : Contents) → v (cells.Table t) ≡ None → table.rows.rows ≡ empty → AreTables old v → AreTables new (after (TableSet t (settings_in table) ∷ []) v)
-
--- a table is under its reference with its rows, its owner has it, and its name means it where it is found by that
-abbrev pub IsMade : Ref → tables.Table → Rows → Registry → Registry → Type 0
-IsMade t table rows old new = IsMadeOn t table rows old.shelves.value new.shelves.value
-
--- what it changes that a table is made (ets manual, `new/2`)
-abbrev pub changes_made : Ref → tables.Table → List Change
-changes_made t table = TableSet t table ∷ OwnedAdded table.owner t ∷ means_if table.is_named table.name t
-
--- what it changes that a table passes to a process (ets manual, `give_away/3`)
-abbrev pub changes_passed : Ref → Pid → Option tables.Table → List Change
-changes_passed t to None = []
-changes_passed t to (Some table) = OwnerSet t to ∷ OwnedRemoved table.owner t ∷ OwnedAdded to t ∷ []

@@ -1,2 +1,2 @@
+pub mod Alike
 pub mod Lending
-pub mod Passing

@@ -1,12 +1,13 @@
 // The tables of a world, the names under which they are found, and who has them.
 #![tactic(auto)]
 
-pub mod ends;
 mod entry;
 pub mod laws;
 mod name_map;
 pub mod registry;
+mod sameness;
 mod shelves;
+pub mod transfers;
 
-pub use ends::{Transfer, handle, transfer_message};
 pub use registry::Registry;
+pub use transfers::{Transfer, handle, transfer_message};

@@ -1,8 +1,8 @@
 // The references under their names.
-ghost use Rattle.std.specs.Prelude.{◌≡◌, OnOk, OnErr, Some, None, option_copied, option_map, if◌then◌else◌};
+ghost use Rattle.std.specs.Prelude.{◌≡◌, OnOk, OnErr, Some, None, option_copied, option_map, if◌then◌else◌, true};
 ghost use Rattle.world_model.specs.Names as names;
 ghost use Rattle.world_model.specs.Names.{same_name, ref_of};
-ghost use Rattle.ets_tables.specs.Shelves.{named_in};
+ghost use Rattle.ets_tables.specs.Shelves.{MeanTheSame, named_in};
 
 use std::alloc::{AllocError, Global};
 use std::collections::BTreeMap;
@@ -35,6 +35,13 @@ impl NameMap {
         NameMap {
             references: BTreeMap::new(alloc),
         }
+    }
+
+    /// Whether each name means the same. It takes no memory.
+    pub(crate) fn is_same(&self, other: &NameMap) -> bool
+        ensures { result ≡ true → MeanTheSame self.now other.now }
+    {
+        self.references == other.references
     }
 
     /// What a name means, if anything. It takes no memory.

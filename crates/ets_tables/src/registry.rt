@@ -33,8 +33,7 @@ impl Drop for Registry {
 impl Registry {
     ghost use Rattle.std.specs.Borrow.{sem};
     ghost use Rattle.ets_tables.specs.Lending.{LendsTable};
-    ghost use Rattle.ets_tables.specs.Shelves.{AreSame};
-    ghost use Rattle.ets_tables.specs.Tables.{AreTables, IsUnchanged, IsMade, IsTableAdded, changes_made, changes_passed, changes_destroyed, held_at, table_at, rows_at, meant_by, owned_by};
+    ghost use Rattle.ets_tables.specs.Tables.{AreTables, IsUnchanged, IsTableAdded, held_at, table_at, rows_at, meant_by, owned_by};
 
     /// No tables, or `AllocError` if there is no memory.
     pub fn new(alloc: Global) -> Result<Registry, AllocError>
@@ -82,29 +81,6 @@ impl Registry {
         self.shelves.owned.of(pid)
     }
 
-    /// A copy of the shelves, to be written and put in the place of these.
-    pub(crate) fn copied(&self) -> Result<Shelves, AllocError>
-        ensures { IfOk result (λ copied. AreSame self.now.shelves.value copied) }
-    {
-        let shelves: &Shelves = &self.shelves;
-        let copied = shelves.clone()?;
-        Ok(copied)
-    }
-
-    /// Puts a new table under its reference, among those of its owner, and where it is found by its name under
-    /// that (ets manual, `new/2`). `AllocError` if there is no memory: then nothing is changed, and the table is
-    /// dropped.
-    pub fn make(&mut self, alloc: Global, id: &RefId, table: Table) -> Result<(), AllocError>
-        ensures ok { OnOk result (IsMade (ref_of id.now) (settings_in table) table.rows.rows self.old self.new) }
-        ensures cells { OnOk result ((v : Contents) → rows_at self.old (ref_of id.now) ≡ table.rows.rows → AreTables self.old v → AreTables self.new (after (changes_made (ref_of id.now) (settings_in table)) v)) }
-        ensures err { OnErr result (IsUnchanged self.old self.new) }
-    {
-        let mut shelves = self.copied()?;
-        shelves.make(alloc, id, table)?;
-        self.shelves = Arc::new(alloc, shelves)?;
-        Ok(())
-    }
-
     /// Gives the table of a reference, if there is one, another heir, or none (ets manual, `setopts/2`).
     /// `AllocError` if there is no memory for what is shared with a copy: then nothing is changed, and the heir is
     /// dropped.
@@ -114,38 +90,6 @@ impl Registry {
     {
         let shelves = Arc::make_mut(&mut self.shelves)?;
         shelves.inherit(id, heir)?;
-        Ok(())
-    }
-
-    /// Makes a process the owner of the table of a reference, if there is one, in the place of its owner so far
-    /// (ets manual, `give_away/3`). `AllocError` if there is no memory: then nothing is changed.
-    pub fn pass(&mut self, alloc: Global, id: &RefId, to: &Pid) -> Result<(), AllocError>
-        ensures ok { OnOk result ((v : Contents) → AreTables self.old v → AreTables self.new (after (changes_passed (ref_of id.now) to.now (table_at self.old (ref_of id.now))) v)) }
-        ensures err { OnErr result (IsUnchanged self.old self.new) }
-    {
-        let Some(table) = self.get(id) else {
-            return Ok(());
-        };
-        let owner = table.owner.copy()?;
-        let mut shelves = self.copied()?;
-        shelves.pass(id, to)?;
-        shelves.lose(&owner, id)?;
-        shelves.gain(alloc, to, id)?;
-        self.shelves = Arc::new(alloc, shelves)?;
-        Ok(())
-    }
-
-    /// Takes the table of a reference away, if there is one, with its rows, from its owner, and from its name
-    /// where it is found by that (ets manual, `delete/1`). `AllocError` if there is no memory for what is shared
-    /// with a copy: then nothing is changed.
-    pub fn destroy(&mut self, id: &RefId) -> Result<(), AllocError>
-        ensures ok { OnOk result ((v : Contents) → AreTables self.old v → AreTables self.new (after (changes_destroyed (ref_of id.now) (table_at self.old (ref_of id.now))) v)) }
-        ensures err { OnErr result (IsUnchanged self.old self.new) }
-    {
-        let mut shelves = self.copied()?;
-        shelves.destroy(id)?;
-        let place = Arc::make_mut(&mut self.shelves)?;
-        *place = shelves;
         Ok(())
     }
 

@@ -1,11 +1,9 @@
 // Where the tables are kept: each change of a cell of the explored world is a method here.
 ghost use Rattle.std.specs.FinMap.{empty};
-ghost use Rattle.std.specs.Prelude.{◌≡◌, ◌∷◌, [], IfOk, IsSome, OnOk, OnErr, Some, None, option_copied, option_map};
+ghost use Rattle.std.specs.Prelude.{◌≡◌, [], IfOk, IsSome, OnOk, OnErr, Some, None, option_copied, option_map};
 ghost use Rattle.ets_store.specs.Tables.{settings_in, heir_in};
-ghost use Rattle.world_model.specs.Ends.{name_freed};
 ghost use Rattle.world_model.specs.Names as names;
-ghost use Rattle.world_model.specs.Cells.{Contents};
-ghost use Rattle.world_model.specs.Changes.{after, set_in_order, without_first, TableRemoved, RowsCleared};
+ghost use Rattle.world_model.specs.Changes.{set_in_order, without_first};
 ghost use Rattle.world_model.specs.Names.{same_ref, order_of_refs, ref_of};
 ghost use Rattle.world_model.specs.Tables.{owned_by, with_heir};
 
@@ -45,7 +43,7 @@ impl Clone for Shelves {
 impl Shelves {
     ghost use Rattle.std.specs.Borrow.{sem};
     ghost use Rattle.ets_tables.specs.inside.Lending.{LendsShelved};
-    ghost use Rattle.ets_tables.specs.Shelves.{AreSame, AreShelved, IsAltered, IsMeant, IsOwned, IsMadeOn, changes_destroyed, table_on, rows_on, held_on, meant_on, owned_on};
+    ghost use Rattle.ets_tables.specs.Shelves.{AreSame, IsAltered, IsMeant, IsOwned, table_on, rows_on, held_on, meant_on, owned_on};
 
     /// Empty shelves.
     pub(crate) fn new(alloc: Global) -> Result<Shelves, AllocError>
@@ -163,50 +161,6 @@ impl Shelves {
     {
         let groups = Arc::make_mut(&mut self.owned)?;
         groups.clear(pid);
-        Ok(())
-    }
-
-    /// A new table is put under its reference, its owner has it, and its name means it where it is found by that.
-    pub(crate) fn make(&mut self, alloc: Global, id: &RefId, table: Table) -> Result<(), AllocError>
-        ensures { OnOk result (IsMadeOn (ref_of id.now) (settings_in table) table.rows.rows self.old self.new) }
-    {
-        let owner = table.owner.copy()?;
-        let name = table.name.copy()?;
-        let is_named = table.is_named;
-        self.put(alloc, id, table)?;
-        self.gain(alloc, &owner, id)?;
-        if !is_named {
-            return Ok(());
-        }
-        self.mean(&name, id)?;
-        Ok(())
-    }
-
-    /// A table goes, with all its rows; its owner no longer has it, and its name means nothing where it was found by
-    /// that.
-    pub(crate) fn destroy(&mut self, id: &RefId) -> Result<(), AllocError>
-        ensures { OnOk result ((v : Contents) → AreShelved self.old v → AreShelved self.new (after (changes_destroyed (ref_of id.now) (table_on self.old (ref_of id.now))) v)) }
-    {
-        let Some(entry) = self.take(id) else {
-            return Ok(());
-        };
-        let table: &Table = &entry;
-        self.lose(&table.owner, id)?;
-        if !table.is_named {
-            return Ok(());
-        }
-        self.free(&table.name)?;
-        Ok(())
-    }
-
-    /// A table goes, with all its rows, and its name means nothing where it was found by that.
-    pub(crate) fn forget(&mut self, id: &RefId, table: &Table) -> Result<(), AllocError>
-        ensures { OnOk result ((v : Contents) → AreShelved self.old v → AreShelved self.new (after (TableRemoved (ref_of id.now) ∷ RowsCleared (ref_of id.now) ∷ name_freed (settings_in table.now)) v)) }
-    {
-        drop(self.take(id));
-        if table.is_named {
-            self.free(&table.name)?;
-        }
         Ok(())
     }
 }

@@ -6,6 +6,8 @@ mod ends;
 #[cfg(test)]
 mod links;
 #[cfg(test)]
+mod sameness;
+#[cfg(test)]
 mod signals;
 #[cfg(test)]
 mod table_rows;

@@ -314,10 +314,10 @@ fn flushes(alloc: Global, own: &RefId, other: &RefId) -> Result<bool, AllocError
     mailbox.put(tuple(alloc, 5, other)?)?;
     mailbox.put(tuple(alloc, 5, own)?)?;
     mailbox.put(tuple(alloc, 6, own)?)?;
-    let was_there = mailbox.has_down(own) && mailbox.has_down(other);
+    let was_there = mailbox.down(own).is_some() && mailbox.down(other).is_some();
     mailbox.flush_down(own)?;
     let flushed = mailbox.len() == 3 && is_of_five(mailbox.get(1)) && !is_of_five(mailbox.get(2));
-    let is_told = was_there && !mailbox.has_down(own) && mailbox.has_down(other);
+    let is_told = was_there && mailbox.down(own).is_none() && mailbox.down(other).is_some();
     mailbox.flush_down(own)?;
     Ok(flushed && is_told && mailbox.len() == 3)
 }

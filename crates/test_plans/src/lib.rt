@@ -6,4 +6,6 @@ mod lives;
 #[cfg(test)]
 mod plans;
 #[cfg(test)]
+mod sameness;
+#[cfg(test)]
 mod worlds;

@@ -2,6 +2,7 @@
 ghost use Rattle.std.specs.Prelude.{◌≡◌, false};
 
 use core_reader::{Module, ReadFault, read_module};
+use ets_rules::TableChange;
 use std::alloc::{AllocError, Global};
 use std::test::Fail;
 use term_core::{
@@ -196,6 +197,24 @@ fn cell_word(cell: &Cell) -> &'static str {
     }
 }
 
+// The word of a change of tables.
+fn table_word(change: &TableChange) -> &'static str {
+    match change {
+        TableChange::RowWritten(_, _, _) => "RowWritten",
+        TableChange::RowsCleared(_) => "RowsCleared",
+        TableChange::TableSet(_, _, _, _) => "TableSet",
+        TableChange::TableTouched(_) => "CellTouched",
+        TableChange::OwnerSet(_, _) => "OwnerSet",
+        TableChange::HeirSet(_, _) => "HeirSet",
+        TableChange::TableRemoved(_) => "TableRemoved",
+        TableChange::NameSet(_, _) => "TableNameSet",
+        TableChange::NameCleared(_) => "TableNameCleared",
+        TableChange::OwnedAdded(_, _) => "OwnedAdded",
+        TableChange::OwnedRemoved(_, _) => "OwnedRemoved",
+        TableChange::OwnedCleared(_) => "OwnedCleared",
+    }
+}
+
 // The word of a change.
 fn change_word(change: &Change) -> &'static str {
     match change {
@@ -212,17 +231,7 @@ fn change_word(change: &Change) -> &'static str {
         Change::NameRegistered(_, _) => "NameRegistered",
         Change::NameUnregistered(_, _) => "NameUnregistered",
         Change::NameCleared(_) => "NameCleared",
-        Change::RowWritten(_, _, _) => "RowWritten",
-        Change::RowsCleared(_) => "RowsCleared",
-        Change::TableSet(_, _, _, _) => "TableSet",
-        Change::OwnerSet(_, _) => "OwnerSet",
-        Change::HeirSet(_, _) => "HeirSet",
-        Change::TableRemoved(_) => "TableRemoved",
-        Change::TableNameSet(_, _) => "TableNameSet",
-        Change::TableNameCleared(_) => "TableNameCleared",
-        Change::OwnedAdded(_, _) => "OwnedAdded",
-        Change::OwnedRemoved(_, _) => "OwnedRemoved",
-        Change::OwnedCleared(_) => "OwnedCleared",
+        Change::OfTables(change) => table_word(change),
         Change::CellTouched(_) => "CellTouched",
     }
 }

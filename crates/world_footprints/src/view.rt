@@ -1,5 +1,6 @@
 // Cells as they are looked at: those that a step reads, and those of its changes. None of this takes memory.
 ghost use Rattle.std.specs.Prelude.{◌≡◌, ◌∷◌, [], map};
+ghost use Rattle.ets_rules.specs.Changes.{changes_of_tables};
 ghost use Rattle.world_model.specs.Names.{ref_of};
 ghost use Rattle.world_footprints.specs.Deeds.{deed_in};
 ghost use Rattle.world_footprints.specs.Plans.{first_changes, first_of_delivery, first_of_turn};
@@ -12,6 +13,7 @@ ghost use Rattle.world_records.specs.declared.cell.ReferencePart.TheVariants.{Wa
 ghost use Rattle.world_records.specs.Changes.{changes_in};
 
 use crate::deed::Deed;
+use ets_rules::TableChange;
 use term_core::{Atom, Pid, RefId, Step, Term};
 use world_records::{Cell, Change, ChannelPart, NamePart, ProcessPart, ReferencePart};
 
@@ -98,6 +100,30 @@ fn of_holder<'a>(name: &'a Atom, pid: &'a Pid) -> Views<'a>
     )
 }
 
+// The cells that a change of tables is of.
+fn table_cells(change: &TableChange) -> Views<'_>
+    ensures { views_in result ≡ map cell_of (changes_of_tables change.now) }
+{
+    match change {
+        TableChange::RowWritten(id, key, _) => (View::Row(id, key), None),
+        TableChange::RowsCleared(id) => (View::Rows(id), None),
+        TableChange::TableSet(id, _, _, _)
+        | TableChange::TableTouched(id)
+        | TableChange::OwnerSet(id, _)
+        | TableChange::HeirSet(id, _) => of_reference(ReferencePart::Table, id),
+        TableChange::TableRemoved(id) => (
+            View::OfReference(ReferencePart::Table, id),
+            Some(View::Rows(id)),
+        ),
+        TableChange::NameSet(name, _) | TableChange::NameCleared(name) => {
+            (View::OfName(NamePart::TableName, name), None)
+        }
+        TableChange::OwnedAdded(pid, _)
+        | TableChange::OwnedRemoved(pid, _)
+        | TableChange::OwnedCleared(pid) => of_process(ProcessPart::Owned, pid),
+    }
+}
+
 /// The cells that a change is of.
 pub(crate) fn changed_cells(change: &Change) -> Views<'_>
     ensures { views_in result ≡ map cell_of (changes_in change.now) }
@@ -119,21 +145,7 @@ pub(crate) fn changed_cells(change: &Change) -> Views<'_>
             name, pid,
         ),
         Change::NameCleared(pid) => of_process(ProcessPart::NameOf, pid),
-        Change::RowWritten(id, key, _) => (View::Row(id, key), None),
-        Change::RowsCleared(id) => (View::Rows(id), None),
-        Change::TableSet(id, _, _, _) | Change::OwnerSet(id, _) | Change::HeirSet(id, _) => {
-            of_reference(ReferencePart::Table, id)
-        }
-        Change::TableRemoved(id) => (
-            View::OfReference(ReferencePart::Table, id),
-            Some(View::Rows(id)),
-        ),
-        Change::TableNameSet(name, _) | Change::TableNameCleared(name) => {
-            (View::OfName(NamePart::TableName, name), None)
-        }
-        Change::OwnedAdded(pid, _) | Change::OwnedRemoved(pid, _) | Change::OwnedCleared(pid) => {
-            of_process(ProcessPart::Owned, pid)
-        }
+        Change::OfTables(change) => table_cells(change),
         Change::CellTouched(cell) => (view_of(cell), None),
     }
 }

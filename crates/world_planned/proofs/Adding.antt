@@ -1,5 +1,7 @@
 -- How what is planned grows.
 use Rattle.std.proofs.Common.{◌≡◌, ◌∙◌, List, [], ◌∷◌, ◌++◌, map, refl, sym, ap, append_assoc}
+use Rattle.ets_rules.specs.Changes.{all_changes_of_tables, changes_of_tables}
+use Rattle.ets_rules.specs.declared.change.TableChange.{TableChange}
 use Rattle.world_model.specs.Cells.{Cell}
 use Rattle.world_model.specs.Changes.{Change}
 use Rattle.world_records.specs.Cells.{cell_in, cells_in}
@@ -39,6 +41,27 @@ adds_then rs ss ks ls f g h first then_ = record {
   more_reads = then_.more_reads ∙ ap (λ zs. zs ++ ss) first.more_reads ∙ append_assoc (cells_in f.reads.items) rs ss;
   more_changes = then_.more_changes ∙ ap (λ zs. zs ++ ls) first.more_changes ∙ append_assoc (all_changes_in f.changes.items) ks ls;
 }
+
+-- ---- changes of tables that are added one by one
+
+-- those that are left come next
+pub record IsAdding (all left : List TableChange) (old new : Planned) : Type 0 where
+  pub same_reads : cells_in new.reads.items ≡ cells_in old.reads.items
+  pub with_rest : all_changes_in new.changes.items ++ all_changes_of_tables left ≡ all_changes_in old.changes.items ++ all_changes_of_tables all
+
+pub adding_on : (all : List TableChange) (c : TableChange) (left : List TableChange) (f g h : Planned) → IsAdding all (c ∷ left) f g → Adds [] (changes_of_tables c) g h → IsAdding all left f h
+adding_on all c left f g h before adds = record {
+  same_reads = adds.more_reads ∙ end_nil (cells_in g.reads.items) ∙ before.same_reads;
+  with_rest = ap (λ ks. ks ++ all_changes_of_tables left) adds.more_changes ∙ append_assoc (all_changes_in g.changes.items) (changes_of_tables c) (all_changes_of_tables left) ∙ before.with_rest;
+}
+
+pub adding_ends : (all left : List TableChange) (f g : Planned) → left ≡ [] → IsAdding all left f g → Adds [] (all_changes_of_tables all) f g
+adding_ends all left f g none adding = record {
+  more_reads = adding.same_reads ∙ sym (end_nil (cells_in f.reads.items));
+  more_changes = sym (end_nil (all_changes_in g.changes.items)) ∙ ap (λ cs. all_changes_in g.changes.items ++ all_changes_of_tables cs) (sym none) ∙ adding.with_rest;
+}
+
+-- ---- the same
 
 -- the same under another name
 pub adds_as : (rs ss : List Cell) (ks ls : List Change) (f g : Planned) → rs ≡ ss → ks ≡ ls → Adds rs ks f g → Adds ss ls f g

@@ -1,4 +1,5 @@
 pub mod Messages
+pub mod Outliving
 pub mod Planned
 pub mod PlannedCalls
 pub mod Seen

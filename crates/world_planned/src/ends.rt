@@ -1,145 +1,82 @@
 // What a process leaves to others at its end, and what that reads (Erlang reference manual, "Processes": "Process
 // Termination").
-ghost use Rattle.std.specs.Prelude.{◌≡◌, ◌∷◌, [], IfOk, OnOk, map};
-ghost use Rattle.world_model.specs.Names.{ref_of};
+ghost use Rattle.std.specs.Prelude.{◌≡◌, ◌∷◌, [], OnOk, map};
+ghost use Rattle.proc_links.specs.Links.{partners_in};
+ghost use Rattle.proc_links.specs.Put.{put_of, puts_by};
+ghost use Rattle.proc_links.specs.Watchers.{watchers_in};
 ghost use Rattle.proc_links.specs.declared.links.Links as declared;
-ghost use Rattle.proc_signals.specs.Signal.{signal_of};
 ghost use Rattle.world_planned.specs.inside.Planned.{Adds};
-ghost use Rattle.world_planned.specs.inside.Seen.{AtEnd, PlansPartners, PlansPut, PlansWatchers, SeesEnd};
+ghost use Rattle.world_planned.specs.inside.Seen.{PlansTold, SeesEnd};
 ghost use Rattle.term_core.specs.Term.{meaning_of};
 ghost use Rattle.world_model.specs.Cells as cells;
 ghost use Rattle.world_model.specs.Cells.{Contents};
 ghost use Rattle.world_model.specs.Changes as changes;
 ghost use Rattle.world_model.specs.Changes.{AliveCleared, changed};
 ghost use Rattle.world_model.specs.Ends.{left_by, name_left, reads_of_end};
-ghost use Rattle.world_model.specs.Events.{Down, LinkExit};
 
 use crate::planned::Planned;
-use crate::readings::outlives;
+use crate::readings::Outliving;
 use crate::tables::end_tables;
-use proc_links::Links;
+use ets_rules::TableChange;
+use proc_links::{Links, Watchers, on_end};
 use proc_signals::Signal;
 use std::alloc::{AllocError, Global};
-use std::collections::BTreeSet;
-use term_core::{Pid, RefId, Term};
+use term_core::{Pid, Term};
 use world_records::{Change, ProcessPart, Records};
 
-// A process that may be informed of an end: whether it lives is read, and if it does it is informed by this signal.
+// Whether each partner of a process lives is read.
+fn read_partners(links: &Links, pid: &Pid, planned: &mut Planned) -> Result<(), AllocError>
+    ensures { OnOk result (Adds (map cells.Alive (partners_in links.now pid.now)) [] planned.old planned.new) }
+{
+    let Some(partners) = links.partners(pid) else {
+        return Ok(());
+    };
+    for partner in partners.iter() {
+        planned.read_process(ProcessPart::Alive, partner)?;
+    }
+    Ok(())
+}
+
+// Whether the maker of each watch of a process lives is read.
+fn read_makers(watchers: &Watchers, pid: &Pid, planned: &mut Planned) -> Result<(), AllocError>
+    ensures { OnOk result (Adds (map (λ ref. cells.Alive ref.pid) (watchers_in watchers.now pid.now)) [] planned.old planned.new) }
+{
+    let Some(references) = watchers.watchers_of(pid) else {
+        return Ok(());
+    };
+    for reference in references.iter() {
+        planned.read_process(ProcessPart::Alive, reference.pid())?;
+    }
+    Ok(())
+}
+
+// A process puts these signals.
+fn put(pid: &Pid, told: Vec<(Pid, Signal)>, planned: &mut Planned) -> Result<(), AllocError>
+    ensures { OnOk result (Adds [] (puts_by pid.now (map put_of told.items)) planned.old planned.new) }
+{
+    for (to, signal) in told {
+        planned.change(Change::SignalPut(pid.copy()?, to, signal))?;
+    }
+    Ok(())
+}
+
+// The partners and the watchers of a process that ends: whether each lives is read, and those that do are informed.
 fn tell(
     records: &Records<'_>,
-    pid: &Pid,
-    to: &Pid,
-    signal: Signal,
-    planned: &mut Planned,
-) -> Result<(), AllocError>
-    ensures { OnOk result (AtEnd records.now (λ w. PlansPut w pid.now to.now (signal_of signal) planned.old planned.new)) }
-{
-    planned.read_process(ProcessPart::Alive, to)?;
-    if outlives(records, pid, to) {
-        planned.change(Change::SignalPut(pid.copy()?, to.copy()?, signal))?;
-    }
-    Ok(())
-}
-
-// A partner may be informed of an end.
-fn tell_partner(
-    records: &Records<'_>,
-    pid: &Pid,
-    partner: &Pid,
-    reason: &Term,
-    planned: &mut Planned,
-) -> Result<(), AllocError>
-    ensures { OnOk result (AtEnd records.now (λ w. PlansPut w pid.now partner.now (LinkExit (meaning_of reason.now)) planned.old planned.new)) }
-{
-    let signal = Signal::LinkExit(reason.copy()?);
-    tell(records, pid, partner, signal, planned)?;
-    Ok(())
-}
-
-// Each of these partners may be informed of an end.
-fn tell_pids(
-    records: &Records<'_>,
-    pid: &Pid,
-    partners: &BTreeSet<Pid>,
-    reason: &Term,
-    planned: &mut Planned,
-) -> Result<(), AllocError>
-    ensures { OnOk result (AtEnd records.now (λ w. PlansPartners w pid.now (meaning_of reason.now) partners.now.keys planned.old planned.new)) }
-{
-    for partner in partners.iter() {
-        tell_partner(records, pid, partner, reason, planned)?;
-    }
-    Ok(())
-}
-
-// The partners of a process that ends.
-fn tell_partners(
-    records: &Records<'_>,
+    alloc: Global,
     links: &Links,
     pid: &Pid,
     reason: &Term,
     planned: &mut Planned,
 ) -> Result<(), AllocError>
-    ensures { OnOk result ((w : Contents) → SeesEnd records.now links.now w → PlansPartners w pid.now (meaning_of reason.now) (w (cells.Links pid.now)) planned.old planned.new) }
+    ensures { OnOk result ((w : Contents) → SeesEnd records.now links.now w → PlansTold w pid.now (meaning_of reason.now) planned.old planned.new) }
 {
-    let Some(partners) = links.partners(pid) else {
-        return Ok(());
-    };
-    tell_pids(records, pid, partners, reason, planned)?;
-    Ok(())
-}
-
-// The signal of a watch that ends with its process.
-fn down(reference: &RefId, reason: &Term) -> Result<Signal, AllocError>
-    ensures { IfOk result (λ signal. signal_of signal ≡ Down (ref_of reference.now) (meaning_of reason.now)) }
-{
-    Ok(Signal::Down(reference.copy()?, reason.copy()?))
-}
-
-// The maker of this reference may be informed of an end.
-fn tell_maker(
-    records: &Records<'_>,
-    pid: &Pid,
-    reference: &RefId,
-    reason: &Term,
-    planned: &mut Planned,
-) -> Result<(), AllocError>
-    ensures { OnOk result (AtEnd records.now (λ w. PlansPut w pid.now (ref_of reference.now).pid (Down (ref_of reference.now) (meaning_of reason.now)) planned.old planned.new)) }
-{
-    let signal = down(reference, reason)?;
-    tell(records, pid, reference.pid(), signal, planned)?;
-    Ok(())
-}
-
-// Each of the makers of these references may be informed of an end.
-fn tell_makers(
-    records: &Records<'_>,
-    pid: &Pid,
-    references: &BTreeSet<RefId>,
-    reason: &Term,
-    planned: &mut Planned,
-) -> Result<(), AllocError>
-    ensures { OnOk result (AtEnd records.now (λ w. PlansWatchers w pid.now (meaning_of reason.now) (map ref_of references.now.keys) planned.old planned.new)) }
-{
-    for reference in references.iter() {
-        tell_maker(records, pid, reference, reason, planned)?;
-    }
-    Ok(())
-}
-
-// Those who watch a process that ends.
-fn tell_watchers(
-    records: &Records<'_>,
-    pid: &Pid,
-    reason: &Term,
-    planned: &mut Planned,
-) -> Result<(), AllocError>
-    ensures { OnOk result (AtEnd records.now (λ w. PlansWatchers w pid.now (meaning_of reason.now) (w (cells.Watchers pid.now)) planned.old planned.new)) }
-{
-    let Some(references) = records.watchers().watchers_of(pid) else {
-        return Ok(());
-    };
-    tell_makers(records, pid, references, reason, planned)?;
+    let watchers = records.watchers();
+    read_partners(links, pid, planned)?;
+    read_makers(watchers, pid, planned)?;
+    let living = Outliving { records, pid };
+    let told = on_end(alloc, pid, reason, &living, links, watchers)?;
+    put(pid, told, planned)?;
     Ok(())
 }
 
@@ -147,7 +84,7 @@ fn tell_watchers(
 fn empty(pid: &Pid, planned: &mut Planned) -> Result<(), AllocError>
     ensures { OnOk result (Adds [] (changes.OwnedCleared pid.now ∷ []) planned.old planned.new) }
 {
-    planned.change(Change::OwnedCleared(pid.copy()?))?;
+    planned.change(Change::OfTables(TableChange::OwnedCleared(pid.copy()?)))?;
     Ok(())
 }
 
@@ -195,8 +132,7 @@ pub fn leave(
     read_itself(pid, planned)?;
     end_tables(records, alloc, pid, planned)?;
     empty(pid, planned)?;
-    tell_partners(records, links, pid, reason, planned)?;
-    tell_watchers(records, pid, reason, planned)?;
+    tell(records, alloc, links, pid, reason, planned)?;
     leave_name(records, pid, planned)?;
     Ok(())
 }

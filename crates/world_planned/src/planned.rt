@@ -1,5 +1,6 @@
 // What is planned of a step so far: the cells that it reads, and what it changes.
 ghost use Rattle.std.specs.Prelude.{◌≡◌, ◌∷◌, [], IfOk, OnOk};
+ghost use Rattle.ets_rules.specs.Changes.{all_changes_of_tables, sent_by};
 ghost use Rattle.world_model.specs.Names.{ref_of};
 ghost use Rattle.world_planned.specs.inside.Planned.{Adds};
 ghost use Rattle.term_core.specs.Term.{meaning_of};
@@ -8,6 +9,8 @@ ghost use Rattle.world_model.specs.Changes as touched;
 ghost use Rattle.world_records.specs.Cells.{cell_in, cells_in, channel_cell, name_cell, process_cell, reference_cell};
 ghost use Rattle.world_records.specs.Changes.{all_changes_in, changes_in};
 
+use ets_rules::{TableChange, Transfer};
+use proc_signals::Signal;
 use std::alloc::{AllocError, Global};
 use term_core::{Atom, Pid, RefId, Term};
 use world_records::{Cell, Change, ChannelPart, NamePart, ProcessPart, ReferencePart};
@@ -53,6 +56,32 @@ impl Planned {
     {
         self.changes.push(change)?;
         Ok(())
+    }
+
+    /// The tables change in all these ways, one after the other. `AllocError` if there is no memory.
+    pub fn change_tables(&mut self, changes: Vec<TableChange>) -> Result<(), AllocError>
+        ensures { OnOk result (Adds [] (all_changes_of_tables changes.items) self.old self.new) }
+    {
+        for change in changes {
+            self.change(Change::OfTables(change))?;
+        }
+        Ok(())
+    }
+
+    /// A process puts the message to a new owner of a table, if there is one. `AllocError` if there is no memory.
+    pub fn tell_owner(
+        &mut self,
+        from: &Pid,
+        transfer: Option<Transfer>,
+    ) -> Result<(), AllocError>
+        ensures { OnOk result (Adds [] (sent_by from.now transfer) self.old self.new) }
+    {
+        match transfer {
+            Some(Transfer { to, message }) => {
+                self.change(Change::SignalPut(from.copy()?, to, Signal::Message(message)))
+            }
+            None => Ok(()),
+        }
     }
 
     /// A cell of a process is read. `AllocError` if there is no memory.
@@ -101,6 +130,7 @@ impl Planned {
     {
         self.read(Cell::Rows(id.copy()?))
     }
+
     /// A cell of a process counts as written, and holds what it did. `AllocError` if there is no memory.
     pub fn touch_process(&mut self, part: ProcessPart, pid: &Pid) -> Result<(), AllocError>
         ensures { OnOk result (Adds [] (touched.CellTouched (process_cell part pid.now) ∷ []) self.old self.new) }

@@ -1,6 +1,7 @@
 // What the records of a world say of single cells. None of this takes memory.
 ghost use Rattle.std.specs.List.{list_any};
-ghost use Rattle.std.specs.Prelude.{◌≡◌, true, option_copied, option_map, is_some};
+ghost use Rattle.std.specs.Prelude.{◌≡◌, true, option_copied, option_map};
+ghost use Rattle.proc_links.specs.Process.{are_trapped, is_alive};
 ghost use Rattle.proc_machines.specs.Processes.{lives_in};
 ghost use Rattle.proc_signals.specs.Signal.{signal_of};
 ghost use Rattle.term_core.specs.Term.{meaning_of};
@@ -13,7 +14,7 @@ ghost use Rattle.world_model.specs.Names.{same_pid, ref_of};
 ghost use Rattle.world_model.specs.Signals.{first_of, waiting_in};
 ghost use Rattle.world_records.specs.Records.{OfWorld, processes_of};
 
-use proc_links::Exits;
+use proc_links::{Exits, Life, Living};
 use proc_signals::Signal;
 use term_core::{Atom, Pid, RefId, Term};
 use world_records::Records;
@@ -25,21 +26,53 @@ pub fn lives(records: &Records<'_>, pid: &Pid) -> bool
     records.processes().lives(pid)
 }
 
+/// Whether a process lives, as calls of links and names ask it.
+pub fn life(records: &Records<'_>, pid: &Pid) -> Life
+    ensures { OfWorld records.now (λ m v. is_alive result ≡ v (cells.Alive pid.now)) }
+{
+    if lives(records, pid) {
+        return Life::Lives;
+    }
+    Life::Gone
+}
+
+/// The processes that live when one is dead.
+#[derive(Drop)]
+pub(crate) struct Outliving<'r, 'm> {
+    pub(crate) records: &'r Records<'m>,
+    pub(crate) pid: &'r Pid,
+}
+
+impl<'r, 'm> Living for Outliving<'r, 'm> {
+    ghost use Rattle.world_planned.specs.inside.Outliving.{outlives_by};
+
+    ghost lives = { outlives_by };
+
+    fn lives(&self, pid: &Pid) -> bool {
+        *self.pid != *pid && self.records.processes().lives(pid)
+    }
+}
+
 /// Whether a process lives when another one is dead.
 pub(crate) fn outlives(records: &Records<'_>, pid: &Pid, other: &Pid) -> bool
     ensures { (w : Contents) → ((q : names.Pid) → lives_in (processes_of records.now) q ≡ w (cells.Alive q)) → result ≡ changed (AliveCleared pid.now) w (cells.Alive other.now) }
 {
-    if *pid == *other {
-        return false;
-    }
-    records.processes().lives(other)
+    let living = Outliving { records, pid };
+    living.lives(other)
 }
 
-/// Whether a process traps exits (erlang manual, `process_flag/2`).
+/// What exit signals are to a process (erlang manual, `process_flag/2`).
+pub fn exits(records: &Records<'_>, pid: &Pid) -> Exits
+    ensures { OfWorld records.now (λ m v. are_trapped result ≡ v (cells.Trap pid.now)) }
+{
+    records.processes().exits(pid)
+}
+
+/// Whether a process traps exits.
 pub fn traps(records: &Records<'_>, pid: &Pid) -> bool
     ensures { OfWorld records.now (λ m v. result ≡ v (cells.Trap pid.now)) }
 {
-    match records.processes().exits(pid) {
+    match exits(records, pid) {
         Exits::Trapped => true,
         Exits::Untrapped => false,
     }
@@ -57,13 +90,6 @@ pub fn holder<'r>(records: &'r Records<'_>, name: &Atom) -> Option<&'r Pid>
     ensures { OfWorld records.now (λ m v. option_copied result ≡ v (cells.Holder name.now)) }
 {
     records.names().whereis(name)
-}
-
-/// Whether a process has a name.
-pub fn has_name(records: &Records<'_>, pid: &Pid) -> bool
-    ensures { OfWorld records.now (λ m v. result ≡ is_some (v (cells.NameOf pid.now))) }
-{
-    records.names().name_of(pid).is_some()
 }
 
 /// The process that a reference watches.

@@ -1,108 +1,54 @@
 // The tables of a process that ends (ets manual, `new/2`, option `heir`).
-ghost use Rattle.std.specs.Prelude.{[], None, OnOk, Some, map};
-ghost use Rattle.ets_store.specs.Tables.{heir_in, settings_in};
+ghost use Rattle.std.specs.Prelude.{◌≡◌, [], OnOk, map, option_copied, option_map};
+ghost use Rattle.ets_store.specs.Tables.{settings_in};
 ghost use Rattle.world_model.specs.Names.{ref_of};
 ghost use Rattle.world_planned.specs.inside.Planned.{Adds};
 ghost use Rattle.world_model.specs.Cells as cells;
-ghost use Rattle.world_model.specs.Ends.{alive_if, heir_pid, heir_read, name_freed, passed};
-ghost use Rattle.world_model.specs.Names as names;
-ghost use Rattle.world_planned.specs.inside.Seen.{AtEnd, PlansPassing, PlansTable, PlansTables, WhereAlive};
+ghost use Rattle.world_model.specs.Changes.{AliveCleared, changed};
+ghost use Rattle.world_model.specs.Ends.{alive_if};
+ghost use Rattle.world_planned.specs.inside.Seen.{AtEnd, PlansTable, PlansTables, WhereAlive, heir_of_table, lives_if};
 
 use crate::planned::Planned;
 use crate::readings::outlives;
-use ets_store::{Heir, Table};
-use ets_tables::transfer_message;
-use proc_signals::Signal;
+use ets_rules::{Passed, pass_on};
+use ets_store::Table;
 use std::alloc::{AllocError, Global};
 use std::collections::BTreeSet;
 use term_core::{Pid, RefId};
-use world_records::{Change, ProcessPart, Records, ReferencePart};
+use world_records::{ProcessPart, Records, ReferencePart};
 
-/// The name by which a table is found means nothing from now on, if there is one. `AllocError` if there is no memory.
-pub fn free_name(table: &Table, planned: &mut Planned) -> Result<(), AllocError>
-    ensures { OnOk result (Adds [] (name_freed (settings_in table.now)) planned.old planned.new) }
+// The process that inherits a table, where one is there and has an heir.
+fn heir_of<'t>(table: Option<&'t Table>) -> Option<&'t Pid>
+    ensures { option_copied result ≡ heir_of_table (option_map settings_in (option_copied table.entry)) }
 {
-    if table.is_named {
-        return planned.change(Change::TableNameCleared(table.name.copy()?));
+    let table = table?;
+    match &table.heir {
+        Some(heir) => Some(&heir.pid),
+        None => None,
     }
-    Ok(())
 }
 
-// A table goes, with all its rows.
-fn goes(id: &RefId, table: &Table, planned: &mut Planned) -> Result<(), AllocError>
-    ensures { OnOk result ((p : names.Pid) → Adds [] (passed p (ref_of id.now) (settings_in table.now) None) planned.old planned.new) }
-{
-    planned.change(Change::TableRemoved(id.copy()?))?;
-    free_name(table, planned)?;
-    Ok(())
-}
-
-// A table passes to its heir, which is informed.
-fn passes(
-    alloc: Global,
-    pid: &Pid,
-    id: &RefId,
-    table: &Table,
-    heir: &Heir,
-    planned: &mut Planned,
-) -> Result<(), AllocError>
-    ensures { OnOk result (Adds [] (passed pid.now (ref_of id.now) (settings_in table.now) (heir_in (Some heir.now))) planned.old planned.new) }
-{
-    let message = transfer_message(alloc, id, table, pid, &heir.data)?;
-    planned.change(Change::OwnerSet(id.copy()?, heir.pid.copy()?))?;
-    planned.change(Change::OwnedAdded(heir.pid.copy()?, id.copy()?))?;
-    let signal = Signal::Message(message);
-    planned.change(Change::SignalPut(pid.copy()?, heir.pid.copy()?, signal))?;
-    Ok(())
-}
-
-// A table goes to its heir, if that lives, or goes.
-fn passes_or_goes(
-    records: &Records<'_>,
-    alloc: Global,
-    pid: &Pid,
-    id: &RefId,
-    table: &Table,
-    planned: &mut Planned,
-) -> Result<(), AllocError>
-    ensures { OnOk result (WhereAlive records.now (λ w. PlansPassing w pid.now (ref_of id.now) (Some (settings_in table.now)) [] planned.old planned.new)) }
-{
-    let Some(heir) = &table.heir else {
-        return goes(id, table, planned);
-    };
-    if outlives(records, pid, &heir.pid) {
-        return passes(alloc, pid, id, table, heir, planned);
-    }
-    goes(id, table, planned)
-}
-
-// Whether the heir of a table lives is read.
-fn read_heir(heir: &Option<Heir>, planned: &mut Planned) -> Result<(), AllocError>
-    ensures { OnOk result (Adds (alive_if (heir_pid (heir_in heir.now))) [] planned.old planned.new) }
+// Whether an heir lives is read, if there is one.
+fn read_heir(heir: Option<&Pid>, planned: &mut Planned) -> Result<(), AllocError>
+    ensures { OnOk result (Adds (alive_if (option_copied heir.entry)) [] planned.old planned.new) }
 {
     match heir {
-        Some(heir) => planned.read_process(ProcessPart::Alive, &heir.pid),
+        Some(heir) => planned.read_process(ProcessPart::Alive, heir),
         None => Ok(()),
     }
 }
 
-// A table that is there.
-fn end_found(
-    records: &Records<'_>,
-    alloc: Global,
-    pid: &Pid,
-    id: &RefId,
-    table: &Table,
-    planned: &mut Planned,
-) -> Result<(), AllocError>
-    ensures { OnOk result (WhereAlive records.now (λ w. PlansPassing w pid.now (ref_of id.now) (Some (settings_in table.now)) (heir_read (Some (settings_in table.now))) planned.old planned.new)) }
+// Whether there is an heir, and it lives when a process is dead.
+fn is_left(records: &Records<'_>, pid: &Pid, heir: Option<&Pid>) -> bool
+    ensures { WhereAlive records.now (λ w. result ≡ lives_if (changed (AliveCleared pid.now) w) (option_copied heir.entry)) }
 {
-    read_heir(&table.heir, planned)?;
-    passes_or_goes(records, alloc, pid, id, table, planned)?;
-    Ok(())
+    match heir {
+        Some(heir) => outlives(records, pid, heir),
+        None => false,
+    }
 }
 
-// A table that a process has when it ends.
+// A table that a process has when it ends: it goes to its heir, if that lives, or goes.
 fn end_table(
     records: &Records<'_>,
     alloc: Global,
@@ -112,17 +58,14 @@ fn end_table(
 ) -> Result<(), AllocError>
     ensures { OnOk result (AtEnd records.now (λ w. PlansTable w pid.now (ref_of id.now) planned.old planned.new)) }
 {
+    let table = records.tables().get(id);
+    let heir = heir_of(table);
     planned.read_reference(ReferencePart::Table, id)?;
-    match records.tables().get(id) {
-        Some(table) => {
-            end_found(records, alloc, pid, id, table, planned)?;
-            Ok(())
-        }
-        None => {
-            planned.change(Change::TableRemoved(id.copy()?))?;
-            Ok(())
-        }
-    }
+    read_heir(heir, planned)?;
+    let Passed { changes, transfer } = pass_on(alloc, pid, id, table, is_left(records, pid, heir))?;
+    planned.change_tables(changes)?;
+    planned.tell_owner(pid, transfer)?;
+    Ok(())
 }
 
 // Each of these tables of a process that ends.

@@ -1,14 +1,16 @@
 -- What a step changes can be applied.
-use Rattle.std.proofs.Common.{◌≡◌, ◌∙◌, ◌&&◌, Bool, true, false, List, [], ◌∷◌, ◌++◌, Option, Some, None, is_some, map, if◌then◌else◌, refl, sym, ap, subst, true≢false}
+use Rattle.std.proofs.Common.{◌≡◌, ◌∙◌, ◌&&◌, ℕ, Bool, true, false, List, [], ◌∷◌, ◌++◌, Option, Some, None, is_some, if◌then◌else◌, refl, sym, ap, true≢false}
 use Rattle.std.specs.List.{list_any}
-use Rattle.std.specs.Prelude.{IsSome, option_and_then}
+use Rattle.std.specs.Prelude.{option_and_then}
 use Rattle.core_calls.specs.declared.call.CallKind.{CallKind}
+use Rattle.ets_rules.specs.Changes as rules
+use Rattle.ets_rules.proofs.Planning.{line_applies, new_applies}
 use Rattle.term_core.specs.Meaning.{Meaning}
 use Rattle.term_core.specs.declared.step.Step.TheVariants.{Turn, Deliver}
-use Rattle.world_model.specs.Calls.{Call, Spawn, SpawnWay, Alone, Linked, Watched, Send, ToNobody, ToProcess, ToName, SendExit, Link, Unlink, Monitor, Demonitor, Flag, Register, Unregister, WhereIs, IsAlive, MakeRef, New, OnTable, Misfit, TableCall, Insert, InsertNew, DeleteTable, DeleteKey, DeleteObject, DeleteAll, Take, UpdateCounter, UpdateElement, GiveAway, SetOptions, call_of}
+use Rattle.world_model.specs.Calls.{Call, Spawn, SpawnWay, Alone, Linked, Watched, Send, ToNobody, ToProcess, ToName, SendExit, Link, Unlink, Monitor, Demonitor, Flag, Register, Unregister, WhereIs, IsAlive, MakeRef, New, OnTable, Misfit, TableCall, First, call_of}
 use Rattle.world_model.specs.Cells as cells
 use Rattle.world_model.specs.Cells.{Contents}
-use Rattle.world_model.specs.Changes.{Change, RowWritten, TableSet, OwnedAdded, MessageTaken, OwnedCleared, AliveCleared, WatchCleared, WatcherRemoved, CellTouched, HeirSet, TableNameCleared, after, changed, is_of_watch}
+use Rattle.world_model.specs.Changes.{Change, RowWritten, TableSet, MessageTaken, OwnedCleared, AliveCleared, WatchCleared, WatcherRemoved, CellTouched, TableNameCleared, after, cell_of, changed, is_of_watch}
 use Rattle.world_model.specs.Ends.{ends, left_by, living_heir, name_left, partners_told, passed, table_passes, tables_pass, watchers_told}
 use Rattle.world_model.specs.Events.{Deed, Served, Refused, EndedItself, Received, TimedOut, Ended, RanAway, Delivered, Refusal, Signal, Message, Exit, LinkExit, Down, Fate, Arrives, IsIgnored, IsDropped, Kills}
 use Rattle.world_model.specs.TableAccess.{Found, find}
@@ -16,20 +18,18 @@ use Rattle.world_model.specs.TableRules.{found_line}
 use Rattle.world_model.specs.Lines.{line}
 use Rattle.world_model.specs.Mailboxes.{mailbox_in, selected_of}
 use Rattle.world_model.specs.Names.{Name, Pid, Ref, same_pid, same_term}
-use Rattle.world_model.specs.NewTables.{made, means_if}
-use Rattle.world_model.specs.Objects.{given, keys_asked, one_present, place_of, sum_of, removed_at, removes, stored_at, stores}
-use Rattle.world_model.specs.Ownership.{destroyed, gives_to, heirs_set}
 use Rattle.world_model.specs.ProcessLines.{LinkWay, Stands, Pairs, PairsGone, Fails, bound, exited, flushed, gone_told, link_changes, link_way, child_of, next_ref, ref_of_turn, sent, sent_to_holder, unregister_line, watch_ends}
 use Rattle.world_model.specs.Requests.{Calls, Ends, Program, Receives, Request, RunsAway}
-use Rattle.world_model.specs.Rows.{Key, Object, RowChange, Stores, Removes, Clears, Alters, part_at}
 use Rattle.world_model.specs.Signals.{goes_with, put_if}
 use Rattle.world_model.specs.Steps.{asked, changes_of_fate, deed_asked, deed_of_call, ended_or, ends_itself, judged, must_wait, next_deed, received, runaway}
-use Rattle.world_model.specs.TableLines.{insert_new_line, table_line}
+use Rattle.world_model.specs.TableLines.{table_line}
 use Rattle.world_model.specs.Tables as tables
-use Rattle.world_model.specs.Tables.{Heir, TableOption, is_named, table_of}
+use Rattle.world_model.specs.Tables.{Heir}
 use Rattle.world_model.proofs.MailboxLaws.{selected_there}
 use Rattle.world_model.proofs.Named.{found_there}
-use Rattle.world_records.specs.Changes.{CanApply, CanHold, IsOfKind}
+use Rattle.world_model.proofs.SortLaws.{AllAmong, call_among, table_among}
+use Rattle.world_model.proofs.Sorts.{is_among, table_sorts}
+use Rattle.world_records.specs.Changes.{CanApply, CanHold}
 use Rattle.world_footprints.specs.Plans.{StepsCanBeApplied, first_changes}
 
 -- ---- changes that need nothing
@@ -190,70 +190,22 @@ unregister_plain name (Some q) = refl
 
 -- ---- calls of tables
 
-means_plain : (b : Bool) (name : Name) (t : Ref) → all_plain (means_if b name t) ≡ true
-means_plain true name t = refl
-means_plain false name t = refl
+-- no message is taken, so what tables need is all that is needed
+one_lifted : (sorts : List ℕ) (w : Contents) (k : Change) → ((p : Pid) → is_among sorts (cells.Taken p) ≡ false) → is_among sorts (cell_of k) ≡ true → rules.CanHold w k → CanHold w k
+one_lifted sorts w (MessageTaken p message) none here can = absurd (true≢false (sym here ∙ none p))
+one_lifted sorts w k none here can = can
 
-new_applies : (w : Contents) (p : Pid) (t : Ref) (name : Name) (os : List TableOption) → w (cells.Table t) ≡ None → CanApply w (made p t name os)
-new_applies w p t name os new = (new, plain_applies (changed (TableSet t (table_of p name os)) w) (OwnedAdded p t ∷ means_if (is_named os) name t) (means_plain (is_named os) name t))
+lifted : (sorts : List ℕ) (w : Contents) (ks : List Change) → ((p : Pid) → is_among sorts (cells.Taken p) ≡ false) → AllAmong sorts ks → rules.CanApply w ks → CanApply w ks
+lifted sorts w [] none among can = record {}
+lifted sorts w (k ∷ ks) none among can = (one_lifted sorts w k none among.0 can.0, lifted sorts (changed k w) ks none among.1 can.1)
 
-writable : (change : RowChange) (table : tables.Table) (o : Option tables.Table) → o ≡ Some table → IsOfKind change (Some table) → IsSome o × IsOfKind change o
-writable change table o held fits = subst (λ x. IsSome x × IsOfKind change x) (sym held) (refl, fits)
-
-stored_applies : (w : Contents) (f : Found) (object : Object) (key : Option Key) (ls : List Change) → w (cells.Table f.ref) ≡ Some f.table → ((u : Contents) → u (cells.Table f.ref) ≡ Some f.table → CanApply u ls) → CanApply w (stored_at f object key ++ ls)
-stored_applies w f object None ls held rest = rest w held
-stored_applies w f object (Some key) ls held rest = (writable (Stores f.table.kind object) f.table (w (cells.Table f.ref)) held refl, rest (changed (RowWritten f.ref key (Stores f.table.kind object)) w) held)
-
-stores_apply : (w : Contents) (f : Found) (os : List Object) → w (cells.Table f.ref) ≡ Some f.table → CanApply w (stores f os)
-stores_apply w f [] held = record {}
-stores_apply w f (o ∷ os) held = stored_applies w f o (part_at f.table.position o) (stores f os) held (λ u there. stores_apply u f os there)
-
-removed_apply : (w : Contents) (f : Found) (object : Object) (key : Option Key) → w (cells.Table f.ref) ≡ Some f.table → CanApply w (removed_at f object key)
-removed_apply w f object None held = record {}
-removed_apply w f object (Some key) held = (writable (Removes object) f.table (w (cells.Table f.ref)) held (record {}), record {})
-
-removes_apply : (w : Contents) (f : Found) (o : Option Object) → w (cells.Table f.ref) ≡ Some f.table → CanApply w (removes f o)
-removes_apply w f None held = record {}
-removes_apply w f (Some object) held = removed_apply w f object (part_at f.table.position object) held
-
-new_ones : (w : Contents) (f : Found) (present : Bool) (os : Option (List Object)) → w (cells.Table f.ref) ≡ Some f.table → CanApply w (insert_new_line present f os).changes
-new_ones w f true os held = record {}
-new_ones w f false os held = stores_apply w f (given os) held
-
-destroyed_plain : (f : Found) → all_plain (destroyed f) ≡ true
-destroyed_plain f = freed_plain f.table.is_named f.table.name
-
-gives_plain : (f : Found) (o : Option Pid) (gift : Meaning) → all_plain (gives_to f o gift) ≡ true
-gives_plain f None gift = refl
-gives_plain f (Some to) gift = refl
-
-inherits_plain : (t : Ref) (hs : List Heir) → all_plain (map (HeirSet t) hs) ≡ true
-inherits_plain t [] = refl
-inherits_plain t (h ∷ hs) = inherits_plain t hs
-
-heirs_plain : (t : Ref) (hs : List Heir) → all_plain (heirs_set t hs) ≡ true
-heirs_plain t [] = refl
-heirs_plain t (h ∷ hs) = inherits_plain t hs
-
--- a line of a table that is found
-line_applies : (v w : Contents) (p : Pid) (f : Found) (call : TableCall) → w (cells.Table f.ref) ≡ Some f.table → CanApply w (table_line v p f call).changes
-line_applies v w p f (Insert objects) held = stores_apply w f (given objects) held
-line_applies v w p f (InsertNew objects) held = new_ones w f (one_present v f.ref (keys_asked p f objects)) objects held
-line_applies v w p f DeleteTable held = plain_applies w (destroyed f) (destroyed_plain f)
-line_applies v w p f (DeleteKey key) held = (writable Clears f.table (w (cells.Table f.ref)) held (record {}), record {})
-line_applies v w p f (DeleteObject object) held = removes_apply w f object held
-line_applies v w p f DeleteAll held = (record {}, record {})
-line_applies v w p f (Take key) held = (writable Clears f.table (w (cells.Table f.ref)) held (record {}), record {})
-line_applies v w p f (UpdateCounter key increment) held = (writable (Alters (place_of f.table.position increment) (sum_of f.table increment (v (cells.Row f.ref key)))) f.table (w (cells.Table f.ref)) held (record {}), record {})
-line_applies v w p f (UpdateElement key None) held = record {}
-line_applies v w p f (UpdateElement key (Some change)) held = (writable (Alters change.0 change.1) f.table (w (cells.Table f.ref)) held (record {}), record {})
-line_applies v w p f (GiveAway to gift) held = plain_applies w (gives_to f to gift) (gives_plain f to gift)
-line_applies v w p f (SetOptions heirs) held = plain_applies w (heirs_set f.ref (given heirs)) (heirs_plain f.ref (given heirs))
-line_applies v w p f call held = record {}
+takes_none : (call : TableCall) (p : Pid) → is_among (table_sorts call) (cells.Taken p) ≡ false
+takes_none First p = refl
+takes_none call p = refl
 
 found_applies : (v w : Contents) (p : Pid) (call : TableCall) (o : Option Found) → ((f : Found) → o ≡ Some f → w (cells.Table f.ref) ≡ Some f.table) → CanApply w (found_line v p call o).changes
 found_applies v w p call None held = record {}
-found_applies v w p call (Some f) held = line_applies v w p f call (held f refl)
+found_applies v w p call (Some f) held = lifted (table_sorts call) w (table_line v p f call).changes (takes_none call) (table_among v p f call) (line_applies v w p f call (held f refl))
 
 -- ---- a call whose changes come after its turn was counted
 
@@ -295,7 +247,8 @@ call_applies v w p (IsAlive (Some q)) same mail new = record {}
 call_applies v w p MakeRef same mail new = record {}
 call_applies v w p (New None options) same mail new = record {}
 call_applies v w p (New (Some name) None) same mail new = record {}
-call_applies v w p (New (Some name) (Some os)) same mail new = new_applies w p (next_ref v p) name os (same (next_ref v p) ∙ new)
+call_applies v w p (New (Some name) (Some os)) same mail new =
+    lifted (12 ∷ 11 ∷ 13 ∷ []) w (line v p (New (Some name) (Some os))).changes (λ q. refl) (call_among v p (New (Some name) (Some os))) (new_applies w p (next_ref v p) name os (same (next_ref v p) ∙ new))
 call_applies v w p (OnTable argument call) same mail new = found_applies v w p call (find v argument) (λ f found. same f.ref ∙ found_there v argument f found)
 call_applies v w p Misfit same mail new = record {}
 

@@ -3,12 +3,23 @@ ghost use Rattle.std.specs.Prelude.{◌≡◌, ◌∷◌, [], OnOk};
 ghost use Rattle.world_model.specs.Changes.{after};
 ghost use Rattle.world_records.specs.Changes.{CanApply, changes_in};
 ghost use Rattle.world_records.specs.Records.{Agrees, OfWorld};
+ghost use Rattle.world_records.specs.declared.change.Change.TheVariants.{OfTables};
+ghost use Rattle.world_records.specs.inside.Applied.{Applies};
 
 use crate::change::Change;
 use crate::records::Records;
+use ets_rules::TableChange;
 use std::alloc::{AllocError, Global};
 
 impl<'m> Records<'m> {
+    // The tables change.
+    fn change_tables(&mut self, alloc: Global, change: &TableChange) -> Result<(), AllocError>
+        ensures { OnOk result (Applies (OfTables change.now) self.old self.new) }
+    {
+        self.tables.change(alloc, change)?;
+        Ok(())
+    }
+
     /// Does what a change says, of cells that allow it. `AllocError` if there is no memory, and then the records may be
     /// changed in part.
     pub fn apply(&mut self, alloc: Global, change: &Change) -> Result<(), AllocError>
@@ -33,19 +44,7 @@ impl<'m> Records<'m> {
             Change::NameRegistered(name, pid) => self.give_name(name, pid),
             Change::NameUnregistered(name, pid) => self.take_name(name, pid),
             Change::NameCleared(pid) => self.bare(pid),
-            Change::RowWritten(id, key, change) => self.rewrite(alloc, id, key, change),
-            Change::RowsCleared(id) => self.wipe(alloc, id),
-            Change::TableSet(id, owner, name, options) => {
-                self.put_table(alloc, id, owner, name, options)
-            }
-            Change::OwnerSet(id, owner) => self.hand(id, owner),
-            Change::HeirSet(id, heir) => self.inherit(id, heir),
-            Change::TableRemoved(id) => self.take_table(id),
-            Change::TableNameSet(name, id) => self.mean(name, id),
-            Change::TableNameCleared(name) => self.free(name),
-            Change::OwnedAdded(pid, id) => self.gain(alloc, pid, id),
-            Change::OwnedRemoved(pid, id) => self.lose(pid, id),
-            Change::OwnedCleared(pid) => self.empty(pid),
+            Change::OfTables(change) => self.change_tables(alloc, change),
             Change::CellTouched(_) => Ok(()),
         }
     }

@@ -1,26 +1,9 @@
-// What an event changes in the records of a world, as values (Erlang reference manual, "Processes"; the Erlang manual,
-// module `ets`).
+// What an event changes in the records of a world, as values (Erlang reference manual, "Processes").
 use crate::cell::Cell;
-use ets_calls::TableOption;
-use ets_store::{Heir, Object};
+use ets_rules::TableChange;
 use proc_links::Exits;
 use proc_signals::Signal;
 use term_core::{Atom, Pid, RefId, Term, Terms};
-use world_model::table::Kind;
-
-/// What a write does to the objects under one key of a table (ets manual, `insert/2`, `delete_object/2`, `delete/2`,
-/// `update_element/3`).
-#[derive(Drop)]
-pub enum RowChange {
-    /// An object is put in, as tables of this kind do.
-    Stores(Kind, Object),
-    /// Objects that are the same as this one are taken out.
-    Removes(Object),
-    /// All objects are taken out.
-    Clears,
-    /// The first object has this element at this position from now on.
-    Alters(usize, Term),
-}
 
 /// A change of the records, except that a process takes a turn and that a signal leaves its channel.
 #[derive(Drop)]
@@ -60,28 +43,8 @@ pub enum Change {
     NameUnregistered(Atom, Pid),
     /// A process has no name.
     NameCleared(Pid),
-    /// The objects under a key of a table change.
-    RowWritten(RefId, Term, RowChange),
-    /// All rows of a table go.
-    RowsCleared(RefId),
-    /// A table without rows is made for a process, with this name and these options.
-    TableSet(RefId, Pid, Atom, Vec<TableOption>),
-    /// A table passes to another owner.
-    OwnerSet(RefId, Pid),
-    /// A table has another heir, or none.
-    HeirSet(RefId, Option<Heir>),
-    /// A table goes, with all its rows.
-    TableRemoved(RefId),
-    /// A name means a table.
-    TableNameSet(Atom, RefId),
-    /// A name means no table.
-    TableNameCleared(Atom),
-    /// A process has a table.
-    OwnedAdded(Pid, RefId),
-    /// A process no longer has a table.
-    OwnedRemoved(Pid, RefId),
-    /// A process has no tables.
-    OwnedCleared(Pid),
+    /// The tables change, with their rows, names and owners.
+    OfTables(TableChange),
     /// A cell counts as written, and holds what it did.
     CellTouched(Cell),
 }

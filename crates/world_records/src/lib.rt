@@ -4,15 +4,13 @@
 
 pub mod apply;
 mod apply_processes;
-mod apply_tables;
 mod bonds;
 pub mod cell;
 pub mod change;
 pub mod mail;
 pub mod records;
-pub mod tables;
 pub mod turns;
 
 pub use cell::{Cell, ChannelPart, NamePart, ProcessPart, ReferencePart};
-pub use change::{Change, RowChange};
+pub use change::Change;
 pub use records::Records;

@@ -1,6 +1,9 @@
 // All parts of a world.
-ghost use Rattle.std.specs.Prelude.{◌≡◌, IfOk};
+ghost use Rattle.std.specs.Prelude.{◌≡◌, IfOk, true};
+ghost use Rattle.core_tree.specs.Syntax.{ModuleTree};
+ghost use Rattle.world_model.specs.Cells.{Contents};
 ghost use Rattle.world_model.specs.World.{beginning};
+ghost use Rattle.world_records.specs.inside.Alike.{HaveBonds, HaveStores};
 ghost use Rattle.world_records.specs.Records.{Agrees, AreAlike, channels_of, links_of, mailboxes_of, names_of, processes_of, tables_of, watchers_of};
 
 use core_tree::Module;
@@ -69,6 +72,46 @@ impl<'m> Records<'m> {
             names: self.names.copy()?,
             tables: self.tables.copy()?,
         })
+    }
+
+    // Whether the two have the same links, watches and names.
+    fn same_bonds(&self, other: &Records<'_>) -> bool
+        ensures { result ≡ true → (v : Contents) → HaveBonds other.now v → HaveBonds self.now v }
+    {
+        if !self.links.is_same(&other.links) {
+            return false;
+        }
+        if !self.watchers.is_same(&other.watchers) {
+            return false;
+        }
+        self.names.is_same(&other.names)
+    }
+
+    // Whether the two have the same signals on their way, the same messages, and the same tables.
+    fn same_stores(&self, other: &Records<'_>) -> bool
+        ensures { result ≡ true → (v : Contents) → HaveStores other.now v → HaveStores self.now v }
+    {
+        if !self.channels.is_same(&other.channels) {
+            return false;
+        }
+        if !self.mailboxes.is_same(&other.mailboxes) {
+            return false;
+        }
+        self.tables.is_same(&other.tables)
+    }
+
+    /// Whether all parts are the same: where it is so, and both are of one module, these agree with all contents that the
+    /// others agree with. It takes no memory.
+    pub fn is_same(&self, other: &Records<'_>) -> bool
+        ensures { result ≡ true → (m : ModuleTree) (v w : Contents) → Agrees m self.now v → Agrees m other.now w → Agrees m self.now w }
+    {
+        if !self.same_bonds(other) {
+            return false;
+        }
+        if !self.same_stores(other) {
+            return false;
+        }
+        self.processes.is_same(&other.processes)
     }
 
     /// The processes. It takes no memory.

@@ -1,29 +1,21 @@
 -- What calls of tables read and change, of the values that they read.
-use Rattle.std.proofs.Common.{◌≡◌, ◌∙◌, ◌<◌, ◌+◌, ℕ, Bool, true, false, List, [], ◌∷◌, ◌++◌, Option, Some, None, option_map, map, if◌then◌else◌, refl, sym, ap, subst, append_assoc, true≢false, get_or, take, length, arith}
+use Rattle.std.proofs.Common.{◌≡◌, ◌∙◌, ◌<◌, ◌+◌, ℕ, true, List, [], ◌∷◌, ◌++◌, Option, Some, None, option_map, map, refl, sym, ap, subst, true≢false, get_or, take, length}
 use Rattle.std.proofs.lemmas.List.{take_more}
-use Rattle.std.specs.Prelude.{◌==◌, IsSome, codes, not}
-use Rattle.ets_store.specs.Tables.{heir_in}
-use Rattle.ets_store.specs.declared.table.Heir as held
-use Rattle.term_core.specs.Kinds.{is_the_atom}
-use Rattle.term_core.specs.Meaning.{Meaning}
+use Rattle.std.specs.Prelude.{IsSome}
 use Rattle.term_core.specs.Term.{meaning_of}
 use Rattle.term_core.specs.declared.term.Term.{Term}
 use Rattle.world_model.specs.Calls.{Call, New}
 use Rattle.world_model.specs.Cells as cells
 use Rattle.world_model.specs.Cells.{Cell, Contents}
-use Rattle.world_model.specs.Changes.{Change, HeirSet}
+use Rattle.world_model.specs.Changes.{Change}
 use Rattle.world_model.specs.Events.{Refusal}
 use Rattle.world_model.specs.TableAccess.{Found, as_found, meant, table_if}
 use Rattle.world_model.specs.Lines.{line}
 use Rattle.world_model.specs.Names.{Name, Pid, Ref}
 use Rattle.world_model.specs.NewTables.{by_rule, new_reads}
-use Rattle.world_model.specs.Objects.{stored_at, stores}
-use Rattle.world_model.specs.Ownership.{heirs_set}
-use Rattle.world_model.specs.Rows.{Object, part_at}
 use Rattle.world_model.specs.Steps.{ends_itself, reads_if_ended, reads_of_call}
 use Rattle.world_model.specs.Tables as tables
-use Rattle.world_model.specs.Tables.{Heir, TableOption}
-use Rattle.world_model.specs.Terms.{truth}
+use Rattle.world_model.specs.Tables.{TableOption}
 use Rattle.world_model.specs.declared.rule.Rule.{Rule}
 use Rattle.world_planned.specs.inside.Planned.{Adds}
 use Rattle.world_planned.specs.Replies.{NamesMeanTables}
@@ -49,39 +41,6 @@ adds_item {X = X} rs ks more_rs more_ks grows alters_ xs i x f g h lt is before 
 -- one key more
 pub keys_more : (t : Ref) (ks : List Term) (k : Term) → map (cells.Row t) (map meaning_of (ks ++ k ∷ [])) ≡ map (cells.Row t) (map meaning_of ks) ++ cells.Row t (meaning_of k) ∷ []
 keys_more t ks k = ap (map (cells.Row t)) (map_both meaning_of ks (k ∷ [])) ∙ map_both (cells.Row t) (map meaning_of ks) (meaning_of k ∷ [])
-
--- one object more
-pub stores_more : (f : Found) (os : List Object) (o : Object) → stores f (os ++ o ∷ []) ≡ stores f os ++ stored_at f o (part_at f.table.position o)
-stores_more f [] o = end_nil (stored_at f o (part_at f.table.position o))
-stores_more f (x ∷ os) o =
-    let one = stored_at f x (part_at f.table.position x) in
-    ap (λ ks. one ++ ks) (stores_more f os o) ∙ sym (append_assoc one (stores f os) (stored_at f o (part_at f.table.position o)))
-
--- an `insert_new/2` that answers true found no key
-pub stores_if : (present b : Bool) (m : Meaning) (ks : List Change) → m ≡ truth (not present) → b ≡ is_the_atom (codes "true") m → b ≡ true → ks ≡ (if present then [] else ks)
-stores_if true b m ks is tests holds = absurd (true≢false (sym holds ∙ tests ∙ ap (is_the_atom (codes "true")) is))
-stores_if false b m ks is tests holds = refl
-
-pub stores_none : (present b : Bool) (m : Meaning) (ks : List Change) → m ≡ truth (not present) → b ≡ is_the_atom (codes "true") m → b ≡ false → [] ≡ (if present then [] else ks)
-stores_none true b m ks is tests fails = refl
-stores_none false b m ks is tests fails = absurd (true≢false (sym (ap (is_the_atom (codes "true")) is) ∙ sym tests ∙ fails))
-
--- ---- heirs
-
--- one heir more
-pub heirs_more : (t : Ref) (hs : List (Option held.Heir)) (h : Option held.Heir) → map (HeirSet t) (map heir_in (hs ++ h ∷ [])) ≡ map (HeirSet t) (map heir_in hs) ++ HeirSet t (heir_in h) ∷ []
-heirs_more t hs h = ap (map (HeirSet t)) (map_both heir_in hs (h ∷ [])) ∙ map_both (HeirSet t) (map heir_in hs) (heir_in h ∷ [])
-
-pub set_some : {A : Type 0} (t : Ref) (h : A → Heir) (xs : List A) → false ≡ (length xs == 0) → map (HeirSet t) (map h xs) ≡ heirs_set t (map h xs)
-set_some t h [] e = absurd (true≢false (sym e))
-set_some t h (x ∷ xs) e = refl
-
-pub set_none : {A : Type 0} (t : Ref) (h : A → Heir) (xs : List A) → true ≡ (length xs == 0) → heirs_set t [] ≡ heirs_set t (map h xs)
-set_none t h [] e = refl
-set_none t h (x ∷ xs) e = absurd (some_length e)
-  where
-    some_length : true ≡ (length (x ∷ xs) == 0) → ⊥
-    some_length e = grind arith
 
 -- ---- finding
 

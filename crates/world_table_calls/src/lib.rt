@@ -2,6 +2,5 @@
 #![tactic(auto)]
 
 pub mod on_tables;
-mod rows;
 
 pub use on_tables::plan_table_call;

@@ -1,17 +1,17 @@
 -- The line of a call by the settings and the rows of a table, in place of the contents of cells.
-use Rattle.std.specs.FinMap.{empty, keys}
-use Rattle.std.specs.Prelude.{◌≡◌, ℕ, Bool, not, ◌||◌, if◌then◌else◌, List, [], ◌∷◌, Option, Some, None, codes, length}
+use Rattle.std.specs.FinMap.{keys}
+use Rattle.std.specs.Prelude.{◌≡◌, Bool, not, ◌||◌, if◌then◌else◌, List, [], ◌∷◌, Option, Some, None, codes, length}
 use Rattle.term_core.specs.Meaning.{Meaning}
-use Rattle.ets_store.specs.TableRows.{TableRows, with_objects, without_object, one_has_key, with_new_objects, with_rows}
+use Rattle.ets_store.specs.TableRows.{one_has_key}
 use Rattle.ets_store.specs.Tables.{settings_in}
 use Rattle.ets_store.specs.declared.table.Table.{Table}
 use Rattle.world_model.specs.Calls.{Increment, TableCall, Lookup, Member, LookupElement, First, Last, Next, Prev, ToList, Insert, InsertNew, DeleteTable, DeleteKey, DeleteObject, DeleteAll, Take, UpdateCounter, UpdateElement, GiveAway, SetOptions, Info, has_items}
 use Rattle.world_model.specs.Ends.{heir_pid}
 use Rattle.world_model.specs.Names.{Pid}
-use Rattle.world_model.specs.Objects.{given, objects_rule, one_object, element_rule, element_answer, counter_rule, sum_of, place_of, update_rule}
+use Rattle.world_model.specs.Objects.{given, objects_rule, one_object, element_rule, element_answer, counter_rule, sum_of, update_rule}
 use Rattle.world_model.specs.Ownership.{gift_rule, heirs_rule}
 use Rattle.world_model.specs.Rows as rows
-use Rattle.world_model.specs.Rows.{Key, Object, rows_rewritten, Clears, Alters, tuples, under, all_objects, parts_at}
+use Rattle.world_model.specs.Rows.{Key, Object, tuples, under, all_objects, parts_at}
 use Rattle.world_model.specs.RowsLeft.{unless_present, key_of_object}
 use Rattle.world_model.specs.Signals.{first_of}
 use Rattle.world_model.specs.Tables as tables
@@ -97,38 +97,6 @@ held_answer t all (GiveAway to gift) = ok
 held_answer t all (SetOptions heirs) = ok
 held_answer t all (Info item) = held_item t all item
 
--- ---- the rows after it
-
-abbrev pub without_one : ℕ → Option Object → rows.Rows → rows.Rows
-without_one position None all = all
-without_one position (Some object) all = without_object position object all
-
-abbrev pub altered_at : Key → Option (ℕ × Meaning) → rows.Rows → rows.Rows
-altered_at key None all = all
-altered_at key (Some change) all = rows_rewritten key (Alters change.0 change.1) all
-
-abbrev pub held_rows : tables.Table → rows.Rows → TableCall → rows.Rows
-held_rows t all (Lookup key) = all
-held_rows t all (Member key) = all
-held_rows t all (LookupElement key position) = all
-held_rows t all First = all
-held_rows t all Last = all
-held_rows t all (Next key) = all
-held_rows t all (Prev key) = all
-held_rows t all ToList = all
-held_rows t all (Insert objects) = with_objects t.kind t.position (given objects) all
-held_rows t all (InsertNew objects) = with_new_objects t.kind t.position (given objects) all
-held_rows t all DeleteTable = all
-held_rows t all (DeleteKey key) = rows_rewritten key Clears all
-held_rows t all (DeleteObject object) = without_one t.position object all
-held_rows t all DeleteAll = empty
-held_rows t all (Take key) = rows_rewritten key Clears all
-held_rows t all (UpdateCounter key increment) = rows_rewritten key (Alters (place_of t.position increment) (sum_of t increment (under all key))) all
-held_rows t all (UpdateElement key change) = altered_at key change all
-held_rows t all (GiveAway to gift) = all
-held_rows t all (SetOptions heirs) = all
-held_rows t all (Info item) = all
-
 -- ---- the rows that it writes
 
 abbrev pub new_written : tables.Table → rows.Rows → List Object → Touch
@@ -155,8 +123,3 @@ IsHeldAnswer t call answer = held_counter (settings_in t) t.rows.rows call ≡ N
 -- a counter comes to this sum
 abbrev pub IsHeldSum : Table → Key → Increment → Meaning → Type 0
 IsHeldSum t key increment sum = counter_rule (settings_in t) increment (under t.rows.rows key) ≡ None → sum ≡ sum_of (settings_in t) increment (under t.rows.rows key)
-
--- these are the rows with the sum in its place
-abbrev pub AreHeldCounted : Table → Key → Increment → TableRows → Type 0
-AreHeldCounted t key increment new = counter_rule (settings_in t) increment (under t.rows.rows key) ≡ None
-    → new ≡ with_rows t.rows (rows_rewritten key (Alters (place_of (settings_in t).position increment) (sum_of (settings_in t) increment (under t.rows.rows key))) t.rows.rows)

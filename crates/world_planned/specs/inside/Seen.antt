@@ -1,5 +1,5 @@
 -- What the end of a process meets, and what is planned of it.
-use Rattle.std.specs.Prelude.{◌≡◌, ◌∷◌, [], List, Option, map, option_map}
+use Rattle.std.specs.Prelude.{◌≡◌, ◌∷◌, ◌++◌, [], Bool, false, List, Option, Some, None, map, option_map}
 use Rattle.term_core.specs.Meaning.{Meaning}
 use Rattle.ets_rules.specs.Tables.{held_in, owned_in}
 use Rattle.ets_store.specs.Tables.{settings_in}
@@ -9,12 +9,10 @@ use Rattle.proc_links.specs.Watchers.{AreWatchers}
 use Rattle.proc_links.specs.declared.links.Links.{Links}
 use Rattle.proc_machines.specs.Processes.{lives_in}
 use Rattle.world_model.specs.Cells as cells
-use Rattle.world_model.specs.Cells.{AreAlive, Cell, Contents}
+use Rattle.world_model.specs.Cells.{AreAlive, Contents}
 use Rattle.world_model.specs.Changes.{AliveCleared, Change, changed}
-use Rattle.world_model.specs.Ends.{heir_read, left_by, partners_told, reads_of_tables, table_passes, tables_pass, watchers_told}
-use Rattle.world_model.specs.Events.{Signal}
+use Rattle.world_model.specs.Ends.{heir_pid, heir_read, left_by, partners_told, reads_of_tables, table_passes, tables_pass, watchers_told}
 use Rattle.world_model.specs.Names.{Pid, Ref}
-use Rattle.world_model.specs.Signals.{put_if}
 use Rattle.world_model.specs.Tables as settings
 use Rattle.world_records.specs.Records.{names_of, processes_of, tables_of, watchers_of}
 use Rattle.world_records.specs.declared.records.Records.{Records}
@@ -38,27 +36,27 @@ AtEnd records IsSo = (links : Links) (w : Contents) → SeesEnd records links w 
 abbrev pub WhereAlive : Records → (Contents → Type 0) → Type 0
 WhereAlive records IsSo = (w : Contents) → AreAlive (lives_in (processes_of records)) w → IsSo w
 
+-- the heir of a table, where one is there and has an heir
+abbrev pub heir_of_table : Option settings.Table → Option Pid
+heir_of_table None = None
+heir_of_table (Some table) = heir_pid table.heir
+
+-- whether there is such a process, and it lives
+abbrev pub lives_if : Contents → Option Pid → Bool
+lives_if w None = false
+lives_if w (Some q) = w (cells.Alive q)
+
 -- ---- what is planned at these contents, in which the process that ends lives
 
--- a signal for another process is put, if that lives
-abbrev pub PlansPut : Contents → Pid → Pid → Signal → Planned → Planned → Type 0
-PlansPut w p q signal old new = Adds (cells.Alive q ∷ []) (put_if (changed (AliveCleared p) w (cells.Alive q)) p q signal) old new
+-- whether partners and watchers live is read, and those that do get their signals
+abbrev pub PlansTold : Contents → Pid → Meaning → Planned → Planned → Type 0
+PlansTold w p reason old new =
+    Adds (map cells.Alive (w (cells.Links p)) ++ map (λ ref. cells.Alive ref.pid) (w (cells.Watchers p)))
+    (partners_told (changed (AliveCleared p) w) p reason (w (cells.Links p)) ++ watchers_told (changed (AliveCleared p) w) p reason (w (cells.Watchers p))) old new
 
--- and so for each of these partners
-abbrev pub PlansPartners : Contents → Pid → Meaning → List Pid → Planned → Planned → Type 0
-PlansPartners w p reason qs old new = Adds (map cells.Alive qs) (partners_told (changed (AliveCleared p) w) p reason qs) old new
-
--- and for the maker of each of these watches
-abbrev pub PlansWatchers : Contents → Pid → Meaning → List Ref → Planned → Planned → Type 0
-PlansWatchers w p reason refs old new = Adds (map (λ ref. cells.Alive ref.pid) refs) (watchers_told (changed (AliveCleared p) w) p reason refs) old new
-
--- a table goes to its heir, or goes, and these cells are read
-abbrev pub PlansPassing : Contents → Pid → Ref → Option settings.Table → List Cell → Planned → Planned → Type 0
-PlansPassing w p t table reads old new = Adds reads (table_passes (changed (AliveCleared p) w) p t table) old new
-
--- and so does the table of a reference, which is read, with whether its heir lives
+-- the table of a reference is read, with whether its heir lives, and goes to that, or goes
 abbrev pub PlansTable : Contents → Pid → Ref → Planned → Planned → Type 0
-PlansTable w p t old new = PlansPassing w p t (w (cells.Table t)) (cells.Table t ∷ heir_read (w (cells.Table t))) old new
+PlansTable w p t old new = Adds (cells.Table t ∷ heir_read (w (cells.Table t))) (table_passes (changed (AliveCleared p) w) p t (w (cells.Table t))) old new
 
 -- and each of these tables
 abbrev pub PlansTables : Contents → Pid → List Ref → Planned → Planned → Type 0

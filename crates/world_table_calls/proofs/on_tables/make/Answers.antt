@@ -14,7 +14,7 @@ returns c =
       reply = λ m v told none. record {
         goes_on = refl;
         is_served = none;
-        answers = c.in_ok-answer.ensures.answer ∙ ap (λ t. handle_of t (table_of p name os)) (c.in_ok-id.ensures m v told);
+        answers = c.in_ok-handle.ensures.handle ∙ ap (λ t. handle_of t (table_of p name os)) (c.in_ok-id.ensures m v told);
       };
-      adds = λ m v told. adds_as _ _ _ _ _ _ refl (ap (λ t. made p t name os) (c.in_ok-id.ensures m v told)) c.in_ok-answer.ensures.adds;
+      adds = λ m v told. adds_as _ _ _ _ _ _ refl (c.in_ok-handle.ensures.changes ∙ ap (λ t. made p t name os) (c.in_ok-id.ensures m v told)) c.in_ok-change_tables.ensures;
     }

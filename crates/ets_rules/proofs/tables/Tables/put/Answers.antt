@@ -1,6 +1,5 @@
-use Rattle.std.proofs.Common.{◌∷◌, [], map, subst}
+use Rattle.std.proofs.Common.{◌∷◌, [], subst}
 use Rattle.world_model.specs.Changes.{after, TableSet}
-use Rattle.ets_calls.specs.Options.{option_in}
 use Rattle.world_model.specs.Tables as tables
 use Rattle.world_model.specs.Tables.{table_of}
 use Rattle.ets_rules.specs.Tables.{Hold}

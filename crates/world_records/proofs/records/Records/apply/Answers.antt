@@ -40,38 +40,8 @@ returns-in-NameUnregistered c = applies_as c.take_name.result c.args.change.now 
 pub returns-in-NameCleared : goal.returns-in-NameCleared
 returns-in-NameCleared c = applies_as c.bare.result c.args.change.now _ c.args.self.now c.bare.new.self c.in-NameCleared.is c.bare.ensures
 
-pub returns-in-RowWritten : goal.returns-in-RowWritten
-returns-in-RowWritten c = applies_as c.rewrite.result c.args.change.now _ c.args.self.now c.rewrite.new.self c.in-RowWritten.is c.rewrite.ensures
-
-pub returns-in-RowsCleared : goal.returns-in-RowsCleared
-returns-in-RowsCleared c = applies_as c.wipe.result c.args.change.now _ c.args.self.now c.wipe.new.self c.in-RowsCleared.is c.wipe.ensures
-
-pub returns-in-TableSet : goal.returns-in-TableSet
-returns-in-TableSet c = applies_as c.put_table.result c.args.change.now _ c.args.self.now c.put_table.new.self c.in-TableSet.is c.put_table.ensures
-
-pub returns-in-OwnerSet : goal.returns-in-OwnerSet
-returns-in-OwnerSet c = applies_as c.hand.result c.args.change.now _ c.args.self.now c.hand.new.self c.in-OwnerSet.is c.hand.ensures
-
-pub returns-in-HeirSet : goal.returns-in-HeirSet
-returns-in-HeirSet c = applies_as c.inherit.result c.args.change.now _ c.args.self.now c.inherit.new.self c.in-HeirSet.is c.inherit.ensures
-
-pub returns-in-TableRemoved : goal.returns-in-TableRemoved
-returns-in-TableRemoved c = applies_as c.take_table.result c.args.change.now _ c.args.self.now c.take_table.new.self c.in-TableRemoved.is c.take_table.ensures
-
-pub returns-in-TableNameSet : goal.returns-in-TableNameSet
-returns-in-TableNameSet c = applies_as c.mean.result c.args.change.now _ c.args.self.now c.mean.new.self c.in-TableNameSet.is c.mean.ensures
-
-pub returns-in-TableNameCleared : goal.returns-in-TableNameCleared
-returns-in-TableNameCleared c = applies_as c.free.result c.args.change.now _ c.args.self.now c.free.new.self c.in-TableNameCleared.is c.free.ensures
-
-pub returns-in-OwnedAdded : goal.returns-in-OwnedAdded
-returns-in-OwnedAdded c = applies_as c.gain.result c.args.change.now _ c.args.self.now c.gain.new.self c.in-OwnedAdded.is c.gain.ensures
-
-pub returns-in-OwnedRemoved : goal.returns-in-OwnedRemoved
-returns-in-OwnedRemoved c = applies_as c.lose.result c.args.change.now _ c.args.self.now c.lose.new.self c.in-OwnedRemoved.is c.lose.ensures
-
-pub returns-in-OwnedCleared : goal.returns-in-OwnedCleared
-returns-in-OwnedCleared c = applies_as c.empty.result c.args.change.now _ c.args.self.now c.empty.new.self c.in-OwnedCleared.is c.empty.ensures
+pub returns-in-OfTables : goal.returns-in-OfTables
+returns-in-OfTables c = applies_as c.change_tables.result c.args.change.now _ c.args.self.now c.change_tables.new.self c.in-OfTables.is c.change_tables.ensures
 
 pub returns-in-CellTouched : goal.returns-in-CellTouched
 returns-in-CellTouched c = touches c.args.change.now _ c.args.self.now c.in-CellTouched.is
