@@ -1,3 +1,4 @@
 pub mod ModuleText
 pub mod Refusal
+pub mod SmallModule
 pub mod inside

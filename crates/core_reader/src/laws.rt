@@ -3,6 +3,7 @@ ghost use Rattle.std.specs.Prelude.{◌≡◌, ℕ, List};
 ghost use Rattle.core_tree.specs.Servable.{IsServableModule};
 ghost use Rattle.core_tree.specs.Syntax.{ModuleTree};
 ghost use Rattle.core_reader.specs.ModuleText.{SpellsModule};
+ghost use Rattle.core_reader.specs.SmallModule.{ASmallTextIsSaid};
 
 use core_grammar::laws::{spelt_calls_are_read, tokens_spell_one_module};
 use core_tokens::lexer::tokens_are_unique;
@@ -21,3 +22,9 @@ pub fn said_calls_are_read()
 {
     spelt_calls_are_read();
 }
+
+/// A worked row: the text of a small module says it.
+#[tactic(auto, using(crate::proofs::SmallTexts::small_text_said))]
+pub fn a_small_text_is_said()
+    ensures { ASmallTextIsSaid }
+{}

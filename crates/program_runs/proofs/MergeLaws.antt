@@ -1,16 +1,23 @@
 -- What reports that are put together result in, and that those of the parts of a tree result in that of the tree.
-use Rattle.std.proofs.Common.{◌≡◌, ℕ, zero, suc, ◌+◌, ◌-◌, ◌≤◌, ◌<◌, ◌^◌, Bool, true, false, List, [], ◌∷◌, ◌++◌, length, map, filter, cond, Option, None, Some, IfSome, SomeIff, refl, sym, ap, ◌∙◌, subst, arith}
+use Rattle.std.proofs.Common.{◌≡◌, ℕ, zero, suc, ◌+◌, ◌-◌, ◌≤◌, ◌<◌, ◌^◌, Bool, true, false, List, [], ◌∷◌, ◌++◌, length, map, filter, cond, if◌then◌else◌, Option, None, Some, IfSome, SomeIff, refl, sym, ap, ◌∙◌, subst, arith}
+use Rattle.std.proofs.lemmas.List.Elements.{All-from_recursion, recursion_from_All}
+use Rattle.std.proofs.lemmas.List.Sorted.{All-permutation, IsPermutation-sym}
 use Rattle.std.specs.List.{AllByRecursion, flat_map}
 use Rattle.std.specs.declared.cmp.Ordering.{Ordering}
 use Rattle.std.specs.declared.cmp.Ordering.TheVariants.{Less, Equal, Greater}
 use Rattle.std.specs.List.Sorted.{IsPermutation}
+use Rattle.std.specs.Ordering.{is_gt}
 use Rattle.std.specs.Prelude.{Result, Ok, Err}
 use Rattle.tree_coverage.specs.Findings.{Finding, Findings, AreSorted, findings_among, findings_of, found, put_before, with_all, with_finding}
 use Rattle.world_identities.specs.Order.{order_of_identities}
-use Rattle.tree_coverage.specs.Jobs.{Job, nodes_of, root, schedules_of}
+use Rattle.tree_coverage.specs.Jobs.{Job, Node, nodes_of, root, schedules_of}
+use Rattle.tree_coverage.specs.NodeTexts.{IsLawfulNode}
 use Rattle.tree_coverage.specs.Shown.{shown_after}
 use Rattle.tree_coverage.specs.Trees.{node_count, nodes}
 use Rattle.tree_coverage.proofs.FindingLaws.{sorted_found}
+use Rattle.tree_coverage.proofs.JobLaws.{root_nodes}
+use Rattle.tree_coverage.proofs.Lists.{all_among}
+use Rattle.tree_coverage.proofs.NodeTexts.{nodes_have_texts}
 use Rattle.tree_excuses.specs.Excuses.{Excuses}
 use Rattle.tree_findings.specs.Merging.{merged_findings}
 use Rattle.tree_findings.specs.declared.extent.Extent.{Extent}
@@ -22,16 +29,19 @@ use Rattle.report_reader.specs.Merged.{AreReportsOf, first_depth, merged_all, te
 use Rattle.report_reader.specs.declared.fault.ReportFault.{ReportFault}
 use Rattle.report_text.specs.ReportText.{text_of_report}
 use Rattle.search_jobs.specs.Explorations.{ExplorationSeen, program_in}
+use Rattle.term_core.specs.Schedule.{AreLawful}
+use Rattle.term_core.specs.StepOrder.{order_of_schedules}
 use Rattle.term_core.specs.Stream.{WritesAll, BreaksOff}
 use Rattle.tree_levels.specs.Levels.{jobs_at}
 use Rattle.tree_levels.specs.LevelSums.{findings_of_job, findings_of_jobs, node_count_of_jobs}
+use Rattle.tree_levels.proofs.Taken.{can_be_taken}
 use Rattle.tree_levels.proofs.Sums.{counts_above_and_below, counts_below, counts_in_any_order, findings_above_and_below, findings_below, shows_in_any_order}
 use Rattle.world_model.specs.Requests.{Program}
 use Rattle.term_core.specs.declared.step.Step.{Step}
 use Rattle.world_model.specs.Run.{run}
 use Rattle.world_model.specs.Shown.{Flags, Identity, is_error, is_refusal}
 use Rattle.program_runs.specs.Explored.{verdict_of}
-use Rattle.program_runs.specs.MergeRuns.{AreNoReports, AreParts, AreWholeJobs, ComesToTree, IsMergeOf, IsWholeJob, IsWholeTree, MayBeTold, depth_above, to_depth}
+use Rattle.program_runs.specs.MergeRuns.{AreNoReports, AreParts, AreToldOf, AreWholeJobs, ComesToTree, IsMergeOf, IsWholeJob, IsWholeTree, MayBeTold, depth_above, to_depth}
 use Rattle.program_runs.specs.declared.verdict.RunFault.{RunFault}
 use Rattle.program_runs.specs.declared.verdict.RunFault.TheVariants as refusal
 use Rattle.program_runs.specs.declared.verdict.Verdict.{Verdict}
@@ -129,61 +139,106 @@ parts_come e (suc above) first others whole parts tree =
 
 -- ---- what was found is such as reports may be read back to
 
-abbrev Pass : (Identity → Bool) → List Finding → Type 0
-Pass test fs = AllByRecursion (λ (f : Finding). test f.identity ≡ true) fs
+-- the schedules of its nodes are of pids that texts may have
+lawful_schedules : (vs : List Node) → AllByRecursion IsLawfulNode vs → AllByRecursion AreLawful (schedules_of vs)
+lawful_schedules [] all = tt
+lawful_schedules (v ∷ vs) all = (all.0.0, lawful_schedules vs all.1)
 
-passes_with : (test : Identity → Bool) (f : Finding) (fs : List Finding) → test f.identity ≡ true → Pass test fs → Pass test (with_finding f fs)
+job_schedules : (e : ExplorationSeen) (job : Job) → e.depth < 2 ^ 64 → length job.prefix ≤ e.depth → AllByRecursion AreLawful (schedules_of (nodes_of (program_in e) e.depth job))
+job_schedules e job fits short = lawful_schedules (nodes_of (program_in e) e.depth job) (nodes_have_texts e.program e.depth job fits short)
+
+tree_schedules : (e : ExplorationSeen) → e.depth < 2 ^ 64 → AllByRecursion AreLawful (nodes (program_in e) e.depth)
+tree_schedules e fits = subst (AllByRecursion AreLawful) (root_nodes (program_in e) e.depth) (job_schedules e root fits (omega arith))
+
+-- a finding passes the test, and texts may have its schedule
+abbrev Passes : (Identity → Bool) → Finding → Type 0
+Passes test f = (test f.identity ≡ true) × AreLawful f.schedule
+
+abbrev Pass : (Identity → Bool) → List Finding → Type 0
+Pass test fs = AllByRecursion (Passes test) fs
+
+lesser_passes : (b : Bool) (s t : List Step) → AreLawful s → AreLawful t → AreLawful (if b then t else s)
+lesser_passes true s t h k = k
+lesser_passes false s t h k = h
+
+passes_with : (test : Identity → Bool) (f : Finding) (fs : List Finding) → Passes test f → Pass test fs → Pass test (with_finding f fs)
 passes_with test f [] is all = (is, tt)
 passes_with test f (g ∷ gs) is all = go (order_of_identities f.identity g.identity) (passes_with test f gs is all.1)
   where
     go : (o : Ordering) → Pass test (with_finding f gs) → Pass test (put_before o f g gs (with_finding f gs))
     go Less more = (is, all)
-    go Equal more = all
+    go Equal more = ((all.0.0, lesser_passes (is_gt (order_of_schedules f.schedule g.schedule)) f.schedule g.schedule is.1 all.0.1), all.1)
     go Greater more = (all.0, more)
 
-passes_shown : (test : Identity → Bool) (s : List Step) (is : List Identity) (fs : List Finding) → Pass test fs → Pass test (with_all s (filter test is) fs)
-passes_shown test s [] fs all = all
-passes_shown test s (i ∷ is) fs all = go (test i) refl (passes_shown test s is fs all)
+passes_shown : (test : Identity → Bool) (s : List Step) (is : List Identity) (fs : List Finding) → AreLawful s → Pass test fs → Pass test (with_all s (filter test is) fs)
+passes_shown test s [] fs lawful all = all
+passes_shown test s (i ∷ is) fs lawful all = go (test i) refl (passes_shown test s is fs lawful all)
   where
     go : (b : Bool) → test i ≡ b → Pass test (with_all s (filter test is) fs) → Pass test (with_all s (cond b (i ∷ filter test is) (filter test is)) fs)
-    go true e more = passes_with test (record { identity = i; schedule = s }) (with_all s (filter test is) fs) e more
+    go true e more = passes_with test (record { identity = i; schedule = s }) (with_all s (filter test is) fs) (e, lawful) more
     go false e more = more
 
-passes_found : (test : Identity → Bool) (a : Program) (schedules : List (List Step)) → Pass test (found test a schedules)
-passes_found test a [] = tt
-passes_found test a (s ∷ schedules) = passes_shown test s (shown_after a (run a s)) (found test a schedules) (passes_found test a schedules)
+passes_found : (test : Identity → Bool) (a : Program) (schedules : List (List Step)) → AllByRecursion AreLawful schedules → Pass test (found test a schedules)
+passes_found test a [] lawful = tt
+passes_found test a (s ∷ schedules) lawful = passes_shown test s (shown_after a (run a s)) (found test a schedules) lawful.0 (passes_found test a schedules lawful.1)
 
-are_lawful : (test : Identity → Bool) (a : Program) (schedules : List (List Step)) (fs : List Finding) → fs ≡ found test a schedules → AllByRecursion IsLawfulFinding fs → AreLawfulFindings test fs
-are_lawful test a schedules fs same lawful = record {
-  sorted = subst AreSorted (sym same) (sorted_found test a schedules);
-  lawful = lawful;
-  pass = subst (Pass test) (sym same) (passes_found test a schedules);
-}
+pass_all : (test : Identity → Bool) (fs : List Finding) → Pass test fs → AllByRecursion (λ (f : Finding). test f.identity ≡ true) fs
+pass_all test [] all = tt
+pass_all test (f ∷ fs) all = (all.0.0, pass_all test fs all.1)
 
-is_lawful : (flags : Flags) (a : Program) (schedules : List (List Step)) (g : Findings) (x : Extent) (limit : ℕ) → g ≡ findings_among flags a schedules → x.nodes ≤ limit → limit < 2 ^ 64 → MayBeTold (Complete g x) → IsLawfulOutcome flags (plain (Complete g x))
-is_lawful flags a schedules g x limit same within fits told = record {
-  errors = are_lawful (is_error flags) a schedules g.errors (ap (λ (f : Findings). f.errors) same) told.0;
-  refusals = are_lawful is_refusal a schedules g.refusals (ap (λ (f : Findings). f.refusals) same) told.1;
+lawful_all : (test : Identity → Bool) (fs : List Finding) → AreToldOf fs → Pass test fs → AllByRecursion IsLawfulFinding fs
+lawful_all test [] told all = tt
+lawful_all test (f ∷ fs) told all = (record { identity = told.0; schedule = all.0.1 }, lawful_all test fs told.1 all.1)
+
+are_lawful : (test : Identity → Bool) (a : Program) (schedules : List (List Step)) (fs : List Finding) → fs ≡ found test a schedules → AllByRecursion AreLawful schedules → AreToldOf fs → AreLawfulFindings test fs
+are_lawful test a schedules fs same lawful told =
+    let all = subst (Pass test) (sym same) (passes_found test a schedules lawful) in
+    record {
+      sorted = subst AreSorted (sym same) (sorted_found test a schedules);
+      lawful = lawful_all test fs told all;
+      pass = pass_all test fs all;
+    }
+
+is_lawful : (flags : Flags) (a : Program) (schedules : List (List Step)) (g : Findings) (x : Extent) (limit : ℕ) → g ≡ findings_among flags a schedules → x.nodes ≤ limit → limit < 2 ^ 64 → AllByRecursion AreLawful schedules → MayBeTold (Complete g x) → IsLawfulOutcome flags (plain (Complete g x))
+is_lawful flags a schedules g x limit same within fits lawful told = record {
+  errors = are_lawful (is_error flags) a schedules g.errors (ap (λ (f : Findings). f.errors) same) lawful told.0;
+  refusals = are_lawful is_refusal a schedules g.refusals (ap (λ (f : Findings). f.refusals) same) lawful told.1;
   extent = (omega (arith, within, fits), refl);
 }
 
-lawful_tree : (e : ExplorationSeen) (o : Outcome) → IsWholeTree e o → MayBeTold o → IsLawfulOutcome e.flags (plain o)
-lawful_tree e (Complete g x) whole told = is_lawful e.flags (program_in e) (nodes (program_in e) e.depth) g x whole.limit whole.outcome.0 whole.outcome.2 whole.fits told
-lawful_tree e (Incomplete cause g) whole told = absurd whole.complete
+lawful_tree : (e : ExplorationSeen) (o : Outcome) → e.depth < 2 ^ 64 → IsWholeTree e o → MayBeTold o → IsLawfulOutcome e.flags (plain o)
+lawful_tree e (Complete g x) fits whole told = is_lawful e.flags (program_in e) (nodes (program_in e) e.depth) g x whole.limit whole.outcome.0 whole.outcome.2 whole.fits (tree_schedules e fits) told
+lawful_tree e (Incomplete cause g) fits whole told = absurd whole.complete
 
-lawful_job : (e : ExplorationSeen) (job : Job) (o : Outcome) → IsWholeJob e job o → MayBeTold o → IsLawfulOutcome e.flags (plain o)
-lawful_job e job (Complete g x) whole told = is_lawful e.flags (program_in e) (schedules_of (nodes_of (program_in e) e.depth job)) g x whole.limit whole.outcome.0 whole.outcome.2 whole.fits told
-lawful_job e job (Incomplete cause g) whole told = absurd whole.complete
+lawful_job : (e : ExplorationSeen) (job : Job) (o : Outcome) → e.depth < 2 ^ 64 → length job.prefix ≤ e.depth → IsWholeJob e job o → MayBeTold o → IsLawfulOutcome e.flags (plain o)
+lawful_job e job (Complete g x) fits short whole told =
+    is_lawful e.flags (program_in e) (schedules_of (nodes_of (program_in e) e.depth job)) g x whole.limit whole.outcome.0 whole.outcome.2 whole.fits (job_schedules e job fits short) told
+lawful_job e job (Incomplete cause g) fits short whole told = absurd whole.complete
 
-lawful_jobs : (e : ExplorationSeen) (jobs : List Job) (os : List Outcome) → AreWholeJobs e jobs os → AllByRecursion MayBeTold os → AllByRecursion (IsLawfulOutcome e.flags) (map plain os)
-lawful_jobs e [] [] whole told = tt
-lawful_jobs e [] (o ∷ os) whole told = absurd whole
-lawful_jobs e (job ∷ jobs) [] whole told = absurd whole
-lawful_jobs e (job ∷ jobs) (o ∷ os) whole told = (lawful_job e job o whole.0 told.0, lawful_jobs e jobs os whole.1 told.1)
+-- jobs that the tree has
+abbrev AreShort : ExplorationSeen → List Job → Type 0
+AreShort e jobs = AllByRecursion (λ (job : Job). length job.prefix ≤ e.depth) jobs
 
-lawful_parts : (e : ExplorationSeen) (at : ℕ) (first : Outcome) (others : List Outcome) → AreParts e at first others → AllByRecursion MayBeTold (first ∷ others) → AllByRecursion (IsLawfulOutcome e.flags) (map plain (first ∷ others))
-lawful_parts e zero first others parts told = lawful_jobs e parts.jobs (first ∷ others) parts.outcomes told
-lawful_parts e (suc above) first others parts told = (lawful_tree (to_depth e above) first parts.1 told.0, lawful_jobs e parts.2.jobs others parts.2.outcomes told.1)
+are_short : (e : ExplorationSeen) (at : ℕ) (jobs : List Job) → at ≤ e.depth → IsPermutation jobs (jobs_at (program_in e) at) → AreShort e jobs
+are_short e at jobs within all =
+    let there = jobs_at (program_in e) at in
+    let IsShort : Job → Type 0 = λ job. length job.prefix ≤ e.depth in
+    recursion_from_All IsShort jobs (All-permutation IsShort there jobs (IsPermutation-sym jobs there all)
+    (All-from_recursion IsShort there (all_among IsShort there (λ job among. let deep = (can_be_taken (program_in e) at job among).0 in omega (arith, deep, within)))))
+
+lawful_jobs : (e : ExplorationSeen) (jobs : List Job) (os : List Outcome) → e.depth < 2 ^ 64 → AreShort e jobs → AreWholeJobs e jobs os → AllByRecursion MayBeTold os → AllByRecursion (IsLawfulOutcome e.flags) (map plain os)
+lawful_jobs e [] [] fits short whole told = tt
+lawful_jobs e [] (o ∷ os) fits short whole told = absurd whole
+lawful_jobs e (job ∷ jobs) [] fits short whole told = absurd whole
+lawful_jobs e (job ∷ jobs) (o ∷ os) fits short whole told = (lawful_job e job o fits short.0 whole.0 told.0, lawful_jobs e jobs os fits short.1 whole.1 told.1)
+
+lawful_parts : (e : ExplorationSeen) (at : ℕ) (first : Outcome) (others : List Outcome) → e.depth < 2 ^ 64 → AreParts e at first others → AllByRecursion MayBeTold (first ∷ others) → AllByRecursion (IsLawfulOutcome e.flags) (map plain (first ∷ others))
+lawful_parts e zero first others fits parts told = lawful_jobs e parts.jobs (first ∷ others) fits (are_short e 0 parts.jobs (omega arith) parts.all) parts.outcomes told
+lawful_parts e (suc above) first others fits parts told =
+    (lawful_tree (to_depth e above) first (below_too above e.depth parts.0 fits) parts.1 told.0, lawful_jobs e parts.2.jobs others fits (are_short e (suc above) parts.2.jobs parts.0 parts.2.all) parts.2.outcomes told.1)
+  where
+    below_too : (k n : ℕ) → suc k ≤ n → n < 2 ^ 64 → k < 2 ^ 64
+    below_too k n less fits = omega (arith, less, fits)
 
 -- ---- texts do not show cuts
 
@@ -209,20 +264,20 @@ abbrev pub AreReadAs : (bytes : List ℕ) (depth at : ℕ) → Flags → Excuses
 AreReadAs bytes depth at flags x outcome = (first : Outcome) (others : List Outcome) → AllByRecursion (IsLawfulOutcome flags) (first ∷ others) → bytes ≡ text_of_reports (depth_above at) depth x (first ∷ others) → outcome ≡ merged_all first others
 
 tree_comes : (bytes : List ℕ) (depth at : ℕ) (flags : Flags) (x : Excuses) (old new : Option (List ℕ)) (failed : Bool) (outcome : Outcome) (verdict : Verdict)
-    → AreReadAs bytes depth at flags x outcome → WritesAll old new failed (text_of_report depth x outcome) → verdict ≡ verdict_of x outcome → ComesToTree bytes depth at flags x old new failed (Ok verdict)
-tree_comes bytes depth at flags x old new failed outcome verdict only written told = λ m first others whole parts told_of is tree.
+    → depth < 2 ^ 64 → AreReadAs bytes depth at flags x outcome → WritesAll old new failed (text_of_report depth x outcome) → verdict ≡ verdict_of x outcome → ComesToTree bytes depth at flags x old new failed (Ok verdict)
+tree_comes bytes depth at flags x old new failed outcome verdict fits only written told = λ m first others whole parts told_of is tree.
     let e : ExplorationSeen = record { program = m; depth = depth; flags = flags } in
     let same : outcome ≡ plain whole =
-    only (plain first) (map plain others) (lawful_parts e at first others parts told_of) (is ∙ sym (plain_reports (depth_above at) depth x first others))
+    only (plain first) (map plain others) (lawful_parts e at first others fits parts told_of) (is ∙ sym (plain_reports (depth_above at) depth x first others))
     ∙ parts_come e at first others whole parts tree in
     (subst (λ (t : List ℕ). WritesAll old new failed t) (ap (text_of_report depth x) same ∙ plain_text depth x whole) written, told ∙ ap (verdict_of x) same ∙ plain_verdict x whole)
 
 pub comes : (remaining : Option (List ℕ)) (bytes : List ℕ) (depth at : ℕ) (flags : Flags) (x : Excuses) (old new : Option (List ℕ)) (failed : Bool) (outcome : Outcome) (verdict : Verdict)
-    → IfSome remaining (λ all. bytes ≡ all) → AreReadAs bytes depth at flags x outcome → WritesAll old new failed (text_of_report depth x outcome) → verdict ≡ verdict_of x outcome
+    → depth < 2 ^ 64 → IfSome remaining (λ all. bytes ≡ all) → AreReadAs bytes depth at flags x outcome → WritesAll old new failed (text_of_report depth x outcome) → verdict ≡ verdict_of x outcome
     → IfSome remaining (λ input. ComesToTree input depth at flags x old new failed (Ok verdict))
-comes None bytes depth at flags x old new failed outcome verdict is only written told = tt
-comes (Some all) bytes depth at flags x old new failed outcome verdict is only written told =
-    subst (λ (t : List ℕ). ComesToTree t depth at flags x old new failed (Ok verdict)) is (tree_comes bytes depth at flags x old new failed outcome verdict only written told)
+comes None bytes depth at flags x old new failed outcome verdict fits is only written told = tt
+comes (Some all) bytes depth at flags x old new failed outcome verdict fits is only written told =
+    subst (λ (t : List ℕ). ComesToTree t depth at flags x old new failed (Ok verdict)) is (tree_comes bytes depth at flags x old new failed outcome verdict fits only written told)
 
 -- a refusal results in no tree
 pub none_comes : (remaining : Option (List ℕ)) (depth at : ℕ) (flags : Flags) (x : Excuses) (old new : Option (List ℕ)) (failed : Bool) (fault : RunFault) (r : Result Verdict RunFault)

@@ -32,8 +32,6 @@ use Rattle.search_crew.specs.declared.fault.SearchFault.TheVariants as search
 use Rattle.report_reader.specs.declared.fault.ReportFault.{ReportFault}
 use Rattle.report_reader.specs.declared.fault.ReportFault.TheVariants as report
 use Rattle.world_replay.specs.Replay.{reached, stop}
-use Rattle.world_replay.specs.declared.replay_fault.ReplayFault.{ReplayFault}
-use Rattle.world_replay.specs.declared.replay_fault.ReplayFault.TheVariants as replay
 use Rattle.search_crew.specs.Outcomes.{all_findings, whole_extent}
 use Rattle.search_jobs.specs.Explorations.{ExplorationSeen, explored_by, program_in}
 use Rattle.report_text.specs.Clean.{IsCleanOfAll}
@@ -45,7 +43,7 @@ use Rattle.program_runs.specs.Replayed.{IsReplayOf}
 use Rattle.program_runs.specs.Explored.{IsCleanIfSaid, IsExplorationOf, IsExplored, IsReportOf, ShowsNoErrorEver, complete_verdict, has_cover, print_of, text_of_form, verdict_of}
 use Rattle.program_runs.specs.Printing.{text_of_print}
 use Rattle.program_runs.specs.Program.{IsDone, Written}
-use Rattle.program_runs.specs.Status.{status_of, status_of_cover_fault, status_of_fault, status_of_job_fault, status_of_read_fault, status_of_replay_fault, status_of_report_fault, status_of_schedule_fault}
+use Rattle.program_runs.specs.Status.{status_of, status_of_cover_fault, status_of_fault, status_of_job_fault, status_of_read_fault, status_of_report_fault, status_of_schedule_fault}
 use Rattle.program_runs.specs.Theorem.{AllMeansAll, AreOfTree, CleanMeansNone, HasNoError, HasTranscript, IsExtentOf, ProgramRun, ReportEndsWith, ReportIsExact, TranscriptIsTheRun, text_after}
 use Rattle.program_runs.specs.declared.verdict.RunFault.{RunFault}
 use Rattle.program_runs.specs.declared.verdict.RunFault.TheVariants as run_faults
@@ -86,11 +84,6 @@ of_schedule : (f : ScheduleFault) → 2 ≤ status_of_schedule_fault f
 of_schedule (schedule.BadStep at) = at_two
 of_schedule schedule.Memory = at_three
 
-of_replay : (f : ReplayFault) → 2 ≤ status_of_replay_fault f
-of_replay (replay.NotEnabled step) = at_two
-of_replay replay.Memory = at_three
-of_replay replay.Write = at_four
-
 of_cover : (f : CoverFault) → 2 ≤ status_of_cover_fault f
 of_cover cover.Memory = at_three
 of_cover _ = at_two
@@ -112,7 +105,8 @@ of_fault : (f : RunFault) → 2 ≤ status_of_fault f
 of_fault (run_faults.Input fault) = of_read fault
 of_fault run_faults.ReadFailed = at_two
 of_fault (run_faults.Schedule fault) = of_schedule fault
-of_fault (run_faults.Replay fault) = of_replay fault
+of_fault (run_faults.NotEnabled step) = at_two
+of_fault run_faults.ReplayCutOff = at_three
 of_fault (run_faults.Explore fault) = of_search fault
 of_fault (run_faults.Cover fault) = of_cover fault
 of_fault (run_faults.Job fault) = of_job fault

@@ -23,7 +23,8 @@ IsRefusedBefore _ = ⊥
 -- what was written was handed on by a flush, unless the output has failed
 abbrev pub IsHandedOn : Result Verdict RunFault → Bool → Type 0
 IsHandedOn (Ok verdict) flushed = flushed ≡ true
-IsHandedOn (Err (run.Replay fault)) flushed = flushed ≡ true
+IsHandedOn (Err (run.NotEnabled step)) flushed = flushed ≡ true
+IsHandedOn (Err run.ReplayCutOff) flushed = flushed ≡ true
 IsHandedOn (Err run.ReportCutOff) flushed = flushed ≡ true
 IsHandedOn (Err run.CoverCutOff) flushed = flushed ≡ true
 IsHandedOn _ flushed = Unit {0}

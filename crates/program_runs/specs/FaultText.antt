@@ -5,8 +5,6 @@ use Rattle.core_tokens.specs.declared.fault.ReadFault.{ReadFault}
 use Rattle.core_tokens.specs.declared.fault.ReadFault.TheVariants as read
 use Rattle.term_core.specs.declared.schedule.ScheduleFault.{ScheduleFault}
 use Rattle.term_core.specs.declared.schedule.ScheduleFault.TheVariants as schedule
-use Rattle.world_replay.specs.declared.replay_fault.ReplayFault.{ReplayFault}
-use Rattle.world_replay.specs.declared.replay_fault.ReplayFault.TheVariants as replay
 use Rattle.search_crew.specs.declared.fault.SearchFault.TheVariants as search
 use Rattle.search_job_lines.specs.declared.fault.JobFault.{JobFault}
 use Rattle.search_job_lines.specs.declared.fault.JobFault.TheVariants as job
@@ -45,12 +43,6 @@ abbrev pub text_of_schedule_fault : ScheduleFault → List ℕ
 text_of_schedule_fault (schedule.BadStep at) = placed (codes "schedule: 1 BadStep at ") at
 text_of_schedule_fault schedule.Memory = codes "schedule: 2 Memory\n"
 
--- what stopped a replay; a line that could not be written is reported as for every output
-abbrev pub text_of_replay_fault : ReplayFault → List ℕ
-text_of_replay_fault (replay.NotEnabled step) = placed (codes "replay: 1 NotEnabled at step ") step
-text_of_replay_fault replay.Memory = codes "replay: 2 Memory\n"
-text_of_replay_fault replay.Write = codes "output failed\n"
-
 -- the refusal of a cover, by the line that it is about
 abbrev pub text_of_cover_fault : CoverFault → List ℕ
 text_of_cover_fault (cover.Missing line) = placed (codes "cover: 1 Missing at line ") line
@@ -83,7 +75,8 @@ abbrev pub text_of_fault : RunFault → List ℕ
 text_of_fault (run.Input fault) = text_of_read_fault fault
 text_of_fault run.ReadFailed = codes "input: read failed\n"
 text_of_fault (run.Schedule fault) = text_of_schedule_fault fault
-text_of_fault (run.Replay fault) = text_of_replay_fault fault
+text_of_fault (run.NotEnabled step) = placed (codes "replay: 1 NotEnabled at step ") step
+text_of_fault run.ReplayCutOff = codes "replay: 2 Memory\n"
 text_of_fault (run.Explore search.Memory) = codes "explore: 1 Memory\n"
 text_of_fault (run.Explore search.NoThread) = codes "explore: 2 NoThread\n"
 text_of_fault (run.Explore search.StrangePool) = codes "explore: 3 StrangePool\n"

@@ -4,11 +4,14 @@ use Rattle.std.specs.List.Sorted.{IsPermutation}
 use Rattle.std.specs.Prelude.{◌≡◌, ℕ, zero, suc, ◌≤◌, ◌<◌, ◌^◌, Bool, List, [], ◌∷◌, Option, Some, None, Result, Ok, Err}
 use Rattle.core_tokens.specs.declared.fault.ReadFault.TheVariants as read
 use Rattle.core_tree.specs.Syntax.{ModuleTree}
+use Rattle.tree_coverage.specs.Findings.{Finding}
 use Rattle.tree_coverage.specs.Jobs.{Job}
 use Rattle.tree_excuses.specs.Excuses.{Excuses}
 use Rattle.tree_findings.specs.declared.outcome.Outcome.{Outcome}
 use Rattle.tree_findings.specs.declared.outcome.Outcome.TheVariants.{Complete, Incomplete}
-use Rattle.report_reader.specs.Lawful.{HasLine, IsLawfulFinding, IsLawfulOutcome}
+use Rattle.report_identities.specs.Lawful.{IsLawfulIdentity}
+use Rattle.report_reader.specs.BadLines.{NamesFirstBadLine}
+use Rattle.report_reader.specs.Lawful.{HasLine, IsLawfulOutcome}
 use Rattle.report_reader.specs.Merged.{AreReportsOf, MayRefuseAll, text_of_reports}
 use Rattle.report_reader.specs.declared.fault.ReportFault.{ReportFault}
 use Rattle.report_text.specs.ReportText.{findings_in, text_of_report}
@@ -43,9 +46,10 @@ pub record AreMergedInPart (input : List ℕ) (depth at : ℕ) (flags : Flags) (
   pub reports : AreReportsOf (depth_above at) depth flags x input outcome
   pub broken : BreaksOff old new failed (text_of_report depth x outcome)
 
--- the line that a refusal names is one of the input, which, where it has reports, is refused only for lack of memory, or for a term or a number of nodes that is too large
+-- the line that a refusal names is one of the input, and a bad line the first that reports cannot have; where the input has reports, it is refused only for lack of memory, or for a term or a number of nodes that is too large
 pub record AreNoReports (input : List ℕ) (depth at : ℕ) (flags : Flags) (x : Excuses) (fault : ReportFault) : Type 0 where
   pub line : HasLine input fault
+  pub first_bad : NamesFirstBadLine (depth_above at) depth flags x input fault
   pub only : (first : Outcome) (others : List Outcome) → AllByRecursion (IsLawfulOutcome flags) (first ∷ others) → input ≡ text_of_reports (depth_above at) depth x (first ∷ others) → MayRefuseAll (first ∷ others) fault
 
 -- the report of what they result in was written; or a report was refused, or the input could not be read, or there was no memory for it, and nothing was written; or the output failed, at a write or at the flush
@@ -99,9 +103,13 @@ abbrev pub AreParts : ExplorationSeen → ℕ → Outcome → List Outcome → T
 AreParts e zero first others = AreAllJobs e 0 (first ∷ others)
 AreParts e (suc above) first others = (suc above ≤ e.depth) × IsWholeTree (to_depth e above) first × AreAllJobs e (suc above) others
 
--- texts may have what was found: its numbers have 64 bits, and its atoms are UTF-8
+-- texts may have what these findings show: its numbers have 64 bits, and its atoms are UTF-8
+abbrev pub AreToldOf : List Finding → Type 0
+AreToldOf fs = AllByRecursion (λ f. IsLawfulIdentity f.identity) fs
+
+-- so it is of the errors and the refusals of an outcome
 abbrev pub MayBeTold : Outcome → Type 0
-MayBeTold o = AllByRecursion IsLawfulFinding (findings_in o).errors × AllByRecursion IsLawfulFinding (findings_in o).refusals
+MayBeTold o = AreToldOf (findings_in o).errors × AreToldOf (findings_in o).refusals
 
 -- where the input has the reports of the parts of a tree, what was written is the report of the tree
 abbrev pub ComesToTree : List ℕ → (depth at : ℕ) → Flags → Excuses → (old new : Option (List ℕ)) → Bool → Result Verdict RunFault → Type 0

@@ -14,10 +14,10 @@ abbrev pub refusal_of_input : InputFault → RunFault
 refusal_of_input input.ReadFailed = run.ReadFailed
 refusal_of_input input.Memory = run.Input read.Memory
 
--- a line that could not be written is output that failed
+-- a step that is not enabled stops the replay, and so does the lack of memory; a line that could not be written is output that failed
 abbrev pub refusal_of_replay : ReplayFault → RunFault
-refusal_of_replay (replay.NotEnabled step) = run.Replay (replay.NotEnabled step)
-refusal_of_replay replay.Memory = run.Replay replay.Memory
+refusal_of_replay (replay.NotEnabled step) = run.NotEnabled step
+refusal_of_replay replay.Memory = run.ReplayCutOff
 refusal_of_replay replay.Write = run.Output
 
 -- a report, or the cover after it, that could not be written is output that failed

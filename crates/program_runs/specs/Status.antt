@@ -4,8 +4,6 @@ use Rattle.core_tokens.specs.declared.fault.ReadFault.{ReadFault}
 use Rattle.core_tokens.specs.declared.fault.ReadFault.TheVariants as read
 use Rattle.term_core.specs.declared.schedule.ScheduleFault.{ScheduleFault}
 use Rattle.term_core.specs.declared.schedule.ScheduleFault.TheVariants as schedule
-use Rattle.world_replay.specs.declared.replay_fault.ReplayFault.{ReplayFault}
-use Rattle.world_replay.specs.declared.replay_fault.ReplayFault.TheVariants as replay
 use Rattle.search_crew.specs.declared.fault.SearchFault.TheVariants as search
 use Rattle.search_job_lines.specs.declared.fault.JobFault.{JobFault}
 use Rattle.search_job_lines.specs.declared.fault.JobFault.TheVariants as job
@@ -28,12 +26,6 @@ abbrev pub status_of_schedule_fault : ScheduleFault → ℕ
 status_of_schedule_fault (schedule.BadStep at) = 2
 status_of_schedule_fault schedule.Memory = 3
 
--- a step that is not enabled, the lack of memory, or output that failed
-abbrev pub status_of_replay_fault : ReplayFault → ℕ
-status_of_replay_fault (replay.NotEnabled step) = 2
-status_of_replay_fault replay.Memory = 3
-status_of_replay_fault replay.Write = 4
-
 -- a cover that was refused, or the lack of memory
 abbrev pub status_of_cover_fault : CoverFault → ℕ
 status_of_cover_fault cover.Memory = 3
@@ -54,7 +46,8 @@ abbrev pub status_of_fault : RunFault → ℕ
 status_of_fault (run.Input fault) = status_of_read_fault fault
 status_of_fault run.ReadFailed = 2
 status_of_fault (run.Schedule fault) = status_of_schedule_fault fault
-status_of_fault (run.Replay fault) = status_of_replay_fault fault
+status_of_fault (run.NotEnabled step) = 2
+status_of_fault run.ReplayCutOff = 3
 status_of_fault (run.Explore search.Memory) = 3
 status_of_fault (run.Explore search.NoThread) = 3
 status_of_fault (run.Explore search.StrangePool) = 3

@@ -1,7 +1,7 @@
 // The line by which a refusal is reported. No write takes memory.
 ghost use Rattle.std.specs.Prelude.{◌≡◌, false};
 ghost use Rattle.term_core.specs.Stream.{Writes};
-ghost use Rattle.program_runs.specs.FaultText.{placed, text_of_read_fault, text_of_schedule_fault, text_of_replay_fault, text_of_cover_fault, text_of_job_fault, text_of_report_fault, text_of_fault};
+ghost use Rattle.program_runs.specs.FaultText.{placed, text_of_read_fault, text_of_schedule_fault, text_of_cover_fault, text_of_job_fault, text_of_report_fault, text_of_fault};
 
 use crate::verdict::RunFault;
 use core_reader::ReadFault;
@@ -10,7 +10,6 @@ use search_crew::SearchFault;
 use search_job_lines::JobFault;
 use term_core::{ScheduleFault, Sink, WriteFault, write_all, write_number};
 use tree_covers::CoverFault;
-use world_replay::ReplayFault;
 
 /// Writes the line of a refusal: the part that refused, the fault by its number and its name, and its
 /// place. `WriteFault` comes only where the sink has failed, and then a beginning of the line was
@@ -23,7 +22,10 @@ pub fn write_fault<W: Sink>(sink: &mut W, fault: &RunFault) -> Result<(), WriteF
         RunFault::Input(fault) => write_read_fault(sink, fault),
         RunFault::ReadFailed => write_all(sink, b"input: read failed\n"),
         RunFault::Schedule(fault) => write_schedule_fault(sink, fault),
-        RunFault::Replay(fault) => write_replay_fault(sink, fault),
+        RunFault::NotEnabled(step) => {
+            write_placed(sink, b"replay: 1 NotEnabled at step ", *step)
+        }
+        RunFault::ReplayCutOff => write_all(sink, b"replay: 2 Memory\n"),
         RunFault::Explore(SearchFault::Memory) => write_all(sink, b"explore: 1 Memory\n"),
         RunFault::Explore(SearchFault::NoThread) => write_all(sink, b"explore: 2 NoThread\n"),
         RunFault::Explore(SearchFault::StrangePool) => write_all(sink, b"explore: 3 StrangePool\n"),
@@ -73,20 +75,6 @@ fn write_schedule_fault<W: Sink>(sink: &mut W, fault: &ScheduleFault) -> Result<
     match fault {
         ScheduleFault::BadStep(at) => write_placed(sink, b"schedule: 1 BadStep at ", *at),
         ScheduleFault::Memory => write_all(sink, b"schedule: 2 Memory\n"),
-    }
-}
-
-// Writes the line of what stopped a replay.
-fn write_replay_fault<W: Sink>(sink: &mut W, fault: &ReplayFault) -> Result<(), WriteFault>
-    requires { W.has_failed sink.old ≡ false }
-    ensures { Writes (W.contents sink.old) (W.contents sink.new) (W.has_failed sink.new) result (text_of_replay_fault fault.now) }
-{
-    match fault {
-        ReplayFault::NotEnabled(step) => {
-            write_placed(sink, b"replay: 1 NotEnabled at step ", *step)
-        }
-        ReplayFault::Memory => write_all(sink, b"replay: 2 Memory\n"),
-        ReplayFault::Write => write_all(sink, b"output failed\n"),
     }
 }
 

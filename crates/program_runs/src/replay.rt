@@ -20,9 +20,9 @@ use world_replay::replay_and_flush;
 ///
 /// `Input` where the source gives no module, `ReadFailed` where it cannot be read, `Schedule` where
 /// the text is that of no schedule, and then nothing was written; where both are refused it is the
-/// module's refusal. `Replay` where a step is not
-/// enabled, with the lines of the steps before it. `Output` where the sink has failed, at a write or at
-/// the flush, and a lack of memory in each part as its own: then a beginning of the lines was written.
+/// module's refusal. `NotEnabled` where a step is not enabled, with the lines of the steps before it. `ReplayCutOff` where
+/// there was no memory for the next step, and a lack of memory in each other part as its own. `Output` where the sink has
+/// failed, at a write or at the flush: then a beginning of the lines was written.
 pub fn run_replay<R: Source, W: Sink>(
     alloc: Global,
     source: &mut R,

@@ -1,6 +1,6 @@
 // How a run ends: its verdict or its refusal, and the exit status that reports it.
 ghost use Rattle.std.specs.Prelude.{◌≡◌};
-ghost use Rattle.program_runs.specs.Status.{status_of, status_of_verdict, status_of_fault, status_of_read_fault, status_of_schedule_fault, status_of_replay_fault, status_of_cover_fault, status_of_job_fault, status_of_report_fault};
+ghost use Rattle.program_runs.specs.Status.{status_of, status_of_verdict, status_of_fault, status_of_read_fault, status_of_schedule_fault, status_of_cover_fault, status_of_job_fault, status_of_report_fault};
 
 use crate::input::InputFault;
 use crate::print_fault::PrintFault;
@@ -34,8 +34,10 @@ pub enum RunFault {
     ReadFailed,
     /// The schedule was refused.
     Schedule(ScheduleFault),
-    /// The replay stopped.
-    Replay(ReplayFault),
+    /// The replay stopped before the step of this place in the schedule, counted from 1, which is not enabled.
+    NotEnabled(usize),
+    /// There was no memory to replay a schedule to its end. A beginning of the lines was written.
+    ReplayCutOff,
     /// The search was not begun.
     Explore(SearchFault),
     /// The cover that came with the module was refused.
@@ -92,8 +94,9 @@ impl From<ReplayFault> for RunFault {
 
     fn from(fault: ReplayFault) -> RunFault {
         match fault {
+            ReplayFault::NotEnabled(step) => RunFault::NotEnabled(step),
+            ReplayFault::Memory => RunFault::ReplayCutOff,
             ReplayFault::Write => RunFault::Output,
-            _ => RunFault::Replay(fault),
         }
     }
 }
@@ -194,7 +197,8 @@ fn fault_status(fault: &RunFault) -> u8
         RunFault::Input(fault) => input_status(fault),
         RunFault::ReadFailed => 2,
         RunFault::Schedule(fault) => schedule_status(fault),
-        RunFault::Replay(fault) => replay_status(fault),
+        RunFault::NotEnabled(_) => 2,
+        RunFault::ReplayCutOff => 3,
         RunFault::Explore(SearchFault::Memory) => 3,
         RunFault::Explore(SearchFault::NoThread) => 3,
         RunFault::Explore(SearchFault::StrangePool) => 3,
@@ -224,17 +228,6 @@ fn schedule_status(fault: &ScheduleFault) -> u8
     match fault {
         ScheduleFault::BadStep(_) => 2,
         ScheduleFault::Memory => 3,
-    }
-}
-
-// The exit status where the replay stopped.
-fn replay_status(fault: &ReplayFault) -> u8
-    ensures { result ≡ status_of_replay_fault fault.now }
-{
-    match fault {
-        ReplayFault::NotEnabled(_) => 2,
-        ReplayFault::Memory => 3,
-        ReplayFault::Write => 4,
     }
 }
 

@@ -1,2 +1,3 @@
+pub mod RefusalText
 pub mod Words
 pub mod inside

@@ -11,6 +11,7 @@ ghost use Rattle.program_words.specs.Words.{AreSmall};
 ghost use Rattle.program_words.specs.inside.Found.{AreExcusesIn, AreTextsOf, AskExcuses, rows_in, texts_in};
 
 use crate::command_line::NAME;
+use crate::refusals::text_of_no_term;
 use clap::error::ErrorKind;
 use clap::{ArgMatches, Command, Error};
 use std::alloc::{AllocError, Global};
@@ -101,12 +102,6 @@ fn read_text(alloc: Global, text: &str) -> Result<Term, Error>
 fn refusal(alloc: Global, text: &str, fault: TermFault) -> Result<Error, AllocError>
     ensures { fault ≡ TermFault.Memory → IsErr result }
 {
-    let message = match fault {
-        TermFault::BadTerm(at) => format!(in alloc; "'{text}' is no term: see its byte {at}")?,
-        TermFault::TooDeep(at) => {
-            format!(in alloc; "'{text}' has more than 10000 nodes: see its byte {at}")?
-        }
-        TermFault::Memory => return Err(AllocError),
-    };
+    let message = text_of_no_term(alloc, text, fault)?;
     Command::new(alloc, NAME).error(ErrorKind::ValueValidation, message.as_str())
 }

@@ -13,6 +13,7 @@ use crate::command_line::{
     NAME, Split, command, found_check, found_job, found_options, found_schedule, found_split,
 };
 use crate::excused::read_excuses;
+use crate::refusals::text_of_too_deep;
 use clap::error::ErrorKind;
 use clap::{ArgMatches, Command, Error};
 use std::alloc::{AllocError, Global};
@@ -187,10 +188,6 @@ fn read_split(
 
 // What is said of jobs that are deeper than their tree.
 fn too_deep(alloc: Global, split: Split) -> Result<Error, AllocError> {
-    let at = split.at;
-    let depth = split.depth;
-    let message = format!(in alloc;
-        "invalid value '{at}' for '--at <D>': {at} is not in 0..={depth}"
-    )?;
+    let message = text_of_too_deep(alloc, split.at, split.depth)?;
     Command::new(alloc, NAME).error(ErrorKind::ValueValidation, message.as_str())
 }

@@ -1,26 +1,45 @@
 -- What is read of the two lines of a finding.
-use Rattle.std.proofs.Common.{◌≡◌, ℕ, List, ◌∷◌, ◌++◌, codes, ap, ◌∙◌}
+use Rattle.std.proofs.Common.{◌≡◌, ℕ, ◌+◌, ◌<◌, ◌^◌, true, List, [], ◌∷◌, ◌++◌, length, codes, ap, sym, refl, ◌∙◌, subst, append_assoc}
 use Rattle.std.specs.Fmt.{decimal}
 use Rattle.term_core.specs.Schedule.{AreLawful}
 use Rattle.term_core.specs.Text.{text_of_schedule}
 use Rattle.term_core.specs.declared.step.Step.{Step}
-use Rattle.world_model.specs.Shown.{Identity}
+use Rattle.world_model.specs.Shown.{Identity, Flags}
 use Rattle.tree_coverage.specs.Findings.{Finding}
+use Rattle.tree_excuses.specs.Excuses.{Excuses}
 use Rattle.report_identities.specs.Lawful.{IsLawfulIdentity, MayRefuse, height_in}
 use Rattle.report_identities.specs.declared.fault.IdentityFault.{IdentityFault}
 use Rattle.report_identities.specs.declared.fault.IdentityFault.TheVariants as faults
 use Rattle.report_text.specs.IdentityText.{text_of_identity}
 use Rattle.report_reader.specs.declared.fault.Stop.{Stop}
 use Rattle.report_reader.specs.declared.fault.Stop.TheVariants.{Bad, Deep, Memory}
-use Rattle.report_reader.specs.inside.Reading.{HasNoFront, HasNoMark, IsCut, IsHigh, IsHighFinding, IsNever, IsRead, MayStop, Refuses, SaysFinding, SaysIdentity, SaysSchedule, stop_of}
+use Rattle.report_reader.specs.declared.kinds.Kind.{Kind}
+use Rattle.report_reader.specs.inside.Reading.{AllComeBefore, HasNoFront, HasNoMark, IsCut, IsHigh, IsInLine, IsNever, IsRead, LacksMark, Refuses, SaysIdentity, SaysSchedule, SaysShown, StopsInLine, is_of, stop_of}
 use Rattle.report_reader.proofs.Cuts.{same_behind, same_cut}
-use Rattle.report_reader.proofs.LineTexts.{no_end-identity, no_end-schedule}
+use Rattle.report_reader.proofs.LineTexts.{computed, no_end-append, no_end-decimal, no_end-identity, no_end-schedule}
 
--- where reading stops at a part, it stops at the whole
-pub carried : (stop : Stop) (P Q : Type 0) → (P → Q) → MayStop P stop → MayStop Q stop
-carried (Bad left) P Q to may = may
-carried (Deep left) P Q to may = to may
-carried Memory P Q to may = tt
+-- ---- places
+
+-- the place of the first byte
+pub at_once : (text : List ℕ) (left : ℕ) → left ≡ length text → IsInLine text left
+at_once text left e = record { line = []; rest = text; parts = refl; place = e; inside = tt }
+
+-- a place after a front without an end
+pub further : (front inside text : List ℕ) (stop : Stop) → LacksMark 10 front → text ≡ front ++ inside → StopsInLine inside stop → StopsInLine text stop
+further front inside text (Bad left) lacks is at = record {
+  line = front ++ at.line;
+  rest = at.rest;
+  parts = is ∙ ap (λ w. front ++ w) at.parts ∙ sym (append_assoc front at.line at.rest);
+  place = at.place;
+  inside = no_end-append front at.line lacks at.inside;
+}
+further front inside text (Deep left) lacks is at = tt
+further front inside text Memory lacks is at = tt
+
+pub identity_stops : (text : List ℕ) (fault : IdentityFault) (left : ℕ) → left ≡ length text → StopsInLine text (stop_of fault left)
+identity_stops text faults.BadIdentity left e = at_once text left e
+identity_stops text faults.TooDeep left e = tt
+identity_stops text faults.Memory left e = tt
 
 -- ---- the line of an identity
 
@@ -65,47 +84,40 @@ schedule_read text inside line rest s front cut lawful is one = record {
   only = λ t more h. let same = same_line text inside line rest more t front cut h in (one t h.0 same.0, same.1);
 }
 
--- ---- both
+-- ---- what is shown, after the number of a finding
+
+abbrev pub number_of : ℕ → List ℕ
+number_of n = decimal n ++ codes ": "
+
+pub no_end-number : (n : ℕ) → n < 2 ^ 64 → LacksMark 10 (number_of n)
+no_end-number n h = no_end-append (decimal n) (codes ": ") (no_end-decimal n h) (computed (codes ": ") refl)
 
 -- what follows the number of a finding
 abbrev pub lines_of : Finding → List ℕ → List ℕ
 lines_of f rest = text_of_identity f.identity ++ 10 ∷ (codes "  " ++ (text_of_schedule f.schedule ++ 10 ∷ rest))
 
-abbrev pub number_of : ℕ → List ℕ
-number_of n = decimal n ++ codes ": "
+module _ (kind : Kind) (flags : Flags) (x : Excuses) (fs : List Finding) (text : List ℕ) where
+  pub shown_unnumbered : (left : ℕ) → HasNoFront (number_of (length fs + 1)) text → Refuses IsHigh (SaysShown kind flags x fs text) (Bad left)
+  shown_unnumbered left none = λ i rest s. none (text_of_identity i ++ 10 ∷ rest) s.parts
 
-pub finding_unnumbered : (n : ℕ) (text : List ℕ) (left : ℕ) → HasNoFront (decimal n ++ codes ": ") text → Refuses IsHighFinding (SaysFinding n text) (Bad left)
-finding_unnumbered n text left none = λ f rest s. none (lines_of f rest) s.1
+  -- the identity that the text says
+  behind_number : (shown : List ℕ) → text ≡ number_of (length fs + 1) ++ shown → (i : Identity) (rest : List ℕ) → SaysShown kind flags x fs text i rest → SaysIdentity shown i rest
+  behind_number shown front i rest s = (s.lawful, same_behind (number_of (length fs + 1)) shown (text_of_identity i ++ 10 ∷ rest) text front s.parts)
 
--- the first line of the finding that the text says
-first_line : (n : ℕ) (text shown : List ℕ) (f : Finding) (rest : List ℕ) → text ≡ (decimal n ++ codes ": ") ++ shown → SaysFinding n text f rest
-    → SaysIdentity shown f.identity (codes "  " ++ (text_of_schedule f.schedule ++ 10 ∷ rest))
-first_line n text shown f rest front s = (s.0.identity, same_behind (number_of n) shown (lines_of f rest) text front s.1)
+  pub shown_unread : (shown : List ℕ) (stop : Stop) → text ≡ number_of (length fs + 1) ++ shown → Refuses IsHigh (SaysIdentity shown) stop → Refuses IsHigh (SaysShown kind flags x fs text) stop
+  shown_unread shown stop front none = λ i rest s. none i rest (behind_number shown front i rest s)
 
-pub finding_unshown : (n : ℕ) (text shown : List ℕ) (stop : Stop) → text ≡ (decimal n ++ codes ": ") ++ shown → Refuses IsHigh (SaysIdentity shown) stop → Refuses IsHighFinding (SaysFinding n text) stop
-finding_unshown n text shown stop front none = λ f rest s. none f.identity _ (first_line n text shown f rest front s)
+  pub shown_other : (shown next : List ℕ) (i : Identity) (n : ℕ) → text ≡ number_of (length fs + 1) ++ shown → IsRead (SaysIdentity shown) i next
+      → (is_of kind flags x i ≡ true → ⊥) → Refuses IsHigh (SaysShown kind flags x fs text) (Bad n)
+  shown_other shown next i n front read other = λ j rest s. other (ap (is_of kind flags x) (read.only j rest (behind_number shown front j rest s)).0 ∙ s.is_one)
 
--- and its second line
-second_line : (n : ℕ) (text shown next : List ℕ) (i : Identity) (f : Finding) (rest : List ℕ) → text ≡ (decimal n ++ codes ": ") ++ shown → IsRead (SaysIdentity shown) i next → SaysFinding n text f rest
-    → (i ≡ f.identity) × SaysSchedule next f.schedule rest
-second_line n text shown next i f rest front read s =
-    let same = read.only f.identity (codes "  " ++ (text_of_schedule f.schedule ++ 10 ∷ rest)) (first_line n text shown f rest front s) in (same.0, (s.0.schedule, same.1))
+  pub shown_early : (shown next : List ℕ) (i : Identity) (n : ℕ) → text ≡ number_of (length fs + 1) ++ shown → IsRead (SaysIdentity shown) i next
+      → (AllComeBefore fs i → ⊥) → Refuses IsHigh (SaysShown kind flags x fs text) (Bad n)
+  shown_early shown next i n front read early = λ j rest s. early (subst (AllComeBefore fs) (sym (read.only j rest (behind_number shown front j rest s)).0) s.in_order)
 
-pub finding_unscheduled : (n : ℕ) (text shown next : List ℕ) (i : Identity) (stop : Stop) → text ≡ (decimal n ++ codes ": ") ++ shown → IsRead (SaysIdentity shown) i next
-    → Refuses IsNever (SaysSchedule next) stop → Refuses IsHighFinding (SaysFinding n text) stop
-finding_unscheduled n text shown next i stop front read none = λ f rest s.
-    let line = second_line n text shown next i f rest front read s in
-    carried stop ⊥ (IsHighFinding f) (λ never. absurd never) (none f.schedule rest line.1)
-
-pub finding_read : (n : ℕ) (text shown next rest : List ℕ) (i : Identity) (t : List Step) → text ≡ (decimal n ++ codes ": ") ++ shown → IsRead (SaysIdentity shown) i next → IsRead (SaysSchedule next) t rest
-    → IsRead (SaysFinding n text) (record { identity = i; schedule = t }) rest
-finding_read n text shown next rest i t front shows follows = record {
-  says = (
-    record { identity = shows.says.0; schedule = follows.says.0 },
-    front ∙ ap (λ w. number_of n ++ w) (shows.says.1 ∙ ap (λ w. text_of_identity i ++ 10 ∷ w) follows.says.1),
-  );
-  only = λ f more s.
-      let line = second_line n text shown next i f more front shows s in
-      let same = follows.only f.schedule more line.1 in
-      (λ k. record { identity = line.0 k; schedule = same.0 k }, same.1);
-}
+  pub shown_read : (shown next : List ℕ) (i : Identity) → text ≡ number_of (length fs + 1) ++ shown → IsRead (SaysIdentity shown) i next
+      → is_of kind flags x i ≡ true → AllComeBefore fs i → IsRead (SaysShown kind flags x fs text) i next
+  shown_read shown next i front read one before = record {
+    says = record { lawful = read.says.0; parts = front ∙ ap (λ w. number_of (length fs + 1) ++ w) read.says.1; is_one = one; in_order = before };
+    only = λ j rest s. read.only j rest (behind_number shown front j rest s);
+  }

@@ -1,14 +1,17 @@
 -- What is read of the first line of a report.
-use Rattle.std.proofs.Common.{◌≡◌, ℕ, zero, suc, ◌<◌, ◌^◌, List, [], ◌∷◌, ◌++◌, Option, Some, None, MatchOption, codes, ap, sym, refl, ◌∙◌, arith}
+use Rattle.std.proofs.Common.{◌≡◌, ℕ, zero, suc, ◌<◌, ◌^◌, List, [], ◌∷◌, ◌++◌, length, Option, Some, None, MatchOption, codes, ap, sym, refl, ◌∙◌, arith, append_assoc}
 use Rattle.std.proofs.lemmas.Fmt.{decimal_injective}
 use Rattle.std.proofs.lemmas.List.{append_cancel_left, append_cancel_right}
 use Rattle.std.specs.Fmt.{decimal}
 use Rattle.tree_findings.specs.declared.outcome.Cause.TheVariants as causes
 use Rattle.report_text.specs.ReportText.{text_of_nodes}
+use Rattle.report_reader.specs.declared.fault.Stop.TheVariants.{Bad}
 use Rattle.report_reader.specs.declared.first_line.Reach.{Reach}
 use Rattle.report_reader.specs.declared.first_line.Reach.TheVariants.{Whole, Stopped}
-use Rattle.report_reader.specs.inside.Reading.{HasNoBack, HasNoFront, HasNoMark, IsCut, IsLawfulReach, IsRead, SaysReach, text_of_depth, text_of_reach}
+use Rattle.report_reader.specs.inside.Reading.{Anything, HasNoBack, HasNoFront, HasNoMark, IsCut, IsLawfulReach, IsNever, IsRead, IsReadOn, RefusesOn, SaysReach, text_of_depth, text_of_reach}
 use Rattle.report_reader.proofs.Cuts.{same_behind, same_cut}
+use Rattle.report_reader.proofs.FindingTexts.{at_once}
+use Rattle.report_reader.proofs.Lines.{same_ended, whole-line, whole-nil}
 use Rattle.report_reader.proofs.LineTexts.{HasNoEnd, computed, no_end-append, no_end-decimal}
 
 -- ---- the number of nodes
@@ -87,3 +90,37 @@ module _ (depth : ℕ) (low : depth < 2 ^ 64) (text : List ℕ) where
         let same = said_line line next cut other rest s in
         (reach_injective reach other lawful s.0 (sym is ∙ same_behind (text_of_depth depth) inside (text_of_reach other) line front same.0), same.1);
   }
+
+  -- whatever follows the line
+  pub reach_on : (reach : Reach) (next : List ℕ) → IsRead (SaysReach depth text) reach next → IsReadOn Anything (SaysReach depth) text reach next
+  reach_on reach next read =
+      let w = text_of_depth depth ++ text_of_reach reach in
+      let lacks = no_end-line depth reach low read.says.0 in
+      record {
+        piece = w ++ 10 ∷ [];
+        parts = read.says.1 ∙ sym (append_assoc w (10 ∷ []) next);
+        whole = whole-line w lacks;
+        says = λ other fits. (read.says.0, append_assoc w (10 ∷ []) other);
+        only = λ other same b more s.
+            let v = text_of_depth depth ++ text_of_reach b in
+            let cut = same_cut 10 (w ++ 10 ∷ other) w other v more (lacks, refl) (no_end-line depth b low s.0) (sym (append_assoc w (10 ∷ []) other) ∙ s.1) in
+            (reach_injective reach b read.says.0 s.0 (append_cancel_left (text_of_depth depth) (text_of_reach reach) (text_of_reach b) cut.0), cut.1);
+      }
+
+  -- the line is bad
+  pub reach_bad : (left : ℕ) → left ≡ length text → ((reach : Reach) (rest : List ℕ) → SaysReach depth text reach rest → ⊥) → RefusesOn IsNever Anything (SaysReach depth) text (Bad left)
+  reach_bad left place none =
+      let w = text_of_depth depth ++ text_of_reach (Stopped causes.Memory) in
+      record {
+        front = [];
+        behind = text;
+        parts = refl;
+        whole = whole-nil;
+        place = at_once text left place;
+        none = λ other same b more s.
+            let here = same_ended (text_of_depth depth ++ text_of_reach b) text other more (no_end-line depth b low s.0) same s.1 in
+            none b here.0 (s.0, here.1);
+        instead = Stopped causes.Memory;
+        tail = w ++ 10 ∷ [];
+        can = λ after fits. (tt, append_assoc w (10 ∷ []) after);
+      }

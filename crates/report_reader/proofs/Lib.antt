@@ -1,8 +1,10 @@
 pub mod Cuts
 pub mod LineTexts
-pub mod LinePlaces
+pub mod Lines
+pub mod Sequence
 pub mod FindingTexts
 pub mod FirstLines
+pub mod LastLines
 pub mod Fronts
 pub mod ListLaws
 pub mod Listing

@@ -12,8 +12,8 @@ use Rattle.report_text.specs.ReportText.{complete_result, findings_from, finding
 use Rattle.report_reader.specs.Lawful.{AreLawfulFindings, IsLawfulOutcome}
 use Rattle.report_reader.specs.declared.first_line.Reach.{Reach}
 use Rattle.report_reader.specs.declared.first_line.Reach.TheVariants.{Whole, Stopped}
-use Rattle.report_reader.specs.declared.kinds.Kind.TheVariants.{Error, Refusal, Normal}
-use Rattle.report_reader.specs.inside.Reading.{EndsAt, HasNoFront, IsLawfulReach, Lists, SaysLists, SaysReach, SaysReport, end_of, label_of, outcome_of, result_told, text_of_depth, text_of_reach}
+use Rattle.report_reader.specs.declared.kinds.Kind.TheVariants.{Error, Refusal}
+use Rattle.report_reader.specs.inside.Reading.{EndsFindings, EndsLists, IsLawfulReach, Lists, SaysReach, SaysReport, SaysRest, end_of, outcome_of, result_told, text_of_depth, text_of_reach}
 use Rattle.report_reader.proofs.ListLaws.{all_by, and_first, and_second, first_part, lawful_kept, merged_lawful, merged_parts, second_part}
 
 -- ---- the pieces of an outcome
@@ -88,24 +88,23 @@ byte_at n [] = 0
 byte_at zero (b ∷ bs) = b
 byte_at (suc n) (b ∷ bs) = byte_at n bs
 
-module _ (x : Excuses) (reach : Reach) (l : Lists) (rest : List ℕ) where
-  normal_ends : HasNoFront (label_of Normal) (at_end x reach l rest)
-  normal_ends = λ w e. omega (arith, ap (byte_at 0) e)
+-- where no other finding follows, none does after some of the last kinds
+pub normal_begin : (ns : List Finding) (rest : List ℕ) → EndsFindings Refusal rest → EndsFindings Refusal (findings_from (codes "normal") 1 ns ++ rest)
+normal_begin [] rest ends = ends
+normal_begin (n ∷ ns) rest ends = λ w e. omega (arith, ap (byte_at 0) e)
 
-  refusals_end : HasNoFront (label_of Refusal) (at_normal x reach l rest)
-  refusals_end = go l.normal
-    where
-      go : (fs : List Finding) → HasNoFront (label_of Refusal) (findings_from (codes "normal") 1 fs ++ at_end x reach l rest)
-      go [] = λ w e. omega (arith, ap (byte_at 0) e)
-      go (f ∷ fs) = λ w e. omega (arith, ap (byte_at 0) e)
+pub others_begin : (rs ns : List Finding) (rest : List ℕ) → EndsFindings Error rest → EndsFindings Error (findings_from (codes "refusal") 1 rs ++ (findings_from (codes "normal") 1 ns ++ rest))
+others_begin [] [] rest ends = ends
+others_begin [] (n ∷ ns) rest ends = λ w e. omega (arith, ap (byte_at 0) e)
+others_begin (r ∷ rs) ns rest ends = λ w e. omega (arith, ap (byte_at 0) e)
 
-  errors_end : HasNoFront (label_of Error) (at_refusals x reach l rest)
-  errors_end = go l.refusals l.normal
-    where
-      go : (rs ns : List Finding) → HasNoFront (label_of Error) (findings_from (codes "refusal") 1 rs ++ (findings_from (codes "normal") 1 ns ++ at_end x reach l rest))
-      go [] [] = λ w e. omega (arith, ap (byte_at 5) e)
-      go [] (n ∷ ns) = λ w e. omega (arith, ap (byte_at 0) e)
-      go (r ∷ rs) ns = λ w e. omega (arith, ap (byte_at 0) e)
+-- the last two lines are no finding
+pub end_follows : (x : Excuses) (reach : Reach) (l : Lists) (rest : List ℕ) → EndsLists (at_end x reach l rest)
+end_follows x reach l rest = record {
+  errors = λ w e. omega (arith, ap (byte_at 5) e);
+  refusals = λ w e. omega (arith, ap (byte_at 0) e);
+  normal = λ w e. omega (arith, ap (byte_at 0) e);
+}
 
 -- ---- a report says its pieces
 
@@ -123,31 +122,34 @@ lawful_reach : (flags : Flags) (o : Outcome) → IsLawfulOutcome flags o → IsL
 lawful_reach flags (Complete findings extent) h = h.extent.0
 lawful_reach flags (Incomplete cause findings) h = tt
 
--- where a text says a report, it says how far it came, its lists, and its end
+-- where a text says a report, it says how far it came, and then its lists and its end
 pub record SaysPieces (depth : ℕ) (flags : Flags) (x : Excuses) (text : List ℕ) (reach : Reach) (l : Lists) (rest : List ℕ) : Type 0 where
   pub first : List ℕ
-  pub second : List ℕ
   pub reach_said : SaysReach depth text reach first
-  pub lists_said : SaysLists flags x first l second
-  pub end_said : EndsAt x reach l second rest
+  pub rest_said : SaysRest flags x reach first l rest
 
 pub says_pieces : (depth : ℕ) (flags : Flags) (x : Excuses) (text : List ℕ) (o : Outcome) (rest : List ℕ) → SaysReport depth flags x text o rest → SaysPieces depth flags x text (reach_of o) (lists_of x o) rest
 says_pieces depth flags x text o rest s =
     let reach = reach_of o in
     let l = lists_of x o in
     let errors = (findings_in o).errors in
+    let end = end_follows x reach l rest in
     record {
       first = at_errors x reach l rest;
-      second = at_end x reach l rest;
       reach_said = (lawful_reach flags o s.0, s.1 ∙ pieces_text depth x o rest);
-      lists_said = record {
-        second = at_refusals x reach l rest;
-        third = at_normal x reach l rest;
-        errors = record { lawful = lawful_kept (is_error flags) (λ i. not (is_excused x i)) errors s.0.errors; ends = errors_end x reach l rest; parts = refl };
-        refusals = record { lawful = s.0.refusals; ends = refusals_end x reach l rest; parts = refl };
-        normal = record { lawful = lawful_kept (is_error flags) (is_excused x) errors s.0.errors; ends = normal_ends x reach l rest; parts = refl };
+      rest_said = record {
+        second = at_end x reach l rest;
+        lists = record {
+          second = at_refusals x reach l rest;
+          errors = record { lawful = lawful_kept (is_error flags) (λ i. not (is_excused x i)) errors s.0.errors; ends = others_begin l.refusals l.normal (at_end x reach l rest) end.errors; parts = refl };
+          others = record {
+            third = at_normal x reach l rest;
+            refusals = record { lawful = s.0.refusals; ends = normal_begin l.normal (at_end x reach l rest) end.refusals; parts = refl };
+            normal = record { lawful = lawful_kept (is_error flags) (is_excused x) errors s.0.errors; ends = end.normal; parts = refl };
+          };
+        };
+        ends = refl;
       };
-      end_said = refl;
     }
 
 -- ---- and pieces say a report
@@ -201,21 +203,22 @@ lists_again flags x reach l h k = go reach
     go (Whole nodes) = λ i. record { errors = first i; refusals = l.refusals; normal = second i }
     go (Stopped cause) = λ i. record { errors = first i; refusals = l.refusals; normal = second i }
 
-pub pieces_say : (depth : ℕ) (flags : Flags) (x : Excuses) (text : List ℕ) (reach : Reach) (l : Lists) (rest : List ℕ) → SaysPieces depth flags x text reach l rest → SaysReport depth flags x text (outcome_of reach l) rest
-pieces_say depth flags x text reach l rest s =
-    let lists = s.lists_said in
+pub pieces_say : (depth : ℕ) (flags : Flags) (x : Excuses) (text : List ℕ) (reach : Reach) (mid : List ℕ) (l : Lists) (rest : List ℕ) → SaysReach depth text reach mid → SaysRest flags x reach mid l rest → SaysReport depth flags x text (outcome_of reach l) rest
+pieces_say depth flags x text reach mid l rest far s =
+    let lists = s.lists in
+    let others = lists.others in
     let o = outcome_of reach l in (
-      lawful_outcome flags x reach l s.reach_said.0 lists.errors.lawful lists.refusals.lawful lists.normal.lawful,
-      s.reach_said.1
+      lawful_outcome flags x reach l far.0 lists.errors.lawful others.refusals.lawful others.normal.lawful,
+      far.1
           ∙ ap (λ w. (text_of_depth depth ++ text_of_reach reach) ++ 10 ∷ w) (
           lists.errors.parts
           ∙ ap (λ w. findings_from (codes "error") 1 l.errors ++ w) (
-          lists.refusals.parts
+          others.refusals.parts
           ∙ ap (λ w. findings_from (codes "refusal") 1 l.refusals ++ w) (
-          lists.normal.parts
-          ∙ ap (λ w. findings_from (codes "normal") 1 l.normal ++ w) s.end_said)))
+          others.normal.parts
+          ∙ ap (λ w. findings_from (codes "normal") 1 l.normal ++ w) s.ends)))
           ∙ sym (
           pieces_text depth x o rest
           ∙ ap (λ r. text_of_pieces depth x r (lists_of x o) rest) (reach_again reach l)
-          ∙ ap (λ m. text_of_pieces depth x reach m rest) (lists_again flags x reach l lists.errors.lawful lists.normal.lawful)),
+          ∙ ap (λ m. text_of_pieces depth x reach m rest) (lists_again flags x reach l lists.errors.lawful others.normal.lawful)),
     )

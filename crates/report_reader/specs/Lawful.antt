@@ -1,15 +1,15 @@
--- The outcomes that a report can be read back to, and why the text of one may be refused.
+-- The outcomes that a report can be read back to, those that may be refused, and the lines of a text.
 use Rattle.std.specs.List.{AllByRecursion}
-use Rattle.std.specs.Prelude.{◌≡◌, ◌==◌, ◌⊎◌, ℕ, ◌+◌, ◌<◌, ◌≤◌, ◌^◌, Bool, true, List, [], ◌∷◌, ◌++◌, if◌then◌else◌}
+use Rattle.std.specs.Prelude.{◌≡◌, ◌⊎◌, ℕ, ◌<◌, ◌^◌, Bool, true, List}
 use Rattle.term_core.specs.Schedule.{AreLawful}
 use Rattle.world_model.specs.Names.{IsAmong}
 use Rattle.world_model.specs.Shown.{Identity, Flags, is_error, is_refusal}
 use Rattle.tree_coverage.specs.Findings.{Finding, AreSorted}
-use Rattle.tree_excuses.specs.Excuses.{Excuses}
 use Rattle.tree_findings.specs.declared.outcome.Outcome.{Outcome}
 use Rattle.tree_findings.specs.declared.outcome.Outcome.TheVariants.{Complete, Incomplete}
-use Rattle.report_text.specs.ReportText.{findings_in, text_of_report}
+use Rattle.report_text.specs.ReportText.{findings_in}
 use Rattle.report_identities.specs.Lawful.{IsLawfulIdentity, height_in}
+use Rattle.report_reader.specs.Lines.{IsLine}
 use Rattle.report_reader.specs.declared.fault.ReportFault.{ReportFault}
 use Rattle.report_reader.specs.declared.fault.ReportFault.TheVariants.{BadLine, TooDeep, Memory, TooManyNodes}
 
@@ -35,10 +35,6 @@ pub record IsLawfulOutcome (flags : Flags) (outcome : Outcome) : Type 0 where
   pub refusals : AreLawfulFindings is_refusal (findings_in outcome).refusals
   pub extent : IsLawfulExtent outcome
 
--- this is so of an outcome and of what comes after its report, wherever a text begins with the report of one that can be read back
-abbrev pub WhereReport : ℕ → Flags → Excuses → List ℕ → (Outcome → List ℕ → Type 0) → Type 0
-WhereReport depth flags x text IsSo = (o : Outcome) (rest : List ℕ) → IsLawfulOutcome flags o → text ≡ text_of_report depth x o ++ rest → IsSo o rest
-
 -- one of several findings shows terms that are higher than 10,000
 pub record HasHigh (fs : List Finding) : Type 0 where
   pub finding : Finding
@@ -48,22 +44,6 @@ pub record HasHigh (fs : List Finding) : Type 0 where
 -- an error does, or a refusal
 abbrev pub IsTooHigh : Outcome → Type 0
 IsTooHigh outcome = HasHigh (findings_in outcome).errors ⊎ HasHigh (findings_in outcome).refusals
-
--- the text of its report is refused only for lack of memory, or where this is true
-abbrev pub MayRefuse : Outcome → ReportFault → Type 0
-MayRefuse outcome (BadLine line) = ⊥
-MayRefuse outcome (TooDeep line) = IsTooHigh outcome
-MayRefuse outcome Memory = Unit {0}
-MayRefuse outcome TooManyNodes = ⊥
-
--- how many line ends are in a text
-abbrev pub ends_in : List ℕ → ℕ
-ends_in [] = 0
-ends_in (byte ∷ bytes) = (if byte == 10 then 1 else 0) + ends_in bytes
-
--- a line of a text, counted from 1: one after each line end, and the first
-abbrev pub IsLine : List ℕ → ℕ → Type 0
-IsLine text line = (1 ≤ line) × (line ≤ ends_in text + 1)
 
 -- the line that a fault names is one of the text
 abbrev pub HasLine : List ℕ → ReportFault → Type 0

@@ -1,9 +1,8 @@
-// The two lines of a finding: what is shown, and the schedule that shows it.
-ghost use Rattle.std.specs.Prelude.{◌≡◌, ◌++◌, MatchOption, MatchResult, codes};
+// The two lines of a finding, what is shown and the schedule that shows it, each by itself.
+ghost use Rattle.std.specs.Prelude.{◌≡◌, ◌++◌, MatchOption, IfErr, codes};
 ghost use Rattle.std.specs.Fmt.{decimal};
-ghost use Rattle.tree_findings.specs.Found.{finding_in};
 ghost use Rattle.world_identities.specs.Identities.{identity_in};
-ghost use Rattle.report_reader.specs.inside.Reading.{HasNoFront, IsHigh, IsHighFinding, IsNever, IsRead, Refuses, SaysFinding, SaysIdentity, SaysSchedule, stop_of};
+ghost use Rattle.report_reader.specs.inside.Reading.{HasNoFront, IsHigh, IsNever, Reads, SaysIdentity, SaysSchedule, StopsInLine, stop_of};
 
 use crate::fault::Stop;
 use crate::numbers::behind_number;
@@ -11,7 +10,6 @@ use crate::pieces::{behind, split_at};
 use report_identities::{IdentityFault, read_identity};
 use std::alloc::Global;
 use term_core::{ScheduleFault, Step, read_schedule};
-use tree_findings::Finding;
 use world_identities::Identity;
 
 // Where reading stops at a text that is no identity, or is nested too deep.
@@ -25,9 +23,13 @@ fn stop_of(fault: IdentityFault, left: usize) -> Stop
     }
 }
 
-// Reads what a schedule shows, to the end of the line.
-fn read_identity_line<'t>(alloc: Global, text: &'t [u8]) -> Result<(Identity, &'t [u8]), Stop>
-    ensures { MatchResult result (λ p. IsRead (SaysIdentity text.now) (identity_in p.0) p.1.now) (λ stop. Refuses IsHigh (SaysIdentity text.now) stop) }
+/// Reads what a schedule shows, to the end of the line.
+pub(crate) fn read_identity_line<'t>(
+    alloc: Global,
+    text: &'t [u8],
+) -> Result<(Identity, &'t [u8]), Stop>
+    ensures reads { Reads identity_in IsHigh (SaysIdentity text.now) result }
+    ensures stops { IfErr result (λ stop. StopsInLine text.now stop) }
 {
     let Some((line, rest)) = split_at(text, b'\n') else {
         return Err(Stop::Bad(text.len()));
@@ -38,9 +40,13 @@ fn read_identity_line<'t>(alloc: Global, text: &'t [u8]) -> Result<(Identity, &'
     }
 }
 
-// Reads a schedule after two blanks, to the end of the line.
-fn read_schedule_line<'t>(alloc: Global, text: &'t [u8]) -> Result<(Vec<Step>, &'t [u8]), Stop>
-    ensures { MatchResult result (λ p. IsRead (SaysSchedule text.now) p.0.items p.1.now) (λ stop. Refuses IsNever (SaysSchedule text.now) stop) }
+/// Reads a schedule after two blanks, to the end of the line.
+pub(crate) fn read_schedule_line<'t>(
+    alloc: Global,
+    text: &'t [u8],
+) -> Result<(Vec<Step>, &'t [u8]), Stop>
+    ensures reads { Reads (λ schedule. schedule.items) IsNever (SaysSchedule text.now) result }
+    ensures stops { IfErr result (λ stop. StopsInLine text.now stop) }
 {
     let Some(inside) = behind(text, b"  ") else {
         return Err(Stop::Bad(text.len()));
@@ -55,26 +61,10 @@ fn read_schedule_line<'t>(alloc: Global, text: &'t [u8]) -> Result<(Vec<Step>, &
     }
 }
 
-// What follows the number of a finding.
-fn behind_label(text: &[u8], number: u64) -> Option<&[u8]>
+/// What follows the number of a finding.
+pub(crate) fn behind_label(text: &[u8], number: u64) -> Option<&[u8]>
     ensures { MatchOption result (HasNoFront (decimal number ++ codes ": ") text.now) (λ rest. text.now ≡ (decimal number ++ codes ": ") ++ rest.now) }
 {
     let rest = behind_number(text, number)?;
     behind(rest, b": ")
-}
-
-/// Reads the finding of this number, after its kind.
-pub(crate) fn read_finding<'t>(
-    alloc: Global,
-    number: u64,
-    text: &'t [u8],
-) -> Result<(Finding, &'t [u8]), Stop>
-    ensures { MatchResult result (λ p. IsRead (SaysFinding number text.now) (finding_in p.0) p.1.now) (λ stop. Refuses IsHighFinding (SaysFinding number text.now) stop) }
-{
-    let Some(shown) = behind_label(text, number) else {
-        return Err(Stop::Bad(text.len()));
-    };
-    let (identity, rest) = read_identity_line(alloc, shown)?;
-    let (schedule, rest) = read_schedule_line(alloc, rest)?;
-    Ok((Finding { identity, schedule }, rest))
 }

@@ -11,10 +11,9 @@ pub mod merging;
 mod numbers;
 mod pieces;
 mod places;
-pub mod reading;
+mod reading;
 pub mod reports;
 
 pub use fault::{MergeFault, ReportFault};
 pub use merging::{merge_outcomes, outcomes_are_put_together};
-pub use reading::read_report;
 pub use reports::merge_reports;

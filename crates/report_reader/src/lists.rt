@@ -1,13 +1,12 @@
 // All findings of one kind, as they are listed in a report.
-ghost use Rattle.std.specs.Prelude.{◌≡◌, ◌↔◌, ◌+◌, length, IsTrue};
+ghost use Rattle.std.specs.Prelude.{◌≡◌, ◌↔◌, ◌+◌, ◌<◌, ◌^◌, length, IfErr, IsTrue};
 ghost use Rattle.tree_excuses.specs.Excuses.{excuses_in};
-ghost use Rattle.tree_findings.specs.Found.{finding_in};
 ghost use Rattle.world_identities.specs.Identities.{flags_in, identity_in};
 ghost use Rattle.report_reader.specs.Lawful.{HasHigh};
-ghost use Rattle.report_reader.specs.inside.Reading.{AllComeBefore, IsHighFinding, Reads, SaysFindings, SaysNext};
+ghost use Rattle.report_reader.specs.inside.Reading.{AllComeBefore, EndsFindings, IsHigh, Reads, ReadsOn, SaysFindings, SaysShown, StopsInLine};
 
 use crate::fault::Stop;
-use crate::finding_lines::read_finding;
+use crate::finding_lines::{behind_label, read_identity_line, read_schedule_line};
 use crate::kinds::Kind;
 use crate::pieces::behind;
 use std::alloc::Global;
@@ -17,7 +16,8 @@ use world_identities::{Flags, Identity};
 
 // The number of the next finding, counted from 1.
 fn next_number(found: &FindingList) -> u64
-    ensures { result ≡ length found.now + 1 }
+    ensures number { result ≡ length found.now + 1 }
+    ensures room { length found.now + 1 < 2 ^ 64 }
 {
     found.as_slice().len() as u64 + 1
 }
@@ -32,25 +32,30 @@ fn comes_last(found: &FindingList, identity: &Identity) -> bool
     }
 }
 
-// Reads the next finding of a kind, after the name of its kind.
-fn read_next<'t>(
+// Reads what the next finding of a kind shows, after the name of its kind, to the end of the line.
+fn read_shown<'t>(
     alloc: Global,
     kind: Kind,
     flags: Flags,
     excuses: &Excuses,
     found: &FindingList,
     text: &'t [u8],
-) -> Result<(Finding, &'t [u8]), Stop>
-    ensures { Reads finding_in IsHighFinding (SaysNext kind (flags_in flags) (excuses_in excuses.now) found.now text.now) result }
+) -> Result<(Identity, &'t [u8]), Stop>
+    ensures reads { Reads identity_in IsHigh (SaysShown kind (flags_in flags) (excuses_in excuses.now) found.now text.now) result }
+    ensures stops { IfErr result (λ stop. StopsInLine text.now stop) }
+    ensures room { length found.now + 1 < 2 ^ 64 }
 {
-    let (finding, rest) = read_finding(alloc, next_number(found), text)?;
-    if !kind.is_of(flags, excuses, &finding.identity) {
+    let Some(shown) = behind_label(text, next_number(found)) else {
+        return Err(Stop::Bad(text.len()));
+    };
+    let (identity, rest) = read_identity_line(alloc, shown)?;
+    if !kind.is_of(flags, excuses, &identity) {
         return Err(Stop::Bad(text.len()));
     }
-    if !comes_last(found, &finding.identity) {
+    if !comes_last(found, &identity) {
         return Err(Stop::Bad(text.len()));
     }
-    Ok((finding, rest))
+    Ok((identity, rest))
 }
 
 /// Reads all findings of a kind, as far as they are listed.
@@ -61,14 +66,15 @@ pub(crate) fn read_findings<'t>(
     excuses: &Excuses,
     text: &'t [u8],
 ) -> Result<(FindingList, &'t [u8]), Stop>
-    ensures { Reads (λ found. found) HasHigh (SaysFindings kind (flags_in flags) (excuses_in excuses.now) text.now) result }
+    ensures { ReadsOn (λ found. found) HasHigh (EndsFindings kind) (SaysFindings kind (flags_in flags) (excuses_in excuses.now)) text.now result }
 {
     let label = kind.label();
     let mut found = FindingList::new(alloc);
     let mut rest = text;
     'findings: while let Some(next) = behind(rest, label) {
-        let (finding, behind) = read_next(alloc, kind, flags, excuses, &found, next)?;
-        found.put(finding)?;
+        let (identity, below) = read_shown(alloc, kind, flags, excuses, &found, next)?;
+        let (schedule, behind) = read_schedule_line(alloc, below)?;
+        found.put(Finding { identity, schedule })?;
         rest = behind;
     }
     Ok((found, rest))

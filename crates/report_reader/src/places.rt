@@ -1,6 +1,7 @@
 // Lines by the bytes that are left after their places.
 ghost use Rattle.std.specs.Prelude.{◌≡◌, ◌≤◌, length};
-ghost use Rattle.report_reader.specs.Lawful.{HasLine, ends_in};
+ghost use Rattle.report_reader.specs.Lawful.{HasLine};
+ghost use Rattle.report_reader.specs.Lines.{ends_in};
 ghost use Rattle.report_reader.specs.inside.Reading.{IsFaultOf, line_at};
 
 use crate::fault::{ReportFault, Stop};

@@ -1,18 +1,16 @@
 // Reports read back from their texts.
-ghost use Rattle.std.specs.Prelude.{◌≡◌, ◌++◌, IfErr, IfOk, MatchOption, MatchResult};
+ghost use Rattle.std.specs.Prelude.{◌≡◌, IfOk};
 ghost use Rattle.tree_excuses.specs.Excuses.{excuses_in};
 ghost use Rattle.world_identities.specs.Identities.{flags_in};
 ghost use Rattle.tree_findings.specs.declared.outcome.Outcome.{Outcome};
-ghost use Rattle.report_text.specs.ReportText.{text_of_report};
-ghost use Rattle.report_reader.specs.Lawful.{HasLine, IsLawfulOutcome, IsTooHigh, MayRefuse, WhereReport};
-ghost use Rattle.report_reader.specs.inside.Reading.{EndsAt, Lists, ListsAreHigh, Reads, SaysLists, SaysNoEnd, SaysReport, lists_in, outcome_of};
+ghost use Rattle.report_reader.specs.Lawful.{IsTooHigh};
+ghost use Rattle.report_reader.specs.inside.Reading.{Anything, EndsLists, ListsAreHigh, ReadsEnd, ReadsOn, SaysLists, SaysReport, lists_in, outcome_of};
 
 use crate::ends::{behind_counts, behind_result};
-use crate::fault::{ReportFault, Stop};
+use crate::fault::Stop;
 use crate::first_line::{Reach, read_first_line};
 use crate::kinds::Kind;
 use crate::lists::read_findings;
-use crate::places::fault_of;
 use std::alloc::{AllocError, Global};
 use tree_excuses::Excuses;
 use tree_findings::{Extent, FindingList, Findings, Outcome};
@@ -36,7 +34,7 @@ fn read_lists<'t>(
     excuses: &Excuses,
     text: &'t [u8],
 ) -> Result<(Listed, &'t [u8]), Stop>
-    ensures { Reads lists_in ListsAreHigh (SaysLists (flags_in flags) (excuses_in excuses.now) text.now) result }
+    ensures { ReadsOn lists_in ListsAreHigh EndsLists (SaysLists (flags_in flags) (excuses_in excuses.now)) text.now result }
 {
     let (errors, rest) = read_findings(alloc, Kind::Error, flags, excuses, text)?;
     let (refusals, rest) = read_findings(alloc, Kind::Refusal, flags, excuses, rest)?;
@@ -58,9 +56,7 @@ fn read_end<'t>(
     listed: &Listed,
     text: &'t [u8],
 ) -> Result<&'t [u8], Stop>
-    ensures { MatchResult result
-        (λ rest. EndsAt (excuses_in excuses.now) reach (lists_in listed.now) text.now rest.now)
-        (λ stop. SaysNoEnd (excuses_in excuses.now) reach (lists_in listed.now) text.now stop) }
+    ensures { ReadsEnd (excuses_in excuses.now) reach (lists_in listed.now) text.now result }
 {
     let errors = listed.errors.len();
     let refusals = listed.refusals.len();
@@ -91,7 +87,10 @@ fn outcome_of(reach: Reach, listed: Listed) -> Result<Outcome, AllocError>
     }
 }
 
-/// Reads the report at the beginning of a text.
+/// Reads the report at the beginning of a text, as `write_report` writes it, and gives what follows it. The depth, the
+/// flags and the excuses are those of the exploration: what counts as an error and what is taken as normal is not in
+/// the text, and the errors of both kinds are put together. Nor does it say at how many nodes the tree is cut, which is
+/// read as 0.
 pub(crate) fn read_first<'t>(
     alloc: Global,
     depth: u64,
@@ -99,7 +98,7 @@ pub(crate) fn read_first<'t>(
     excuses: &Excuses,
     text: &'t [u8],
 ) -> Result<(Outcome, &'t [u8]), Stop>
-    ensures { Reads (λ outcome. outcome) IsTooHigh (SaysReport depth (flags_in flags) (excuses_in excuses.now) text.now) result }
+    ensures { ReadsOn (λ outcome. outcome) IsTooHigh Anything (SaysReport depth (flags_in flags) (excuses_in excuses.now)) text.now result }
 {
     let Some((reach, rest)) = read_first_line(depth, text) else {
         return Err(Stop::Bad(text.len()));
@@ -108,37 +107,4 @@ pub(crate) fn read_first<'t>(
     let rest = read_end(excuses, reach, &listed, rest)?;
     let outcome = outcome_of(reach, listed)?;
     Ok((outcome, rest))
-}
-
-/// Reads the report at the beginning of a text, as `write_report` writes it, and gives what follows it. The depth, the
-/// flags and the excuses are those of the exploration: what counts as an error and what is taken as normal is not in
-/// the text, and the errors of both kinds are put together. Nor does it say at how many nodes the tree is cut, which is
-/// read as 0.
-///
-/// # Errors
-///
-/// `BadLine` with the line, counted from 1, at which the text is no report of this depth, these flags and these
-/// excuses; `TooDeep` with the line of a term in which more than 10,000 brackets and braces are open; `Memory` where
-/// there was no memory for what is read. What was read is dropped.
-pub fn read_report<'t>(
-    alloc: Global,
-    depth: u64,
-    flags: Flags,
-    excuses: &Excuses,
-    text: &'t [u8],
-) -> Result<(Outcome, &'t [u8]), ReportFault>
-    // What is read has this text.
-    ensures read { IfOk result (λ r. (text.now ≡ text_of_report depth (excuses_in excuses.now) r.0 ++ r.1.now) × IsLawfulOutcome (flags_in flags) r.0) }
-
-    // The report of an outcome is read as that outcome, unless a term is too deep or memory runs out.
-    ensures only { WhereReport depth (flags_in flags) (excuses_in excuses.now) text.now (λ o rest.
-        MatchResult result (λ r. (r.0 ≡ o) × (r.1.now ≡ rest)) (λ fault. MayRefuse o fault)) }
-
-    // The line of a fault is one of the text.
-    ensures line { IfErr result (λ fault. HasLine text.now fault) }
-{
-    match read_first(alloc, depth, flags, excuses, text) {
-        Ok((outcome, rest)) => Ok((outcome, rest)),
-        Err(stop) => Err(fault_of(text, stop)),
-    }
 }

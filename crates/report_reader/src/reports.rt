@@ -2,6 +2,7 @@
 ghost use Rattle.std.specs.Prelude.{◌≡◌, ◌∷◌, IfErr, IfOk, MatchResult};
 ghost use Rattle.tree_excuses.specs.Excuses.{excuses_in};
 ghost use Rattle.world_identities.specs.Identities.{flags_in};
+ghost use Rattle.report_reader.specs.BadLines.{NamesFirstBadLine};
 ghost use Rattle.report_reader.specs.Lawful.{HasLine};
 ghost use Rattle.report_reader.specs.Merged.{AreReportsOf, MayRefuseAll, WhereReports, fault_of_merge, merged_all};
 ghost use Rattle.tree_findings.specs.declared.outcome.Outcome.{Outcome};
@@ -30,8 +31,10 @@ fn fault_of_merge(fault: MergeFault) -> ReportFault
 ///
 /// # Errors
 ///
-/// `BadLine`, `TooDeep` and `Memory` as `read_report`, with lines counted through the whole text; a text without a report
-/// is bad at line 1. `TooManyNodes` where the nodes of the reports are 2^64 or more. What was read is dropped.
+/// `BadLine` with the first line, counted from 1 through the whole text, that reports of these depths, these flags and
+/// these excuses cannot have after the lines before it; a text without a report is bad at line 1. `TooDeep` with the line of a term in which
+/// more than 10,000 brackets and braces are open; `TooManyNodes` where the nodes of the reports are 2^64 or more;
+/// `Memory` where there was no memory for what is read. What was read is dropped.
 pub fn merge_reports(
     alloc: Global,
     above: Option<u64>,
@@ -49,6 +52,9 @@ pub fn merge_reports(
 
     // The line of a fault is one of the text.
     ensures line { IfErr result (λ fault. HasLine text.now fault) }
+
+    // A bad line is the first that reports cannot have.
+    ensures first_bad { IfErr result (λ fault. NamesFirstBadLine above depth (flags_in flags) (excuses_in excuses.now) text.now fault) }
 {
     let (mut whole, mut rest) = match read_first(
         alloc,

@@ -60,16 +60,16 @@ fn module(alloc: Global, contents: Contents) -> Result<Module, ReadFault> {
     read_module(alloc, text.as_bytes())
 }
 
-// Takes a step again and again, as long as it is enabled.
-fn take_all(alloc: Global, world: &mut World<'_>, step: &Step) -> Result<(), WorldFault> {
-    for _ in 0..STEPS {
+// Takes a step again and again, as long as it is enabled; how often it was taken.
+fn take_all(alloc: Global, world: &mut World<'_>, step: &Step) -> Result<u32, WorldFault> {
+    for taken in 0..STEPS {
         match world.step(alloc, step) {
             Ok(()) => {}
-            Err(WorldFault::NotEnabled) => return Ok(()),
+            Err(WorldFault::NotEnabled) => return Ok(taken),
             Err(WorldFault::Memory) => return Err(WorldFault::Memory),
         }
     }
-    Ok(())
+    Ok(STEPS)
 }
 
 // The first process.
@@ -79,10 +79,10 @@ fn first(alloc: Global) -> Result<Pid, AllocError> {
 
 // The world after all turns of the first process and all deliveries to it, copied a million times; how many steps led
 // there.
-fn copied(alloc: Global, program: &Module) -> Result<usize, WorldFault> {
+fn copied(alloc: Global, program: &Module) -> Result<u32, WorldFault> {
     let mut world = World::open(alloc, program)?;
-    take_all(alloc, &mut world, &Step::Turn(first(alloc)?))?;
-    take_all(
+    let turns = take_all(alloc, &mut world, &Step::Turn(first(alloc)?))?;
+    let deliveries = take_all(
         alloc,
         &mut world,
         &Step::Deliver(first(alloc)?, first(alloc)?),
@@ -90,13 +90,12 @@ fn copied(alloc: Global, program: &Module) -> Result<usize, WorldFault> {
     for _ in 0..COPIES {
         world = world.copy()?;
     }
-    Ok(world.schedule(alloc)?.len())
+    Ok(turns.saturating_add(deliveries))
 }
 
 /// Copies a world of these contents a million times, and counts the steps that led there; none where there was no
 /// memory.
 pub(crate) fn copy_world(alloc: Global, contents: Contents) -> Option<u32> {
     let program = module(alloc, contents).ok()?;
-    let steps = copied(alloc, &program).ok()?;
-    u32::try_from(steps).ok()
+    copied(alloc, &program).ok()
 }

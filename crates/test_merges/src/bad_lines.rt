@@ -2,7 +2,7 @@
 use crate::texts::{
     ALLOWED, ALONE, BOOM, BOTH, GONE, LATE, LENIENT, STRANGE, STRICT, excusing, joined,
 };
-use report_reader::{MergeFault, ReportFault, merge_reports, read_report};
+use report_reader::{MergeFault, ReportFault, merge_reports};
 use std::alloc::Global;
 use std::test::Fail;
 use test_support::nested;
@@ -33,7 +33,7 @@ fn is_bad_at(
     line: u64,
 ) -> Result<(), Fail> {
     let text = joined(alloc, parts)?;
-    match read_report(alloc, 9, flags, excuses, text.as_slice()) {
+    match merge_reports(alloc, None, 9, flags, excuses, text.as_slice()) {
         Ok(_) => Err(Fail::new(format_args!("it is read, and line {line} is bad"))),
         Err(ReportFault::BadLine(at)) if at == line => Ok(()),
         Err(fault) => Err(Fail::new(format_args!("it is told {fault}, and line {line} is bad"))),
@@ -82,7 +82,7 @@ fn first_lines(rt: HostRuntime) -> Result<(), Fail> {
 }
 
 // Flags, a text with findings that are bad under them, and the line at which they are.
-const FINDINGS: [(Flags, &[&str], u64); 12] = [
+const FINDINGS: [(Flags, &[&str], u64); 15] = [
     // a number that is not the next
     (LENIENT, &[HEAD, "error 2: ", BOOM, ONE_ERROR], 2),
     (
@@ -137,6 +137,28 @@ const FINDINGS: [(Flags, &[&str], u64); 12] = [
     (
         LENIENT,
         &[HEAD, "refusal 1: ", LATE, "error 1: ", BOOM, ONE_OF_EACH],
+        4,
+    ),
+    // both lines of a finding are bad
+    (
+        ALLOWED,
+        &[HEAD, "error 1: deadlock of P\n P\n", ONE_ERROR],
+        2,
+    ),
+    (
+        LENIENT,
+        &[HEAD, "refusal 1: P runs away\nP\n", ONE_REFUSAL],
+        2,
+    ),
+    (
+        LENIENT,
+        &[
+            HEAD,
+            "error 1: ",
+            GONE,
+            "error 2: P ends {'boom',1}\n\n",
+            TWO_ERRORS,
+        ],
         4,
     ),
 ];

@@ -2,7 +2,7 @@
 use crate::texts::{
     ALLOWED, ALONE, AWAY, BOOM, BOTH, GONE, LATE, LENIENT, STRANGE, STRICT, excusing, joined,
 };
-use report_reader::read_report;
+use report_reader::{ReportFault, merge_reports};
 use report_text::write_report;
 use std::alloc::Global;
 use std::test::Fail;
@@ -10,17 +10,36 @@ use test_support::{MemorySink, same};
 use tree_excuses::Excuses;
 use world_identities::Flags;
 
-// Checks that a report is read, with what follows it, and written so again.
+// The line behind a text, counted from 1.
+fn line_behind(text: &[u8]) -> u64 {
+    let mut line: u64 = 1;
+    for byte in text {
+        if *byte == b'\n' {
+            line = line.saturating_add(1);
+        }
+    }
+    line
+}
+
+// Checks that a report is read up to its end: alone it is written so again, and of what follows it, which is no report,
+// the first line is bad.
 fn reads(alloc: Global, flags: Flags, excuses: &Excuses, parts: &[&str]) -> Result<(), Fail> {
     let report = joined(alloc, parts)?;
-    for behind in ["", "depth 9, ", "error 7: "] {
+    let outcome = merge_reports(alloc, None, 9, flags, excuses, report.as_slice())?;
+    let mut sink = MemorySink::with_room(alloc, 1000)?;
+    write_report(&mut sink, 9, excuses, &outcome)?;
+    same(sink.bytes.as_slice(), report.as_slice())?;
+    for behind in ["depth 9, ", "error 7: "] {
         let mut text = joined(alloc, parts)?;
         text.extend_from_slice(behind.as_bytes())?;
-        let (outcome, rest) = read_report(alloc, 9, flags, excuses, text.as_slice())?;
-        same(rest, behind.as_bytes())?;
-        let mut sink = MemorySink::with_room(alloc, 1000)?;
-        write_report(&mut sink, 9, excuses, &outcome)?;
-        same(sink.bytes.as_slice(), report.as_slice())?;
+        let wanted = ReportFault::BadLine(line_behind(report.as_slice()));
+        match merge_reports(alloc, None, 9, flags, excuses, text.as_slice()) {
+            Ok(_) => return Err(Fail::new(format_args!("it is read, and not told {wanted}"))),
+            Err(fault) if fault == wanted => {}
+            Err(fault) => {
+                return Err(Fail::new(format_args!("it is told {fault}, and not {wanted}")));
+            }
+        }
     }
     Ok(())
 }

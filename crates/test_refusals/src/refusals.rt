@@ -47,15 +47,11 @@ const REFUSALS: [(RunFault, u8, &[u8]); 9] = [
         b"schedule: 2 Memory\n",
     ),
     (
-        RunFault::Replay(ReplayFault::NotEnabled(2)),
+        RunFault::NotEnabled(2),
         2,
         b"replay: 1 NotEnabled at step 2\n",
     ),
-    (
-        RunFault::Replay(ReplayFault::Memory),
-        3,
-        b"replay: 2 Memory\n",
-    ),
+    (RunFault::ReplayCutOff, 3, b"replay: 2 Memory\n"),
 ];
 
 // Checks that a refusal has this line.

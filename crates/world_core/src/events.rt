@@ -1,14 +1,12 @@
 // What happened, shared by the worlds that saw it happen.
-ghost use Rattle.std.specs.Prelude.{◌≡◌, ◌∷◌, Some, IfOk, option_map, map};
+ghost use Rattle.std.specs.Prelude.{◌≡◌, ◌∷◌, Some, IfOk, option_map};
 ghost use Rattle.world_core.specs.Shared.{events_in};
 ghost use Rattle.world_model.specs.Run.{latest};
-ghost use Rattle.world_model.specs.Events.{Event as Happening};
 ghost use Rattle.world_footprints.specs.Deeds.{event_in};
 
 use std::alloc::{AllocError, Global};
 use std::marker::Model;
 use std::sync::Arc;
-use term_core::Step;
 use world_plans::Event;
 
 /// The events of a world, the latest first. Copies share them.
@@ -114,19 +112,5 @@ impl Events {
                 Some(&link.event)
             }
         }
-    }
-
-    /// The steps of the events, the latest first. `AllocError` if there is no memory for them.
-    pub(crate) fn steps(&self, alloc: Global) -> Result<Vec<Step>, AllocError>
-        ensures { IfOk result (λ steps. steps.items ≡ map (λ (e : Happening). e.step) (events_in self.now)) }
-    {
-        let mut steps = Vec::new(alloc);
-        let mut left = self;
-        while let Events::Then(link) = left {
-            let link: &Link = link;
-            steps.push(link.event.step.copy()?)?;
-            left = &link.before;
-        }
-        Ok(steps)
     }
 }

@@ -12,7 +12,6 @@ ghost use Rattle.world_model.specs.World.{alive, contents};
 ghost use Rattle.world_records.specs.Records.{Agrees};
 ghost use Rattle.world_footprints.specs.Deeds.{event_in};
 ghost use Rattle.world_footprints.specs.Footprints.{IsPlan};
-ghost use Rattle.world_model.specs.Events.{Event as Happening};
 
 use crate::events::Events;
 use crate::fault::WorldFault;
@@ -273,20 +272,6 @@ impl<'m> World<'m> {
         Ok(found)
     }
 
-    /// The steps that were taken, the first one first.
-    ///
-    /// # Errors
-    ///
-    /// `Memory` where memory ran out.
-    pub fn schedule(&self, alloc: Global) -> Result<Vec<Step>, WorldFault>
-        ensures taken { IfOk result (λ steps. steps.items ≡ schedule_of self.now.history) }
-        ensures memory { IfErr result (λ fault. fault ≡ Memory) }
-    {
-        let mut steps = self.events.steps(alloc)?;
-        steps.reverse();
-        Ok(steps)
-    }
-
     /// The parts of the world, which are what the history leaves: processes, mailboxes, signals on their way, links,
     /// watches, names and tables. Of a spent world they may be anything. It takes no memory.
     pub fn records(&self) -> &Records<'m>
@@ -300,12 +285,5 @@ impl<'m> World<'m> {
         ensures { self.now.spent ≡ false → result ≡ alive self.now.history pid.now }
     {
         self.records.processes().lives(pid)
-    }
-
-    /// Whether memory ran out once, so that every call answers `Memory`. It takes no memory.
-    pub fn is_spent(&self) -> bool
-        ensures { result ≡ self.now.spent }
-    {
-        self.is_spent
     }
 }

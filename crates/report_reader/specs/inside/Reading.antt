@@ -19,7 +19,8 @@ use Rattle.report_identities.specs.declared.fault.IdentityFault.{IdentityFault}
 use Rattle.report_identities.specs.declared.fault.IdentityFault.TheVariants as faults
 use Rattle.report_text.specs.IdentityText.{text_of_identity}
 use Rattle.report_text.specs.ReportText.{findings_from, text_of_incomplete, text_of_nodes, text_of_report}
-use Rattle.report_reader.specs.Lawful.{AreLawfulFindings, HasHigh, IsLawfulFinding, IsLawfulOutcome, ends_in}
+use Rattle.report_reader.specs.Lawful.{AreLawfulFindings, HasHigh, IsLawfulOutcome}
+use Rattle.report_reader.specs.Lines.{ends_in, first_lines}
 use Rattle.report_reader.specs.declared.fault.ReportFault.{ReportFault}
 use Rattle.report_reader.specs.declared.fault.ReportFault.TheVariants as answers
 use Rattle.report_reader.specs.declared.fault.Stop.{Stop}
@@ -51,6 +52,16 @@ IsCut mark text front behind = LacksMark mark front × (text ≡ front ++ mark �
 abbrev pub HasNoMark : ℕ → List ℕ → Type 0
 HasNoMark mark text = (front behind : List ℕ) → LacksMark mark front → text ≡ front ++ mark ∷ behind → ⊥
 
+-- ---- lines
+
+-- their first lines are the same
+abbrev pub SameLine : List ℕ → List ℕ → Type 0
+SameLine a b = first_lines a 1 ≡ first_lines b 1
+
+-- the text consists of whole lines: what follows it begins a line
+abbrev pub AreWhole : List ℕ → Type 0
+AreWhole front = (rest : List ℕ) (n : ℕ) → first_lines (front ++ rest) (ends_in front + n) ≡ front ++ first_lines rest n
+
 -- ---- reading
 
 -- what is said at the beginning of a text with this after it, and nothing else is
@@ -68,9 +79,58 @@ MayStop High Memory = Unit {0}
 abbrev pub Refuses : {A : Type 0} → (A → Type 0) → (A → List ℕ → Type 0) → Stop → Type 0
 Refuses {A} High Says stop = (a : A) (rest : List ℕ) → Says a rest → MayStop (High a) stop
 
+-- a place in the first line of a text
+pub record IsInLine (text : List ℕ) (left : ℕ) : Type 0 where
+  pub line : List ℕ
+  pub rest : List ℕ
+  pub parts : text ≡ line ++ rest
+  pub place : left ≡ length rest
+  pub inside : LacksMark 10 line
+
 -- what is read is what is said, as it is seen, with the rest of the text; and where reading stops, it may
 abbrev pub Reads : {A B : Type 0} → (B → A) → (A → Type 0) → (A → List ℕ → Type 0) → Result (B × Bor (List ℕ)) Stop → Type 0
 Reads seen High Says result = MatchResult result (λ p. IsRead Says (seen p.0) p.1.now) (λ stop. Refuses High Says stop)
+
+-- where reading stops at something bad, that is in the first line
+abbrev pub StopsInLine : List ℕ → Stop → Type 0
+StopsInLine text (Bad left) = IsInLine text left
+StopsInLine text (Deep left) = Unit {0}
+StopsInLine text Memory = Unit {0}
+
+-- ---- reading lines
+
+-- what is said by some whole lines at the beginning of a text, where what follows fits; and nothing else is, whatever follows them with the same first line
+pub record IsReadOn {A : Type 0} (Fits : List ℕ → Type 0) (Says : List ℕ → A → List ℕ → Type 0) (text : List ℕ) (a : A) (rest : List ℕ) : Type 0 where
+  pub piece : List ℕ
+  pub parts : text ≡ piece ++ rest
+  pub whole : AreWhole piece
+  pub says : (other : List ℕ) → Fits other → Says (piece ++ other) a other
+  pub only : (other : List ℕ) → SameLine rest other → (b : A) (more : List ℕ) → Says (piece ++ other) b more → (a ≡ b) × (other ≡ more)
+
+-- a text is bad in a line: none with the same lines up to that one says anything, and one with the same lines before it does
+pub record IsBad {A : Type 0} (Fits : List ℕ → Type 0) (Says : List ℕ → A → List ℕ → Type 0) (text : List ℕ) (left : ℕ) : Type 0 where
+  pub front : List ℕ
+  pub behind : List ℕ
+  pub parts : text ≡ front ++ behind
+  pub whole : AreWhole front
+  pub place : IsInLine behind left
+  pub none : (other : List ℕ) → SameLine behind other → (a : A) (more : List ℕ) → Says (front ++ other) a more → ⊥
+  pub instead : A
+  pub tail : List ℕ
+  pub can : (after : List ℕ) → Fits after → Says (front ++ (tail ++ after)) instead after
+
+-- where reading stops
+abbrev pub RefusesOn : {A : Type 0} → (A → Type 0) → (List ℕ → Type 0) → (List ℕ → A → List ℕ → Type 0) → List ℕ → Stop → Type 0
+RefusesOn High Fits Says text (Bad left) = IsBad Fits Says text left
+RefusesOn {A} High Fits Says text (Deep left) = (a : A) (rest : List ℕ) → Says text a rest → High a
+RefusesOn High Fits Says text Memory = Unit {0}
+
+abbrev pub ReadsOn : {A B : Type 0} → (B → A) → (A → Type 0) → (List ℕ → Type 0) → (List ℕ → A → List ℕ → Type 0) → List ℕ → Result (B × Bor (List ℕ)) Stop → Type 0
+ReadsOn seen High Fits Says text result = MatchResult result (λ p. IsReadOn Fits Says text (seen p.0) p.1.now) (λ stop. RefusesOn High Fits Says text stop)
+
+-- whatever follows
+abbrev pub Anything : List ℕ → Type 0
+Anything rest = Unit {0}
 
 -- where reading stops at an identity
 abbrev pub stop_of : IdentityFault → ℕ → Stop
@@ -99,26 +159,7 @@ IsHigh i = 10000 < height_in i
 abbrev pub IsNever : {A : Type 0} → A → Type 0
 IsNever a = ⊥
 
--- those of what is shown
-abbrev pub IsHighFinding : Finding → Type 0
-IsHighFinding f = IsHigh f.identity
-
--- ---- a finding
-
--- an identity to the end of the line
-abbrev pub SaysIdentity : List ℕ → Identity → List ℕ → Type 0
-SaysIdentity text i rest = IsLawfulIdentity i × (text ≡ text_of_identity i ++ 10 ∷ rest)
-
--- a schedule after two blanks to the end of the line
-abbrev pub SaysSchedule : List ℕ → List Step → List ℕ → Type 0
-SaysSchedule text s rest = AreLawful s × (text ≡ codes "  " ++ (text_of_schedule s ++ 10 ∷ rest))
-
--- a finding after its kind
-abbrev pub SaysFinding : ℕ → List ℕ → Finding → List ℕ → Type 0
-SaysFinding number text f rest =
-    IsLawfulFinding f × (text ≡ (decimal number ++ codes ": ") ++ (text_of_identity f.identity ++ 10 ∷ (codes "  " ++ (text_of_schedule f.schedule ++ 10 ∷ rest))))
-
--- ---- the findings of a kind
+-- ---- kinds
 
 abbrev pub word_of : Kind → List ℕ
 word_of Error = codes "error"
@@ -138,16 +179,33 @@ is_of Normal flags x = is_normal flags x
 abbrev pub AllComeBefore : List Finding → Identity → Type 0
 AllComeBefore fs i = AllByRecursion (λ f. order_of_identities f.identity i ≡ Less) fs
 
--- the next finding of a kind after these
-pub record SaysNext (kind : Kind) (flags : Flags) (x : Excuses) (fs : List Finding) (text : List ℕ) (f : Finding) (rest : List ℕ) : Type 0 where
-  pub finding : SaysFinding (length fs + 1) text f rest
-  pub is_one : is_of kind flags x f.identity ≡ true
-  pub in_order : AllComeBefore fs f.identity
+-- ---- a finding
+
+-- an identity to the end of the line
+abbrev pub SaysIdentity : List ℕ → Identity → List ℕ → Type 0
+SaysIdentity text i rest = IsLawfulIdentity i × (text ≡ text_of_identity i ++ 10 ∷ rest)
+
+-- a schedule after two blanks to the end of the line
+abbrev pub SaysSchedule : List ℕ → List Step → List ℕ → Type 0
+SaysSchedule text s rest = AreLawful s × (text ≡ codes "  " ++ (text_of_schedule s ++ 10 ∷ rest))
+
+-- what is shown by the next finding of a kind after these
+pub record SaysShown (kind : Kind) (flags : Flags) (x : Excuses) (fs : List Finding) (text : List ℕ) (i : Identity) (rest : List ℕ) : Type 0 where
+  pub lawful : IsLawfulIdentity i
+  pub parts : text ≡ (decimal (length fs + 1) ++ codes ": ") ++ (text_of_identity i ++ 10 ∷ rest)
+  pub is_one : is_of kind flags x i ≡ true
+  pub in_order : AllComeBefore fs i
+
+-- ---- the findings of a kind
+
+-- no other of the kind follows
+abbrev pub EndsFindings : Kind → List ℕ → Type 0
+EndsFindings kind = HasNoFront (label_of kind)
 
 -- all of a kind: no other follows them
 pub record SaysFindings (kind : Kind) (flags : Flags) (x : Excuses) (text : List ℕ) (fs : List Finding) (rest : List ℕ) : Type 0 where
   pub lawful : AreLawfulFindings (is_of kind flags x) fs
-  pub ends : HasNoFront (label_of kind) rest
+  pub ends : EndsFindings kind rest
   pub parts : text ≡ findings_from (word_of kind) 1 fs ++ rest
 
 -- ---- the first line
@@ -181,12 +239,23 @@ lists_in l = record { errors = l.errors; refusals = l.refusals; normal = l.norma
 abbrev pub ListsAreHigh : Lists → Type 0
 ListsAreHigh l = HasHigh l.errors ⊎ (HasHigh l.refusals ⊎ HasHigh l.normal)
 
+-- the refusals, and then the errors that are taken as normal
+pub record SaysOthers (flags : Flags) (x : Excuses) (text : List ℕ) (l : List Finding × List Finding) (rest : List ℕ) : Type 0 where
+  pub third : List ℕ
+  pub refusals : SaysFindings Refusal flags x text l.0 third
+  pub normal : SaysFindings Normal flags x third l.1 rest
+
+-- all three
 pub record SaysLists (flags : Flags) (x : Excuses) (text : List ℕ) (l : Lists) (rest : List ℕ) : Type 0 where
   pub second : List ℕ
-  pub third : List ℕ
   pub errors : SaysFindings Error flags x text l.errors second
-  pub refusals : SaysFindings Refusal flags x second l.refusals third
-  pub normal : SaysFindings Normal flags x third l.normal rest
+  pub others : SaysOthers flags x second (l.refusals, l.normal) rest
+
+-- no finding follows
+pub record EndsLists (rest : List ℕ) : Type 0 where
+  pub errors : EndsFindings Error rest
+  pub refusals : EndsFindings Refusal rest
+  pub normal : EndsFindings Normal rest
 
 -- ---- the last two lines
 
@@ -211,11 +280,17 @@ end_of x reach l = counts_line x (length l.errors) (length l.refusals) (length l
 abbrev pub EndsAt : Excuses → Reach → Lists → List ℕ → List ℕ → Type 0
 EndsAt x reach l text rest = text ≡ end_of x reach l ++ rest
 
--- they are not there
-abbrev pub SaysNoEnd : Excuses → Reach → Lists → List ℕ → Stop → Type 0
-SaysNoEnd x reach l text (Bad left) = HasNoFront (end_of x reach l) text
-SaysNoEnd x reach l text (Deep left) = ⊥
-SaysNoEnd x reach l text Memory = Unit {0}
+abbrev pub SaysEnd : Excuses → Reach → Lists → List ℕ → Unit {0} → List ℕ → Type 0
+SaysEnd x reach l text nothing rest = EndsAt x reach l text rest
+
+abbrev pub ReadsEnd : Excuses → Reach → Lists → List ℕ → Result (Bor (List ℕ)) Stop → Type 0
+ReadsEnd x reach l text result = MatchResult result (λ rest. IsReadOn Anything (SaysEnd x reach l) text tt rest.now) (λ stop. RefusesOn IsNever Anything (SaysEnd x reach l) text stop)
+
+-- the lists, and then these lines
+pub record SaysRest (flags : Flags) (x : Excuses) (reach : Reach) (text : List ℕ) (l : Lists) (rest : List ℕ) : Type 0 where
+  pub second : List ℕ
+  pub lists : SaysLists flags x text l second
+  pub ends : EndsAt x reach l second rest
 
 -- ---- a report
 

@@ -1,5 +1,5 @@
 use Rattle.std.proofs.Common.{◌≡◌, ◌+◌, ◌≤◌, drop}
-use Rattle.report_reader.specs.Lawful.{ends_in}
+use Rattle.report_reader.specs.Lines.{ends_in}
 use Rattle.report_reader.proofs.places.ends_in.Given as goal
 
 -- those so far are counted

@@ -1,4 +1,4 @@
-use Rattle.report_reader.proofs.LinePlaces.{is_line}
+use Rattle.report_reader.proofs.Lines.{is_line}
 use Rattle.report_reader.proofs.places.fault_of.Goals as goal
 
 pub returns-in-Bad-clause-line : goal.returns-in-Bad-clause-line

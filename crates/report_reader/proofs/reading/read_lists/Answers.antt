@@ -1,7 +1,7 @@
 use Rattle.std.proofs.lemmas.Result.{err_from_is_err_and}
 use Rattle.tree_excuses.specs.Excuses.{excuses_in}
 use Rattle.world_identities.specs.Identities.{flags_in}
-use Rattle.report_reader.proofs.ReportReads.{lists_read, no_errors, no_normal, no_refusals}
+use Rattle.report_reader.proofs.ReportReads.{lists_of_all, no_errors, no_normal, no_refusals}
 use Rattle.report_reader.proofs.reading.read_lists.Goals as goal
 
 pub returns-in_err-errors : goal.returns-in_err-errors
@@ -20,4 +20,4 @@ returns-in_err-normal c =
     rw (p.1, p.2) (no_normal (flags_in c.args.flags) (excuses_in c.args.excuses.now) c.args.text.now _ _ _ _ _ c.in_ok-errors.ensures c.in_ok-refusals.ensures c.in_err-normal.ensures)
 
 pub returns : goal.returns
-returns c = lists_read (flags_in c.args.flags) (excuses_in c.args.excuses.now) c.args.text.now _ _ _ _ _ _ c.in_ok-errors.ensures c.in_ok-refusals.ensures c.in_ok-normal.ensures
+returns c = lists_of_all (flags_in c.args.flags) (excuses_in c.args.excuses.now) c.args.text.now _ _ _ _ _ _ c.in_ok-errors.ensures c.in_ok-refusals.ensures c.in_ok-normal.ensures
