@@ -1,6 +1,6 @@
 %% Pieces of source that are refused: each line that begins with %> is one that has to be printed,
 %% and nothing else is; those with %= are the notes, of source that is read.
--module(test_refusals).
+-module(refusal_tests).
 
 -export([all/3]).
 
