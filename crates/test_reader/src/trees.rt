@@ -25,7 +25,10 @@ fn names_calls(rt: HostRuntime) {
     for (kind, module_name, function_name, arity) in CALL_NAMES {
         assert_eq!(rt; kind.module_name(), module_name);
         assert_eq!(rt; kind.function_name(), function_name);
-        assert_eq!(rt; CallKind::named(module_name, function_name, arity), Some(kind));
+        assert_eq!(rt;
+            CallKind::named(module_name, function_name, arity),
+            Some(kind)
+        );
     }
 }
 
@@ -44,8 +47,14 @@ const PURE_CALL_NAMES: [(PureCall, &str, &str, usize); 8] = [
 #[test]
 fn finds_pure_calls(rt: HostRuntime) {
     for (call, module_name, function_name, arity) in PURE_CALL_NAMES {
-        assert_eq!(rt; PureCall::named(module_name, function_name, arity), Some(call));
-        assert_eq!(rt; PureCall::named(module_name, function_name, arity + 3), None);
+        assert_eq!(rt;
+            PureCall::named(module_name, function_name, arity),
+            Some(call)
+        );
+        assert_eq!(rt;
+            PureCall::named(module_name, function_name, arity + 3),
+            None
+        );
     }
 }
 

@@ -69,11 +69,7 @@ impl Planned {
     }
 
     /// A process puts the message to a new owner of a table, if there is one. `AllocError` if there is no memory.
-    pub fn tell_owner(
-        &mut self,
-        from: &Pid,
-        transfer: Option<Transfer>,
-    ) -> Result<(), AllocError>
+    pub fn tell_owner(&mut self, from: &Pid, transfer: Option<Transfer>) -> Result<(), AllocError>
         ensures { OnOk result (Adds [] (sent_by from.now transfer) self.old self.new) }
     {
         match transfer {

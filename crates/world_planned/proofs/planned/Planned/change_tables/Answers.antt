@@ -9,7 +9,7 @@ pub loop-change-preserved : goal.loop-change-preserved
 loop-change-preserved c =
     let step = c.in-Some.ensures.steps in (
       adding_on c.args.changes.items c.in-Some.change (into_iter_items c.next.new.self) _ _ _
-      (subst (λ (cs : List TableChange). IsAdding c.args.changes.items cs c.args.self.now c.loop-change.self) step.0 c.loop-change.invariant.0) c.in_ok-change.ensures,
+          (subst (λ (cs : List TableChange). IsAdding c.args.changes.items cs c.args.self.now c.loop-change.self) step.0 c.loop-change.invariant.0) c.in_ok-change.ensures,
       omega (arith, step.1, c.loop-change.invariant.1, ap length step.0),
     )
 
