@@ -10,7 +10,7 @@ use std::fmt::Write;
 use std::test::Fail;
 use term_core::{Output, Pid, Step, WriteFault, write_all, write_number, write_pid, write_term};
 use test_support::same;
-use world_plans::{Deed, Plan, Planned, Refusal, perform, plan_step};
+use world_plans::{Deed, Plan, Refusal, perform, plan_step};
 use world_records::{Change, Records};
 
 // The number of the process that asks the others to make their calls: it is the fourth that the first one spawns.
@@ -192,27 +192,32 @@ fn write_told(to: &Pid, signal: &Signal, sink: &mut Output<Vec<u8>>) -> Result<(
     write_term(message, sink)
 }
 
-// What a turn puts for others, as text.
-fn write_puts(planned: &Planned, sink: &mut Output<Vec<u8>>) -> Result<(), WriteFault>
-    requires { sink.old.has_failed ≡ false }
-{
-    for change in planned.changes.iter() {
-        if let Change::SignalPut(_, to, signal) = change {
-            write_told(to, signal, sink)?;
-        }
-    }
-    Ok(())
+// The text of such a message.
+fn text_of_told(alloc: Global, to: &Pid, signal: &Signal) -> Result<Vec<u8>, WriteFault> {
+    let mut sink = Output::new(Vec::new(alloc));
+    write_told(to, signal, &mut sink)?;
+    Ok(sink.writer)
 }
 
-// The text of what a turn does.
-fn text_of(alloc: Global, plan: &Plan) -> Result<Vec<u8>, WriteFault> {
+// The text of what a turn does itself.
+fn text_of_deed(alloc: Global, deed: &Option<Deed>) -> Result<Vec<u8>, WriteFault> {
     let mut sink = Output::new(Vec::new(alloc));
-    match &plan.deed {
+    match deed {
         Some(deed) => write_deed(deed, &mut sink)?,
         None => write_all(&mut sink, b"waits")?,
     }
-    write_puts(&plan.planned, &mut sink)?;
     Ok(sink.writer)
+}
+
+// The text of what a turn does, and of what it puts for others.
+fn text_of(alloc: Global, plan: &Plan) -> Result<Vec<u8>, Fail> {
+    let mut text = text_of_deed(alloc, &plan.deed)?;
+    for change in plan.planned.changes.iter() {
+        if let Change::SignalPut(_, to, signal) = change {
+            text.extend_from_slice(text_of_told(alloc, to, signal)?.as_slice())?;
+        }
+    }
+    Ok(text)
 }
 
 // The turn of the process of this number.
