@@ -16,6 +16,7 @@ use crate::selection::selects;
 use core_stack::Stack;
 use core_tree::{Module, Receive};
 use std::alloc::{AllocError, Global};
+use std::hash::Hasher;
 use std::marker::Model;
 use term_core::{Atom, Pid, Term, Terms};
 
@@ -173,6 +174,13 @@ impl<'m> Machine<'m> {
             return false;
         }
         self.stack.is_same(&other.stack)
+    }
+
+    /// Feeds a hasher with the request and what is left to do: the same for machines that are the same. It takes no
+    /// memory.
+    pub fn feed<H: Hasher>(&self, state: &mut H) {
+        self.request.feed(state);
+        self.stack.feed(state);
     }
 
     /// The same machine, or `AllocError` if there is no memory for it or the machine is spent. The two

@@ -5,6 +5,7 @@ ghost use Rattle.term_core.specs.Term.{meaning_of};
 
 use core_tree::CallKind;
 use std::alloc::AllocError;
+use std::hash::{Hash, Hasher};
 use std::sync::Arc;
 use term_core::{Term, Terms};
 
@@ -66,6 +67,26 @@ impl Request {
             (Request::End(reason), Request::End(other)) => same_term(reason, other),
             (Request::Runaway, Request::Runaway) => true,
             _ => false,
+        }
+    }
+
+    /// Feeds a hasher with what is asked: the same for requests that say the same. It takes no memory.
+    pub(crate) fn feed<H: Hasher>(&self, state: &mut H) {
+        match self {
+            Request::Call(kind, arguments) => {
+                state.write_u8(0);
+                kind.hash(state);
+                arguments.hash(state);
+            }
+            Request::Receive { waits } => {
+                state.write_u8(1);
+                waits.hash(state);
+            }
+            Request::End(reason) => {
+                state.write_u8(2);
+                reason.hash(state);
+            }
+            Request::Runaway => state.write_u8(3),
         }
     }
 

@@ -5,6 +5,7 @@ ghost use Rattle.term_core.specs.Term.{meaning_of};
 
 use core_tree::Variable;
 use std::alloc::{AllocError, Global};
+use std::hash::{Hash, Hasher};
 use std::marker::Model;
 use term_core::{Term, Terms};
 
@@ -107,6 +108,15 @@ impl<'m> Bindings<'m> {
         ensures { result ≡ true → self.now ≡ other.now }
     {
         self.0 == other.0
+    }
+
+    /// Feeds a hasher with the values, by which a search finds what may be the same: it gives the same for bindings that
+    /// are. It takes no memory.
+    pub fn feed<H: Hasher>(&self, state: &mut H) {
+        state.write_usize(self.0.len());
+        for binding in &self.0 {
+            binding.value.hash(state);
+        }
     }
 
     /// The same variables, or `AllocError` if there is no memory for it.

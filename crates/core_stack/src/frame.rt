@@ -9,6 +9,7 @@ ghost use Rattle.term_core.specs.Term.{meaning_of};
 use crate::bindings::{Bindings, Seen};
 use core_tree::{Callee, Clause, Expr, Receive, Try, Variable};
 use std::alloc::{AllocError, Global};
+use std::hash::{Hash, Hasher};
 use term_core::{Term, Terms};
 
 /// What several expressions are evaluated for.
@@ -120,5 +121,50 @@ impl<'m> Frame<'m> {
             Frame::Kept(bindings) => Frame::Kept(bindings.copy(alloc)?),
             Frame::Applied(bindings) => Frame::Applied(bindings.copy(alloc)?),
         })
+    }
+
+    /// Feeds a hasher with the kind and the values of the frame, and with how much code it has: the same for frames that
+    /// are the same. It takes no memory.
+    pub(crate) fn feed<H: Hasher>(&self, state: &mut H) {
+        match self {
+            Frame::Parts(_, done, later) => {
+                state.write_u8(0);
+                done.hash(state);
+                state.write_usize(later.len());
+            }
+            Frame::Tail(items) => {
+                state.write_u8(1);
+                items.hash(state);
+            }
+            Frame::Body(variables, _) => {
+                state.write_u8(2);
+                state.write_usize(variables.len());
+            }
+            Frame::Second(_) => state.write_u8(3),
+            Frame::Clauses(clauses) => {
+                state.write_u8(4);
+                state.write_usize(clauses.len());
+            }
+            Frame::Guard(bindings, _, clauses, values) => {
+                state.write_u8(5);
+                bindings.feed(state);
+                state.write_usize(clauses.len());
+                values.hash(state);
+            }
+            Frame::Receive(receive) => {
+                state.write_u8(6);
+                state.write_usize(receive.clauses.0.len());
+            }
+            Frame::Try(_) => state.write_u8(7),
+            Frame::Catch => state.write_u8(8),
+            Frame::Kept(bindings) => {
+                state.write_u8(9);
+                bindings.feed(state);
+            }
+            Frame::Applied(bindings) => {
+                state.write_u8(10);
+                bindings.feed(state);
+            }
+        }
     }
 }

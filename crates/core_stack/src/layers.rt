@@ -13,6 +13,7 @@ use crate::frame::Frame;
 use crate::sameness::same_frame;
 use core_tree::Receive;
 use std::alloc::{AllocError, Global};
+use std::hash::Hasher;
 use std::marker::Model;
 use std::mem::replace;
 use std::sync::Arc;
@@ -207,6 +208,17 @@ impl<'m> Layers<'m> {
                 }
                 _ => return false,
             }
+        }
+    }
+
+    /// Feeds a hasher with all frames, the innermost first: the same for stacks of frames that are the same. It takes no
+    /// memory.
+    pub(crate) fn feed<H: Hasher>(&self, state: &mut H) {
+        let mut left = self;
+        while let Layers::On(layer) = left {
+            let layer: &Layer = layer;
+            layer.frame.feed(state);
+            left = &layer.below;
         }
     }
 

@@ -12,6 +12,7 @@ use crate::frame::Frame;
 use crate::layers::Layers;
 use core_tree::Receive;
 use std::alloc::{AllocError, Global};
+use std::hash::Hasher;
 use std::marker::Model;
 use std::mem::replace;
 use term_core::Term;
@@ -128,6 +129,12 @@ impl<'m> Stack<'m> {
         ensures { result ≡ true → bare_holes self.now ≡ bare_holes other.now }
     {
         self.top.is_empty() && other.top.is_empty() && self.below.is_same(&other.below)
+    }
+
+    /// Feeds a hasher with the frames of a stack that is settled: the same for stacks that are the same. It takes no
+    /// memory.
+    pub fn feed<H: Hasher>(&self, state: &mut H) {
+        self.below.feed(state);
     }
 
     /// Whether the frame on top only keeps variables.

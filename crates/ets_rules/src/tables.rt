@@ -15,6 +15,7 @@ use ets_store::Table;
 use ets_tables::Registry;
 use std::alloc::{AllocError, Global};
 use std::collections::BTreeSet;
+use std::hash::Hasher;
 use term_core::{Atom, Pid, RefId};
 
 /// The tables of a world, with their names and owners. Copies share all of it until one of them is written.
@@ -52,6 +53,12 @@ impl Tables {
         ensures agrees { result ≡ true → (v : Contents) → Hold other.now v → Hold self.now v }
     {
         self.registry.is_same(&other.registry)
+    }
+
+    /// Feeds a hasher with the owner and the rows of each table, by which a search finds what may be the same: it gives
+    /// the same for tables that are. It takes no memory.
+    pub fn feed<H: Hasher>(&self, state: &mut H) {
+        self.registry.feed(state);
     }
 
     /// A table by the reference of its creation: its name, owner, heir and settings, and its rows. It takes no

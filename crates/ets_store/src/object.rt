@@ -6,6 +6,7 @@ ghost use Rattle.world_model.specs.Rows.{part_at, same_object, with_part};
 ghost use Rattle.world_model.specs.Terms.{tuple};
 
 use std::alloc::{AllocError, Global};
+use std::hash::{Hash, Hasher};
 use std::marker::Model;
 use std::sync::Arc;
 use term_core::{Term, Terms};
@@ -106,6 +107,11 @@ impl Object {
         let parts: &Terms = &self.0;
         let others: &Terms = &other.0;
         parts == others
+    }
+
+    /// Feeds a hasher with the terms of the object: the same for objects that are the same. It takes no memory.
+    pub(crate) fn feed<H: Hasher>(&self, state: &mut H) {
+        self.0.hash(state);
     }
 
     /// The object with another part at a position, or `AllocError` if there is no memory for it, and then the

@@ -9,6 +9,7 @@ ghost use Rattle.world_model.specs.declared.table.Kind.TheVariants.{Bag};
 
 use crate::object::Object;
 use std::alloc::{AllocError, Global};
+use std::hash::Hasher;
 use std::marker::Model;
 use term_core::{Term, list_onto};
 use world_model::table::Kind;
@@ -74,6 +75,14 @@ impl Objects {
         let mut items = Vec::with_capacity(alloc, 1)?;
         items.push(object)?;
         Ok(Objects { items })
+    }
+
+    /// Feeds a hasher with all objects: the same for objects that are the same. It takes no memory.
+    pub(crate) fn feed<H: Hasher>(&self, state: &mut H) {
+        state.write_usize(self.items.len());
+        for object in self.items.as_slice() {
+            object.feed(state);
+        }
     }
 
     /// The objects.

@@ -9,6 +9,7 @@ use crate::object::Object;
 use crate::objects::Objects;
 use crate::row_map::RowMap;
 use std::alloc::{AllocError, Global};
+use std::hash::Hasher;
 use std::marker::Model;
 use std::sync::Arc;
 use term_core::Term;
@@ -104,5 +105,13 @@ impl Rows {
         ensures { IfOk result (λ list. meaning_of list ≡ tuples (under self.now.rows (meaning_of key.now))) }
     {
         self.map.list(alloc, key)
+    }
+
+    /// Feeds a hasher with the objects under each key, by which a search finds what may be the same: it gives the same for
+    /// rows that are. It takes no memory.
+    pub fn feed<H: Hasher>(&self, state: &mut H) {
+        for (_, objects) in self.map.entries.iter() {
+            objects.feed(state);
+        }
     }
 }

@@ -13,6 +13,7 @@ use crate::shelves::Shelves;
 use ets_store::{Heir, Table};
 use std::alloc::{AllocError, Global};
 use std::collections::BTreeSet;
+use std::hash::{Hash, Hasher};
 use std::sync::Arc;
 use term_core::{Atom, Pid, RefId};
 
@@ -192,5 +193,14 @@ impl Registry {
     {
         let shelves = Arc::make_mut(&mut self.shelves)?;
         shelves.table_mut(id)
+    }
+
+    /// Feeds a hasher with the owner and the rows of each table, by which a search finds what may be the same: it gives
+    /// the same for registries that are. It takes no memory.
+    pub fn feed<H: Hasher>(&self, state: &mut H) {
+        for (_, table) in self.shelves.tables.iter() {
+            table.owner.hash(state);
+            table.rows.feed(state);
+        }
     }
 }

@@ -10,6 +10,7 @@ ghost use Rattle.world_model.specs.Names.{same_pid};
 use crate::course::Course;
 use std::alloc::{AllocError, Global};
 use std::cmp::Ordering;
+use std::hash::{Hash, Hasher};
 use std::sync::Arc;
 use term_core::Pid;
 
@@ -69,6 +70,14 @@ impl<'m> CourseList<'m> {
             }
         }
         true
+    }
+
+    // Feeds a hasher with each process and its course.
+    fn feed<H: Hasher>(&self, state: &mut H) {
+        for (pid, course) in self.entries.as_slice() {
+            pid.hash(state);
+            course.feed(state);
+        }
     }
 
     // Where a process is or is put in: after those that come before it.
@@ -137,6 +146,11 @@ impl<'m> Courses<'m> {
         ensures { result ≡ true → AreSameCourses self.now other.now }
     {
         self.courses.is_same(&other.courses)
+    }
+
+    /// Feeds a hasher with all courses: the same for courses that are the same. It takes no memory.
+    pub(crate) fn feed<H: Hasher>(&self, state: &mut H) {
+        self.courses.feed(state);
     }
 
     /// No courses, or `AllocError` if there is no memory.

@@ -26,6 +26,7 @@ use core_tree::Module;
 use proc_links::Exits;
 use std::alloc::{AllocError, Global};
 use std::collections::BTreeSet;
+use std::hash::Hasher;
 use term_core::{Atom, Pid, Terms};
 
 /// The processes of a module: the machine of each that lives, how many turns each took, which of them live, and which
@@ -107,6 +108,12 @@ impl<'m> Processes<'m> {
             return false;
         }
         self.courses.is_same(&other.courses)
+    }
+
+    /// Feeds a hasher with the course of each process, by which a search finds what may be the same: it gives the same for
+    /// processes that are. It takes no memory.
+    pub fn feed<H: Hasher>(&self, state: &mut H) {
+        self.courses.feed(state);
     }
 
     /// Whether a process lives: it was begun and has not ended. It takes no memory.

@@ -9,6 +9,7 @@ use crate::held::Held;
 use proc_signals::Mailbox;
 use std::alloc::{AllocError, Global};
 use std::collections::BTreeMap;
+use std::hash::{Hash, Hasher};
 use std::marker::Model;
 use term_core::{Pid, Term};
 
@@ -58,6 +59,14 @@ impl MailboxMap {
         ensures { result ≡ true → self.now ≡ other.now }
     {
         self.mailboxes == other.mailboxes
+    }
+
+    /// Feeds a hasher with each process and its messages: the same for mailboxes that are the same. It takes no memory.
+    pub(crate) fn feed<H: Hasher>(&self, state: &mut H) {
+        for (pid, held) in self.mailboxes.iter() {
+            pid.hash(state);
+            held.mailbox().feed(state);
+        }
     }
 
     /// The mailbox of a process, if it has one. It takes no memory.

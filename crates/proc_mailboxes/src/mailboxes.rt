@@ -13,6 +13,7 @@ use crate::mailbox_map::MailboxMap;
 use crate::same::Same;
 use proc_signals::{Mailbox, Selector};
 use std::alloc::{AllocError, Global};
+use std::hash::Hasher;
 use std::marker::Model;
 use std::sync::Arc;
 use term_core::{Pid, Term};
@@ -71,6 +72,12 @@ impl Mailboxes {
         ensures agrees { result ≡ true → (v : Contents) → AreMailboxes other.now v → AreMailboxes self.now v }
     {
         self.mailboxes.is_same(&other.mailboxes)
+    }
+
+    /// Feeds a hasher with all messages, by which a search finds what may be the same: it gives the same for mailboxes that
+    /// are. It takes no memory.
+    pub fn feed<H: Hasher>(&self, state: &mut H) {
+        self.mailboxes.feed(state);
     }
 
     /// The mailbox of a process, which may be empty, or `None` where no message ever came in. It takes no memory.

@@ -8,6 +8,7 @@ use crate::queue::Queue;
 use crate::signal::Signal;
 use std::alloc::{AllocError, Global};
 use std::cmp::Ordering;
+use std::hash::{Hash, Hasher};
 use std::marker::Model;
 use std::sync::Arc;
 use term_core::Pid;
@@ -73,6 +74,13 @@ impl Channel {
             return false;
         }
         self.queue.is_same(&other.queue)
+    }
+
+    /// Feeds a hasher with the two processes and the signals: the same for channels that are the same. It takes no memory.
+    pub(crate) fn feed<H: Hasher>(&self, state: &mut H) {
+        self.from.hash(state);
+        self.to.hash(state);
+        self.queue.feed(state);
     }
 
     /// Its sender.

@@ -11,6 +11,7 @@ ghost use Rattle.proc_signals.specs.Signal.{signal_of};
 use crate::senders::Senders;
 use crate::signal::Signal;
 use std::alloc::{AllocError, Global};
+use std::hash::Hasher;
 use std::marker::Model;
 use std::sync::Arc;
 use term_core::Pid;
@@ -59,6 +60,12 @@ impl Channels {
         ensures agrees { result ≡ true → (v : Contents) → AreChannels other.now v → AreChannels self.now v }
     {
         self.senders.is_same(&other.senders)
+    }
+
+    /// Feeds a hasher with the signals on their way, by which a search finds what may be the same: it gives the same for
+    /// channels that are. It takes no memory.
+    pub fn feed<H: Hasher>(&self, state: &mut H) {
+        self.senders.feed(state);
     }
 
     /// The same channels, or `AllocError` where their copies can no longer be counted. It takes no memory and

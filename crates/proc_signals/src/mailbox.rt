@@ -12,6 +12,7 @@ ghost use Rattle.proc_signals.specs.Mailbox.{first_place, IsMailbox, IsTakenAt};
 
 use crate::messages::Messages;
 use std::alloc::{AllocError, Global};
+use std::hash::Hasher;
 use std::marker::Model;
 use std::sync::Arc;
 use term_core::{RefId, Term};
@@ -79,6 +80,11 @@ impl Mailbox {
         ensures { result ≡ pointwise same_term self.now other.now }
     {
         self.messages.is_same(&other.messages)
+    }
+
+    /// Feeds a hasher with the messages: the same for mailboxes that are the same. It takes no memory.
+    pub fn feed<H: Hasher>(&self, state: &mut H) {
+        self.messages.feed(state);
     }
 
     /// How many messages there are.

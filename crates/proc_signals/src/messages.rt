@@ -11,6 +11,7 @@ ghost use Rattle.world_model.specs.Terms.{reference as ref_meaning};
 use crate::mailbox::Selector;
 use std::alloc::{AllocError, Global};
 use std::collections::VecDeque;
+use std::hash::{Hash, Hasher};
 use std::marker::Model;
 use term_core::{RefId, Term};
 
@@ -62,6 +63,14 @@ impl Messages {
         ensures { result ≡ pointwise same_term self.now other.now }
     {
         self.items == other.items
+    }
+
+    /// Feeds a hasher with the messages, the oldest first: the same for messages that are the same. It takes no memory.
+    pub(crate) fn feed<H: Hasher>(&self, state: &mut H) {
+        state.write_usize(self.items.len());
+        for message in self.items.iter() {
+            message.hash(state);
+        }
     }
 
     /// How many there are.

@@ -5,6 +5,7 @@ ghost use Rattle.proc_signals.specs.Signal.{signal_of};
 use crate::signal::Signal;
 use std::alloc::{AllocError, Global};
 use std::collections::VecDeque;
+use std::hash::Hasher;
 use std::marker::Model;
 use std::mem;
 
@@ -64,6 +65,15 @@ impl Queue {
             return false;
         }
         self.later == other.later
+    }
+
+    /// Feeds a hasher with the signals, the oldest first: the same for queues that are the same. It takes no memory.
+    pub(crate) fn feed<H: Hasher>(&self, state: &mut H) {
+        state.write_usize(self.later.len());
+        self.oldest.feed(state);
+        for signal in self.later.iter() {
+            signal.feed(state);
+        }
     }
 
     /// The oldest signal.

@@ -11,6 +11,7 @@ use crate::channel::Channel;
 use crate::signal::Signal;
 use std::alloc::{AllocError, Global};
 use std::cmp::Ordering;
+use std::hash::Hasher;
 use std::marker::Model;
 use term_core::Pid;
 
@@ -97,6 +98,13 @@ fn place_of(channels: &[Channel], from: &Pid, to: &Pid) -> Option<usize>
 }
 
 impl Senders {
+    /// Feeds a hasher with all channels: the same for channels that are the same. It takes no memory.
+    pub(crate) fn feed<H: Hasher>(&self, state: &mut H) {
+        for channel in self.channels.as_slice() {
+            channel.feed(state);
+        }
+    }
+
     /// Whether the two have the same channels. It takes no memory.
     pub(crate) fn is_same(&self, other: &Senders) -> bool
         ensures { result ≡ true → self.now ≡ other.now }

@@ -3,6 +3,7 @@ ghost use Rattle.std.specs.Prelude.{◌≡◌, IfOk};
 ghost use Rattle.proc_signals.specs.Signal.{signal_of};
 
 use std::alloc::{AllocError, Global};
+use std::hash::{Hash, Hasher};
 use term_core::{RefId, Term};
 
 /// What one process sends to another (Erlang reference manual, "Processes", "Sending Signals"). Contracts
@@ -44,6 +45,29 @@ impl PartialEq for Signal {
 }
 
 impl Signal {
+    /// Feeds a hasher with the signal: the same for signals that are the same. It takes no memory.
+    pub(crate) fn feed<H: Hasher>(&self, state: &mut H) {
+        match self {
+            Signal::Message(message) => {
+                state.write_u8(0);
+                message.hash(state);
+            }
+            Signal::Exit(reason) => {
+                state.write_u8(1);
+                reason.hash(state);
+            }
+            Signal::LinkExit(reason) => {
+                state.write_u8(2);
+                reason.hash(state);
+            }
+            Signal::Down(reference, reason) => {
+                state.write_u8(3);
+                reference.hash(state);
+                reason.hash(state);
+            }
+        }
+    }
+
     /// The same signal, or `AllocError` where the copies of its terms can no longer be counted. It takes
     /// no memory.
     pub fn copy(&self) -> Result<Signal, AllocError>

@@ -76,7 +76,7 @@ never i j same less = less_equal (sym less ∙ ap (order_of_identities i) (sym s
     less_equal : Less ≡ Equal → ⊥
     less_equal e = absurd cc
 
-one_finding : (f g : Finding) (fs : List Finding) → AreSorted fs → IsAmong f fs → IsAmong g fs → f.identity ≡ g.identity → f ≡ g
+pub one_finding : (f g : Finding) (fs : List Finding) → AreSorted fs → IsAmong f fs → IsAmong g fs → f.identity ≡ g.identity → f ≡ g
 one_finding f g [] sorted here there same = absurd here
 one_finding f g (h ∷ fs) sorted (inl p) (inl q) same = sym p ∙ q
 one_finding f g (h ∷ fs) sorted (inl p) (inr q) same =
@@ -95,7 +95,7 @@ lesser_either P s t p q = go (is_gt (order_of_schedules s t))
     go false = p
 
 module _ (P : Identity → List Step → Type 0) where
-  abbrev Each : List Finding → Type 0
+  abbrev pub Each : List Finding → Type 0
   Each fs = (f : Finding) → IsAmong f fs → P f.identity f.schedule
 
   each_with : (f : Finding) (fs : List Finding) → P f.identity f.schedule → Each fs → Each (with_finding f fs)
@@ -118,11 +118,11 @@ module _ (P : Identity → List Step → Type 0) where
 
 -- ---- an identity is there with a schedule that is no greater
 
-record AtMost (i : Identity) (s : List Step) (fs : List Finding) : Type 0 where
-  it : Finding
-  is_among : IsAmong it fs
-  is_identity : it.identity ≡ i
-  is_at_most : is_gt (order_of_schedules it.schedule s) ≡ false
+pub record AtMost (i : Identity) (s : List Step) (fs : List Finding) : Type 0 where
+  pub it : Finding
+  pub is_among : IsAmong it fs
+  pub is_identity : it.identity ≡ i
+  pub is_at_most : is_gt (order_of_schedules it.schedule s) ≡ false
 
 at_most_itself : (s : List Step) → is_gt (order_of_schedules s s) ≡ false
 at_most_itself s = ap is_gt (tied_itself schedules_total s)
@@ -199,17 +199,17 @@ run_shown : (a : Program) (s : List Step) (i : Identity) (o : Option History) �
 run_shown a s i None e there = absurd there
 run_shown a s i (Some h) e there = (h, e, there)
 
-found_at_most : (test : Identity → Bool) (a : Program) (schedules : List (List Step)) (s : List Step) (i : Identity) → test i ≡ true → IsAmong s schedules → RunShows a s i → AtMost i s (found test a schedules)
+pub found_at_most : (test : Identity → Bool) (a : Program) (schedules : List (List Step)) (s : List Step) (i : Identity) → test i ≡ true → IsAmong s schedules → RunShows a s i → AtMost i s (found test a schedules)
 found_at_most test a [] s i passes there shows = absurd there
 found_at_most test a (r ∷ schedules) s i passes (inl is) shows =
     subst (λ t. AtMost i t (found test a (r ∷ schedules))) is (new_all i r (filter test (shown_after a (run a r))) (found test a schedules) (passes_kept test _ i passes (shown_run a r i (subst (λ t. RunShows a t i) (sym is) shows))))
 found_at_most test a (r ∷ schedules) s i passes (inr there) shows =
     old_all i s r (filter test (shown_after a (run a r))) (found test a schedules) (found_at_most test a schedules s i passes there shows)
 
-abbrev Sound : (Identity → Bool) → Program → List (List Step) → Identity → List Step → Type 0
+abbrev pub Sound : (Identity → Bool) → Program → List (List Step) → Identity → List Step → Type 0
 Sound test a schedules i s = (test i ≡ true) × IsAmong s schedules × RunShows a s i
 
-sound : (test : Identity → Bool) (a : Program) (schedules : List (List Step)) → Each (Sound test a schedules) (found test a schedules)
+pub sound : (test : Identity → Bool) (a : Program) (schedules : List (List Step)) → Each (Sound test a schedules) (found test a schedules)
 sound test a [] = λ f there. absurd there
 sound test a (s ∷ schedules) =
     each_all (Sound test a (s ∷ schedules)) s (filter test (shown_after a (run a s))) (found test a schedules) (λ i t.

@@ -13,6 +13,7 @@ use proc_machines::Processes;
 use proc_mailboxes::Mailboxes;
 use proc_signals::Channels;
 use std::alloc::{AllocError, Global};
+use std::hash::{FoldHasher, Hasher};
 
 /// The parts of a world: its processes, what each has in its mailbox, the signals on their way, links, watches and
 /// names, and the tables. Copies share all of it until one of them is changed.
@@ -112,6 +113,17 @@ impl<'m> Records<'m> {
             return false;
         }
         self.processes.is_same(&other.processes)
+    }
+
+    /// A number by which a search finds records that may be the same: records that are the same have the same number. It
+    /// takes no memory.
+    pub fn digest(&self) -> u64 {
+        let mut hasher = FoldHasher::default();
+        self.processes.feed(&mut hasher);
+        self.mailboxes.feed(&mut hasher);
+        self.channels.feed(&mut hasher);
+        self.tables.feed(&mut hasher);
+        hasher.finish()
     }
 
     /// The processes. It takes no memory.
