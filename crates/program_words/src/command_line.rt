@@ -10,7 +10,7 @@ use crate::words::Printed;
 use clap::error::ErrorKind;
 use clap::{Arg, ArgAction, ArgMatches, Command, Error, value_parser};
 use std::alloc::Global;
-use tree_findings::Options;
+use tree_findings::{Options, Search};
 use world_identities::Flags;
 
 /// The name of the program.
@@ -301,6 +301,7 @@ pub(crate) fn found_options(matches: &ArgMatches<'_>) -> Option<(Options, Printe
         nodes: found_number(given, "nodes")?,
         budget: BUDGET,
         workers: found_number(given, "workers")?,
+        search: Search::ByTree,
         flags: found_flags(given),
     };
     Some((options, found_printed(given)))

@@ -90,6 +90,8 @@ impl<'r, C: Clock> Observer for Progress<'r, C> {
         let _ = self.tell(nodes, seconds);
     }
 
+    fn level(&self, _steps: u64) {}
+
     fn given(&self, _ticket: u64) {
         self.jobs.fetch_add(1, Ordering::SeqCst);
     }

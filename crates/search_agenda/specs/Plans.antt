@@ -30,6 +30,10 @@ pub record IsWorld (m : ModuleTree) (h : History) (records : Records) : Type 0 w
 abbrev pub IsPlan : Program → History → Plan → Type 0
 IsPlan a h p = footprints.IsPlan a (contents h) p
 
+-- the records after the event of a planned step, from those before it
+abbrev pub IsStepped : Records → Plan → Records → Type 0
+IsStepped old p new = (m : ModuleTree) (h : History) (e : Event) → IsWorld m h old → IsPlan (program_of m) h p → next_event (program_of m) h p.step ≡ Some e → IsWorld m (e ∷ h) new
+
 -- plans that are shared, and the steps of those that are enabled
 abbrev pub Shared : Type 0
 Shared = Rc Plan Global

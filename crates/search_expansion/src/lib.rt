@@ -10,5 +10,6 @@ mod walk;
 mod world;
 
 pub use expansion::expand;
+pub use node::stepped;
 pub use observer::{Observer, Unwatched};
 pub use search_jobs::{Exploration, Job, JobName, Piece, Ticket};

@@ -1,8 +1,8 @@
 // A node that is to be visited.
 ghost use Rattle.std.specs.Prelude.{◌≡◌, ◌==◌, ◌&&◌, Some, IfOk, OnOk};
 ghost use Rattle.core_tree.specs.Syntax.{ModuleTree};
-ghost use Rattle.search_agenda.specs.Plans.{IsAgenda};
-ghost use Rattle.search_expansion.specs.inside.Nodes.{AddsDeadlock, IsBelow, IsNode, IsStepped};
+ghost use Rattle.search_agenda.specs.Plans.{IsAgenda, IsStepped};
+ghost use Rattle.search_expansion.specs.inside.Nodes.{AddsDeadlock, IsBelow, IsNode};
 ghost use Rattle.tree_cuts.specs.Cuts.{goes_on};
 ghost use Rattle.world_model.specs.Asking.{program_of};
 ghost use Rattle.world_model.specs.Events.{History};
@@ -27,7 +27,7 @@ pub(crate) struct Node<'m> {
 
 /// The records that the enabled step of a plan leaves, from those that are taken over. `AllocError` if there is no memory
 /// for them.
-pub(crate) fn stepped<'m>(
+pub fn stepped<'m>(
     alloc: Global,
     records: Records<'m>,
     plan: &Plan,

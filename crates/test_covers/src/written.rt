@@ -9,7 +9,7 @@ use std::test::Fail;
 use test_support::{MemorySink, MemorySource, same};
 use tree_covers::split_at_mark;
 use tree_excuses::Excuses;
-use tree_findings::Options;
+use tree_findings::{Options, Search};
 use world_identities::Flags;
 
 const WRITTEN: &str =
@@ -43,6 +43,7 @@ fn options(depth: u64, nodes: u64, workers: u64) -> Options
         nodes,
         budget: 64,
         workers,
+        search: Search::ByTree,
         flags: Flags {
             allow_deadlock: false,
             strict_access: false,

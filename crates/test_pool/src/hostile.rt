@@ -10,7 +10,7 @@ use std::alloc::Global;
 use std::marker::Brand;
 use std::sync::ledger::Blank;
 use std::test::Fail;
-use tree_findings::{Cause, Options, Outcome};
+use tree_findings::{Cause, Options, Outcome, Search};
 use world_identities::Flags;
 
 // A process starts another, and each makes a table. To the depth 5 there are ten schedules, by hand: a process takes its
@@ -27,6 +27,7 @@ fn options(depth: u64) -> Options
         nodes: 1_000_000,
         budget: 1,
         workers: 1,
+        search: Search::ByTree,
         flags: Flags {
             allow_deadlock: false,
             strict_access: false,

@@ -6,7 +6,7 @@ use search_expansion::Unwatched;
 use std::test::Fail;
 use test_support::{MemorySink, MemorySource, same};
 use tree_excuses::Excuses;
-use tree_findings::Options;
+use tree_findings::{Options, Search};
 use world_identities::Flags;
 
 // A process spawns another, and both end.
@@ -115,6 +115,7 @@ fn options(depth: u64, nodes: u64, workers: u64) -> Options
         nodes,
         budget: 64,
         workers,
+        search: Search::ByTree,
         flags: Flags {
             allow_deadlock: false,
             strict_access: false,

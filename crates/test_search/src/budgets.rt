@@ -13,7 +13,7 @@ use std::thread::Threads;
 use term_core::{Output, WriteFault};
 use test_support::same;
 use tree_excuses::Excuses;
-use tree_findings::{Extent, Options, Outcome};
+use tree_findings::{Extent, Options, Outcome, Search};
 use world_identities::Flags;
 
 /// What is explored, with a budget.
@@ -25,6 +25,7 @@ pub(crate) fn options(depth: u64, budget: u64) -> Options
         nodes: 1_000_000,
         budget,
         workers: 1,
+        search: Search::ByTree,
         flags: Flags {
             allow_deadlock: false,
             strict_access: false,
@@ -157,6 +158,8 @@ struct Pieces {
 
 impl Observer for Pieces {
     fn turn(&self, _ticket: u64) {}
+
+    fn level(&self, _steps: u64) {}
 
     fn given(&self, _ticket: u64) {
         self.given.fetch_add(1, Ordering::SeqCst);

@@ -12,7 +12,7 @@ use std::test::Fail;
 use std::thread;
 use std::thread::Threads;
 use test_support::{holds, same};
-use tree_findings::{Extent, Options, Outcome};
+use tree_findings::{Extent, Options, Outcome, Search};
 use world_identities::Flags;
 
 /// What is explored by so many workers.
@@ -25,6 +25,7 @@ pub(crate) fn options(depth: u64, budget: u64, workers: u64) -> Options
         nodes: 1_000_000,
         budget,
         workers,
+        search: Search::ByTree,
         flags: Flags {
             allow_deadlock: false,
             strict_access: false,
@@ -64,6 +65,8 @@ impl Observer for Meeting {
             thread::yield_now();
         }
     }
+
+    fn level(&self, _steps: u64) {}
 
     fn given(&self, ticket: u64) {
         if ticket == 4 {

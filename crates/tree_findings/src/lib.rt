@@ -13,5 +13,5 @@ pub use extent::Extent;
 pub use finding::{Finding, copy_schedule};
 pub use found::Findings;
 pub use list::FindingList;
-pub use options::Options;
+pub use options::{Options, Search};
 pub use outcome::{Cause, Outcome};

@@ -20,10 +20,6 @@ pub record IsNode (m : ModuleTree) (h : History) (n : Node) : Type 0 where
   pub agenda : IsAgenda (program_of m) h n.agenda
   pub slept : ArePlans (program_of m) h n.slept.items
 
--- the records after the event of a planned step, from those before it
-abbrev pub IsStepped : Records → Plan → Records → Type 0
-IsStepped old p new = (m : ModuleTree) (h : History) (e : Event) → IsWorld m h old → IsPlan (program_of m) h p → next_event (program_of m) h p.step ≡ Some e → IsWorld m (e ∷ h) new
-
 -- the node there, where these plans hold there
 abbrev pub IsBelow : Records → Agenda → Plan → List Shared → Node → Type 0
 IsBelow records agenda p slept n = (m : ModuleTree) (h : History) (e : Event) → IsWorld m h records → IsAgenda (program_of m) h agenda → IsPlan (program_of m) h p → next_event (program_of m) h p.step ≡ Some e → ArePlans (program_of m) (e ∷ h) slept → IsNode m (e ∷ h) n
