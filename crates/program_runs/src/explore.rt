@@ -9,17 +9,41 @@ ghost use Rattle.program_runs.specs.Status.{status_of};
 use crate::input::read_input;
 use crate::printing::{print_and_flush, verdict_of};
 use crate::verdict::{RunFault, Verdict};
+use crate::watched::Watched;
 use core_reader::laws::texts_say_one_module;
 use core_reader::read_module;
+use core_tree::Module;
 use program_words::Printed;
-use search_crew::{Job, Observer, search};
+use search_crew::{Job, Observer, SearchFault, search};
+use search_states::search_states;
 use std::alloc::Global;
 use std::sync::Wait;
 use std::thread::Threads;
 use term_core::{Sink, Source};
 use tree_excuses::Excuses;
 use tree_excuses::laws::judged_are_exact;
-use tree_findings::Options;
+use tree_findings::{Options, Outcome, Search};
+
+fn explored<T: Threads + Wait + Sync, O: Observer + Sync>(
+    rt: &T,
+    alloc: Global,
+    program: &Module,
+    options: &Options,
+    observer: &O,
+) -> Result<Outcome, SearchFault>
+    requires { 1 ≤ options.now.budget }
+{
+    match options.search {
+        Search::ByTree => {
+            let whole = Job::root(alloc, program, options);
+            search(rt, alloc, &whole, options, observer)
+        }
+        Search::ByStates => {
+            let searched = search_states(alloc, program, options, &Watched { observer })?;
+            Ok(searched.outcome)
+        }
+    }
+}
 
 /// Reads a module from the source, visits the tree of its schedules within the options, and writes the report to the
 /// sink, which is flushed at the end: each error, and each table call that is refused, that some schedule of at most so
@@ -70,8 +94,7 @@ pub fn run_explore<T: Threads + Wait + Sync, R: Source, O: Observer + Sync, W: S
     judged_are_exact();
     let text = read_input(alloc, source)?;
     let program = read_module(alloc, &text)?;
-    let whole = Job::root(alloc, &program, options);
-    let outcome = search(rt, alloc, &whole, options, observer)?;
+    let outcome = explored(rt, alloc, &program, options, observer)?;
     print_and_flush(
         alloc,
         &program,

@@ -1,0 +1,39 @@
+-- What levels find.
+use Rattle.std.specs.Prelude.{◌≡◌, ◌+◌, ℕ, suc, false, List, Some, length}
+use Rattle.search_levels.specs.Arrivals.{has_step}
+use Rattle.search_levels.specs.Searched.{IsLonger}
+use Rattle.search_levels.specs.Levels.{AreAt, IsCovered}
+use Rattle.search_levels.specs.declared.visit.Visit.{Visit}
+use Rattle.term_core.specs.declared.step.Step.{Step}
+use Rattle.tree_coverage.specs.Findings.{Findings, findings_among}
+use Rattle.tree_schedules.specs.StandIns.{StandForAll}
+use Rattle.world_model.specs.Events.{History}
+use Rattle.world_model.specs.Names.{IsAmong}
+use Rattle.world_model.specs.Requests.{Program}
+use Rattle.world_model.specs.Run.{run}
+use Rattle.world_model.specs.Shown.{Flags}
+
+-- each history of so many steps is covered, and what schedules that stand for all of at most so many steps show is found
+pub record IsLevel {S : Type 0} (Agrees : S → Program → History → Type 0) (flags : Flags) (a : Program) (k : ℕ) (level : List (Visit S)) (findings : Findings) : Type 0 where
+  pub at : AreAt Agrees a k level
+  pub covers : (s : List Step) (h : History) → length s ≡ k → run a s ≡ Some h → IsCovered Agrees a level s h
+  pub visited : List (List Step)
+  pub stand : StandForAll a k visited
+  pub found : findings ≡ findings_among flags a visited
+
+-- a level is followed by the next one
+abbrev pub GoesOn : {S : Type 0} → (S → Program → History → Type 0) → Flags → List (Visit S) → List (Visit S) → Findings → Findings → Type 0
+GoesOn Agrees flags level next before after = (a : Program) (k : ℕ) → IsLevel Agrees flags a k level before → IsLevel Agrees flags a (k + 1) next after
+
+-- no step is enabled after any history that a state of the level agrees with
+abbrev pub IsLast : {S : Type 0} → (S → Program → History → Type 0) → List (Visit S) → Type 0
+IsLast {S} Agrees level = (a : Program) (x : Visit S) → IsAmong x level → (h : History) → Agrees x.state a h → has_step a h ≡ false
+
+-- a step is enabled after a history of a state of the level
+abbrev pub GoesFurther : {S : Type 0} → (S → Program → History → Type 0) → List (Visit S) → Type 0
+GoesFurther Agrees level = (a : Program) (k : ℕ) → AreAt Agrees a k level → IsLonger a k
+
+-- at how many states of the level a step is enabled: at none, or else some schedule is longer
+abbrev pub TellsOpen : {S : Type 0} → (S → Program → History → Type 0) → List (Visit S) → ℕ → Type 0
+TellsOpen Agrees level 0 = IsLast Agrees level
+TellsOpen Agrees level (suc n) = GoesFurther Agrees level

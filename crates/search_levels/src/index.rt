@@ -1,0 +1,43 @@
+// How a level finds states that may be the same. Nothing is promised of what it finds: whoever asks looks whether it is.
+use std::alloc::{AllocError, Global};
+use std::collections::HashMap;
+
+/// The places of a level by the digests of its states.
+#[derive(Drop)]
+pub(crate) struct Index {
+    // The last place of each digest.
+    last: HashMap<u64, usize>,
+    // For each place the one before it that has the same digest.
+    before: Vec<Option<usize>>,
+}
+
+impl Index {
+    /// The index of a level without states.
+    pub(crate) fn new(alloc: Global) -> Index {
+        Index {
+            last: HashMap::new(alloc),
+            before: Vec::new(alloc),
+        }
+    }
+
+    /// The last place of this digest, if there is one. It takes no memory.
+    pub(crate) fn last(&self, digest: u64) -> Option<usize> {
+        self.last.get(&digest).copied()
+    }
+
+    /// The place before this one that has the same digest, if there is one. It takes no memory.
+    pub(crate) fn before(&self, place: usize) -> Option<usize> {
+        match self.before.get(place) {
+            Some(before) => *before,
+            None => None,
+        }
+    }
+
+    /// The next place has this digest. `AllocError` if there is no memory for it.
+    pub(crate) fn put(&mut self, digest: u64) -> Result<(), AllocError> {
+        let place = self.before.len();
+        let before = self.last.insert(digest, place)?;
+        self.before.push(before)?;
+        Ok(())
+    }
+}

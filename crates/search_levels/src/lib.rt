@@ -1,0 +1,17 @@
+// A search by states, level by level: of the schedules of one length that lead to the same one goes on, the least.
+#![tactic(auto)]
+
+pub mod arrival;
+pub(crate) mod expanding;
+mod index;
+pub(crate) mod level;
+pub mod observer;
+pub(crate) mod path;
+pub mod search;
+pub mod state;
+pub(crate) mod visit;
+
+pub use arrival::Arrival;
+pub use observer::{LevelObserver, Unobserved};
+pub use search::{Bounds, Searched, search_levels};
+pub use state::State;

@@ -1,0 +1,63 @@
+// The steps from a state, and what is after them.
+ghost use Rattle.std.specs.Prelude.{◌≡◌, IfOk, OnOk};
+ghost use Rattle.core_tree.specs.Syntax.{ModuleTree};
+
+use crate::kept::Kept;
+use search_agenda::{Agenda, Plan};
+use search_expansion::stepped;
+use search_levels::Arrival;
+use std::alloc::{AllocError, Global};
+use world_core::{push_deadlock, shown_by_plan};
+use world_identities::Identity;
+use world_records::Records;
+use world_steps::enabled_steps;
+
+// Puts the deadlock of the world after a planned step after what else is shown there, where no step is enabled in it and
+// some process lives. Most often the agenda tells that one is. `AllocError` if there is no memory for it.
+fn add_deadlock(
+    alloc: Global,
+    agenda: &Agenda,
+    plan: &Plan,
+    after: &Records<'_>,
+    shown: &mut Vec<Identity>,
+) -> Result<(), AllocError> {
+    if agenda.lives_below(plan) {
+        return Ok(());
+    }
+    if enabled_steps(after, alloc)?.is_empty() {
+        push_deadlock(after, alloc, shown)?;
+    }
+    Ok(())
+}
+
+// A planned step that is enabled in a world, and what is after it. `AllocError` if there is no memory for it.
+fn arrival_by<'m>(
+    alloc: Global,
+    records: &Records<'m>,
+    agenda: &Agenda,
+    plan: &Plan,
+) -> Result<Arrival<Kept<'m>>, AllocError> {
+    let mut shown = shown_by_plan(records, alloc, plan)?;
+    let after = stepped(alloc, records.copy()?, plan)?;
+    add_deadlock(alloc, agenda, plan, &after, &mut shown)?;
+    Ok(Arrival {
+        step: plan.step.copy()?,
+        shown,
+        state: Kept { records: after },
+    })
+}
+
+/// The steps that are enabled in a world, in their order, each with what is shown after it and with the records there.
+/// `AllocError` if there is no memory for it.
+pub(crate) fn arrivals_from<'m>(
+    alloc: Global,
+    records: &Records<'m>,
+) -> Result<Vec<Arrival<Kept<'m>>>, AllocError> {
+    let agenda = Agenda::of(records, alloc)?;
+    let mut line = agenda.awake_backwards(alloc, &[])?;
+    let mut arrivals = Vec::with_capacity(alloc, line.len())?;
+    while let Some(plan) = line.pop() {
+        arrivals.push(arrival_by(alloc, records, &agenda, &plan)?)?;
+    }
+    Ok(arrivals)
+}

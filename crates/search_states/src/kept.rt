@@ -1,0 +1,35 @@
+// What a search by states keeps of a world.
+use crate::arriving::arrivals_from;
+use search_levels::{Arrival, State};
+use std::alloc::{AllocError, Global};
+use world_records::Records;
+use world_steps::enabled_steps;
+
+/// The records of a world. They agree with each history that leaves such records.
+#[derive(Drop)]
+pub(crate) struct Kept<'m> {
+    pub(crate) records: Records<'m>,
+}
+
+impl<'m> State for Kept<'m> {
+    ghost use Rattle.search_agenda.specs.Plans.{IsWorld};
+
+    ghost agrees = { λ s m h. IsWorld m h s.records };
+
+    fn digest(&self) -> u64 {
+        self.records.digest()
+    }
+
+    fn is_same(&self, other: &Kept<'m>) -> bool {
+        self.records.is_same(&other.records)
+    }
+
+    fn goes_on(&self, alloc: Global) -> Result<bool, AllocError> {
+        let enabled = enabled_steps(&self.records, alloc)?;
+        Ok(!enabled.is_empty())
+    }
+
+    fn arrivals(&self, alloc: Global) -> Result<Vec<Arrival<Kept<'m>>>, AllocError> {
+        arrivals_from(alloc, &self.records)
+    }
+}

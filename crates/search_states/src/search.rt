@@ -1,0 +1,54 @@
+// The search of all schedules of a module by states.
+ghost use Rattle.std.specs.Prelude.{◌≡◌, ◌≤◌, IfOk};
+ghost use Rattle.search_levels.specs.Searched.{IsSearched};
+ghost use Rattle.world_identities.specs.Identities.{flags_in};
+ghost use Rattle.world_model.specs.Asking.{program_of};
+
+use crate::kept::Kept;
+use core_tree::Module;
+use search_levels::{Bounds, LevelObserver, Searched, search_levels};
+use std::alloc::{AllocError, Global};
+use tree_findings::Options;
+use world_core::World;
+use world_identities::Identity;
+use world_records::Records;
+
+// The records of a module before anything happened, and what is shown there. `AllocError` if there is no memory for it.
+fn beginning<'m>(
+    alloc: Global,
+    program: &'m Module,
+) -> Result<(Records<'m>, Vec<Identity>), AllocError> {
+    let Ok(world) = World::open(alloc, program) else {
+        return Err(AllocError);
+    };
+    let Ok(shown) = world.errors_here(alloc) else {
+        return Err(AllocError);
+    };
+    Ok((world.records().copy()?, shown))
+}
+
+/// Follows all schedules of a module, level by level over its states, within the depth and the limit of states of the
+/// options: the states to which schedules of so many steps lead are those of one level, and where several lead to states
+/// that are the same the least goes on. `search_levels` says what the outcome is. The observer is informed of each level
+/// and of each state.
+///
+/// # Errors
+///
+/// `AllocError` where there was no memory for the first state.
+pub fn search_states<O: LevelObserver>(
+    alloc: Global,
+    program: &Module,
+    options: &Options,
+    observer: &O,
+) -> Result<Searched, AllocError>
+    requires { 1 ≤ options.now.nodes }
+    ensures { IfOk result (λ searched. IsSearched (flags_in options.now.flags) (program_of program.now) options.now.depth options.now.nodes searched) }
+{
+    let (records, shown) = beginning(alloc, program)?;
+    let bounds = Bounds {
+        flags: options.flags,
+        depth: options.depth,
+        states: options.nodes,
+    };
+    search_levels(alloc, bounds, Kept { records }, shown.as_slice(), observer)
+}
