@@ -23,10 +23,11 @@ use Rattle.tree_findings.specs.declared.outcome.Outcome.{Outcome}
 use Rattle.tree_findings.specs.declared.outcome.Outcome.TheVariants as outcomes
 use Rattle.search_jobs.specs.Explorations.{ExplorationSeen, JobSeen, explored_by, program_in}
 use Rattle.report_text.specs.Clean.{IsCleanOfAll}
-use Rattle.search_crew.specs.Outcomes.{IsOutcome, IsExact, IsWhole}
+use Rattle.report_text.specs.declared.visited.Visited.{Visited}
+use Rattle.search_crew.specs.Outcomes.{IsExact, IsWhole}
 use Rattle.tree_cuts.specs.Cuts.{IsEverShown}
 use Rattle.search_crew.specs.declared.fault.SearchFault.{SearchFault}
-use Rattle.program_runs.specs.Explored.{IsExplored, IsExplorationOf, IsCleanIfSaid, IsJudged, ShowsNoErrorEver, complete_verdict, print_of, verdict_of}
+use Rattle.program_runs.specs.Explored.{IsExplored, IsExplorationOf, IsCleanIfSaid, IsOutcomeBy, IsJudged, ShowsNoErrorEver, complete_verdict, print_of, verdict_of}
 use Rattle.program_runs.specs.Printing.{text_of_print}
 use Rattle.program_runs.specs.Input.{IsInputOf}
 use Rattle.program_runs.specs.Refusals.{refusal_of_printing}
@@ -64,9 +65,9 @@ judged e x (outcomes.Complete findings extent) law exact whole = (
 )
 judged e x (outcomes.Incomplete cause findings) law exact whole = tt
 
-abbrev explored : (all bytes : List ℕ) (options : Options) (x : Excuses) (m : ModuleTree) (outcome : Outcome) → JudgedAreExact × JudgedAreWhole
-    → IsInputOf 1048576 all bytes → SpellsModule bytes m → IsOutcome (explored_by m options) options.nodes outcome → IsExact (explored_by m options) outcome → IsWhole (explored_by m options) outcome → IsExplored all options x outcome
-explored all bytes options x m outcome law is spelt comes exact whole = record {
+abbrev explored : (all bytes : List ℕ) (options : Options) (x : Excuses) (m : ModuleTree) (visited : Visited) (outcome : Outcome) → JudgedAreExact × JudgedAreWhole
+    → IsInputOf 1048576 all bytes → SpellsModule bytes m → IsOutcomeBy options.search (explored_by m options) options.nodes visited outcome → IsExact (explored_by m options) outcome → IsWhole (explored_by m options) outcome → IsExplored all options x visited outcome
+explored all bytes options x m visited outcome law is spelt comes exact whole = record {
   program = m;
   module_text = spells_all all bytes m is spelt;
   is_outcome = comes;
@@ -91,32 +92,33 @@ clean_of_all all bytes options x m outcome once is spelt judged clean k spells =
     subst (λ (n : ModuleTree). ShowsNoErrorEver n options x) same (none_ever (explored_by m options) x outcome judged clean)
 
 -- a report that was written
-pub reported : (remaining : Option (List ℕ)) (bytes : List ℕ) (options : Options) (x : Excuses) (what : Printed) (old new : Option (List ℕ)) (failed : Bool) (m : ModuleTree) (outcome : Outcome) (verdict : Verdict)
+pub reported : (remaining : Option (List ℕ)) (bytes : List ℕ) (options : Options) (x : Excuses) (what : Printed) (old new : Option (List ℕ)) (failed : Bool) (m : ModuleTree) (visited : Visited) (outcome : Outcome) (verdict : Verdict)
     → ((text : List ℕ) (a b : ModuleTree) → SpellsModule text a → SpellsModule text b → a ≡ b)
-    → IfSome remaining (λ all. IsInputOf 1048576 all bytes) → SpellsModule bytes m → IsOutcome (explored_by m options) options.nodes outcome → JudgedAreExact × JudgedAreWhole → IsExact (explored_by m options) outcome → IsWhole (explored_by m options) outcome
-    → WritesAll old new failed (text_of_print (print_of what (program_of m) options.depth x outcome)) → verdict ≡ verdict_of x outcome → IfSome remaining (λ input. IsExplorationOf input options x what old new failed (Ok verdict))
-reported None bytes options x what old new failed m outcome verdict once is spelt comes law exact whole written told = tt
-reported (Some all) bytes options x what old new failed m outcome verdict once is spelt comes law exact whole written told = record {
+    → IfSome remaining (λ all. IsInputOf 1048576 all bytes) → SpellsModule bytes m → IsOutcomeBy options.search (explored_by m options) options.nodes visited outcome → JudgedAreExact × JudgedAreWhole → IsExact (explored_by m options) outcome → IsWhole (explored_by m options) outcome
+    → WritesAll old new failed (text_of_print (print_of what visited (program_of m) options.depth x outcome)) → verdict ≡ verdict_of x outcome → IfSome remaining (λ input. IsExplorationOf input options x what old new failed (Ok verdict))
+reported None bytes options x what old new failed m visited outcome verdict once is spelt comes law exact whole written told = tt
+reported (Some all) bytes options x what old new failed m visited outcome verdict once is spelt comes law exact whole written told = record {
+  visited = visited;
   outcome = outcome;
-  explored = explored all bytes options x m outcome law is spelt comes exact whole;
+  explored = explored all bytes options x m visited outcome law is spelt comes exact whole;
   written = written;
   told = told;
   of_all = clean_of_all all bytes options x m outcome once is spelt (judged (explored_by m options) x outcome law exact whole);
 }
 
 -- one that broke off, or that was cut off, or with a cover that was
-broken_by : (all : List ℕ) (options : Options) (x : Excuses) (what : Printed) (old new : Option (List ℕ)) (failed : Bool) (outcome : Outcome) (is : IsExplored all options x outcome) (fault : PrintFault)
-    → IsPrinted (print_of what (program_of is.program) options.depth x outcome) old new failed (Err fault) → IsExplorationOf all options x what old new failed (Err (refusal_of_printing fault))
-broken_by all options x what old new failed outcome is printing.ReportCutOff part = record { outcome = outcome; explored = is; stops = part }
-broken_by all options x what old new failed outcome is printing.CoverCutOff part = record { outcome = outcome; explored = is; stops = part }
-broken_by all options x what old new failed outcome is printing.Write part = record { outcome = outcome; explored = is; stops = part }
+broken_by : (all : List ℕ) (options : Options) (x : Excuses) (what : Printed) (old new : Option (List ℕ)) (failed : Bool) (visited : Visited) (outcome : Outcome) (is : IsExplored all options x visited outcome) (fault : PrintFault)
+    → IsPrinted (print_of what visited (program_of is.program) options.depth x outcome) old new failed (Err fault) → IsExplorationOf all options x what old new failed (Err (refusal_of_printing fault))
+broken_by all options x what old new failed visited outcome is printing.ReportCutOff part = record { visited = visited; outcome = outcome; explored = is; stops = part }
+broken_by all options x what old new failed visited outcome is printing.CoverCutOff part = record { visited = visited; outcome = outcome; explored = is; stops = part }
+broken_by all options x what old new failed visited outcome is printing.Write part = record { visited = visited; outcome = outcome; explored = is; stops = part }
 
-pub broken : (remaining : Option (List ℕ)) (bytes : List ℕ) (options : Options) (x : Excuses) (what : Printed) (old new : Option (List ℕ)) (failed : Bool) (m : ModuleTree) (outcome : Outcome) (fault : PrintFault) (r : Result Verdict RunFault)
-    → r ≡ Err (refusal_of_printing fault) → IfSome remaining (λ all. IsInputOf 1048576 all bytes) → SpellsModule bytes m → IsOutcome (explored_by m options) options.nodes outcome → JudgedAreExact × JudgedAreWhole → IsExact (explored_by m options) outcome → IsWhole (explored_by m options) outcome
-    → IsPrinted (print_of what (program_of m) options.depth x outcome) old new failed (Err fault) → IfSome remaining (λ input. IsExplorationOf input options x what old new failed r)
-broken None bytes options x what old new failed m outcome fault r e is spelt comes law exact whole part = tt
-broken (Some all) bytes options x what old new failed m outcome fault r e is spelt comes law exact whole part =
-    subst (λ (r : Result Verdict RunFault). IsExplorationOf all options x what old new failed r) (sym e) (broken_by all options x what old new failed outcome (explored all bytes options x m outcome law is spelt comes exact whole) fault part)
+pub broken : (remaining : Option (List ℕ)) (bytes : List ℕ) (options : Options) (x : Excuses) (what : Printed) (old new : Option (List ℕ)) (failed : Bool) (m : ModuleTree) (visited : Visited) (outcome : Outcome) (fault : PrintFault) (r : Result Verdict RunFault)
+    → r ≡ Err (refusal_of_printing fault) → IfSome remaining (λ all. IsInputOf 1048576 all bytes) → SpellsModule bytes m → IsOutcomeBy options.search (explored_by m options) options.nodes visited outcome → JudgedAreExact × JudgedAreWhole → IsExact (explored_by m options) outcome → IsWhole (explored_by m options) outcome
+    → IsPrinted (print_of what visited (program_of m) options.depth x outcome) old new failed (Err fault) → IfSome remaining (λ input. IsExplorationOf input options x what old new failed r)
+broken None bytes options x what old new failed m visited outcome fault r e is spelt comes law exact whole part = tt
+broken (Some all) bytes options x what old new failed m visited outcome fault r e is spelt comes law exact whole part =
+    subst (λ (r : Result Verdict RunFault). IsExplorationOf all options x what old new failed r) (sym e) (broken_by all options x what old new failed visited outcome (explored all bytes options x m visited outcome law is spelt comes exact whole) fault part)
 
 -- ---- clean means none
 

@@ -7,4 +7,5 @@ pub mod MergeLaws
 pub mod ReportEnds
 pub mod ReportLaws
 pub mod RunLaws
+pub mod StatesLaws
 pub mod TheoremLaws

@@ -17,8 +17,9 @@ use Rattle.tree_findings.specs.declared.extent.Extent.{Extent}
 use Rattle.tree_findings.specs.declared.outcome.Outcome.{Outcome}
 use Rattle.tree_findings.specs.declared.outcome.Outcome.TheVariants.{Complete}
 use Rattle.report_text.specs.Clean.{IsCleanOfAll}
-use Rattle.report_text.specs.ReportText.{complete_result, explained_first_line, explained_last_line, first_line, last_line, text_of_all, text_of_counts, text_of_report}
-use Rattle.report_explained.specs.Explained.{explained_findings, text_of_explained_report}
+use Rattle.report_text.specs.ReportText.{complete_result, explained_first_line_by, explained_last_line, first_line_by, last_line, text_of_all, text_of_counts, text_of_report_by}
+use Rattle.report_text.specs.declared.visited.Visited.{Visited}
+use Rattle.report_explained.specs.Explained.{explained_findings, text_of_explained_report_by}
 use Rattle.program_words.specs.declared.words.Printed.{Printed}
 use Rattle.program_runs.specs.Explored.{cover_if, text_of_form}
 use Rattle.program_runs.specs.Theorem.{text_after}
@@ -138,19 +139,19 @@ three_first : (a b c d : List ℕ) → ((a ++ b) ++ c) ++ d ≡ a ++ (b ++ (c ++
 three_first a b c d = append_assoc (a ++ b) c d ∙ append_assoc a b (c ++ d)
 
 -- so a report of all nodes that ends with the line is clean of all schedules
-pub clean_of_all : (what : Printed) (a : Program) (n : ℕ) (x : Excuses) (findings : Findings) (extent : Extent) (other : List ℕ) → text_of_form what a n x (Complete findings extent) ≡ other ++ said → IsCleanOfAll x (Complete findings extent)
-clean_of_all what a n x findings extent other e = go what.explained e
+pub clean_of_all : (what : Printed) (v : Visited) (a : Program) (n : ℕ) (x : Excuses) (findings : Findings) (extent : Extent) (other : List ℕ) → text_of_form what v a n x (Complete findings extent) ≡ other ++ said → IsCleanOfAll x (Complete findings extent)
+clean_of_all what v a n x findings extent other e = go what.explained e
   where
     outcome : Outcome
     outcome = Complete findings extent
 
-    go : (b : Bool) → (if b then text_of_explained_report a n x outcome else text_of_report n x outcome) ≡ other ++ said → IsCleanOfAll x outcome
+    go : (b : Bool) → (if b then text_of_explained_report_by v a n x outcome else text_of_report_by v n x outcome) ≡ other ++ said → IsCleanOfAll x outcome
     go true same =
-        of_all ((explained_first_line n outcome ++ explained_findings a x findings) ++ text_of_counts x findings) n (counted x findings.errors) extent.cut (extent.cut == 0) other refl
-        (three_first (explained_first_line n outcome) (explained_findings a x findings) (text_of_counts x findings) (explained_last_line n x outcome) ∙ same)
+        of_all ((explained_first_line_by v n outcome ++ explained_findings a x findings) ++ text_of_counts x findings) n (counted x findings.errors) extent.cut (extent.cut == 0) other refl
+        (three_first (explained_first_line_by v n outcome) (explained_findings a x findings) (text_of_counts x findings) (explained_last_line n x outcome) ∙ same)
     go false same =
-        absurd (not_plain ((first_line n outcome ++ text_of_all x findings) ++ text_of_counts x findings) (counted x findings.errors) other
-        (three_first (first_line n outcome) (text_of_all x findings) (text_of_counts x findings) (last_line x outcome) ∙ same))
+        absurd (not_plain ((first_line_by v n outcome ++ text_of_all x findings) ++ text_of_counts x findings) (counted x findings.errors) other
+        (three_first (first_line_by v n outcome) (text_of_all x findings) (text_of_counts x findings) (last_line x outcome) ∙ same))
 
 -- ---- the bytes of covers
 
@@ -299,19 +300,19 @@ explained_ends depth (f ∷ fs) false = record {
 }
 
 -- so ends a report of all nodes
-pub report_ends : (what : Printed) (a : Program) (n : ℕ) (x : Excuses) (findings : Findings) (extent : Extent) → EndsStrangely (text_of_form what a n x (Complete findings extent))
-report_ends what a n x findings extent = go what.explained
+pub report_ends : (what : Printed) (v : Visited) (a : Program) (n : ℕ) (x : Excuses) (findings : Findings) (extent : Extent) → EndsStrangely (text_of_form what v a n x (Complete findings extent))
+report_ends what v a n x findings extent = go what.explained
   where
     outcome : Outcome
     outcome = Complete findings extent
 
-    go : (b : Bool) → EndsStrangely (if b then text_of_explained_report a n x outcome else text_of_report n x outcome)
+    go : (b : Bool) → EndsStrangely (if b then text_of_explained_report_by v a n x outcome else text_of_report_by v n x outcome)
     go true =
-        subst EndsStrangely (three_first (explained_first_line n outcome) (explained_findings a x findings) (text_of_counts x findings) (explained_last_line n x outcome))
-        (after ((explained_first_line n outcome ++ explained_findings a x findings) ++ text_of_counts x findings) (explained_last_line n x outcome) (explained_ends n (counted x findings.errors) (extent.cut == 0)))
+        subst EndsStrangely (three_first (explained_first_line_by v n outcome) (explained_findings a x findings) (text_of_counts x findings) (explained_last_line n x outcome))
+        (after ((explained_first_line_by v n outcome ++ explained_findings a x findings) ++ text_of_counts x findings) (explained_last_line n x outcome) (explained_ends n (counted x findings.errors) (extent.cut == 0)))
     go false =
-        subst EndsStrangely (three_first (first_line n outcome) (text_of_all x findings) (text_of_counts x findings) (last_line x outcome))
-        (after ((first_line n outcome ++ text_of_all x findings) ++ text_of_counts x findings) (last_line x outcome) (plain_ends (counted x findings.errors)))
+        subst EndsStrangely (three_first (first_line_by v n outcome) (text_of_all x findings) (text_of_counts x findings) (last_line x outcome))
+        (after ((first_line_by v n outcome ++ text_of_all x findings) ++ text_of_counts x findings) (last_line x outcome) (plain_ends (counted x findings.errors)))
 
 -- ---- what comes before a cover
 

@@ -23,6 +23,8 @@ use Rattle.tree_excuses.specs.Excuses.{Excuses, counted, counts, excuses_in}
 use Rattle.world_identities.specs.Identities.{flags_in}
 use Rattle.tree_findings.specs.declared.extent.Extent.{Extent}
 use Rattle.tree_findings.specs.declared.options.Options.{Options}
+use Rattle.tree_findings.specs.declared.options.Search.{Search}
+use Rattle.tree_findings.specs.declared.options.Search.TheVariants.{ByTree, ByStates}
 use Rattle.tree_findings.specs.declared.outcome.Outcome.{Outcome}
 use Rattle.tree_findings.specs.declared.outcome.Outcome.TheVariants as outcomes
 use Rattle.search_job_lines.specs.declared.fault.JobFault.{JobFault}
@@ -35,20 +37,23 @@ use Rattle.world_replay.specs.Replay.{reached, stop}
 use Rattle.search_crew.specs.Outcomes.{all_findings, whole_extent}
 use Rattle.search_jobs.specs.Explorations.{ExplorationSeen, explored_by, program_in}
 use Rattle.report_text.specs.Clean.{IsCleanOfAll}
+use Rattle.report_text.specs.declared.visited.Visited.{Visited}
+use Rattle.report_text.specs.declared.visited.Visited.TheVariants.{Nodes, States}
 use Rattle.program_words.specs.Words.{AsksExplore, AsksReplay, IsExplore}
 use Rattle.program_words.specs.declared.words.Printed.{Printed}
 use Rattle.program_words.specs.declared.words.Words.{Words}
 use Rattle.program_words.specs.declared.words.Words.TheVariants.{Replay, Explore, ExploreJob, Jobs, Merge, Check}
 use Rattle.program_runs.specs.Replayed.{IsReplayOf}
-use Rattle.program_runs.specs.Explored.{IsCleanIfSaid, IsExplorationOf, IsExplored, IsReportOf, ShowsNoErrorEver, complete_verdict, has_cover, print_of, text_of_form, verdict_of}
+use Rattle.program_runs.specs.Explored.{IsCleanIfSaid, IsExplorationOf, IsExplored, IsOutcomeBy, IsReportOf, ShowsNoErrorEver, complete_verdict, has_cover, print_of, text_of_form, verdict_of}
 use Rattle.program_runs.specs.Printing.{text_of_print}
 use Rattle.program_runs.specs.Program.{IsDone, Written}
 use Rattle.program_runs.specs.Status.{status_of, status_of_cover_fault, status_of_fault, status_of_job_fault, status_of_read_fault, status_of_report_fault, status_of_schedule_fault}
-use Rattle.program_runs.specs.Theorem.{AllMeansAll, AreOfTree, CleanMeansNone, HasNoError, HasTranscript, IsExtentOf, ProgramRun, ReportEndsWith, ReportIsExact, TranscriptIsTheRun, text_after}
+use Rattle.program_runs.specs.Theorem.{AllMeansAll, AreFoundBy, AreOfAll, AreOfTree, CleanMeansNone, Got, HasNoError, HasTranscript, IsExtentBy, IsExtentOf, ProgramRun, ReportEndsWith, ReportIsExact, ScheduleIsLeast, TranscriptIsTheRun, findings_by, text_after, visited_by}
 use Rattle.program_runs.specs.declared.verdict.RunFault.{RunFault}
 use Rattle.program_runs.specs.declared.verdict.RunFault.TheVariants as run_faults
 use Rattle.program_runs.specs.declared.verdict.Verdict.{Verdict}
 use Rattle.program_runs.specs.declared.verdict.Verdict.TheVariants.{Done, Clean, Errors, Incomplete}
+use Rattle.program_runs.proofs.StatesLaws.{errors_of_states, refusals_of_states}
 use Rattle.program_runs.proofs.ReportEnds.{before_cover, clean_of_all, report_ends, said}
 
 -- ---- numbers
@@ -157,20 +162,21 @@ clean_means_none r options x what e good =
 
 -- what the search of all nodes found was written
 record IsWholeReport (input : List ℕ) (options : Options) (x : Excuses) (what : Printed) (output : Written) : Type 0 where
+  visited : Visited
   findings : Findings
   extent : Extent
-  explored : IsExplored input options x (outcomes.Complete findings extent)
-  written : WritesAll output.old output.new output.failed (text_of_print (print_of what (program_of explored.program) options.depth x (outcomes.Complete findings extent)))
+  explored : IsExplored input options x visited (outcomes.Complete findings extent)
+  written : WritesAll output.old output.new output.failed (text_of_print (print_of what visited (program_of explored.program) options.depth x (outcomes.Complete findings extent)))
   of_all : IsCleanOfAll x (outcomes.Complete findings extent) → (m : ModuleTree) → SpellsModule input m → ShowsNoErrorEver m options x
 
 complete_report : (input : List ℕ) (options : Options) (x : Excuses) (what : Printed) (output : Written) (verdict : Verdict) (is : IsReportOf input options x what output.old output.new output.failed verdict)
     → (verdict ≡ Incomplete → ⊥) → IsWholeReport input options x what output
-complete_report input options x what output verdict is whole = go is.outcome is.explored is.written is.told is.of_all
+complete_report input options x what output verdict is whole = go is.visited is.outcome is.explored is.written is.told is.of_all
   where
-    go : (o : Outcome) (explored : IsExplored input options x o) → WritesAll output.old output.new output.failed (text_of_print (print_of what (program_of explored.program) options.depth x o)) → verdict ≡ verdict_of x o
+    go : (v : Visited) (o : Outcome) (explored : IsExplored input options x v o) → WritesAll output.old output.new output.failed (text_of_print (print_of what v (program_of explored.program) options.depth x o)) → verdict ≡ verdict_of x o
         → (IsCleanOfAll x o → (m : ModuleTree) → SpellsModule input m → ShowsNoErrorEver m options x) → IsWholeReport input options x what output
-    go (outcomes.Complete findings extent) explored written told of_all = record { findings = findings; extent = extent; explored = explored; written = written; of_all = of_all }
-    go (outcomes.Incomplete cause findings) explored written told of_all = absurd (whole told)
+    go v (outcomes.Complete findings extent) explored written told of_all = record { visited = v; findings = findings; extent = extent; explored = explored; written = written; of_all = of_all }
+    go v (outcomes.Incomplete cause findings) explored written told of_all = absurd (whole told)
 
 whole_said : (input : List ℕ) (options : Options) (x : Excuses) (what : Printed) (output : Written) (r : Result Verdict RunFault)
     → IsExplorationOf input options x what output.old output.new output.failed r → status_of r ≤ 1 → IsWholeReport input options x what output
@@ -214,9 +220,9 @@ one_text before old new s t is p q = go new (subst (λ (o : Option (List ℕ)). 
 
 -- a report that ends with the line is clean of all schedules
 all_said : (input : List ℕ) (options : Options) (x : Excuses) (what : Printed) (output : Written) (is : IsWholeReport input options x what output) → ReportEndsWith said output → IsCleanOfAll x (outcomes.Complete is.findings is.extent)
-all_said input options x what output is ends = clean_of_all what a options.depth x is.findings is.extent ends.front
-    (before_cover (has_cover what (verdict_of x outcome)) a options.depth (text_of_form what a options.depth x outcome) ends.front ends.cover (report_ends what a options.depth x is.findings is.extent)
-    (one_text ends.before output.old output.new (text_of_print (print_of what a options.depth x outcome)) (ends.front ++ (said ++ text_after ends.cover)) ends.reports is.written.appends ends.got.appends))
+all_said input options x what output is ends = clean_of_all what is.visited a options.depth x is.findings is.extent ends.front
+    (before_cover (has_cover what (verdict_of x outcome)) a options.depth (text_of_form what is.visited a options.depth x outcome) ends.front ends.cover (report_ends what is.visited a options.depth x is.findings is.extent)
+    (one_text ends.before output.old output.new (text_of_print (print_of what is.visited a options.depth x outcome)) (ends.front ++ (said ++ text_after ends.cover)) ends.reports is.written.appends ends.got.appends))
   where
     a : Program
     a = program_of is.explored.program
@@ -256,11 +262,46 @@ extent_of_tree law e = record {
   cut = refl;
 }
 
+-- what the search found, by the tree or by states
+module _ (law : TreeLaws) (e : ExplorationSeen) (limit : ℕ) (findings : Findings) (extent : Extent) where
+  abbrev Comes : Search → Visited → Type 0
+  Comes s v = IsOutcomeBy s e limit v (outcomes.Complete findings extent)
+
+  errors_found : (s : Search) (v : Visited) → Comes s v → AreFoundBy s (program_in e) e.depth findings.errors
+  errors_found ByTree Nodes is = subst (λ (fs : Findings). AreOfTree (program_in e) e.depth fs.errors) (sym is.0) (errors_of_tree law e)
+  errors_found ByTree (States whole_to) is = absurd is
+  errors_found ByStates Nodes is = absurd is
+  errors_found ByStates (States whole_to) is = subst (λ (fs : Findings). AreOfAll (program_in e) e.depth fs.errors) (sym is.0) (errors_of_states e)
+
+  refusals_found : (s : Search) (v : Visited) → Comes s v → AreFoundBy s (program_in e) e.depth findings.refusals
+  refusals_found ByTree Nodes is = subst (λ (fs : Findings). AreOfTree (program_in e) e.depth fs.refusals) (sym is.0) (refusals_of_tree law e)
+  refusals_found ByTree (States whole_to) is = absurd is
+  refusals_found ByStates Nodes is = absurd is
+  refusals_found ByStates (States whole_to) is = subst (λ (fs : Findings). AreOfAll (program_in e) e.depth fs.refusals) (sym is.0) (refusals_of_states e)
+
+  settled_by : (s : Search) (v : Visited) → Comes s v → findings ≡ findings_by s e
+  settled_by ByTree Nodes is = is.0
+  settled_by ByTree (States whole_to) is = absurd is
+  settled_by ByStates Nodes is = absurd is
+  settled_by ByStates (States whole_to) is = is.0
+
+  extent_by : (s : Search) (v : Visited) → Comes s v → IsExtentBy s (program_in e) e.depth extent
+  extent_by ByTree Nodes is = subst (IsExtentOf (program_in e) e.depth) (sym is.1.0) (extent_of_tree law e)
+  extent_by ByTree (States whole_to) is = absurd is
+  extent_by ByStates Nodes is = absurd is
+  extent_by ByStates (States whole_to) is = is.1.0
+
+  visited_is : (s : Search) (v : Visited) → Comes s v → v ≡ visited_by s e.depth
+  visited_is ByTree Nodes is = refl
+  visited_is ByTree (States whole_to) is = absurd is
+  visited_is ByStates Nodes is = absurd is
+  visited_is ByStates (States whole_to) is = ap States is.1.1.1
+
 pub report_is_exact : TreeLaws → ReportIsExact
 report_is_exact law r options x what e low =
     let is = whole_report r options x what e low in
     let seen : ExplorationSeen = explored_by is.explored.program options in
-    let found = sym is.explored.is_outcome.0 in
+    let comes = is.explored.is_outcome in
     record {
       program = is.explored.program;
       module_text = is.explored.module_text;
@@ -268,11 +309,28 @@ report_is_exact law r options x what e low =
       extent = is.extent;
       exact = is.explored.is_exact;
       of_all = is.explored.is_whole;
-      errors = subst (λ (fs : Findings). AreOfTree (program_in seen) seen.depth fs.errors) found (errors_of_tree law seen);
-      refusals = subst (λ (fs : Findings). AreOfTree (program_in seen) seen.depth fs.refusals) found (refusals_of_tree law seen);
-      settled = is.explored.is_outcome.0;
-      size = subst (IsExtentOf (program_in seen) seen.depth) (sym is.explored.is_outcome.1) (extent_of_tree law seen);
-      got = is.written;
+      errors = errors_found law seen options.nodes is.findings is.extent options.search is.visited comes;
+      refusals = refusals_found law seen options.nodes is.findings is.extent options.search is.visited comes;
+      settled = settled_by law seen options.nodes is.findings is.extent options.search is.visited comes;
+      size = extent_by law seen options.nodes is.findings is.extent options.search is.visited comes;
+      got = subst (λ (v : Visited). Got r.output (text_of_print (print_of what v (program_of is.explored.program) options.depth x (outcomes.Complete is.findings is.extent))))
+          (visited_is law seen options.nodes is.findings is.extent options.search is.visited comes) is.written;
+    }
+
+-- ---- the schedule is the least of all
+
+pub schedule_is_least : TreeLaws → ScheduleIsLeast
+schedule_is_least law r options x what e by_states low =
+    let is = report_is_exact law r options x what e low in
+    let a : Program = program_of is.program in
+    record {
+      program = is.program;
+      module_text = is.module_text;
+      findings = is.findings;
+      extent = is.extent;
+      errors = (subst (λ (s : Search). AreFoundBy s a options.depth is.findings.errors) by_states is.errors).least;
+      refusals = (subst (λ (s : Search). AreFoundBy s a options.depth is.findings.refusals) by_states is.refusals).least;
+      got = subst (λ (s : Search). Got r.output (text_of_print (print_of what (visited_by s options.depth) a options.depth x (outcomes.Complete is.findings is.extent)))) by_states is.got;
     }
 
 -- ---- the transcript is the run

@@ -1,4 +1,4 @@
--- What the program promises, in five statements about each of its runs.
+-- What the program promises, in six statements about each of its runs.
 use Rattle.std.specs.Prelude.{◌≡◌, ◌⊎◌, ◌≤◌, ℕ, Bool, true, List, [], ◌∷◌, ◌++◌, length, codes, Option, Some, None}
 use Rattle.term_core.specs.Meaning.{Meaning}
 use Rattle.term_core.specs.Stream.{WritesAll}
@@ -24,9 +24,15 @@ use Rattle.tree_excuses.specs.Excuses.{Excuses, counts}
 use Rattle.world_identities.specs.Identities.{flags_in}
 use Rattle.tree_findings.specs.declared.extent.Extent.{Extent}
 use Rattle.tree_findings.specs.declared.options.Options.{Options}
+use Rattle.tree_findings.specs.declared.options.Search.{Search}
+use Rattle.tree_findings.specs.declared.options.Search.TheVariants.{ByTree, ByStates}
 use Rattle.tree_findings.specs.declared.outcome.Outcome.TheVariants.{Complete}
 use Rattle.search_crew.specs.Outcomes.{IsListedOf, IsListedOfAll, all_findings}
-use Rattle.search_jobs.specs.Explorations.{explored_by}
+use Rattle.search_jobs.specs.Explorations.{ExplorationSeen, explored_by, program_in}
+use Rattle.search_levels.specs.Searched.{TellsReach}
+use Rattle.tree_schedules.specs.Schedules.{IsLeastOfAll, findings_of_all}
+use Rattle.report_text.specs.declared.visited.Visited.{Visited}
+use Rattle.report_text.specs.declared.visited.Visited.TheVariants.{Nodes, States}
 use Rattle.world_event_text.specs.EventText.{text_of_events}
 use Rattle.program_words.specs.Words.{IsExplore, IsReplay}
 use Rattle.program_words.specs.declared.words.Printed.{Printed}
@@ -81,7 +87,34 @@ pub record IsExtentOf (a : Program) (depth : ℕ) (extent : Extent) : Type 0 whe
   pub nodes : extent.nodes ≡ node_count a depth
   pub cut : extent.cut ≡ cuts_of a depth
 
--- the output got the report of these findings and of a tree of this extent. An error is listed exactly where some schedule of at most so many steps shows it, and so is a refusal; where the tree is cut at no node, exactly where some schedule does, of whatever length. Each is listed once, with the least schedule of a node. The module, the depth and the flags settle what is listed. The nodes and the cuts are those of the tree.
+-- each finding is listed once, in their order; beside it is the least schedule of all that show it and have at most so many steps
+pub record AreOfAll (a : Program) (depth : ℕ) (fs : List Finding) : Type 0 where
+  pub each_once : AreSorted fs
+  pub least : (f : Finding) → IsAmong f fs → IsLeastOfAll a depth f
+
+-- ---- by each search
+
+-- what is listed, by the tree or by states
+abbrev pub AreFoundBy : Search → Program → ℕ → List Finding → Type 0
+AreFoundBy ByTree a depth fs = AreOfTree a depth fs
+AreFoundBy ByStates a depth fs = AreOfAll a depth fs
+
+-- all that is listed: what the nodes of the tree show, or all schedules
+abbrev pub findings_by : Search → ExplorationSeen → Findings
+findings_by ByTree e = all_findings e
+findings_by ByStates e = findings_of_all e.flags (program_in e) e.depth
+
+-- how far it came: the nodes and the cuts are those of the tree, or the cuts tell whether some schedule is longer
+abbrev pub IsExtentBy : Search → Program → ℕ → Extent → Type 0
+IsExtentBy ByTree a depth extent = IsExtentOf a depth extent
+IsExtentBy ByStates a depth extent = TellsReach a depth extent.cut
+
+-- what the report tells of the way: nodes of the tree, or states, with all schedules to the depth
+abbrev pub visited_by : Search → ℕ → Visited
+visited_by ByTree depth = Nodes
+visited_by ByStates depth = States depth
+
+-- the output got the report of these findings and of this extent. An error is listed exactly where some schedule of at most so many steps shows it, and so is a refusal; where nothing is cut, exactly where some schedule does, of whatever length. Each is listed once, with the least schedule of a node, or by states with the least of all. The module, the depth, the flags and the search settle what is listed.
 pub record HasExactReport (input : List ℕ) (options : Options) (x : Excuses) (what : Printed) (output : Written) : Type 0 where
   pub program : ModuleTree
   pub module_text : SpellsModule input program
@@ -89,11 +122,21 @@ pub record HasExactReport (input : List ℕ) (options : Options) (x : Excuses) (
   pub extent : Extent
   pub exact : (i : Identity) → IsListedOf (explored_by program options) findings i
   pub of_all : extent.cut ≡ 0 → (i : Identity) → IsListedOfAll (explored_by program options) findings i
-  pub errors : AreOfTree (program_of program) options.depth findings.errors
-  pub refusals : AreOfTree (program_of program) options.depth findings.refusals
-  pub settled : findings ≡ all_findings (explored_by program options)
-  pub size : IsExtentOf (program_of program) options.depth extent
-  pub got : Got output (text_of_print (print_of what (program_of program) options.depth x (Complete findings extent)))
+  pub errors : AreFoundBy options.search (program_of program) options.depth findings.errors
+  pub refusals : AreFoundBy options.search (program_of program) options.depth findings.refusals
+  pub settled : findings ≡ findings_by options.search (explored_by program options)
+  pub size : IsExtentBy options.search (program_of program) options.depth extent
+  pub got : Got output (text_of_print (print_of what (visited_by options.search options.depth) (program_of program) options.depth x (Complete findings extent)))
+
+-- the output got the report of these findings, and beside each is the least schedule of all that show it
+pub record HasLeastSchedules (input : List ℕ) (options : Options) (x : Excuses) (what : Printed) (output : Written) : Type 0 where
+  pub program : ModuleTree
+  pub module_text : SpellsModule input program
+  pub findings : Findings
+  pub extent : Extent
+  pub errors : (f : Finding) → IsAmong f findings.errors → IsLeastOfAll (program_of program) options.depth f
+  pub refusals : (f : Finding) → IsAmong f findings.refusals → IsLeastOfAll (program_of program) options.depth f
+  pub got : Got output (text_of_print (print_of what (States options.depth) (program_of program) options.depth x (Complete findings extent)))
 
 -- the output got the lines of the events of the one run of the schedule in this word
 pub record HasTranscript (input word : List ℕ) (output : Written) : Type 0 where
@@ -114,9 +157,13 @@ CleanMeansNone = (r : ProgramRun) (options : Options) (x : Excuses) (what : Prin
 abbrev pub AllMeansAll : Type 0
 AllMeansAll = (r : ProgramRun) (options : Options) (x : Excuses) (what : Printed) → IsExplore r.words options x what → (r.status ≡ 0) ⊎ (r.status ≡ 1) → ReportEndsWith (codes "result: clean, all schedules\n") r.output → HasNoErrorEver r.input (counts (flags_in options.flags) x)
 
--- The report is exact: where an exploration ends with status 0 or 1, it lists the errors and refusals that schedules of at most so many steps show, and no others, each once, with the least schedule of a node that shows it.
+-- The report is exact: where an exploration ends with status 0 or 1, it lists the errors and refusals that schedules of at most so many steps show, and no others, each once, with the least schedule of a node that shows it, or by states of all that do.
 abbrev pub ReportIsExact : Type 0
 ReportIsExact = (r : ProgramRun) (options : Options) (x : Excuses) (what : Printed) → IsExplore r.words options x what → (r.status ≡ 0) ⊎ (r.status ≡ 1) → HasExactReport r.input options x what r.output
+
+-- The schedule is the least of all: where an exploration by states ends with status 0 or 1, beside each finding of its report is a schedule that shows it, and none that shows it is shorter, or as long and before it step by step.
+abbrev pub ScheduleIsLeast : Type 0
+ScheduleIsLeast = (r : ProgramRun) (options : Options) (x : Excuses) (what : Printed) → IsExplore r.words options x what → options.search ≡ ByStates → (r.status ≡ 0) ⊎ (r.status ≡ 1) → HasLeastSchedules r.input options x what r.output
 
 -- The transcript is the run: where a replay ends with status 0, it wrote the events of its schedule.
 abbrev pub TranscriptIsTheRun : Type 0

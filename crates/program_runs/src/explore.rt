@@ -8,50 +8,27 @@ ghost use Rattle.program_runs.specs.Status.{status_of};
 
 use crate::input::read_input;
 use crate::printing::{print_and_flush, verdict_of};
+use crate::searching::explored;
 use crate::verdict::{RunFault, Verdict};
-use crate::watched::Watched;
 use core_reader::laws::texts_say_one_module;
 use core_reader::read_module;
-use core_tree::Module;
 use program_words::Printed;
-use search_crew::{Job, Observer, SearchFault, search};
-use search_states::search_states;
+use search_crew::Observer;
 use std::alloc::Global;
 use std::sync::Wait;
 use std::thread::Threads;
 use term_core::{Sink, Source};
 use tree_excuses::Excuses;
 use tree_excuses::laws::judged_are_exact;
-use tree_findings::{Options, Outcome, Search};
+use tree_findings::Options;
 
-fn explored<T: Threads + Wait + Sync, O: Observer + Sync>(
-    rt: &T,
-    alloc: Global,
-    program: &Module,
-    options: &Options,
-    observer: &O,
-) -> Result<Outcome, SearchFault>
-    requires { 1 ≤ options.now.budget }
-{
-    match options.search {
-        Search::ByTree => {
-            let whole = Job::root(alloc, program, options);
-            search(rt, alloc, &whole, options, observer)
-        }
-        Search::ByStates => {
-            let searched = search_states(alloc, program, options, &Watched { observer })?;
-            Ok(searched.outcome)
-        }
-    }
-}
-
-/// Reads a module from the source, visits the tree of its schedules within the options, and writes the report to the
-/// sink, which is flushed at the end: each error, and each table call that is refused, that some schedule of at most so
-/// many steps shows, with the least schedule of a node that shows it. Where that is asked for, the report is explained:
+/// Reads a module from the source, searches its schedules within the options, by their tree or by states, and writes the
+/// report to the sink, which is flushed at the end: each error, and each table call that is refused, that some schedule of
+/// at most so many steps shows, with the least schedule of a node that shows it, or by states of all that do. Where that is asked for, the report is explained:
 /// the lines of its schedule come below each, and it says whether the result is about all schedules, since none is
 /// longer than the depth. Where that is asked for, the cover of the tree follows a report without errors: the tree is
-/// gone through once more, and each line is written as its node is visited. The search is done by as many threads as
-/// the options say; their number does not change what is written of a complete exploration. The observer is informed of
+/// gone through once more, and each line is written as its node is visited. The tree is searched by as many threads as
+/// the options say, and states by one; their number does not change what is written of a complete exploration. The observer is informed of
 /// the work. Nothing is written before the search has ended.
 ///
 /// # Errors
@@ -94,16 +71,16 @@ pub fn run_explore<T: Threads + Wait + Sync, R: Source, O: Observer + Sync, W: S
     judged_are_exact();
     let text = read_input(alloc, source)?;
     let program = read_module(alloc, &text)?;
-    let outcome = explored(rt, alloc, &program, options, observer)?;
+    let found = explored(rt, alloc, &program, options, observer)?;
     print_and_flush(
         alloc,
         &program,
         options.depth,
         excuses,
         printed,
-        &outcome,
+        &found,
         observer,
         sink,
     )?;
-    Ok(verdict_of(excuses, &outcome))
+    Ok(verdict_of(excuses, &found.outcome))
 }

@@ -14,6 +14,7 @@ pub mod print_fault;
 mod printing;
 pub mod program;
 pub mod replay;
+mod searching;
 pub mod theorem;
 pub mod verdict;
 mod watched;

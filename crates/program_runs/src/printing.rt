@@ -1,20 +1,20 @@
 // What an exploration prints: its report and, where that is asked for and no error was found, the cover of the tree.
 ghost use Rattle.std.specs.Prelude.{◌≡◌, true, false, OnOk};
 ghost use Rattle.tree_excuses.specs.Excuses.{counted, excuses_in};
-ghost use Rattle.program_runs.specs.Explored.{complete_verdict, has_cover, print_of, text_of_form, verdict_of};
+ghost use Rattle.program_runs.specs.Explored.{complete_verdict, form_found, has_cover, print_found, verdict_of};
 ghost use Rattle.program_runs.specs.Printing.{IsPrinted};
 ghost use Rattle.program_runs.specs.inside.Forms.{IsReportWritten};
 ghost use Rattle.report_text.specs.ReportText.{text_of_report};
 ghost use Rattle.term_core.specs.Stream.{Writes};
-ghost use Rattle.world_model.specs.Asking.{program_of};
 
 use crate::print_fault::PrintFault;
+use crate::searching::Explored;
 use crate::verdict::Verdict;
 use crate::watched::Watched;
 use core_tree::Module;
 use program_words::Printed;
 use report_explained::write_explained_report;
-use report_text::write_report;
+use report_text::{Visited, write_report};
 use search_crew::Observer;
 use std::alloc::Global;
 use term_core::{Sink, WriteFault};
@@ -29,17 +29,17 @@ fn write_form<W: Sink>(
     depth: u64,
     excuses: &Excuses,
     printed: Printed,
-    outcome: &Outcome,
+    found: &Explored,
     sink: &mut W,
 ) -> Result<(), PrintFault>
     requires { W.has_failed sink.old ≡ false }
-    ensures { IsReportWritten printed.explained (text_of_form printed (program_of program.now) depth (excuses_in excuses.now) outcome.now) (W.contents sink.old) (W.contents sink.new) (W.has_failed sink.new) result }
+    ensures { IsReportWritten printed.explained (form_found printed program.now depth (excuses_in excuses.now) found.now) (W.contents sink.old) (W.contents sink.new) (W.has_failed sink.new) result }
 {
     if printed.explained {
-        write_explained_report(alloc, program, depth, excuses, outcome, sink)?;
+        write_explained_report(alloc, program, found.visited, depth, excuses, &found.outcome, sink)?;
         return Ok(());
     }
-    write_report(sink, depth, excuses, outcome)?;
+    write_report(sink, found.visited, depth, excuses, &found.outcome)?;
     Ok(())
 }
 
@@ -50,15 +50,15 @@ fn print<O: Observer, W: Sink>(
     depth: u64,
     excuses: &Excuses,
     printed: Printed,
-    outcome: &Outcome,
+    found: &Explored,
     observer: &O,
     sink: &mut W,
 ) -> Result<(), PrintFault>
     requires { W.has_failed sink.old ≡ false }
-    ensures { IsPrinted (print_of printed (program_of program.now) depth (excuses_in excuses.now) outcome.now) (W.contents sink.old) (W.contents sink.new) (W.has_failed sink.new) result }
+    ensures { IsPrinted (print_found printed program.now depth (excuses_in excuses.now) found.now) (W.contents sink.old) (W.contents sink.new) (W.has_failed sink.new) result }
 {
-    write_form(alloc, program, depth, excuses, printed, outcome, sink)?;
-    if !has_cover(printed, verdict_of(excuses, outcome)) {
+    write_form(alloc, program, depth, excuses, printed, found, sink)?;
+    if !has_cover(printed, verdict_of(excuses, &found.outcome)) {
         return Ok(());
     }
     write_cover(alloc, program, depth, sink, &Watched { observer })?;
@@ -87,24 +87,24 @@ pub(crate) fn print_and_flush<O: Observer, W: Sink>(
     depth: u64,
     excuses: &Excuses,
     printed: Printed,
-    outcome: &Outcome,
+    found: &Explored,
     observer: &O,
     sink: &mut W,
 ) -> Result<(), PrintFault>
     requires { W.has_failed sink.old ≡ false }
-    ensures written { IsPrinted (print_of printed (program_of program.now) depth (excuses_in excuses.now) outcome.now) (W.contents sink.old) (W.contents sink.new) (W.has_failed sink.new) result }
+    ensures written { IsPrinted (print_found printed program.now depth (excuses_in excuses.now) found.now) (W.contents sink.old) (W.contents sink.new) (W.has_failed sink.new) result }
     ensures flushed { W.has_failed sink.new ≡ false → W.is_flushed sink.new ≡ true }
 {
-    let outcome = print(
-        alloc, program, depth, excuses, printed, outcome, observer, sink,
+    let printing = print(
+        alloc, program, depth, excuses, printed, found, observer, sink,
     );
     if sink.failed() {
-        return outcome;
+        return printing;
     }
     if sink.flush().is_err() {
         return Err(PrintFault::Write);
     }
-    outcome
+    printing
 }
 
 /// Writes the report alone, and flushes the sink. `WriteFault` comes only where the sink has failed, at a write or at the
@@ -119,7 +119,7 @@ pub(crate) fn write_and_flush<W: Sink>(
     ensures written { Writes (W.contents sink.old) (W.contents sink.new) (W.has_failed sink.new) result (text_of_report depth (excuses_in excuses.now) outcome.now) }
     ensures flushed { OnOk result (W.is_flushed sink.new ≡ true) }
 {
-    write_report(sink, depth, excuses, outcome)?;
+    write_report(sink, Visited::Nodes, depth, excuses, outcome)?;
     if sink.flush().is_err() {
         return Err(WriteFault);
     }

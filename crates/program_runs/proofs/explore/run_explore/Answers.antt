@@ -4,9 +4,7 @@ use Rattle.std.proofs.lemmas.Result.{err_from_is_err_and}
 use Rattle.core_reader.specs.ModuleText.{SpellsModule}
 use Rattle.core_reader.specs.Refusal.{IsRefusalOf}
 use Rattle.tree_excuses.specs.Excuses.{excuses_in}
-use Rattle.search_crew.specs.Outcomes.{IsExact, IsOutcome, IsWhole}
-use Rattle.search_jobs.specs.Explorations.{explored_by}
-use Rattle.program_runs.proofs.ExploredLaws.{broken, clean_means_none, module_refused, not_begun, of_whole_tree, reported}
+use Rattle.program_runs.proofs.ExploredLaws.{broken, clean_means_none, module_refused, not_begun, reported}
 use Rattle.program_runs.proofs.explore.run_explore.Goals as goal
 
 pub returns-in_err-program-clause-run : goal.returns-in_err-program-clause-run
@@ -16,51 +14,31 @@ returns-in_err-program-clause-run g c =
     c.in_err-program.field-0.0 c.from_residual-in_err-program.result (p.1 ∙ ap Err p.2) c.in_ok-text.ensures.input
     (subst (λ (t : List ℕ). IsRefusalOf t c.in_err-program.field-0.0) c.deref.ensures.value c.in_err-program.ensures.refusal) c.requires.writable
 
-pub returns-in_err-outcome-clause-run : goal.returns-in_err-outcome-clause-run
-returns-in_err-outcome-clause-run g c =
-    let p = err_from_is_err_and c.from_residual-in_err-outcome.result c.from_residual-in_err-outcome.ensures.1 in
+pub returns-in_err-found-clause-run : goal.returns-in_err-found-clause-run
+returns-in_err-found-clause-run g c =
+    let p = err_from_is_err_and c.from_residual-in_err-found.result c.from_residual-in_err-found.ensures.1 in
     not_begun (g.R.Source.remaining c.args.source.now) c.in_ok-text.text.items c.args.options.now (excuses_in c.args.excuses.now) c.args.printed (g.W.Sink.contents c.args.sink.now) (g.W.Sink.has_failed c.args.sink.now)
-    c.in_ok-program.program c.in_err-outcome.field-0.0 c.from_residual-in_err-outcome.result (p.1 ∙ ap Err p.2) c.in_ok-text.ensures.input
+    c.in_ok-program.program c.in_err-found.field-0.0 c.from_residual-in_err-found.result (p.1 ∙ ap Err p.2) c.in_ok-text.ensures.input
     (subst (λ (t : List ℕ). SpellsModule t c.in_ok-program.program) c.deref.ensures.value c.in_ok-program.ensures.spelt) c.requires.writable
 
 pub returns-in_err-print_and_flush-clause-run : goal.returns-in_err-print_and_flush-clause-run
 returns-in_err-print_and_flush-clause-run g c =
     let p = err_from_is_err_and c.from_residual-in_err-print_and_flush.result c.from_residual-in_err-print_and_flush.ensures.1 in
-    let o = c.in_ok-outcome.outcome in
-    let m = c.in_ok-program.program in
-    let options = c.args.options.now in
-    let tree = c.root-whole.result in
-    let comes : IsOutcome (explored_by m options) options.nodes o = of_whole_tree (λ e. IsOutcome e options.nodes o) tree m options c.root-whole.ensures c.in_ok-outcome.ensures.outcome in
-    let exact : IsExact (explored_by m options) o = of_whole_tree (λ e. IsExact e o) tree m options c.root-whole.ensures c.in_ok-outcome.ensures.exact in
-    let whole : IsWhole (explored_by m options) o = of_whole_tree (λ e. IsWhole e o) tree m options c.root-whole.ensures c.in_ok-outcome.ensures.whole in
     broken (g.R.Source.remaining c.args.source.now) c.in_ok-text.text.items c.args.options.now (excuses_in c.args.excuses.now) c.args.printed (g.W.Sink.contents c.args.sink.now) (g.W.Sink.contents c.print_and_flush.new.sink) (g.W.Sink.has_failed c.print_and_flush.new.sink)
-    c.in_ok-program.program c.in_ok-outcome.outcome c.in_err-print_and_flush.field-0.0 c.from_residual-in_err-print_and_flush.result (p.1 ∙ ap Err p.2) c.in_ok-text.ensures.input
+    c.in_ok-program.program c.in_ok-found.found.visited c.in_ok-found.found.outcome c.in_err-print_and_flush.field-0.0 c.from_residual-in_err-print_and_flush.result (p.1 ∙ ap Err p.2) c.in_ok-text.ensures.input
     (subst (λ (t : List ℕ). SpellsModule t c.in_ok-program.program) c.deref.ensures.value c.in_ok-program.ensures.spelt)
-    comes (c.judged_are_exact.ensures.bounded, c.judged_are_exact.ensures.all) exact whole c.in_err-print_and_flush.ensures.written
+    c.in_ok-found.ensures.outcome (c.judged_are_exact.ensures.bounded, c.judged_are_exact.ensures.all) c.in_ok-found.ensures.exact c.in_ok-found.ensures.whole c.in_err-print_and_flush.ensures.written
 
 pub returns-clause-run : goal.returns-clause-run
 returns-clause-run g c =
-    let o = c.in_ok-outcome.outcome in
-    let m = c.in_ok-program.program in
-    let options = c.args.options.now in
-    let tree = c.root-whole.result in
-    let comes : IsOutcome (explored_by m options) options.nodes o = of_whole_tree (λ e. IsOutcome e options.nodes o) tree m options c.root-whole.ensures c.in_ok-outcome.ensures.outcome in
-    let exact : IsExact (explored_by m options) o = of_whole_tree (λ e. IsExact e o) tree m options c.root-whole.ensures c.in_ok-outcome.ensures.exact in
-    let whole : IsWhole (explored_by m options) o = of_whole_tree (λ e. IsWhole e o) tree m options c.root-whole.ensures c.in_ok-outcome.ensures.whole in
     reported (g.R.Source.remaining c.args.source.now) c.in_ok-text.text.items c.args.options.now (excuses_in c.args.excuses.now) c.args.printed (g.W.Sink.contents c.args.sink.now) (g.W.Sink.contents c.print_and_flush.new.sink) (g.W.Sink.has_failed c.print_and_flush.new.sink)
-    c.in_ok-program.program c.in_ok-outcome.outcome c.verdict_of.result c.texts_say_one_module.ensures c.in_ok-text.ensures.input
+    c.in_ok-program.program c.in_ok-found.found.visited c.in_ok-found.found.outcome c.verdict_of.result c.texts_say_one_module.ensures c.in_ok-text.ensures.input
     (subst (λ (t : List ℕ). SpellsModule t c.in_ok-program.program) c.deref.ensures.value c.in_ok-program.ensures.spelt)
-    comes (c.judged_are_exact.ensures.bounded, c.judged_are_exact.ensures.all) exact whole c.in_ok-print_and_flush.ensures.written c.verdict_of.ensures
+    c.in_ok-found.ensures.outcome (c.judged_are_exact.ensures.bounded, c.judged_are_exact.ensures.all) c.in_ok-found.ensures.exact c.in_ok-found.ensures.whole c.in_ok-print_and_flush.ensures.written c.verdict_of.ensures
 
 pub returns-clause-clean : goal.returns-clause-clean
 returns-clause-clean g c =
-    let o = c.in_ok-outcome.outcome in
-    let m = c.in_ok-program.program in
-    let options = c.args.options.now in
-    let tree = c.root-whole.result in
-    let exact : IsExact (explored_by m options) o = of_whole_tree (λ e. IsExact e o) tree m options c.root-whole.ensures c.in_ok-outcome.ensures.exact in
-    let whole : IsWhole (explored_by m options) o = of_whole_tree (λ e. IsWhole e o) tree m options c.root-whole.ensures c.in_ok-outcome.ensures.whole in
-    clean_means_none (g.R.Source.remaining c.args.source.now) c.in_ok-text.text.items c.args.options.now (excuses_in c.args.excuses.now) c.in_ok-program.program c.in_ok-outcome.outcome c.verdict_of.result
+    clean_means_none (g.R.Source.remaining c.args.source.now) c.in_ok-text.text.items c.args.options.now (excuses_in c.args.excuses.now) c.in_ok-program.program c.in_ok-found.found.outcome c.verdict_of.result
     c.texts_say_one_module.ensures c.in_ok-text.ensures.input
     (subst (λ (t : List ℕ). SpellsModule t c.in_ok-program.program) c.deref.ensures.value c.in_ok-program.ensures.spelt)
-    (c.judged_are_exact.ensures.bounded, c.judged_are_exact.ensures.all) exact whole c.verdict_of.ensures
+    (c.judged_are_exact.ensures.bounded, c.judged_are_exact.ensures.all) c.in_ok-found.ensures.exact c.in_ok-found.ensures.whole c.verdict_of.ensures

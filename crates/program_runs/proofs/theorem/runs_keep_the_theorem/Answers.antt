@@ -1,4 +1,4 @@
-use Rattle.program_runs.proofs.TheoremLaws.{all_means_all, clean_means_none, report_is_exact, transcript_is_the_run}
+use Rattle.program_runs.proofs.TheoremLaws.{all_means_all, clean_means_none, report_is_exact, schedule_is_least, transcript_is_the_run}
 use Rattle.program_runs.proofs.theorem.runs_keep_the_theorem.Goals as goal
 
 pub returns-clause-clean : goal.returns-clause-clean
@@ -9,6 +9,15 @@ returns-clause-all c = all_means_all
 
 pub returns-clause-exact : goal.returns-clause-exact
 returns-clause-exact c = report_is_exact record {
+  sorted = c.findings_are_exact.ensures.order;
+  runs = c.nodes_are_listed.ensures.runs;
+  errors = c.findings_are_of_nodes.ensures.errors;
+  refusals = c.findings_are_of_nodes.ensures.refusals;
+  root = c.jobs_have_their_nodes.ensures.root;
+}
+
+pub returns-clause-least : goal.returns-clause-least
+returns-clause-least c = schedule_is_least record {
   sorted = c.findings_are_exact.ensures.order;
   runs = c.nodes_are_listed.ensures.runs;
   errors = c.findings_are_of_nodes.ensures.errors;
