@@ -48,7 +48,7 @@ steps_more x (a ∷ r) (b ∷ s) same e = on_top (order_of_steps a b) (slice_cmp
 tied : (m n : ℕ) → m ≡ n → nat_cmp m n ≡ Equal
 tied m n e = ap (nat_cmp m) (sym e) ∙ tied_itself nat_cmp_total m
 
-one_more : (x : Step) (s : List Step) → length (s ++ x ∷ []) ≡ suc (length s)
+pub one_more : (x : Step) (s : List Step) → length (s ++ x ∷ []) ≡ suc (length s)
 one_more x [] = refl
 one_more x (y ∷ s) = ap suc (one_more x s)
 
