@@ -1,5 +1,5 @@
 -- A state is put into a level, or its schedule is kept where that is less.
-use Rattle.std.proofs.Common.{◌≡◌, ◌⊎◌, inl, inr, ℕ, ◌<◌, List, [], ◌∷◌, ◌++◌, get_or, slice_set, length, Some, refl, sym, ap, subst, ◌∙◌}
+use Rattle.std.proofs.Common.{◌≡◌, inl, inr, ℕ, ◌<◌, List, [], ◌∷◌, ◌++◌, get_or, slice_set, length, refl, sym, ap, subst, ◌∙◌}
 use Rattle.search_levels.specs.Arrivals.{IsSame}
 use Rattle.search_levels.specs.Levels.{AreAt, IsAt, IsCovered, KeepsLesser, PutsAt}
 use Rattle.search_levels.specs.Paths.{schedule_in}
@@ -55,8 +55,8 @@ module _ {S : Type 0} (Agrees : S → Program → History → Type 0) (a : Progr
     unfolding after
     puts_in = record { at = after_at; keeps = keeps; covers = covers }
 
-  pub puts_after : (old : List (Visit S)) (new : Visit S) → AreAt Agrees a k old → IsAt Agrees a k new → PutsAt Agrees a k old new (old ++ new ∷ [])
-  puts_after old new at new_at = record {
+  puts_last : (old : List (Visit S)) (new : Visit S) → AreAt Agrees a k old → IsAt Agrees a k new → PutsAt Agrees a k old new (old ++ new ∷ [])
+  puts_last old new at new_at = record {
     at = λ z there. elim (among_append old (new ∷ []) z there) [ inl t ↦ at z t | inr t ↦ only z t ];
     keeps = λ s h c. (c.0, among_left old (new ∷ []) c.0 c.1, c.2, c.3);
     covers = λ s h agrees up. (new, among_right old (new ∷ []) new (inl refl), agrees, up);
@@ -65,3 +65,6 @@ module _ {S : Type 0} (Agrees : S → Program → History → Type 0) (a : Progr
       only : (z : Visit S) → IsAmong z (new ∷ []) → IsAt Agrees a k z
       only z (inl e) = subst (λ v. IsAt Agrees a k v) e new_at
       only z (inr never) = absurd never
+
+  pub puts_after : (old all : List (Visit S)) (new : Visit S) → all ≡ old ++ new ∷ [] → AreAt Agrees a k old → IsAt Agrees a k new → PutsAt Agrees a k old new all
+  puts_after old all new is at new_at = subst (PutsAt Agrees a k old new) (sym is) (puts_last old new at new_at)

@@ -1,7 +1,5 @@
-use Rattle.std.proofs.Common.{◌≡◌, ◌<◌, ◌∷◌, ◌++◌, [], get_or, length, sym, subst}
-use Rattle.search_levels.specs.Arrivals.{IsSameOf, of_module}
-use Rattle.search_levels.specs.Levels.{PutsAt}
-use Rattle.search_levels.specs.declared.visit.Visit.{Visit}
+use Rattle.std.proofs.Common.{◌≡◌, get_or}
+use Rattle.search_levels.specs.Arrivals.{of_module}
 use Rattle.search_levels.proofs.Putting.{puts_after, puts_in}
 use Rattle.search_levels.proofs.level.Level.put.Goals as goal
 
@@ -14,5 +12,4 @@ returns-in-Some-clause-puts g c = λ m a k at new_at.
 
 pub returns-in_ok-push-in-None-clause-puts : goal.returns-in_ok-push-in-None-clause-puts
 returns-in_ok-push-in-None-clause-puts g c = λ m a k at new_at.
-    let old = c.args.self.now.visits.items in
-    subst (PutsAt (of_module g.S.State.agrees m) a k old c.args.new) (sym c.in_ok-push-in-None.ensures) (puts_after (of_module g.S.State.agrees m) a k old c.args.new at new_at)
+    puts_after (of_module g.S.State.agrees m) a k c.args.self.now.visits.items c.push.new.self.visits.items c.args.new c.in_ok-push-in-None.ensures at new_at
