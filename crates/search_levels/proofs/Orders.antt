@@ -1,5 +1,5 @@
 -- Which of two schedules comes first.
-use Rattle.std.proofs.Common.{◌≡◌, ℕ, zero, suc, Bool, true, false, List, [], ◌∷◌, ◌++◌, length, refl, sym, ap, ◌∙◌, arith}
+use Rattle.std.proofs.Common.{◌≡◌, ℕ, suc, true, false, List, [], ◌∷◌, ◌++◌, length, refl, sym, ap, ◌∙◌, arith}
 use Rattle.std.proofs.lemmas.Cmp.{nat_cmp_total, tied_itself, upto}
 use Rattle.std.specs.Cmp.Lexicographic.{slice_cmp}
 use Rattle.std.specs.Ordering.{is_gt, is_lt, nat_cmp, ordering_reverse, ordering_then}
@@ -48,7 +48,7 @@ steps_more x (a ∷ r) (b ∷ s) same e = on_top (order_of_steps a b) (slice_cmp
 tied : (m n : ℕ) → m ≡ n → nat_cmp m n ≡ Equal
 tied m n e = ap (nat_cmp m) (sym e) ∙ tied_itself nat_cmp_total m
 
-one_more : (x : Step) (s : List Step) → length (s ++ x ∷ []) ≡ suc (length s)
+pub one_more : (x : Step) (s : List Step) → length (s ++ x ∷ []) ≡ suc (length s)
 one_more x [] = refl
 one_more x (y ∷ s) = ap suc (one_more x s)
 

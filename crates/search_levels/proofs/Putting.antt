@@ -1,7 +1,8 @@
 -- A state is put into a level, or its schedule is kept where that is less.
-use Rattle.std.proofs.Common.{◌≡◌, ◌⊎◌, inl, inr, ℕ, ◌<◌, List, [], ◌∷◌, ◌++◌, get_or, slice_set, length, Some, refl, sym, ap, subst, ◌∙◌}
+use Rattle.std.proofs.Common.{◌≡◌, inl, inr, ℕ, ◌<◌, List, [], ◌∷◌, ◌++◌, get_or, slice_set, length, refl, sym, ap, subst, ◌∙◌}
 use Rattle.search_levels.specs.Arrivals.{IsSame}
 use Rattle.search_levels.specs.Levels.{AreAt, IsAt, IsCovered, KeepsLesser, PutsAt}
+use Rattle.search_levels.specs.Paths.{schedule_in}
 use Rattle.search_levels.specs.declared.visit.Visit.{Visit}
 use Rattle.search_levels.proofs.Orders.{up_to_chain}
 use Rattle.search_levels.proofs.Placed.{from_set, got_there, set_there, to_set}
@@ -14,7 +15,7 @@ use Rattle.world_model.specs.Requests.{Program}
 use Rattle.world_model.specs.Run.{run}
 
 module _ {S : Type 0} (Agrees : S → Program → History → Type 0) (a : Program) (k : ℕ) where
-  module _ (old : List (Visit S)) (new x y : Visit S) (i : ℕ) (lt : i < length old) (here : x ≡ get_or old i x) (same : IsSame Agrees x.state new.state) (lesser : KeepsLesser x new.path.items y) (at : AreAt Agrees a k old) (new_at : IsAt Agrees a k new) where
+  module _ (old : List (Visit S)) (new x y : Visit S) (i : ℕ) (lt : i < length old) (here : x ≡ get_or old i x) (same : IsSame Agrees x.state new.state) (lesser : KeepsLesser x (schedule_in new.path) y) (at : AreAt Agrees a k old) (new_at : IsAt Agrees a k new) where
     x_at : IsAt Agrees a k x
     x_at = at x (subst (λ z. IsAmong z old) (sym here) (got_there old i x lt))
 
@@ -42,20 +43,20 @@ module _ {S : Type 0} (Agrees : S → Program → History → Type 0) (a : Progr
     keeps s h c = elim (to_set old i y c.0 x c.1) [
       | inl e ↦
           let is : x ≡ c.0 = here ∙ e in
-          (y, set_there old i y lt, kept h (subst (λ (v : Visit S). Agrees v.state a h) (sym is) c.2), up_to_chain y.path.items x.path.items s lesser.up_to_old (subst (λ (v : Visit S). IsUpTo v.path.items s) (sym is) c.3))
+          (y, set_there old i y lt, kept h (subst (λ (v : Visit S). Agrees v.state a h) (sym is) c.2), up_to_chain (schedule_in y.path) (schedule_in x.path) s lesser.up_to_old (subst (λ (v : Visit S). IsUpTo (schedule_in v.path) s) (sym is) c.3))
       | inr t ↦ (c.0, t, c.2, c.3)
     ]
 
-    covers : (s : List Step) (h : History) → Agrees new.state a h → IsUpTo new.path.items s → IsCovered Agrees a after s h
+    covers : (s : List Step) (h : History) → Agrees new.state a h → IsUpTo (schedule_in new.path) s → IsCovered Agrees a after s h
     unfolding after
-    covers s h agrees up = (y, set_there old i y lt, kept h (also h agrees), up_to_chain y.path.items new.path.items s lesser.up_to_path up)
+    covers s h agrees up = (y, set_there old i y lt, kept h (also h agrees), up_to_chain (schedule_in y.path) (schedule_in new.path) s lesser.up_to_path up)
 
     pub puts_in : PutsAt Agrees a k old new (slice_set old i y)
     unfolding after
     puts_in = record { at = after_at; keeps = keeps; covers = covers }
 
-  pub puts_after : (old : List (Visit S)) (new : Visit S) → AreAt Agrees a k old → IsAt Agrees a k new → PutsAt Agrees a k old new (old ++ new ∷ [])
-  puts_after old new at new_at = record {
+  puts_last : (old : List (Visit S)) (new : Visit S) → AreAt Agrees a k old → IsAt Agrees a k new → PutsAt Agrees a k old new (old ++ new ∷ [])
+  puts_last old new at new_at = record {
     at = λ z there. elim (among_append old (new ∷ []) z there) [ inl t ↦ at z t | inr t ↦ only z t ];
     keeps = λ s h c. (c.0, among_left old (new ∷ []) c.0 c.1, c.2, c.3);
     covers = λ s h agrees up. (new, among_right old (new ∷ []) new (inl refl), agrees, up);
@@ -64,3 +65,6 @@ module _ {S : Type 0} (Agrees : S → Program → History → Type 0) (a : Progr
       only : (z : Visit S) → IsAmong z (new ∷ []) → IsAt Agrees a k z
       only z (inl e) = subst (λ v. IsAt Agrees a k v) e new_at
       only z (inr never) = absurd never
+
+  pub puts_after : (old all : List (Visit S)) (new : Visit S) → all ≡ old ++ new ∷ [] → AreAt Agrees a k old → IsAt Agrees a k new → PutsAt Agrees a k old new all
+  puts_after old all new is at new_at = subst (PutsAt Agrees a k old new) (sym is) (puts_last old new at new_at)

@@ -1,5 +1,5 @@
 // A level: the states to which schedules of one length lead.
-ghost use Rattle.std.specs.Prelude.{◌≡◌, ◌<◌, ◌≤◌, [], IfSome, OnOk, get_or, length};
+ghost use Rattle.std.specs.Prelude.{◌≡◌, ◌<◌, ◌≤◌, ◌∷◌, ◌++◌, [], IfSome, OnOk, get_or, length};
 ghost use Rattle.core_tree.specs.Syntax.{ModuleTree};
 ghost use Rattle.search_levels.specs.Arrivals.{IsSameOf, of_module};
 ghost use Rattle.search_levels.specs.Levels.{Puts};
@@ -46,7 +46,9 @@ impl<S: State> Level<S> {
     }
 
     /// Puts a state after the others, whose digest this is. `AllocError` if there is no memory for it.
-    pub(crate) fn push(&mut self, new: Visit<S>, digest: u64) -> Result<(), AllocError> {
+    pub(crate) fn push(&mut self, new: Visit<S>, digest: u64) -> Result<(), AllocError>
+        ensures { OnOk result (self.new.visits.items ≡ self.old.visits.items ++ new ∷ []) }
+    {
         self.index.put(digest)?;
         self.visits.push(new)?;
         Ok(())

@@ -1,5 +1,5 @@
 // Schedules that share their beginnings.
-ghost use Rattle.std.specs.Prelude.{◌≡◌, ◌∷◌, ◌++◌, [], IfOk, reverse};
+ghost use Rattle.std.specs.Prelude.{◌≡◌, ◌∷◌, ◌++◌, [], IfOk, MatchOption};
 ghost use Rattle.search_levels.specs.Paths.{latest_first, schedule_in};
 ghost use Rattle.term_core.specs.StepOrder.{order_of_schedules};
 
@@ -31,11 +31,12 @@ impl Model for Link {
     ghost use Rattle.std.specs.Coded.{coded_list};
     ghost use Rattle.term_core.specs.declared.step.Step.{Step as StepOf};
     ghost use Rattle.term_core.specs.contracts.step.Step as steps;
-    ghost use Rattle.search_levels.specs.Paths.{latest_first};
 
     ghost Value = { List StepOf };
 
     ghost coded = { coded_list steps.the_row.coded };
+
+    ghost use Rattle.search_levels.specs.Paths.{latest_first};
 
     ghost view = { λ l. l.step ∷ latest_first l.before };
 
@@ -49,7 +50,7 @@ impl Model for Link {
 impl Link {
     // The step, and those before it.
     fn into_parts(self) -> (Step, Path)
-        ensures { self.entry ≡ result.0 ∷ latest_first result.1 }
+        ensures { self ≡ result.0 ∷ latest_first result.1 }
     {
         let Link { step, before } = self;
         (step, before)
@@ -97,16 +98,28 @@ impl Path {
         }
     }
 
+    // The latest step, and the schedule before it, if there is one. It takes no memory.
+    fn latest(&self) -> Option<(&Step, &Path)>
+        ensures { MatchOption result (latest_first self.now ≡ []) (λ parts. latest_first self.now ≡ parts.0.now ∷ latest_first parts.1.now) }
+    {
+        match self {
+            Path::Start => None,
+            Path::Then(link) => {
+                let link: &Link = link;
+                Some((&link.step, &link.before))
+            }
+        }
+    }
+
     /// The steps of the schedule, the first one first, or `AllocError` if there is no memory for them.
     pub(crate) fn steps(&self, alloc: Global) -> Result<Vec<Step>, AllocError>
         ensures { IfOk result (λ steps. steps.items ≡ schedule_in self.now) }
     {
         let mut steps = Vec::new(alloc);
         let mut left = self;
-        while let Path::Then(link) = left {
-            let link: &Link = link;
-            steps.push(link.step.copy()?)?;
-            left = &link.before;
+        while let Some((step, before)) = left.latest() {
+            steps.push(step.copy()?)?;
+            left = before;
         }
         steps.reverse();
         Ok(steps)
@@ -121,16 +134,14 @@ impl Path {
         let mut left = self;
         let mut right = other;
         loop {
-            match (left, right) {
-                (Path::Start, Path::Start) => return order,
-                (Path::Start, Path::Then(_)) => return Ordering::Less,
-                (Path::Then(_), Path::Start) => return Ordering::Greater,
-                (Path::Then(one), Path::Then(two)) => {
-                    let one: &Link = one;
-                    let two: &Link = two;
-                    order = one.step.cmp(&two.step).then(order);
-                    left = &one.before;
-                    right = &two.before;
+            match (left.latest(), right.latest()) {
+                (None, None) => return order,
+                (None, Some(_)) => return Ordering::Less,
+                (Some(_), None) => return Ordering::Greater,
+                (Some((one, before_one)), Some((two, before_two))) => {
+                    order = one.cmp(two).then(order);
+                    left = before_one;
+                    right = before_two;
                 }
             }
         }

@@ -15,7 +15,7 @@ pub(crate) struct Visit<S> {
 impl<S> Visit<S> {
     /// Has the lesser of two schedules from now on, its own and this one.
     pub(crate) fn keep_lesser(&mut self, path: Path)
-        ensures { KeepsLesser self.old (schedule_in path.entry) self.new }
+        ensures { KeepsLesser self.old (schedule_in path) self.new }
     {
         if path.compare(&self.path).is_lt() {
             self.path = path;
