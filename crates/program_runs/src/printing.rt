@@ -14,7 +14,7 @@ use crate::watched::Watched;
 use core_tree::Module;
 use program_words::Printed;
 use report_explained::write_explained_report;
-use report_text::write_report;
+use report_text::{Visited, write_report};
 use search_crew::Observer;
 use std::alloc::Global;
 use term_core::{Sink, WriteFault};
@@ -36,10 +36,18 @@ fn write_form<W: Sink>(
     ensures { IsReportWritten printed.explained (text_of_form printed (program_of program.now) depth (excuses_in excuses.now) outcome.now) (W.contents sink.old) (W.contents sink.new) (W.has_failed sink.new) result }
 {
     if printed.explained {
-        write_explained_report(alloc, program, depth, excuses, outcome, sink)?;
+        write_explained_report(
+            alloc,
+            program,
+            Visited::Nodes,
+            depth,
+            excuses,
+            outcome,
+            sink,
+        )?;
         return Ok(());
     }
-    write_report(sink, depth, excuses, outcome)?;
+    write_report(sink, Visited::Nodes, depth, excuses, outcome)?;
     Ok(())
 }
 
@@ -119,7 +127,7 @@ pub(crate) fn write_and_flush<W: Sink>(
     ensures written { Writes (W.contents sink.old) (W.contents sink.new) (W.has_failed sink.new) result (text_of_report depth (excuses_in excuses.now) outcome.now) }
     ensures flushed { OnOk result (W.is_flushed sink.new ≡ true) }
 {
-    write_report(sink, depth, excuses, outcome)?;
+    write_report(sink, Visited::Nodes, depth, excuses, outcome)?;
     if sink.flush().is_err() {
         return Err(WriteFault);
     }
