@@ -10,14 +10,15 @@ use Rattle.tree_findings.specs.Found.{finding_in}
 use Rattle.tree_findings.specs.declared.finding.Finding.{Finding}
 use Rattle.tree_findings.specs.declared.outcome.Outcome.{Outcome}
 use Rattle.report_text.proofs.Listing.{IsListing}
-use Rattle.report_text.specs.ReportText.{explained_first_line, explained_last_line, findings_in, text_of_counts}
-use Rattle.report_explained.specs.Explained.{explained_finding, explained_findings, explained_from, text_of_explained_report, text_of_explanation, text_of_steps, text_of_waits}
+use Rattle.report_text.specs.declared.visited.Visited.{Visited}
+use Rattle.report_text.specs.ReportText.{explained_first_line_by, explained_last_line, findings_in, text_of_counts}
+use Rattle.report_explained.specs.Explained.{explained_finding, explained_findings, explained_from, text_of_explained_report_by, text_of_explanation, text_of_steps, text_of_waits}
 use Rattle.world_replay.specs.Replay.{reached}
 
 -- by what was found
-pub report-findings : (a : Program) (depth : ℕ) (x : Excuses) (o : Outcome) (f : coverage.Findings) → f ≡ findings_in o
-    → text_of_explained_report a depth x o ≡ explained_first_line depth o ++ (explained_findings a x f ++ (text_of_counts x f ++ explained_last_line depth x o))
-report-findings a depth x o f is = sym (ap (λ w. explained_first_line depth o ++ (explained_findings a x w ++ (text_of_counts x w ++ explained_last_line depth x o))) is)
+pub report-findings : (visited : Visited) (a : Program) (depth : ℕ) (x : Excuses) (o : Outcome) (f : coverage.Findings) → f ≡ findings_in o
+    → text_of_explained_report_by visited a depth x o ≡ explained_first_line_by visited depth o ++ (explained_findings a x f ++ (text_of_counts x f ++ explained_last_line depth x o))
+report-findings visited a depth x o f is = sym (ap (λ w. explained_first_line_by visited depth o ++ (explained_findings a x w ++ (text_of_counts x w ++ explained_last_line depth x o))) is)
 
 -- by what the errors and the refusals are
 pub findings-lists : (a : Program) (x : Excuses) (f : coverage.Findings) (es rs : List coverage.Finding) → es ≡ f.errors → rs ≡ f.refusals

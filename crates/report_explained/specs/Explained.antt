@@ -15,7 +15,9 @@ use Rattle.tree_excuses.specs.Excuses.{Excuses, counted, taken}
 use Rattle.tree_findings.specs.declared.outcome.Outcome.{Outcome}
 use Rattle.world_event_text.specs.CallText.{text_of_arguments}
 use Rattle.world_event_text.specs.EventText.{text_of_event}
-use Rattle.report_text.specs.ReportText.{explained_first_line, explained_last_line, findings_in, text_of_counts, text_of_finding}
+use Rattle.report_text.specs.declared.visited.Visited.{Visited}
+use Rattle.report_text.specs.declared.visited.Visited.TheVariants.{Nodes}
+use Rattle.report_text.specs.ReportText.{explained_first_line_by, explained_last_line, findings_in, text_of_counts, text_of_finding}
 use Rattle.world_replay.specs.Replay.{reached}
 use Rattle.report_explained.specs.declared.explain_fault.ExplainFault.{ExplainFault}
 use Rattle.report_explained.specs.declared.explain_fault.ExplainFault.TheVariants.{Memory, Write}
@@ -68,9 +70,14 @@ abbrev pub explained_findings : Program → Excuses → Findings → List ℕ
 explained_findings a x findings =
     explained_from a (codes "error") 1 (counted x findings.errors) ++ (explained_from a (codes "refusal") 1 findings.refusals ++ explained_from a (codes "normal") 1 (taken x findings.errors))
 
+-- what an exploration with schedules of at most so many steps results in
+abbrev pub text_of_explained_report_by : Visited → Program → ℕ → Excuses → Outcome → List ℕ
+text_of_explained_report_by visited a depth x outcome =
+    explained_first_line_by visited depth outcome ++ (explained_findings a x (findings_in outcome) ++ (text_of_counts x (findings_in outcome) ++ explained_last_line depth x outcome))
+
+-- of the tree
 abbrev pub text_of_explained_report : Program → ℕ → Excuses → Outcome → List ℕ
-text_of_explained_report a depth x outcome =
-    explained_first_line depth outcome ++ (explained_findings a x (findings_in outcome) ++ (text_of_counts x (findings_in outcome) ++ explained_last_line depth x outcome))
+text_of_explained_report a depth x outcome = text_of_explained_report_by Nodes a depth x outcome
 
 -- ---- what was written of such a text, which takes memory to be made
 

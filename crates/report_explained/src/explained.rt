@@ -7,7 +7,7 @@ ghost use Rattle.world_footprints.specs.Deeds.{event_in};
 ghost use Rattle.world_event_text.specs.EventText.{text_of_event};
 ghost use Rattle.world_core.specs.Seen.{program_in};
 ghost use Rattle.world_model.specs.Asking.{program_of};
-ghost use Rattle.report_explained.specs.Explained.{ExplanationsAreOfRuns, IsExplained, explained_finding, explained_findings, explained_from, indented, text_of_explained_report, text_of_explanation, text_of_steps};
+ghost use Rattle.report_explained.specs.Explained.{ExplanationsAreOfRuns, IsExplained, explained_finding, explained_findings, explained_from, indented, text_of_explained_report_by, text_of_explanation, text_of_steps};
 ghost use Rattle.world_replay.specs.Replay.{reached};
 ghost use Rattle.report_explained.specs.inside.ExplainedSteps.{ExplainsStep, explained_errors};
 ghost use Rattle.report_text.specs.Standing.{word_of};
@@ -16,8 +16,8 @@ use crate::explain_fault::ExplainFault;
 use crate::waiting::write_waits;
 use core_tree::Module;
 use report_text::{
-    findings_in, word_of, write_counts, write_explained_first_line, write_explained_last_line,
-    write_finding,
+    Visited, findings_in, word_of, write_counts, write_explained_first_line,
+    write_explained_last_line, write_finding,
 };
 use std::alloc::Global;
 use term_core::{Sink, Step, WriteFault, write_all};
@@ -32,12 +32,12 @@ pub fn explanations_are_of_runs()
     ensures { ExplanationsAreOfRuns }
 {}
 
-/// Writes the explained report of an exploration with schedules of at most so many steps. Its first line also says at
-/// how many nodes the tree is cut, and its last one which schedules the result is about. The errors that count come
-/// first, then the refusals, and then the errors that are taken as normal. Below each finding come the lines of its
-/// schedule, each after four blanks: they come from a new world of the module, in which the steps are taken one after
-/// another, up to one that is not enabled. Below these comes, at a deadlock, a line for each of its processes, with the
-/// messages in its mailbox.
+/// Writes the explained report of an exploration with schedules of at most so many steps. Its first line says what it
+/// went through, and also at how many nodes or states the depth cuts off what could follow. Its last one says which
+/// schedules the result is about. The errors that count come first, then the refusals, and then the errors that are
+/// taken as normal. Below each finding come the lines of its schedule, each after four blanks: they come from a new
+/// world of the module, in which the steps are taken one after another, up to one that is not enabled. Below these
+/// comes, at a deadlock, a line for each of its processes, with the messages in its mailbox.
 ///
 /// # Errors
 ///
@@ -45,16 +45,17 @@ pub fn explanations_are_of_runs()
 pub fn write_explained_report<W: Sink>(
     alloc: Global,
     program: &Module,
+    visited: Visited,
     depth: u64,
     excuses: &Excuses,
     outcome: &Outcome,
     sink: &mut W,
 ) -> Result<(), ExplainFault>
     requires { W.has_failed sink.old ≡ false }
-    ensures { IsExplained (text_of_explained_report (program_of program.now) depth (excuses_in excuses.now) outcome.now) (W.contents sink.old) (W.contents sink.new) (W.has_failed sink.new) result }
+    ensures { IsExplained (text_of_explained_report_by visited (program_of program.now) depth (excuses_in excuses.now) outcome.now) (W.contents sink.old) (W.contents sink.new) (W.has_failed sink.new) result }
 {
     let findings = findings_in(outcome);
-    write_explained_first_line(sink, depth, outcome)?;
+    write_explained_first_line(sink, visited, depth, outcome)?;
     write_explained_findings(alloc, program, excuses, findings, sink)?;
     write_counts(sink, excuses, findings)?;
     write_explained_last_line(sink, depth, excuses, outcome)?;

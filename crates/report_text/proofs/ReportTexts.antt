@@ -9,9 +9,10 @@ use Rattle.tree_excuses.specs.Excuses.{Excuses, counted, taken}
 use Rattle.tree_findings.specs.Found.{finding_in}
 use Rattle.tree_findings.specs.declared.finding.Finding.{Finding}
 use Rattle.tree_findings.specs.declared.outcome.Outcome.{Outcome}
+use Rattle.report_text.specs.declared.visited.Visited.{Visited}
 use Rattle.report_text.specs.IdentityText.{text_of_identity}
 use Rattle.report_text.proofs.Listing.{IsListing}
-use Rattle.report_text.specs.ReportText.{findings_in, first_line, text_of_finding, findings_from, text_of_findings, text_of_all, text_of_counts, text_of_normal, text_of_taken, complete_result, last_line, text_of_report}
+use Rattle.report_text.specs.ReportText.{findings_in, first_line_by, text_of_finding, findings_from, text_of_findings, text_of_all, text_of_counts, text_of_normal, text_of_taken, complete_result, last_line, text_of_report_by}
 
 -- by what the errors and the refusals are
 pub text_of_all-lists : (x : Excuses) (f : coverage.Findings) (es rs : List coverage.Finding) → es ≡ f.errors → rs ≡ f.refusals
@@ -37,8 +38,9 @@ pub text_of_taken-number : (fs : List coverage.Finding) (n : ℕ) → n ≡ leng
 text_of_taken-number fs n e = ap (λ w. codes ", taken as normal " ++ decimal w) (sym e)
 
 -- by what was found
-pub text_of_report-findings : (depth : ℕ) (x : Excuses) (o : Outcome) (f : coverage.Findings) → f ≡ findings_in o → text_of_report depth x o ≡ first_line depth o ++ (text_of_all x f ++ (text_of_counts x f ++ last_line x o))
-text_of_report-findings depth x o f e = sym (ap (λ w. first_line depth o ++ (text_of_all x w ++ (text_of_counts x w ++ last_line x o))) e)
+pub text_of_report-findings : (visited : Visited) (depth : ℕ) (x : Excuses) (o : Outcome) (f : coverage.Findings) → f ≡ findings_in o
+    → text_of_report_by visited depth x o ≡ first_line_by visited depth o ++ (text_of_all x f ++ (text_of_counts x f ++ last_line x o))
+text_of_report-findings visited depth x o f e = sym (ap (λ w. first_line_by visited depth o ++ (text_of_all x w ++ (text_of_counts x w ++ last_line x o))) e)
 
 -- by what the schedule is
 pub text_of_finding-schedule : (kind : List ℕ) (number : ℕ) (f : coverage.Finding) (s : List Step) → s ≡ f.schedule → text_of_finding kind number f ≡ kind ++ (codes " " ++ (decimal number ++ (codes ": " ++ (text_of_identity f.identity ++ (codes "\n  " ++ (text_of_schedule s ++ codes "\n"))))))

@@ -1,5 +1,6 @@
 pub mod IdentityText
 pub mod Standing
 pub mod ReportText
+pub mod FirstLines
 pub mod Clean
 pub mod NoExcuses

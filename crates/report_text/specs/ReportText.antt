@@ -9,6 +9,8 @@ use Rattle.tree_findings.specs.declared.outcome.Cause.{Cause}
 use Rattle.tree_findings.specs.declared.outcome.Cause.TheVariants.{NodeLimit, Memory}
 use Rattle.tree_findings.specs.declared.outcome.Outcome.{Outcome}
 use Rattle.tree_findings.specs.declared.outcome.Outcome.TheVariants.{Complete, Incomplete}
+use Rattle.report_text.specs.declared.visited.Visited.{Visited}
+use Rattle.report_text.specs.declared.visited.Visited.TheVariants.{Nodes, States}
 use Rattle.report_text.specs.IdentityText.{text_of_identity}
 
 -- what was found
@@ -31,14 +33,45 @@ text_of_nodes nodes = codes "nodes " ++ (decimal nodes ++ codes ", complete")
 abbrev pub text_of_incomplete : Cause → List ℕ
 text_of_incomplete cause = codes "incomplete: " ++ text_of_cause cause
 
+-- why a search of states stopped: its limit is one of states
+abbrev pub text_of_states_cause : Cause → List ℕ
+text_of_states_cause NodeLimit = codes "state limit"
+text_of_states_cause Memory = codes "memory"
+
+-- that all states were visited, and how many they are
+abbrev pub text_of_states : ℕ → List ℕ
+text_of_states states = codes "states " ++ (decimal states ++ codes ", complete")
+
+-- that a search of states stopped before its end, why, and of how many steps at most all schedules were followed by then
+abbrev pub text_of_incomplete_states : ℕ → Cause → List ℕ
+text_of_incomplete_states whole_to cause = codes "incomplete: " ++ (text_of_states_cause cause ++ (codes "; all schedules to depth " ++ decimal whole_to))
+
+-- that all were visited, and how many they are
+abbrev pub text_of_complete_by : Visited → ℕ → List ℕ
+text_of_complete_by Nodes number = text_of_nodes number
+text_of_complete_by (States whole_to) number = text_of_states number
+
+-- that it stopped before its end, and why; of states also, of how many steps at most all schedules were followed by then
+abbrev pub text_of_incomplete_by : Visited → Cause → List ℕ
+text_of_incomplete_by Nodes cause = text_of_incomplete cause
+text_of_incomplete_by (States whole_to) cause = text_of_incomplete_states whole_to cause
+
 -- how far the exploration came
+abbrev pub text_of_extent_by : Visited → Outcome → List ℕ
+text_of_extent_by visited (Complete findings extent) = text_of_complete_by visited extent.nodes
+text_of_extent_by visited (Incomplete cause findings) = text_of_incomplete_by visited cause
+
+-- of the tree
 abbrev pub text_of_extent : Outcome → List ℕ
-text_of_extent (Complete findings extent) = text_of_nodes extent.nodes
-text_of_extent (Incomplete cause findings) = text_of_incomplete cause
+text_of_extent outcome = text_of_extent_by Nodes outcome
 
 -- how many steps a schedule may have, and how far the exploration came
+abbrev pub first_line_by : Visited → ℕ → Outcome → List ℕ
+first_line_by visited depth outcome = codes "depth " ++ (decimal depth ++ (codes ", " ++ (text_of_extent_by visited outcome ++ codes "\n")))
+
+-- of the tree
 abbrev pub first_line : ℕ → Outcome → List ℕ
-first_line depth outcome = codes "depth " ++ (decimal depth ++ (codes ", " ++ (text_of_extent outcome ++ codes "\n")))
+first_line depth outcome = first_line_by Nodes depth outcome
 
 -- ---- findings
 
@@ -91,21 +124,30 @@ text_of_all x findings =
     text_of_findings (codes "error") (counted x findings.errors) ++ (text_of_findings (codes "refusal") findings.refusals ++ text_of_findings (codes "normal") (taken x findings.errors))
 
 -- what an exploration with schedules of at most so many steps results in
+abbrev pub text_of_report_by : Visited → ℕ → Excuses → Outcome → List ℕ
+text_of_report_by visited depth x outcome =
+    first_line_by visited depth outcome ++ (text_of_all x (findings_in outcome) ++ (text_of_counts x (findings_in outcome) ++ last_line x outcome))
+
+-- of the tree
 abbrev pub text_of_report : ℕ → Excuses → Outcome → List ℕ
-text_of_report depth x outcome = first_line depth outcome ++ (text_of_all x (findings_in outcome) ++ (text_of_counts x (findings_in outcome) ++ last_line x outcome))
+text_of_report depth x outcome = text_of_report_by Nodes depth x outcome
 
 -- ---- the first and the last line where a report is explained
 
--- that all nodes were visited, how many they are, and at how many of them the tree is cut
-abbrev pub text_of_nodes_and_cuts : Extent → List ℕ
-text_of_nodes_and_cuts extent = text_of_nodes extent.nodes ++ (codes ", cut " ++ decimal extent.cut)
+-- that all were visited, how many they are, and at how many of them the depth cuts off what could follow
+abbrev pub text_of_complete_and_cuts : Visited → Extent → List ℕ
+text_of_complete_and_cuts visited extent = text_of_complete_by visited extent.nodes ++ (codes ", cut " ++ decimal extent.cut)
 
-abbrev pub explained_extent : Outcome → List ℕ
-explained_extent (Complete findings extent) = text_of_nodes_and_cuts extent
-explained_extent (Incomplete cause findings) = text_of_incomplete cause
+abbrev pub explained_extent_by : Visited → Outcome → List ℕ
+explained_extent_by visited (Complete findings extent) = text_of_complete_and_cuts visited extent
+explained_extent_by visited (Incomplete cause findings) = text_of_incomplete_by visited cause
 
+abbrev pub explained_first_line_by : Visited → ℕ → Outcome → List ℕ
+explained_first_line_by visited depth outcome = codes "depth " ++ (decimal depth ++ (codes ", " ++ (explained_extent_by visited outcome ++ codes "\n")))
+
+-- of the tree
 abbrev pub explained_first_line : ℕ → Outcome → List ℕ
-explained_first_line depth outcome = codes "depth " ++ (decimal depth ++ (codes ", " ++ (explained_extent outcome ++ codes "\n")))
+explained_first_line depth outcome = explained_first_line_by Nodes depth outcome
 
 -- that the result is about schedules up to the depth
 abbrev pub text_of_depth_reached : ℕ → List ℕ

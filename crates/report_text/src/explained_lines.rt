@@ -2,48 +2,58 @@
 ghost use Rattle.std.specs.Prelude.{◌≡◌, ◌++◌, false};
 ghost use Rattle.term_core.specs.Stream.{Writes};
 ghost use Rattle.tree_excuses.specs.Excuses.{counted, excuses_in};
-ghost use Rattle.report_text.specs.ReportText.{complete_result, explained_extent, explained_first_line, explained_last_line, explained_result, text_of_depth_reached, text_of_nodes_and_cuts, text_of_reach};
+ghost use Rattle.report_text.specs.ReportText.{complete_result, explained_extent_by, explained_first_line_by, explained_last_line, explained_result, text_of_complete_and_cuts, text_of_depth_reached, text_of_reach};
 
-use crate::report::{write_complete_result, write_incomplete, write_nodes};
+use crate::report::{write_complete_by, write_complete_result, write_incomplete_by};
+use crate::visited::Visited;
 use term_core::{Sink, WriteFault, write_all, write_number};
 use tree_excuses::Excuses;
 use tree_findings::{Extent, FindingList, Outcome};
 
 /// Writes the first line of an explained report: how many steps a schedule may have, and how far the exploration
-/// came; where all nodes were visited, also at how many of them the tree is cut. `WriteFault` comes only where the
-/// sink has failed, and then a beginning of the line was written. It takes no memory.
+/// came; where all nodes or states were visited, also at how many of them the depth cuts off what could follow.
+/// `WriteFault` comes only where the sink has failed, and then a beginning of the line was written. It takes no memory.
 pub fn write_explained_first_line<W: Sink>(
     sink: &mut W,
+    visited: Visited,
     depth: u64,
     outcome: &Outcome,
 ) -> Result<(), WriteFault>
     requires { W.has_failed sink.old ≡ false }
-    ensures { Writes (W.contents sink.old) (W.contents sink.new) (W.has_failed sink.new) result (explained_first_line depth outcome.now) }
+    ensures { Writes (W.contents sink.old) (W.contents sink.new) (W.has_failed sink.new) result (explained_first_line_by visited depth outcome.now) }
 {
     write_all(sink, b"depth ")?;
     write_number(depth, sink)?;
     write_all(sink, b", ")?;
-    write_explained_extent(sink, outcome)?;
+    write_explained_extent(sink, visited, outcome)?;
     write_all(sink, b"\n")
 }
 
 // Writes how far the exploration came.
-fn write_explained_extent<W: Sink>(sink: &mut W, outcome: &Outcome) -> Result<(), WriteFault>
+fn write_explained_extent<W: Sink>(
+    sink: &mut W,
+    visited: Visited,
+    outcome: &Outcome,
+) -> Result<(), WriteFault>
     requires { W.has_failed sink.old ≡ false }
-    ensures { Writes (W.contents sink.old) (W.contents sink.new) (W.has_failed sink.new) result (explained_extent outcome.now) }
+    ensures { Writes (W.contents sink.old) (W.contents sink.new) (W.has_failed sink.new) result (explained_extent_by visited outcome.now) }
 {
     match outcome {
-        Outcome::Complete(_, extent) => write_nodes_and_cuts(sink, *extent),
-        Outcome::Incomplete(cause, _) => write_incomplete(sink, *cause),
+        Outcome::Complete(_, extent) => write_complete_and_cuts(sink, visited, *extent),
+        Outcome::Incomplete(cause, _) => write_incomplete_by(sink, visited, *cause),
     }
 }
 
-// Writes that all nodes were visited, how many they are, and at how many of them the tree is cut.
-fn write_nodes_and_cuts<W: Sink>(sink: &mut W, extent: Extent) -> Result<(), WriteFault>
+// Writes that all were visited, how many they are, and at how many of them the depth cuts off what could follow.
+fn write_complete_and_cuts<W: Sink>(
+    sink: &mut W,
+    visited: Visited,
+    extent: Extent,
+) -> Result<(), WriteFault>
     requires { W.has_failed sink.old ≡ false }
-    ensures { Writes (W.contents sink.old) (W.contents sink.new) (W.has_failed sink.new) result (text_of_nodes_and_cuts extent) }
+    ensures { Writes (W.contents sink.old) (W.contents sink.new) (W.has_failed sink.new) result (text_of_complete_and_cuts visited extent) }
 {
-    write_nodes(sink, extent.nodes)?;
+    write_complete_by(sink, visited, extent.nodes)?;
     write_all(sink, b", cut ")?;
     write_number(extent.cut, sink)
 }

@@ -6,8 +6,10 @@ pub mod identity_text;
 pub mod laws;
 pub mod report;
 pub mod standing;
+pub mod visited;
 
 pub use explained_lines::{write_explained_first_line, write_explained_last_line};
 pub use identity_text::write_identity;
 pub use report::{findings_in, write_counts, write_finding, write_report};
 pub use standing::word_of;
+pub use visited::Visited;

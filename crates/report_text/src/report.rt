@@ -3,30 +3,32 @@ ghost use Rattle.std.specs.Prelude.{◌≡◌, false, map};
 ghost use Rattle.term_core.specs.Stream.{Writes};
 ghost use Rattle.tree_excuses.specs.Excuses.{counted, excuses_in, taken, those_that};
 ghost use Rattle.tree_findings.specs.Found.{finding_in};
-ghost use Rattle.report_text.specs.ReportText.{findings_in, text_of_cause, text_of_nodes, text_of_incomplete, text_of_extent, first_line, text_of_finding, text_of_findings, text_of_all, text_of_counts, text_of_normal, text_of_taken, complete_result, text_of_result, last_line, text_of_report};
+ghost use Rattle.report_text.specs.ReportText.{findings_in, text_of_cause, text_of_nodes, text_of_incomplete, text_of_complete_by, text_of_incomplete_by, text_of_extent_by, first_line_by, text_of_finding, text_of_findings, text_of_all, text_of_counts, text_of_normal, text_of_taken, complete_result, text_of_result, last_line, text_of_report_by};
 ghost use Rattle.report_text.specs.Standing.{word_of};
 
 use crate::identity_text::write_identity;
 use crate::standing::word_of;
+use crate::visited::{Visited, write_incomplete_states, write_states};
 use term_core::{Sink, WriteFault, write_all, write_number, write_schedule};
 use tree_excuses::{Excuses, Standing};
 use tree_findings::{Cause, Finding, FindingList, Findings, Outcome};
 
 /// Writes what an exploration with schedules of at most so many steps results in: how far it came, then each error that
 /// counts, each refusal and each error that is taken as normal, a kind after the other and numbered from 1, with a
-/// schedule that shows it, how many they are, and the result. `WriteFault` comes only where the sink has failed, and
-/// then a beginning of the report was written. It takes no memory.
+/// schedule that shows it, how many they are, and the result. The first line says what it went through. `WriteFault`
+/// comes only where the sink has failed, and then a beginning of the report was written. It takes no memory.
 pub fn write_report<W: Sink>(
     sink: &mut W,
+    visited: Visited,
     depth: u64,
     excuses: &Excuses,
     outcome: &Outcome,
 ) -> Result<(), WriteFault>
     requires { W.has_failed sink.old ≡ false }
-    ensures { Writes (W.contents sink.old) (W.contents sink.new) (W.has_failed sink.new) result (text_of_report depth (excuses_in excuses.now) outcome.now) }
+    ensures { Writes (W.contents sink.old) (W.contents sink.new) (W.has_failed sink.new) result (text_of_report_by visited depth (excuses_in excuses.now) outcome.now) }
 {
     let findings = findings_in(outcome);
-    write_first_line(sink, depth, outcome)?;
+    write_first_line(sink, visited, depth, outcome)?;
     write_all_findings(sink, excuses, findings)?;
     write_counts(sink, excuses, findings)?;
     write_last_line(sink, excuses, outcome)
@@ -43,30 +45,70 @@ pub fn findings_in(outcome: &Outcome) -> &Findings
 }
 
 // Writes how many steps a schedule may have, and how far the exploration came.
-fn write_first_line<W: Sink>(sink: &mut W, depth: u64, outcome: &Outcome) -> Result<(), WriteFault>
+fn write_first_line<W: Sink>(
+    sink: &mut W,
+    visited: Visited,
+    depth: u64,
+    outcome: &Outcome,
+) -> Result<(), WriteFault>
     requires { W.has_failed sink.old ≡ false }
-    ensures { Writes (W.contents sink.old) (W.contents sink.new) (W.has_failed sink.new) result (first_line depth outcome.now) }
+    ensures { Writes (W.contents sink.old) (W.contents sink.new) (W.has_failed sink.new) result (first_line_by visited depth outcome.now) }
 {
     write_all(sink, b"depth ")?;
     write_number(depth, sink)?;
     write_all(sink, b", ")?;
-    write_extent(sink, outcome)?;
+    write_extent(sink, visited, outcome)?;
     write_all(sink, b"\n")
 }
 
 // Writes how far the exploration came.
-fn write_extent<W: Sink>(sink: &mut W, outcome: &Outcome) -> Result<(), WriteFault>
+fn write_extent<W: Sink>(
+    sink: &mut W,
+    visited: Visited,
+    outcome: &Outcome,
+) -> Result<(), WriteFault>
     requires { W.has_failed sink.old ≡ false }
-    ensures { Writes (W.contents sink.old) (W.contents sink.new) (W.has_failed sink.new) result (text_of_extent outcome.now) }
+    ensures { Writes (W.contents sink.old) (W.contents sink.new) (W.has_failed sink.new) result (text_of_extent_by visited outcome.now) }
 {
     match outcome {
-        Outcome::Complete(_, extent) => write_nodes(sink, extent.nodes),
-        Outcome::Incomplete(cause, _) => write_incomplete(sink, *cause),
+        Outcome::Complete(_, extent) => write_complete_by(sink, visited, extent.nodes),
+        Outcome::Incomplete(cause, _) => write_incomplete_by(sink, visited, *cause),
     }
 }
 
-/// Writes that all nodes were visited, and how many they are.
-pub(crate) fn write_nodes<W: Sink>(sink: &mut W, nodes: u64) -> Result<(), WriteFault>
+/// Writes that all were visited, and how many they are.
+pub(crate) fn write_complete_by<W: Sink>(
+    sink: &mut W,
+    visited: Visited,
+    number: u64,
+) -> Result<(), WriteFault>
+    requires { W.has_failed sink.old ≡ false }
+    ensures { Writes (W.contents sink.old) (W.contents sink.new) (W.has_failed sink.new) result (text_of_complete_by visited number) }
+{
+    match visited {
+        Visited::Nodes => write_nodes(sink, number),
+        Visited::States { .. } => write_states(sink, number),
+    }
+}
+
+/// Writes that the exploration stopped before its end, and why; of states also, of how many steps at most all schedules
+/// were followed by then.
+pub(crate) fn write_incomplete_by<W: Sink>(
+    sink: &mut W,
+    visited: Visited,
+    cause: Cause,
+) -> Result<(), WriteFault>
+    requires { W.has_failed sink.old ≡ false }
+    ensures { Writes (W.contents sink.old) (W.contents sink.new) (W.has_failed sink.new) result (text_of_incomplete_by visited cause) }
+{
+    match visited {
+        Visited::Nodes => write_incomplete(sink, cause),
+        Visited::States { whole_to } => write_incomplete_states(sink, whole_to, cause),
+    }
+}
+
+// Writes that all nodes were visited, and how many they are.
+fn write_nodes<W: Sink>(sink: &mut W, nodes: u64) -> Result<(), WriteFault>
     requires { W.has_failed sink.old ≡ false }
     ensures { Writes (W.contents sink.old) (W.contents sink.new) (W.has_failed sink.new) result (text_of_nodes nodes) }
 {
@@ -75,8 +117,8 @@ pub(crate) fn write_nodes<W: Sink>(sink: &mut W, nodes: u64) -> Result<(), Write
     write_all(sink, b", complete")
 }
 
-/// Writes that the exploration stopped before its end, and why.
-pub(crate) fn write_incomplete<W: Sink>(sink: &mut W, cause: Cause) -> Result<(), WriteFault>
+// Writes that the exploration stopped before its end, and why.
+fn write_incomplete<W: Sink>(sink: &mut W, cause: Cause) -> Result<(), WriteFault>
     requires { W.has_failed sink.old ≡ false }
     ensures { Writes (W.contents sink.old) (W.contents sink.new) (W.has_failed sink.new) result (text_of_incomplete cause) }
 {

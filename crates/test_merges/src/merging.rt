@@ -1,7 +1,7 @@
 // Reports that are put together.
 use crate::texts::{ALONE, BOOM, BOTH, GONE, LATE, LENIENT, STRANGE, excusing, joined};
 use report_reader::merge_reports;
-use report_text::write_report;
+use report_text::{Visited, write_report};
 use std::alloc::Global;
 use std::test::Fail;
 use test_support::{MemorySink, same};
@@ -27,7 +27,7 @@ fn comes_to(
     }
     let outcome = merge_reports(alloc, above, 9, LENIENT, excuses, text.as_slice())?;
     let mut sink = MemorySink::with_room(alloc, 1000)?;
-    write_report(&mut sink, 9, excuses, &outcome)?;
+    write_report(&mut sink, Visited::Nodes, 9, excuses, &outcome)?;
     same(sink.bytes.as_slice(), joined(alloc, whole)?.as_slice())
 }
 

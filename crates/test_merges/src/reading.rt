@@ -3,7 +3,7 @@ use crate::texts::{
     ALLOWED, ALONE, AWAY, BOOM, BOTH, GONE, LATE, LENIENT, STRANGE, STRICT, excusing, joined,
 };
 use report_reader::{ReportFault, merge_reports};
-use report_text::write_report;
+use report_text::{Visited, write_report};
 use std::alloc::Global;
 use std::test::Fail;
 use test_support::{MemorySink, same};
@@ -27,7 +27,7 @@ fn reads(alloc: Global, flags: Flags, excuses: &Excuses, parts: &[&str]) -> Resu
     let report = joined(alloc, parts)?;
     let outcome = merge_reports(alloc, None, 9, flags, excuses, report.as_slice())?;
     let mut sink = MemorySink::with_room(alloc, 1000)?;
-    write_report(&mut sink, 9, excuses, &outcome)?;
+    write_report(&mut sink, Visited::Nodes, 9, excuses, &outcome)?;
     same(sink.bytes.as_slice(), report.as_slice())?;
     for behind in ["depth 9, ", "error 7: "] {
         let mut text = joined(alloc, parts)?;

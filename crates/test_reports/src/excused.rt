@@ -2,7 +2,7 @@
 use crate::explained::{explains, note};
 use crate::transcript::pid;
 use core_tree::CallKind;
-use report_text::{write_explained_last_line, write_report};
+use report_text::{Visited, write_explained_last_line, write_report};
 use std::alloc::{AllocError, Global};
 use std::sync::Arc;
 use std::test::Fail;
@@ -174,7 +174,7 @@ fn reports(
     let report = joined(alloc, parts)?;
     for piece in [1, 1000] {
         let mut sink = MemorySink::in_pieces(alloc, 1000, piece)?;
-        write_report(&mut sink, 9, excuses, outcome)?;
+        write_report(&mut sink, Visited::Nodes, 9, excuses, outcome)?;
         same(sink.bytes.as_slice(), report.as_slice())?;
     }
     Ok(())

@@ -3,7 +3,7 @@ use crate::transcript::pid;
 use core_reader::read_module;
 use core_tree::CallKind;
 use report_explained::{ExplainFault, write_explained_report};
-use report_text::{write_explained_first_line, write_explained_last_line};
+use report_text::{Visited, write_explained_first_line, write_explained_last_line};
 use std::alloc::{AllocError, Global};
 use std::sync::Arc;
 use std::test::Fail;
@@ -15,7 +15,7 @@ use world_identities::{Flags, Identity};
 use world_model::rule::Rule;
 
 // A process reads a table that does not exist, and ends so.
-const NO_TABLE: &str =
+pub(super) const NO_TABLE: &str =
     "module 'm' ['main'/0] attributes [] 'main'/0 = fun () -> call 'ets':'lookup'('t','a') end";
 
 const NO_TABLE_EXPLAINED: &str =
@@ -75,7 +75,7 @@ fn no_table(alloc: Global) -> Result<Identity, AllocError> {
 }
 
 // What is found in the module that reads a table.
-fn of_no_table(alloc: Global) -> Result<Outcome, AllocError> {
+pub(super) fn of_no_table(alloc: Global) -> Result<Outcome, AllocError> {
     let mut findings = Findings::new(alloc);
     let schedule = turns(alloc, 2)?;
     note(alloc, &mut findings, bad_end(alloc)?, schedule.as_slice())?;
@@ -99,9 +99,15 @@ fn of_waits(alloc: Global) -> Result<Outcome, AllocError> {
 }
 
 // Checks that the first and the last line are these, where nothing is excused.
-fn is_framed(alloc: Global, outcome: &Outcome, first: &str, last: &str) -> Result<(), Fail> {
+pub(super) fn is_framed(
+    alloc: Global,
+    visited: Visited,
+    outcome: &Outcome,
+    first: &str,
+    last: &str,
+) -> Result<(), Fail> {
     let mut sink = MemorySink::in_pieces(alloc, 1000, 1)?;
-    write_explained_first_line(&mut sink, 9, outcome)?;
+    write_explained_first_line(&mut sink, visited, 9, outcome)?;
     same(sink.bytes.as_slice(), first.as_bytes())?;
     let mut sink = MemorySink::in_pieces(alloc, 1000, 1)?;
     write_explained_last_line(&mut sink, 9, &Excuses::none(alloc), outcome)?;
@@ -113,16 +119,40 @@ fn tells_of_which_schedules_the_result_is(rt: HostRuntime) -> Result<(), Fail> {
     let alloc = rt.alloc();
     let whole = Outcome::Complete(Findings::new(alloc), Extent { nodes: 12, cut: 0 });
     let first = "depth 9, nodes 12, complete, cut 0\n";
-    is_framed(alloc, &whole, first, "result: clean, all schedules\n")?;
+    is_framed(
+        alloc,
+        Visited::Nodes,
+        &whole,
+        first,
+        "result: clean, all schedules\n",
+    )?;
     let cut = Outcome::Complete(Findings::new(alloc), Extent { nodes: 12, cut: 3 });
     let first = "depth 9, nodes 12, complete, cut 3\n";
-    is_framed(alloc, &cut, first, "result: clean to depth 9\n")?;
+    is_framed(
+        alloc,
+        Visited::Nodes,
+        &cut,
+        first,
+        "result: clean to depth 9\n",
+    )?;
     let limited = Outcome::Incomplete(Cause::NodeLimit, Findings::new(alloc));
     let first = "depth 9, incomplete: node limit\n";
-    is_framed(alloc, &limited, first, "result: incomplete\n")?;
+    is_framed(
+        alloc,
+        Visited::Nodes,
+        &limited,
+        first,
+        "result: incomplete\n",
+    )?;
     let wanting = Outcome::Incomplete(Cause::Memory, Findings::new(alloc));
     let first = "depth 9, incomplete: memory\n";
-    is_framed(alloc, &wanting, first, "result: incomplete\n")
+    is_framed(
+        alloc,
+        Visited::Nodes,
+        &wanting,
+        first,
+        "result: incomplete\n",
+    )
 }
 
 #[test]
@@ -133,7 +163,13 @@ fn tells_of_errors_to_the_depth(rt: HostRuntime) -> Result<(), Fail> {
     note(alloc, &mut findings, bad_end(alloc)?, schedule.as_slice())?;
     let cut = Outcome::Complete(findings, Extent { nodes: 3, cut: 1 });
     let first = "depth 9, nodes 3, complete, cut 1\n";
-    is_framed(alloc, &cut, first, "result: errors to depth 9\n")
+    is_framed(
+        alloc,
+        Visited::Nodes,
+        &cut,
+        first,
+        "result: errors to depth 9\n",
+    )
 }
 
 // Checks that the explained report is this one. Where memory ran out it has to be a beginning of it, in a sink that is
@@ -149,7 +185,8 @@ pub(super) fn explains(
 ) -> Result<(), Fail> {
     let program = read_module(alloc, text.as_bytes())?;
     let mut sink = MemorySink::in_pieces(alloc, 2000, piece)?;
-    match write_explained_report(alloc, &program, depth, excuses, outcome, &mut sink) {
+    let nodes = Visited::Nodes;
+    match write_explained_report(alloc, &program, nodes, depth, excuses, outcome, &mut sink) {
         Ok(()) => same(sink.bytes.as_slice(), report),
         Err(ExplainFault::Memory) => {
             let is_beginning = report.starts_with(&sink.bytes);
@@ -202,12 +239,13 @@ fn explains_no_step_that_is_not_enabled(rt: HostRuntime) -> Result<(), Fail> {
 fn a_sink_that_fails_got_a_beginning(rt: HostRuntime) -> Result<(), Fail> {
     let alloc = rt.alloc();
     let program = read_module(alloc, WAITS.as_bytes())?;
+    let nodes = Visited::Nodes;
     let none = Excuses::none(alloc);
     let outcome = of_waits(alloc)?;
     let report = WAITS_EXPLAINED.as_bytes();
     for room in 0..report.len() {
         let mut sink = MemorySink::with_room(alloc, room)?;
-        let written = write_explained_report(alloc, &program, 9, &none, &outcome, &mut sink);
+        let written = write_explained_report(alloc, &program, nodes, 9, &none, &outcome, &mut sink);
         assert_eq!(rt; written, Err(ExplainFault::Write), "at {room}");
         assert_eq!(rt; sink.bytes.len(), room);
         assert!(rt; report.starts_with(&sink.bytes), "at {room}");

@@ -3,7 +3,7 @@ ghost use Rattle.std.specs.Prelude.{◌≡◌, ◌≤◌};
 
 use crate::modules::{INSERTS, LINE, MAKERS, MESSAGES, MIXED, WRITERS};
 use core_reader::{Module, read_module};
-use report_text::write_report;
+use report_text::{Visited, write_report};
 use search_crew::{Job, Observer, SearchFault, Unwatched, search};
 use std::alloc::Global;
 use std::sync::Wait;
@@ -36,7 +36,8 @@ pub(crate) fn options(depth: u64, budget: u64) -> Options
 /// The text of a report in which nothing is excused.
 pub(crate) fn text_of(alloc: Global, depth: u64, outcome: &Outcome) -> Result<Vec<u8>, WriteFault> {
     let mut sink = Output::new(Vec::new(alloc));
-    write_report(&mut sink, depth, &Excuses::none(alloc), outcome)?;
+    let excuses = Excuses::none(alloc);
+    write_report(&mut sink, Visited::Nodes, depth, &excuses, outcome)?;
     Ok(sink.writer)
 }
 
