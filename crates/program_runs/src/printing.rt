@@ -36,7 +36,15 @@ fn write_form<W: Sink>(
     ensures { IsReportWritten printed.explained (form_found printed program.now depth (excuses_in excuses.now) found.now) (W.contents sink.old) (W.contents sink.new) (W.has_failed sink.new) result }
 {
     if printed.explained {
-        write_explained_report(alloc, program, found.visited, depth, excuses, &found.outcome, sink)?;
+        write_explained_report(
+            alloc,
+            program,
+            found.visited,
+            depth,
+            excuses,
+            &found.outcome,
+            sink,
+        )?;
         return Ok(());
     }
     write_report(sink, found.visited, depth, excuses, &found.outcome)?;
