@@ -8,7 +8,7 @@ ghost use Rattle.program_runs.specs.Status.{status_of};
 
 use crate::input::read_input;
 use crate::printing::{print_and_flush, verdict_of};
-use crate::searching::explored;
+use crate::searching::search_schedules;
 use crate::verdict::{RunFault, Verdict};
 use core_reader::laws::texts_say_one_module;
 use core_reader::read_module;
@@ -71,7 +71,7 @@ pub fn run_explore<T: Threads + Wait + Sync, R: Source, O: Observer + Sync, W: S
     judged_are_exact();
     let text = read_input(alloc, source)?;
     let program = read_module(alloc, &text)?;
-    let found = explored(rt, alloc, &program, options, observer)?;
+    let found = search_schedules(rt, alloc, &program, options, observer)?;
     print_and_flush(
         alloc,
         &program,

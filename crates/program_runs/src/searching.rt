@@ -23,7 +23,7 @@ pub(crate) struct Explored {
 }
 
 // Searches the tree of schedules, by so many threads.
-fn explored_by_tree<T: Threads + Wait + Sync, O: Observer + Sync>(
+fn search_by_tree<T: Threads + Wait + Sync, O: Observer + Sync>(
     rt: &T,
     alloc: Global,
     program: &Module,
@@ -44,7 +44,7 @@ fn explored_by_tree<T: Threads + Wait + Sync, O: Observer + Sync>(
 }
 
 // Follows all schedules by their states.
-fn explored_by_states<O: Observer>(
+fn search_by_states<O: Observer>(
     alloc: Global,
     program: &Module,
     options: &Options,
@@ -68,7 +68,7 @@ fn explored_by_states<O: Observer>(
 /// # Errors
 ///
 /// Those of the search of the tree; of a search by states, `Memory` where there was none for the first state.
-pub(crate) fn explored<T: Threads + Wait + Sync, O: Observer + Sync>(
+pub(crate) fn search_schedules<T: Threads + Wait + Sync, O: Observer + Sync>(
     rt: &T,
     alloc: Global,
     program: &Module,
@@ -81,7 +81,7 @@ pub(crate) fn explored<T: Threads + Wait + Sync, O: Observer + Sync>(
     ensures whole { IfOk result (λ found. IsWhole (explored_by program.now options.now) found.outcome) }
 {
     match options.search {
-        Search::ByTree => explored_by_tree(rt, alloc, program, options, observer),
-        Search::ByStates => explored_by_states(alloc, program, options, observer),
+        Search::ByTree => search_by_tree(rt, alloc, program, options, observer),
+        Search::ByStates => search_by_states(alloc, program, options, observer),
     }
 }

@@ -1,6 +1,6 @@
 use Rattle.search_jobs.specs.Explorations.{explored_by}
 use Rattle.program_runs.proofs.StatesLaws.{exact_by_states, whole_by_states}
-use Rattle.program_runs.proofs.searching.explored_by_states.Goals as goal
+use Rattle.program_runs.proofs.searching.search_by_states.Goals as goal
 
 pub returns-clause-exact : goal.returns-clause-exact
 returns-clause-exact g c =

@@ -1,7 +1,7 @@
 use Rattle.search_crew.specs.Outcomes.{IsExact, IsOutcome, IsWhole}
 use Rattle.search_jobs.specs.Explorations.{explored_by}
 use Rattle.program_runs.proofs.ExploredLaws.{of_whole_tree}
-use Rattle.program_runs.proofs.searching.explored_by_tree.Goals as goal
+use Rattle.program_runs.proofs.searching.search_by_tree.Goals as goal
 
 pub returns-clause-outcome : goal.returns-clause-outcome
 returns-clause-outcome g c =
