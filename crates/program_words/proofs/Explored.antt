@@ -8,15 +8,17 @@ use Rattle.clap.specs.Words.{Row, Text, fault_of, first_of, one_of, subcommand_o
 use Rattle.clap.specs.declared.parser.matches.ValueSource.TheVariants.{CommandLine, DefaultValue}
 use Rattle.world_identities.specs.declared.flags.Flags.{Flags}
 use Rattle.tree_findings.specs.declared.options.Options.{Options}
+use Rattle.tree_findings.specs.declared.options.Search.{Search}
+use Rattle.tree_findings.specs.declared.options.Search.TheVariants.{ByTree, ByStates}
 use Rattle.program_words.specs.declared.words.Printed.{Printed}
-use Rattle.program_words.specs.Words.{AreInRange, AreWordsOfExplore, Given, IsGivenOr, is_cover, is_explain, job, jobs_of, nodes_of, workers_of}
+use Rattle.program_words.specs.Words.{AreInRange, AreWordsOfExplore, Given, IsGivenOr, is_by_states, is_cover, is_explain, is_states, job, jobs_of, nodes_of, workers_of}
 use Rattle.program_words.specs.inside.CommandLine.{command_line, exploring}
-use Rattle.program_words.specs.inside.Found.{AreOptionsIn, AreOptionsOf, AreRead, IsCheckOf, ReadsNumber, job_in, schedule_in}
+use Rattle.program_words.specs.inside.Found.{AreOptionsIn, AreOptionsOf, AreRead, IsCheckOf, IsSearchOf, ReadsNumber, job_in, schedule_in}
 use Rattle.program_words.proofs.Asked.{IsAsked, asked_enters, asked_has_no_schedule, asked_passes, at_most_once, depth_is_read, depth_read, flag_read, flags_read, number_not_read, number_read, rows_of_given}
 use Rattle.program_words.proofs.Entered.{entered_rows, number_fits}
 use Rattle.program_words.proofs.Once.{Each, lawful_by}
 use Rattle.program_words.proofs.Ranges.{depth_fits, nodes_fits, workers_fits}
-use Rattle.program_words.proofs.Rows.{cover_left, cover_row, explain_left, explain_row, given_row, job_left, job_row, nodes_left, nodes_row, put_all, row_at, row_of, row_or, row_with, text_of_row, workers_left, workers_row}
+use Rattle.program_words.proofs.Rows.{cover_left, cover_row, explain_left, explain_row, given_row, job_left, job_row, nodes_left, nodes_row, put_all, row_at, row_of, row_or, row_with, states_left, states_row, text_of_row, workers_left, workers_row}
 
 -- ---- the options of an exploration, each once and in its range
 
@@ -66,6 +68,15 @@ job_given given = ap (option_and_then (λ (r : Row). slice_get r.values 0)) (job
     by None = refl
     by (Some line) = refl
 
+-- ---- its search
+
+-- searches are the same where both are by states, or both are not
+same_search : (found search : Search) → is_by_states found ≡ is_by_states search → found ≡ search
+same_search ByTree ByTree is = refl
+same_search ByTree ByStates is = cc
+same_search ByStates ByTree is = cc
+same_search ByStates ByStates is = refl
+
 -- ---- the words of an exploration
 
 module _ (words : List Text) (given : List Given) (options : Options) (printed : Printed) (says : AreWordsOfExplore words given options printed) where
@@ -87,6 +98,7 @@ module _ (words : List Text) (given : List Given) (options : Options) (printed :
       cover = at_most_once _ printed.cover says.cover;
       ats = omega (arith, ap length says.no_at);
       jobs = says.job;
+      states = at_most_once _ (is_by_states options.search) says.states;
     };
     lawful = lawful_by given (subst (Each (λ n. n ≤ 400)) (sym says.depth) (says.in_range.depth, tt))
         (given_lawful 10000000 1000000 options.nodes (nodes_of given) says.nodes says.in_range.least_nodes says.in_range.most_nodes)
@@ -118,6 +130,12 @@ module _ (words : List Text) (given : List Given) (options : Options) (printed :
   pub explore_job : job_in (subcommand_of command_line words) ≡ slice_get (jobs_of given) 0
   explore_job = ap job_in explore_enters ∙ job_given given
 
+  search_read : (found : Search) → IsSearchOf (rows_of_given exploring given) found → found ≡ options.search
+  search_read found read =
+      same_search found options.search
+      (flag_read exploring (codes "states") is_states given (is_by_states options.search) (is_by_states found) says.states
+      (states_left (put_all [] given)) (given_row (codes "states") given refl ∙ states_row given) read)
+
   same_options : (found : Options) (prints : Printed) → AreRead (rows_of_given exploring given) found prints → found ≡ options
   same_options found prints read =
       let range = says.in_range in
@@ -125,8 +143,9 @@ module _ (words : List Text) (given : List Given) (options : Options) (printed :
       let nodes : found.nodes ≡ options.nodes = number_read _ options.nodes found.nodes (omega (arith, range.most_nodes)) (nodes_text given options.nodes says.nodes) read.nodes in
       let budget : found.budget ≡ options.budget = read.budget ∙ sym range.budget in
       let workers : found.workers ≡ options.workers = number_read _ options.workers found.workers (omega (arith, range.most_workers)) (workers_text given options.workers says.workers) read.workers in
+      let search : found.search ≡ options.search = search_read found.search read.search in
       let flags : found.flags ≡ options.flags = flags_read exploring words given options.depth options.flags asked found.flags read.flags in
-      (λ i. record { depth = depth i; nodes = nodes i; budget = budget i; workers = workers i; flags = flags i })
+      (λ i. record { depth = depth i; nodes = nodes i; budget = budget i; workers = workers i; search = search i; flags = flags i })
 
   same_printed : (found : Options) (prints : Printed) → AreRead (rows_of_given exploring given) found prints → prints ≡ printed
   same_printed found prints read =

@@ -14,7 +14,7 @@ use Rattle.clap.specs.declared.parser.matches.ValueSource.TheVariants.{CommandLi
 use Rattle.clap.specs.ValueTests.{is_unsigned_in}
 use Rattle.program_words.proofs.Numbers.{decimal_fits, decimal_is_plain}
 use Rattle.clap.proofs.OnLiterals.{clap_on_literals}
-use Rattle.program_words.specs.Words.{Given, begins_with_hyphen, depth, nodes, workers, allow_deadlock, strict_access, explain, cover, main_deadlock, normal, at, job, words_of, words_of_all}
+use Rattle.program_words.specs.Words.{Given, begins_with_hyphen, depth, nodes, workers, allow_deadlock, strict_access, explain, cover, main_deadlock, normal, at, job, states, words_of, words_of_all}
 use Rattle.program_words.specs.inside.CommandLine.{Level, Splitter, at_rule, built_of, checking, depth_rule, exploring, flag_rule, job_rule, nodes_rule, normal_rule, splitting, workers_rule}
 use Rattle.program_words.proofs.Rows.{id_of, put, put_all, row_with, used_once}
 
@@ -52,6 +52,9 @@ IsLawful (at n) (splitting which) = n ≤ 400
 IsLawful (job line) exploring = begins_with_hyphen line ≡ false
 IsLawful (job line) checking = ⊥
 IsLawful (job line) (splitting which) = ⊥
+IsLawful states exploring = Unit {0}
+IsLawful states checking = ⊥
+IsLawful states (splitting which) = ⊥
 
 -- ---- one use of an option
 
@@ -111,6 +114,7 @@ after explain level h = with_flag level (codes "explain") h
 after cover level h = with_flag level (codes "cover") h
 after (at n) level h = with_number level (codes "at") (decimal n) h
 after (job line) level h = with_number level (codes "job") line h
+after states level h = with_flag level (codes "states") h
 
 -- between the word of an option and its value
 abbrev waiting_for : Level → Text → Held → Walk
@@ -173,6 +177,10 @@ explain_word h = refl
 cover_word : (h : Held) → met exploring (walk_from h) (codes "--cover") ≡ walk_from (with_flag exploring (codes "cover") h)
 unfolding clap_on_literals
 cover_word h = refl
+
+states_word : (h : Held) → met exploring (walk_from h) (codes "--states") ≡ walk_from (with_flag exploring (codes "states") h)
+unfolding clap_on_literals
+states_word h = refl
 
 depth_number : (level : Level) (h : Held) (value : Text) → begins_with_hyphen value ≡ false
     → met level (waiting_for level (codes "depth") h) value ≡ walk_from (with_number level (codes "depth") value h)
@@ -297,6 +305,11 @@ unfolding clap_on_literals
 cover_passes rows h ready none =
     both_none (react_fault (built_of exploring).rules false (filled (flag_rule (codes "cover"))) [] h) [] (reacts exploring (codes "cover") rows h ready none) refl
 
+states_passes : (rows : List Row) (h : Held) → IsReady exploring rows h → has_row (codes "states") rows ≡ false → turn_fault (built_of exploring) [] (walk_from h) (codes "--states") ≡ []
+unfolding clap_on_literals
+states_passes rows h ready none =
+    both_none (react_fault (built_of exploring).rules false (filled (flag_rule (codes "states"))) [] h) [] (reacts exploring (codes "states") rows h ready none) refl
+
 -- the walk over an option
 option_walks : (given : Given) (level : Level) (h : Held) (rest : List Text) → IsLawful given level
     → fold (walked (built_of level).rules []) (walk_from h) (words_of given ++ rest) ≡ fold (walked (built_of level).rules []) (walk_from (after given level h)) rest
@@ -333,6 +346,9 @@ option_walks (job line) exploring h rest lawful =
     ap (λ w. fold (walked (built_of exploring).rules []) w rest) (ap (λ w. met exploring w line) (job_word h) ∙ job_line h line lawful)
 option_walks (job line) checking h rest lawful = absurd lawful
 option_walks (job line) (splitting which) h rest lawful = absurd lawful
+option_walks states exploring h rest lawful = ap (λ w. fold (walked (built_of exploring).rules []) w rest) (states_word h)
+option_walks states checking h rest lawful = absurd lawful
+option_walks states (splitting which) h rest lawful = absurd lawful
 
 -- a word that passes
 passes_on : (level : Level) (w after : Walk) (word : Text) (rest : List Text) → turn_fault (built_of level) [] w word ≡ [] → met level w word ≡ after
@@ -393,6 +409,10 @@ option_passes (job line) exploring rows h rest ready none lawful =
     ∙ passes_on exploring (waiting_for exploring (codes "job") h) (walk_from (after (job line) exploring h)) line rest (number_passes exploring (codes "job") h line lawful) (job_line h line lawful)
 option_passes (job line) checking rows h rest ready none lawful = absurd lawful
 option_passes (job line) (splitting which) rows h rest ready none lawful = absurd lawful
+option_passes states exploring rows h rest ready none lawful =
+    passes_on exploring (walk_from h) (walk_from (after states exploring h)) (codes "--states") rest (states_passes rows h ready none) (states_word h)
+option_passes states checking rows h rest ready none lawful = absurd lawful
+option_passes states (splitting which) rows h rest ready none lawful = absurd lawful
 
 -- what is held after an option, with its row
 number_ready : (level : Level) (id value : Text) (rows : List Row) (h : Held) → IsReady level rows h → has_row id rows ≡ false
@@ -468,6 +488,9 @@ option_ready (job line) exploring rows h ready none lawful =
     number_ready exploring (codes "job") line rows h ready none (job_passes line (settled (built_of exploring).rules h).rows (still_new exploring (codes "job") rows h ready none)) refl
 option_ready (job line) checking rows h ready none lawful = absurd lawful
 option_ready (job line) (splitting which) rows h ready none lawful = absurd lawful
+option_ready states exploring rows h ready none lawful = flag_ready exploring (codes "states") rows h ready none
+option_ready states checking rows h ready none lawful = absurd lawful
+option_ready states (splitting which) rows h ready none lawful = absurd lawful
 
 -- ---- all options
 

@@ -1,6 +1,7 @@
 -- What the program makes of what its parser answers.
-use Rattle.std.proofs.Common.{◌≡◌, ◌∙◌, true, List, [], Option, Some, None, option_map, refl, sym, ap, inl, inr, subst}
+use Rattle.std.proofs.Common.{◌≡◌, ◌∙◌, ◌&&◌, ◌||◌, Bool, true, false, List, [], Option, Some, None, option_map, refl, sym, ap, inl, inr, subst}
 use Rattle.std.specs.Borrow.{Bor}
+use Rattle.std.specs.Option.{is_some}
 use Rattle.std.specs.Prelude.{IfErr, IfOk, IsErr, Result, Err, Ok}
 use Rattle.clap.specs.Kinds.{HasKind, Kinds}
 use Rattle.clap.specs.Values.{kind_of}
@@ -41,6 +42,35 @@ word_found found word o is has = sym is ∙ ap (option_map (λ (w : Bor Text). w
 
 pub no_word_found : (found : Option (Bor Text)) (o : Option Text) → option_map (λ w. w.now) found ≡ o → found ≡ None → o ≡ None
 no_word_found found o is none = sym is ∙ ap (option_map (λ (w : Bor Text). w.now)) none
+
+-- ---- what is asked of a search by states
+
+-- it is not asked for what is of the tree, where it asks for no cover and no job
+pub nothing_of_tree : (states cover : Bool) (found : Option (Bor Text)) (o : Option Text) → option_map (λ w. w.now) found ≡ o → (states && (cover || is_some found)) ≡ true
+    → (states ≡ true → (cover ≡ false) × (o ≡ None)) → ⊥
+nothing_of_tree false cover found o is asks alone = cc
+nothing_of_tree true true found o is asks alone =
+    let none = (alone refl).0 in
+    cc
+nothing_of_tree true false None o is asks alone = cc
+nothing_of_tree true false (Some word) o is asks alone =
+    let none : Some word.now ≡ None = is ∙ (alone refl).1 in
+    cc
+
+-- where it is not, it asks for no cover
+pub no_cover_of_states : (states cover : Bool) (found : Option (Bor Text)) → (states && (cover || is_some found)) ≡ false → (states && cover) ≡ false
+no_cover_of_states false cover found none = refl
+no_cover_of_states true true found none = cc
+no_cover_of_states true false found none = refl
+
+-- and a job is of a search by the tree
+pub no_job_of_states : (states cover : Bool) (found : Option (Bor Text)) (word : Bor Text) → found ≡ Some word → (states && (cover || is_some found)) ≡ false → states ≡ false
+no_job_of_states false cover found word is none = refl
+no_job_of_states true cover found word is none = absurd (by cover (sym (ap (λ (o : Option (Bor Text)). cover || is_some o) is) ∙ none))
+  where
+    by : (b : Bool) → (b || true) ≡ false → ⊥
+    by true e = cc
+    by false e = cc
 
 -- ---- what is read of the command that was found
 

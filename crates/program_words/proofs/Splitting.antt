@@ -83,6 +83,7 @@ module _ (which : Splitter) (words : List Text) (given : List Given) (steps plac
     explain = omega (arith, says.no_explain);
     cover = omega (arith, says.no_cover);
     jobs = omega (arith, ap length says.no_job);
+    states = omega (arith, says.no_states);
   }
 
   -- the options of such a command, each once, except for `--normal`, and in its range
@@ -104,6 +105,7 @@ module _ (which : Splitter) (words : List Text) (given : List Given) (steps plac
       cover = omega (arith, says.no_cover);
       ats = omega (arith, ap length says.at);
       jobs = omega (arith, ap length says.no_job);
+      states = omega (arith, says.no_states);
     };
     lawful = split_lawful_by which given (subst (Each (λ n. n ≤ 400)) (sym says.depth) (says.in_range, tt)) (subst (Each (λ n. n ≤ 400)) (sym says.at) (says.at_in_range, tt)) none says.normal;
     place = place;

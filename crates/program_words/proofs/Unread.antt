@@ -1,5 +1,5 @@
 -- What is read of a command is what its words say, and nothing is read of words that are unreadable.
-use Rattle.std.proofs.Common.{◌≡◌, ◌∙◌, ◌⊎◌, ◌||◌, ℕ, ◌<◌, ◌≤◌, Bool, true, false, List, [], ◌∷◌, length, Option, Some, None, cond, codes, refl, sym, ap, subst, inl, inr, arith, true≢false}
+use Rattle.std.proofs.Common.{◌≡◌, ◌∙◌, ◌⊎◌, ◌&&◌, ◌||◌, ℕ, ◌<◌, ◌≤◌, Bool, true, false, List, [], ◌∷◌, length, Option, Some, None, cond, codes, refl, sym, ap, subst, inl, inr, arith, true≢false}
 use Rattle.std.specs.Prelude.{slice_get, string_bytes}
 use Rattle.std.specs.Str.{bytes_eq}
 use Rattle.std.proofs.lemmas.Slice.Eq.{bytes_eq-Decides}
@@ -12,9 +12,9 @@ use Rattle.program_words.specs.declared.command_line.Split.{Split}
 use Rattle.program_words.specs.declared.words.Printed.{Printed}
 use Rattle.program_words.specs.declared.words.Words.{Words}
 use Rattle.program_words.specs.declared.words.Words.TheVariants.{Replay, Explore, ExploreJob, Check, Jobs, Merge}
-use Rattle.program_words.specs.Words.{AreExcusesOf, AreUnreadable, AreWordsOfCheck, AreWordsOfExplore, AreWordsOfLevel, AskMoreOfJob, AsksCheck, AsksExplore, AsksExploreJob, AsksJobs, AsksMerge, AsksReplay, ExcuseNothing, Given, IsCheck, IsExplore, IsExploreJob, IsInRange, IsJobs, IsMerge, IsNamed, IsReplay, command_of, jobs_of, report_alone}
+use Rattle.program_words.specs.Words.{AreExcusesOf, AreUnreadable, AreWordsOfCheck, AreWordsOfExplore, AreWordsOfLevel, AskMoreOfJob, AskTreeOfStates, AsksCheck, AsksExplore, AsksExploreJob, AsksJobs, AsksMerge, AsksReplay, ExcuseNothing, Given, IsCheck, IsExplore, IsExploreJob, IsInRange, IsJobs, IsMerge, IsNamed, IsReplay, command_of, is_by_states, jobs_of, report_alone}
 use Rattle.program_words.specs.inside.CommandLine.{Splitter, checking, command_line, exploring, listing, merging, split_name, splitting}
-use Rattle.program_words.specs.inside.Found.{AreExcusesIn, AreJobsRead, AreOptionsOf, AskExcuses, AsksForOne, AsksForSplit, IsCheckOf, IsReadOf, IsSplitOf, IsSplitRead, rows_in, schedule_in}
+use Rattle.program_words.specs.inside.Found.{AreExcusesIn, AreJobsRead, AreOptionsOf, AskExcuses, AsksForOne, AsksForSplit, IsCheckOf, IsReadOf, IsSplitOf, IsSplitRead, job_in, rows_in, schedule_in}
 use Rattle.program_words.proofs.Asked.{rows_of_given}
 use Rattle.program_words.proofs.Checked.{check_enters, check_has_no_options, check_has_no_schedule, check_in_range, check_is_found, check_reads}
 use Rattle.program_words.proofs.Excusing.{excuses_same, given_asks, nothing_is_read}
@@ -65,6 +65,7 @@ module _ (words : List Text) (schedule : Text) (asks : IsReplay words schedule) 
   replay_asks = record {
     explore = λ found of. absurd (replay_has_no_options found of);
     job = λ found of line has. absurd (replay_has_no_options found of);
+    states = λ found of. absurd (replay_has_no_options found of);
     check = λ found of. absurd (replay_has_no_check found of);
     jobs = asks_for_no_split (codes "jobs") (codes "replay") _ _ replay_found.is refl;
     merge = asks_for_no_split (codes "merge") (codes "replay") _ _ replay_found.is refl;
@@ -113,12 +114,26 @@ module _ (words : List Text) (given : List Given) (options : Options) (printed :
         nothing_is_read exploring given options.flags read says.allow_deadlock
         (subst (λ flags. AreExcusesIn flags (rows_of_given exploring given) read) explore_flags (subst (λ rows. AreExcusesIn found.0.flags rows read) explore_rows excused)) bad
 
+    -- the search is the one that the words ask for
+    explore_search : is_by_states found.0.search ≡ is_by_states options.search
+    explore_search = ap (λ (x : Options). is_by_states x.search) (explore_reads words given options printed says found of).0
+
+  -- a search by states asks for nothing of the tree
+  abbrev AsksNoTree : Type 0
+  AsksNoTree = is_by_states options.search ≡ true → (printed.cover ≡ false) × (slice_get (jobs_of given) 0 ≡ None)
+
+  explore_states : AsksNoTree → (found : Options × Printed) → AreOptionsOf (found_in words) (Some found) → is_by_states found.0.search ≡ true → (found.1.cover ≡ false) × (job_in (found_in words) ≡ None)
+  explore_states spares found of states =
+      let none = spares (sym (explore_search found of) ∙ states) in
+      (ap (λ (x : Printed). x.cover) (explore_reads words given options printed says found of).1 ∙ none.0, explore_job words given options printed says ∙ none.1)
+
   pub explore_asks : (excuses : Excuses) → AreExcusesOf given options.flags excuses → ((line : Text) → slice_get (jobs_of given) 0 ≡ Some line → (printed.explained || printed.cover) ≡ false)
-      → AsksForOne (found_in words)
-  explore_asks excuses excused plain = record {
+      → AsksNoTree → AsksForOne (found_in words)
+  explore_asks excuses excused plain spares = record {
     explore = λ found of. record { excuses = excuses; asks = explore_excuses found of excuses excused };
     job = λ found of line has.
         ap (λ (x : Printed). x.explained || x.cover) (explore_reads words given options printed says found of).1 ∙ plain line (sym (explore_job words given options printed says) ∙ has);
+    states = explore_states spares;
     check = λ found of. absurd (explore_has_no_check words given options printed says found of);
     jobs = asks_for_no_split (codes "jobs") (codes "explore") _ _ (explore_enters words given options printed says) refl;
     merge = asks_for_no_split (codes "merge") (codes "explore") _ _ (explore_enters words given options printed says) refl;
@@ -132,7 +147,7 @@ module _ (words : List Text) (given : List Given) (options : Options) (printed :
       let reads = explore_reads words given options printed says (found, prints) is.0 in
       (reads.0, (excuses_same found.flags (rows_in (found_in words)) excuses read (explore_excuses (found, prints) is.0 excuses excused) is.1.0, reads.1))
   all_jobs_read excuses excused none (ExploreJob found read line) is =
-      let both : Some (string_bytes line) ≡ None = sym is.1.1 ∙ explore_job words given options printed says ∙ ap (λ l. slice_get l 0) none in
+      let both : Some (string_bytes line) ≡ None = sym is.1.1.0 ∙ explore_job words given options printed says ∙ ap (λ l. slice_get l 0) none in
       cc
   all_jobs_read excuses excused none (Check steps flags read) is = explore_has_no_check words given options printed says (steps, flags) is.0
   all_jobs_read excuses excused none (Jobs place) is = no_split (codes "jobs") (codes "explore") _ _ is.split (explore_enters words given options printed says) refl is.read.found
@@ -142,24 +157,36 @@ module _ (words : List Text) (given : List Given) (options : Options) (printed :
   one_job_read : (excuses : Excuses) (line : Text) → AreExcusesOf given options.flags excuses → jobs_of given ≡ line ∷ [] → (w : Words) → IsReadOf (found_in words) w → AsksExploreJob options excuses line w
   one_job_read excuses line excused one (Replay word) is = no_schedule words (string_bytes word) (explore_has_no_schedule words given options printed says) is
   one_job_read excuses line excused one (Explore found read prints) is =
-      let both : Some line ≡ None = sym (ap (λ l. slice_get l 0) one) ∙ sym (explore_job words given options printed says) ∙ is.1.1 in
+      let both : Some line ≡ None = sym (ap (λ l. slice_get l 0) one) ∙ sym (explore_job words given options printed says) ∙ is.1.1.0 in
       cc
   one_job_read excuses line excused one (ExploreJob found read word) is =
       let reads = explore_reads words given options printed says (found, report_alone) is.0 in
-      let same : Some (string_bytes word) ≡ Some line = sym is.1.1 ∙ explore_job words given options printed says ∙ ap (λ l. slice_get l 0) one in
+      let same : Some (string_bytes word) ≡ Some line = sym is.1.1.0 ∙ explore_job words given options printed says ∙ ap (λ l. slice_get l 0) one in
       let text : string_bytes word ≡ line = cc in
       (reads.0, (excuses_same found.flags (rows_in (found_in words)) excuses read (explore_excuses (found, report_alone) is.0 excuses excused) is.1.0, text))
   one_job_read excuses line excused one (Check steps flags read) is = explore_has_no_check words given options printed says (steps, flags) is.0
   one_job_read excuses line excused one (Jobs place) is = no_split (codes "jobs") (codes "explore") _ _ is.split (explore_enters words given options printed says) refl is.read.found
   one_job_read excuses line excused one (Merge steps place flags read) is = no_split (codes "merge") (codes "explore") _ _ _ (explore_enters words given options printed says) refl is.found
 
-  -- nothing is read of an exploration that excuses nothing, or asks for more of a job
-  explore_unread : ExcuseNothing given ⊎ AskMoreOfJob given printed → (w : Words) → IsReadOf (found_in words) w → ⊥
+  -- nothing is read of an exploration by states that asks for a cover, or for a job
+  states_unread : (states cover : Bool) (lines : List Text) → states ≡ true → (cover ≡ true) ⊎ (length lines ≡ 1) → (states && cover) ≡ false → slice_get lines 0 ≡ None → ⊥
+  states_unread false cover lines by_states bad none no_line = cc
+  states_unread true cover lines by_states (inl covered) none no_line = true≢false (sym covered ∙ none)
+  states_unread true cover lines by_states (inr one) none no_line = has_line lines one no_line
+
+  -- nor of one that excuses nothing, or asks for more of a job
+  explore_unread : ExcuseNothing given ⊎ (AskMoreOfJob given printed ⊎ AskTreeOfStates given options printed) → (w : Words) → IsReadOf (found_in words) w → ⊥
   explore_unread bad (Replay word) is = no_schedule words (string_bytes word) (explore_has_no_schedule words given options printed says) is
   explore_unread (inl bad) (Explore found read prints) is = explore_excuses_nothing (found, prints) is.0 read is.1.0 bad
-  explore_unread (inr more) (Explore found read prints) is = has_line (jobs_of given) more.0 (sym (explore_job words given options printed says) ∙ is.1.1)
+  explore_unread (inr (inl more)) (Explore found read prints) is = has_line (jobs_of given) more.0 (sym (explore_job words given options printed says) ∙ is.1.1.0)
+  explore_unread (inr (inr tree)) (Explore found read prints) is =
+      let reads = explore_reads words given options printed says (found, prints) is.0 in
+      states_unread (is_by_states options.search) printed.cover (jobs_of given) (ap is_by_states tree.0) tree.1
+      (sym (λ i. is_by_states (reads.0 i).search && (reads.1 i).cover) ∙ is.1.1.1) (sym (explore_job words given options printed says) ∙ is.1.1.0)
   explore_unread (inl bad) (ExploreJob found read line) is = explore_excuses_nothing (found, report_alone) is.0 read is.1.0 bad
-  explore_unread (inr more) (ExploreJob found read line) is =
+  explore_unread (inr (inr tree)) (ExploreJob found read line) is =
+      true≢false (sym (ap is_by_states tree.0) ∙ sym (explore_search (found, report_alone) is.0) ∙ is.1.1.1)
+  explore_unread (inr (inl more)) (ExploreJob found read line) is =
       let same : report_alone ≡ printed = (explore_reads words given options printed says (found, report_alone) is.0).1 in
       true≢false (sym more.1 ∙ sym (ap (λ (x : Printed). x.explained || x.cover) same))
   explore_unread bad (Check steps flags read) is = explore_has_no_check words given options printed says (steps, flags) is.0
@@ -170,6 +197,7 @@ pub all_jobs_ask : (words : List Text) (options : Options) (excuses : Excuses) (
 all_jobs_ask words options excuses printed asks =
     explore_asks words asks.given options printed asks.says excuses asks.excused
     (λ line is. let both : None ≡ Some line = sym (ap (λ l. slice_get l 0) asks.no_job) ∙ is in cc)
+    (λ states. (sym (ap (λ b. b && printed.cover) states) ∙ asks.no_cover_of_states, ap (λ l. slice_get l 0) asks.no_job))
 
 pub all_jobs_reads : (words : List Text) (options : Options) (excuses : Excuses) (printed : Printed) → IsExplore words options excuses printed → (w : Words) → IsReadOf (found_in words) w
     → AsksExplore options excuses printed w
@@ -177,6 +205,7 @@ all_jobs_reads words options excuses printed asks = all_jobs_read words asks.giv
 
 pub one_job_asks : (words : List Text) (options : Options) (excuses : Excuses) (line : Text) → IsExploreJob words options excuses line → AsksForOne (found_in words)
 one_job_asks words options excuses line asks = explore_asks words asks.given options report_alone asks.says excuses asks.excused (λ line is. refl)
+    (λ states. absurd (true≢false (sym states ∙ ap is_by_states asks.by_tree)))
 
 pub one_job_reads : (words : List Text) (options : Options) (excuses : Excuses) (line : Text) → IsExploreJob words options excuses line → (w : Words) → IsReadOf (found_in words) w
     → AsksExploreJob options excuses line w
@@ -203,6 +232,7 @@ module _ (words : List Text) (given : List Given) (steps : ℕ) (flags : Flags) 
   check_asked excuses excused = record {
     explore = λ found of. absurd (check_has_no_options words given steps flags says found of);
     job = λ found of line has. absurd (check_has_no_options words given steps flags says found of);
+    states = λ found of. absurd (check_has_no_options words given steps flags says found of);
     check = λ found of. record { excuses = excuses; asks = check_excuses found of excuses excused };
     jobs = asks_for_no_split (codes "jobs") (codes "check") _ _ (check_enters words given steps flags says) refl;
     merge = asks_for_no_split (codes "merge") (codes "check") _ _ (check_enters words given steps flags says) refl;
@@ -288,6 +318,7 @@ module _ (which : Splitter) (words : List Text) (given : List Given) (steps plac
       record {
         explore = λ found of. absurd (split_has_no_options which words given steps place flags says found of);
         job = λ found of line has. absurd (split_has_no_options which words given steps place flags says found of);
+        states = λ found of. absurd (split_has_no_options which words given steps place flags says found of);
         check = λ found of. absurd (split_has_no_check which words given steps place flags says found of);
         jobs = both.0;
         merge = both.1;

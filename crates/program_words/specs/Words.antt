@@ -11,6 +11,8 @@ use Rattle.term_reader.specs.Lawful.{IsLawful}
 use Rattle.tree_excuses.specs.Excuses.{Excuses, excuses_in}
 use Rattle.world_identities.specs.declared.flags.Flags.{Flags}
 use Rattle.tree_findings.specs.declared.options.Options.{Options}
+use Rattle.tree_findings.specs.declared.options.Search.{Search}
+use Rattle.tree_findings.specs.declared.options.Search.TheVariants.{ByTree, ByStates}
 use Rattle.program_words.specs.declared.words.Printed.{Printed}
 use Rattle.program_words.specs.declared.words.Words.{Words}
 use Rattle.program_words.specs.declared.words.Words.TheVariants.{Replay, Explore, ExploreJob, Check, Jobs, Merge}
@@ -39,6 +41,7 @@ pub data Given : Type 0 where
   cover : Given
   at : ℕ → Given
   job : (line : List ℕ) → Given
+  states : Given
 
 -- its words: a number is given by its decimal digits, a term by its text, and a job by its line
 abbrev pub words_of : Given → List (List ℕ)
@@ -53,6 +56,7 @@ words_of explain = codes "--explain" ∷ []
 words_of cover = codes "--cover" ∷ []
 words_of (at n) = codes "--at" ∷ decimal n ∷ []
 words_of (job line) = codes "--job" ∷ line ∷ []
+words_of states = codes "--states" ∷ []
 
 -- the words of one option after another
 abbrev pub words_of_all : List Given → List (List ℕ)
@@ -120,6 +124,16 @@ abbrev pub is_cover : Given → Bool
 is_cover cover = true
 is_cover _ = false
 
+-- whether it is the option that asks for a search by states
+abbrev pub is_states : Given → Bool
+is_states states = true
+is_states _ = false
+
+-- whether the schedules are searched by states, in place of the tree
+abbrev pub is_by_states : Search → Bool
+is_by_states ByTree = false
+is_by_states ByStates = true
+
 -- a number that may be given once, or else is the default
 abbrev pub IsGivenOr : ℕ → List ℕ → ℕ → Type 0
 IsGivenOr default [] n = n ≡ default
@@ -171,6 +185,7 @@ pub record AreWordsOfExplore (words : List (List ℕ)) (given : List Given) (opt
   pub cover : count_by is_cover given ≡ (if printed.cover then 1 else 0)
   pub job : length (jobs_of given) ≤ 1
   pub line : ArePlain (jobs_of given)
+  pub states : count_by is_states given ≡ (if is_by_states options.search then 1 else 0)
   pub no_at : ats_of given ≡ []
   pub in_range : AreInRange options
 
@@ -189,6 +204,7 @@ pub record AreWordsOfCheck (words : List (List ℕ)) (given : List Given) (steps
   pub no_cover : count_by is_cover given ≡ 0
   pub no_at : ats_of given ≡ []
   pub no_job : jobs_of given ≡ []
+  pub no_states : count_by is_states given ≡ 0
   pub in_range : steps ≤ 400
 
 -- the words are the name of the program, this command, which names one level of the tree, and these options in any order: `--depth` and `--at` once each, `--normal` any number of times, each of its flags once or not at all, and no option that is of `explore` alone
@@ -206,6 +222,7 @@ pub record AreWordsOfLevel (words : List (List ℕ)) (command : List ℕ) (given
   pub no_explain : count_by is_explain given ≡ 0
   pub no_cover : count_by is_cover given ≡ 0
   pub no_job : jobs_of given ≡ []
+  pub no_states : count_by is_states given ≡ 0
   pub in_range : steps ≤ 400
   pub at_in_range : place ≤ 400
 
@@ -213,19 +230,21 @@ pub record AreWordsOfLevel (words : List (List ℕ)) (command : List ℕ) (given
 abbrev pub report_alone : Printed
 report_alone = record { explained = false; cover = false }
 
--- the words are those of `explore` with these options and without a job, and excuse this
+-- the words are those of `explore` with these options and without a job, ask for no cover where the search is by states, and excuse this
 pub record IsExplore (words : List (List ℕ)) (options : Options) (excuses : Excuses) (printed : Printed) : Type 0 where
   pub given : List Given
   pub says : AreWordsOfExplore words given options printed
   pub excused : AreExcusesOf given options.flags excuses
   pub no_job : jobs_of given ≡ []
+  pub no_cover_of_states : (is_by_states options.search && printed.cover) ≡ false
 
--- the words are those of `explore` with these options and the job of this line, only its report is printed, and they excuse this
+-- the words are those of `explore` with these options and the job of this line, the search is by the tree, only its report is printed, and they excuse this
 pub record IsExploreJob (words : List (List ℕ)) (options : Options) (excuses : Excuses) (line : List ℕ) : Type 0 where
   pub given : List Given
   pub says : AreWordsOfExplore words given options report_alone
   pub excused : AreExcusesOf given options.flags excuses
   pub job : jobs_of given ≡ line ∷ []
+  pub by_tree : options.search ≡ ByTree
 
 -- the words are those of `check` with these options, and excuse this
 pub record IsCheck (words : List (List ℕ)) (steps : ℕ) (flags : Flags) (excuses : Excuses) : Type 0 where
@@ -263,13 +282,17 @@ ExcuseNothing given = HasNoTerm (texts_of given) ⊎ ((16 < length (texts_of giv
 abbrev pub AskMoreOfJob : List Given → Printed → Type 0
 AskMoreOfJob given printed = (length (jobs_of given) ≡ 1) × ((printed.explained || printed.cover) ≡ true)
 
--- the words are those of `explore` except for what they excuse, or what they print of a job
+-- a search by states is asked for, and with it what is of the tree: its cover, or a job of it
+abbrev pub AskTreeOfStates : List Given → Options → Printed → Type 0
+AskTreeOfStates given options printed = (options.search ≡ ByStates) × ((printed.cover ≡ true) ⊎ (length (jobs_of given) ≡ 1))
+
+-- the words are those of `explore` except for what they excuse, what they print of a job, or what they ask of a search by states
 pub record IsNoExplore (words : List (List ℕ)) : Type 0 where
   pub given : List Given
   pub options : Options
   pub printed : Printed
   pub says : AreWordsOfExplore words given options printed
-  pub bad : ExcuseNothing given ⊎ AskMoreOfJob given printed
+  pub bad : ExcuseNothing given ⊎ (AskMoreOfJob given printed ⊎ AskTreeOfStates given options printed)
 
 -- the words are those of `check` except for what they excuse
 pub record IsNoCheck (words : List (List ℕ)) : Type 0 where
@@ -296,7 +319,7 @@ IsNoJobs words = IsNoLevel words (codes "jobs")
 abbrev pub IsNoMerge : List (List ℕ) → Type 0
 IsNoMerge words = IsNoLevel words (codes "merge")
 
--- the words are those of a command except for what they excuse, what they print of a job, or where they look for jobs
+-- the words are those of a command except for what they excuse, what they print of a job, what they ask of a search by states, or where they look for jobs
 abbrev pub AreUnreadable : List (List ℕ) → Type 0
 AreUnreadable words = IsNoExplore words ⊎ (IsNoCheck words ⊎ (IsNoJobs words ⊎ IsNoMerge words))
 

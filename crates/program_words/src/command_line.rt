@@ -3,7 +3,7 @@ ghost use Rattle.std.specs.Prelude.{◌≡◌, codes, option_map, IfOk, IfErr};
 ghost use Rattle.clap.specs.Values.{kind_of};
 ghost use Rattle.clap.specs.Words.{app_of, found_of, one_of, rows_of, subcommand_rows_of};
 ghost use Rattle.program_words.specs.inside.CommandLine.{IsArgument, IsMadeAs, at_rule, check_command, command_line, depth_rule, explore_command, flag_rule, job_rule, jobs_command, merge_command, nodes_rule, normal_rule, replay_command, split_command, workers_rule};
-ghost use Rattle.program_words.specs.inside.Found.{AreFlagsOf, AreOptionsOf, IsCheckOf, IsPrintedOf, IsSplitOf, ReadsNumber, job_in, schedule_in};
+ghost use Rattle.program_words.specs.inside.Found.{AreFlagsOf, AreOptionsOf, IsCheckOf, IsPrintedOf, IsSearchOf, IsSplitOf, ReadsNumber, job_in, schedule_in};
 
 use crate::help;
 use crate::words::Printed;
@@ -97,7 +97,12 @@ fn explore_command<'a>(alloc: Global) -> Result<Command<'a>, Error>
             "cover",
             "Prints after a clean report its cover, for `check`",
         ))?
-        .arg(job_option(alloc))?;
+        .arg(job_option(alloc))?
+        .arg(flag(
+            alloc,
+            "states",
+            "Searches by states, level by level, in place of the tree",
+        ))?;
     Ok(explore)
 }
 
@@ -301,7 +306,7 @@ pub(crate) fn found_options(matches: &ArgMatches<'_>) -> Option<(Options, Printe
         nodes: found_number(given, "nodes")?,
         budget: BUDGET,
         workers: found_number(given, "workers")?,
-        search: Search::ByTree,
+        search: found_search(given),
         flags: found_flags(given),
     };
     Some((options, found_printed(given)))
@@ -343,6 +348,17 @@ fn found_flags(matches: &ArgMatches<'_>) -> Flags
     Flags {
         allow_deadlock: matches.get_flag("allow-deadlock"),
         strict_access: matches.get_flag("strict-access"),
+    }
+}
+
+// How the schedules are searched.
+fn found_search(matches: &ArgMatches<'_>) -> Search
+    ensures { IsSearchOf (rows_of (found_of matches.now)) result }
+{
+    if matches.get_flag("states") {
+        Search::ByStates
+    } else {
+        Search::ByTree
     }
 }
 

@@ -47,6 +47,9 @@ A TERM is written as the report prints it: 'shutdown' or {'error',1}. What
 not count as an error.
 A LINE is one that `jobs` prints for this module and depth. With --job only the
 nodes of that job are visited: its own node, and those below it.
+With --states each state is expanded once, and --nodes limits the states. The
+first line of the report then tells how many there are. --states is not for
+--cover or --job, which are of the tree.
 
 Statuses:
   0   all nodes were visited, and none shows an error

@@ -1,12 +1,13 @@
 // The words of a command line.
-ghost use Rattle.std.specs.Prelude.{◌≡◌, ℕ, List, map, IfOk, IfErr, IsErr};
+ghost use Rattle.std.specs.Prelude.{◌≡◌, ◌&&◌, ◌||◌, ℕ, List, map, IfOk, IfErr, IsErr};
+ghost use Rattle.std.specs.Option.{is_some};
 ghost use Rattle.clap.specs.Values.{kind_of};
 ghost use Rattle.clap.specs.Words.{subcommand_rows_of};
 ghost use Rattle.tree_excuses.specs.Excuses.{Excuses as Excused};
 ghost use Rattle.world_identities.specs.declared.flags.Flags.{Flags};
 ghost use Rattle.tree_findings.specs.declared.options.Options.{Options};
 ghost use Rattle.program_words.specs.declared.words.Printed.{Printed};
-ghost use Rattle.program_words.specs.Words.{AreReadAs, AreUnreadable, AsksCheck, AsksExplore, AsksExploreJob, AsksJobs, AsksMerge, AsksReplay, IsCheck, IsExplore, IsExploreJob, IsInRange, IsJobs, IsMerge, IsNamed, IsReplay, command_of};
+ghost use Rattle.program_words.specs.Words.{AreReadAs, AreUnreadable, AsksCheck, AsksExplore, AsksExploreJob, AsksJobs, AsksMerge, AsksReplay, IsCheck, IsExplore, IsExploreJob, IsInRange, IsJobs, IsMerge, IsNamed, IsReplay, command_of, is_by_states};
 ghost use Rattle.program_words.specs.inside.Found.{AreJobsReadOf, AsksForOne, AsksForSplit, IsCheckReadOf, IsExploreReadOf, IsMergeReadOf, IsReadOf, IsReplayReadOf, IsSplitReadOf};
 
 use crate::command_line::{
@@ -19,8 +20,14 @@ use clap::{ArgMatches, Command, Error};
 use std::alloc::{AllocError, Global};
 use std::convert::AsStr;
 use tree_excuses::Excuses;
-use tree_findings::Options;
+use tree_findings::{Options, Search};
 use world_identities::Flags;
+
+// What is said where a job is given with what is printed of no job alone.
+const MORE_OF_JOB: &str = "the argument '--job' cannot be used with '--explain' or '--cover'";
+
+// What is said where a search by states is asked for what is of the tree.
+const TREE_OF_STATES: &str = "the argument '--states' cannot be used with '--cover' or '--job'";
 
 /// What an exploration prints with its report.
 #[derive(Clone, Copy, Debug, PartialEq, Eq)]
@@ -56,7 +63,7 @@ pub enum Words {
 /// The parser's error where the words are not those of a command, where they ask for help, and where
 /// there was no memory; an error of the same form where a text of `--normal` is that of no term, where
 /// there are more than 16, where both flags of deadlocks are given, where a job is given with `--explain`
-/// or `--cover`, and where `--at` is greater than `--depth`.
+/// or `--cover`, where `--states` is given with `--cover` or a job, and where `--at` is greater than `--depth`.
 pub fn read_words<S: AsStr>(alloc: Global, words: &[S]) -> Result<Words, Error>
     ensures replay { (schedule : List ℕ) → IsReplay (map S.text words.now) schedule → AreReadAs (AsksReplay schedule) result }
     ensures explore { (options : Options) (excuses : Excused) (printed : Printed) → IsExplore (map S.text words.now) options excuses printed
@@ -119,17 +126,33 @@ fn read_exploration(alloc: Global, matches: &ArgMatches<'_>) -> Result<Option<Wo
         return Ok(None);
     };
     let excuses = read_excuses(alloc, matches, options.flags)?;
-    let Some(line) = found_job(matches) else {
+    let job = found_job(matches);
+    if asks_tree_of_states(options.search, printed.cover, job) {
+        return Err(conflict(alloc, TREE_OF_STATES)?);
+    }
+    let Some(line) = job else {
         return Ok(Some(Words::Explore(options, excuses, printed)));
     };
     if printed.explained || printed.cover {
-        return Err(Command::new(alloc, NAME).error(
-            ErrorKind::ArgumentConflict,
-            "the argument '--job' cannot be used with '--explain' or '--cover'",
-        )?);
+        return Err(conflict(alloc, MORE_OF_JOB)?);
     }
     let line = String::from_str(alloc, line)?;
     Ok(Some(Words::ExploreJob(options, excuses, line)))
+}
+
+// Whether a search by states is asked for what is of the tree: its cover, or a job of it.
+fn asks_tree_of_states(search: Search, cover: bool, job: Option<&str>) -> bool
+    ensures { result ≡ (is_by_states search && (cover || is_some job.entry)) }
+{
+    match search {
+        Search::ByTree => false,
+        Search::ByStates => cover || job.is_some(),
+    }
+}
+
+// An error that says which arguments cannot be used together.
+fn conflict(alloc: Global, message: &str) -> Result<Error, AllocError> {
+    Command::new(alloc, NAME).error(ErrorKind::ArgumentConflict, message)
 }
 
 // A check, where it was found.

@@ -6,6 +6,7 @@ use std::test::Fail;
 use term_core::write_term;
 use test_support::{MemorySink, MemorySource, same};
 use tree_excuses::Excuses;
+use tree_findings::Search;
 
 // Blanks stay as they are.
 #[test]
@@ -117,6 +118,58 @@ fn reads_the_words_of_an_exploration(rt: HostRuntime) -> Result<(), Fail> {
     Ok(())
 }
 
+// Words of an exploration, and how it searches, its workers, and what it prints.
+const SEARCHES: [(&[&str], Search, u64, Printed); 5] = [
+    (&[NAME, "explore", "--depth", "3"], Search::ByTree, 1, PLAIN),
+    (
+        &[NAME, "explore", "--depth", "3", "--states"],
+        Search::ByStates,
+        1,
+        PLAIN,
+    ),
+    (
+        &[NAME, "explore", "--states", "--explain", "--depth", "3"],
+        Search::ByStates,
+        1,
+        EXPLAINED,
+    ),
+    (
+        &[
+            NAME,
+            "explore",
+            "--depth",
+            "3",
+            "--workers",
+            "4",
+            "--states",
+        ],
+        Search::ByStates,
+        4,
+        PLAIN,
+    ),
+    (
+        &[NAME, "explore", "--cover", "--workers", "4", "--depth", "3"],
+        Search::ByTree,
+        4,
+        COVERED,
+    ),
+];
+
+#[test]
+fn reads_how_an_exploration_searches(rt: HostRuntime) -> Result<(), Fail> {
+    for (words, search, workers, wanted) in SEARCHES {
+        let Words::Explore(options, _, printed) = read_words(rt.alloc(), words)? else {
+            return Err(Fail::from("the words are no exploration"));
+        };
+        assert_eq!(rt; options.depth, 3);
+        assert_eq!(rt; options.nodes, 1_000_000);
+        assert_eq!(rt; options.search, search);
+        assert_eq!(rt; options.workers, workers);
+        assert_eq!(rt; printed, wanted);
+    }
+    Ok(())
+}
+
 // Words of a check, and its depth and flags.
 const CHECKS: [(&[&str], u64, bool, bool); 3] = [
     (&[NAME, "check", "--depth", "0"], 0, false, false),
@@ -200,6 +253,7 @@ fn reads_the_words_of_one_job(rt: HostRuntime) -> Result<(), Fail> {
         assert_eq!(rt; options.depth, depth);
         assert_eq!(rt; options.nodes, 1_000_000);
         assert_eq!(rt; options.workers, 1);
+        assert_eq!(rt; options.search, Search::ByTree);
         assert_eq!(rt; excuses.main_deadlock, main_deadlock);
         assert_eq!(rt; line.as_str(), wanted);
     }
@@ -428,9 +482,9 @@ fn reads_what_is_excused(rt: HostRuntime) -> Result<(), Fail> {
     Ok(())
 }
 
-// Words of a command except for what they excuse, what they print of a job, or where they look for jobs, and the first
-// line of what is said of them.
-const UNREADABLE: [(&[&str], &str); 16] = [
+// Words of a command except for what they excuse, what they print of a job, what they ask of a search by states, or
+// where they look for jobs, and the first line of what is said of them.
+const UNREADABLE: [(&[&str], &str); 20] = [
     (
         &[NAME, "explore", "--depth", "1", "--normal", "boom"],
         "error: 'boom' is no term: see its byte 1\n",
@@ -498,6 +552,33 @@ const UNREADABLE: [(&[&str], &str); 16] = [
     (
         &[NAME, "explore", "--cover", "--depth", "1", "--job", ""],
         "error: the argument '--job' cannot be used with '--explain' or '--cover'\n",
+    ),
+    (
+        &[NAME, "explore", "--depth", "3", "--states", "--cover"],
+        "error: the argument '--states' cannot be used with '--cover' or '--job'\n",
+    ),
+    (
+        &[NAME, "explore", "--depth", "3", "--job", "P | ", "--states"],
+        "error: the argument '--states' cannot be used with '--cover' or '--job'\n",
+    ),
+    (
+        &[
+            NAME,
+            "explore",
+            "--states",
+            "--explain",
+            "--depth",
+            "3",
+            "--job",
+            "",
+        ],
+        "error: the argument '--states' cannot be used with '--cover' or '--job'\n",
+    ),
+    (
+        &[
+            NAME, "explore", "--depth", "3", "--states", "--normal", "boom",
+        ],
+        "error: 'boom' is no term: see its byte 1\n",
     ),
     (
         &[NAME, "jobs", "--depth", "3", "--at", "4"],
@@ -570,7 +651,7 @@ fn tells_why_words_are_unreadable(rt: HostRuntime) -> Result<(), Fail> {
 }
 
 // Words of no command.
-const REFUSED: [&[&str]; 48] = [
+const REFUSED: [&[&str]; 53] = [
     &[NAME],
     &[NAME, "replay"],
     &[NAME, "replay", "P", "P"],
@@ -598,6 +679,9 @@ const REFUSED: [&[&str]; 48] = [
         NAME, "explore", "--depth", "3", "--job", "P | ", "--job", "P | ",
     ],
     &[NAME, "explore", "--depth", "3", "--at", "1"],
+    &[NAME, "explore", "--depth", "3", "--states", "--states"],
+    &[NAME, "explore", "--depth", "3", "--states", "3"],
+    &[NAME, "check", "--depth", "3", "--states"],
     &[NAME, "check", "--depth", "3", "--job", "P | "],
     &[NAME, "check", "--depth", "3", "--at", "1"],
     &[NAME, "jobs"],
@@ -609,6 +693,7 @@ const REFUSED: [&[&str]; 48] = [
     &[NAME, "jobs", "--depth", "3", "--at", "1", "--at", "1"],
     &[NAME, "jobs", "--depth", "3", "--at", "1", "--nodes", "5"],
     &[NAME, "jobs", "--depth", "3", "--at", "1", "--cover"],
+    &[NAME, "jobs", "--depth", "3", "--at", "1", "--states"],
     &[NAME, "jobs", "--depth", "3", "--at", "1", "--job", "P | "],
     &[NAME, "jobs", "--help"],
     &[NAME, "merge"],
@@ -621,6 +706,7 @@ const REFUSED: [&[&str]; 48] = [
     &[NAME, "merge", "--depth", "3", "--at", "1", "--nodes", "5"],
     &[NAME, "merge", "--depth", "3", "--at", "1", "--workers", "2"],
     &[NAME, "merge", "--depth", "3", "--at", "1", "--explain"],
+    &[NAME, "merge", "--depth", "3", "--at", "1", "--states"],
     &[NAME, "merge", "--depth", "3", "--at", "1", "--job", "P | "],
     &[NAME, "merge", "--depth", "3", "--at", "1", "m.reports"],
     &[NAME, "merge", "--help"],

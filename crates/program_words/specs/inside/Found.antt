@@ -1,5 +1,5 @@
 -- What the program reads of what its parser found.
-use Rattle.std.specs.Prelude.{◌≡◌, ◌⊎◌, ℕ, ◌<◌, ◌≤◌, ◌^◌, ◌||◌, Bool, true, false, List, [], length, map, codes, Option, Some, None, if◌then◌else◌, MatchBool, string_bytes, unwrap_or}
+use Rattle.std.specs.Prelude.{◌≡◌, ◌⊎◌, ℕ, ◌<◌, ◌≤◌, ◌^◌, ◌&&◌, ◌||◌, Bool, true, false, List, [], length, map, codes, Option, Some, None, if◌then◌else◌, MatchBool, string_bytes, unwrap_or}
 use Rattle.std.specs.List.{AllByRecursion}
 use Rattle.std.specs.Str.{bytes_eq}
 use Rattle.std.specs.Str.Parse.{IsNumeral, digits_value, without_leading_plus}
@@ -9,9 +9,10 @@ use Rattle.term_core.specs.TermText.{text_of_term}
 use Rattle.term_reader.specs.Lawful.{IsLawful}
 use Rattle.tree_excuses.specs.Excuses.{Excuses, excuses_in}
 use Rattle.tree_excuses.specs.declared.excuses.Excuses as declared
-use Rattle.program_words.specs.Words.{AreExcusesInRange, AreSmall, report_alone}
+use Rattle.program_words.specs.Words.{AreExcusesInRange, AreSmall, is_by_states, report_alone}
 use Rattle.world_identities.specs.declared.flags.Flags.{Flags}
 use Rattle.tree_findings.specs.declared.options.Options.{Options}
+use Rattle.tree_findings.specs.declared.options.Search.{Search}
 use Rattle.program_words.specs.declared.command_line.Split.{Split}
 use Rattle.program_words.specs.declared.words.Printed.{Printed}
 use Rattle.program_words.specs.declared.words.Words.{Words}
@@ -48,12 +49,17 @@ pub record IsPrintedOf (rows : List Row) (printed : Printed) : Type 0 where
   pub explained : ReadsFlag (one_of (codes "explain") rows) printed.explained
   pub cover : ReadsFlag (one_of (codes "cover") rows) printed.cover
 
+-- the search is the one that the rows ask for
+abbrev pub IsSearchOf : List Row → Search → Type 0
+IsSearchOf rows search = ReadsFlag (one_of (codes "states") rows) (is_by_states search)
+
 -- the options are those of the rows, and what is printed
 pub record AreRead (rows : List Row) (options : Options) (printed : Printed) : Type 0 where
   pub depth : ReadsNumber (one_of (codes "depth") rows) (Some options.depth)
   pub nodes : ReadsNumber (one_of (codes "nodes") rows) (Some options.nodes)
   pub budget : options.budget ≡ 64
   pub workers : ReadsNumber (one_of (codes "workers") rows) (Some options.workers)
+  pub search : IsSearchOf rows options.search
   pub flags : AreFlagsOf rows options.flags
   pub prints : IsPrintedOf rows printed
 
@@ -141,8 +147,8 @@ pub record AreJobsRead (entered : Option (Text × List Row)) (place : ℕ) : Typ
 -- the words are read of the command that was found
 abbrev pub IsReadOf : Option (Text × List Row) → Words → Type 0
 IsReadOf entered (Replay word) = schedule_in entered ≡ Some (string_bytes word)
-IsReadOf entered (Explore options excuses printed) = AreOptionsOf entered (Some (options, printed)) × (AreExcusesIn options.flags (rows_in entered) excuses × (job_in entered ≡ None))
-IsReadOf entered (ExploreJob options excuses line) = AreOptionsOf entered (Some (options, report_alone)) × (AreExcusesIn options.flags (rows_in entered) excuses × (job_in entered ≡ Some (string_bytes line)))
+IsReadOf entered (Explore options excuses printed) = AreOptionsOf entered (Some (options, printed)) × (AreExcusesIn options.flags (rows_in entered) excuses × ((job_in entered ≡ None) × ((is_by_states options.search && printed.cover) ≡ false)))
+IsReadOf entered (ExploreJob options excuses line) = AreOptionsOf entered (Some (options, report_alone)) × (AreExcusesIn options.flags (rows_in entered) excuses × ((job_in entered ≡ Some (string_bytes line)) × (is_by_states options.search ≡ false)))
 IsReadOf entered (Check steps flags excuses) = IsCheckOf entered (Some (steps, flags)) × AreExcusesIn flags (rows_in entered) excuses
 IsReadOf entered (Jobs place) = AreJobsRead entered place
 IsReadOf entered (Merge steps place flags excuses) = IsSplitRead (codes "merge") entered (record { depth = steps; at = place; flags = flags }) excuses
@@ -178,10 +184,11 @@ pub record AsksForSplit (command : Text) (entered : Option (Text × List Row)) :
   pub excused : (found : Split) → IsSplitOf command entered (Some found) → CanExcuse found.flags (rows_in entered)
   pub within : (found : Split) → IsSplitOf command entered (Some found) → found.at ≤ found.depth
 
--- the command that was found asks for something: whatever is found of it can be excused, has nothing that is printed of no job alone, and looks for jobs no deeper than its tree
+-- the command that was found asks for something: whatever is found of it can be excused, has nothing that is printed of no job alone, asks for nothing of the tree where the search is by states, and looks for jobs no deeper than its tree
 pub record AsksForOne (entered : Option (Text × List Row)) : Type 0 where
   pub explore : (found : Options × Printed) → AreOptionsOf entered (Some found) → CanExcuse found.0.flags (rows_in entered)
   pub job : (found : Options × Printed) → AreOptionsOf entered (Some found) → (line : Text) → job_in entered ≡ Some line → (found.1.explained || found.1.cover) ≡ false
+  pub states : (found : Options × Printed) → AreOptionsOf entered (Some found) → is_by_states found.0.search ≡ true → (found.1.cover ≡ false) × (job_in entered ≡ None)
   pub check : (found : ℕ × Flags) → IsCheckOf entered (Some found) → CanExcuse found.1 (rows_in entered)
   pub jobs : AsksForSplit (codes "jobs") entered
   pub merge : AsksForSplit (codes "merge") entered

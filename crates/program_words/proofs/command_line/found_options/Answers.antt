@@ -14,6 +14,7 @@ returns c =
       nodes = c.in_ok-found_number-2.field-0;
       budget = 64;
       workers = c.in_ok-found_number-3.field-0;
+      search = c.found_search.result;
       flags = c.found_flags.result;
     } in
     let read : AreRead (rows_of found) options c.found_printed.result = record {
@@ -21,6 +22,7 @@ returns c =
       nodes = c.in_ok-found_number-2.ensures;
       budget = refl;
       workers = c.in_ok-found_number-3.ensures;
+      search = c.found_search.ensures;
       flags = c.found_flags.ensures;
       prints = c.found_printed.ensures;
     } in
