@@ -1,6 +1,8 @@
 // Schedules that are written by hand, each with the identity that it shows by the rules of docs/PROCESSES.md and
-// docs/TABLES.md: it is replayed, and the exploration of its module to its length finds the identity.
+// docs/TABLES.md: it is replayed, and the explorations of its module to its length, of the tree and by states, find the
+// identity.
 use crate::budgets::{options, searched};
+use crate::states::followed;
 use core_reader::{Module, read_module};
 use report_text::write_identity;
 use search_crew::Unwatched;
@@ -149,7 +151,25 @@ fn finds<T: Threads + Wait + Sync>(
     }
 }
 
-// Checks that each schedule shows what stands beside it, and that the exploration to its length finds that.
+// Whether the exploration by states to a depth finds this, as an error or as a refusal.
+fn finds_by_states(
+    alloc: Global,
+    program: &Module,
+    depth: u64,
+    wanted: &str,
+) -> Result<bool, Fail> {
+    match followed(alloc, program, depth)?.outcome {
+        Outcome::Complete(found, _) => {
+            Ok(lists(alloc, found.errors(), wanted)? || lists(alloc, found.refusals(), wanted)?)
+        }
+        Outcome::Incomplete(_, found) => {
+            drop(found);
+            Err(Fail::from("the search was not complete"))
+        }
+    }
+}
+
+// Checks that each schedule shows what stands beside it, and that the explorations to its length find that.
 fn are_shown_and_found<T: Threads + Wait + Sync>(
     rt: &T,
     alloc: Global,
@@ -162,6 +182,10 @@ fn are_shown_and_found<T: Threads + Wait + Sync>(
         holds(shows(alloc, &program, steps.as_slice(), wanted)?, schedule)?;
         holds(
             finds(rt, alloc, &program, steps.len() as u64, wanted)?,
+            wanted,
+        )?;
+        holds(
+            finds_by_states(alloc, &program, steps.len() as u64, wanted)?,
             wanted,
         )?;
     }

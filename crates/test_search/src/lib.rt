@@ -1,4 +1,5 @@
-// Tests of the search: explorations with several budgets, by several workers, and of jobs that are not the whole tree.
+// Tests of the searches: explorations of the tree with several budgets, by several workers, and of jobs that are not the
+// whole tree; and explorations by states.
 #![tactic(auto)]
 
 #[cfg(test)]
@@ -9,5 +10,7 @@ mod handwritten;
 mod jobs;
 #[cfg(test)]
 mod modules;
+#[cfg(test)]
+mod states;
 #[cfg(test)]
 mod workers;
