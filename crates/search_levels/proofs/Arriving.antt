@@ -1,11 +1,13 @@
 -- Steps from a state.
-use Rattle.std.proofs.Common.{◌≡◌, ◌⊎◌, inl, inr, ℕ, zero, suc, ◌+◌, List, [], ◌∷◌, ◌++◌, length, map, Option, Some, None, is_some, refl, sym, ap, subst, ◌∙◌, arith, Vec, Global}
+use Rattle.std.proofs.Common.{◌≡◌, ◌⊎◌, inl, inr, ℕ, zero, suc, ◌+◌, List, [], ◌∷◌, ◌++◌, length, map, Option, Some, None, is_some, refl, sym, ap, subst, ◌∙◌, arith}
 use Rattle.std.proofs.lemmas.List.{append-nil}
 use Rattle.std.specs.List.{AllByRecursion}
 use Rattle.search_levels.specs.Arrivals.{AreArrivals, IsArrival}
 use Rattle.search_levels.specs.Expanding.{Arrives, ArrivesAt, Expands, ExpandsAt, on_by}
 use Rattle.search_levels.specs.Levels.{AreAt, IsAt, IsCovered, Keeps, Puts, PutsAt}
+use Rattle.search_levels.specs.Paths.{schedule_in}
 use Rattle.search_levels.specs.declared.arrival.Arrival.{Arrival}
+use Rattle.search_levels.specs.declared.path.Path.{Path}
 use Rattle.search_levels.specs.declared.visit.Visit.{Visit}
 use Rattle.search_levels.proofs.Placed.{all_front, all_have, all_last}
 use Rattle.tree_coverage.specs.Findings.{Findings, findings_among}
@@ -78,10 +80,10 @@ listed a h x e next = from_theory (enabled_steps a h) x ((choice_laws a).has_ena
 module _ {S : Type 0} (Agrees : S → Program → History → Type 0) (flags : Flags) where
   -- ---- one step
 
-  pub arrives_at : (a : Program) (k : ℕ) (h : History) (visited : List (List Step)) (schedule : List Step) (r : Arrival S) (path : Vec Step Global) (old new : List (Visit S)) (before after : Findings) → Puts Agrees old (record { path = path; state = r.state }) new → path.items ≡ schedule ++ r.step ∷ [] → AddsSchedule flags path.items (map identity_in r.shown.items) before after
+  pub arrives_at : (a : Program) (k : ℕ) (h : History) (visited : List (List Step)) (schedule : List Step) (r : Arrival S) (path : Path) (old new : List (Visit S)) (before after : Findings) → Puts Agrees old (record { path = path; state = r.state }) new → schedule_in path ≡ schedule ++ r.step ∷ [] → AddsSchedule flags (schedule_in path) (map identity_in r.shown.items) before after
       → length schedule ≡ k → run a schedule ≡ Some h → IsArrival Agrees a h r → AreAt Agrees a (k + 1) old → before ≡ findings_among flags a visited → ArrivesAt Agrees flags a k visited schedule r old new after
   arrives_at a k h visited schedule r path old new before after puts is adds len runs arr at found =
-      let now : run a path.items ≡ Some (arr.event ∷ h) = ap (run a) is ∙ run_more a (Some []) schedule r.step h arr.event runs arr.is_next in
+      let now : run a (schedule_in path) ≡ Some (arr.event ∷ h) = ap (run a) is ∙ run_more a (Some []) schedule r.step h arr.event runs arr.is_next in
       let visit : Visit S = record { path = path; state = r.state } in
       let new_at : IsAt Agrees a (k + 1) visit = (ap length is ∙ longer schedule r.step ∙ ap (λ n. n + 1) len, arr.event ∷ h, now, arr.agrees) in
       let p : PutsAt Agrees a (k + 1) old visit new = puts a (k + 1) at new_at in
@@ -136,10 +138,10 @@ module _ {S : Type 0} (Agrees : S → Program → History → Type 0) (flags : F
   event_is : (a : Program) (g : History) (x y : Step) (d e : Event) → y ≡ x → next_event a g y ≡ Some d → next_event a g x ≡ Some e → d ≡ e
   event_is a g x y d e is p q = some_is (sym p ∙ ap (next_event a g) is ∙ q)
 
-  pub so_far_all : (from : Visit S) (rs : List (Arrival S)) (first level : List (Visit S)) (begun after : Findings) → ((a : Program) (h : History) → Agrees from.state a h → AreArrivals Agrees a h rs) → SoFar from.path.items first begun rs level after → Expands Agrees flags from first level begun after
+  pub so_far_all : (from : Visit S) (rs : List (Arrival S)) (first level : List (Visit S)) (begun after : Findings) → ((a : Program) (h : History) → Agrees from.state a h → AreArrivals Agrees a h rs) → SoFar (schedule_in from.path) first begun rs level after → Expands Agrees flags from first level begun after
   so_far_all from rs first level begun after are so_far a k h visited len runs agrees at found =
       let all : AreArrivals Agrees a h rs = are a h agrees in
-      let p : ExpandsSoFar from.path.items first begun a k visited rs level after = so_far a k h visited len runs at found all.each in
+      let p : ExpandsSoFar (schedule_in from.path) first begun a k visited rs level after = so_far a k h visited len runs at found all.each in
       record {
         at = p.at;
         keeps = p.keeps;
@@ -147,12 +149,12 @@ module _ {S : Type 0} (Agrees : S → Program → History → Type 0) (flags : F
             let r : Source (λ (r : Arrival S). r.step) rs x = source (λ r. r.step) rs x (subst (λ xs. IsAmong x xs) (sym (are a g agrees).steps) (listed a g x e next)) in
             let b : IsArrival Agrees a g r.from = all_have (IsArrival Agrees a g) rs r.from (are a g agrees).each r.is_among in
             let is : b.event ≡ e = event_is a g x r.from.step b.event e r.is b.is_next next in
-            p.covers r.from r.is_among s (e ∷ g) (subst (λ d. Agrees r.from.state a (d ∷ g)) is b.agrees) (subst (λ z. IsUpTo (from.path.items ++ z ∷ []) s) (sym r.is) up);
+            p.covers r.from r.is_among s (e ∷ g) (subst (λ d. Agrees r.from.state a (d ∷ g)) is b.agrees) (subst (λ z. IsUpTo (schedule_in from.path ++ z ∷ []) s) (sym r.is) up);
         same = λ g agrees x e next.
             let r : Source (λ (r : Arrival S). r.step) rs x = source (λ r. r.step) rs x (subst (λ xs. IsAmong x xs) (sym (are a g agrees).steps) (listed a g x e next)) in
             let b : IsArrival Agrees a g r.from = all_have (IsArrival Agrees a g) rs r.from (are a g agrees).each r.is_among in
             let c : IsArrival Agrees a h r.from = all_have (IsArrival Agrees a h) rs r.from all.each r.is_among in
             let is : b.event ≡ e = event_is a g x r.from.step b.event e r.is b.is_next next in
             (c.event, sym (ap (next_event a h) r.is) ∙ c.is_next, sym c.shown ∙ b.shown ∙ ap (λ d. shown a (d ∷ g)) is);
-        found = p.found ∙ ap (λ xs. findings_among flags a (visited ++ on_by from.path.items xs)) all.steps;
+        found = p.found ∙ ap (λ xs. findings_among flags a (visited ++ on_by (schedule_in from.path) xs)) all.steps;
       }

@@ -1,5 +1,5 @@
 -- What a search of all schedules by states results in.
-use Rattle.std.specs.Prelude.{◌≡◌, ◌≤◌, ◌<◌, ℕ, suc, true, List, [], Some, length}
+use Rattle.std.specs.Prelude.{◌≡◌, ◌≤◌, ◌<◌, ℕ, zero, suc, true, List, [], Some, length}
 use Rattle.core_tree.specs.Syntax.{ModuleTree}
 use Rattle.search_levels.specs.declared.search.Bounds.{Bounds}
 use Rattle.search_levels.specs.declared.search.Searched.{Searched}
@@ -27,7 +27,7 @@ IsLonger a n = (s : List Step) × (n < length s) × (h : History) × (run a s �
 
 -- the depth cuts off none, or some
 abbrev pub TellsReach : Program → ℕ → ℕ → Type 0
-TellsReach a n 0 = IsLongest a n
+TellsReach a n zero = IsLongest a n
 TellsReach a n (suc cut) = IsLonger a n
 
 -- this is what some schedules of at most so many steps show

@@ -1,8 +1,9 @@
 -- What levels find.
-use Rattle.std.specs.Prelude.{◌≡◌, ◌+◌, ℕ, suc, false, List, Some, length}
+use Rattle.std.specs.Prelude.{◌≡◌, ◌+◌, ℕ, zero, suc, false, List, [], Some, length}
 use Rattle.search_levels.specs.Arrivals.{has_step}
-use Rattle.search_levels.specs.Searched.{IsLonger}
+use Rattle.search_levels.specs.Searched.{IsLonger, IsSearched}
 use Rattle.search_levels.specs.Levels.{AreAt, IsCovered}
+use Rattle.search_levels.specs.declared.search.Searched.{Searched}
 use Rattle.search_levels.specs.declared.visit.Visit.{Visit}
 use Rattle.term_core.specs.declared.step.Step.{Step}
 use Rattle.tree_coverage.specs.Findings.{Findings, findings_among}
@@ -21,6 +22,10 @@ pub record IsLevel {S : Type 0} (Agrees : S → Program → History → Type 0) 
   pub stand : StandForAll a k visited
   pub found : findings ≡ findings_among flags a visited
 
+-- the level of the schedule without steps, where this was kept of the world before anything happened
+abbrev pub Begins : {S : Type 0} → (S → Program → History → Type 0) → S → List (Visit S) → Type 0
+Begins Agrees first level = (a : Program) → Agrees first a [] → AreAt Agrees a 0 level × IsCovered Agrees a level [] []
+
 -- a level is followed by the next one
 abbrev pub GoesOn : {S : Type 0} → (S → Program → History → Type 0) → Flags → List (Visit S) → List (Visit S) → Findings → Findings → Type 0
 GoesOn Agrees flags level next before after = (a : Program) (k : ℕ) → IsLevel Agrees flags a k level before → IsLevel Agrees flags a (k + 1) next after
@@ -35,5 +40,9 @@ GoesFurther Agrees level = (a : Program) (k : ℕ) → AreAt Agrees a k level �
 
 -- at how many states of the level a step is enabled: at none, or else some schedule is longer
 abbrev pub TellsOpen : {S : Type 0} → (S → Program → History → Type 0) → List (Visit S) → ℕ → Type 0
-TellsOpen Agrees level 0 = IsLast Agrees level
+TellsOpen Agrees level zero = IsLast Agrees level
 TellsOpen Agrees level (suc n) = GoesFurther Agrees level
+
+-- where this is the last level, and this is found with it, the search has this result
+abbrev pub ComesTo : {S : Type 0} → (S → Program → History → Type 0) → Flags → (depth limit : ℕ) → List (Visit S) → Findings → Searched → Type 0
+ComesTo Agrees flags depth limit level findings searched = (a : Program) → IsLevel Agrees flags a depth level findings → IsSearched flags a depth limit searched

@@ -1,9 +1,9 @@
 // The levels, one after the other.
-ghost use Rattle.std.specs.Prelude.{◌≡◌, ◌≤◌, [], IfOk, map};
+ghost use Rattle.std.specs.Prelude.{◌≡◌, ◌≤◌, IfOk, map};
 ghost use Rattle.core_tree.specs.Syntax.{ModuleTree};
 ghost use Rattle.search_levels.specs.Arrivals.{of_module};
 ghost use Rattle.search_levels.specs.Searched.{IsSearchFrom};
-ghost use Rattle.search_levels.specs.Searching.{TellsOpen};
+ghost use Rattle.search_levels.specs.Searching.{Begins, ComesTo, TellsOpen};
 ghost use Rattle.world_identities.specs.Identities.{flags_in, identity_in};
 
 use crate::expanding::{next_level, note};
@@ -23,7 +23,7 @@ pub struct Bounds {
     pub flags: Flags,
     /// How many steps a schedule may have.
     pub depth: u64,
-    /// How many states may be found, at least one.
+    /// How many states may be found.
     pub states: u64,
 }
 
@@ -36,25 +36,37 @@ pub struct Searched {
     pub whole_to: u64,
 }
 
-// The level of the schedule without steps. `AllocError` if there is no memory for it.
-fn first_level<S: State>(alloc: Global, first: S) -> Result<Level<S>, AllocError> {
+// The level of the schedule without steps. `NodeLimit` where no state may be found, `Memory` where there is no memory for
+// it.
+fn first_level<S: State>(alloc: Global, first: S, left: &mut u64) -> Result<Level<S>, Cause>
+    ensures begins { IfOk result (λ level. (m : ModuleTree) → Begins (of_module S.agrees m) first level.visits.items) }
+    ensures fewer { left.new ≤ left.old }
+{
     let mut level = Level::new(alloc);
-    let digest = first.digest();
-    level.push(Visit { path: Path::Start, state: first }, digest)?;
+    let path = Path::Start;
+    level.put(Visit { path, state: first }, left)?;
     Ok(level)
 }
 
 // At how many states of a level a step is enabled. `AllocError` if there is no memory to decide it.
 fn count_open<S: State>(alloc: Global, level: &Level<S>) -> Result<u64, AllocError>
-    ensures { IfOk result (λ open. (m : ModuleTree) → TellsOpen (of_module S.agrees m) level.now.visits.items open) }
+    ensures { IfOk result (λ count. (m : ModuleTree) → TellsOpen (of_module S.agrees m) level.now.visits.items count) }
 {
-    let mut open = 0;
+    let mut count = 0;
     for visit in level.visits.as_slice() {
         if visit.state.goes_on(alloc)? {
-            open += 1;
+            count += 1;
         }
     }
-    Ok(open)
+    Ok(count)
+}
+
+// What a search comes to that stopped for this cause, where all schedules of at most so many steps were followed.
+fn stopped(cause: Cause, findings: Findings, whole_to: u64) -> Searched
+    ensures { result ≡ record { outcome = Outcome.Incomplete cause findings; whole_to = whole_to } }
+{
+    let outcome = Outcome::Incomplete(cause, findings);
+    Searched { outcome, whole_to }
 }
 
 // What a search comes to that followed all schedules to the depth, whose last level this is, and which might still find
@@ -67,12 +79,17 @@ fn whole<S: State>(
     findings: Findings,
 ) -> Searched
     requires { left ≤ bounds.states }
+    ensures { (m : ModuleTree) → ComesTo (of_module S.agrees m) (flags_in bounds.flags) bounds.depth bounds.states level.now.visits.items findings result }
 {
-    let outcome = match count_open(alloc, level) {
-        Ok(cut) => Outcome::Complete(findings, Extent { nodes: bounds.states - left, cut }),
-        Err(_) => Outcome::Incomplete(Cause::Memory, findings),
-    };
-    Searched { outcome, whole_to: bounds.depth }
+    let whole_to = bounds.depth;
+    match count_open(alloc, level) {
+        Ok(cut) => {
+            let nodes = bounds.states - left;
+            let outcome = Outcome::Complete(findings, Extent { nodes, cut });
+            Searched { outcome, whole_to }
+        }
+        Err(_) => stopped(Cause::Memory, findings, whole_to),
+    }
 }
 
 /// Follows all schedules of at most so many steps, level by level, from what is kept of the world before anything
@@ -81,12 +98,12 @@ fn whole<S: State>(
 ///
 /// It is `Complete` where all were followed: then each error and each refusal is found that one of them shows, with the
 /// least of all schedules that show it, and `cut` is 0 exactly where no schedule is longer. It is `Incomplete` for
-/// `NodeLimit` where more states were found than may be, and for `Memory` where memory ran out: then each finding is shown
-/// by its schedule, and what schedules of at most `whole_to` steps show is found.
+/// `NodeLimit` where there are more states than may be found, and for `Memory` where memory ran out: then each finding is
+/// shown by its schedule, and what schedules of at most `whole_to` steps show is found.
 ///
 /// # Errors
 ///
-/// `AllocError` where there was no memory for the first level.
+/// `AllocError` where there was no memory for what is shown before anything happens.
 pub fn search_levels<S: State, O: LevelObserver>(
     alloc: Global,
     bounds: Bounds,
@@ -94,22 +111,21 @@ pub fn search_levels<S: State, O: LevelObserver>(
     shown: &[Identity],
     observer: &O,
 ) -> Result<Searched, AllocError>
-    requires { 1 ≤ bounds.states }
-    ensures { IfOk result (λ searched. (m : ModuleTree) → IsSearchFrom S.agrees m bounds first.entry (map identity_in shown.now) searched) }
+    ensures { IfOk result (λ searched. (m : ModuleTree) → IsSearchFrom S.agrees m bounds first (map identity_in shown.now) searched) }
 {
     let mut findings = Findings::new(alloc);
     note(alloc, bounds.flags, shown, &Path::Start, &mut findings)?;
-    let mut level = first_level(alloc, first)?;
-    let mut left = bounds.states - 1;
+    let mut left = bounds.states;
+    let mut level = match first_level(alloc, first, &mut left) {
+        Ok(level) => level,
+        Err(cause) => return Ok(stopped(cause, findings, 0)),
+    };
     let mut steps = 0;
     while steps < bounds.depth && !level.visits.is_empty() {
         observer.level(steps);
         match next_level(alloc, bounds.flags, &level, &mut left, &mut findings, observer) {
             Ok(next) => level = next,
-            Err(cause) => {
-                let outcome = Outcome::Incomplete(cause, findings);
-                return Ok(Searched { outcome, whole_to: steps });
-            }
+            Err(cause) => return Ok(stopped(cause, findings, steps)),
         }
         steps += 1;
     }

@@ -1,0 +1,89 @@
+-- What is noted, also where it stops before its end.
+use Rattle.std.proofs.Common.{◌≡◌, ◌⊎◌, inl, inr, ℕ, ◌+◌, ◌≤◌, ◌==◌, true, List, [], ◌∷◌, ◌++◌, length, map, Some, refl, sym, ap, subst, ◌∙◌, arith}
+use Rattle.std.proofs.lemmas.Bool.{eqb-true}
+use Rattle.std.proofs.lemmas.List.{append-nil}
+use Rattle.core_tree.specs.Syntax.{ModuleTree}
+use Rattle.search_levels.specs.Arrivals.{AreArrivals, IsArrival, of_module}
+use Rattle.search_levels.specs.Expanding.{NotesArrival, NotesArrivals, NotesLevel, NotesSome}
+use Rattle.search_levels.specs.Levels.{AreAt, IsAt}
+use Rattle.search_levels.specs.Paths.{schedule_in}
+use Rattle.search_levels.specs.declared.arrival.Arrival.{Arrival}
+use Rattle.search_levels.specs.declared.path.Path.{Path}
+use Rattle.search_levels.specs.declared.visit.Visit.{Visit}
+use Rattle.search_levels.proofs.Arriving.{assoc, longer, run_more}
+use Rattle.search_levels.proofs.Placed.{all_have}
+use Rattle.term_core.specs.declared.step.Step.{Step}
+use Rattle.tree_coverage.specs.Findings.{Findings, findings_among}
+use Rattle.tree_coverage.proofs.Lists.{among_append}
+use Rattle.tree_findings.specs.Laws.{AddsSchedule}
+use Rattle.tree_schedules.specs.StandIns.{AreRuns}
+use Rattle.world_identities.specs.Identities.{identity_in}
+use Rattle.world_model.specs.Asking.{program_of}
+use Rattle.world_model.specs.Events.{History}
+use Rattle.world_model.specs.Names.{IsAmong}
+use Rattle.world_model.specs.Requests.{Program}
+use Rattle.world_model.specs.Run.{run}
+use Rattle.world_model.specs.Shown.{Flags, Identity, shown}
+
+-- a list of no elements
+pub no_element : {X : Type 0} (xs : List X) → length xs ≡ 0 → xs ≡ []
+no_element [] none = refl
+no_element (x ∷ xs) none = absurd (omega (arith, none))
+
+pub is_empty : {X : Type 0} (xs : List X) (n : ℕ) → n ≡ length xs → true ≡ (n == 0) → xs ≡ []
+is_empty xs n len none = no_element xs (sym len ∙ eqb-true n 0 (sym none))
+
+-- two lists of runs are one
+pub both_run : (a : Program) (n : ℕ) (xs ys : List (List Step)) → AreRuns a n xs → AreRuns a n ys → AreRuns a n (xs ++ ys)
+both_run a n xs ys p q s there = elim (among_append xs ys s there) [ inl t ↦ p s t | inr t ↦ q s t ]
+
+-- runs of at most so many steps have at most more steps
+pub also_longer : (a : Program) (k n : ℕ) (xs : List (List Step)) → k ≤ n → AreRuns a k xs → AreRuns a n xs
+also_longer a k n xs le p s there = let r = p s there in let short : length s ≤ k = r.0 in (omega (arith, le, short), r.1, r.2)
+
+module _ (flags : Flags) (a : Program) (n : ℕ) where
+  pub notes_none : (before after : Findings) → after ≡ before → NotesSome flags a n before after
+  notes_none before after same visited found = ([], λ s there. absurd there, same ∙ found ∙ ap (findings_among flags a) (sym (append-nil visited)))
+
+  pub notes_one : (s : List Step) (h : History) (is : List Identity) (before after : Findings) → length s ≤ n → run a s ≡ Some h → is ≡ shown a h → AddsSchedule flags s is before after → NotesSome flags a n before after
+  notes_one s h is before after short runs shows adds visited found = (s ∷ [], one, adds a visited h runs shows found)
+    where
+      one : AreRuns a n (s ∷ [])
+      one t (inl e) = subst (λ r. (length r ≤ n) × (g : History) × (run a r ≡ Some g)) e (short, h, runs)
+      one t (inr never) = absurd never
+
+  pub notes_both : (f g h : Findings) → NotesSome flags a n f g → NotesSome flags a n g h → NotesSome flags a n f h
+  notes_both f g h first second visited found =
+      let p = first visited found in
+      let q = second (visited ++ p.0) p.2 in
+      (p.0 ++ q.0, both_run a n p.0 q.0 p.1 q.1, q.2 ∙ ap (findings_among flags a) (assoc visited p.0 q.0))
+
+-- one of the arrivals after each history that a state agrees with
+pub arrival_is : {S : Type 0} (agrees : S → ModuleTree → History → Type 0) (m : ModuleTree) (from : Visit S) (rs : List (Arrival S)) (r : Arrival S) → ((h : History) → agrees from.state m h → AreArrivals (of_module agrees m) (program_of m) h rs) → IsAmong r rs
+    → (a : Program) (h : History) → of_module agrees m from.state a h → IsArrival (of_module agrees m) a h r
+arrival_is agrees m from rs r are there a h p = subst (λ b. IsArrival (of_module agrees m) b h r) p.0 (all_have (IsArrival (of_module agrees m) (program_of m) h) rs r (are h p.1).each there)
+
+module _ {S : Type 0} (Agrees : S → Program → History → Type 0) (flags : Flags) where
+  -- ---- after one step
+
+  pub one_arrival : (schedule : List Step) (r : Arrival S) (s : List Step) (before after : Findings) → s ≡ schedule ++ r.step ∷ [] → AddsSchedule flags s (map identity_in r.shown.items) before after → NotesArrival Agrees flags schedule r before after
+  one_arrival schedule r s before after is adds a k h len runs arr =
+      let n : length s ≡ k + 1 = ap length is ∙ longer schedule r.step ∙ ap (λ m. m + 1) len in
+      notes_one flags a (k + 1) s (arr.event ∷ h) (map identity_in r.shown.items) before after (omega (arith, n))
+      (ap (run a) is ∙ run_more a (Some []) schedule r.step h arr.event runs arr.is_next) arr.shown adds
+
+  -- ---- after the steps from a state
+
+  pub arrivals_more : (from : Visit S) (r : Arrival S) (begun before after : Findings) → ((a : Program) (h : History) → Agrees from.state a h → IsArrival Agrees a h r) → NotesArrivals Agrees flags from begun before → NotesArrival Agrees flags (schedule_in from.path) r before after → NotesArrivals Agrees flags from begun after
+  arrivals_more from r begun before after is so_far more a k h len runs agrees =
+      notes_both flags a (k + 1) begun before after (so_far a k h len runs agrees) (more a k h len runs (is a h agrees))
+
+  -- ---- after those from the states of a level
+
+  pub level_none : (level : List (Visit S)) (begun : Findings) → NotesLevel Agrees flags level begun begun
+  level_none level begun a k at = notes_none flags a (k + 1) begun begun refl
+
+  pub level_more : (level : List (Visit S)) (x : Visit S) (begun before after : Findings) → IsAmong x level → NotesLevel Agrees flags level begun before → NotesArrivals Agrees flags x before after → NotesLevel Agrees flags level begun after
+  level_more level x begun before after there so_far more a k at =
+      let is : IsAt Agrees a k x = at x there in
+      notes_both flags a (k + 1) begun before after (so_far a k at) (more a k is.1 is.0 is.2 is.3)

@@ -1,0 +1,18 @@
+use Rattle.std.proofs.Common.{◌≡◌, ◌-◌, ap, arith, sym, subst}
+use Rattle.search_levels.specs.Arrivals.{of_module}
+use Rattle.search_levels.specs.Searched.{IsSearched}
+use Rattle.search_levels.proofs.Ending.{complete, stopped_at_end}
+use Rattle.tree_findings.specs.declared.outcome.Cause.TheVariants.{Memory}
+use Rattle.world_identities.specs.Identities.{flags_in}
+use Rattle.search_levels.proofs.search.whole.Goals as goal
+
+pub returns-in-Ok : goal.returns-in-Ok
+returns-in-Ok g c = λ m a reached.
+    complete (of_module g.S.State.agrees m) (flags_in c.args.bounds.flags) a c.args.bounds.depth c.args.bounds.states c.args.level.now.visits.items c.args.findings reached (record { nodes = c.args.bounds.states - c.args.left; cut = c.in-Ok.cut }) (c.in-Ok.ensures m) (omega arith)
+
+pub returns-in-Err : goal.returns-in-Err
+returns-in-Err g c = λ m a reached.
+    let flags = flags_in c.args.bounds.flags in
+    let depth = c.args.bounds.depth in
+    let limit = c.args.bounds.states in
+    rw c.stopped.ensures (stopped_at_end (of_module g.S.State.agrees m) flags a depth limit c.args.level.now.visits.items c.args.findings reached Memory)
