@@ -14,11 +14,13 @@ import re
 import subprocess
 import sys
 import tempfile
+import time
 from pathlib import Path
 
 HERE = Path(__file__).resolve().parent
 KEPT = HERE.parent / "erlang/kept"
 sys.path.insert(0, str(HERE.parent / "tools"))
+from explore import memory_of
 from programs import proved
 
 ROWS = {"inserts": 20, "messages": 28, "mixed": 30}
@@ -31,11 +33,15 @@ def run_of(program, module, depth, words):
     """The seconds of a processor of one run, its memory in megabytes, and how many states or nodes; none where it stopped."""
     with open(module, "rb") as text, tempfile.TemporaryFile() as out:
         run = subprocess.Popen([program, "explore", "--depth", str(depth), *words], stdin=text, stdout=out)
-        _, _, used = os.wait4(run.pid, 0)
+        memory, ended = 0, 0
+        while not ended:
+            memory = max(memory, memory_of(run.pid))
+            time.sleep(0.005)
+            ended, _, used = os.wait4(run.pid, os.WNOHANG)
         out.seek(0)
         first = out.readline().decode()
     found = re.match(r"depth \d+, (?:states|nodes) (\d+), complete", first)
-    return used.ru_utime + used.ru_stime, used.ru_maxrss / 1024, int(found[1]) if found else None
+    return used.ru_utime + used.ru_stime, memory / 1024, int(found[1]) if found else None
 
 
 def both(program, module, depth, runs):
