@@ -1,8 +1,8 @@
 -- A state is put into a level, or its schedule is kept where that is less.
 use Rattle.std.proofs.Common.{◌≡◌, inl, inr, ℕ, ◌<◌, List, [], ◌∷◌, ◌++◌, get_or, slice_set, length, refl, sym, ap, subst, ◌∙◌}
 use Rattle.search_levels.specs.Arrivals.{IsSame}
-use Rattle.search_levels.specs.Levels.{AreAt, IsAt, IsCovered, KeepsLesser, PutsAt}
-use Rattle.search_levels.specs.Paths.{schedule_in}
+use Rattle.search_levels.specs.inside.Levels.{AreAt, IsAt, IsCovered, KeepsLesser, PutsAt}
+use Rattle.search_levels.specs.inside.Paths.{schedule_in}
 use Rattle.search_levels.specs.declared.visit.Visit.{Visit}
 use Rattle.search_levels.proofs.Orders.{up_to_chain}
 use Rattle.search_levels.proofs.Placed.{from_set, got_there, set_there, to_set}

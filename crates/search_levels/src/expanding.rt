@@ -2,9 +2,9 @@
 ghost use Rattle.std.specs.Prelude.{◌≡◌, ◌≤◌, IfOk, OnErr, OnOk, map};
 ghost use Rattle.core_tree.specs.Syntax.{ModuleTree};
 ghost use Rattle.search_levels.specs.Arrivals.{of_module};
-ghost use Rattle.search_levels.specs.Expanding.{Arrives, Expands, NotesArrival, NotesArrivals, NotesLevel};
-ghost use Rattle.search_levels.specs.Paths.{schedule_in};
-ghost use Rattle.search_levels.specs.Searching.{GoesOn};
+ghost use Rattle.search_levels.specs.inside.Expanding.{Arrives, Expands, NotesArrival, NotesArrivals, NotesLevel};
+ghost use Rattle.search_levels.specs.inside.Paths.{schedule_in};
+ghost use Rattle.search_levels.specs.inside.Searching.{GoesOn};
 ghost use Rattle.tree_findings.specs.Laws.{AddsSchedule};
 ghost use Rattle.world_identities.specs.Identities.{flags_in, identity_in};
 

@@ -2,7 +2,7 @@
 ghost use Rattle.std.specs.Prelude.{◌≡◌, ◌<◌, ◌≤◌, ◌∷◌, ◌++◌, [], IfSome, OnOk, get_or, length};
 ghost use Rattle.core_tree.specs.Syntax.{ModuleTree};
 ghost use Rattle.search_levels.specs.Arrivals.{IsSameOf, of_module};
-ghost use Rattle.search_levels.specs.Levels.{Puts};
+ghost use Rattle.search_levels.specs.inside.Levels.{Puts};
 ghost use Rattle.search_levels.specs.declared.visit.Visit.{Visit as VisitOf};
 
 use crate::index::Index;

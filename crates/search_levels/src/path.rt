@@ -1,6 +1,6 @@
 // Schedules that share their beginnings.
 ghost use Rattle.std.specs.Prelude.{◌≡◌, ◌∷◌, ◌++◌, [], IfOk, MatchOption};
-ghost use Rattle.search_levels.specs.Paths.{latest_first, schedule_in};
+ghost use Rattle.search_levels.specs.inside.Paths.{latest_first, schedule_in};
 ghost use Rattle.term_core.specs.StepOrder.{order_of_schedules};
 
 use std::alloc::{AllocError, Global};
@@ -36,7 +36,7 @@ impl Model for Link {
 
     ghost coded = { coded_list steps.the_row.coded };
 
-    ghost use Rattle.search_levels.specs.Paths.{latest_first};
+    ghost use Rattle.search_levels.specs.inside.Paths.{latest_first};
 
     ghost view = { λ l. l.step ∷ latest_first l.before };
 

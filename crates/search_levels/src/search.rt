@@ -3,7 +3,7 @@ ghost use Rattle.std.specs.Prelude.{◌≡◌, ◌≤◌, IfOk, map};
 ghost use Rattle.core_tree.specs.Syntax.{ModuleTree};
 ghost use Rattle.search_levels.specs.Arrivals.{of_module};
 ghost use Rattle.search_levels.specs.Searched.{IsSearchFrom};
-ghost use Rattle.search_levels.specs.Searching.{Begins, ComesTo, TellsOpen};
+ghost use Rattle.search_levels.specs.inside.Searching.{Begins, ComesTo, TellsOpen};
 ghost use Rattle.world_identities.specs.Identities.{flags_in, identity_in};
 
 use crate::expanding::{next_level, note};

@@ -1,7 +1,7 @@
 // A state of a level.
 ghost use Rattle.std.specs.Prelude.{◌≡◌};
-ghost use Rattle.search_levels.specs.Levels.{KeepsLesser};
-ghost use Rattle.search_levels.specs.Paths.{schedule_in};
+ghost use Rattle.search_levels.specs.inside.Levels.{KeepsLesser};
+ghost use Rattle.search_levels.specs.inside.Paths.{schedule_in};
 
 use crate::path::Path;
 

@@ -1,7 +1,7 @@
 use Rattle.std.proofs.Common.{◌≡◌, map, subst}
 use Rattle.std.proofs.lemmas.Result.{on_ok_weaker}
 use Rattle.search_levels.specs.Arrivals.{of_module}
-use Rattle.search_levels.specs.Paths.{schedule_in}
+use Rattle.search_levels.specs.inside.Paths.{schedule_in}
 use Rattle.search_levels.proofs.Arriving.{arrives_at}
 use Rattle.search_levels.proofs.Noting.{one_arrival}
 use Rattle.tree_findings.specs.Laws.{AddsSchedule}

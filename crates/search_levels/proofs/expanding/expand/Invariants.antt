@@ -1,8 +1,8 @@
 use Rattle.core_tree.specs.Syntax.{ModuleTree}
 use Rattle.std.proofs.Common.{◌≤◌}
 use Rattle.search_levels.specs.Arrivals.{of_module}
-use Rattle.search_levels.specs.Expanding.{NotesArrivals}
-use Rattle.search_levels.specs.Paths.{schedule_in}
+use Rattle.search_levels.specs.inside.Expanding.{NotesArrivals}
+use Rattle.search_levels.specs.inside.Paths.{schedule_in}
 use Rattle.search_levels.proofs.Arriving.{SoFar}
 use Rattle.world_identities.specs.Identities.{flags_in}
 use Rattle.search_levels.proofs.expanding.expand.Given as goal

@@ -1,7 +1,7 @@
 use Rattle.std.proofs.Common.{◌≤◌, take}
 use Rattle.core_tree.specs.Syntax.{ModuleTree}
 use Rattle.search_levels.specs.Arrivals.{of_module}
-use Rattle.search_levels.specs.Expanding.{NotesLevel}
+use Rattle.search_levels.specs.inside.Expanding.{NotesLevel}
 use Rattle.search_levels.proofs.Going.{LevelSoFar}
 use Rattle.world_identities.specs.Identities.{flags_in}
 use Rattle.search_levels.proofs.expanding.next_level.Given as goal

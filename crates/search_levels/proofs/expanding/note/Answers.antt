@@ -1,6 +1,6 @@
 use Rattle.std.proofs.Common.{◌≡◌, ◌∙◌, [], map, refl, sym, ap, subst, arith}
 use Rattle.world_identities.specs.Identities.{identity_in, flags_in}
-use Rattle.search_levels.specs.Paths.{schedule_in}
+use Rattle.search_levels.specs.inside.Paths.{schedule_in}
 use Rattle.tree_findings.specs.Laws.{AddsSchedule}
 use Rattle.tree_findings.proofs.Schedules.{adds_schedule}
 use Rattle.search_levels.proofs.Noting.{no_element}

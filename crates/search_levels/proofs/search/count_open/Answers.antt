@@ -1,7 +1,7 @@
 use Rattle.std.proofs.Common.{true, false, ◌≡◌, ◌∙◌, ◌∷◌, ◌++◌, ◌+◌, ◌≤◌, [], ap, arith, length, sym, subst, take, take_all}
 use Rattle.core_tree.specs.Syntax.{ModuleTree}
 use Rattle.search_levels.specs.Arrivals.{has_step, of_module}
-use Rattle.search_levels.specs.Searching.{TellsOpen}
+use Rattle.search_levels.specs.inside.Searching.{TellsOpen}
 use Rattle.search_levels.proofs.Ending.{no_more, one_more}
 use Rattle.search_levels.proofs.Going.{taken}
 use Rattle.search_levels.proofs.search.count_open.Goals as goal

@@ -1,5 +1,5 @@
 use Rattle.std.proofs.Common.{◌≤◌, take}
-use Rattle.search_levels.specs.Searching.{TellsOpen}
+use Rattle.search_levels.specs.inside.Searching.{TellsOpen}
 use Rattle.core_tree.specs.Syntax.{ModuleTree}
 use Rattle.search_levels.specs.Arrivals.{of_module}
 use Rattle.search_levels.proofs.search.count_open.Given as goal

@@ -2,7 +2,7 @@ use Rattle.std.proofs.Common.{◌≡◌, ◌∙◌, ◌∷◌, ap, reverse, sym}
 use Rattle.std.specs.Ordering.{ordering_then}
 use Rattle.term_core.specs.StepOrder.{order_of_schedules}
 use Rattle.search_levels.proofs.Compared.{passed, then_nothing}
-use Rattle.search_levels.specs.Paths.{latest_first, schedule_in}
+use Rattle.search_levels.specs.inside.Paths.{latest_first, schedule_in}
 use Rattle.search_levels.proofs.path.Path.compare.Goals as goal
 
 pub loop-order-init : goal.loop-order-init

@@ -1,6 +1,6 @@
 use Rattle.std.proofs.Common.{◌≡◌, length}
 use Rattle.std.specs.Ordering.{ordering_then}
-use Rattle.search_levels.specs.Paths.{latest_first, schedule_in}
+use Rattle.search_levels.specs.inside.Paths.{latest_first, schedule_in}
 use Rattle.term_core.specs.StepOrder.{order_of_schedules}
 use Rattle.search_levels.proofs.path.Path.compare.Given as goal
 

@@ -1,5 +1,5 @@
 use Rattle.std.proofs.Common.{◌≡◌, ◌++◌, length}
-use Rattle.search_levels.specs.Paths.{latest_first}
+use Rattle.search_levels.specs.inside.Paths.{latest_first}
 use Rattle.search_levels.proofs.path.Path.steps.Given as goal
 
 -- the steps so far, with those that are left, are all

@@ -1,6 +1,6 @@
 -- Levels: what is kept of the worlds to which schedules of one length lead.
 use Rattle.std.specs.Prelude.{◌≡◌, ◌⊎◌, ℕ, List, Some, length}
-use Rattle.search_levels.specs.Paths.{schedule_in}
+use Rattle.search_levels.specs.inside.Paths.{schedule_in}
 use Rattle.search_levels.specs.declared.visit.Visit.{Visit}
 use Rattle.term_core.specs.declared.step.Step.{Step}
 use Rattle.tree_schedules.specs.StandIns.{IsUpTo}

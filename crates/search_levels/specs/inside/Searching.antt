@@ -2,7 +2,7 @@
 use Rattle.std.specs.Prelude.{◌≡◌, ◌+◌, ℕ, zero, suc, false, List, [], Some, length}
 use Rattle.search_levels.specs.Arrivals.{has_step}
 use Rattle.search_levels.specs.Searched.{IsLonger, IsSearched}
-use Rattle.search_levels.specs.Levels.{AreAt, IsCovered}
+use Rattle.search_levels.specs.inside.Levels.{AreAt, IsCovered}
 use Rattle.search_levels.specs.declared.search.Searched.{Searched}
 use Rattle.search_levels.specs.declared.visit.Visit.{Visit}
 use Rattle.term_core.specs.declared.step.Step.{Step}

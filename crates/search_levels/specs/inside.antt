@@ -1,0 +1,4 @@
+pub mod Paths
+pub mod Levels
+pub mod Expanding
+pub mod Searching
