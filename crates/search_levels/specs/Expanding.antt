@@ -1,7 +1,7 @@
 -- What becomes of a level and of what is found where a state is expanded.
 use Rattle.std.specs.Prelude.{◌≡◌, ◌+◌, ℕ, List, [], ◌∷◌, ◌++◌, Some, length, map}
 use Rattle.search_levels.specs.Arrivals.{IsArrival}
-use Rattle.search_levels.specs.Levels.{AreAt, IsAt, IsCovered, Keeps}
+use Rattle.search_levels.specs.Levels.{AreAt, IsCovered, Keeps}
 use Rattle.search_levels.specs.Paths.{schedule_in}
 use Rattle.search_levels.specs.declared.arrival.Arrival.{Arrival}
 use Rattle.search_levels.specs.declared.visit.Visit.{Visit}
