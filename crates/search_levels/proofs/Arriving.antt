@@ -1,17 +1,16 @@
 -- Steps from a state.
-use Rattle.std.proofs.Common.{◌≡◌, ◌⊎◌, inl, inr, ℕ, zero, suc, ◌+◌, List, [], ◌∷◌, ◌++◌, length, map, Option, Some, None, is_some, refl, sym, ap, subst, ◌∙◌, arith}
+use Rattle.std.proofs.Common.{◌≡◌, inl, inr, ℕ, ◌+◌, List, [], ◌∷◌, ◌++◌, length, map, Option, Some, None, refl, sym, ap, subst, ◌∙◌, arith}
 use Rattle.std.proofs.lemmas.List.{append-nil}
 use Rattle.std.specs.List.{AllByRecursion}
 use Rattle.search_levels.specs.Arrivals.{AreArrivals, IsArrival}
-use Rattle.search_levels.specs.inside.Expanding.{Arrives, ArrivesAt, Expands, ExpandsAt, on_by}
-use Rattle.search_levels.specs.inside.Levels.{AreAt, IsAt, IsCovered, Keeps, Puts, PutsAt}
-use Rattle.search_levels.specs.inside.Paths.{schedule_in}
+use Rattle.search_levels.specs.Expanding.{Arrives, ArrivesAt, Expands, on_by}
+use Rattle.search_levels.specs.Levels.{AreAt, IsAt, IsCovered, Keeps, Puts, PutsAt}
+use Rattle.search_levels.specs.Paths.{schedule_in}
 use Rattle.search_levels.specs.declared.arrival.Arrival.{Arrival}
 use Rattle.search_levels.specs.declared.path.Path.{Path}
 use Rattle.search_levels.specs.declared.visit.Visit.{Visit}
 use Rattle.search_levels.proofs.Placed.{all_front, all_have, all_last}
 use Rattle.tree_coverage.specs.Findings.{Findings, findings_among}
-use Rattle.tree_coverage.specs.Explored.{explored, choice}
 use Rattle.tree_coverage.proofs.Instance.{choice_laws, take}
 use Rattle.tree_coverage.proofs.Lists.{Source, among_append, from_theory, source}
 use Rattle.tree_schedules.specs.StandIns.{IsUpTo}

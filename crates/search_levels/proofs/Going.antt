@@ -1,10 +1,10 @@
 -- One level after another.
-use Rattle.std.proofs.Common.{◌≡◌, ◌⊎◌, inl, inr, ℕ, zero, suc, ◌+◌, ◌≤◌, ◌<◌, List, [], ◌∷◌, ◌++◌, length, get_or, take, map, Option, Some, None, is_some, true, refl, sym, ap, subst, ◌∙◌, arith}
+use Rattle.std.proofs.Common.{◌≡◌, ◌⊎◌, inl, inr, ℕ, zero, suc, ◌+◌, ◌≤◌, ◌<◌, List, [], ◌∷◌, ◌++◌, length, get_or, take, Option, Some, None, is_some, true, refl, sym, ap, subst, ◌∙◌, arith}
 use Rattle.std.proofs.lemmas.List.{append-nil, take_more}
-use Rattle.search_levels.specs.inside.Expanding.{Expands, ExpandsAt, on_by}
-use Rattle.search_levels.specs.inside.Levels.{AreAt, IsAt, IsCovered, Keeps, Puts, PutsAt}
-use Rattle.search_levels.specs.inside.Paths.{schedule_in}
-use Rattle.search_levels.specs.inside.Searching.{Begins, GoesOn, IsLevel}
+use Rattle.search_levels.specs.Expanding.{Expands, ExpandsAt, on_by}
+use Rattle.search_levels.specs.Levels.{AreAt, IsAt, IsCovered, Puts, PutsAt}
+use Rattle.search_levels.specs.Paths.{schedule_in}
+use Rattle.search_levels.specs.Searching.{Begins, GoesOn, IsLevel}
 use Rattle.search_levels.specs.declared.visit.Visit.{Visit}
 use Rattle.search_levels.proofs.Arriving.{LastStep, assoc, last_step, listed, longer, run_more}
 use Rattle.search_levels.proofs.Orders.{up_to_itself, up_to_more}
@@ -15,12 +15,11 @@ use Rattle.tree_coverage.proofs.Lists.{Source, among_append, among_left, among_m
 use Rattle.tree_schedules.proofs.Least.{stand_ins}
 use Rattle.tree_schedules.specs.Schedules.{findings_of_all}
 use Rattle.tree_schedules.specs.StandIns.{HasStandIn, IsUpTo, StandForAll}
-use Rattle.tree_findings.specs.Laws.{AddsSchedule}
 use Rattle.world_model.specs.Events.{Event, History}
 use Rattle.world_model.specs.Names.{IsAmong}
 use Rattle.world_model.specs.Requests.{Program}
-use Rattle.world_model.specs.Run.{enabled_steps, is_enabled, next_event, possible_steps, run, run_from}
-use Rattle.world_model.specs.Shown.{Flags, Identity, shown}
+use Rattle.world_model.specs.Run.{enabled_steps, is_enabled, next_event, possible_steps, run}
+use Rattle.world_model.specs.Shown.{Flags, shown}
 
 -- the element at this place
 pub element : {X : Type 0} (xs : List X) (i : ℕ) (x : X) → i < length xs → x ≡ get_or xs i x → IsAmong x xs

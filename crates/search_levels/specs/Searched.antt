@@ -25,7 +25,7 @@ IsLongest a n = (s : List Step) (h : History) → run a s ≡ Some h → length 
 abbrev pub IsLonger : Program → ℕ → Type 0
 IsLonger a n = (s : List Step) × (n < length s) × (h : History) × (run a s ≡ Some h)
 
--- the depth cuts off none, or some
+-- where none is cut off no schedule is longer, and else one is
 abbrev pub TellsReach : Program → ℕ → ℕ → Type 0
 TellsReach a n zero = IsLongest a n
 TellsReach a n (suc cut) = IsLonger a n
@@ -41,12 +41,13 @@ pub record FindsTo (flags : Flags) (a : Program) (n : ℕ) (findings : Findings)
   pub errors : (i : Identity) → is_error flags i ≡ true → IsShown a n i → IsFound i findings.errors
   pub refusals : (i : Identity) → is_refusal i ≡ true → IsShown a n i → IsFound i findings.refusals
 
--- complete, it found what all schedules to the depth show, each identity with the least schedule of all that show it, and tells whether one is longer; the limit allows its states. Stopped before its end, it found what some of these schedules show, and all that those of at most so many steps do
+-- complete: what all schedules to the depth show, each identity with the least schedule that shows it, whether one is longer, and no more states than the limit. Stopped: what some of these schedules show, and all that those of at most so many steps show
 abbrev pub IsOutcomeOfAll : Flags → Program → (depth limit whole_to : ℕ) → Outcome → Type 0
 IsOutcomeOfAll flags a depth limit whole_to (Complete findings extent) =
     (findings ≡ findings_of_all flags a depth) × TellsReach a depth extent.cut × (extent.nodes ≤ limit) × (whole_to ≡ depth)
 IsOutcomeOfAll flags a depth limit whole_to (Incomplete cause findings) = AreOfSome flags a depth findings × FindsTo flags a whole_to findings × (whole_to ≤ depth)
 
+-- so it is with what a search results in
 abbrev pub IsSearched : Flags → Program → (depth limit : ℕ) → Searched → Type 0
 IsSearched flags a depth limit searched = IsOutcomeOfAll flags a depth limit searched.whole_to searched.outcome
 

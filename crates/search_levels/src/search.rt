@@ -123,7 +123,14 @@ pub fn search_levels<S: State, O: LevelObserver>(
     let mut steps = 0;
     while steps < bounds.depth && !level.visits.is_empty() {
         observer.level(steps);
-        match next_level(alloc, bounds.flags, &level, &mut left, &mut findings, observer) {
+        match next_level(
+            alloc,
+            bounds.flags,
+            &level,
+            &mut left,
+            &mut findings,
+            observer,
+        ) {
             Ok(next) => level = next,
             Err(cause) => return Ok(stopped(cause, findings, steps)),
         }

@@ -1,4 +1,4 @@
-use Rattle.std.proofs.Common.{◌≡◌, map, subst}
+use Rattle.std.proofs.Common.{map, subst}
 use Rattle.std.proofs.lemmas.Result.{on_ok_weaker}
 use Rattle.search_levels.specs.Arrivals.{of_module}
 use Rattle.search_levels.specs.inside.Paths.{schedule_in}

@@ -1,6 +1,5 @@
-use Rattle.std.proofs.Common.{◌≡◌, ◌-◌, ap, arith, sym, subst}
+use Rattle.std.proofs.Common.{◌-◌, arith}
 use Rattle.search_levels.specs.Arrivals.{of_module}
-use Rattle.search_levels.specs.Searched.{IsSearched}
 use Rattle.search_levels.proofs.Ending.{complete, stopped_at_end}
 use Rattle.tree_findings.specs.declared.outcome.Cause.TheVariants.{Memory}
 use Rattle.world_identities.specs.Identities.{flags_in}
