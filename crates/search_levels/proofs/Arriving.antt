@@ -3,9 +3,9 @@ use Rattle.std.proofs.Common.{◌≡◌, inl, inr, ℕ, ◌+◌, List, [], ◌�
 use Rattle.std.proofs.lemmas.List.{append-nil}
 use Rattle.std.specs.List.{AllByRecursion}
 use Rattle.search_levels.specs.Arrivals.{AreArrivals, IsArrival}
-use Rattle.search_levels.specs.Expanding.{Arrives, ArrivesAt, Expands, on_by}
-use Rattle.search_levels.specs.Levels.{AreAt, IsAt, IsCovered, Keeps, Puts, PutsAt}
-use Rattle.search_levels.specs.Paths.{schedule_in}
+use Rattle.search_levels.specs.inside.Expanding.{Arrives, ArrivesAt, Expands, on_by}
+use Rattle.search_levels.specs.inside.Levels.{AreAt, IsAt, IsCovered, Keeps, Puts, PutsAt}
+use Rattle.search_levels.specs.inside.Paths.{schedule_in}
 use Rattle.search_levels.specs.declared.arrival.Arrival.{Arrival}
 use Rattle.search_levels.specs.declared.path.Path.{Path}
 use Rattle.search_levels.specs.declared.visit.Visit.{Visit}

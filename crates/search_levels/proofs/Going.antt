@@ -1,10 +1,10 @@
 -- One level after another.
 use Rattle.std.proofs.Common.{◌≡◌, ◌⊎◌, inl, inr, ℕ, zero, suc, ◌+◌, ◌≤◌, ◌<◌, List, [], ◌∷◌, ◌++◌, length, get_or, take, Option, Some, None, is_some, true, refl, sym, ap, subst, ◌∙◌, arith}
 use Rattle.std.proofs.lemmas.List.{append-nil, take_more}
-use Rattle.search_levels.specs.Expanding.{Expands, ExpandsAt, on_by}
-use Rattle.search_levels.specs.Levels.{AreAt, IsAt, IsCovered, Puts, PutsAt}
-use Rattle.search_levels.specs.Paths.{schedule_in}
-use Rattle.search_levels.specs.Searching.{Begins, GoesOn, IsLevel}
+use Rattle.search_levels.specs.inside.Expanding.{Expands, ExpandsAt, on_by}
+use Rattle.search_levels.specs.inside.Levels.{AreAt, IsAt, IsCovered, Puts, PutsAt}
+use Rattle.search_levels.specs.inside.Paths.{schedule_in}
+use Rattle.search_levels.specs.inside.Searching.{Begins, GoesOn, IsLevel}
 use Rattle.search_levels.specs.declared.visit.Visit.{Visit}
 use Rattle.search_levels.proofs.Arriving.{LastStep, assoc, last_step, listed, longer, run_more}
 use Rattle.search_levels.proofs.Orders.{up_to_itself, up_to_more}

@@ -4,9 +4,9 @@ use Rattle.std.proofs.lemmas.Bool.{eqb-true}
 use Rattle.std.proofs.lemmas.List.{append-nil}
 use Rattle.core_tree.specs.Syntax.{ModuleTree}
 use Rattle.search_levels.specs.Arrivals.{AreArrivals, IsArrival, of_module}
-use Rattle.search_levels.specs.Expanding.{NotesArrival, NotesArrivals, NotesLevel, NotesSome}
-use Rattle.search_levels.specs.Levels.{IsAt}
-use Rattle.search_levels.specs.Paths.{schedule_in}
+use Rattle.search_levels.specs.inside.Expanding.{NotesArrival, NotesArrivals, NotesLevel, NotesSome}
+use Rattle.search_levels.specs.inside.Levels.{IsAt}
+use Rattle.search_levels.specs.inside.Paths.{schedule_in}
 use Rattle.search_levels.specs.declared.arrival.Arrival.{Arrival}
 use Rattle.search_levels.specs.declared.visit.Visit.{Visit}
 use Rattle.search_levels.proofs.Arriving.{assoc, longer, run_more}

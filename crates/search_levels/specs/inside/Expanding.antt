@@ -1,8 +1,8 @@
 -- What becomes of a level and of what is found where a state is expanded.
 use Rattle.std.specs.Prelude.{◌≡◌, ◌+◌, ℕ, List, [], ◌∷◌, ◌++◌, Some, length, map}
 use Rattle.search_levels.specs.Arrivals.{IsArrival}
-use Rattle.search_levels.specs.Levels.{AreAt, IsCovered, Keeps}
-use Rattle.search_levels.specs.Paths.{schedule_in}
+use Rattle.search_levels.specs.inside.Levels.{AreAt, IsCovered, Keeps}
+use Rattle.search_levels.specs.inside.Paths.{schedule_in}
 use Rattle.search_levels.specs.declared.arrival.Arrival.{Arrival}
 use Rattle.search_levels.specs.declared.visit.Visit.{Visit}
 use Rattle.term_core.specs.declared.step.Step.{Step}

@@ -2,7 +2,7 @@ use Rattle.std.proofs.Common.{◌≡◌, ◌∙◌, arith, sym, subst, rules}
 use Rattle.std.proofs.lemmas.Iterator.Adapters.{YieldsList-from_vec}
 use Rattle.std.proofs.lemmas.Iterator.Consumers.{YieldsList-end, YieldsList-turn}
 use Rattle.search_levels.specs.Arrivals.{AreArrivals, of_module}
-use Rattle.search_levels.specs.Paths.{schedule_in}
+use Rattle.search_levels.specs.inside.Paths.{schedule_in}
 use Rattle.search_levels.proofs.Arriving.{SoFar, same_all, so_far_all, so_far_more}
 use Rattle.search_levels.proofs.Going.{element}
 use Rattle.search_levels.proofs.Noting.{arrival_is, arrivals_more}
