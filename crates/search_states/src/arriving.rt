@@ -1,6 +1,6 @@
 // The steps from a state, and what is after them.
 ghost use Rattle.std.specs.Prelude.{◌≡◌, IfOk, OnOk};
-ghost use Rattle.core_tree.specs.Syntax.{ModuleTree};
+ghost use Rattle.search_states.specs.inside.Keeping.{AddsDeadlockAfter, AreArrivalsFrom, IsArrivalBy};
 
 use crate::kept::Kept;
 use search_agenda::{Agenda, Plan};
@@ -20,13 +20,17 @@ fn add_deadlock(
     plan: &Plan,
     after: &Records<'_>,
     shown: &mut Vec<Identity>,
-) -> Result<(), AllocError> {
+) -> Result<(), AllocError>
+    ensures { OnOk result (AddsDeadlockAfter agenda.now plan.now after.now shown.old.items shown.new.items) }
+{
     if agenda.lives_below(plan) {
         return Ok(());
     }
-    if enabled_steps(after, alloc)?.is_empty() {
-        push_deadlock(after, alloc, shown)?;
+    let enabled = enabled_steps(after, alloc)?;
+    if !enabled.is_empty() {
+        return Ok(());
     }
+    push_deadlock(after, alloc, shown)?;
     Ok(())
 }
 
@@ -36,7 +40,10 @@ fn arrival_by<'m>(
     records: &Records<'m>,
     agenda: &Agenda,
     plan: &Plan,
-) -> Result<Arrival<Kept<'m>>, AllocError> {
+) -> Result<Arrival<Kept<'m>>, AllocError>
+    ensures step { IfOk result (λ arrival. arrival.step ≡ plan.now.step) }
+    ensures arrives { IfOk result (λ arrival. IsArrivalBy records.now agenda.now plan.now arrival) }
+{
     let mut shown = shown_by_plan(records, alloc, plan)?;
     let after = stepped(alloc, records.copy()?, plan)?;
     add_deadlock(alloc, agenda, plan, &after, &mut shown)?;
@@ -52,7 +59,9 @@ fn arrival_by<'m>(
 pub(crate) fn arrivals_from<'m>(
     alloc: Global,
     records: &Records<'m>,
-) -> Result<Vec<Arrival<Kept<'m>>>, AllocError> {
+) -> Result<Vec<Arrival<Kept<'m>>>, AllocError>
+    ensures { IfOk result (λ arrivals. AreArrivalsFrom records.now arrivals.items) }
+{
     let agenda = Agenda::of(records, alloc)?;
     let mut line = agenda.awake_backwards(alloc, &[])?;
     let mut arrivals = Vec::with_capacity(alloc, line.len())?;

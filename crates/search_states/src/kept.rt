@@ -12,9 +12,9 @@ pub(crate) struct Kept<'m> {
 }
 
 impl<'m> State for Kept<'m> {
-    ghost use Rattle.search_agenda.specs.Plans.{IsWorld};
+    ghost use Rattle.search_states.specs.inside.Keeping.{IsKept};
 
-    ghost agrees = { λ s m h. IsWorld m h s.records };
+    ghost agrees = { IsKept };
 
     fn digest(&self) -> u64 {
         self.records.digest()

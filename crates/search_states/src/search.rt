@@ -1,6 +1,7 @@
 // The search of all schedules of a module by states.
-ghost use Rattle.std.specs.Prelude.{◌≡◌, ◌≤◌, IfOk};
+ghost use Rattle.std.specs.Prelude.{◌≡◌, IfOk};
 ghost use Rattle.search_levels.specs.Searched.{IsSearched};
+ghost use Rattle.search_states.specs.inside.Keeping.{IsBeginning};
 ghost use Rattle.world_identities.specs.Identities.{flags_in};
 ghost use Rattle.world_model.specs.Asking.{program_of};
 
@@ -17,7 +18,9 @@ use world_records::Records;
 fn beginning<'m>(
     alloc: Global,
     program: &'m Module,
-) -> Result<(Records<'m>, Vec<Identity>), AllocError> {
+) -> Result<(Records<'m>, Vec<Identity>), AllocError>
+    ensures { IfOk result (λ begun. IsBeginning program.now begun.0 begun.1.items) }
+{
     let Ok(world) = World::open(alloc, program) else {
         return Err(AllocError);
     };
@@ -34,14 +37,13 @@ fn beginning<'m>(
 ///
 /// # Errors
 ///
-/// `AllocError` where there was no memory for the first state.
+/// `AllocError` where there was no memory for the first state and what is shown there.
 pub fn search_states<O: LevelObserver>(
     alloc: Global,
     program: &Module,
     options: &Options,
     observer: &O,
 ) -> Result<Searched, AllocError>
-    requires { 1 ≤ options.now.nodes }
     ensures { IfOk result (λ searched. IsSearched (flags_in options.now.flags) (program_of program.now) options.now.depth options.now.nodes searched) }
 {
     let (records, shown) = beginning(alloc, program)?;

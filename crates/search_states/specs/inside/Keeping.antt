@@ -1,0 +1,40 @@
+-- What is kept of a world, where it begins, and the steps from it.
+use Rattle.std.specs.Prelude.{◌≡◌, List, [], ◌∷◌, Some, map}
+use Rattle.core_tree.specs.Syntax.{ModuleTree}
+use Rattle.search_agenda.specs.Plans.{IsAgenda, IsPlan, IsWorld}
+use Rattle.search_agenda.specs.declared.agenda.Agenda.{Agenda}
+use Rattle.search_expansion.specs.inside.Nodes.{AddsDeadlock}
+use Rattle.search_levels.specs.Arrivals.{AreArrivals, IsArrival, of_module}
+use Rattle.search_levels.specs.declared.arrival.Arrival.{Arrival}
+use Rattle.search_states.specs.declared.kept.Kept.{Kept}
+use Rattle.world_footprints.specs.declared.plan.Plan.{Plan}
+use Rattle.world_identities.specs.Identities.{identity_in}
+use Rattle.world_identities.specs.declared.identity.Identity.{Identity}
+use Rattle.world_model.specs.Asking.{program_of}
+use Rattle.world_model.specs.Events.{Event, History}
+use Rattle.world_model.specs.Run.{next_event}
+use Rattle.world_model.specs.Shown.{shown}
+use Rattle.world_records.specs.declared.records.Records.{Records}
+
+-- what is kept agrees with each history that leaves such records
+abbrev pub IsKept : Kept → ModuleTree → History → Type 0
+IsKept kept m h = IsWorld m h kept.records
+
+-- of a module before anything happened: its records, and what is shown
+pub record IsBeginning (m : ModuleTree) (records : Records) (told : List Identity) : Type 0 where
+  pub world : IsWorld m [] records
+  pub shown : map identity_in told ≡ shown (program_of m) []
+
+-- after the enabled step of a plan, which leaves these records, the deadlock there is put after others
+abbrev pub AddsDeadlockAfter : Agenda → Plan → Records → List Identity → List Identity → Type 0
+AddsDeadlockAfter agenda p after old new = (m : ModuleTree) (h : History) (e : Event) → IsAgenda (program_of m) h agenda → IsPlan (program_of m) h p → next_event (program_of m) h p.step ≡ Some e → IsWorld m (e ∷ h) after
+    → AddsDeadlock (program_of m) (e ∷ h) old new
+
+-- the enabled step of a plan, with what is shown and kept after it, whatever the history that left these records
+abbrev pub IsArrivalBy : Records → Agenda → Plan → Arrival Kept → Type 0
+IsArrivalBy records agenda p r = (m : ModuleTree) (h : History) (e : Event) → IsWorld m h records → IsAgenda (program_of m) h agenda → IsPlan (program_of m) h p → next_event (program_of m) h p.step ≡ Some e
+    → IsArrival (of_module IsKept m) (program_of m) h r
+
+-- the enabled steps, each with what is shown and kept after it, whatever the history that left these records
+abbrev pub AreArrivalsFrom : Records → List (Arrival Kept) → Type 0
+AreArrivalsFrom records rs = (m : ModuleTree) (h : History) → IsWorld m h records → AreArrivals (of_module IsKept m) (program_of m) h rs
