@@ -1,6 +1,6 @@
 // The steps from a state, and what is after them.
 ghost use Rattle.std.specs.Prelude.{◌≡◌, IfOk, OnOk};
-ghost use Rattle.search_states.specs.inside.Keeping.{AddsDeadlockAfter, AreArrivalsFrom, IsArrivalBy};
+ghost use Rattle.search_states.specs.inside.Keeping.{AddsDeadlockAfter, AddsDeadlockOf, AreArrivalsFrom, IsArrivalBy};
 
 use crate::kept::Kept;
 use search_agenda::{Agenda, Plan};
@@ -12,9 +12,26 @@ use world_identities::Identity;
 use world_records::Records;
 use world_steps::enabled_steps;
 
-// Puts the deadlock of the world after a planned step after what else is shown there, where no step is enabled in it and
-// some process lives. Most often the agenda tells that one is. `AllocError` if there is no memory for it.
-fn add_deadlock(
+/// Puts the deadlock of a world after what else is shown there, where no step is enabled in it and some process lives.
+/// `AllocError` if there is no memory for it.
+pub(crate) fn add_deadlock(
+    alloc: Global,
+    records: &Records<'_>,
+    shown: &mut Vec<Identity>,
+) -> Result<(), AllocError>
+    ensures { OnOk result (AddsDeadlockOf records.now shown.old.items shown.new.items) }
+{
+    let enabled = enabled_steps(records, alloc)?;
+    if !enabled.is_empty() {
+        return Ok(());
+    }
+    push_deadlock(records, alloc, shown)?;
+    Ok(())
+}
+
+// Puts the deadlock of the world after a planned step after what else is shown there. Most often the agenda tells that
+// there is none. `AllocError` if there is no memory for it.
+fn add_deadlock_after(
     alloc: Global,
     agenda: &Agenda,
     plan: &Plan,
@@ -26,12 +43,7 @@ fn add_deadlock(
     if agenda.lives_below(plan) {
         return Ok(());
     }
-    let enabled = enabled_steps(after, alloc)?;
-    if !enabled.is_empty() {
-        return Ok(());
-    }
-    push_deadlock(after, alloc, shown)?;
-    Ok(())
+    add_deadlock(alloc, after, shown)
 }
 
 // A planned step that is enabled in a world, and what is after it. `AllocError` if there is no memory for it.
@@ -46,7 +58,7 @@ fn arrival_by<'m>(
 {
     let mut shown = shown_by_plan(records, alloc, plan)?;
     let after = stepped(alloc, records.copy()?, plan)?;
-    add_deadlock(alloc, agenda, plan, &after, &mut shown)?;
+    add_deadlock_after(alloc, agenda, plan, &after, &mut shown)?;
     Ok(Arrival {
         step: plan.step.copy()?,
         shown,

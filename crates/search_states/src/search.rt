@@ -5,12 +5,12 @@ ghost use Rattle.search_states.specs.inside.Keeping.{IsBeginning};
 ghost use Rattle.world_identities.specs.Identities.{flags_in};
 ghost use Rattle.world_model.specs.Asking.{program_of};
 
+use crate::arriving::add_deadlock;
 use crate::kept::Kept;
 use core_tree::Module;
 use search_levels::{Bounds, LevelObserver, Searched, search_levels};
 use std::alloc::{AllocError, Global};
 use tree_findings::Options;
-use world_core::World;
 use world_identities::Identity;
 use world_records::Records;
 
@@ -21,13 +21,10 @@ fn beginning<'m>(
 ) -> Result<(Records<'m>, Vec<Identity>), AllocError>
     ensures { IfOk result (λ begun. IsBeginning program.now begun.0 begun.1.items) }
 {
-    let Ok(world) = World::open(alloc, program) else {
-        return Err(AllocError);
-    };
-    let Ok(shown) = world.errors_here(alloc) else {
-        return Err(AllocError);
-    };
-    Ok((world.records().copy()?, shown))
+    let records = Records::open(alloc, program)?;
+    let mut shown = Vec::new(alloc);
+    add_deadlock(alloc, &records, &mut shown)?;
+    Ok((records, shown))
 }
 
 /// Follows all schedules of a module, level by level over its states, within the depth and the limit of states of the

@@ -25,6 +25,10 @@ pub record IsBeginning (m : ModuleTree) (records : Records) (told : List Identit
   pub world : IsWorld m [] records
   pub shown : map identity_in told ≡ shown (program_of m) []
 
+-- the deadlock that is shown where these records are left, if one is, is put after others
+abbrev pub AddsDeadlockOf : Records → List Identity → List Identity → Type 0
+AddsDeadlockOf records old new = (m : ModuleTree) (h : History) → IsWorld m h records → AddsDeadlock (program_of m) h old new
+
 -- after the enabled step of a plan, which leaves these records, the deadlock there is put after others
 abbrev pub AddsDeadlockAfter : Agenda → Plan → Records → List Identity → List Identity → Type 0
 AddsDeadlockAfter agenda p after old new = (m : ModuleTree) (h : History) (e : Event) → IsAgenda (program_of m) h agenda → IsPlan (program_of m) h p → next_event (program_of m) h p.step ≡ Some e → IsWorld m (e ∷ h) after

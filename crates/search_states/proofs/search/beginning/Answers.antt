@@ -1,20 +1,16 @@
-use Rattle.std.proofs.Common.{◌∙◌, ap, subst}
-use Rattle.search_states.proofs.search.beginning.Goals as goal
-use Rattle.world_core.specs.Seen.{Seen}
-use Rattle.world_model.specs.Asking.{program_of}
-use Rattle.world_model.specs.Shown.{shown}
-use Rattle.world_model.specs.World.{contents}
+use Rattle.std.proofs.Common.{◌∙◌, [], ap, map}
+use Rattle.world_identities.specs.Identities.{identity_in}
+use Rattle.world_model.specs.Cells.{Contents}
+use Rattle.world_model.specs.World.{beginning, contents}
 use Rattle.world_records.specs.Records.{Agrees}
+use Rattle.search_agenda.specs.Plans.{IsWorld}
+use Rattle.search_states.proofs.search.beginning.Goals as goal
 
 pub returns : goal.returns
 returns c =
-    let world = c.in-Ok.world in
-    let opened = c.in-Ok.ensures in
-    let records = c.in_ok-copy.field-0 in
+    let m = c.args.program.now in
+    let world : IsWorld m [] c.in_ok-records.records = record { agrees = c.in_ok-records.ensures; is_run = tt } in
     record {
-      world = record {
-        agrees = subst (λ (w : Seen). Agrees w.program records (contents w.history)) opened (c.in_ok-copy.ensures world.program (contents world.history) (c.records.ensures (ap (λ (w : Seen). w.spent) opened)));
-        is_run = tt;
-      };
-      shown = c.in-Ok-2.ensures.shown ∙ ap (λ (w : Seen). shown (program_of w.program) w.history) opened;
+      world = world;
+      shown = c.in_ok-add_deadlock.ensures m [] world;
     }
