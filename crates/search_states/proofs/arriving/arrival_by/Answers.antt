@@ -14,5 +14,5 @@ returns-clause-arrives c = λ m h e world is plan next.
       event = e;
       is_next = ap (next_event (program_of m) h) c.in_ok-copy-2.ensures ∙ next;
       agrees = (refl, there);
-      shown = c.in_ok-add_deadlock.ensures m h e is plan next there ∙ ap (λ is. is ++ deadlock_of (enabled_steps (program_of m) (e ∷ h)) (living (e ∷ h))) (c.in_ok-shown.ensures.shown m h e world.agrees plan next);
+      shown = c.in_ok-add_deadlock_after.ensures m h e is plan next there ∙ ap (λ is. is ++ deadlock_of (enabled_steps (program_of m) (e ∷ h)) (living (e ∷ h))) (c.in_ok-shown.ensures.shown m h e world.agrees plan next);
     }
