@@ -43,7 +43,8 @@ fn add_deadlock_after(
     if agenda.lives_below(plan) {
         return Ok(());
     }
-    add_deadlock(alloc, after, shown)
+    add_deadlock(alloc, after, shown)?;
+    Ok(())
 }
 
 // A planned step that is enabled in a world, and what is after it. `AllocError` if there is no memory for it.

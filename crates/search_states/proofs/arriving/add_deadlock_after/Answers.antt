@@ -8,4 +8,4 @@ returns-then-lives_below c = λ m h e is plan next there.
     lives_on (program_of m) (e ∷ h) c.args.shown.now.items (c.lives_below.ensures.lives c.if-lives_below.true (program_of m) h e is plan next)
 
 pub returns : goal.returns
-returns c = λ ok m h e is plan next there. c.add_deadlock.ensures ok m (e ∷ h) there
+returns c = λ m h e is plan next there. c.in_ok-add_deadlock.ensures m (e ∷ h) there

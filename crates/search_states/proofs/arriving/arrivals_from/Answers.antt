@@ -25,4 +25,4 @@ loop-plan-preserved c = λ m h world.
     (c.in_ok-arrival_by.ensures.arrives m h now.0 world (c.in_ok-agenda.ensures m h world) (subst (IsPlan (program_of m) h) (sym c.deref.ensures) holds) (ap (λ (q : Plan). next_event (program_of m) h q.step) c.deref.ensures ∙ now.1))
 
 pub returns : goal.returns
-returns c = λ m h world. all_so_far m h c.loop-plan.arrivals.items c.loop-plan.line.items (nothing_left c.loop-plan.line.items _ c.loop-plan.line.ok.0 c.in-None.ensures.cases.0) (c.loop-plan.invariant m h world)
+returns c = λ m h world. all_so_far m h c.loop-plan.arrivals.items c.loop-plan.line.items (nothing_left c.loop-plan.line.items _ c.loop-plan.line.ok.0 c.in_default.ensures.cases.0) (c.loop-plan.invariant m h world)

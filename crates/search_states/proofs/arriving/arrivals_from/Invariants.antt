@@ -1,3 +1,4 @@
+use Rattle.std.proofs.Common.{vec_len}
 use Rattle.core_tree.specs.Syntax.{ModuleTree}
 use Rattle.search_agenda.specs.Plans.{IsWorld}
 use Rattle.search_states.proofs.Following.{AreSoFar}
@@ -9,4 +10,4 @@ abbrev pub invariant-loop-plan : goal.invariant-loop-plan
 invariant-loop-plan l = (m : ModuleTree) (h : History) → IsWorld m h l.records → AreSoFar m h l.arrivals.items l.line.items
 
 abbrev pub decreases-loop-plan : goal.decreases-loop-plan
-decreases-loop-plan l = goal.left-loop-plan l
+decreases-loop-plan l = vec_len l.line
