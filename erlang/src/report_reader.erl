@@ -66,15 +66,16 @@ report(Text) ->
     {Findings, Last} = findings(Lines, []),
     {reach(First), Findings, Last}.
 
-%% How far an exploration came: {complete, Depth, Visited}, with how many nodes or states there are; {stopped, Depth, Cause}
-%% of the tree; {stopped, Depth, Cause, Whole} of a search by states, which followed all schedules of at most Whole steps.
+%% How far an exploration came: {complete, Depth, Count, What}, with how many there are of what, "nodes" or "states";
+%% {stopped, Depth, Cause} of the tree; {stopped, Depth, Cause, Whole} of a search by states, which followed all schedules
+%% of at most Whole steps.
 reach("depth " ++ Text) ->
     [Depth, Rest] = string:split(Text, ", "),
     case Rest of
         "incomplete: " ++ Why -> list_to_tuple([stopped, Depth | string:split(Why, "; all schedules to depth ")]);
         _ ->
-            [Kind, Count, "complete" | _] = string:lexemes(Rest, ", "),
-            {complete, Depth, [Count, " ", Kind]}
+            [What, Count, "complete" | _] = string:lexemes(Rest, ", "),
+            {complete, Depth, Count, What}
     end.
 
 findings([Title, "  " ++ Schedule | Lines], Findings) ->

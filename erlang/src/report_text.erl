@@ -75,19 +75,24 @@ place({File, Line}) -> [File, ":", integer_to_list(Line)].
 %% The first line: what was explored.
 head(Source, Coverage, Reach) -> [Source, ": ", explored(Coverage, Reach), "\n"].
 
-explored(["all", _], {complete, _, Visited}) -> ["all schedules, ", Visited];
-explored(_, {complete, Depth, Visited}) -> ["all schedules of at most ", Depth, " steps, ", Visited];
-explored(_, {stopped, Depth, _}) -> ["not all schedules of at most ", Depth, " steps"];
-explored(_, {stopped, _, _, Whole}) -> ["all schedules of at most ", Whole, " steps, and not all longer ones"].
+explored(["all", _], {complete, _, Count, What}) -> ["all schedules, ", many(Count, What)];
+explored(_, {complete, Depth, Count, What}) -> ["all schedules of at most ", steps(Depth), ", ", many(Count, What)];
+explored(_, {stopped, Depth, _}) -> ["not all schedules of at most ", steps(Depth)];
+explored(_, {stopped, _, _, Whole}) -> ["all schedules of at most ", steps(Whole), ", and not all longer ones"].
+
+steps(Count) -> many(Count, "steps").
+
+many("1", What) -> ["1 ", lists:droplast(What)];
+many(Count, What) -> [Count, " ", What].
 
 %% The last lines: how many errors and refusals there are, and the result, as the program prints them; and below these what
 %% was not explored, where something was not.
 tail(Coverage, Reach, [Counts, Result]) -> ["\n", Counts, "\n", Result, "\n", unexplored(Coverage, Reach, Counts)].
 
 unexplored(["all", _], _, _) -> "";
-unexplored(["limit", Depth], {complete, _, _}, _) -> ["depth ", Depth, " has more nodes than may be visited (--nodes N)\n"];
-unexplored(["deepest", Depth], {complete, _, _}, _) -> ["no schedule is followed for more than ", Depth, " steps: longer ones were not explored\n"];
-unexplored(_, {complete, _, _}, _) -> "longer schedules were not explored\n";
+unexplored(["limit", Depth], {complete, _, _, _}, _) -> ["depth ", Depth, " has more nodes than may be visited (--nodes N)\n"];
+unexplored(["deepest", Depth], {complete, _, _, _}, _) -> ["no schedule is followed for more than ", steps(Depth), ": longer ones were not explored\n"];
+unexplored(_, {complete, _, _, _}, _) -> "longer schedules were not explored\n";
 unexplored(_, {stopped, Depth, Cause}, _) -> ["not all nodes were visited: ", Cause, " at depth ", Depth, "\n"];
 unexplored(_, {stopped, _, Cause, Whole}, Counts) -> [why(Cause), "\n", found(Whole, Counts), "\n", helps(Cause, Whole), "\n"].
 
@@ -95,8 +100,8 @@ unexplored(_, {stopped, _, Cause, Whole}, Counts) -> [why(Cause), "\n", found(Wh
 why("state limit") -> "there are more states than may be found (--nodes N)";
 why("memory") -> "memory ran out".
 
-found(Whole, "errors 0," ++ _) -> ["no schedule of at most ", Whole, " steps shows an error, but longer ones may"];
-found(Whole, _) -> ["each error that a schedule of at most ", Whole, " steps shows is listed, but longer ones may show more"].
+found(Whole, "errors 0," ++ _) -> ["no schedule of at most ", steps(Whole), " shows an error, but longer ones may"];
+found(Whole, _) -> ["each error that a schedule of at most ", steps(Whole), " shows is listed, but longer ones may show more"].
 
 helps(Cause, Whole) ->
     ["what helps: a --depth of at most ", Whole, ",", [" a greater --nodes," || Cause =:= "state limit"], " fewer processes",
