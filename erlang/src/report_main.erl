@@ -72,11 +72,11 @@ replayed(Work) ->
 %% ---- an exploration
 
 explored(Work, Coverage) ->
-    {First, Findings, Last} = report_reader:report(read(filename:join(Work#work.folder, "report"))),
-    print(report_text:head(Work#work.source, Coverage, First)),
+    {Reach, Findings, Last} = report_reader:report(read(filename:join(Work#work.folder, "report"))),
+    print(report_text:head(Work#work.source, Coverage, Reach)),
     Errors = [{Number, report_reader:identity(Identity)} || {error, Number, Identity, _} <- Findings],
     Told = [finding(Work, Place, Finding, Errors) || {Place, Finding} <- lists:enumerate(Findings)],
-    print(report_text:tail(Coverage, First, Last)),
+    print(report_text:tail(Coverage, Reach, Last)),
     print(report_text:doubts(doubts(Work))),
     disagreements(Told).
 

@@ -60,11 +60,23 @@ call(Text) ->
 whole(Text) -> {Term, []} = report_term:read(Text), Term.
 
 %% The findings of a report, errors before refusals and these before what is taken as normal, each with its kind,
-%% number, identity and schedule; and the first line and the last two.
+%% number, identity and schedule; and the first line, read, and the last two.
 report(Text) ->
     [First | Lines] = lines(Text),
     {Findings, Last} = findings(Lines, []),
-    {First, Findings, Last}.
+    {reach(First), Findings, Last}.
+
+%% How far an exploration came: {complete, Depth, Count, What}, with how many there are of what, "nodes" or "states";
+%% {stopped, Depth, Cause} of the tree; {stopped, Depth, Cause, Whole} of a search by states, which followed all schedules
+%% of at most Whole steps.
+reach("depth " ++ Text) ->
+    [Depth, Rest] = string:split(Text, ", "),
+    case Rest of
+        "incomplete: " ++ Why -> list_to_tuple([stopped, Depth | string:split(Why, "; all schedules to depth ")]);
+        _ ->
+            [What, Count, "complete" | _] = string:lexemes(Rest, ", "),
+            {complete, Depth, Count, What}
+    end.
 
 findings([Title, "  " ++ Schedule | Lines], Findings) ->
     [Kind, Rest] = string:split(Title, " "),

@@ -73,37 +73,42 @@ place({File, Line}) -> [File, ":", integer_to_list(Line)].
 %% ---- the report
 
 %% The first line: what was explored.
-head(Source, Coverage, First) ->
-    [Source, ": ", explored(is_incomplete(First)), to_depth(Coverage, First), visited(First), "\n"].
+head(Source, Coverage, Reach) -> [Source, ": ", explored(Coverage, Reach), "\n"].
 
-explored(true) -> "not all schedules";
-explored(false) -> "all schedules".
+explored(["all", _], {complete, _, Count, What}) -> ["all schedules, ", many(Count, What)];
+explored(_, {complete, Depth, Count, What}) -> ["all schedules of at most ", steps(Depth), ", ", many(Count, What)];
+explored(_, {stopped, Depth, _}) -> ["not all schedules of at most ", steps(Depth)];
+explored(_, {stopped, _, _, Whole}) -> ["all schedules of at most ", steps(Whole), ", and not all longer ones"].
 
-to_depth(["all", _], _) -> "";
-to_depth(_, First) -> [" of at most ", depth(First), " steps"].
+steps(Count) -> many(Count, "steps").
 
-is_incomplete(First) -> string:find(First, "incomplete") =/= nomatch.
-
-visited(First) ->
-    case string:split(First, ", nodes ") of
-        [_, Rest] -> [", ", hd(string:split(Rest, ",")), " nodes"];
-        _ -> ""
-    end.
+many("1", What) -> ["1 ", lists:droplast(What)];
+many(Count, What) -> [Count, " ", What].
 
 %% The last lines: how many errors and refusals there are, and the result, as the program prints them; and below these what
 %% was not explored, where something was not.
-tail(Coverage, First, [Counts, Result]) -> ["\n", Counts, "\n", Result, "\n", unexplored(Coverage, First, is_incomplete(First))].
+tail(Coverage, Reach, [Counts, Result]) -> ["\n", Counts, "\n", Result, "\n", unexplored(Coverage, Reach, Counts)].
 
 unexplored(["all", _], _, _) -> "";
-unexplored(["limit", Depth], _, false) -> ["depth ", Depth, " has more nodes than may be visited (--nodes N)\n"];
-unexplored(_, First, true) -> ["not all nodes were visited: ", lists:last(string:split(First, "incomplete: ")), " at depth ", depth(First), "\n"];
-unexplored(_, _, false) -> "longer schedules were not explored\n".
+unexplored(["limit", Depth], {complete, _, _, _}, _) -> ["depth ", Depth, " has more nodes than may be visited (--nodes N)\n"];
+unexplored(["deepest", Depth], {complete, _, _, _}, _) -> ["no schedule is followed for more than ", steps(Depth), ": longer ones were not explored\n"];
+unexplored(_, {complete, _, _, _}, _) -> "longer schedules were not explored\n";
+unexplored(_, {stopped, Depth, Cause}, _) -> ["not all nodes were visited: ", Cause, " at depth ", Depth, "\n"];
+unexplored(_, {stopped, _, Cause, Whole}, Counts) -> [why(Cause), "\n", found(Whole, Counts), "\n", helps(Cause, Whole), "\n"].
+
+%% Why a search by states stopped, what it had found by then, and what makes it come to its end.
+why("state limit") -> "there are more states than may be found (--nodes N)";
+why("memory") -> "memory ran out".
+
+found(Whole, "errors 0," ++ _) -> ["no schedule of at most ", steps(Whole), " shows an error, but longer ones may"];
+found(Whole, _) -> ["each error that a schedule of at most ", steps(Whole), " shows is listed, but longer ones may show more"].
+
+helps(Cause, Whole) ->
+    ["what helps: a --depth of at most ", Whole, ",", [" a greater --nodes," || Cause =:= "state limit"], " fewer processes",
+     " or messages, --after-timeout MS"].
 
 %% What makes the result doubtful, below it.
 doubts(Lines) -> [["but: ", Line, "\n"] || Line <- Lines].
-
-%% The depth that the program reports.
-depth(First) -> hd(string:lexemes(First, "depth ,")).
 
 %% A schedule as the words with which it is shown again.
 schedule(Schedule) -> ["  --replay \"", Schedule, "\"\n"].

@@ -21,6 +21,7 @@ one(File, Program, Folder, Work, Library) ->
             [{"programs: " ++ Name ++ ": " ++ What, Outcome} || {What, Outcome} <-
                 [{"report", report(Report, Errors)},
                  {"whole", whole(Report, explorer:explore(Program, Work, Text, Depth + 1))},
+                 {"states", states(Report, explorer:explore_states(Program, Work, Text, Depth))},
                  {"shaken runs", shaken(File, list_to_atom(Name), Errors)},
                  {"text", same_text(Folder, File, Text)},
                  {"kept", kept(Folder, Name, Text, Report)}]];
@@ -45,6 +46,14 @@ whole(Report, Longer) ->
         {{complete, N}, {complete, N}} -> passed;
         Both -> {failed, Both}
     end.
+
+%% A search by states lists the same.
+states(Report, "depth " ++ _ = States) ->
+    case {explorer:findings(Report), explorer:findings(States)} of
+        {Same, Same} -> passed;
+        _ -> {failed, {of_the_tree, Report, of_states, States}}
+    end;
+states(_, Refusal) -> {failed, Refusal}.
 
 nodes_of(Report) ->
     case re:run(Report, "^depth [0-9]+, nodes ([0-9]+), complete", [{capture, [1], list}]) of

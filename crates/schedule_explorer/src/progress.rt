@@ -9,15 +9,16 @@ use std::sync::atomic::{AtomicBool, AtomicU64, Ordering};
 use std::time::Instant;
 use term_core::{Output, WriteFault, write_all, write_number};
 
-/// The clock is looked at once for so many nodes.
+/// The clock is looked at once for so many nodes or states.
 const NODES: u64 = 1_024;
 
 /// What erases the line of a terminal that the cursor is on (ECMA-48, "Erase in line").
 const ERASE: &[u8] = b"\r\x1b[K";
 
 /// Shows how far an exploration is, at most once a second: how many nodes were visited, how many that is a second, and
-/// how many jobs were done. It is one line, which is erased before anything else is written. Where standard error is no
-/// terminal, or there is no clock, nothing is shown.
+/// how many jobs were done; of a search by states how many states were expanded, how many that is a second, and at which
+/// level it is. It is one line, which is erased before anything else is written. Where standard error is no terminal, or
+/// there is no clock, nothing is shown.
 #[derive(Drop)]
 pub struct Progress<'r, C: Clock> {
     clock: &'r C,
@@ -25,6 +26,8 @@ pub struct Progress<'r, C: Clock> {
     begun: Option<Instant>,
     nodes: AtomicU64,
     jobs: AtomicU64,
+    level: AtomicU64,
+    is_by_states: AtomicBool,
     second: AtomicU64,
     is_told: AtomicBool,
 }
@@ -43,6 +46,8 @@ impl<'r, C: Clock> Progress<'r, C> {
             begun,
             nodes: AtomicU64::new(0),
             jobs: AtomicU64::new(0),
+            level: AtomicU64::new(0),
+            is_by_states: AtomicBool::new(false),
             second: AtomicU64::new(0),
             is_told: AtomicBool::new(false),
         }
@@ -59,12 +64,22 @@ impl<'r, C: Clock> Progress<'r, C> {
     fn tell(&self, nodes: u64, seconds: u64) -> Result<(), WriteFault>
         requires { 1 ≤ seconds }
     {
+        let is_by_states = self.is_by_states.load(Ordering::SeqCst);
+        let what: &[u8] = if is_by_states {
+            b" states, "
+        } else {
+            b" nodes, "
+        };
         let mut sink = Output::new(self.stderr);
         write_all(&mut sink, ERASE)?;
         write_number(nodes, &mut sink)?;
-        write_all(&mut sink, b" nodes, ")?;
+        write_all(&mut sink, what)?;
         write_number(nodes / seconds, &mut sink)?;
         write_all(&mut sink, b" a second, ")?;
+        if is_by_states {
+            write_all(&mut sink, b"level ")?;
+            return write_number(self.level.load(Ordering::SeqCst), &mut sink);
+        }
         write_number(self.jobs.load(Ordering::SeqCst), &mut sink)?;
         write_all(&mut sink, b" jobs done")
     }
@@ -90,7 +105,10 @@ impl<'r, C: Clock> Observer for Progress<'r, C> {
         let _ = self.tell(nodes, seconds);
     }
 
-    fn level(&self, _steps: u64) {}
+    fn level(&self, steps: u64) {
+        self.level.store(steps, Ordering::SeqCst);
+        self.is_by_states.store(true, Ordering::SeqCst);
+    }
 
     fn given(&self, _ticket: u64) {
         self.jobs.fetch_add(1, Ordering::SeqCst);
