@@ -53,7 +53,7 @@ module _ (e : ExplorationSeen) where
 
   pub whole_by_states : (limit whole_to : ℕ) (o : Outcome) → IsOutcomeOfAll e.flags (program_in e) e.depth limit whole_to o → IsWhole e o
   unfolding a found
-  whole_by_states limit whole_to (Complete findings extent) is = λ uncut i. subst (λ (f : Findings). IsListedOfAll e f i) (sym is.0) (listed_of_all (subst (TellsReach a e.depth) uncut is.1.0) i)
+  whole_by_states limit whole_to (Complete findings extent) is = λ uncut i. subst (λ (f : Findings). IsListedOfAll e f i) (sym is.0) (listed_of_all (subst (TellsReach a e.depth) uncut is.1) i)
   whole_by_states limit whole_to (Incomplete cause findings) is = tt
 
 -- beside each is the least schedule of all

@@ -286,16 +286,16 @@ module _ (law : TreeLaws) (e : ExplorationSeen) (limit : ℕ) (findings : Findin
   settled_by ByStates (States whole_to) is = is.0
 
   extent_by : (s : Search) (v : Visited) → Comes s v → IsExtentBy s (program_in e) e.depth extent
-  extent_by ByTree Nodes is = subst (IsExtentOf (program_in e) e.depth) (sym is.1.0) (extent_of_tree law e)
+  extent_by ByTree Nodes is = subst (IsExtentOf (program_in e) e.depth) (sym is.1) (extent_of_tree law e)
   extent_by ByTree (States whole_to) is = absurd is
   extent_by ByStates Nodes is = absurd is
-  extent_by ByStates (States whole_to) is = is.1.0
+  extent_by ByStates (States whole_to) is = is.1
 
   visited_is : (s : Search) (v : Visited) → Comes s v → v ≡ visited_by s e.depth
   visited_is ByTree Nodes is = refl
   visited_is ByTree (States whole_to) is = absurd is
   visited_is ByStates Nodes is = absurd is
-  visited_is ByStates (States whole_to) is = ap States is.1.1.1
+  visited_is ByStates (States whole_to) is = ap States is.3
 
 pub report_is_exact : TreeLaws → ReportIsExact
 report_is_exact law r options x what e low =
