@@ -116,18 +116,45 @@ fn orders_meet_again(rt: HostRuntime) -> Result<(), Fail> {
 // How many states may be found, and of how many steps at most all schedules are followed then.
 const LIMITS: [(u64, u64); 4] = [(0, 0), (1, 0), (10, 9), (21, 20)];
 
+// What was found by a search that met its limit.
+fn stopped(outcome: Outcome) -> Result<Findings, Fail> {
+    match outcome {
+        Outcome::Incomplete(Cause::NodeLimit, found) => Ok(found),
+        Outcome::Incomplete(Cause::Memory, found) => {
+            drop(found);
+            Err(Fail::from("there is no memory"))
+        }
+        Outcome::Complete(found, _) => {
+            drop(found);
+            Err(Fail::from("the limit was not met"))
+        }
+    }
+}
+
+// Whether a search by states stops at its limit, where all schedules of at most so many steps were followed.
+fn stops_at(alloc: Global, program: &Module, states: u64, whole_to: u64) -> Result<(), Fail> {
+    let options = options_of_states(40, states);
+    let searched = search_states(alloc, program, &options, &Unobserved)?;
+    let told = searched.whole_to;
+    let found = stopped(searched.outcome)?;
+    if told == whole_to && found.errors().len() == 0 {
+        return Ok(());
+    }
+    Err(Fail::from("it stopped elsewhere"))
+}
+
 #[test]
 fn a_limit_tells_how_far_all_were_followed(rt: HostRuntime) -> Result<(), Fail> {
     let program = read_module(rt.alloc(), LINE.as_bytes())?;
     for (states, whole_to) in LIMITS {
-        let options = options_of_states(40, states);
-        let searched = search_states(rt.alloc(), &program, &options, &Unobserved)?;
-        assert_eq!(rt; searched.whole_to, whole_to, "{states}");
-        let Outcome::Incomplete(Cause::NodeLimit, found) = searched.outcome else {
-            return Err(Fail::from("the limit was not met"));
-        };
-        assert_eq!(rt; found.errors().len(), 0, "{states}");
+        stops_at(rt.alloc(), &program, states, whole_to)?;
     }
+    Ok(())
+}
+
+#[test]
+fn a_limit_of_all_states_is_not_met(rt: HostRuntime) -> Result<(), Fail> {
+    let program = read_module(rt.alloc(), LINE.as_bytes())?;
     let searched = search_states(
         rt.alloc(),
         &program,
