@@ -1,7 +1,7 @@
 %% What of the converted functions the explorer would not read: each place is refused.
 -module(readable).
 
--export([check/5, scope/2, in_guard/1, faults/2, literal_faults/1]).
+-export([check/5, scope/2, in_guard/1, faults/2, is_past_limit/1]).
 
 -include("core.hrl").
 
@@ -144,8 +144,8 @@ shown(Name, Arity) when is_atom(Name) -> shown(atom_to_list(Name), Arity);
 shown(Name, Arity) -> io_lib:format("~ts/~w", [Name, Arity]).
 
 %% What is not read of a value that is written: all of it, in its order.
-literal_faults(V) when is_integer(V), V > 9223372036854775807; is_integer(V), V < -9223372036854775808 ->
-    [{"an integer past 64 bits", io_lib:format("integer ~w is past 64 bits", [V])}];
+literal_faults(V) when is_integer(V) ->
+    [{"an integer past 64 bits", io_lib:format("integer ~w is past 64 bits", [V])} || is_past_limit(V)];
 literal_faults(V) when is_float(V) -> [{"a float", io_lib:format("floats are not read: ~w", [V])}];
 literal_faults(V) when is_bitstring(V) -> binary();
 literal_faults([H | T]) -> literal_faults(H) ++ literal_faults(T);
@@ -155,5 +155,7 @@ literal_faults(V) when is_atom(V) ->
         "not read: " ++ _ -> unread("an atom that begins as the name of a stop does");
         _ -> []
     end;
-literal_faults(V) when is_integer(V); V =:= [] -> [];
+literal_faults([]) -> [];
 literal_faults(_) -> unread("a literal of this kind").
+
+is_past_limit(N) -> N > 9223372036854775807 orelse N < -9223372036854775808.

@@ -67,8 +67,15 @@ kept(N, _, _) -> N.
 never(#c_clause{pats = Patterns}) -> lists:any(fun(P) -> core_tree:fold(fun nothing/2, false, P) end, Patterns).
 
 nothing(#c_binary{}, _) -> true;
-nothing(#c_literal{val = V}, Sum) -> Sum orelse readable:literal_faults(V) =/= [];
+nothing(#c_literal{val = V}, Sum) -> Sum orelse not is_made(V);
 nothing(_, Sum) -> Sum.
+
+%% Whether a value can be made of what is read.
+is_made(V) when is_integer(V) -> not readable:is_past_limit(V);
+is_made([H | T]) -> is_made(H) andalso is_made(T);
+is_made(V) when is_tuple(V) -> is_made(tuple_to_list(V));
+is_made(V) when is_map(V) -> is_made(maps:to_list(V));
+is_made(V) -> not is_float(V) andalso not is_bitstring(V).
 
 %% The clause that is taken where none is left: the compiler knows that one of those matches.
 any(#c_clause{pats = Patterns}, Place, Home) ->
