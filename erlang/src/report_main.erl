@@ -76,11 +76,12 @@ explored(Work, Coverage) ->
     {Findings, Stops, Deadlocks} = report_unread:sorted(All, fun(Place) -> report_reader:transcript(transcript(Work, Place)) end),
     print(report_unread:head(Stops, report_text:head(Work#work.source, Coverage, First))),
     Errors = [{Number, report_reader:identity(Identity)} || {_, {error, Number, Identity, _}} <- Findings],
-    Told = [finding(Work, Place, Finding, Errors) || {Place, Finding} <- Findings] ++ [unread(Work, Stop) || Stop <- Stops],
+    Told = [finding(Work, Place, Finding, Errors) || {Place, Finding} <- Findings],
+    Reached = [unread(Work, Stop) || Stop <- Stops],
     print(report_text:tail(Coverage, First, report_unread:sums(Findings, Stops, Last))),
     print(report_unread:below(Stops, Deadlocks)),
     print(report_text:doubts(doubts(Work))),
-    disagreements(Told).
+    disagreements(Told ++ Reached).
 
 transcript(#work{folder = Folder}, Place) -> read(filename:join([Folder, "transcripts", integer_to_list(Place)])).
 
