@@ -65,7 +65,7 @@ sums(_, [], Last) -> Last;
 sums(Findings, Stops, [Counts, Result]) ->
     Count = fun(Kind) -> integer_to_list(length([Kind || {_, {K, _, _, _}} <- Findings, K =:= Kind])) end,
     Normal = [[", taken as normal ", Count(normal)] || string:find(Counts, "taken as normal") =/= nomatch],
-    [["errors ", Count(error), ", refusals ", Count(refusal), Normal, ", not read ", integer_to_list(length(Stops))],
+    [lists:flatten(["errors ", Count(error), ", refusals ", Count(refusal), Normal, ", not read ", integer_to_list(length(Stops))]),
      case Count(error) of "0" -> "result: incomplete"; _ -> Result end].
 
 %% What that means, below the result.
