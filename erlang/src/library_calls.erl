@@ -88,7 +88,7 @@ library_call({M, F, A} = Call, Name, #c_call{anno = Notes, args = Args}, Place, 
 
 %% Why a call of the library is not taken as it is written.
 refused({ets, update_counter, 4}, _, #scope{approximate = false}) ->
-    {refuse, "ets:update_counter/4", "ets:update_counter/4 is two steps here: --approximate takes it"};
+    {refuse, "ets:update_counter/4 without --approximate", "ets:update_counter/4 is two steps here: --approximate takes it"};
 refused({ets, update_counter, 4}, [Table, Key, Operation, _], #scope{module = Own}) ->
     case known_calls:objection(Own, {ets, update_counter, 3}, [Table, Key, Operation]) of
         {refuse, What, Text} -> {refuse, What, Text};

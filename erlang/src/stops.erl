@@ -1,6 +1,6 @@
 %% What is not read, where a process comes to it. In its place is a stop: the process looks up a table whose name says what
 %% is not read and where, which is refused and so listed, and then waits for ever. No `catch` sees that, and nobody is told
-%% of an end. The other processes go on, and what they do they can do in Erlang too, as long as that process is not faster.
+%% of an end. What the other processes do from there on they can do in Erlang too, since a process may always be slow.
 -module(stops).
 
 -export([instead/5, leave_out/2, put/4]).
