@@ -5,10 +5,10 @@
 
 -include("core.hrl").
 
--record(options, {file, entry = none, after_timeout = none, notes = false, doubts = none, approximate = false, compiler = []}).
+-record(options, {file, entry = none, after_timeout = none, strict = false, notes = false, doubts = none, approximate = false, compiler = []}).
 
 usage() ->
-    "usage: convert.escript FILE.erl [--entry f/0] [--after-timeout MS] [--approximate] [--notes] [--doubts FILE] [-I DIR] [-D NAME[=VALUE]]\n".
+    "usage: convert.escript FILE.erl [--entry f/0] [--after-timeout MS] [--strict] [--approximate] [--notes] [--doubts FILE] [-I DIR] [-D NAME[=VALUE]]\n".
 
 %% Prints, and gives the status. Library is the folder's library, {Name, Arity} => function.
 main(Words, Library) ->
@@ -36,6 +36,7 @@ options(["--after-timeout", Text | T], O) ->
         {N, []} when N >= 0 -> options(T, O#options{after_timeout = N});
         _ -> error
     end;
+options(["--strict" | T], O) -> options(T, O#options{strict = true});
 options(["--notes" | T], O) -> options(T, O#options{notes = true});
 options(["--doubts", File | T], O) -> options(T, O#options{doubts = File});
 options(["--approximate" | T], O) -> options(T, O#options{approximate = true});
@@ -83,9 +84,10 @@ convert(File, Options, Library) ->
     case source_module:load(File, Options#options.compiler) of
         {error, Lines} -> {error, Lines};
         {ok, Module, OnLoad, Exports, Definitions} ->
+            New = ledger:new(Options#options.strict),
             Ledger = case OnLoad of
-                true -> ledger:refuse_file(File, "-on_load is not read", ledger:new());
-                false -> ledger:new()
+                true -> ledger:refuse_file(File, "-on_load is not read", New);
+                false -> New
             end,
             converted(File, Module, Exports, Definitions, Options, Library, Ledger)
     end.
@@ -103,11 +105,17 @@ converted(File, Module, Exports0, Source, #options{entry = Entry, approximate = 
     {FirstOrder, NewExports, L4} = function_values:replace(Plain, Module, Size, L3),
     AllExports = lists:usort(Exports ++ NewExports),
     Reached = reach:by_names(FirstOrder, [{main, 0} | AllExports]),
-    Ledger = readable:check(File, Reached, Module, AllExports, L4),
-    {ok, fun() -> core_text:module(File, Module, AllExports, Reached) end, Ledger}.
+    {Stopped, L5} = stops:put(Reached, Module, AllExports, L4),
+    Ledger = readable:check(File, Stopped, Module, AllExports, L5),
+    {ok, fun() -> core_text:module(File, Module, AllExports, Stopped) end, Ledger}.
 
-%% A definition with its receives, timeouts and maps in forms that are read.
-prepared(#definition{code = Code, origin = Origin, home = Home} = D, #options{after_timeout = Limit}, L) ->
-    {Lengthened, L1} = timeouts:lengthen(Origin, Home, Limit, L, receives:restore(Code)),
+%% A definition with its receives, clauses, timeouts and maps in forms that are read.
+prepared(#definition{code = Code, origin = Origin, home = Home} = D, #options{after_timeout = Limit, strict = Strict}, L) ->
+    Restored = receives:restore(Code),
+    Matching = case Strict of
+        true -> Restored;
+        false -> stops:leave_out(Home, Restored)
+    end,
+    {Lengthened, L1} = timeouts:lengthen(Origin, Home, Limit, L, Matching),
     {New, L2} = map_forms:replace(Home, L1, Lengthened),
     {D#definition{code = New}, L2}.

@@ -3,7 +3,7 @@
 
 -export([walk/4, children/3, fold/3, free_variables/1, bound_variables/1]).
 -export([place/2, first_place/1]).
--export([literal/1, variable/1, call/4, call_erlang/3, apply_to/3, clause/2, clause/3, is_simple/1, raise_error/2]).
+-export([literal/1, variable/1, call/4, call_erlang/3, apply_to/3, clause/2, clause/3, is_simple/1, evaluated/2, raise_error/2]).
 
 -include("core.hrl").
 
@@ -160,3 +160,7 @@ is_simple(#c_var{}) -> true;
 is_simple(#c_cons{hd = H, tl = T}) -> is_simple(H) andalso is_simple(T);
 is_simple(#c_tuple{es = Es}) -> lists:all(fun is_simple/1, Es);
 is_simple(_) -> false.
+
+%% The body after what of the values can be seen.
+evaluated(Values, Body) ->
+    lists:foldr(fun(V, B) -> case is_simple(V) of true -> B; false -> #c_seq{arg = V, body = B} end end, Body, Values).

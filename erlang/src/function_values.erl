@@ -150,8 +150,9 @@ lifted(#c_letrec{defs = Defs, body = Body} = N, Place, W) ->
     case [V || V <- Taken, lists:member(V, core_tree:bound_variables(N))] of
         [] -> lifted(Defs, Body, [core_tree:variable(V) || V <- Taken], W);
         _ ->
-            Text = "a function here binds a variable again that it uses, which is not read",
-            {done, core_tree:literal(ok), W#work{ledger = ledger:refuse(Place, W#work.home, Text, W#work.ledger)}}
+            Fault = {"a function that binds a variable again", "a function here binds a variable again that it uses, which is not read"},
+            {New, L} = stops:instead(Fault, [], Place, W#work.home, W#work.ledger),
+            {done, New, W#work{ledger = L}}
     end.
 
 lifted(Defs, Body, Taken, W) ->

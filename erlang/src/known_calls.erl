@@ -2,7 +2,7 @@
 %% that it answers them as the manuals say.
 -module(known_calls).
 
--export([is_known/3, is_request/3, objection/3]).
+-export([is_known/3, is_request/3, objection/3, unread/1]).
 
 -include("core.hrl").
 
@@ -32,35 +32,36 @@ is_request(ets, F, A) ->
                           {update_counter, 3}, {update_element, 3}, {give_away, 3}, {setopts, 2}, {info, 2}]);
 is_request(_, _, _) -> false.
 
-%% What is wrong with the arguments of a request: {refuse, Text}, {note, Text} or none.
+%% What is wrong with the arguments of a request: {refuse, What, Text}, where Text says in a sentence that What is not
+%% read; {note, Text}; or none.
 objection(Own, {erlang, Spawn, 3}, [Module, Function, _]) when Spawn =:= spawn; Spawn =:= spawn_link; Spawn =:= spawn_monitor ->
     begins(Own, Module, Function);
 objection(_, {erlang, process_flag, 2}, [#c_literal{val = trap_exit}, _]) -> none;
 objection(_, {erlang, process_flag, 2}, [#c_literal{val = Flag}, _]) ->
-    {refuse, io_lib:format("process_flag(~tw, ..) is not known here", [Flag])};
-objection(_, {erlang, process_flag, 2}, _) -> {refuse, "process_flag/2 of a computed flag is not known here"};
+    unknown(io_lib:format("process_flag(~tw, ..)", [Flag]));
+objection(_, {erlang, process_flag, 2}, _) -> unknown("process_flag/2 of a computed flag");
 objection(_, {erlang, monitor, 2}, [#c_literal{val = process}, #c_literal{}]) ->
-    {refuse, "monitor/2 of a name is not known here: use whereis/1"};
+    {refuse, "monitor/2 of a name", "monitor/2 of a name is not known here: use whereis/1"};
 objection(_, {erlang, monitor, 2}, [#c_literal{val = process}, #c_tuple{}]) ->
-    {refuse, "monitor/2 of a name is not known here: use whereis/1"};
+    {refuse, "monitor/2 of a name", "monitor/2 of a name is not known here: use whereis/1"};
 objection(_, {erlang, monitor, 2}, [#c_literal{val = process}, _]) -> {note, "monitor/2 of what turns out to be a name is badarg here"};
 objection(_, {erlang, monitor, 2}, [#c_literal{val = Kind}, _]) ->
-    {refuse, io_lib:format("monitor(~tw, ..) is not known here", [Kind])};
-objection(_, {erlang, monitor, 2}, _) -> {refuse, "monitor/2 of a computed kind is not known here"};
+    unknown(io_lib:format("monitor(~tw, ..)", [Kind]));
+objection(_, {erlang, monitor, 2}, _) -> unknown("monitor/2 of a computed kind");
 objection(_, {erlang, demonitor, 2}, [_, #c_literal{val = Options}]) when Options =:= []; Options =:= [flush] -> none;
 objection(_, {erlang, demonitor, 2}, [_, #c_literal{val = Options}]) ->
-    {refuse, io_lib:format("demonitor/2 with ~tw is not known here", [Options])};
-objection(_, {erlang, demonitor, 2}, _) -> {refuse, "demonitor/2 with computed options is not known here"};
+    unknown(io_lib:format("demonitor/2 with ~tw", [Options]));
+objection(_, {erlang, demonitor, 2}, _) -> unknown("demonitor/2 with computed options");
 objection(_, {erlang, Send, 2}, [#c_tuple{}, _]) when Send =:= '!'; Send =:= send -> to_a_node();
 objection(_, {erlang, Send, 2}, [#c_literal{val = To}, _]) when is_tuple(To), Send =:= '!' orelse Send =:= send -> to_a_node();
 objection(_, {ets, info, 2}, [_, #c_literal{val = Item}]) ->
     case lists:member(Item, [name, owner, heir, size, type, protection, keypos, named_table]) of
         true -> none;
-        false -> {refuse, io_lib:format("ets:info(.., ~tw) is not known here", [Item])}
+        false -> unknown(io_lib:format("ets:info(.., ~tw)", [Item]))
     end;
 objection(_, {ets, F, 3} = Call, [_, _, Operation]) when F =:= update_counter; F =:= update_element ->
     operation(Call, shape(Operation));
-objection(_, {ets, info, 2}, _) -> {refuse, "ets:info/2 of a computed item is not known here"};
+objection(_, {ets, info, 2}, _) -> unknown("ets:info/2 of a computed item");
 objection(_, _, _) -> none.
 
 %% What is known of an operation on an object before it is computed.
@@ -76,14 +77,18 @@ operation({ets, update_counter, 3}, integer) -> none;
 operation(_, pair) -> none;
 operation({_, update_counter, 3}, computed) -> {note, "ets:update_counter/3 of what is neither an integer nor a pair is badarg here"};
 operation({_, update_element, 3}, computed) -> {note, "ets:update_element/3 of what is no pair is badarg here"};
-operation({_, F, _}, _) -> {refuse, io_lib:format("ets:~ts/3 is known here with one operation alone, and no threshold", [F])}.
+operation({_, F, _}, _) -> unknown(io_lib:format("ets:~ts/3 of several operations, or with a threshold,", [F])).
 
-to_a_node() -> {refuse, "a message to a name on a node is not known here"}.
+to_a_node() -> unknown("a message to a name on a node").
 
 begins(Own, #c_literal{val = Own}, _) -> none;
 begins(_, #c_literal{val = M}, #c_literal{val = F}) ->
-    {refuse, io_lib:format("a process that begins in ~ts:~ts is not read", [atom_to_list(M), atom_to_list(F)])};
+    unread(io_lib:format("a process that begins in ~ts:~ts", [atom_to_list(M), atom_to_list(F)]));
 begins(_, #c_literal{val = M}, _) ->
-    {refuse, io_lib:format("a process that begins in the module ~ts is not read", [atom_to_list(M)])};
+    unread(io_lib:format("a process that begins in the module ~ts", [atom_to_list(M)]));
 begins(Own, _, _) ->
     {note, io_lib:format("where the module of a spawn is computed, only functions of ~ts begin", [atom_to_list(Own)])}.
+
+unknown(What) -> {refuse, What, [What, " is not known here"]}.
+
+unread(What) -> {refuse, What, [What, " is not read"]}.

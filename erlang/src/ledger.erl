@@ -2,11 +2,14 @@
 %% hands out numbers for new names.
 -module(ledger).
 
--export([new/0, refuse/4, refuse_file/3, note/3, doubt/3, number/1, refusals/1, notes/1, doubts/1]).
+-export([new/1, is_strict/1, refuse/4, refuse_file/3, note/3, doubt/3, number/1, refusals/1, notes/1, doubts/1]).
 
--record(ledger, {refusals = [], notes = [], doubts = [], count = 0}).
+-record(ledger, {strict, refusals = [], notes = [], doubts = [], count = 0}).
 
-new() -> #ledger{}.
+%% Strict says whether what is not read is refused where it is written, and not where it is reached.
+new(Strict) -> #ledger{strict = Strict}.
+
+is_strict(#ledger{strict = Strict}) -> Strict.
 
 %% FILE:LINE: text (in f/1)
 refuse({File, Line}, Home, Text, #ledger{refusals = Rs} = L) ->

@@ -59,7 +59,7 @@ rule(#c_call{module = #c_var{}, name = #c_literal{}} = N, _, #scope{origin = lib
 rule(Node, _, S) -> {inside, Node, S}.
 
 call(erlang, raise, [Class, Reason, Trace], N, _, S) ->
-    {inside, evaluated([Trace], raised(N#c_call.anno, Class, Reason)), note("a stack trace is [] here", [], S)};
+    {inside, core_tree:evaluated([Trace], raised(N#c_call.anno, Class, Reason)), note("a stack trace is [] here", [], S)};
 call(erlang, function_exported, [_, #c_literal{val = F}, #c_literal{val = A}], _, _, #scope{origin = library} = S) ->
     {done, core_tree:literal(lists:member({F, A}, S#scope.callbacks)), S};
 call(timer, sleep, [Time], N, _, S) ->
@@ -67,7 +67,7 @@ call(timer, sleep, [Time], N, _, S) ->
     {inside, Sleep, note("timer:sleep/1 may end at once here, as each timeout may", [], S)};
 call(io, F, Args, _, _, S) when F =:= format, length(Args) < 4; F =:= fwrite, length(Args) < 4;
                                 F =:= put_chars, length(Args) < 3; F =:= nl, length(Args) < 2 ->
-    {inside, evaluated(Args, core_tree:literal(ok)), note("io:~ts/~w writes nothing here, and never fails", [F, length(Args)], S)};
+    {inside, core_tree:evaluated(Args, core_tree:literal(ok)), note("io:~ts/~w writes nothing here, and never fails", [F, length(Args)], S)};
 call(M, F, Args, N, Place, #scope{library = Library} = S) ->
     Name = {list_to_atom(lists:concat([M, ":", F])), length(Args)},
     case maps:is_key(Name, Library) of
@@ -77,9 +77,10 @@ call(M, F, Args, N, Place, #scope{library = Library} = S) ->
 
 library_call({M, F, A} = Call, Name, #c_call{anno = Notes, args = Args}, Place, S) ->
     case refused(Call, Args, S) of
-        {refuse, Text} ->
+        {refuse, What, Text} ->
             %% one refusal is enough; what is in the arguments is still looked at
-            {inside, #c_tuple{es = Args}, S#scope{ledger = ledger:refuse(Place, S#scope.home, Text, S#scope.ledger)}};
+            {New, L} = stops:instead({What, Text}, Args, Place, S#scope.home, S#scope.ledger),
+            {inside, New, S#scope{ledger = L}};
         none ->
             S1 = lists:foldl(fun(Text, T) -> note(Text, [], T) end, S, notes_of(M, F, A, S#scope.origin)),
             {inside, core_tree:apply_to(Notes, Name, Args), want(Name, S1)}
@@ -87,17 +88,17 @@ library_call({M, F, A} = Call, Name, #c_call{anno = Notes, args = Args}, Place, 
 
 %% Why a call of the library is not taken as it is written.
 refused({ets, update_counter, 4}, _, #scope{approximate = false}) ->
-    {refuse, "ets:update_counter/4 is two steps here: --approximate takes it"};
+    {refuse, "ets:update_counter/4 without --approximate", "ets:update_counter/4 is two steps here: --approximate takes it"};
 refused({ets, update_counter, 4}, [Table, Key, Operation, _], #scope{module = Own}) ->
     case known_calls:objection(Own, {ets, update_counter, 3}, [Table, Key, Operation]) of
-        {refuse, Text} -> {refuse, Text};
+        {refuse, What, Text} -> {refuse, What, Text};
         _ -> none
     end;
 refused({gen_server, F, A}, Args, #scope{module = Own}) when F =:= start; F =:= start_link ->
     case lists:nth(A - 2, Args) of
         #c_literal{val = Own} -> none;
-        #c_literal{val = M} -> {refuse, io_lib:format("gen_server:~ts/~w of another module, ~ts, is not read", [F, A, M])};
-        _ -> {refuse, io_lib:format("gen_server:~ts/~w of a computed module is not read", [F, A])}
+        #c_literal{val = M} -> known_calls:unread(io_lib:format("gen_server:~ts/~w of another module, ~ts,", [F, A, M]));
+        _ -> known_calls:unread(io_lib:format("gen_server:~ts/~w of a computed module", [F, A]))
     end;
 refused(_, _, _) -> none.
 
@@ -150,7 +151,3 @@ spelled_out(#c_literal{val = V} = N) -> #c_tuple{anno = N#c_literal.anno, es = [
 raised(Notes, Class, Reason) ->
     #c_primop{anno = Notes, name = core_tree:literal(raise),
               args = [#c_tuple{es = [core_tree:literal('$trace'), Class]}, Reason]}.
-
-%% The body after what of the arguments can be seen.
-evaluated(Args, Body) ->
-    lists:foldr(fun(A, B) -> case core_tree:is_simple(A) of true -> B; false -> #c_seq{arg = A, body = B} end end, Body, Args).

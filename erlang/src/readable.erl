@@ -1,7 +1,7 @@
 %% What of the converted functions the explorer would not read: each place is refused.
 -module(readable).
 
--export([check/5]).
+-export([check/5, scope/2, in_guard/1, faults/2, is_past_limit/1]).
 
 -include("core.hrl").
 
@@ -59,40 +59,73 @@ rule(#c_clause{pats = Patterns, guard = Guard, body = Body} = N, Place, #scope{g
     S1 = lists:foldl(Each, S, Patterns),
     S2 = Each(Guard, S1#scope{guarded = true}),
     {done, N, Each(Body, S2#scope{guarded = Outer})};
-rule(#c_literal{val = V} = N, Place, S) -> {done, N, literal(V, Place, S)};
-rule(#c_map{} = N, Place, S) -> {done, N, refuse(Place, "a map in this place is not read", [], S)};
-rule(#c_binary{} = N, Place, S) -> {done, N, refuse(Place, "binaries are not read", [], S)};
-rule(#c_primop{name = #c_literal{val = Name}, args = Args} = N, Place, S) -> primop(Name, length(Args), N, Place, S);
-rule(#c_catch{} = N, _, S) -> {inside, N, note("the stack trace in what catch gives of an error is [] here", S)};
-rule(#c_call{} = N, Place, S) -> {inside, N, call(N, Place, S)};
-rule(#c_apply{op = #c_var{name = {F, A}}} = N, Place, #scope{guarded = true} = S) ->
-    {inside, N, refuse(Place, "~ts in a guard is not read", [shown(F, A)], S)};
-rule(#c_apply{args = Args} = N, Place, S) ->
-    {_, S1} = lists:mapfoldl(fun(A, T) -> core_tree:walk(fun rule/3, Place, T, A) end, S, Args),
-    {done, N, S1};
+%% a stop has its name from the converter
+rule(#c_apply{op = #c_var{name = {'not read', 1}}, args = [#c_literal{val = Table}]} = N, _, S) when is_atom(Table) -> {done, N, S};
 rule(Node, Place, S) ->
-    case lists:member(element(1, Node), [c_alias, c_case, c_cons, c_let, c_receive, c_seq, c_try, c_tuple, c_values, c_var]) of
-        true -> {inside, Node, S};
-        false -> {done, Node, refuse(Place, "a form of this release is not read: ~w", [element(1, Node)], S)}
+    Faults = faults(Node, S),
+    {goes_on(Node, Faults), Node, noted(Node, lists:foldl(fun({_, Text}, T) -> refuse(Place, "~ts", [Text], T) end, S, Faults))}.
+
+%% Whether the parts of a node are looked at: those of a form that is not read are not, but those of a call are.
+goes_on(#c_call{}, _) -> inside;
+goes_on(#c_apply{}, _) -> inside;
+goes_on(_, []) -> inside;
+goes_on(_, _) -> done.
+
+noted(#c_catch{}, S) -> note("the stack trace in what catch gives of an error is [] here", S);
+noted(#c_call{module = #c_literal{val = M}, name = #c_literal{val = F}, args = Args}, S) ->
+    case is_answered(M, F, length(Args), S) andalso known_calls:objection(S#scope.module, {M, F, length(Args)}, Args) of
+        {note, Text} -> note(Text, S);
+        _ -> S
+    end;
+noted(_, S) -> S.
+
+%% ---- what is not read
+
+%% How nodes are judged: in a module that exports these functions, outside of guards; and inside of one.
+scope(Module, Exports) -> #scope{module = Module, exports = Exports}.
+in_guard(Scope) -> Scope#scope{guarded = true}.
+
+%% What is not read of a node, without its parts: [{What, Text}], where Text says in a sentence that What is not read.
+faults(#c_literal{val = V}, _) -> literal_faults(V);
+faults(#c_map{}, _) -> unread("a map in this place");
+faults(#c_binary{}, _) -> binary();
+faults(#c_primop{name = #c_literal{val = Name}, args = Args}, _) -> primop(Name, length(Args));
+faults(#c_call{module = #c_literal{val = M}, name = #c_literal{val = F}, args = Args}, S) when is_atom(M), is_atom(F) ->
+    call(M, F, Args, S);
+faults(#c_call{}, _) -> unread("a call whose module or function is computed");
+faults(#c_apply{op = #c_var{name = {F, A}}}, #scope{guarded = true}) -> unread([shown(F, A), " in a guard"]);
+faults(Node, _) ->
+    Kind = element(1, Node),
+    Read = [c_alias, c_apply, c_case, c_catch, c_clause, c_cons, c_let, c_receive, c_seq, c_try, c_tuple, c_values, c_var],
+    case lists:member(Kind, Read) of
+        true -> [];
+        false -> [{"a form of this release", io_lib:format("a form of this release is not read: ~w", [Kind])}]
     end.
 
-primop(match_fail, 1, N, _, S) -> {inside, N, S};
-primop(raise, 2, N, _, S) -> {inside, N, S};
-primop(Name, Count, N, Place, S) -> {done, N, refuse(Place, "the operation ~w/~w is not read", [Name, Count], S)}.
+unread(What) -> [{What, [What, " is not read"]}].
 
-call(#c_call{module = #c_literal{val = M}, name = #c_literal{val = F}, args = Args}, Place, S) when is_atom(M), is_atom(F) ->
+binary() -> [{"a binary", "binaries are not read"}].
+
+primop(match_fail, 1) -> [];
+primop(raise, 2) -> [];
+primop(bs_init_writable, Count) -> [{"a binary", io_lib:format("the operation bs_init_writable/~w is not read", [Count])}];
+primop(Name, Count) -> unread(io_lib:format("the operation ~w/~w", [Name, Count])).
+
+call(M, F, Args, #scope{guarded = Guarded} = S) ->
     A = length(Args),
-    Own = M =:= S#scope.module andalso lists:member({F, A}, S#scope.exports),
-    case {Own orelse known_calls:is_known(M, F, A), S#scope.guarded} of
-        {false, false} -> refuse(Place, "~ts is not known here~ts", [shown_call(M, F, A), reason(M, F, A)], S);
-        {false, true} -> refuse(Place, "~ts in a guard is not known here", [shown_call(M, F, A)], S);
-        {true, _} -> objected(known_calls:objection(S#scope.module, {M, F, A}, Args), Place, S)
-    end;
-call(_, Place, S) -> refuse(Place, "a call whose module or function is computed is not read", [], S).
+    case is_answered(M, F, A, S) of
+        false when Guarded -> unknown([shown_call(M, F, A), " in a guard"], "");
+        false -> unknown(shown_call(M, F, A), reason(M, F, A));
+        true -> objected(known_calls:objection(S#scope.module, {M, F, A}, Args))
+    end.
 
-objected(none, _, S) -> S;
-objected({refuse, Text}, Place, S) -> refuse(Place, "~ts", [Text], S);
-objected({note, Text}, _, S) -> note(Text, S).
+is_answered(M, F, A, #scope{module = Own, exports = Exports}) ->
+    M =:= Own andalso lists:member({F, A}, Exports) orelse known_calls:is_known(M, F, A).
+
+unknown(What, Reason) -> [{What, [What, " is not known here", Reason]}].
+
+objected({refuse, What, Text}) -> [{What, Text}];
+objected(_) -> [].
 
 %% What the library does is noted where it is called.
 note(Text, #scope{origin = source, ledger = L} = S) -> S#scope{ledger = ledger:note("~ts", [Text], L)};
@@ -110,11 +143,19 @@ shown_call(M, F, A) -> io_lib:format("~ts:~tw/~w", [M, F, A]).
 shown(Name, Arity) when is_atom(Name) -> shown(atom_to_list(Name), Arity);
 shown(Name, Arity) -> io_lib:format("~ts/~w", [Name, Arity]).
 
-literal(V, Place, S) when is_integer(V), V > 9223372036854775807; is_integer(V), V < -9223372036854775808 ->
-    refuse(Place, "integer ~w is past 64 bits", [V], S);
-literal(V, Place, S) when is_float(V) -> refuse(Place, "floats are not read: ~w", [V], S);
-literal(V, Place, S) when is_bitstring(V) -> refuse(Place, "binaries are not read", [], S);
-literal([H | T], Place, S) -> literal(T, Place, literal(H, Place, S));
-literal(V, Place, S) when is_tuple(V) -> literal(tuple_to_list(V), Place, S);
-literal(V, _, S) when is_integer(V); is_atom(V); V =:= [] -> S;
-literal(_, Place, S) -> refuse(Place, "a literal of this kind is not read", [], S).
+%% What is not read of a value that is written: all of it, in its order.
+literal_faults(V) when is_integer(V) ->
+    [{"an integer past 64 bits", io_lib:format("integer ~w is past 64 bits", [V])} || is_past_limit(V)];
+literal_faults(V) when is_float(V) -> [{"a float", io_lib:format("floats are not read: ~w", [V])}];
+literal_faults(V) when is_bitstring(V) -> binary();
+literal_faults([H | T]) -> literal_faults(H) ++ literal_faults(T);
+literal_faults(V) when is_tuple(V) -> lists:flatmap(fun literal_faults/1, tuple_to_list(V));
+literal_faults(V) when is_atom(V) ->
+    case atom_to_list(V) of
+        "not read: " ++ _ -> unread("an atom that begins as the name of a stop does");
+        _ -> []
+    end;
+literal_faults([]) -> [];
+literal_faults(_) -> unread("a literal of this kind").
+
+is_past_limit(N) -> N > 9223372036854775807 orelse N < -9223372036854775808.

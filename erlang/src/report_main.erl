@@ -72,13 +72,23 @@ replayed(Work) ->
 %% ---- an exploration
 
 explored(Work, Coverage) ->
-    {Reach, Findings, Last} = report_reader:report(read(filename:join(Work#work.folder, "report"))),
-    print(report_text:head(Work#work.source, Coverage, Reach)),
-    Errors = [{Number, report_reader:identity(Identity)} || {error, Number, Identity, _} <- Findings],
-    Told = [finding(Work, Place, Finding, Errors) || {Place, Finding} <- lists:enumerate(Findings)],
-    print(report_text:tail(Coverage, Reach, Last)),
+    {Reach, All, Last} = report_reader:report(read(filename:join(Work#work.folder, "report"))),
+    {Findings, Stops, Deadlocks} = report_unread:sorted(All, fun(Place) -> report_reader:transcript(transcript(Work, Place)) end),
+    print(report_unread:head(Stops, report_text:head(Work#work.source, Coverage, Reach))),
+    Errors = [{Number, report_reader:identity(Identity)} || {_, {error, Number, Identity, _}} <- Findings],
+    Told = [finding(Work, Place, Finding, Errors) || {Place, Finding} <- Findings],
+    Reached = [unread(Work, Stop) || Stop <- Stops],
+    print(report_text:tail(Coverage, Reach, report_unread:sums(Findings, Stops, Last))),
+    print(report_unread:below(Stops, Deadlocks)),
     print(report_text:doubts(doubts(Work))),
-    disagreements(Told).
+    disagreements(Told ++ Reached).
+
+transcript(#work{folder = Folder}, Place) -> read(filename:join([Folder, "transcripts", integer_to_list(Place)])).
+
+%% What is not read, with the shortest schedule that reaches it.
+unread(Work, {What, Place, Schedule}) ->
+    print([report_unread:text(What), report_text:schedule(Schedule)]),
+    told(Work, transcript(Work, Place)).
 
 doubts(#work{folder = Folder}) ->
     File = filename:join(Folder, "doubts"),

@@ -27,7 +27,11 @@ started(Name, Arguments) ->
     end.
 
 %% What happened in a step.
-deed({call, Module, Function, Arguments, Answer}) -> [call(Module, Function, Arguments), answer(Function, Answer)];
+deed({call, Module, Function, Arguments, Answer} = Deed) ->
+    case report_unread:what(Deed) of
+        none -> [call(Module, Function, Arguments), answer(Function, Answer)];
+        What -> ["comes to what is not read: ", hd(string:split(What, " at ", trailing))]
+    end;
 deed({receives, Term}) -> ["receives ", report_term:text(Term)];
 deed(timeout) -> "times out";
 deed({ends, Reason}) -> ["ends ", report_term:text(Reason)];

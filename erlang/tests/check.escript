@@ -29,7 +29,7 @@ load(File) ->
 
 part("snippets", Program, Here, Folder, Library) -> snippet_tests:all(Program, Here, Folder, Library);
 part("random", Program, _, Folder, Library) -> random_tests:all(Program, Folder, Library);
-part("refusals", _, Here, Folder, Library) -> refusal_tests:all(Here, Folder, Library);
+part("refusals", Program, Here, Folder, Library) -> refusal_tests:all(Program, Here, Folder, Library);
 part("command", _, Here, Folder, _) -> command_tests:all(filename:dirname(Here), Folder);
 part("library", _, Here, _, _) -> library_tests:all(filename:dirname(Here));
 part("programs", Program, Here, Folder, Library) -> program_tests:all(Program, filename:dirname(Here), Folder, Library).
