@@ -90,6 +90,20 @@
 'lists:zipwith'(F, [A | T], [B | U]) -> [F(A, B) | 'lists:zipwith'(F, T, U)];
 'lists:zipwith'(F, [], []) when is_function(F, 2) -> [].
 
+'lists:zipwith3'(F, [A | T], [B | U], [C | V]) -> [F(A, B, C) | 'lists:zipwith3'(F, T, U, V)];
+'lists:zipwith3'(F, [], [], []) when is_function(F, 3) -> [].
+
+'lists:zf'(F, L) -> 'lists:filtermap'(F, L).
+
+'lists:uniq'(F, L) when is_function(F, 1) -> 'lists uniq'(F, L, []).
+'lists uniq'(F, [H | T], Seen) ->
+    X = F(H),
+    case lists:member(X, Seen) of
+        true -> 'lists uniq'(F, T, Seen);
+        false -> [H | 'lists uniq'(F, T, [X | Seen])]
+    end;
+'lists uniq'(_, [], _) -> [].
+
 'lists:keymap'(F, N, [H | T]) -> [setelement(N, H, F(element(N, H))) | 'lists:keymap'(F, N, T)];
 'lists:keymap'(F, N, []) when is_integer(N), N > 0, is_function(F, 1) -> [].
 
@@ -178,6 +192,20 @@
 'lists flatten'([H | T], A) when is_list(H) -> 'lists flatten'(H, 'lists flatten'(T, A));
 'lists flatten'([H | T], A) -> [H | 'lists flatten'(T, A)];
 'lists flatten'([], A) -> A.
+
+'lists:flatten'(L, Tail) when is_list(L), is_list(Tail) -> 'lists flatten'(L, Tail).
+
+'lists:flatlength'(L) -> 'lists flat length'(L, 0).
+'lists flat length'([H | T], N) when is_list(H) -> 'lists flat length'(H, 'lists flat length'(T, N));
+'lists flat length'([_ | T], N) -> 'lists flat length'(T, N + 1);
+'lists flat length'([], N) -> N.
+
+'lists:concat'(L) -> 'lists:flatmap'(fun 'lists text of'/1, L).
+'lists text of'(X) when is_integer(X) -> integer_to_list(X);
+'lists text of'(X) when is_atom(X) -> atom_to_list(X);
+'lists text of'(X) when is_list(X) -> X.
+
+'lists:uniq'(L) -> 'lists uniq'(fun(X) -> X end, L, []).
 
 'lists:join'(_, []) -> [];
 'lists:join'(S, [H | T]) -> [H | 'lists join'(S, T)].
@@ -283,6 +311,91 @@
 'lists once'([A | T]) -> [A | 'lists once'(T)];
 'lists once'([]) -> [].
 
+'lists:merge'(F, A, []) when is_function(F, 2) -> A;
+'lists:merge'(F, A, [Y | B]) when is_function(F, 2) -> 'lists take left'(F, A, Y, B, []).
+'lists take left'(F, [X | A], Y, B, Taken) ->
+    case F(X, Y) of
+        true -> 'lists take left'(F, A, Y, B, [X | Taken]);
+        false -> 'lists take right'(F, X, A, B, [Y | Taken])
+    end;
+'lists take left'(_, [], Y, B, Taken) -> lists:reverse(Taken, [Y | 'lists proper'(B)]).
+'lists take right'(F, X, A, [Y | B], Taken) ->
+    case F(X, Y) of
+        true -> 'lists take left'(F, A, Y, B, [X | Taken]);
+        false -> 'lists take right'(F, X, A, B, [Y | Taken])
+    end;
+'lists take right'(_, X, A, [], Taken) -> lists:reverse(Taken, [X | 'lists proper'(A)]).
+
+'lists:keymerge'(N, A, B) when is_integer(N), N > 0 ->
+    case B of
+        [] -> A;
+        [Y | Rest] ->
+            _ = element(N, Y),
+            'lists take left'('lists order of'(N), A, Y, Rest, [])
+    end.
+'lists order of'(N) -> fun(A, B) -> element(N, A) =< element(N, B) end.
+
+'lists:merge'(Lists) -> 'lists merge all'(fun 'lists:merge'/2, 'lists sorted'(fun(A, B) -> A =< B end, Lists)).
+'lists:merge3'(A, B, C) -> 'lists:merge'([A, B, C]).
+'lists:umerge'(Lists) -> 'lists merge all'(fun 'lists:umerge'/2, 'lists sorted'(fun(A, B) -> A < B end, Lists)).
+'lists:umerge3'(A, B, C) -> 'lists:umerge'([A, B, C]).
+
+%% Each list merged into those before it. What comes of lists that are in no order depends on the library of the machine.
+'lists merge all'(_, []) -> [];
+'lists merge all'(Merge, [L | Lists]) -> 'lists foldl'(fun(New, All) -> Merge(All, New) end, L, Lists).
+
+'lists sorted'(F, Lists) ->
+    case is_list(Lists) andalso 'lists all'(fun(L) -> is_list(L) andalso 'lists is sorted'(F, L) end, Lists) of
+        true -> Lists;
+        false -> erlang:'a merge of lists that are not sorted'(Lists)
+    end.
+'lists is sorted'(F, [A | [B | _] = T]) -> F(A, B) andalso 'lists is sorted'(F, T);
+'lists is sorted'(_, [_ | T]) -> T =:= [];
+'lists is sorted'(_, []) -> true.
+
+%% Of equal ones that of the left list stays: Same says whether one of the right list equals the last that was taken.
+'lists:umerge'(A, B) -> 'lists once merged'({fun(X, Y) -> X =< Y end, fun(Y, Last) -> Y == Last end}, A, B).
+'lists:umerge'(F, A, B) when is_function(F, 2) -> 'lists once merged'({F, F}, A, B).
+'lists:ukeymerge'(N, A, B) when is_integer(N), N > 0 ->
+    case A of
+        [] -> B;
+        [X | Rest] ->
+            _ = element(N, X),
+            'lists once right'({'lists order of'(N), fun(Y, Last) -> element(N, Y) == element(N, Last) end}, X, Rest, B, [])
+    end.
+
+'lists once merged'(_, [], B) -> B;
+'lists once merged'(Fs, [X | A], B) -> 'lists once right'(Fs, X, A, B, []).
+'lists once left'({F, Same} = Fs, [X | A], Y, B, Taken, Last) ->
+    case F(X, Y) of
+        true -> 'lists once left'(Fs, A, Y, B, [X | Taken], X);
+        false ->
+            case Same(Y, Last) of
+                true -> 'lists once right'(Fs, X, A, B, Taken);
+                false -> 'lists once right'(Fs, X, A, B, [Y | Taken])
+            end
+    end;
+'lists once left'({_, Same}, [], Y, B, Taken, Last) ->
+    case Same(Y, Last) of
+        true -> lists:reverse(Taken, 'lists proper'(B));
+        false -> lists:reverse(Taken, [Y | 'lists proper'(B)])
+    end.
+'lists once right'({F, _} = Fs, X, A, [Y | B], Taken) ->
+    case F(X, Y) of
+        true -> 'lists once left'(Fs, A, Y, B, [X | Taken], X);
+        false -> 'lists once right'(Fs, X, A, B, [Y | Taken])
+    end;
+'lists once right'(_, X, A, [], Taken) -> lists:reverse(Taken, [X | 'lists proper'(A)]).
+
+'lists:usort'(F, L) when is_function(F, 2) -> 'lists once'(F, 'lists:sort'(F, L)).
+'lists:ukeysort'(N, L) when is_integer(N), N > 0 -> 'lists once'('lists order of'(N), 'lists:keysort'(N, L)).
+'lists once'(F, [A, B | T]) ->
+    case F(B, A) of
+        true -> 'lists once'(F, [A | T]);
+        false -> [A | 'lists once'(F, [B | T])]
+    end;
+'lists once'(_, L) -> L.
+
 %% ---- of erlang
 
 'erlang:max'(A, B) when A >= B -> A;
@@ -293,6 +406,23 @@
 
 'erlang:append_element'(T, X) when is_tuple(T) -> list_to_tuple(tuple_to_list(T) ++ [X]);
 'erlang:append_element'(_, _) -> error(badarg).
+
+'erlang:insert_element'(N, T, X) when is_integer(N), is_tuple(T), N > 0, N =< tuple_size(T) + 1 ->
+    {Before, After} = lists:split(N - 1, tuple_to_list(T)),
+    list_to_tuple(Before ++ [X | After]);
+'erlang:insert_element'(_, _, _) -> error(badarg).
+
+'erlang:delete_element'(N, T) when is_integer(N), is_tuple(T), N > 0, N =< tuple_size(T) ->
+    {Before, [_ | After]} = lists:split(N - 1, tuple_to_list(T)),
+    list_to_tuple(Before ++ After);
+'erlang:delete_element'(_, _) -> error(badarg).
+
+
+%% The last pair of a place is its value.
+'erlang:make_tuple'(N, X, Pairs) -> 'tuple of pairs'('erlang:make_tuple'(N, X), Pairs).
+'tuple of pairs'(T, [{N, X} | Pairs]) -> 'tuple of pairs'(setelement(N, T, X), Pairs);
+'tuple of pairs'(T, []) -> T;
+'tuple of pairs'(_, _) -> error(badarg).
 
 'erlang:make_tuple'(N, X) when is_integer(N), N >= 0 -> list_to_tuple('lists duplicate'(N, X));
 'erlang:make_tuple'(_, _) -> error(badarg).

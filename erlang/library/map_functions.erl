@@ -77,11 +77,11 @@
 'map merge with'(_, A, []) -> A.
 
 'maps:map'(F, {'$map', L}) when is_function(F, 2) -> {'$map', [{K, F(K, V)} || {K, V} <- L]};
-'maps:map'(F, M) when is_function(F, 2) -> error({badmap, M});
+'maps:map'(F, I) when is_function(F, 2) -> 'maps:from_list'([{K, F(K, V)} || {K, V} <- 'map pairs'(I)]);
 'maps:map'(_, _) -> error(badarg).
 
 'maps:filter'(F, {'$map', L}) when is_function(F, 2) -> {'$map', 'map filter'(F, L)};
-'maps:filter'(F, M) when is_function(F, 2) -> error({badmap, M});
+'maps:filter'(F, I) when is_function(F, 2) -> 'maps:from_list'('map filter'(F, 'map pairs'(I)));
 'maps:filter'(_, _) -> error(badarg).
 'map filter'(F, [{K, V} = P | T]) ->
     case F(K, V) of
@@ -91,7 +91,7 @@
 'map filter'(_, []) -> [].
 
 'maps:filtermap'(F, {'$map', L}) when is_function(F, 2) -> {'$map', 'map filtermap'(F, L)};
-'maps:filtermap'(F, M) when is_function(F, 2) -> error({badmap, M});
+'maps:filtermap'(F, I) when is_function(F, 2) -> 'maps:from_list'('map filtermap'(F, 'map pairs'(I)));
 'maps:filtermap'(_, _) -> error(badarg).
 'map filtermap'(F, [{K, V} = P | T]) ->
     case F(K, V) of
@@ -102,13 +102,13 @@
 'map filtermap'(_, []) -> [].
 
 'maps:fold'(F, A, {'$map', L}) when is_function(F, 3) -> 'map fold'(F, A, L);
-'maps:fold'(F, _, M) when is_function(F, 3) -> error({badmap, M});
+'maps:fold'(F, A, I) when is_function(F, 3) -> 'map fold'(F, A, 'map pairs'(I));
 'maps:fold'(_, _, _) -> error(badarg).
 'map fold'(F, A, [{K, V} | T]) -> 'map fold'(F, F(K, V, A), T);
 'map fold'(_, A, []) -> A.
 
 'maps:foreach'(F, {'$map', L}) when is_function(F, 2) -> 'map foreach'(F, L);
-'maps:foreach'(F, M) when is_function(F, 2) -> error({badmap, M});
+'maps:foreach'(F, I) when is_function(F, 2) -> 'map foreach'(F, 'map pairs'(I));
 'maps:foreach'(_, _) -> error(badarg).
 'map foreach'(F, [{K, V} | T]) -> F(K, V), 'map foreach'(F, T);
 'map foreach'(_, []) -> ok.
@@ -144,6 +144,47 @@
 'maps:without'(_, _) -> error(badarg).
 'map without'([K | T], L) -> 'map without'(T, lists:keydelete(K, 1, L));
 'map without'([], L) -> L.
+
+%% The second map's value stays.
+'maps:intersect'(A, B) -> 'map intersect'(fun(_, _, V) -> V end, A, B).
+'maps:intersect_with'(F, A, B) when is_function(F, 3) -> 'map intersect'(F, A, B);
+'maps:intersect_with'(_, {'$map', _}, {'$map', _}) -> error(badarg);
+'maps:intersect_with'(_, {'$map', _}, M) -> error({badmap, M});
+'maps:intersect_with'(_, M, _) -> error({badmap, M}).
+'map intersect'(F, {'$map', A}, {'$map', B}) -> {'$map', [{K, F(K, V, W)} || {K, V} <- A, {L, W} <- B, K =:= L]};
+'map intersect'(_, {'$map', _}, M) -> error({badmap, M});
+'map intersect'(_, M, _) -> error({badmap, M}).
+
+'maps:groups_from_list'(F, L) -> 'maps:groups_from_list'(F, fun(X) -> X end, L).
+'maps:groups_from_list'(F, G, L) when is_function(F, 1), is_function(G, 1), length(L) >= 0 -> 'map groups'(F, G, lists:reverse(L), []);
+'maps:groups_from_list'(_, _, _) -> error(badarg).
+'map groups'(F, G, [H | T], Pairs) ->
+    K = F(H),
+    V = G(H),
+    Group = case lists:keyfind(K, 1, Pairs) of {_, Vs} -> Vs; false -> [] end,
+    'map groups'(F, G, T, 'map put'(K, [V | Group], Pairs));
+'map groups'(_, _, [], Pairs) -> {'$map', Pairs}.
+
+'maps:iterator'({'$map', _} = M) -> [0 | M];
+'maps:iterator'(M) -> error({badmap, M}).
+
+'maps:next'([N | {'$map', L}]) when is_integer(N) -> 'map chain'(L);
+'maps:next'({K, V, Rest}) -> {K, V, Rest};
+'maps:next'(none) -> none;
+'maps:next'(_) -> error(badarg).
+'map chain'([{K, V} | T]) -> {K, V, 'map chain'(T)};
+'map chain'([]) -> none.
+
+%% The pairs that an iterator comes to.
+'map pairs'([N | {'$map', L}]) when is_integer(N) -> L;
+'map pairs'({K, V, Rest}) -> [{K, V} | 'map further pairs'(Rest)];
+'map pairs'(none) -> [];
+'map pairs'(M) -> error({badmap, M}).
+'map further pairs'(I) ->
+    case I =:= none orelse is_list(I) orelse is_tuple(I) andalso tuple_size(I) =:= 3 of
+        true -> 'map pairs'(I);
+        false -> erlang:'an iterator of this form'(I)
+    end.
 
 %% ---- of erlang
 

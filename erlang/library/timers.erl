@@ -10,6 +10,15 @@
     spawn(fun() -> 'timer waits'(Time, To, {timeout, self(), Message}) end);
 'erlang:start_timer'(_, _, _) -> error(badarg).
 
+%% With options that mean nothing here.
+'erlang:send_after'(Time, To, Message, Options) -> 'timer options'(Options), 'erlang:send_after'(Time, To, Message).
+'erlang:start_timer'(Time, To, Message, Options) -> 'timer options'(Options), 'erlang:start_timer'(Time, To, Message).
+'erlang:cancel_timer'(Timer, Options) -> 'timer options'(Options), 'erlang:cancel_timer'(Timer).
+
+'timer options'([{_, false} | Options]) -> 'timer options'(Options);
+'timer options'([]) -> ok;
+'timer options'(Options) -> erlang:'a timer with options'(Options).
+
 'timer waits'(Time, To, Message) ->
     receive
         {'$cancel', From, Ref} -> From ! {Ref, 0}
@@ -31,8 +40,43 @@
     {ok, spawn(fun() -> 'timer waits'(Time, To, Message) end)};
 'timer:send_after'(_, _, _) -> {error, badarg}.
 
+'timer:send_interval'(Time, Message) -> 'timer:send_interval'(Time, self(), Message).
+'timer:send_interval'(Time, To, Message) when is_integer(Time), Time >= 0, is_pid(To); is_integer(Time), Time >= 0, is_atom(To) ->
+    {ok, spawn(fun() -> 'timer repeats'(Time, To, Message) end)};
+'timer:send_interval'(_, _, _) -> {error, badarg}.
+
+%% Until it is cancelled, or the process to which it sends is gone.
+'timer repeats'(Time, To, Message) ->
+    case 'timer pid'(To) of
+        undefined -> ok;
+        Pid -> 'timer repeats'(monitor(process, Pid), Time, To, Message)
+    end.
+
+'timer repeats'(Ref, Time, To, Message) ->
+    receive
+        {'$cancel', From, Asked} -> From ! {Asked, 0};
+        {'DOWN', Ref, process, _, _} -> ok
+    after Time ->
+        catch To ! Message,
+        'timer repeats'(Ref, Time, To, Message)
+    end.
+
+'timer pid'(To) when is_pid(To) -> To;
+'timer pid'(To) -> whereis(To).
+
+'timer:apply_after'(Time, Module, Function, Arguments)
+  when is_integer(Time), Time >= 0, is_atom(Module), is_atom(Function), is_list(Arguments) ->
+    {ok, spawn(fun() -> 'timer applies'(Time, Module, Function, Arguments) end)};
+'timer:apply_after'(_, _, _, _) -> {error, badarg}.
+
+'timer applies'(Time, Module, Function, Arguments) ->
+    receive
+        {'$cancel', From, Ref} -> From ! {Ref, 0}
+    after Time -> apply(Module, Function, Arguments)
+    end.
+
 'timer:exit_after'(Time, Reason) -> 'timer:exit_after'(Time, self(), Reason).
-'timer:exit_after'(Time, To, Reason) when is_integer(Time), Time >= 0, is_pid(To) ->
+'timer:exit_after'(Time, To, Reason) when is_integer(Time), Time >= 0 ->
     {ok, spawn(fun() -> 'timer ends'(Time, To, Reason) end)};
 'timer:exit_after'(_, _, _) -> {error, badarg}.
 

@@ -1,7 +1,9 @@
 %% A gen_server that counts: a cast of one process and the call of another come in any order.
-%% want: main ends {badmatch,0} where the call comes before the cast, and is fine else
+%% want: main ends {badmatch,0} where the call comes before the cast, with a timeout where the server is too slow, and is fine else
 %% depth: 24
+%% error: P ends {'timeout',{'gen_server','call',[P.1,'read']}}
 %% error: P ends {{'badmatch',0},[]}
+%% error: P.1 ends {'timeout',{'gen_server','call',[P.1,'read']}}
 %% error: P.1 ends {{'badmatch',0},[]}
 %% error: deadlock of P.1
 -module(counter_server).

@@ -1,8 +1,9 @@
 %% One stops a server that another calls.
-%% want: the caller ends {noproc,..} or {normal,..} in some schedule
+%% want: the caller ends {noproc,..}, {normal,..} or {timeout,..} in some schedule
 %% depth: 24
 %% error: P.4 ends {'call','noproc'}
 %% error: P.4 ends {'call','normal'}
+%% error: P.4 ends {'call','timeout'}
 -module(server_stopped).
 -behaviour(gen_server).
 -export([main/0, init/1, handle_call/3, handle_cast/2]).

@@ -1,14 +1,16 @@
-%% From a file of Erlang source to the text of a Core Erlang module that the explorer reads.
+%% From Erlang modules to the text of one Core Erlang module that the explorer reads.
 -module(converter).
 
 -export([main/2, run/2]).
 
 -include("core.hrl").
 
--record(options, {file, entry = none, after_timeout = none, strict = false, notes = false, doubts = none, approximate = false, compiler = []}).
+-record(options, {files = [], folders = [], entry = none, after_timeout = none, strict = false, notes = false, doubts = none, environment = [],
+                  compiler = []}).
 
 usage() ->
-    "usage: convert.escript FILE.erl [--entry f/0] [--after-timeout MS] [--strict] [--approximate] [--notes] [--doubts FILE] [-I DIR] [-D NAME[=VALUE]]\n".
+    "usage: convert.escript FILE.erl|FILE.beam [FILE|FOLDER ..] [-pa FOLDER] [--entry [m:]f/0] [--after-timeout MS] [--strict] [--notes]"
+    " [--doubts FILE] [--env APPLICATION.KEY=TERM] [-I DIR] [-D NAME[=VALUE]]\n".
 
 %% Prints, and gives the status. Library is the folder's library, {Name, Arity} => function.
 main(Words, Library) ->
@@ -22,13 +24,13 @@ main(Words, Library) ->
 %% {Status, Output, Errors}
 run(Words, Library) ->
     case options(Words, #options{}) of
-        {ok, #options{file = File} = Options} when File =/= undefined -> told(convert(File, Options, Library), Options);
+        {ok, #options{files = [_ | _] = Files} = Options} -> told(convert(Options#options{files = lists:reverse(Files)}, Library), Options);
         _ -> {64, "", usage()}
     end.
 
 options(["--entry", Entry | T], O) ->
     case string:split(Entry, "/") of
-        [F, "0"] when F =/= "" -> options(T, O#options{entry = {named, list_to_atom(F)}});
+        [Named, "0"] when Named =/= "" -> options(T, O#options{entry = entry(string:split(Named, ":"))});
         _ -> error
     end;
 options(["--after-timeout", Text | T], O) ->
@@ -39,31 +41,52 @@ options(["--after-timeout", Text | T], O) ->
 options(["--strict" | T], O) -> options(T, O#options{strict = true});
 options(["--notes" | T], O) -> options(T, O#options{notes = true});
 options(["--doubts", File | T], O) -> options(T, O#options{doubts = File});
-options(["--approximate" | T], O) -> options(T, O#options{approximate = true});
+options(["-pa", Folder | T], #options{folders = Folders} = O) -> options(T, O#options{folders = Folders ++ [Folder]});
+options(["--env", Text | T], #options{environment = Set} = O) ->
+    case value_set(string:split(Text, "=")) of
+        error -> error;
+        One -> options(T, O#options{environment = [One | Set]})
+    end;
 options(["-I", Directory | T], #options{compiler = C} = O) -> options(T, O#options{compiler = C ++ [{i, Directory}]});
 options(["-D", Text | T], #options{compiler = C} = O) -> options(T, O#options{compiler = C ++ [defined(Text)]});
 options(["-" ++ _ | _], _) -> error;
-options([File | T], #options{file = undefined} = O) -> options(T, O#options{file = File});
-options([], O) -> {ok, O};
-options(_, _) -> error.
+options([File | T], #options{files = Files} = O) -> options(T, O#options{files = [File | Files]});
+options([], O) -> {ok, O}.
+
+entry([F]) -> {list_to_atom(F)};
+entry([Module, F]) -> {list_to_atom(Module), list_to_atom(F)}.
 
 %% -D NAME is true, -D NAME=VALUE is the term
 defined(Text) ->
     case string:split(Text, "=") of
         [Name] -> {d, list_to_atom(Name)};
         [Name, Value] ->
-            case erl_scan:string(Value ++ ".") of
-                {ok, Tokens, _} ->
-                    case erl_parse:parse_term(Tokens) of
-                        {ok, Term} -> {d, list_to_atom(Name), Term};
-                        _ -> {d, list_to_atom(Name), Value}
-                    end;
-                _ -> {d, list_to_atom(Name), Value}
+            case term(Value) of
+                {ok, Term} -> {d, list_to_atom(Name), Term};
+                error -> {d, list_to_atom(Name), Value}
             end
     end.
 
+%% --env APPLICATION.KEY=TERM
+value_set([Named, Value]) ->
+    case {string:split(Named, "."), term(Value)} of
+        {[Application, Key], {ok, Term}} -> {list_to_atom(Application), list_to_atom(Key), Term};
+        _ -> error
+    end;
+value_set(_) -> error.
+
+term(Text) ->
+    case erl_scan:string(Text ++ ".") of
+        {ok, Tokens, _} ->
+            case erl_parse:parse_term(Tokens) of
+                {ok, Term} -> {ok, Term};
+                _ -> error
+            end;
+        _ -> error
+    end.
+
 told({error, Lines}, _) -> {2, "", Lines};
-told({ok, Text, Ledger}, #options{file = File, notes = WithNotes, doubts = Doubts}) ->
+told({ok, File, Text, Ledger}, #options{notes = WithNotes, doubts = Doubts}) ->
     Notes = case WithNotes of true -> ledger:notes(Ledger); false -> "" end,
     case {ledger:refusals(Ledger), written(Doubts, Ledger)} of
         {[], ok} -> small(File, unicode:characters_to_binary(Text()), Notes);
@@ -79,43 +102,66 @@ small(File, Text, Notes) when byte_size(Text) > 1048576 ->
     {2, "", [Notes, io_lib:format("~ts: a text of ~w bytes is not read, only 1048576~n", [File, byte_size(Text)])]};
 small(_, Text, Notes) -> {0, Text, Notes}.
 
-%% {ok, Text, Ledger}, where Text() is the text if nothing was refused.
-convert(File, Options, Library) ->
-    case source_module:load(File, Options#options.compiler) of
-        {error, Lines} -> {error, Lines};
-        {ok, Module, OnLoad, Exports, Definitions} ->
-            New = ledger:new(Options#options.strict),
-            Ledger = case OnLoad of
-                true -> ledger:refuse_file(File, "-on_load is not read", New);
-                false -> New
-            end,
-            converted(File, Module, Exports, Definitions, Options, Library, Ledger)
+%% {ok, File, Text, Ledger}, where Text() is the text if nothing was refused, and File is the first one.
+convert(#options{files = Files, folders = Folders, entry = Entry, environment = Set, compiler = Words} = Options, Library0) ->
+    Library = maps:merge(Library0, environment:functions(modules:environment(Folders) ++ lists:reverse(Set))),
+    try
+        case modules:open(Files, Folders, Words, named(Entry), linker:modules_of(Library)) of
+            {error, Lines} -> {error, Lines};
+            {ok, RunsWhenLoaded, Modules} ->
+                {Text, Ledger} = begun(RunsWhenLoaded, Modules, Options, Library, ledger:new(Options#options.strict)),
+                {ok, modules:file(Modules), Text, Ledger}
+        end
+    catch throw:{unreadable, Why} -> {error, Why}
     end.
 
-converted(File, Module, Exports0, Source, #options{entry = Entry, approximate = Approximate} = Options, Library, L0) ->
-    {Begun, Exported, L1} = entry_point:settle(Entry, File, Module, Exports0, Source, L0),
-    Needed = reach:from_main(Begun, Module, Exported, Library),
-    Exports = [E || E <- Exported, lists:member(E, Needed)],
-    Looked = [D || D <- Begun, lists:member(D#definition.name, Needed)],
-    Prepare = fun(D, L) -> prepared(D, Options, L) end,
-    {Prepared, L2} = lists:mapfoldl(Prepare, doubts:find(Looked, L1), Looked),
-    {Resolved, L3} = library_calls:resolve(Prepared, Prepare, {Module, Exports, Library, Approximate}, L2),
-    Size = odd_tuples:free_size([D#definition.code || D <- Resolved]),
-    Plain = [odd_tuples:replace(Size, D) || D <- Resolved],
-    {FirstOrder, NewExports, L4} = function_values:replace(Plain, Module, Size, L3),
+named({Module, _}) -> Module;
+named(_) -> none.
+
+begun(RunsWhenLoaded, Modules, #options{entry = Asked} = Options, Library, New) ->
+    Ledger = case RunsWhenLoaded of
+        true -> ledger:refuse_file(modules:file(Modules), "-on_load is not read", New);
+        false -> New
+    end,
+    case entry_point:settle(Asked, Modules, Ledger) of
+        {none, _, L} -> {none, L};
+        {Entry, Modules1, L} -> converted(Entry, Modules1, Options, Library, L)
+    end.
+
+converted(Entry, Modules, Options, Library, L0) ->
+    Module = modules:main(Modules),
+    File = modules:file(Modules),
+    Link = fun(Replace) -> linker:link(Entry, {Modules, Library}, fun(D, L) -> prepared(Replace(D), Library, Options, L) end, L0) end,
+    {Tables, {Called, Exports, Read, L1}} = with_tables(Link, Link(fun(D) -> D end)),
+    L2 = doubts:find([Ds || {_, [#definition{origin = source} | _] = Ds} <- Read], Tables, L1),
+    Complete = atom_texts:complete(table_forms:settle(Tables, Called)),
+    Selecting = late_replies:leave(Complete),
+    Size = odd_tuples:free_size([D#definition.code || D <- Selecting]),
+    Plain = [odd_tuples:replace(Size, D) || D <- Selecting],
+    {FirstOrder, NewExports, L3} = function_values:replace(Plain, Module, Size, L2),
     AllExports = lists:usort(Exports ++ NewExports),
     Reached = reach:by_names(FirstOrder, [{main, 0} | AllExports]),
-    {Stopped, L5} = stops:put(Reached, Module, AllExports, L4),
-    Ledger = readable:check(File, Stopped, Module, AllExports, L5),
-    {ok, fun() -> core_text:module(File, Module, AllExports, Stopped) end, Ledger}.
+    {Stopped, L4} = stops:put(Reached, Module, AllExports, L3),
+    Ledger = readable:check(File, Stopped, Module, AllExports, L4),
+    {fun() -> core_text:module(File, Module, AllExports, Stopped) end, Ledger}.
 
-%% A definition with its receives, clauses, timeouts and maps in forms that are read.
-prepared(#definition{code = Code, origin = Origin, home = Home} = D, #options{after_timeout = Limit, strict = Strict}, L) ->
-    Restored = receives:restore(Code),
-    Matching = case Strict of
+%% Which tables there are is known once it is known what is reached: where there are some, it is linked again, with the calls
+%% of ets as they have to be.
+with_tables(Link, {_, _, Read, _} = Linked) ->
+    Tables = table_kinds:of_source(lists:append([Definitions || {_, Definitions} <- Read])),
+    case table_kinds:is_none(Tables) of
+        true -> {Tables, Linked};
+        false -> {Tables, Link(fun(D) -> table_forms:replace(D, Tables) end)}
+    end.
+
+%% A definition with its receives, clauses, timeouts, maps and binaries in forms that are read.
+prepared(#definition{code = Code, origin = Origin, home = Home} = D, Library, #options{after_timeout = Limit}, L0) ->
+    {Begun, L} = spawn_options:replace(Code, L0),
+    Restored = receives:restore(Begun),
+    Matching = case ledger:is_strict(L) of
         true -> Restored;
         false -> stops:leave_out(Home, Restored)
     end,
     {Lengthened, L1} = timeouts:lengthen(Origin, Home, Limit, L, Matching),
-    {New, L2} = map_forms:replace(Home, L1, Lengthened),
+    {New, L2} = clause_forms:replace(Home, Library, L1, Lengthened),
     {D#definition{code = New}, L2}.

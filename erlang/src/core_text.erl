@@ -6,20 +6,27 @@
 
 -include("core.hrl").
 
-module(File, Name, Exports, Definitions) ->
-    ["module ", atom(Name), " [", joined([function_name(E) || E <- Exports]), "]\n    attributes []\n",
-     [definition(File, D) || D <- Definitions], "end\n"].
+%% A text of this many bytes is written without blanks at the beginning of its lines: few read it, and it is a fifth of it.
+-define(LARGE, 200000).
 
-definition(File, #definition{name = Name, origin = Origin, code = #c_fun{vars = Vars, body = Body}}) ->
+module(File, Name, Exports, Definitions) ->
+    Head = ["module ", atom(Name), " [", joined([function_name(E) || E <- Exports]), "]\n    attributes []\n"],
+    Indented = unicode:characters_to_binary([Head, [definition(File, 4, D) || D <- Definitions], "end\n"]),
+    case byte_size(Indented) > ?LARGE of
+        true -> [Head, [definition(File, -?LARGE, D) || D <- Definitions], "end\n"];
+        false -> Indented
+    end.
+
+definition(File, Indent, #definition{name = Name, origin = Origin, code = #c_fun{vars = Vars, body = Body}}) ->
     [function_name(Name), " =\n  fun (", joined([variable(V) || V <- Vars]), ") ->",
-     line_end(4), expression(Body, {4, source(Origin, File)}), "\n"].
+     line_end(Indent), expression(Body, {Indent, source(Origin, File)}), "\n"].
 
 source(source, File) -> {source, File};
-source(library, _) -> library.
+source(_, _) -> library.
 
 function_name({F, A}) -> [atom(F), "/", integer_to_list(A)].
 %% Limits the indent, so that a long function is not mostly blanks.
-line_end(Indent) -> ["\n", lists:duplicate(min(Indent, 80), $ )].
+line_end(Indent) -> ["\n", lists:duplicate(max(0, min(Indent, 80)), $ )].
 joined(Texts) -> lists:join(",", Texts).
 
 %% An expression, where {Indent, Origin}: how far lines are moved to the right, and whether

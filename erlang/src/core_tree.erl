@@ -1,9 +1,10 @@
 %% Walks over Core Erlang, its variables and places, and short functions to make it.
 -module(core_tree).
 
--export([walk/4, children/3, fold/3, free_variables/1, bound_variables/1]).
--export([place/2, first_place/1]).
--export([literal/1, variable/1, call/4, call_erlang/3, apply_to/3, clause/2, clause/3, is_simple/1, evaluated/2, raise_error/2]).
+-export([walk/4, children/3, fold/3, free_variables/1, bound_variables/1, uses/2]).
+-export([place/2, first_place/1, first_file/2]).
+-export([literal/1, variable/1, list/1, length_of/1, call/4, call_erlang/3, apply_to/3, clause/2, clause/3, is_simple/1, evaluated/2,
+         raise_error/2]).
 
 -include("core.hrl").
 
@@ -92,6 +93,9 @@ bound_variables(Tree) ->
             (_, S) -> S
          end, [], Tree).
 
+%% How often a tree uses a variable.
+uses(Variable, Tree) -> fold(fun(#c_var{name = V}, N) when V =:= Variable -> N + 1; (_, N) -> N end, 0, Tree).
+
 names(Vars) -> [V || #c_var{name = V} <- Vars].
 
 %% A key of a map pattern is an expression, and binds nothing.
@@ -128,6 +132,11 @@ first_place(Tree) ->
     Lines = fold(fun(Node, Sum) -> lines_of(Node, Free) ++ Sum end, [], Tree),
     case Lines of [] -> 0; _ -> lists:min(Lines) end.
 
+%% The file of the first node of a tree that names one, or else this one.
+first_file(Tree, Else) ->
+    Find = fun(Node, none) -> proplists:get_value(file, element(2, Node), none); (_, File) -> File end,
+    case fold(Find, none, Tree) of none -> Else; File -> File end.
+
 lines_of(Node, Free) ->
     IsOutside = is_record(Node, c_var) andalso lists:member(Node#c_var.name, Free),
     case line(element(2, Node)) of
@@ -139,6 +148,17 @@ lines_of(Node, Free) ->
 literal(Value) -> #c_literal{val = Value}.
 
 variable(Name) -> #c_var{name = Name}.
+
+list(Nodes) -> lists:foldr(fun(N, T) -> #c_cons{hd = N, tl = T} end, literal([]), Nodes).
+
+%% How long a list is, or none where that is computed.
+length_of(#c_literal{val = V}) when length(V) >= 0 -> length(V);
+length_of(#c_cons{tl = Tail}) ->
+    case length_of(Tail) of
+        none -> none;
+        N -> N + 1
+    end;
+length_of(_) -> none.
 
 call(Notes, Module, Name, Arguments) ->
     #c_call{anno = Notes, module = literal(Module), name = literal(Name), args = Arguments}.

@@ -11,15 +11,16 @@
 %%   values    {Name, Arity, Taken}: functions that are values, with how many values they take along
 %%   arities   of what is applied
 %%   exports   what processes begin with
-%%   names     names that were given
--record(work, {module, size, home, origin, created = [], values = [], arities = [], exports = [], names = [], ledger}).
+%%   names     how many have a name that was given
+%%   several   functions of other modules, {M, F, A}, that are values in several places: they are equal, so they are one function
+-record(work, {module, size, home, origin, created = [], values = [], arities = [], exports = [], names = #{}, several, ledger}).
 
 %% All definitions without functions as values, and the new ones that have to be exported.
 replace(Definitions, Module, Size, Ledger) ->
-    {Done, Work} = rounds(Definitions, #work{module = Module, size = Size, ledger = Ledger}, []),
+    {Done, Work} = rounds(Definitions, #work{module = Module, size = Size, several = several(Definitions, Module), ledger = Ledger}, []),
     Values = lists:usort(Work#work.values),
     Applies = [apply_fun:definition(Size, Arity, Values) || Arity <- lists:usort(Work#work.arities)],
-    {Done ++ Applies, lists:usort(Work#work.exports), noted(Values, Work#work.ledger)}.
+    {Done ++ Applies, lists:usort(Work#work.exports), noted(Values, ledger:within(source, Work#work.ledger))}.
 
 rounds([], Work, Done) -> {Done, Work};
 rounds(Definitions, Work, Done) ->
@@ -32,7 +33,8 @@ noted(_, L) -> ledger:note("functions are tuples here: they sort among tuples, e
 
 definition(#definition{code = #c_fun{body = Body} = Fun, home = Home, origin = Origin} = D, Work) ->
     Place = core_tree:place(Fun, {"", 0}),
-    {New, Work1} = core_tree:walk(fun rule/3, Place, Work#work{home = Home, origin = Origin}, Body),
+    Here = Work#work{home = Home, origin = Origin, ledger = ledger:within(Origin, Work#work.ledger)},
+    {New, Work1} = core_tree:walk(fun rule/3, Place, Here, Body),
     {D#definition{code = Fun#c_fun{body = New}}, Work1}.
 
 apply_name(Arity) -> {'apply fun', Arity + 1}.
@@ -70,10 +72,33 @@ export(Name, #work{exports = Es} = W) -> W#work{exports = [Name | Es]}.
 
 %% ---- a fun
 
-closed(#c_fun{vars = Vars} = Fun, W) ->
-    {Name, Taken, W1} = create("fun in ", Fun, W),
+closed(#c_fun{vars = Vars} = Fun, #work{several = Several} = W) ->
+    External = external(Fun),
+    {Name, Taken, W1} = case lists:member(External, Several) of
+        true -> shared(External, Fun, W);
+        false -> create("fun in ", Fun, W)
+    end,
     Arity = length(Vars),
     {done, odd_tuples:function(W#work.size, Name, Arity, Taken), value({{Name, Arity + length(Taken)}, Arity, length(Taken)}, W1)}.
+
+external(#c_fun{anno = Notes}) -> proplists:get_value(external, Notes, none).
+
+%% `named m:f` is made once. It has no line, since it is of no one place.
+shared({M, F, A}, Fun, #work{names = Names} = W) ->
+    Text = lists:concat(["named ", M, ":", F, "/", A]),
+    Name = list_to_atom(lists:concat(["named ", M, ":", F])),
+    case Names of
+        #{Text := _} -> {Name, [], W};
+        _ -> {Name, [], created({Name, A}, Fun, library, Text, W#work{names = Names#{Text => 1}})}
+    end.
+
+%% (what is not read is said of each place)
+several(Definitions, Module) ->
+    Find = fun(#c_fun{} = Fun, Sum) -> [External || External <- [external(Fun)], External =/= none, calls_known(Fun, Module)] ++ Sum;
+              (_, Sum) -> Sum
+           end,
+    Found = lists:foldl(fun(#definition{code = Code}, Sum) -> core_tree:fold(Find, Sum, Code) end, [], Definitions),
+    lists:usort(Found -- lists:usort(Found)).
 
 %% A definition of this fun, with the variables that it takes along as its last parameters.
 create(Kind, #c_fun{vars = Vars, body = Body} = Fun, W) ->
@@ -82,18 +107,27 @@ create(Kind, #c_fun{vars = Vars, body = Body} = Fun, W) ->
     New = Fun#c_fun{vars = Vars ++ Taken, body = Body},
     {Name, Taken, created({Name, length(Vars) + length(Taken)}, New, W1)}.
 
-created(Name, Code, #work{created = New, home = Home, origin = Origin} = W) ->
+created(Name, Code, #work{home = Home, origin = Origin} = W) -> created(Name, Code, Origin, Home, W).
+
+created(Name, Code, Origin, Home, #work{created = New} = W) ->
     W#work{created = [#definition{name = Name, code = Code, origin = Origin, home = Home} | New]}.
 
 %% `fun in main/0 line 8`, with a number after it where there is one of that name.
 new_name(Kind, Line, #work{home = Home, origin = Origin, names = Names} = W) ->
     Text = case Origin of
         source -> lists:concat([Kind, Home, " line ", Line]);
-        library -> lists:concat([Kind, Home])
+        _ -> lists:concat([Kind, Home])
     end,
-    Name = hd([N || N <- [Text | [lists:concat([Text, " number ", I]) || I <- lists:seq(2, length(Names) + 2)]],
-                    not lists:member(N, Names)]),
-    {list_to_atom(Name), W#work{names = [Name | Names]}}.
+    Number = maps:get(Text, Names, 0) + 1,
+    Name = case Number of
+        1 -> Text;
+        _ -> lists:concat([Text, " number ", Number])
+    end,
+    {list_to_atom(Name), W#work{names = Names#{Text => Number}}}.
+
+calls_known(#c_fun{body = #c_call{module = #c_literal{val = M}, name = #c_literal{val = F}, args = Args}}, Module) ->
+    M =:= Module orelse known_calls:is_known(M, F, length(Args));
+calls_known(_, _) -> true.
 
 %% ---- where a process begins with a fun
 
@@ -129,14 +163,19 @@ begins(#c_fun{} = Fun, W) ->
 
 entry(#work{module = M}, Name, Arguments) -> [core_tree:literal(M), core_tree:literal(Name), Arguments].
 
-%% A function that is a value: the process applies it. What is no function of no arguments is refused at the call.
-spawned(#c_call{anno = Notes, args = [Function]} = N, Place, W) ->
+%% A function that is a value: the process applies it. What is no function is refused at the call, and spawn_monitor refuses
+%% one of another arity too.
+spawned(#c_call{anno = Notes, name = #c_literal{val = Kind}, args = [Function]} = N, Place, W) ->
     {Value, W1} = core_tree:walk(fun rule/3, Place, W, Function),
     V = core_tree:variable('begun@'),
     {Apply, 1} = apply_name(0),
     Spawn = N#c_call{args = entry(W, Apply, #c_cons{hd = V, tl = core_tree:literal([])})},
     BadArgument = core_tree:raise_error(Notes, core_tree:literal(badarg)),
-    Case = #c_case{anno = Notes, arg = odd_tuples:has_arity(W#work.size, V, core_tree:literal(0)),
+    Test = case Kind of
+        spawn_monitor -> odd_tuples:has_arity(W#work.size, V, core_tree:literal(0));
+        _ -> odd_tuples:is_any_function(W#work.size, V)
+    end,
+    Case = #c_case{anno = Notes, arg = Test,
                    clauses = [core_tree:clause([core_tree:literal(true)], Spawn),
                               core_tree:clause([core_tree:literal(false)], BadArgument)]},
     {done, #c_let{anno = Notes, vars = [V], arg = Value, body = Case}, export(apply_name(0), applied(0, W1))}.
@@ -170,6 +209,7 @@ lifted_name({#c_var{name = {Old, Arity} = Key}, Fun}, Taken, {Names, W}) ->
     {Names#{Key => {Name, Arity + Taken}}, W1}.
 
 kind("lc$^" ++ _) -> "comprehension in ";
+kind("lbc$^" ++ _) -> "comprehension in ";
 kind("after$^" ++ _) -> "after in ";
 kind("clauses" ++ _) -> "clauses in ";
 kind([C | _]) when C >= $A, C =< $Z; C =:= $_ -> "fun in ";

@@ -2,7 +2,7 @@
 %% that it answers them as the manuals say.
 -module(known_calls).
 
--export([is_known/3, is_request/3, objection/3, unread/1]).
+-export([is_known/3, is_request/3, is_plain/3, objection/3, unread/1]).
 
 -include("core.hrl").
 
@@ -13,10 +13,10 @@ is_pure(erlang, self, 0) -> true;
 is_pure(erlang, F, 1) ->
     lists:member(F, ['+', '-', abs, 'bnot', 'not', is_integer, is_number, is_atom, is_boolean, is_tuple,
                      is_list, is_pid, is_reference, is_float, is_binary, tuple_size, hd, tl, length,
-                     tuple_to_list, list_to_tuple, error, exit, throw, get_module_info]);
+                     tuple_to_list, list_to_tuple, error, exit, throw]);
 is_pure(erlang, F, 2) ->
     lists:member(F, ['+', '-', '*', 'div', 'rem', 'band', 'bor', 'bxor', '==', '/=', '=:=', '=/=', '<', '=<',
-                     '>', '>=', 'and', 'or', 'xor', element, '++', '--', error, get_module_info]);
+                     '>', '>=', 'and', 'or', 'xor', element, '++', '--', error]);
 is_pure(erlang, F, 3) -> lists:member(F, [is_record, setelement]);
 is_pure(lists, F, A) -> lists:member({F, A}, [{reverse, 1}, {member, 2}, {append, 2}]);
 is_pure(_, _, _) -> false.
@@ -31,6 +31,14 @@ is_request(ets, F, A) ->
                           {delete, 2}, {delete_object, 2}, {delete_all_objects, 1}, {take, 2},
                           {update_counter, 3}, {update_element, 3}, {give_away, 3}, {setopts, 2}, {info, 2}]);
 is_request(_, _, _) -> false.
+
+%% Whether a call for which the library has a function too is left as it is: one that the explorer answers in this form, and
+%% in the library each that it answers.
+is_plain(library, {M, F, A}, _) -> is_request(M, F, A);
+is_plain(_, {ets, update_counter, 3}, [_, _, Operation]) -> lists:member(shape(Operation), [integer, pair]);
+is_plain(_, {ets, update_element, 3}, [_, _, Operation]) -> shape(Operation) =:= pair;
+is_plain(_, {ets, info, 2}, [_, Item]) -> shape(Item) =/= computed;
+is_plain(_, _, _) -> false.
 
 %% What is wrong with the arguments of a request: {refuse, What, Text}, where Text says in a sentence that What is not
 %% read; {note, Text}; or none.
@@ -59,9 +67,6 @@ objection(_, {ets, info, 2}, [_, #c_literal{val = Item}]) ->
         true -> none;
         false -> unknown(io_lib:format("ets:info(.., ~tw)", [Item]))
     end;
-objection(_, {ets, F, 3} = Call, [_, _, Operation]) when F =:= update_counter; F =:= update_element ->
-    operation(Call, shape(Operation));
-objection(_, {ets, info, 2}, _) -> unknown("ets:info/2 of a computed item");
 objection(_, _, _) -> none.
 
 %% What is known of an operation on an object before it is computed.
@@ -72,12 +77,6 @@ shape(#c_literal{}) -> other;
 shape(#c_tuple{}) -> other;
 shape(#c_cons{}) -> other;
 shape(_) -> computed.
-
-operation({ets, update_counter, 3}, integer) -> none;
-operation(_, pair) -> none;
-operation({_, update_counter, 3}, computed) -> {note, "ets:update_counter/3 of what is neither an integer nor a pair is badarg here"};
-operation({_, update_element, 3}, computed) -> {note, "ets:update_element/3 of what is no pair is badarg here"};
-operation({_, F, _}, _) -> unknown(io_lib:format("ets:~ts/3 of several operations, or with a threshold,", [F])).
 
 to_a_node() -> unknown("a message to a name on a node").
 

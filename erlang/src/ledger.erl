@@ -2,14 +2,17 @@
 %% hands out numbers for new names.
 -module(ledger).
 
--export([new/1, is_strict/1, refuse/4, refuse_file/3, note/3, doubt/3, number/1, refusals/1, notes/1, doubts/1]).
+-export([new/1, is_strict/1, within/2, refuse/4, refuse_file/3, note/3, doubt/3, number/1, refusals/1, notes/1, doubts/1]).
 
--record(ledger, {strict, refusals = [], notes = [], doubts = [], count = 0}).
+-record(ledger, {strict, origin = source, refusals = [], notes = [], doubts = [], count = 0}).
 
-%% Strict says whether what is not read is refused where it is written, and not where it is reached.
+%% Strict says whether what is not read of the source is refused where it is written, and not where it is reached.
 new(Strict) -> #ledger{strict = Strict}.
 
-is_strict(#ledger{strict = Strict}) -> Strict.
+is_strict(#ledger{strict = Strict, origin = Origin}) -> Strict andalso Origin =:= source.
+
+%% The ledger for what comes from there.
+within(Origin, L) -> L#ledger{origin = Origin}.
 
 %% FILE:LINE: text (in f/1)
 refuse({File, Line}, Home, Text, #ledger{refusals = Rs} = L) ->
@@ -18,8 +21,10 @@ refuse({File, Line}, Home, Text, #ledger{refusals = Rs} = L) ->
 %% FILE: text, of the whole file
 refuse_file(File, Text, #ledger{refusals = Rs} = L) -> L#ledger{refusals = [{File, 0, Text} | Rs]}.
 
-note(Format, Arguments, #ledger{notes = Ns} = L) ->
-    L#ledger{notes = [lists:flatten(io_lib:format(Format, Arguments)) | Ns]}.
+%% What is noted is noted of the source alone.
+note(Format, Arguments, #ledger{origin = source, notes = Ns} = L) ->
+    L#ledger{notes = [lists:flatten(io_lib:format(Format, Arguments)) | Ns]};
+note(_, _, L) -> L.
 
 %% Text says what makes a verdict doubtful, and at which place.
 doubt({File, Line}, Text, #ledger{doubts = Ds} = L) -> L#ledger{doubts = [{File, Line, Text} | Ds]}.

@@ -1,153 +1,177 @@
-%% Calls of library functions: those that the library of this folder has become
-%% applications of its functions, which are copied in; output is left out; a
-%% reference to a function of another module becomes a function of this one.
+%% Calls that are not what they are called on the real machine: what has a form of its own here, what of the library is only
+%% nearly right, and functions of other modules as values.
 -module(library_calls).
 
--export([resolve/4]).
+-export([special/4, seed/1, spawned/2, operation/1, notes_of/1, functions_in/1, function/4, computed_function/4]).
 
 -include("core.hrl").
 
-%% What resolving one definition needs to know, and what it collects.
-%%   module, callbacks    the source's module, and the functions that it exports
-%%   library              {Name, Arity} => #c_fun{}
-%%   approximate          whether calls are taken that are only nearly right
-%%   wanted               the names of the library that are called
--record(scope, {module, callbacks, library, approximate, origin, home, wanted = [], ledger}).
+%% ---- forms of their own
 
-%% The definitions, and after them those of the library that they reach.
-resolve(Definitions, Prepare, {Module, Callbacks, Library, Approximate}, Ledger) ->
-    Scope = #scope{module = Module, callbacks = Callbacks, library = Library, approximate = Approximate, ledger = Ledger},
-    {Own, Scope1} = lists:mapfoldl(fun definition/2, Scope, Definitions),
-    copy(Own, Prepare, Scope1, []).
-
-%% Library functions, as long as new ones are called; Prepare does for each what the passes before did for the source.
-copy(Definitions, Prepare, #scope{wanted = Wanted, library = Library, ledger = L} = Scope, Copied) ->
-    case ordsets:subtract(ordsets:from_list(Wanted), Copied) of
-        [] -> {Definitions, L};
-        New ->
-            Raw = [#definition{name = N, code = maps:get(N, Library), origin = library, home = home(N)} || N <- New],
-            {Ready, L1} = lists:mapfoldl(Prepare, L, Raw),
-            {Found, Scope1} = lists:mapfoldl(fun definition/2, Scope#scope{wanted = [], ledger = L1}, Ready),
-            copy(Definitions ++ Found, Prepare, Scope1, ordsets:union(New, Copied))
-    end.
-
-home({F, A}) -> lists:concat([F, "/", A]).
-
-definition(#definition{origin = Origin, home = Home, code = Code} = D, Scope) ->
-    {New, Scope1} = core_tree:walk(fun rule/3, {"", 0}, Scope#scope{origin = Origin, home = Home}, Code),
-    {D#definition{code = New}, Scope1}.
-
-rule(#c_literal{val = V} = N, _, S) when is_function(V) -> {again, wrapper(N), S};
-rule(#c_literal{val = V} = N, _, S) ->
-    case has_function(V) of
-        true -> {again, spelled_out(N), S};
-        false -> {done, N, S}
+%% {Node, Notes}; {call, Node, Notes} where it is a call of the library; or none.
+special(erlang, raise, [Class, Reason, Trace], #c_call{anno = Notes}) ->
+    {core_tree:evaluated([Trace], raised(Notes, Class, Reason)), [text_of_traces()]};
+special(timer, sleep, [Time], #c_call{anno = Notes}) ->
+    Sleep = #c_receive{anno = Notes, clauses = [], timeout = Time, action = core_tree:literal(ok)},
+    {Sleep, ["timer:sleep/1 may end at once here, as each timeout may"]};
+special(io, F, Args, N) when F =:= format; F =:= fwrite; F =:= put_chars; F =:= nl; F =:= write ->
+    Texts = [io_lib:format("io:~ts/~w writes nothing here", [F, length(Args)])],
+    case output:never_fails(F, Args) of
+        true -> {core_tree:evaluated(Args, core_tree:literal(ok)), Texts};
+        false -> {call, N#c_call{args = output:shortened(F, Args)}, Texts}
     end;
-rule(#c_primop{name = #c_literal{val = build_stacktrace}}, _, S) ->
-    {done, core_tree:literal([]), note("a stack trace is [] here", [], S)};
-rule(#c_primop{name = #c_literal{val = raw_raise}, args = [Class, Reason, _]} = N, _, S) ->
-    {inside, raised(N#c_primop.anno, Class, Reason), S};
-rule(#c_apply{op = #c_var{name = {_, _} = Name}} = N, _, #scope{origin = library, library = Library} = S) ->
-    case maps:is_key(Name, Library) of
-        true -> {inside, N, want(Name, S)};
-        false -> {inside, N, S}
+special(erlang, node, [], _) -> {core_tree:literal(nonode@nohost), []};
+special(erlang, node, [Value], _) -> {node_of(Value), []};
+special(erlang, process_flag, [#c_literal{val = Flag}, _], N) ->
+    case has_no_effect(Flag) of
+        true -> {call, N#c_call{module = core_tree:literal('flag without effect'), name = core_tree:literal(set)}, []};
+        false -> none
     end;
-rule(#c_call{module = #c_literal{val = M}, name = #c_literal{val = F}, args = Args} = N, Place, S)
-  when is_atom(M), is_atom(F) ->
-    call(M, F, Args, N, Place, S);
-rule(#c_call{module = #c_var{}, name = #c_literal{}} = N, _, #scope{origin = library} = S) -> {inside, callback(N, S), S};
-rule(Node, _, S) -> {inside, Node, S}.
-
-call(erlang, raise, [Class, Reason, Trace], N, _, S) ->
-    {inside, core_tree:evaluated([Trace], raised(N#c_call.anno, Class, Reason)), note("a stack trace is [] here", [], S)};
-call(erlang, function_exported, [_, #c_literal{val = F}, #c_literal{val = A}], _, _, #scope{origin = library} = S) ->
-    {done, core_tree:literal(lists:member({F, A}, S#scope.callbacks)), S};
-call(timer, sleep, [Time], N, _, S) ->
-    Sleep = #c_receive{anno = N#c_call.anno, clauses = [], timeout = Time, action = core_tree:literal(ok)},
-    {inside, Sleep, note("timer:sleep/1 may end at once here, as each timeout may", [], S)};
-call(io, F, Args, _, _, S) when F =:= format, length(Args) < 4; F =:= fwrite, length(Args) < 4;
-                                F =:= put_chars, length(Args) < 3; F =:= nl, length(Args) < 2 ->
-    {inside, core_tree:evaluated(Args, core_tree:literal(ok)), note("io:~ts/~w writes nothing here, and never fails", [F, length(Args)], S)};
-call(M, F, Args, N, Place, #scope{library = Library} = S) ->
-    Name = {list_to_atom(lists:concat([M, ":", F])), length(Args)},
-    case maps:is_key(Name, Library) of
-        true -> library_call({M, F, length(Args)}, Name, N, Place, S);
-        false -> {inside, N, S}
-    end.
-
-library_call({M, F, A} = Call, Name, #c_call{anno = Notes, args = Args}, Place, S) ->
-    case refused(Call, Args, S) of
-        {refuse, What, Text} ->
-            %% one refusal is enough; what is in the arguments is still looked at
-            {New, L} = stops:instead({What, Text}, Args, Place, S#scope.home, S#scope.ledger),
-            {inside, New, S#scope{ledger = L}};
-        none ->
-            S1 = lists:foldl(fun(Text, T) -> note(Text, [], T) end, S, notes_of(M, F, A, S#scope.origin)),
-            {inside, core_tree:apply_to(Notes, Name, Args), want(Name, S1)}
-    end.
-
-%% Why a call of the library is not taken as it is written.
-refused({ets, update_counter, 4}, _, #scope{approximate = false}) ->
-    {refuse, "ets:update_counter/4 without --approximate", "ets:update_counter/4 is two steps here: --approximate takes it"};
-refused({ets, update_counter, 4}, [Table, Key, Operation, _], #scope{module = Own}) ->
-    case known_calls:objection(Own, {ets, update_counter, 3}, [Table, Key, Operation]) of
-        {refuse, What, Text} -> {refuse, What, Text};
+special(erlang, process_flag, [_, _], N) ->
+    {call, N#c_call{module = core_tree:literal('flag that is computed'), name = core_tree:literal(set)}, []};
+special(erlang, send, [To, Message, #c_literal{val = Options}], N) when length(Options) >= 0 ->
+    case lists:usort(Options) -- [nosuspend, noconnect] of
+        [] -> {sent(N, To, Message, ok), []};
         _ -> none
     end;
-refused({gen_server, F, A}, Args, #scope{module = Own}) when F =:= start; F =:= start_link ->
-    case lists:nth(A - 2, Args) of
-        #c_literal{val = Own} -> none;
-        #c_literal{val = M} -> known_calls:unread(io_lib:format("gen_server:~ts/~w of another module, ~ts,", [F, A, M]));
-        _ -> known_calls:unread(io_lib:format("gen_server:~ts/~w of a computed module", [F, A]))
+special(erlang, send_nosuspend, [To, Message], N) -> {sent(N, To, Message, true), []};
+special(erlang, send_nosuspend, [To, Message, #c_literal{val = [noconnect]}], N) -> {sent(N, To, Message, true), []};
+special(erlang, Shift, [X, #c_literal{val = Places}], N)
+  when is_integer(Places), Places >= 0, Places =< 62, Shift =:= 'bsl' orelse Shift =:= 'bsr' ->
+    {shifted(Shift, X, 1 bsl Places, N), []};
+special(_, _, _, _) -> none.
+
+%% A number that differs each time, and only makes a seed, is 1.
+seed(#c_let{vars = [#c_var{name = V}], body = Body,
+            arg = #c_call{module = #c_literal{val = erlang}, name = #c_literal{val = unique_integer}}} = N) ->
+    case standing_still:only_seeds(V, Body) of
+        true -> N#c_let{arg = core_tree:literal(1)};
+        false -> N
     end;
-refused(_, _, _) -> none.
+seed(N) -> N.
 
-%% What is not as on the real machine, and what is one step that need not be one there.
-notes_of(_, _, _, library) -> [];
-notes_of(ets, update_counter, 4, _) -> ["ets:update_counter/4 is two steps here"];
-notes_of(ets, F, A, _) when F =:= match_delete; F =:= select_delete ->
-    [lists:concat(["ets:", F, "/", A, " is a step that looks and then one for each object here"])];
-notes_of(ets, F, A, _) -> [lists:concat(["ets:", F, "/", A, " is one step here"])];
-notes_of(erlang, F, A, _) when F =:= send_after; F =:= start_timer; F =:= cancel_timer ->
-    ["a timer is a process here, not a reference, and may come at once",
-     lists:concat(["erlang:", F, "/", A, " is made of several steps here"])];
-notes_of(timer, F, A, _) when F =/= seconds, F =/= minutes, F =/= hours -> [lists:concat(["timer:", F, "/", A, " makes a process here, and may come at once"])];
-notes_of(lists, sort, 2, _) -> ["lists:sort/2 calls its function on other pairs here"];
-notes_of(gen_server, call, 2, _) -> ["gen_server:call/2 waits for ever here, not five seconds"];
-notes_of(gen_server, call, 3, _) -> ["a reply after the timeout of gen_server:call/3 comes into the mailbox here"];
-notes_of(gen_server, _, _, _) -> ["gen_server is a small one here: calls, casts, infos and stops"];
-notes_of(maps, _, _, _) -> [map_forms:text_of_note()];
-notes_of(_, _, _, _) -> [].
+%% spawn_opt with its options last: which of the three it is they say when it is called.
+spawned(Args, #c_call{anno = Notes} = N) ->
+    {Begun, [Options]} = lists:split(length(Args) - 1, Args),
+    Vars = [core_tree:variable(list_to_atom("begun" ++ integer_to_list(I) ++ "@")) || I <- lists:seq(1, length(Begun))],
+    Kind = core_tree:call(Notes, 'spawn options', kind, [Options]),
+    Clauses = [core_tree:clause([core_tree:literal(F)], N#c_call{name = core_tree:literal(F), args = Vars})
+               || F <- [spawn, spawn_link, spawn_monitor]],
+    lists:foldr(fun({V, Value}, Body) -> #c_let{anno = Notes, vars = [V], arg = Value, body = Body} end,
+                #c_case{anno = Notes, arg = Kind, clauses = Clauses}, lists:zip(Vars, Begun)).
 
-note(Format, Arguments, #scope{ledger = L} = S) -> S#scope{ledger = ledger:note(Format, Arguments, L)}.
+operation(#c_primop{name = #c_literal{val = build_stacktrace}}) -> {core_tree:literal([]), [text_of_traces()]};
+operation(#c_primop{anno = Notes, name = #c_literal{val = raw_raise}, args = [Class, Reason, _]}) -> {raised(Notes, Class, Reason), []};
+operation(_) -> none.
 
-want(Name, #scope{wanted = Wanted} = S) -> S#scope{wanted = [Name | Wanted]}.
+text_of_traces() -> "a stack trace is [] here".
 
-%% Module:f(..) in the library is a function of the source, where the module is the source's.
-callback(#c_call{anno = Notes, module = Module, name = #c_literal{val = F}, args = Args}, #scope{module = Own, callbacks = Cs}) ->
-    Undefined = core_tree:raise_error(Notes, core_tree:literal(undef)),
-    case lists:member({F, length(Args)}, Cs) of
-        false -> Undefined;
-        true ->
-            #c_case{anno = Notes, arg = Module,
-                    clauses = [core_tree:clause([core_tree:literal(Own)], core_tree:apply_to(Notes, {F, length(Args)}, Args)),
-                               core_tree:clause([core_tree:variable('module@')], Undefined)]}
-    end.
+sent(N, To, Message, Answer) ->
+    #c_seq{arg = N#c_call{name = core_tree:literal(send), args = [To, Message]}, body = core_tree:literal(Answer)}.
 
-%% fun M:F/A, which is a literal
-wrapper(#c_literal{anno = Notes, val = Fun}) ->
-    [{_, M}, {_, F}, {_, A}] = [erlang:fun_info(Fun, What) || What <- [module, name, arity]],
-    Vars = [core_tree:variable(list_to_atom("argument@" ++ integer_to_list(I))) || I <- lists:seq(1, A)],
-    #c_fun{anno = Notes, vars = Vars, body = core_tree:call(Notes, M, F, Vars)}.
+%% Flags of a process that change nothing of what it does.
+has_no_effect(Flag) ->
+    lists:member(Flag, [priority, message_queue_data, min_heap_size, min_bin_vheap_size, max_heap_size, fullsweep_after,
+                        save_calls, sensitive]).
 
-has_function(V) when is_function(V) -> true;
-has_function([H | T]) -> has_function(H) orelse has_function(T);
-has_function(V) when is_tuple(V) -> lists:any(fun has_function/1, tuple_to_list(V));
-has_function(_) -> false.
+%% The node of a pid or a reference, in a guard too; anything else fails with badarg.
+node_of(Value) ->
+    V = core_tree:variable('node@'),
+    Has = core_tree:call_erlang([], 'or', [core_tree:call_erlang([], is_pid, [V]), core_tree:call_erlang([], is_reference, [V])]),
+    Clauses = [core_tree:clause([core_tree:literal(true)], core_tree:literal(nonode@nohost)),
+               core_tree:clause([core_tree:literal(false)], core_tree:call_erlang([], length, [core_tree:literal(none)]))],
+    #c_let{vars = [V], arg = Value, body = #c_case{arg = Has, clauses = Clauses}}.
 
-spelled_out(#c_literal{val = [H | T]} = N) -> #c_cons{anno = N#c_literal.anno, hd = N#c_literal{val = H}, tl = N#c_literal{val = T}};
-spelled_out(#c_literal{val = V} = N) -> #c_tuple{anno = N#c_literal.anno, es = [N#c_literal{val = X} || X <- tuple_to_list(V)]}.
+%% A shift by a number of places that is written, in a guard too: a product or a quotient.
+shifted('bsl', X, Power, N) -> N#c_call{name = core_tree:literal('*'), args = [X, core_tree:literal(Power)]};
+shifted('bsr', X, Power, N) ->
+    V = core_tree:variable('shifted@'),
+    Rest = core_tree:call_erlang([], 'band', [V, core_tree:literal(Power - 1)]),
+    Quotient = N#c_call{name = core_tree:literal('div'), args = [core_tree:call_erlang([], '-', [V, Rest]), core_tree:literal(Power)]},
+    #c_let{vars = [V], arg = X, body = Quotient}.
 
 raised(Notes, Class, Reason) ->
     #c_primop{anno = Notes, name = core_tree:literal(raise),
               args = [#c_tuple{es = [core_tree:literal('$trace'), Class]}, Reason]}.
+
+%% ---- functions of the library
+
+%% What is not as on the real machine, and what is one step that need not be one there.
+notes_of({ets, F, A}) -> notes_of_tables(F, A);
+notes_of({M, _, _}) when M =:= counters; M =:= atomics ->
+    ["counters and atomics go with the process that made them here: what asks for them later is not read"];
+notes_of({erlang, F, A}) when F =:= send_after; F =:= start_timer; F =:= cancel_timer ->
+    ["a timer is a process here, not a reference, and may come at once",
+     lists:concat(["erlang:", F, "/", A, " is made of several steps here"])];
+notes_of({timer, F, A}) when F =/= seconds, F =/= minutes, F =/= hours, F =/= tc, F =/= now_diff ->
+    [lists:concat(["timer:", F, "/", A, " makes a process here, and may come at once"])];
+notes_of({lists, F, 2}) when F =:= sort; F =:= usort -> [lists:concat(["lists:", F, "/2 calls its function on other pairs here"])];
+notes_of({M, set, 2}) when M =:= 'flag without effect'; M =:= 'flag that is computed' ->
+    ["process_flag/2 gives the flag of a process that never set it here"];
+notes_of({erlang, group_leader, 0}) -> ["the group leader is the process itself here"];
+notes_of({maps, _, _}) -> [map_forms:text_of_note()];
+notes_of({binary, _, _}) -> [binary_forms:text_of_note()];
+notes_of({erlang, F, _}) when F =:= list_to_binary; F =:= iolist_to_binary; F =:= integer_to_binary -> [binary_forms:text_of_note()];
+notes_of({M, F, A}) ->
+    case standing_still:kind(M, F, A) of
+        time -> [lists:concat([M, ":", F, "/", A, " is the same each time here"])];
+        chance -> [lists:concat([M, ":", F, "/", A, " is 1 here"])];
+        none -> []
+    end.
+
+notes_of_tables(update_counter, 4) -> ["ets:update_counter/4 is a step that puts in or looks, and then one or more that add here"];
+notes_of_tables(F, 3) when F =:= update_counter; F =:= update_element ->
+    [lists:concat(["ets:", F, "/3 of several operations, or with a threshold, is several steps here"])];
+notes_of_tables(F, A) when F =:= match_delete; F =:= select_delete ->
+    [lists:concat(["ets:", F, "/", A, " is a step that looks and then one for each object here"])];
+notes_of_tables(select_replace, 2) -> ["ets:select_replace/2 is a step that looks and then one that writes here"];
+notes_of_tables(safe_fixtable, 2) -> ["ets:next/2 and ets:prev/2 find the next key here as if the table were fixed all the time"];
+notes_of_tables(whereis, 1) -> ["ets:whereis/1 gives the name here, not a reference"];
+notes_of_tables(match_spec_compile, 1) -> ["a compiled match specification is a function here, not a reference"];
+notes_of_tables(F, A) ->
+    case lists:member({F, A}, [{foldl, 3}, {foldr, 3}, {info, 1}, {info, 2}, {match_spec_run, 2}, {is_compiled_ms, 1}, {test_ms, 2}]) of
+        true -> [];
+        false -> [lists:concat(["ets:", F, "/", A, " is one step here"])]
+    end.
+
+%% ---- functions of other modules as values
+
+%% The node for a literal in which a function of another module is a value, or none.
+functions_in(#c_literal{anno = Notes, val = V} = N) ->
+    case has_function(V) of
+        true when is_function(V) ->
+            [{_, M}, {_, F}, {_, A}] = [erlang:fun_info(V, What) || What <- [module, name, arity]],
+            function(Notes, core_tree:literal(M), core_tree:literal(F), A);
+        true -> spelled_out(N);
+        false -> none
+    end.
+
+%% fun M:F/A, where M or F may be computed: what is no atom is refused here.
+computed_function(Notes, Module, Name, Arity) ->
+    Vars = [M, F] = [core_tree:variable('module@'), core_tree:variable('function@')],
+    AreAtoms = core_tree:call_erlang([], 'and', [core_tree:call_erlang([], is_atom, [V]) || V <- Vars]),
+    #c_case{anno = Notes, arg = #c_values{es = [Module, Name]},
+            clauses = [core_tree:clause(Vars, AreAtoms, function(Notes, M, F, Arity)),
+                       core_tree:clause([core_tree:variable('other1@'), core_tree:variable('other2@')],
+                                        core_tree:raise_error(Notes, core_tree:literal(badarg)))]}.
+
+%% fun M:F/A, as a function that calls it, and what it is in its notes where that is known.
+function(Notes, Module, Name, Arity) ->
+    Vars = [core_tree:variable(list_to_atom("argument@" ++ integer_to_list(I))) || I <- lists:seq(1, Arity)],
+    #c_fun{anno = external(Module, Name, Arity) ++ Notes, vars = Vars,
+           body = #c_call{anno = Notes, module = Module, name = Name, args = Vars}}.
+
+external(#c_literal{val = M}, #c_literal{val = F}, A) -> [{external, {M, F, A}}];
+external(_, _, _) -> [].
+
+has_function(V) when is_function(V) -> true;
+has_function([H | T]) -> has_function(H) orelse has_function(T);
+has_function(V) when is_tuple(V) -> lists:any(fun has_function/1, tuple_to_list(V));
+has_function(V) when is_map(V) -> has_function(maps:to_list(V));
+has_function(_) -> false.
+
+spelled_out(#c_literal{val = [H | T]} = N) -> #c_cons{anno = N#c_literal.anno, hd = N#c_literal{val = H}, tl = N#c_literal{val = T}};
+spelled_out(#c_literal{val = V} = N) when is_tuple(V) -> #c_tuple{anno = N#c_literal.anno, es = [N#c_literal{val = X} || X <- tuple_to_list(V)]};
+spelled_out(#c_literal{anno = Notes, val = V} = N) ->
+    lists:foldl(fun({K, X}, Map) -> core_tree:call(Notes, maps, put, [N#c_literal{val = K}, N#c_literal{val = X}, Map]) end,
+                N#c_literal{val = #{}}, lists:sort(maps:to_list(V))).

@@ -59,11 +59,18 @@ rule(#c_clause{pats = Patterns, guard = Guard, body = Body} = N, Place, #scope{g
     S1 = lists:foldl(Each, S, Patterns),
     S2 = Each(Guard, S1#scope{guarded = true}),
     {done, N, Each(Body, S2#scope{guarded = Outer})};
-%% a stop has its name from the converter
-rule(#c_apply{op = #c_var{name = {'not read', 1}}, args = [#c_literal{val = Table}]} = N, _, S) when is_atom(Table) -> {done, N, S};
-rule(Node, Place, S) ->
-    Faults = faults(Node, S),
-    {goes_on(Node, Faults), Node, noted(Node, lists:foldl(fun({_, Text}, T) -> refuse(Place, "~ts", [Text], T) end, S, Faults))}.
+%% a stop has its name from the converter, and so has what is handed on to a stop
+rule(#c_apply{op = #c_var{name = {'not read', 1}}} = N, _, S) -> {done, N, S};
+rule(#c_apply{op = #c_var{name = Name}, args = [_ | _] = Args} = N, Place, S) ->
+    Looked = case is_tuple(Name) andalso dispatchers:is_one(Name) of
+        true -> lists:droplast(Args);
+        false -> Args
+    end,
+    {_, S1} = lists:mapfoldl(fun(A, T) -> core_tree:walk(fun rule/3, Place, T, A) end, judged(N, Place, S), Looked),
+    {done, N, S1};
+rule(Node, Place, S) -> {goes_on(Node, faults(Node, S)), Node, judged(Node, Place, S)}.
+
+judged(Node, Place, S) -> noted(Node, lists:foldl(fun({_, Text}, T) -> refuse(Place, "~ts", [Text], T) end, S, faults(Node, S))).
 
 %% Whether the parts of a node are looked at: those of a form that is not read are not, but those of a call are.
 goes_on(#c_call{}, _) -> inside;
@@ -88,7 +95,6 @@ in_guard(Scope) -> Scope#scope{guarded = true}.
 %% What is not read of a node, without its parts: [{What, Text}], where Text says in a sentence that What is not read.
 faults(#c_literal{val = V}, _) -> literal_faults(V);
 faults(#c_map{}, _) -> unread("a map in this place");
-faults(#c_binary{}, _) -> binary();
 faults(#c_primop{name = #c_literal{val = Name}, args = Args}, _) -> primop(Name, length(Args));
 faults(#c_call{module = #c_literal{val = M}, name = #c_literal{val = F}, args = Args}, S) when is_atom(M), is_atom(F) ->
     call(M, F, Args, S);
@@ -104,11 +110,8 @@ faults(Node, _) ->
 
 unread(What) -> [{What, [What, " is not read"]}].
 
-binary() -> [{"a binary", "binaries are not read"}].
-
 primop(match_fail, 1) -> [];
 primop(raise, 2) -> [];
-primop(bs_init_writable, Count) -> [{"a binary", io_lib:format("the operation bs_init_writable/~w is not read", [Count])}];
 primop(Name, Count) -> unread(io_lib:format("the operation ~w/~w", [Name, Count])).
 
 call(M, F, Args, #scope{guarded = Guarded} = S) ->
@@ -127,9 +130,7 @@ unknown(What, Reason) -> [{What, [What, " is not known here", Reason]}].
 objected({refuse, What, Text}) -> [{What, Text}];
 objected(_) -> [].
 
-%% What the library does is noted where it is called.
-note(Text, #scope{origin = source, ledger = L} = S) -> S#scope{ledger = ledger:note("~ts", [Text], L)};
-note(_, #scope{origin = library} = S) -> S.
+note(Text, #scope{origin = Origin, ledger = L} = S) -> S#scope{ledger = ledger:note("~ts", [Text], ledger:within(Origin, L))}.
 
 reason(erlang, F, A) ->
     case lists:member({F, A}, [{put, 2}, {get, 1}, {get, 0}, {erase, 1}, {erase, 0}, {get_keys, 0}]) of
@@ -147,7 +148,7 @@ shown(Name, Arity) -> io_lib:format("~ts/~w", [Name, Arity]).
 literal_faults(V) when is_integer(V) ->
     [{"an integer past 64 bits", io_lib:format("integer ~w is past 64 bits", [V])} || is_past_limit(V)];
 literal_faults(V) when is_float(V) -> [{"a float", io_lib:format("floats are not read: ~w", [V])}];
-literal_faults(V) when is_bitstring(V) -> binary();
+literal_faults(V) when is_bitstring(V) -> unread("a part of a binary that is no whole bytes");
 literal_faults([H | T]) -> literal_faults(H) ++ literal_faults(T);
 literal_faults(V) when is_tuple(V) -> lists:flatmap(fun literal_faults/1, tuple_to_list(V));
 literal_faults(V) when is_atom(V) ->

@@ -8,36 +8,43 @@
 -include("core.hrl").
 
 restore(Tree) ->
-    {New, _} = core_tree:walk(fun rule/3, {"", 0}, none, Tree),
+    {Flat, none} = core_tree:walk(fun flat/3, {"", 0}, none, Tree),
+    {New, none} = core_tree:walk(fun rule/3, {"", 0}, none, Flat),
     New.
 
-rule(#c_letrec{} = Node, _, S) ->
-    try {again, receive_of(Node), S}
+%% do (do a b) c, which the compiler writes where it has inlined a function, is do a (do b c).
+flat(#c_seq{arg = #c_seq{arg = A, body = B} = Inner, body = C} = Node, _, S) ->
+    {again, Node#c_seq{arg = A, body = Inner#c_seq{arg = B, body = C}}, S};
+flat(Node, _, S) -> {inside, Node, S}.
+
+rule(#c_letrec{} = Node, Place, S) ->
+    try {again, receive_of(Node, Place), S}
     catch throw:another_shape -> {inside, Node, S}
     end;
 rule(Node, _, S) -> {inside, Node, S}.
 
 %% letrec Loop = fun () -> let <There, Message> = peek() in case There of true -> Hit, false -> Miss in Loop()
 receive_of(#c_letrec{defs = [{#c_var{name = Loop}, #c_fun{vars = [], body = Body}}],
-                     body = #c_apply{op = #c_var{name = Loop}, args = []}} = Letrec) ->
-    Receive = receive_of(Loop, Body),
+                     body = #c_apply{op = #c_var{name = Loop}, args = []}} = Letrec, Place) ->
+    Receive = taken_apart(Loop, Body),
     not lists:member(Loop, core_tree:free_variables(Receive)) orelse throw(another_shape),
-    Receive#c_receive{anno = notes(Letrec)};
-receive_of(_) -> throw(another_shape).
+    Receive#c_receive{anno = notes(Letrec, Place)};
+receive_of(_, _) -> throw(another_shape).
 
-receive_of(Loop, #c_let{vars = [#c_var{name = There}, #c_var{name = Message}],
+taken_apart(Loop, #c_let{vars = [#c_var{name = There}, #c_var{name = Message}],
                         arg = #c_primop{name = #c_literal{val = recv_peek_message}, args = []},
                         body = #c_case{arg = #c_var{name = There}, clauses = Clauses}}) ->
     {Hit, Miss} = true_and_false(Clauses),
     {Timeout, Action} = waiting(Loop, Miss),
     #c_receive{clauses = taken(Loop, Message, Hit), timeout = Timeout, action = Action};
-receive_of(Loop, Body) ->
+taken_apart(Loop, Body) ->
     {Timeout, Action} = waiting(Loop, Body),
     #c_receive{clauses = [], timeout = Timeout, action = Action}.
 
-notes(Letrec) ->
+%% The letrec has no line of its own: it gets the first one inside, and the file of what is around it.
+notes(Letrec, {File, _}) ->
     case core_tree:place(Letrec, {"", 0}) of
-        {_, 0} -> [core_tree:first_place(Letrec) | Letrec#c_letrec.anno];
+        {_, 0} -> [core_tree:first_place(Letrec), {file, core_tree:first_file(Letrec, File)} | Letrec#c_letrec.anno];
         _ -> Letrec#c_letrec.anno
     end.
 

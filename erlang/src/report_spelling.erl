@@ -1,8 +1,8 @@
 %% A term as the report shows it and a programmer types it, in the spelling that the program reads: the other way round
 %% than report_term:text/1.
 %%
-%% Terms are those of report_term. A map is {map, Pairs} and a function {function, Name} until it is known which tuples
-%% they are in the module (erlang/README.md, "Functions and maps as values").
+%% Terms are those of report_term. A map is {map, Pairs}, a binary {binary, Bytes} and a function {function, Name} until it
+%% is known which tuples they are in the module (erlang/README.md, "Functions, maps and binaries as values").
 -module(report_spelling).
 -export([spelled/2]).
 
@@ -35,6 +35,7 @@ read_term("\"" ++ _ = Text) -> {String, Rest} = read_quoted(Text), {list_of([{in
 read_term("{" ++ Rest) -> {Terms, After} = read_parts(Rest, "}"), {{tuple, Terms}, After};
 read_term("[" ++ Rest) -> read_list(Rest);
 read_term("#{" ++ Rest) -> read_map(Rest);
+read_term("<<" ++ Rest) -> read_binary(Rest);
 read_term("#P" ++ Rest) -> {Path, After} = read_path(Rest), {{ref, "#P" ++ Path}, After};
 read_term("P" ++ Rest) -> {Path, After} = read_path(Rest), {{pid, "P" ++ Path}, After};
 read_term("fun " ++ _ = Text) -> {Name, Rest} = read_function(Text), {{function, Name}, Rest};
@@ -135,6 +136,26 @@ read_pairs(Text, Pairs) ->
         Other -> no_term(Other)
     end.
 
+%% A string in quotes, or bytes with commas between them.
+read_binary(Text) ->
+    case skip(Text) of
+        "\"" ++ _ = String -> {Bytes, Rest} = read_quoted(String), {binary([{int, B} || B <- Bytes], Text), expect(">>", Rest)};
+        ">>" ++ Rest -> {{binary, []}, Rest};
+        Numbers -> {Bytes, Rest} = read_bytes(Numbers), {binary(Bytes, Text), Rest}
+    end.
+
+read_bytes(Text) ->
+    {Byte, Rest} = read(Text),
+    case skip(Rest) of
+        ">>" ++ After -> {[Byte], After};
+        "," ++ More -> {Bytes, After} = read_bytes(More), {[Byte | Bytes], After};
+        Other -> no_term(Other)
+    end.
+
+binary(Bytes, Text) ->
+    lists:all(fun report_term:is_byte/1, Bytes) orelse no_term(Text),
+    {binary, Bytes}.
+
 expect(Mark, Text) ->
     case lists:prefix(Mark, skip(Text)) of
         true -> lists:nthtail(length(Mark), skip(Text));
@@ -159,9 +180,10 @@ read_quoted("", _, _, Whole) -> no_term(Whole).
 escaped($s) -> $\s;
 escaped(C) -> report_term:escaped(C).
 
-%% ---- functions and maps, as the tuples that they are in the module
+%% ---- functions, maps and binaries, as the tuples that they are in the module
 
 in_module({map, Pairs}, Module) -> filled([{atom, map}, list_of(sorted([in_module(P, Module) || P <- Pairs]))], Module);
+in_module({binary, Bytes}, Module) -> filled([{atom, binary}, list_of(Bytes)], Module);
 in_module({function, Text}, Module) -> function(Text, Module);
 in_module({tuple, Terms}, Module) -> {tuple, [in_module(Term, Module) || Term <- Terms]};
 in_module({list, Terms, Tail}, Module) -> {list, [in_module(Term, Module) || Term <- Terms], in_module(Tail, Module)};
@@ -187,17 +209,18 @@ shown(Name, Arity) -> lists:flatten(report_term:text_of_fun(Name, Arity)).
 
 filled(Parts, Module) -> {tuple, Parts ++ [{atom, '-'} || _ <- lists:seq(length(Parts) + 1, size_of_values(Module))]}.
 
-%% How many parts the tuples have that represent functions and maps: as many as those in the module, or the least number
+%% How many parts the tuples have that represent such values: as many as those in the module, or the least number
 %% where there are none.
-size_of_values(Module) -> hd([Size || {_, _, _, Size} <- functions(Module)] ++ maps(Module) ++ [4]).
+size_of_values(Module) -> hd([Size || {_, _, _, Size} <- functions(Module)] ++ maps_and_binaries(Module) ++ [4]).
 
 functions(Module) ->
     [{cerl:concrete(Name), cerl:concrete(Arity), cerl:list_length(Taken), length(Parts)} ||
         [Tag, Name, Arity, Taken | Filling] = Parts <- tuples(Module),
         is_atom(Tag, 'fun'), cerl:is_c_atom(Name), cerl:is_c_int(Arity), cerl:is_c_list(Taken), is_filling(Filling)].
 
-maps(Module) ->
-    [length(Parts) || [Tag, _, Filler | Filling] = Parts <- tuples(Module), is_atom(Tag, map), is_filling([Filler | Filling])].
+maps_and_binaries(Module) ->
+    [length(Parts) || [Tag, _, Filler | Filling] = Parts <- tuples(Module),
+                      is_atom(Tag, map) orelse is_atom(Tag, binary), is_filling([Filler | Filling])].
 
 is_filling(Trees) -> lists:all(fun(Tree) -> is_atom(Tree, '-') end, Trees).
 

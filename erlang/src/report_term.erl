@@ -3,7 +3,7 @@
 %% A term that was read is {int, N}, {atom, A}, {tuple, Terms}, {list, Terms, Tail}, {pid, Name} or {ref, Name}; the
 %% tail of a proper list is nil.
 -module(report_term).
--export([read/1, read_arguments/1, escaped/1, text/1, text_of_fun/2, real/2, of_real/2, names/1]).
+-export([read/1, read_arguments/1, escaped/1, text/1, text_of_fun/2, is_byte/1, real/2, of_real/2, names/1]).
 
 %% ---- reading
 
@@ -56,8 +56,10 @@ escaped(C) -> C.
 %% ---- writing
 
 %% The text that a programmer would write: atoms with quotes only where they need them, strings, functions as values by
-%% their names, maps.
+%% their names, maps, binaries.
 text({int, N}) -> integer_to_list(N);
+%% (the tag of a call with a time: src/late_replies.erl)
+text({atom, 'alias of a call'}) -> "alias";
 text({atom, A}) -> lists:flatten(io_lib:format("~tw", [A]));
 text({pid, Name}) -> Name;
 text({ref, Name}) -> Name;
@@ -69,6 +71,11 @@ text({tuple, [{atom, 'fun'}, {atom, Name}, {int, Arity}, {list, _, nil} | Fillin
 text({tuple, [{atom, map}, {list, Pairs, nil}, Filler | Filling]} = Tuple) ->
     case is_filling([Filler | Filling]) andalso lists:all(fun is_pair/1, Pairs) of
         true -> ["#{", lists:join(",", [[text(K), " => ", text(V)] || {tuple, [K, V]} <- Pairs]), "}"];
+        false -> text_of_tuple(Tuple)
+    end;
+text({tuple, [{atom, binary}, {list, Bytes, nil}, Filler | Filling]} = Tuple) ->
+    case is_filling([Filler | Filling]) andalso lists:all(fun is_byte/1, Bytes) of
+        true -> text_of_binary([B || {int, B} <- Bytes]);
         false -> text_of_tuple(Tuple)
     end;
 text({tuple, _} = Tuple) -> text_of_tuple(Tuple);
@@ -89,6 +96,16 @@ is_filling(Terms) -> lists:all(fun(Term) -> Term =:= {atom, '-'} end, Terms).
 
 is_pair({tuple, [_, _]}) -> true;
 is_pair(_) -> false.
+
+is_byte({int, B}) -> B >= 0 andalso B < 256;
+is_byte(_) -> false.
+
+%% <<"abc">> where all of it can be printed in ASCII, else <<1,2,255>>.
+text_of_binary(Bytes) ->
+    case Bytes =/= [] andalso lists:all(fun(B) -> B >= 32 andalso B < 127 orelse B =:= $\n orelse B =:= $\t end, Bytes) of
+        true -> ["<<", io_lib:write_string(Bytes), ">>"];
+        false -> ["<<", lists:join(",", [integer_to_list(B) || B <- Bytes]), ">>"]
+    end.
 
 %% `fun in main/0 line 8` is the name of a fun without one, any other name that of a function.
 text_of_fun(Name, Arity) ->

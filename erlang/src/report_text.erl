@@ -18,12 +18,26 @@ function(Name) -> report_term:text({atom, Name}).
 
 arguments(Terms) -> lists:join(",", [report_term:text(Term) || Term <- Terms]).
 
-%% What a process begins with: a function and its arguments, a fun, or a fun as a value that is applied.
-started('apply fun', [Fun]) -> report_term:text(Fun);
+%% What a process begins with: a function and its arguments, a fun, a fun as a value, or a behaviour of a module.
 started(Name, Arguments) ->
-    case atom_to_list(Name) of
-        "fun in " ++ _ = Fun -> Fun;
-        _ -> [function(Name), "(", arguments(Arguments), ")"]
+    case report_begin:meant(Name, Arguments) of
+        {value, Fun} -> report_term:text(Fun);
+        {behaviour, Behaviour, Module} -> behaviour(Behaviour, Module);
+        {call, Function, Given} ->
+            case atom_to_list(Function) of
+                "fun in " ++ _ = Fun -> Fun;
+                _ -> [qualified(Function), "(", arguments(Given), ")"]
+            end
+    end.
+
+behaviour(Behaviour, none) -> function(Behaviour);
+behaviour(Behaviour, Module) -> [function(Behaviour), " ", function(Module)].
+
+%% A function of another module has its name before it.
+qualified(Name) ->
+    case string:split(atom_to_list(Name), ":") of
+        [Module, Function] when Module =/= "", Function =/= "" -> [function(list_to_atom(Module)), ":", function(list_to_atom(Function))];
+        _ -> function(Name)
     end.
 
 %% What happened in a step.
@@ -58,12 +72,15 @@ identity({runaway, Name}) -> [Name, " runs away"];
 identity({refusal, Name, Request, Deed}) -> [Name, " request ", integer_to_list(Request), " ", deed(Deed)].
 
 %% What a process runs.
-role('apply fun', [Fun]) -> report_term:text(Fun);
 role(Name, Arguments) ->
-    case atom_to_list(Name) of
-        "fun in gen_server " ++ _ -> "gen_server";
-        "fun in " ++ _ = Fun -> Fun;
-        _ -> [function(Name), "/", integer_to_list(length(Arguments))]
+    case report_begin:meant(Name, Arguments) of
+        {value, Fun} -> report_term:text(Fun);
+        {behaviour, Behaviour, Module} -> behaviour(Behaviour, Module);
+        {call, Function, Given} ->
+            case atom_to_list(Function) of
+                "fun in " ++ _ = Fun -> Fun;
+                _ -> [qualified(Function), "/", integer_to_list(length(Given))]
+            end
     end.
 
 %% Where something is in the source.

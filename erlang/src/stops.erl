@@ -3,7 +3,7 @@
 %% of an end. What the other processes do from there on they can do in Erlang too, since a process may always be slow.
 -module(stops).
 
--export([instead/5, leave_out/2, put/4]).
+-export([instead/5, as_body/1, name_of/3, leave_out/2, put/4]).
 
 -include("core.hrl").
 
@@ -18,8 +18,7 @@ instead({What, Text}, Parts, Place, Home, Ledger) ->
 
 %% ---- the stop
 
-stop(What, Place, Home) ->
-    core_tree:apply_to(notes(Place), name(), [core_tree:literal(list_to_atom(text(What, Place, Home)))]).
+stop(What, Place, Home) -> core_tree:apply_to(notes(Place), name(), [core_tree:literal(name_of(What, Place, Home))]).
 
 name() -> {'not read', 1}.
 
@@ -27,7 +26,7 @@ notes({_, 0}) -> [];
 notes({File, Line}) -> [Line, {file, File}].
 
 %% The name of the table; an atom has at most 255 characters.
-text(What, Place, Home) -> short(lists:flatten(io_lib:format("not read: ~ts~ts (in ~ts)", [What, at(Place), Home]))).
+name_of(What, Place, Home) -> list_to_atom(short(lists:flatten(io_lib:format("not read: ~ts~ts (in ~ts)", [What, at(Place), Home])))).
 
 at({_, 0}) -> "";
 at({File, Line}) -> io_lib:format(" at ~ts:~w", [filename:basename(File), Line]).
@@ -49,8 +48,8 @@ as_body(Stop) ->
 
 %% ---- clauses that match nothing
 
-%% The tree without the clauses that never match: no value is a binary, a float or an integer past 64 bits, since nothing
-%% that is read makes one, and so no map has one as a key.
+%% The tree without the clauses that never match: no value is a float, an integer past 64 bits or a part of a byte, since
+%% nothing that is read makes one, and so no map has one as a key.
 leave_out(Home, Tree) ->
     {New, none} = core_tree:walk(fun(N, P, S) -> {inside, kept(N, P, Home), S} end, {"", 0}, none, Tree),
     New.
@@ -64,18 +63,22 @@ kept(#c_case{clauses = Clauses} = N, Place, Home) ->
 kept(#c_receive{clauses = Clauses} = N, _, _) -> N#c_receive{clauses = [C || C <- Clauses, not never(C)]};
 kept(N, _, _) -> N.
 
-never(#c_clause{pats = Patterns}) -> lists:any(fun(P) -> core_tree:fold(fun nothing/2, false, P) end, Patterns).
+never(#c_clause{pats = Patterns}) -> lists:any(fun nothing/1, Patterns).
 
-nothing(#c_binary{}, _) -> true;
-nothing(#c_literal{val = V}, Sum) -> Sum orelse not is_made(V);
-nothing(_, Sum) -> Sum.
+%% (what is in a pattern of a binary is not the value of anything)
+nothing(#c_binary{}) -> false;
+nothing(#c_literal{val = V}) -> not is_made(V);
+nothing(Pattern) ->
+    {_, Found} = core_tree:children(fun(P, Sum) -> {P, Sum orelse nothing(P)} end, false, Pattern),
+    Found.
 
 %% Whether a value can be made of what is read.
 is_made(V) when is_integer(V) -> not readable:is_past_limit(V);
 is_made([H | T]) -> is_made(H) andalso is_made(T);
 is_made(V) when is_tuple(V) -> is_made(tuple_to_list(V));
 is_made(V) when is_map(V) -> is_made(maps:to_list(V));
-is_made(V) -> not is_float(V) andalso not is_bitstring(V).
+is_made(V) when is_bitstring(V) -> is_binary(V);
+is_made(V) -> not is_float(V).
 
 %% The clause that is taken where none is left: the compiler knows that one of those matches.
 any(#c_clause{pats = Patterns}, Place, Home) ->
@@ -85,15 +88,15 @@ any(#c_clause{pats = Patterns}, Place, Home) ->
 %% ---- expressions and guards
 
 %% The definitions with stops where one of their expressions is not read; those that only come after a stop are left out.
-%% With --strict they stay as they are.
+%% With --strict those of the source stay as they are.
 put(Definitions, Module, Exports, Ledger) ->
-    case ledger:is_strict(Ledger) of
-        true -> {Definitions, Ledger};
-        false ->
-            Stopped = [stopped(D, readable:scope(Module, Exports)) || D <- Definitions],
-            Reached = reach:by_names(Stopped ++ [definition()], [{main, 0} | Exports]),
-            {Reached, lists:foldl(fun noted/2, Ledger, Reached)}
-    end.
+    Scope = readable:scope(Module, Exports),
+    Stopped = [case ledger:is_strict(ledger:within(D#definition.origin, Ledger)) of
+                   true -> D;
+                   false -> stopped(D, Scope)
+               end || D <- Definitions],
+    Reached = reach:by_names(Stopped ++ [definition()], [{main, 0} | Exports]),
+    {Reached, lists:foldl(fun noted/2, Ledger, [D || #definition{origin = source} = D <- Reached])}.
 
 stopped(#definition{home = Home, code = #c_fun{body = Body} = Fun} = D, Scope) ->
     D#definition{code = Fun#c_fun{body = walked(Body, core_tree:place(Fun, {"", 0}), {Home, Scope})}}.
@@ -103,6 +106,13 @@ walked(Tree, Place, Around) ->
     New.
 
 rule(#c_apply{op = #c_var{name = {'not read', 1}}} = N, _, _, S) -> {done, N, S};
+rule(#c_apply{op = #c_var{name = {_, _} = Name}, args = Args} = N, Place, Around, S) ->
+    %% what is handed on to a stop is its name already
+    {Looked, Kept} = case dispatchers:is_one(Name) of
+        true -> lists:split(length(Args) - 1, Args);
+        false -> {Args, []}
+    end,
+    {done, N#c_apply{args = [walked(A, Place, Around) || A <- Looked] ++ Kept}, S};
 rule(#c_receive{clauses = Clauses} = N, Place, Around, S) ->
     %% guards that choose a message stay as they are, and are refused
     Bodies = [C#c_clause{body = walked(C#c_clause.body, Place, Around)} || C <- Clauses],
@@ -130,18 +140,15 @@ guard_fault(Guard, Place, Scope) ->
 
 %% Expressions; other forms that are not read, as a receive that was not restored, are refused where they are written.
 can_stop(#c_literal{}) -> true;
-can_stop(#c_binary{}) -> true;
 can_stop(#c_call{}) -> true;
-can_stop(#c_primop{name = #c_literal{val = Name}}) -> Name =:= bs_init_writable;
 can_stop(_) -> false.
 
 %% What is evaluated before.
 parts(#c_literal{}) -> [];
-parts(#c_binary{segments = Segments}) -> lists:append([[V, Size] || #c_bitstr{val = V, size = Size} <- Segments]);
-parts(#c_call{module = M, name = F, args = Args}) -> [M, F | Args];
-parts(#c_primop{args = Args}) -> Args.
+parts(#c_call{module = M, name = F, args = Args}) -> [M, F | Args].
 
-%% Each stop of the text is noted.
+%% Each stop of the source is noted.
+noted(#definition{origin = library}, Ledger) -> Ledger;
 noted(#definition{code = Code}, Ledger) ->
     Name = name(),
     core_tree:fold(fun(#c_apply{op = #c_var{name = N}, args = [#c_literal{val = Table}]}, L) when N =:= Name ->

@@ -30,8 +30,8 @@ tested(Timeout, Limit) ->
                                       core_tree:clause([V], V)]}.
 
 note(source, {_, Line}, T, L) -> ledger:note("the timeout of ~w in line ~w is infinity here", [T, Line], L);
-note(library, _, _, L) -> L.
+note(_, _, _, L) -> L.
 
 note_computed(source, {_, Line}, Limit, L) ->
     ledger:note("the timeout of line ~w is infinity here where it is ~w or more", [Line, Limit], L);
-note_computed(library, _, _, L) -> L.
+note_computed(_, _, _, L) -> L.

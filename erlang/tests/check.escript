@@ -2,7 +2,7 @@
 %%! +A0
 %% check.escript PROGRAM FOLDER [PART ..]
 %% Runs the tests of the converter with that program, and a folder to write in. Parts are snippets,
-%% random, refusals, command, library and programs; without one all of them.
+%% random, refusals, doubts, command, library, linked, programs and behaviours; without one all of them.
 -mode(compile).
 -include("../built.hrl").
 
@@ -20,7 +20,7 @@ main([Program, Folder | Parts]) ->
     io:format("~w passed, ~w failed~n", [length(Results) - length(Failed), length(Failed)]),
     halt(case Failed of [] -> 0; _ -> 1 end).
 
-parts([]) -> ["snippets", "random", "refusals", "command", "library", "programs"];
+parts([]) -> ["snippets", "random", "refusals", "doubts", "command", "library", "linked", "programs", "behaviours"];
 parts(Parts) -> Parts.
 
 load(File) ->
@@ -28,8 +28,12 @@ load(File) ->
     {module, Module} = code:load_binary(Module, File, Code).
 
 part("snippets", Program, Here, Folder, Library) -> snippet_tests:all(Program, Here, Folder, Library);
-part("random", Program, _, Folder, Library) -> random_tests:all(Program, Folder, Library);
+part("random", Program, Here, Folder, Library) ->
+    random_tests:all(Program, Folder, Library) ++ random_calls:all(Program, filename:dirname(Here), Folder, Library);
 part("refusals", Program, Here, Folder, Library) -> refusal_tests:all(Program, Here, Folder, Library);
+part("doubts", _, Here, Folder, Library) -> doubt_tests:all(Here, Folder, Library);
 part("command", _, Here, Folder, _) -> command_tests:all(filename:dirname(Here), Folder);
+part("linked", Program, Here, Folder, Library) -> linked_tests:all(Program, Here, Folder, Library);
 part("library", _, Here, _, _) -> library_tests:all(filename:dirname(Here));
-part("programs", Program, Here, Folder, Library) -> program_tests:all(Program, filename:dirname(Here), Folder, Library).
+part("programs", Program, Here, Folder, Library) -> program_tests:all(Program, filename:dirname(Here), Folder, Library);
+part("behaviours", Program, Here, Folder, Library) -> behaviour_tests:all(Program, filename:dirname(Here), Folder, Library).

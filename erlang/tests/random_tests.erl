@@ -1,4 +1,4 @@
-%% Random pieces of source: funs, comprehensions, maps, receives, matches and failures in one
+%% Random pieces of source: funs, comprehensions, maps, binaries, receives, matches and failures in one
 %% another. What each gives or raises is the same on the real machine and in the explorer.
 -module(random_tests).
 
@@ -31,6 +31,7 @@ helpers() ->
      "id(X) -> X.",
      "show(F) when is_function(F, 0) -> fun0; show(F) when is_function(F, 1) -> fun1; show(F) when is_function(F) -> fun_more;",
      "show(M) when is_map(M) -> {map, [show(X) || X <- maps:to_list(M)]}; show(T) when is_tuple(T) -> {tuple, show(tuple_to_list(T))};",
+     "show(B) when is_binary(B) -> {binary, binary_to_list(B)};",
      "show([H | T]) -> [show(H) | show(T)]; show(X) -> X."].
 
 pick(L) -> lists:nth(rand:uniform(length(L)), L).
@@ -49,12 +50,12 @@ leaf(Scope) ->
         N when N =< 11, Scope =/= [] -> pick(Scope);
         N when N =< 15 -> number();
         N when N =< 18 -> atom();
-        _ -> pick(["[]", "{}", "#{}", "\"xy\"", "fun f1/1", "fun f2/2"])
+        _ -> pick(["[]", "{}", "#{}", "\"xy\"", "fun f1/1", "fun f2/2", "<<>>", "<<\"xy\">>", "<<1, 2, 3>>", "<<2, 0, 1, 4>>"])
     end.
 
 %% {Text, the variables that it binds}
 pattern(Scope, Depth) ->
-    case rand:uniform(12) of
+    case rand:uniform(14) of
         N when N =< 4 -> V = fresh(), {V, [V]};
         5 -> {"_", []};
         6 when Scope =/= [] -> {pick(Scope), []};
@@ -62,8 +63,26 @@ pattern(Scope, Depth) ->
         9 -> pair(Scope, Depth, "{", ", ", "}");
         10 -> pair(Scope, Depth, "[", " | ", "]");
         11 -> {P, Vs} = pattern(Scope, Depth - 1), {["#{", key(), " := ", P, "}"], Vs};
-        12 -> {P, Vs} = pattern(Scope, Depth - 1), V = fresh(), {[P, " = ", V], [V | Vs]}
+        12 -> {P, Vs} = pattern(Scope, Depth - 1), V = fresh(), {[P, " = ", V], [V | Vs]};
+        _ -> binary_pattern()
     end.
+
+%% Segments of known sizes, and perhaps one for the rest.
+binary_pattern() ->
+    Segments = [binary_segment() || _ <- lists:seq(1, rand:uniform(3) - 1)],
+    Last = case chance(50) of true -> V = fresh(), [{[V, "/binary"], [V]}]; false -> [] end,
+    {["<<", lists:join(", ", [Text || {Text, _} <- Segments ++ Last]), ">>"], lists:append([Vs || {_, Vs} <- Segments ++ Last])}.
+
+%% One with a size that is computed, and a character.
+computed_pattern(Scope) ->
+    V = fresh(),
+    W = fresh(),
+    {["<<", V, ":", pick(["1", "2" | Scope]), "/binary, ", W, "/utf8, _/bits>>"], [V, W]}.
+
+binary_segment() ->
+    V = fresh(),
+    pick([{V, [V]}, {V, [V]}, {"_", []}, {number(), []}, {[V, ":16"], [V]}, {[V, ":16/little"], [V]}, {[V, "/signed"], [V]},
+          {[V, ":2/binary"], [V]}, {[V, ":", pick(["1", "2", "3"]), "/unit:8"], [V]}, {"\"xy\"", []}, {"_:1/binary", []}]).
 
 pair(Scope, Depth, Open, Between, Close) ->
     {P, Vs} = pattern(Scope, Depth - 1),
@@ -79,12 +98,23 @@ guard(Scope) ->
             [" when " | pick([["is_integer(", V, "), ", V, " > 1"], ["is_function(", V, ")"], ["is_function(", V, ", 1)"], ["is_map(", V, ")"],
                               ["is_tuple(", V, ")"], ["is_list(", V, "); is_map(", V, ")"], [V, " =:= a"], ["not is_tuple(", V, ")"],
                               ["is_atom(", V, ") orelse is_function(", V, ", 2)"],
+                              ["is_binary(", V, ")"], ["byte_size(", V, ") > 1"], ["size(", V, ") =:= 2"],
+                              ["map_size(", V, ") > 0; is_atom(", V, ")"],
+                              ["is_map_key(", key(), ", ", V, ")"], ["map_get(", key(), ", ", V, ") =:= ", pick(Scope)],
+                              ["not is_map_key(a, ", V, "); bit_size(", V, ") < 10"],
                               ["is_tuple(", V, "), tuple_size(", V, ") =:= 2, element(1, ", V, ") =:= a"]])]
     end.
 
 clause(Scope, Depth) ->
-    {P, Vs} = pattern(Scope, 2),
-    [P, guard(Vs ++ Scope), " -> ", expression(Vs ++ Scope, Depth - 1)].
+    {P, Vs} = case chance(10) of
+        true -> computed_pattern(Scope);
+        false -> pattern(Scope, 2)
+    end,
+    Guard = case chance(10) of
+        true when Vs =/= [] -> [" when binary_part(", pick(Vs), ", 0, 1) =:= ", pick(["<<1>>", "<<\"x\">>"])];
+        _ -> guard(Vs ++ Scope)
+    end,
+    [P, Guard, " -> ", expression(Vs ++ Scope, Depth - 1)].
 
 clauses(Scope, Depth) ->
     Last = case chance(60) of true -> [["_ -> ", expression(Scope, Depth - 1)]]; false -> [] end,
@@ -112,7 +142,7 @@ plain_function(Scope, Depth, Arity) ->
 any_function(Scope, Depth) -> function(Scope, Depth, rand:uniform(3) - 1).
 
 expression(Scope, Depth) when Depth =< 0 -> leaf(Scope);
-expression(Scope, Depth) -> expression(rand:uniform(22), Scope, Depth).
+expression(Scope, Depth) -> expression(rand:uniform(26), Scope, Depth).
 
 expression(1, Scope, _) -> leaf(Scope);
 expression(2, Scope, D) -> ["{", inner(Scope, D), ", ", inner(Scope, D), "}"];
@@ -142,8 +172,25 @@ expression(18, Scope, D) ->
 expression(19, Scope, D) ->
     V = fresh(),
     ["try ", inner(Scope, D), " of ", clause(Scope, D - 1), " catch ", pick(["error", "throw", "_"]), ":", V, " -> ", expression([V | Scope], D - 1), " end"];
-expression(20, Scope, D) -> [pick(["throw", "error", "f1", "is_function", "is_map", "is_tuple", "show"]), "(", inner(Scope, D), ")"];
+expression(20, Scope, D) ->
+    F = pick(["throw", "error", "f1", "is_function", "is_map", "is_tuple", "show", "is_binary", "byte_size", "iolist_to_binary"]),
+    [F, "(", inner(Scope, D), ")"];
 expression(21, Scope, D) -> {P, Vs} = pattern(Scope, 2), ["begin ", P, " = ", inner(Scope, D), ", ", expression(Vs ++ Scope, D - 1), " end"];
-expression(22, Scope, D) -> ["try ", inner(Scope, D), " after ", inner(Scope, D), ", ", inner(Scope, D), " end"].
+expression(22, Scope, D) -> ["try ", inner(Scope, D), " after ", inner(Scope, D), ", ", inner(Scope, D), " end"];
+expression(23, Scope, D) ->
+    Kind = fun() -> pick(["", "", ":16", ":16/little", "/binary", ":1/binary", "/utf8", ":24/signed"]) end,
+    ["<<", lists:join(", ", [["(", inner(Scope, D), ")", Kind()] || _ <- lists:seq(1, rand:uniform(3))]), ">>"];
+expression(24, Scope, D) ->
+    {P, Vs} = binary_segment(),
+    ["[", expression(Vs ++ Scope, D - 1), " || <<", P, ">> <= ", inner(Scope, D), "]"];
+expression(25, Scope, D) ->
+    V = fresh(),
+    ["<< <<(", expression([V | Scope], D - 1), ")>> || ", V, " <- [", inner(Scope, D), ", ", inner(Scope, D), "] >>"];
+expression(26, Scope, D) -> ["begin ", binary_of(Scope, D), " end"].
+
+%% A match of the parts of a binary that was made.
+binary_of(Scope, D) ->
+    {P, Vs} = binary_pattern(),
+    [P, " = iolist_to_binary([", inner(Scope, D), ", <<\"xy\">>]), ", expression(Vs ++ Scope, D - 1)].
 
 inner(Scope, Depth) -> expression(Scope, Depth - 1).

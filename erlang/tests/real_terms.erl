@@ -1,5 +1,5 @@
 %% Terms of the real machine in the explorer's spelling. What has no name that both know is a
-%% word: PID, REF, FUN, MAP. A stack trace is [].
+%% word: PID, REF, FUN, MAP; a binary is its bytes. A stack trace is [].
 -module(real_terms).
 
 -export([text/1, without_names/1]).
@@ -15,6 +15,7 @@ spelled(T) when is_pid(T) -> "PID";
 spelled(T) when is_reference(T) -> "REF";
 spelled(T) when is_function(T) -> "FUN";
 spelled(T) when is_map(T) -> "MAP";
+spelled(T) when is_binary(T) -> ["<<", lists:join(",", [integer_to_list(B) || B <- binary_to_list(T)]), ">>"];
 spelled(T) -> io_lib:format("~p", [T]).
 
 tail([]) -> [];
@@ -45,7 +46,9 @@ without_traces(T) -> T.
 is_trace([{M, F, A, Info} | _]) -> is_atom(M) andalso is_atom(F) andalso (is_integer(A) orelse is_list(A)) andalso is_list(Info);
 is_trace(_) -> false.
 
-%% A text of the explorer with words in the place of the names of processes and references.
+%% A text of the explorer with words in the place of the names of processes and references, and with binaries as they are in
+%% Erlang.
 without_names(Text) ->
     Refs = re:replace(Text, "#P(\\.[0-9]+)*", "REF", [global, unicode, {return, list}]),
-    re:replace(Refs, "(?<![A-Za-z0-9_'.])P(\\.[0-9]+)*(?![A-Za-z0-9_'])", "PID", [global, unicode, {return, list}]).
+    Pids = re:replace(Refs, "(?<![A-Za-z0-9_'.])P(\\.[0-9]+)*(?![A-Za-z0-9_'])", "PID", [global, unicode, {return, list}]),
+    re:replace(Pids, "{'binary',\\[([0-9,]*)\\](,'-')+}", "<<\\1>>", [global, unicode, {return, list}]).

@@ -1,6 +1,7 @@
 %% Pieces of source in which something is not read. Each line that begins with %> is one that has to be printed with --strict,
 %% and nothing else is; without it there is a stop at that place. Those with %! are refused without it too; with %- there is
-%% no stop, since it is a clause that is left out. Those with %= are the notes, of source that is read.
+%% no stop, since it is a clause that is left out. Those with %= are the notes, of source that is read. With %~ it is what a
+%% function of the library stops at, with --strict too.
 -module(refusal_tests).
 
 -export([all/4]).
@@ -16,12 +17,14 @@ one({_, Words, Lines}, Around) ->
     Source = [L || L <- Lines, not is_wanted(L)],
     Strict = {refusals, printed(["--strict" | Words], Source, [Text || [$%, C | Text] <- Lines, lists:member(C, ">!-")], Lines, Around)},
     case {[Text || "%>" ++ Text <- Lines], [Text || "%!" ++ Text <- Lines]} of
-        {[], []} -> [Strict | [{'left out', printed(Words, Source, [], Lines, Around)} || "%-" ++ _ <- Lines]];
+        {[], []} ->
+            [Strict | [{'left out', printed(Words, Source, [], Lines, Around)} || "%-" ++ _ <- Lines]]
+                ++ [{'in the library', stops_at(Text, Words, Source, Around)} || "%~ " ++ Text <- Lines];
         {_, [_ | _] = Always} -> [Strict, {'refused without --strict', printed(Words, Source, Always, Lines, Around)}];
         {Stops, []} -> [Strict | stopped(Words, Source, lists:usort([place(Text) || Text <- Stops]), Around)]
     end.
 
-is_wanted([$%, C | _]) -> lists:member(C, ">!-=");
+is_wanted([$%, C | _]) -> lists:member(C, ">!-=~");
 is_wanted(_) -> false.
 
 converted(Words, Source, {_, Folder, Library}) ->
@@ -52,6 +55,15 @@ stopped(Words, Source, Places, Around) ->
     [{stops, same({0, Places}, {Status, Noted})},
      {reached, reached(explored(Text, Around), Places)},
      {'not reached', same(clean, result(explored(element(3, converted(Words, unreached(Source), Around)), Around)))}].
+
+%% Whether some process comes to a stop of the library with this text.
+stops_at(Wanted, Words, Source, Around) ->
+    {_, 0, Text, _} = converted(["--strict" | Words], Source, Around),
+    Report = explored(Text, Around),
+    case [Line || "refusal " ++ Line <- string:split(Report, "\n", all), string:find(Line, Wanted) =/= nomatch] of
+        [_ | _] -> passed;
+        [] -> {failed, {Wanted, Report}}
+    end.
 
 explored(Text, {Program, Folder, _}) -> explorer:explore(Program, Folder, Text, ?DEPTH).
 

@@ -1,12 +1,9 @@
 %% Runs of a program on the real machine, with pauses of a random length before what it asks for.
 -module(shaken_runs).
 
--export([load/2, run/2, pause/0]).
+-export([load/2, run/3, pause/0]).
 
 -include("../src/core.hrl").
-
-%% After how many milliseconds without an event all that live, where they all wait, are taken to wait for ever.
--define(QUIET, 80).
 
 %% The module with its pauses, loaded.
 load(File, Module) ->
@@ -40,8 +37,8 @@ rule(N, _, S) -> {inside, N, S}.
 
 is_shaken(erlang, F, 1) when F =:= spawn; F =:= spawn_link; F =:= spawn_monitor -> true;
 is_shaken(erlang, cancel_timer, 1) -> true;
-is_shaken(M, _, _) when M =:= gen_server; M =:= timer; M =:= ets -> true;
-is_shaken(M, F, A) -> known_calls:is_request(M, F, A).
+is_shaken(M, F, A) ->
+    lists:member(M, [gen_server, gen_statem, gen_event, supervisor, sys, timer, ets]) orelse known_calls:is_request(M, F, A).
 
 paused(Node) -> #c_seq{arg = core_tree:call([], ?MODULE, pause, []), body = Node}.
 
@@ -54,12 +51,13 @@ pause() ->
     end.
 
 %% What became of one run: {Ends, Waits}, where Ends is [{first | other, Reason}] of those that ended
-%% otherwise than normally, and Waits how many wait for ever, and whether the first one does.
-run(Module, Entry) ->
+%% otherwise than normally, and Waits how many wait for ever, and whether the first one does. After Quiet milliseconds
+%% without an event all that live, where they all wait, are taken to wait for ever.
+run(Module, Entry, Quiet) ->
     First = spawn(fun() -> receive go -> Module:Entry() end end),
     1 = erlang:trace(First, true, [procs, set_on_spawn]),
     First ! go,
-    {Ends, Live} = gather(First, [First], []),
+    {Ends, Live} = gather(First, [First], [], Quiet),
     Refs = [begin exit(P, kill), monitor(process, P) end || P <- Live],
     [receive {'DOWN', R, process, _, _} -> ok end || R <- Refs],
     forget(),
@@ -68,17 +66,17 @@ run(Module, Entry) ->
 role(First, First) -> first;
 role(_, _) -> other.
 
-gather(First, Born, Ends) ->
+gather(First, Born, Ends, Quiet) ->
     receive
-        {trace, _, spawn, Child, _} -> gather(First, [Child | Born], Ends);
-        {trace, P, exit, Reason} -> gather(First, Born, [{P, Reason} | Ends]);
-        {trace, _, _, _} -> gather(First, Born, Ends);
-        {trace, _, _, _, _} -> gather(First, Born, Ends)
-    after wait(Born, Ends) ->
+        {trace, _, spawn, Child, _} -> gather(First, [Child | Born], Ends, Quiet);
+        {trace, P, exit, Reason} -> gather(First, Born, [{P, Reason} | Ends], Quiet);
+        {trace, _, _, _} -> gather(First, Born, Ends, Quiet);
+        {trace, _, _, _, _} -> gather(First, Born, Ends, Quiet)
+    after wait(Born, Ends, Quiet) ->
         Live = live(Born, Ends),
         case lists:all(fun waits/1, Live) of
             true -> {lists:reverse(Ends), Live};
-            false -> gather(First, Born, Ends)
+            false -> gather(First, Born, Ends, Quiet)
         end
     end.
 
@@ -93,6 +91,6 @@ waits(Pid) ->
 live(Born, Ends) -> lists:usort(Born) -- [P || {P, _} <- Ends].
 
 %% Where nobody lives any more, what is on the way still comes.
-wait(Born, Ends) -> case live(Born, Ends) of [] -> 3; _ -> ?QUIET end.
+wait(Born, Ends, Quiet) -> case live(Born, Ends) of [] -> 3; _ -> Quiet end.
 
 forget() -> receive {trace, _, _, _} -> forget(); {trace, _, _, _, _} -> forget() after 0 -> ok end.

@@ -5,6 +5,8 @@
 -export([all/4, one/3]).
 
 all(Program, Here, Folder, Library) ->
+    %% the server of timers stays when what a piece left behind is ended
+    ok = timer:start(),
     Files = filelib:wildcard(filename:join(Here, "snippets/*.txt")),
     [one(filename:basename(File, ".txt"), Block, {Program, Folder, Library}) || File <- Files, Block <- blocks:read(File)].
 
@@ -38,7 +40,7 @@ real(File) ->
     code:purge(Module),
     {module, Module} = code:load_binary(Module, File, Code),
     Before = processes(),
-    {Pid, Ref} = spawn_monitor(fun() -> group_leader(quiet(), self()), Module:main() end),
+    {Pid, Ref} = spawn_monitor(fun() -> group_leader(quiet_device:start(), self()), Module:main() end),
     Reason = receive {'DOWN', Ref, process, Pid, R} -> R after 3000 -> waits end,
     clear(processes() -- Before),
     Reason.
@@ -47,11 +49,3 @@ real(File) ->
 clear(Pids) ->
     Refs = [begin exit(P, kill), monitor(process, P) end || P <- Pids],
     [receive {'DOWN', R, process, _, _} -> ok end || R <- Refs].
-
-%% Takes all that is printed, and drops it.
-quiet() -> spawn_link(fun quiet_loop/0).
-quiet_loop() ->
-    receive
-        {io_request, From, Ref, _} -> From ! {io_reply, Ref, ok}, quiet_loop();
-        _ -> quiet_loop()
-    end.

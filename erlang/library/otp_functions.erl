@@ -1,0 +1,162 @@
+%% What of OTP's behaviours asks the machine for what the explorer does not have, in the place of the function that asks: the
+%% rest of these modules is taken as it is installed. Nothing is logged, there is one node, and a process keeps no dictionary.
+-module(otp_functions).
+-compile([export_all, nowarn_export_all]).
+
+%% ---- proc_lib: '$ancestors' and '$initial_call' are in no dictionary, and a crash is not reported
+
+'proc_lib:get_my_name'() -> self().
+'proc_lib:get_ancestors'() -> [].
+
+%% Names for arguments that are not known would be atoms that no program has.
+'proc_lib:make_dummy_args'(0, Names) -> Names;
+'proc_lib:make_dummy_args'(_, Names) -> proc_lib:'names for arguments'(Names).
+
+'proc_lib:init_p'(_, _, F) when is_function(F) -> 'proc_lib begins'(F, []).
+'proc_lib:init_p'(_, _, M, F, A) when is_atom(M), is_atom(F), is_list(A) -> 'proc_lib applies'(M, F, A).
+'proc_lib:wake_up'(M, F, A) -> 'proc_lib applies'(M, F, A).
+
+'proc_lib begins'(F, []) ->
+    try F()
+    catch Class:Reason -> 'proc_lib ends'(Class, Reason)
+    end.
+
+'proc_lib applies'(M, F, A) ->
+    try apply(M, F, A)
+    catch Class:Reason -> 'proc_lib ends'(Class, Reason)
+    end.
+
+'proc_lib ends'(error, Reason) -> exit({Reason, []});
+'proc_lib ends'(exit, Reason) -> exit(Reason);
+'proc_lib ends'(throw, Reason) -> exit({{nocatch, Reason}, []}).
+
+%% The stack of a process that hibernates is not dropped, but it ends where the function returns. That one begins at once, and
+%% not with the next message, so a server that hibernates is suspended as another one.
+'erlang:hibernate'(M, F, A) -> apply(M, F, A), exit(normal).
+'proc_lib:hibernate'(M, F, A) -> 'proc_lib applies'(M, F, A), exit(normal).
+'sys:handle_system_msg'(Message, From, Parent, Module, Debug, Misc, _) -> sys:handle_system_msg(Message, From, Parent, Module, Debug, Misc).
+
+%% ---- gen: a process has its name where whereis/1 says so, and a reply goes to the process, not to an alias. One that comes
+%% after the time of its call is selected by no receive (src/late_replies.erl).
+
+'gen:get_proc_name'(Pid) when is_pid(Pid) -> Pid;
+'gen:get_proc_name'({local, Name}) ->
+    case whereis(Name) =:= self() of
+        true -> Name;
+        false -> exit(process_not_registered)
+    end;
+'gen:get_proc_name'({global, Name}) ->
+    case global:whereis_name(Name) =:= self() of
+        true -> Name;
+        false -> exit(process_not_registered_globally)
+    end;
+'gen:get_proc_name'({via, Module, Name}) ->
+    case Module:whereis_name(Name) =:= self() of
+        true -> Name;
+        false -> exit({process_not_registered_via, Module})
+    end.
+
+'gen:do_call'(Process, _, _, _) when Process =:= self() -> exit(calling_self);
+'gen:do_call'(Process, Label, Request, infinity) ->
+    Ref = monitor(process, Process),
+    Process ! {Label, {self(), Ref}, Request},
+    receive
+        {Ref, Reply} -> demonitor(Ref, [flush]), {ok, Reply};
+        {'DOWN', Ref, _, _, Reason} -> exit(Reason)
+    end;
+'gen:do_call'(Process, Label, Request, Timeout) ->
+    Ref = monitor(process, Process),
+    Tag = ['alias of a call' | Ref],
+    Process ! {Label, {self(), Tag}, Request},
+    receive
+        {Tag, Reply} -> demonitor(Ref, [flush]), {ok, Reply};
+        {'DOWN', Ref, _, _, Reason} -> exit(Reason)
+    after Timeout ->
+        demonitor(Ref, [flush]),
+        receive
+            {Tag, Reply} -> {ok, Reply}
+        after 0 -> exit(timeout)
+        end
+    end.
+
+'gen:do_send_request'(Process, Tag, Request) ->
+    Ref = monitor(process, Process),
+    Process ! {Tag, {self(), [alias | Ref]}, Request},
+    Ref.
+
+'gen:reply'({To, Tag}, Reply) ->
+    try To ! {Tag, Reply}, ok
+    catch _:_ -> ok
+    end.
+
+%% ---- what is sent to a name on a node goes to that name, where it is this node, and is lost else
+
+'gen_server:do_send'(To, Message) -> 'otp sends'(To, Message).
+'gen_statem:send'(To, Message) -> 'otp sends'(To, Message).
+
+'otp sends'(To, Message) ->
+    try
+        'otp sends to'(To, Message),
+        ok
+    catch error:_ -> ok
+    end.
+
+'otp sends to'({Name, Node}, Message) ->
+    case Node =:= node() of
+        true -> Name ! Message;
+        false -> Message
+    end;
+'otp sends to'(To, Message) -> To ! Message.
+
+'gen_event:send'({global, Name}, Command) -> catch global:send(Name, Command), ok;
+'gen_event:send'({via, Module, Name}, Command) -> catch Module:send(Name, Command), ok;
+'gen_event:send'({_, _} = To, Command) -> 'otp sends'(To, Command);
+'gen_event:send'(To, Command) -> To ! Command, ok.
+
+'gen_server:do_multi_call'([Node], Name, Request, infinity) ->
+    case Node =:= node() of
+        true ->
+            try gen:call(Name, '$gen_call', Request, infinity) of
+                {ok, Reply} -> {[{Node, Reply}], []}
+            catch exit:_ -> {[], [Node]}
+            end;
+        false -> {[], [Node]}
+    end;
+'gen_server:do_multi_call'(_, Name, _, _) -> gen_server:'multi_call of several nodes, or with a time'(Name).
+
+%% ---- nothing is written
+
+'logger:allow'(_, _) -> false.
+'proc_lib:crash_report'(_, _, _, _) -> ok.
+'gen_server:error_info'(_, _, _, _, _, _, _, _) -> ok.
+'gen_statem:error_info'(_, _, _, _, _, _, _) -> ok.
+'gen_event:report_error'(_, _, _, _, _) -> ok.
+'supervisor:report_progress'(_, _) -> ok.
+
+%% Stacks are empty; the rest of what a process is asked for is not read.
+'erlang:process_info'(Pid, current_stacktrace) when is_pid(Pid) -> {current_stacktrace, []};
+'erlang:process_info'(Pid, Item) -> erlang:'process_info/2 of another item'(Pid, Item).
+
+%% ---- applications are configured by --env and by the files of applications; none is started
+
+'application:get_env'(Key) when is_atom(Key) -> undefined.
+'application:get_env'(Application, Key) when is_atom(Application), is_atom(Key) -> 'application environment'(Application, Key).
+'application:get_env'(Application, Key, Default) ->
+    case 'application environment'(Application, Key) of
+        {ok, Value} -> Value;
+        undefined -> Default
+    end.
+'application:get_all_env'(Application) -> 'application environment'(Application).
+'application:get_application'() -> undefined.
+'application:get_application'(_) -> undefined.
+
+%% These two are made of what is configured (src/environment.erl).
+'application environment'(_, _) -> undefined.
+'application environment'(_) -> [].
+
+%% ---- one node
+
+'net_kernel:monitor_nodes'(_) -> ok.
+'net_kernel:monitor_nodes'(_, _) -> ok.
+'erlang:monitor_node'(_, _) -> true.
+'init:get_argument'(_) -> error.
