@@ -1,4 +1,4 @@
-%% ./explore examples/account.erl
+%% ./explore examples/account.erl --after-timeout 5000
 -module(account).
 -behaviour(gen_server).
 -export([main/0, init/1, handle_call/3, handle_cast/2]).
