@@ -11,8 +11,8 @@ complete(Definitions) ->
     case [D || #definition{name = Name} = D <- Definitions, is_table(Name)] of
         [] -> Definitions;
         _ ->
-            Atoms = ordsets:from_list(lists:foldl(fun(#definition{code = Code}, Sum) -> atoms_of(Code, Sum) end, [], Definitions)),
-            [completed(D, [A || A <- Atoms, not is_stop(A)]) || D <- Definitions]
+            Atoms = core_tree:atoms_as_values([Code || #definition{code = Code} <- Definitions]),
+            [completed(D, [A || A <- lists:sort(maps:keys(Atoms)), not is_stop(A)]) || D <- Definitions]
     end.
 
 %% The atoms that the explorer makes by itself, which this table has before it is completed.
@@ -23,22 +23,6 @@ is_table(Name) -> Name =:= {'text of atom', 1} orelse Name =:= {'atom of text', 
 
 %% What the converter itself calls a stop is no atom of the program.
 is_stop(Atom) -> lists:prefix("not read: ", atom_to_list(Atom)).
-
-%% ---- the atoms of a tree
-
-atoms_of(Tree, Sum) ->
-    {_, Sum1} = core_tree:walk(fun rule/3, {"", 0}, Sum, Tree),
-    Sum1.
-
-rule(#c_call{module = #c_literal{}, name = #c_literal{}, args = Args} = N, _, Sum) -> {done, N, lists:foldl(fun atoms_of/2, Sum, Args)};
-rule(#c_literal{val = V} = N, _, Sum) -> {done, N, atoms(V, Sum)};
-rule(N, _, Sum) -> {inside, N, Sum}.
-
-atoms(V, Sum) when is_atom(V) -> [V | Sum];
-atoms([H | T], Sum) -> atoms(T, atoms(H, Sum));
-atoms(V, Sum) when is_tuple(V) -> atoms(tuple_to_list(V), Sum);
-atoms(V, Sum) when is_map(V) -> atoms(maps:to_list(V), Sum);
-atoms(_, Sum) -> Sum.
 
 %% ---- the tables: a function with a case over its argument, whose last clause stops
 

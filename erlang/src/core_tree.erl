@@ -3,6 +3,7 @@
 
 -export([walk/4, children/3, fold/3, free_variables/1, bound_variables/1, uses/2]).
 -export([place/2, first_place/1, first_file/2]).
+-export([atoms_of/2, atoms_as_values/1]).
 -export([literal/1, variable/1, list/1, length_of/1, call/4, call_erlang/3, apply_to/3, clause/2, clause/3, is_simple/1, evaluated/2,
          raise_error/2]).
 
@@ -144,6 +145,25 @@ lines_of(Node, Free) ->
         _ when IsOutside -> [];
         Line -> [Line]
     end.
+
+%% ---- atoms
+
+%% The sum, #{Atom => true}, with the atoms of a value.
+atoms_of(V, Sum) when is_atom(V) -> Sum#{V => true};
+atoms_of([H | T], Sum) -> atoms_of(T, atoms_of(H, Sum));
+atoms_of(V, Sum) when is_tuple(V) -> atoms_of(tuple_to_list(V), Sum);
+atoms_of(V, Sum) when is_map(V) -> atoms_of(maps:to_list(V), Sum);
+atoms_of(_, Sum) -> Sum.
+
+%% The atoms of trees, in patterns too, but not the names of what is called: #{Atom => true}.
+atoms_as_values(Trees) ->
+    lists:foldl(fun(Tree, Sum) -> {_, Sum1} = walk(fun atom_rule/3, {"", 0}, Sum, Tree), Sum1 end, #{}, Trees).
+
+atom_rule(#c_call{module = #c_literal{}, name = #c_literal{}} = N, _, Sum) -> {inside, N#c_call{module = literal([]), name = literal([])}, Sum};
+atom_rule(#c_literal{val = V} = N, _, Sum) -> {done, N, atoms_of(V, Sum)};
+atom_rule(N, _, Sum) -> {inside, N, Sum}.
+
+%% ---- nodes that are made
 
 literal(Value) -> #c_literal{val = Value}.
 

@@ -20,6 +20,11 @@ special(io, F, Args, N) when F =:= format; F =:= fwrite; F =:= put_chars; F =:= 
         true -> {core_tree:evaluated(Args, core_tree:literal(ok)), Texts};
         false -> {call, N#c_call{args = output:shortened(F, Args)}, Texts}
     end;
+special(M, F, Args, _) when M =:= logger; M =:= error_logger ->
+    case is_logging(M, F, length(Args)) of
+        true -> {core_tree:evaluated(Args, core_tree:literal(ok)), ["nothing is logged here"]};
+        false -> none
+    end;
 special(erlang, node, [], _) -> {core_tree:literal(nonode@nohost), []};
 special(erlang, node, [Value], _) -> {node_of(Value), []};
 special(erlang, process_flag, [#c_literal{val = Flag}, _], N) ->
@@ -65,6 +70,15 @@ operation(#c_primop{anno = Notes, name = #c_literal{val = raw_raise}, args = [Cl
 operation(_) -> none.
 
 text_of_traces() -> "a stack trace is [] here".
+
+%% What only writes into a log.
+is_logging(logger, F, A) ->
+    lists:member(F, [emergency, alert, critical, error, warning, notice, info, debug]) andalso lists:member(A, [1, 2, 3]) orelse
+        lists:member({F, A}, [{log, 2}, {log, 3}, {log, 4}, {macro_log, 3}, {macro_log, 4}, {macro_log, 5},
+                              {set_process_metadata, 1}, {update_process_metadata, 1}, {unset_process_metadata, 0}]);
+is_logging(error_logger, F, A) ->
+    lists:member(F, [error_msg, warning_msg, info_msg, error_report, warning_report, info_report]) andalso lists:member(A, [1, 2]) orelse
+        {F, A} =:= {format, 2}.
 
 sent(N, To, Message, Answer) ->
     #c_seq{arg = N#c_call{name = core_tree:literal(send), args = [To, Message]}, body = core_tree:literal(Answer)}.

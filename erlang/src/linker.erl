@@ -188,7 +188,7 @@ rule(#c_call{anno = Notes, module = Module, name = Name, args = Args}, Place, S)
 rule(Node, _, S) -> {inside, Node, S}.
 
 %% In a pattern no atom becomes a value.
-pattern_rule(#c_literal{val = V} = N, _, #link{matched = Atoms} = S) -> {done, N, S#link{matched = atoms_of(V, Atoms)}};
+pattern_rule(#c_literal{val = V} = N, _, #link{matched = Atoms} = S) -> {done, N, S#link{matched = core_tree:atoms_of(V, Atoms)}};
 pattern_rule(N, _, S) -> {inside, N, S}.
 
 each(Nodes, Place, S) -> lists:mapfoldl(fun(N, T) -> core_tree:walk(fun rule/3, Place, T, N) end, S, Nodes).
@@ -212,13 +212,7 @@ own({F, A} = Name, #link{context = {in, Module}, library = Library, modules = Mo
 
 use(Key, #link{uses = Uses} = S) -> S#link{uses = [Key | Uses]}.
 
-atoms(V, #link{atoms = Atoms} = S) -> S#link{atoms = atoms_of(V, Atoms)}.
-
-atoms_of(V, Sum) when is_atom(V) -> Sum#{V => true};
-atoms_of([H | T], Sum) -> atoms_of(T, atoms_of(H, Sum));
-atoms_of(V, Sum) when is_tuple(V) -> atoms_of(tuple_to_list(V), Sum);
-atoms_of(V, Sum) when is_map(V) -> atoms_of(maps:to_list(V), Sum);
-atoms_of(_, Sum) -> Sum.
+atoms(V, #link{atoms = Atoms} = S) -> S#link{atoms = core_tree:atoms_of(V, Atoms)}.
 
 %% ---- calls
 

@@ -6,21 +6,31 @@
 -include("core.hrl").
 
 %%   made    {Name, Kinds} of each call of ets:new/2; Name is any where it is computed
-%%   atoms   all atoms of the source; what is not among them is no option of a table
--record(tables, {made, atoms}).
+%%   atoms   the atoms of the source that are values, #{Atom => true}; what is not among them is no option of a table
+%%   calls   the names of the functions of ets that it calls
+-record(tables, {made, atoms, calls}).
 
 of_source(Definitions) ->
     Codes = [Code || #definition{code = Code} <- Definitions],
-    Atoms = lists:usort(lists:append([core_tree:fold(fun atoms/2, [], Code) || Code <- Codes])),
+    Atoms = core_tree:atoms_as_values(Codes),
     Made = fun(Node, Sum) -> [{named(Name), kinds(Options, Atoms)} || {Name, Options} <- new(Node)] ++ Sum end,
-    #tables{made = lists:append([core_tree:fold(Made, [], Code) || Code <- Codes]), atoms = Atoms}.
+    Computed = [{any, kinds(any, Atoms)} || is_map_key(ets, Atoms)],
+    Calls = lists:append([core_tree:fold(fun called/2, [], Code) || Code <- Codes]),
+    #tables{made = Computed ++ lists:append([core_tree:fold(Made, [], Code) || Code <- Codes]), atoms = Atoms, calls = Calls}.
+
+called(#c_call{module = #c_literal{val = ets}, name = #c_literal{val = F}}, Sum) -> [F | Sum];
+called(#c_literal{val = V}, Sum) when is_function(V) ->
+    [F || {module, ets} <- [erlang:fun_info(V, module)], {name, F} <- [erlang:fun_info(V, name)]] ++ Sum;
+called(_, Sum) -> Sum.
 
 %% Whether no table is made.
 is_none(#tables{made = Made}) -> Made =:= [].
 
-mentions(Atom, #tables{atoms = Atoms}) -> lists:member(Atom, Atoms).
+%% Whether a function of ets may be called, or a word may be an option of a table.
+mentions(Atom, #tables{atoms = Atoms, calls = Calls}) -> is_map_key(Atom, Atoms) orelse lists:member(Atom, Calls).
 
-%% {Name, Options} of what makes a table; ets:new/2 as a value has neither.
+%% {Name, Options} of what makes a table; ets:new/2 as a value has neither. Nor has a call of a computed module, which can be
+%% one of ets where that is a value.
 new(#c_call{module = #c_literal{val = ets}, name = #c_literal{val = new}, args = [Name, Options]}) -> [{Name, Options}];
 new(#c_literal{val = V}) when is_function(V) -> [{any, any} || V =:= fun ets:new/2];
 new(_) -> [].
@@ -28,21 +38,11 @@ new(_) -> [].
 named(#c_literal{val = Name}) -> Name;
 named(_) -> any.
 
-atoms(#c_literal{val = V}, Sum) -> atoms_of(V, Sum);
-atoms(#c_call{module = M, name = F}, Sum) -> atoms(M, atoms(F, Sum));
-atoms(_, Sum) -> Sum.
-
-atoms_of(V, Sum) when is_atom(V) -> [V | Sum];
-atoms_of([H | T], Sum) -> atoms_of(H, atoms_of(T, Sum));
-atoms_of(V, Sum) when is_tuple(V) -> atoms_of(tuple_to_list(V), Sum);
-atoms_of(V, Sum) when is_map(V) -> atoms_of(maps:to_list(V), Sum);
-atoms_of(_, Sum) -> Sum.
-
 %% The last option of its kind counts; where one is computed, it can be each that the source has a word for.
 kinds(Options, Atoms) ->
     Each = options(Options),
     case lists:member(any, Each) of
-        true -> [set | [K || K <- [ordered_set, bag, duplicate_bag], lists:member(K, Atoms)]];
+        true -> [set | [K || K <- [ordered_set, bag, duplicate_bag], is_map_key(K, Atoms)]];
         false -> [lists:last([set | [O || O <- Each, lists:member(O, [set, ordered_set, bag, duplicate_bag])]])]
     end.
 
