@@ -2,24 +2,25 @@
 %%
 %% The folder of the exploration has the report of the program (`report`), the transcripts of its findings
 %% (`transcripts/1`, `transcripts/2` ..), the module (`module.core`), which has the lines of its source as annotations,
-%% and where it was converted what makes its verdict doubtful (`doubts`).
+%% and where it was converted what makes its verdict doubtful (`doubts`). Where signals took any time it may have the report
+%% of the schedules in which they arrive at once (`prompt`).
 -module(report_main).
 -export([main/1]).
 -include("report.hrl").
 
-%% What a report is made with: the name of the source, the module that the machine plays, what the first process runs,
-%% and what is drawn.
--record(work, {folder, source, module, first, chart, drawings}).
+%% What a report is made with: the name of the source, when signals arrive, the module that the machine plays, what the first
+%% process runs, and what is drawn.
+-record(work, {folder, source, delivery, module, first, chart, drawings}).
 
 main(Words) ->
     [ok = io:setopts(Device, [{encoding, unicode}]) || Device <- [standard_io, standard_error]],
     ran(Words).
 
 ran(["normal", Folder]) -> spelled(Folder);
-ran([Kind, Folder, Source, Coverage, Chart, Drawings]) ->
+ran([Kind, Folder, Source, Delivery, Coverage, Chart, Drawings]) ->
     {Module, First} = prepare(filename:join(Folder, "module.core"), filename:basename(Source)),
-    Work = #work{folder = Folder, source = filename:basename(Source), module = Module, first = First,
-                 chart = Chart =:= "yes", drawings = Drawings},
+    Work = #work{folder = Folder, source = filename:basename(Source), delivery = Delivery, module = Module,
+                 first = First, chart = Chart =:= "yes", drawings = Drawings},
     case Kind of
         "explore" -> explored(Work, string:lexemes(Coverage, " "));
         "replay" -> replayed(Work)
@@ -74,11 +75,12 @@ replayed(Work) ->
 explored(Work, Coverage) ->
     {Reach, All, Last} = report_reader:report(read(filename:join(Work#work.folder, "report"))),
     {Findings, Stops, Deadlocks} = report_unread:sorted(All, fun(Place) -> report_reader:transcript(transcript(Work, Place)) end),
-    print(report_unread:head(Stops, report_text:head(Work#work.source, Coverage, Reach))),
+    print(report_unread:head(Stops, report_text:head(Work#work.source, Work#work.delivery, Coverage, Reach))),
     Errors = [{Number, report_reader:identity(Identity)} || {_, {error, Number, Identity, _}} <- Findings],
-    Told = [finding(Work, Place, Finding, Errors) || {Place, Finding} <- Findings],
+    Prompt = prompt(Work),
+    Told = [finding(Work, Place, Finding, Errors, Prompt) || {Place, Finding} <- Findings],
     Reached = [unread(Work, Stop) || Stop <- Stops],
-    print(report_text:tail(Coverage, Reach, report_unread:sums(Findings, Stops, Last))),
+    print(report_text:tail(Work#work.delivery, Coverage, Reach, report_unread:sums(Findings, Stops, Last))),
     print(report_unread:below(Stops, Deadlocks)),
     print(report_text:doubts(doubts(Work))),
     disagreements(Told ++ Reached).
@@ -94,8 +96,17 @@ doubts(#work{folder = Folder}) ->
     File = filename:join(Folder, "doubts"),
     [Line || filelib:is_file(File), Line <- string:split(read(File), "\n", all), Line =/= ""].
 
+%% What schedules show in which signals arrive at once: the texts of the errors, or any where these were not explored to
+%% their end.
+prompt(#work{folder = Folder}) ->
+    File = filename:join(Folder, "prompt"),
+    case filelib:is_file(File) of
+        true -> {_, All, _} = report_reader:report(read(File)), [Identity || {_, _, Identity, _} <- All];
+        false -> any
+    end.
+
 %% One finding: an error with all that leads to it, a refusal and what is taken as normal with the last event.
-finding(Work, Place, {Kind, Number, Identity, Schedule}, Errors) ->
+finding(Work, Place, {Kind, Number, Identity, Schedule}, Errors, Prompt) ->
     File = filename:join([Work#work.folder, "transcripts", integer_to_list(Place)]),
     Told = (told(Work, read(File)))#{waits => report_reader:waits(read(File ++ ".waits"))},
     Read = report_reader:identity(Identity),
@@ -103,7 +114,8 @@ finding(Work, Place, {Kind, Number, Identity, Schedule}, Errors) ->
     case Kind of
         error ->
             Earlier = report_story:earlier(Read, Errors, maps:get(events, Told)),
-            print(["\n", Title, "\n", report_text:limit(report_story:limit(Told)), report_text:schedule(Schedule),
+            Overtakes = Prompt =/= any andalso not lists:member(Identity, Prompt),
+            print(["\n", Title, "\n", report_text:overtakes(Overtakes), report_text:limit(report_story:limit(Told)), report_text:schedule(Schedule),
                    report_text:earlier(Earlier), report_text:transcript(Read, Told)]),
             draw(Work, ["error_", integer_to_list(Number)], Title, Read, Told);
         _ -> print(report_text:brief(Title, Schedule, Told))

@@ -72,11 +72,14 @@ report(Text) ->
 reach("depth " ++ Text) ->
     [Depth, Rest] = string:split(Text, ", "),
     case Rest of
-        "incomplete: " ++ Why -> list_to_tuple([stopped, Depth | string:split(Why, "; all schedules to depth ")]);
+        "incomplete: " ++ Why -> list_to_tuple([stopped, Depth | stop(string:split(Why, "; all "))]);
         _ ->
             [What, Count, "complete" | _] = string:lexemes(Rest, ", "),
             {complete, Depth, Count, What}
     end.
+
+stop([Cause]) -> [Cause];
+stop([Cause, Schedules]) -> [Cause, lists:last(string:lexemes(Schedules, " "))].
 
 findings([Title, "  " ++ Schedule | Lines], Findings) ->
     [Kind, Rest] = string:split(Title, " "),

@@ -1,7 +1,7 @@
 %% The report for people.
 -module(report_text).
 -export([call/3, deed/1, identity/1, place/1, role/2, waits/2, stands/2]).
--export([head/3, tail/3, doubts/1, schedule/1, limit/1, earlier/1, transcript/2, brief/3]).
+-export([head/4, tail/4, doubts/1, schedule/1, limit/1, earlier/1, overtakes/1, transcript/2, brief/3]).
 -include("report.hrl").
 
 -define(GREATEST_COLUMN, 76).
@@ -19,14 +19,17 @@ function(Name) -> report_term:text({atom, Name}).
 arguments(Terms) -> lists:join(",", [report_term:text(Term) || Term <- Terms]).
 
 %% What a process begins with: a function and its arguments, a fun, a fun as a value, or a behaviour of a module.
-started(Name, Arguments) ->
+started(Name, Arguments) -> begun(Name, Arguments, fun(Given) -> ["(", arguments(Given), ")"] end).
+
+%% The arguments are shown by Shown(Arguments), where there is a function that has some.
+begun(Name, Arguments, Shown) ->
     case report_begin:meant(Name, Arguments) of
         {value, Fun} -> report_term:text(Fun);
         {behaviour, Behaviour, Module} -> behaviour(Behaviour, Module);
         {call, Function, Given} ->
             case atom_to_list(Function) of
                 "fun in " ++ _ = Fun -> Fun;
-                _ -> [qualified(Function), "(", arguments(Given), ")"]
+                _ -> [qualified(Function), Shown(Given)]
             end
     end.
 
@@ -72,16 +75,7 @@ identity({runaway, Name}) -> [Name, " runs away"];
 identity({refusal, Name, Request, Deed}) -> [Name, " request ", integer_to_list(Request), " ", deed(Deed)].
 
 %% What a process runs.
-role(Name, Arguments) ->
-    case report_begin:meant(Name, Arguments) of
-        {value, Fun} -> report_term:text(Fun);
-        {behaviour, Behaviour, Module} -> behaviour(Behaviour, Module);
-        {call, Function, Given} ->
-            case atom_to_list(Function) of
-                "fun in " ++ _ = Fun -> Fun;
-                _ -> [qualified(Function), "/", integer_to_list(length(Given))]
-            end
-    end.
+role(Name, Arguments) -> begun(Name, Arguments, fun(Given) -> ["/", integer_to_list(length(Given))] end).
 
 %% Where something is in the source.
 place(none) -> "";
@@ -94,12 +88,16 @@ place({File, Line}) -> [File, ":", integer_to_list(Line)].
 %% ---- the report
 
 %% The first line: what was explored.
-head(Source, Coverage, Reach) -> [Source, ": ", explored(Coverage, Reach), "\n"].
+head(Source, Delivery, Coverage, Reach) -> [Source, ": ", explored(Coverage, of_delivery(Delivery), Reach), "\n"].
 
-explored(["all", _], {complete, _, Count, What}) -> ["all schedules, ", many(Count, What)];
-explored(_, {complete, Depth, Count, What}) -> ["all schedules of at most ", steps(Depth), ", ", many(Count, What)];
-explored(_, {stopped, Depth, _}) -> ["not all schedules of at most ", steps(Depth)];
-explored(_, {stopped, _, _, Whole}) -> ["all schedules of at most ", steps(Whole), ", and not all longer ones"].
+explored(["all", _], Of, {complete, _, Count, What}) -> ["all schedules", Of, ", ", many(Count, What)];
+explored(_, Of, {complete, Depth, Count, What}) -> ["all schedules of at most ", steps(Depth), Of, ", ", many(Count, What)];
+explored(_, Of, {stopped, Depth, _}) -> ["not all schedules of at most ", steps(Depth), Of];
+explored(_, Of, {stopped, _, _, Whole}) -> ["all schedules of at most ", steps(Whole), Of, ", and not all longer ones"].
+
+%% Which schedules were followed, by when signals arrive in them.
+of_delivery("at-once") -> " in which signals arrive at once";
+of_delivery("any-delay") -> "".
 
 steps(Count) -> many(Count, "steps").
 
@@ -108,21 +106,31 @@ many(Count, What) -> [Count, " ", What].
 
 %% The last lines: how many errors and refusals there are, and the result, as the program prints them; and below these what
 %% was not explored, where something was not.
-tail(Coverage, Reach, [Counts, Result]) -> ["\n", Counts, "\n", Result, "\n", unexplored(Coverage, Reach, Counts)].
+tail(Delivery, Coverage, Reach, [Counts, Result]) ->
+    ["\n", Counts, "\n", result(Result), "\n", unexplored(Coverage, of_delivery(Delivery), Reach, Counts), delays(Delivery)].
 
-unexplored(["all", _], _, _) -> "";
-unexplored(["limit", Depth], {complete, _, _, _}, _) -> ["depth ", Depth, " has more nodes than may be visited (--nodes N)\n"];
-unexplored(["deepest", Depth], {complete, _, _, _}, _) -> ["no schedule is followed for more than ", steps(Depth), ": longer ones were not explored\n"];
-unexplored(_, {complete, _, _, _}, _) -> "longer schedules were not explored\n";
-unexplored(_, {stopped, Depth, Cause}, _) -> ["not all nodes were visited: ", Cause, " at depth ", Depth, "\n"];
-unexplored(_, {stopped, _, Cause, Whole}, Counts) -> [why(Cause), "\n", found(Whole, Counts), "\n", helps(Cause, Whole), "\n"].
+result(Result) ->
+    case string:split(Result, ", all prompt schedules") of
+        [Begin, ""] -> [Begin, ", all schedules", of_delivery("at-once")];
+        _ -> Result
+    end.
+
+delays("at-once") -> "schedules in which signals arrive later were not explored (--any-delay)\n";
+delays("any-delay") -> "".
+
+unexplored(["all", _], _, _, _) -> "";
+unexplored(["limit", Depth], _, {complete, _, _, _}, _) -> ["depth ", Depth, " has more nodes than may be visited (--nodes N)\n"];
+unexplored(["deepest", Depth], _, {complete, _, _, _}, _) -> ["no schedule is followed for more than ", steps(Depth), ": longer ones were not explored\n"];
+unexplored(_, _, {complete, _, _, _}, _) -> "longer schedules were not explored\n";
+unexplored(_, _, {stopped, Depth, Cause}, _) -> ["not all nodes were visited: ", Cause, " at depth ", Depth, "\n"];
+unexplored(_, Of, {stopped, _, Cause, Whole}, Counts) -> [why(Cause), "\n", found(Whole, Of, Counts), "\n", helps(Cause, Whole), "\n"].
 
 %% Why a search by states stopped, what it had found by then, and what makes it come to its end.
 why("state limit") -> "there are more states than may be found (--nodes N)";
 why("memory") -> "memory ran out".
 
-found(Whole, "errors 0," ++ _) -> ["no schedule of at most ", steps(Whole), " shows an error, but longer ones may"];
-found(Whole, _) -> ["each error that a schedule of at most ", steps(Whole), " shows is listed, but longer ones may show more"].
+found(Whole, Of, "errors 0," ++ _) -> ["no schedule of at most ", steps(Whole), Of, " shows an error, but longer ones may"];
+found(Whole, Of, _) -> ["each error that a schedule of at most ", steps(Whole), Of, " shows is listed, but longer ones may show more"].
 
 helps(Cause, Whole) ->
     ["what helps: a --depth of at most ", Whole, ",", [" a greater --nodes," || Cause =:= "state limit"], " fewer processes",
@@ -147,6 +155,10 @@ limit_in_words(some) -> "a term may have 10,000 nodes, and an integer 64 bits".
 where(none) -> "";
 where({library, Module}) -> [" (in ", Module, ")"];
 where(Place) -> [" (", place(Place), ")"].
+
+%% That no schedule shows an error in which signals arrive at once.
+overtakes(true) -> "  only if signals overtake\n";
+overtakes(false) -> "".
 
 %% An error that another one comes after may follow from it.
 earlier(none) -> "";

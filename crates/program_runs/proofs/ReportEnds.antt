@@ -1,4 +1,4 @@
--- How the text of a report ends: with `result: clean, all schedules` only where it is clean of all schedules, whether or not a cover follows.
+-- How the text of a report ends: with `result: clean, all schedules` only where it is clean of all schedules, and with `result: clean, all prompt schedules` only where it is clean of all prompt ones, whether or not a cover follows.
 use Rattle.std.proofs.Common.{arith, ◌≡◌, ◌≤◌, ◌<◌, ◌==◌, ◌/◌, ◌%◌, ◌+◌, ℕ, zero, suc, Bool, true, false, true≢false, nat_lt, if◌then◌else◌, List, [], ◌∷◌, ◌++◌, Option, Some, None, reverse, codes, refl, sym, ap, subst, ◌∙◌, append_assoc, append-nil, eqb-true, eq-eqb, ne_eqb}
 use Rattle.std.proofs.lemmas.List.{append_cancel_right, reverse-append}
 use Rattle.std.specs.Fmt.{decimal, digits, digit_glyph, digits_onto}
@@ -16,17 +16,19 @@ use Rattle.tree_excuses.specs.Excuses.{Excuses, counted}
 use Rattle.tree_findings.specs.declared.extent.Extent.{Extent}
 use Rattle.tree_findings.specs.declared.outcome.Outcome.{Outcome}
 use Rattle.tree_findings.specs.declared.outcome.Outcome.TheVariants.{Complete}
-use Rattle.report_text.specs.Clean.{IsCleanOfAll}
-use Rattle.report_text.specs.ReportText.{complete_result, explained_first_line_by, explained_last_line, first_line_by, last_line, text_of_all, text_of_counts, text_of_report_by}
+use Rattle.report_text.specs.Clean.{IsCleanOfAll, all_clean_line}
+use Rattle.report_text.specs.ReportText.{complete_result, delivery_in, explained_first_line_by, explained_last_line, first_line_by, last_line, text_of_all, text_of_counts, text_of_report_by, schedules_by}
 use Rattle.report_text.specs.declared.visited.Visited.{Visited}
+use Rattle.tree_schedules.specs.declared.delivery.Delivery.{Delivery}
+use Rattle.tree_schedules.specs.declared.delivery.Delivery.TheVariants.{AnyTime, AtOnce}
 use Rattle.report_explained.specs.Explained.{explained_findings, text_of_explained_report_by}
 use Rattle.program_words.specs.declared.words.Printed.{Printed}
 use Rattle.program_runs.specs.Explored.{cover_if, text_of_form}
 use Rattle.program_runs.specs.Theorem.{text_after}
 
 -- the line, with its end
-abbrev pub said : List ℕ
-said = codes "result: clean, all schedules\n"
+abbrev pub said : Delivery → List ℕ
+said d = all_clean_line d
 
 -- ---- bytes counted from the end
 
@@ -106,9 +108,14 @@ number_ends n = last_digit 63 n
 
 -- ---- a text that ends with the line
 
+-- it ends with the letter `s`
+ends_in_s : (w : Delivery) (rest : List ℕ) → byte_at 1 (reverse (said w) ++ rest) ≡ 115
+ends_in_s AnyTime rest = refl
+ends_in_s AtOnce rest = refl
+
 -- ends with no number
-no_number : (front : List ℕ) (n : ℕ) (other : List ℕ) → front ++ (decimal n ++ codes "\n") ≡ other ++ said → ⊥
-no_number front n other e = omega (arith, d.is_glyph.1, ap (byte_at 1) (mirrored (front ++ d.front) (d.digit ∷ codes "\n") other said (joined ∙ e)))
+no_number : (w : Delivery) (front : List ℕ) (n : ℕ) (other : List ℕ) → front ++ (decimal n ++ codes "\n") ≡ other ++ said w → ⊥
+no_number w front n other e = omega (arith, d.is_glyph.1, ap (byte_at 1) (mirrored (front ++ d.front) (d.digit ∷ codes "\n") other (said w) (joined ∙ e)) ∙ ends_in_s w (reverse other))
   where
     d : EndsWithDigit (decimal n)
     d = number_ends n
@@ -117,40 +124,53 @@ no_number front n other e = omega (arith, d.is_glyph.1, ap (byte_at 1) (mirrored
     joined = append_assoc front d.front (d.digit ∷ codes "\n") ∙ ap (λ (t : List ℕ). front ++ t) (sym (append_assoc d.front (d.digit ∷ []) (codes "\n")) ∙ ap (λ (t : List ℕ). t ++ codes "\n") (sym d.parts))
 
 -- nor as a report does that is not explained
-not_plain : (front : List ℕ) (errors : List Finding) (other : List ℕ) → front ++ (codes "result: " ++ (complete_result errors ++ codes "\n")) ≡ other ++ said → ⊥
-not_plain front [] other e = omega (arith, ap (byte_at 1) (mirrored front (codes "result: clean\n") other said e))
-not_plain front (f ∷ fs) other e = omega (arith, ap (byte_at 2) (mirrored front (codes "result: errors\n") other said e))
+not_plain : (w : Delivery) (front : List ℕ) (errors : List Finding) (other : List ℕ) → front ++ (codes "result: " ++ (complete_result errors ++ codes "\n")) ≡ other ++ said w → ⊥
+not_plain AnyTime front [] other e = omega (arith, ap (byte_at 1) (mirrored front (codes "result: clean\n") other (said AnyTime) e))
+not_plain AnyTime front (f ∷ fs) other e = omega (arith, ap (byte_at 2) (mirrored front (codes "result: errors\n") other (said AnyTime) e))
+not_plain AtOnce front [] other e = omega (arith, ap (byte_at 1) (mirrored front (codes "result: clean\n") other (said AtOnce) e))
+not_plain AtOnce front (f ∷ fs) other e = omega (arith, ap (byte_at 2) (mirrored front (codes "result: errors\n") other (said AtOnce) e))
 
--- and as an explained one does only where no error counts and the tree is not cut
-abbrev line_of : ℕ → List Finding → Bool → List ℕ
-line_of depth errors whole =
-    codes "result: " ++ ((complete_result errors ++ (if whole then codes ", all schedules" else (codes " to depth " ++ decimal depth))) ++ codes "\n")
+-- and as an explained one does only where no error counts, the tree is not cut, and it is about such schedules
+abbrev line_of : Delivery → ℕ → List Finding → Bool → List ℕ
+line_of v depth errors whole =
+    codes "result: " ++ ((complete_result errors ++ (if whole then (codes ", all " ++ schedules_by v) else (codes " to depth " ++ decimal depth))) ++ codes "\n")
 
-of_all : (front : List ℕ) (depth : ℕ) (errors : List Finding) (cut : ℕ) (whole : Bool) (other : List ℕ) → (cut == 0) ≡ whole → front ++ line_of depth errors whole ≡ other ++ said → (errors ≡ []) × (cut ≡ 0)
-of_all front depth [] cut true other is e = (refl, eqb-true cut 0 is)
-of_all front depth [] cut false other is e =
-    absurd (no_number (front ++ codes "result: clean to depth ") depth other (append_assoc front (codes "result: clean to depth ") (decimal depth ++ codes "\n") ∙ e))
-of_all front depth (f ∷ fs) cut true other is e = absurd (omega (arith, ap (byte_at 16) (mirrored front (codes "result: errors, all schedules\n") other said e)))
-of_all front depth (f ∷ fs) cut false other is e =
-    absurd (no_number (front ++ codes "result: errors to depth ") depth other (append_assoc front (codes "result: errors to depth ") (decimal depth ++ codes "\n") ∙ e))
+-- of all schedules of one kind
+all_told : (v w : Delivery) (front : List ℕ) (depth : ℕ) (errors : List Finding) (other : List ℕ) → front ++ line_of v depth errors true ≡ other ++ said w → (v ≡ w) × (errors ≡ [])
+all_told AnyTime AnyTime front depth [] other e = (refl, refl)
+all_told AtOnce AtOnce front depth [] other e = (refl, refl)
+all_told AnyTime AnyTime front depth (f ∷ fs) other e = absurd (omega (arith, ap (byte_at 16) (mirrored front (codes "result: errors, all schedules\n") other (said AnyTime) e)))
+all_told AtOnce AtOnce front depth (f ∷ fs) other e = absurd (omega (arith, ap (byte_at 23) (mirrored front (codes "result: errors, all prompt schedules\n") other (said AtOnce) e)))
+all_told AnyTime AtOnce front depth [] other e = absurd (omega (arith, ap (byte_at 11) (mirrored front (codes "result: clean, all schedules\n") other (said AtOnce) e)))
+all_told AnyTime AtOnce front depth (f ∷ fs) other e = absurd (omega (arith, ap (byte_at 11) (mirrored front (codes "result: errors, all schedules\n") other (said AtOnce) e)))
+all_told AtOnce AnyTime front depth [] other e = absurd (omega (arith, ap (byte_at 11) (mirrored front (codes "result: clean, all prompt schedules\n") other (said AnyTime) e)))
+all_told AtOnce AnyTime front depth (f ∷ fs) other e = absurd (omega (arith, ap (byte_at 11) (mirrored front (codes "result: errors, all prompt schedules\n") other (said AnyTime) e)))
+
+of_all : (v w : Delivery) (front : List ℕ) (depth : ℕ) (errors : List Finding) (cut : ℕ) (whole : Bool) (other : List ℕ) → (cut == 0) ≡ whole → front ++ line_of v depth errors whole ≡ other ++ said w → (v ≡ w) × ((errors ≡ []) × (cut ≡ 0))
+of_all v w front depth errors cut true other is e = let told = all_told v w front depth errors other e in (told.0, (told.1, eqb-true cut 0 is))
+of_all v w front depth [] cut false other is e =
+    absurd (no_number w (front ++ codes "result: clean to depth ") depth other (append_assoc front (codes "result: clean to depth ") (decimal depth ++ codes "\n") ∙ e))
+of_all v w front depth (f ∷ fs) cut false other is e =
+    absurd (no_number w (front ++ codes "result: errors to depth ") depth other (append_assoc front (codes "result: errors to depth ") (decimal depth ++ codes "\n") ∙ e))
 
 -- four parts, of which the first three are taken together
 three_first : (a b c d : List ℕ) → ((a ++ b) ++ c) ++ d ≡ a ++ (b ++ (c ++ d))
 three_first a b c d = append_assoc (a ++ b) c d ∙ append_assoc a b (c ++ d)
 
--- so a report of all nodes that ends with the line is clean of all schedules
-pub clean_of_all : (what : Printed) (v : Visited) (a : Program) (n : ℕ) (x : Excuses) (findings : Findings) (extent : Extent) (other : List ℕ) → text_of_form what v a n x (Complete findings extent) ≡ other ++ said → IsCleanOfAll x (Complete findings extent)
-clean_of_all what v a n x findings extent other e = go what.explained e
+-- so a report of all nodes or states that ends with the line is clean of all such schedules
+pub clean_of_all : (what : Printed) (v : Visited) (w : Delivery) (a : Program) (n : ℕ) (x : Excuses) (findings : Findings) (extent : Extent) (other : List ℕ) → text_of_form what v a n x (Complete findings extent) ≡ other ++ said w
+    → (delivery_in v ≡ w) × IsCleanOfAll x (Complete findings extent)
+clean_of_all what v w a n x findings extent other e = go what.explained e
   where
     outcome : Outcome
     outcome = Complete findings extent
 
-    go : (b : Bool) → (if b then text_of_explained_report_by v a n x outcome else text_of_report_by v n x outcome) ≡ other ++ said → IsCleanOfAll x outcome
+    go : (b : Bool) → (if b then text_of_explained_report_by v a n x outcome else text_of_report_by v n x outcome) ≡ other ++ said w → (delivery_in v ≡ w) × IsCleanOfAll x outcome
     go true same =
-        of_all ((explained_first_line_by v n outcome ++ explained_findings a x findings) ++ text_of_counts x findings) n (counted x findings.errors) extent.cut (extent.cut == 0) other refl
-        (three_first (explained_first_line_by v n outcome) (explained_findings a x findings) (text_of_counts x findings) (explained_last_line n x outcome) ∙ same)
+        of_all (delivery_in v) w ((explained_first_line_by v n outcome ++ explained_findings a x findings) ++ text_of_counts x findings) n (counted x findings.errors) extent.cut (extent.cut == 0) other refl
+        (three_first (explained_first_line_by v n outcome) (explained_findings a x findings) (text_of_counts x findings) (explained_last_line v n x outcome) ∙ same)
     go false same =
-        absurd (not_plain ((first_line_by v n outcome ++ text_of_all x findings) ++ text_of_counts x findings) (counted x findings.errors) other
+        absurd (not_plain w ((first_line_by v n outcome ++ text_of_all x findings) ++ text_of_counts x findings) (counted x findings.errors) other
         (three_first (first_line_by v n outcome) (text_of_all x findings) (text_of_counts x findings) (last_line x outcome) ∙ same))
 
 -- ---- the bytes of covers
@@ -270,16 +290,18 @@ no_cover text other lines s e =
 line_end : Lacks 37 (codes "\n")
 line_end = (refl, tt)
 
-said_ends : EndsStrangely said
-said_ends = record { front = codes "result: clean, all schedule"; letter = 115; end = codes "\n"; parts = refl; is_strange = letter_s; is_letter = omega arith; no_mark = line_end }
+said_ends : (w : Delivery) → EndsStrangely (said w)
+said_ends AnyTime = record { front = codes "result: clean, all schedule"; letter = 115; end = codes "\n"; parts = refl; is_strange = letter_s; is_letter = omega arith; no_mark = line_end }
+said_ends AtOnce = record { front = codes "result: clean, all prompt schedule"; letter = 115; end = codes "\n"; parts = refl; is_strange = letter_s; is_letter = omega arith; no_mark = line_end }
 
 plain_ends : (errors : List Finding) → EndsStrangely (codes "result: " ++ (complete_result errors ++ codes "\n"))
 plain_ends [] = record { front = codes "result: clea"; letter = 110; end = codes "\n"; parts = refl; is_strange = letter_n; is_letter = omega arith; no_mark = line_end }
 plain_ends (f ∷ fs) = record { front = codes "result: error"; letter = 115; end = codes "\n"; parts = refl; is_strange = letter_s; is_letter = omega arith; no_mark = line_end }
 
-explained_ends : (depth : ℕ) (errors : List Finding) (whole : Bool) → EndsStrangely (line_of depth errors whole)
-explained_ends depth [] true = said_ends
-explained_ends depth [] false = record {
+explained_ends : (v : Delivery) (depth : ℕ) (errors : List Finding) (whole : Bool) → EndsStrangely (line_of v depth errors whole)
+explained_ends AnyTime depth [] true = said_ends AnyTime
+explained_ends AtOnce depth [] true = said_ends AtOnce
+explained_ends v depth [] false = record {
   front = codes "result: clean to dept";
   letter = 104;
   end = 32 ∷ (decimal depth ++ codes "\n");
@@ -288,8 +310,9 @@ explained_ends depth [] false = record {
   is_letter = omega arith;
   no_mark = (refl, all-append _ (decimal depth) (codes "\n") (lacks-number 37 percent depth) line_end);
 }
-explained_ends depth (f ∷ fs) true = record { front = codes "result: errors, all schedule"; letter = 115; end = codes "\n"; parts = refl; is_strange = letter_s; is_letter = omega arith; no_mark = line_end }
-explained_ends depth (f ∷ fs) false = record {
+explained_ends AtOnce depth (f ∷ fs) true = record { front = codes "result: errors, all prompt schedule"; letter = 115; end = codes "\n"; parts = refl; is_strange = letter_s; is_letter = omega arith; no_mark = line_end }
+explained_ends AnyTime depth (f ∷ fs) true = record { front = codes "result: errors, all schedule"; letter = 115; end = codes "\n"; parts = refl; is_strange = letter_s; is_letter = omega arith; no_mark = line_end }
+explained_ends v depth (f ∷ fs) false = record {
   front = codes "result: errors to dept";
   letter = 104;
   end = 32 ∷ (decimal depth ++ codes "\n");
@@ -308,8 +331,8 @@ report_ends what v a n x findings extent = go what.explained
 
     go : (b : Bool) → EndsStrangely (if b then text_of_explained_report_by v a n x outcome else text_of_report_by v n x outcome)
     go true =
-        subst EndsStrangely (three_first (explained_first_line_by v n outcome) (explained_findings a x findings) (text_of_counts x findings) (explained_last_line n x outcome))
-        (after ((explained_first_line_by v n outcome ++ explained_findings a x findings) ++ text_of_counts x findings) (explained_last_line n x outcome) (explained_ends n (counted x findings.errors) (extent.cut == 0)))
+        subst EndsStrangely (three_first (explained_first_line_by v n outcome) (explained_findings a x findings) (text_of_counts x findings) (explained_last_line v n x outcome))
+        (after ((explained_first_line_by v n outcome ++ explained_findings a x findings) ++ text_of_counts x findings) (explained_last_line v n x outcome) (explained_ends (delivery_in v) n (counted x findings.errors) (extent.cut == 0)))
     go false =
         subst EndsStrangely (three_first (first_line_by v n outcome) (text_of_all x findings) (text_of_counts x findings) (last_line x outcome))
         (after ((first_line_by v n outcome ++ text_of_all x findings) ++ text_of_counts x findings) (last_line x outcome) (plain_ends (counted x findings.errors)))
@@ -323,9 +346,9 @@ one_cover front other lines others e =
     (append_assoc front (37 ∷ []) (37 ∷ rest_of lines) ∙ e ∙ sym (append_assoc other (37 ∷ []) (37 ∷ rest_of others))))
 
 -- a report, whether or not a cover follows, is what ends with the line, whether or not a cover follows
-pub before_cover : (c : Bool) (a : Program) (n : ℕ) (report other : List ℕ) (cover : Option Lines) → EndsStrangely report → report ++ cover_if c a n ≡ other ++ (said ++ text_after cover) → report ≡ other ++ said
-before_cover false a n report other None ends e = sym (append-nil report) ∙ e ∙ ap (λ (l : List ℕ). other ++ l) (append-nil said)
-before_cover false a n report other (Some lines) ends e = absurd (no_cover report (other ++ said) lines ends (sym (append-nil report) ∙ e ∙ sym (append_assoc other said (text_of_cover lines))))
-before_cover true a n report other None ends e =
-    absurd (no_cover (other ++ said) report (lines_of (cover_of a n root)) (after other said said_ends) (sym (e ∙ ap (λ (l : List ℕ). other ++ l) (append-nil said))))
-before_cover true a n report other (Some lines) ends e = one_cover report (other ++ said) (lines_of (cover_of a n root)) lines (e ∙ sym (append_assoc other said (text_of_cover lines)))
+pub before_cover : (w : Delivery) (c : Bool) (a : Program) (n : ℕ) (report other : List ℕ) (cover : Option Lines) → EndsStrangely report → report ++ cover_if c a n ≡ other ++ (said w ++ text_after cover) → report ≡ other ++ said w
+before_cover w false a n report other None ends e = sym (append-nil report) ∙ e ∙ ap (λ (l : List ℕ). other ++ l) (append-nil (said w))
+before_cover w false a n report other (Some lines) ends e = absurd (no_cover report (other ++ said w) lines ends (sym (append-nil report) ∙ e ∙ sym (append_assoc other (said w) (text_of_cover lines))))
+before_cover w true a n report other None ends e =
+    absurd (no_cover (other ++ said w) report (lines_of (cover_of a n root)) (after other (said w) (said_ends w)) (sym (e ∙ ap (λ (l : List ℕ). other ++ l) (append-nil (said w)))))
+before_cover w true a n report other (Some lines) ends e = one_cover report (other ++ said w) (lines_of (cover_of a n root)) lines (e ∙ sym (append_assoc other (said w) (text_of_cover lines)))

@@ -36,7 +36,10 @@ use Rattle.report_reader.specs.declared.fault.ReportFault.TheVariants as report
 use Rattle.world_replay.specs.Replay.{reached, stop}
 use Rattle.search_crew.specs.Outcomes.{all_findings, whole_extent}
 use Rattle.search_jobs.specs.Explorations.{ExplorationSeen, explored_by, program_in}
-use Rattle.report_text.specs.Clean.{IsCleanOfAll}
+use Rattle.report_text.specs.Clean.{IsCleanOfAll, all_clean_line}
+use Rattle.report_text.specs.ReportText.{delivery_in}
+use Rattle.tree_schedules.specs.declared.delivery.Delivery.{Delivery}
+use Rattle.tree_schedules.specs.declared.delivery.Delivery.TheVariants.{AnyTime, AtOnce}
 use Rattle.report_text.specs.declared.visited.Visited.{Visited}
 use Rattle.report_text.specs.declared.visited.Visited.TheVariants.{Nodes, States}
 use Rattle.program_words.specs.Words.{AsksExplore, AsksReplay, IsExplore}
@@ -44,11 +47,11 @@ use Rattle.program_words.specs.declared.words.Printed.{Printed}
 use Rattle.program_words.specs.declared.words.Words.{Words}
 use Rattle.program_words.specs.declared.words.Words.TheVariants.{Replay, Explore, ExploreJob, Jobs, Merge, Check}
 use Rattle.program_runs.specs.Replayed.{IsReplayOf}
-use Rattle.program_runs.specs.Explored.{IsCleanIfSaid, IsExplorationOf, IsExplored, IsOutcomeBy, IsReportOf, ShowsNoErrorEver, complete_verdict, has_cover, print_of, text_of_form, verdict_of}
+use Rattle.program_runs.specs.Explored.{IsCleanIfSaid, IsExplorationOf, IsExplored, IsOutcomeBy, IsReportOf, ShowsNoErrorEver, complete_verdict, delivery_by, has_cover, print_of, text_of_form, verdict_of}
 use Rattle.program_runs.specs.Printing.{text_of_print}
 use Rattle.program_runs.specs.Program.{IsDone, Written}
 use Rattle.program_runs.specs.Status.{status_of, status_of_cover_fault, status_of_fault, status_of_job_fault, status_of_read_fault, status_of_report_fault, status_of_schedule_fault}
-use Rattle.program_runs.specs.Theorem.{AllMeansAll, AreFoundBy, AreOfAll, AreOfTree, CleanMeansNone, Got, HasNoError, HasTranscript, IsExtentBy, IsExtentOf, ProgramRun, ReportEndsWith, ReportIsExact, ScheduleIsLeast, TranscriptIsTheRun, findings_by, text_after, visited_by}
+use Rattle.program_runs.specs.Theorem.{AllMeansAll, AllPromptMeansAllPrompt, AreFoundBy, AreOfAll, AreOfTree, CleanMeansNone, CleanMeansNoPromptOne, Got, HasExactReport, HasNoError, HasNoErrorEver, HasTranscript, IsExtentBy, IsExtentOf, ProgramRun, PromptReportIsExact, ReportEndsWith, ReportIsExact, ScheduleIsLeast, TranscriptIsTheRun, findings_by, text_after, visited_by}
 use Rattle.program_runs.specs.declared.verdict.RunFault.{RunFault}
 use Rattle.program_runs.specs.declared.verdict.RunFault.TheVariants as run_faults
 use Rattle.program_runs.specs.declared.verdict.Verdict.{Verdict}
@@ -135,7 +138,7 @@ never_done x (outcomes.Complete findings extent) e = go (counted x findings.erro
 never_done x (outcomes.Incomplete cause findings) e = absurd cc
 
 clean_said : (input : List ℕ) (options : Options) (x : Excuses) (what : Printed) (old new : Option (List ℕ)) (failed : Bool) (r : Result Verdict RunFault)
-    → IsExplorationOf input options x what old new failed r → IsCleanIfSaid input options x r → status_of r ≡ 0 → HasNoError input options.depth (counts (flags_in options.flags) x)
+    → IsExplorationOf input options x what old new failed r → IsCleanIfSaid input options x r → status_of r ≡ 0 → HasNoError (delivery_by options.search) input options.depth (counts (flags_in options.flags) x)
 clean_said input options x what old new failed (Ok Done) is clean good = absurd (never_done x is.outcome is.told)
 clean_said input options x what old new failed (Ok Clean) is clean good = (is.explored.program, is.explored.module_text, clean refl is.explored.program is.explored.module_text)
 clean_said input options x what old new failed (Ok Errors) is clean good = absurd (one_is_not good)
@@ -143,20 +146,26 @@ clean_said input options x what old new failed (Ok Incomplete) is clean good = a
 clean_said input options x what old new failed (Err fault) is clean good = absurd (no_fault fault 0 good zero_is_low)
 
 clean_asked : (asked : Words) (input : List ℕ) (options : Options) (x : Excuses) (what : Printed) (output : Written) (r : Result Verdict RunFault)
-    → AsksExplore options x what asked → IsDone asked input output.old output.new output.failed r → status_of r ≡ 0 → HasNoError input options.depth (counts (flags_in options.flags) x)
+    → AsksExplore options x what asked → IsDone asked input output.old output.new output.failed r → status_of r ≡ 0 → HasNoError (delivery_by options.search) input options.depth (counts (flags_in options.flags) x)
 clean_asked (Explore found excused prints) input options x what output r asks done good =
-    subst (λ (o : Options). HasNoError input o.depth (counts (flags_in o.flags) x)) asks.0
-    (subst (λ (y : Excuses). HasNoError input found.depth (counts (flags_in found.flags) y)) asks.1.0 (clean_said input found (excuses_in excused) prints output.old output.new output.failed r done.0 done.1 good))
+    subst (λ (o : Options). HasNoError (delivery_by o.search) input o.depth (counts (flags_in o.flags) x)) asks.0
+    (subst (λ (y : Excuses). HasNoError (delivery_by found.search) input found.depth (counts (flags_in found.flags) y)) asks.1.0 (clean_said input found (excuses_in excused) prints output.old output.new output.failed r done.0 done.1 good))
 clean_asked (Replay schedule) input options x what output r asks done good = absurd asks
 clean_asked (ExploreJob found excused line) input options x what output r asks done good = absurd asks
 clean_asked (Jobs depth) input options x what output r asks done good = absurd asks
 clean_asked (Merge depth at flags excused) input options x what output r asks done good = absurd asks
 clean_asked (Check depth flags excused) input options x what output r asks done good = absurd asks
 
-pub clean_means_none : CleanMeansNone
-clean_means_none r options x what e good =
+clean_by : (r : ProgramRun) (options : Options) (x : Excuses) (what : Printed) → IsExplore r.words options x what → r.status ≡ 0 → HasNoError (delivery_by options.search) r.input options.depth (counts (flags_in options.flags) x)
+clean_by r options x what e good =
     let u = r.is_run in
     clean_asked u.asked r.input options x what r.output u.outcome (u.explore options x what e) u.run (sym u.status_is ∙ good)
+
+pub clean_means_none : CleanMeansNone
+clean_means_none r options x what e by good = subst (λ d. HasNoError d r.input options.depth (counts (flags_in options.flags) x)) by (clean_by r options x what e good)
+
+pub clean_means_no_prompt_one : CleanMeansNoPromptOne
+clean_means_no_prompt_one r options x what e by good = subst (λ d. HasNoError d r.input options.depth (counts (flags_in options.flags) x)) by (clean_by r options x what e good)
 
 -- ---- a report of all nodes
 
@@ -208,33 +217,6 @@ whole_report r options x what e low =
     let u = r.is_run in
     whole_asked u.asked r.input options x what r.output u.outcome (u.explore options x what e) u.run (low_status r.status (status_of u.outcome) u.status_is low)
 
--- ---- all means all
-
--- an output that reports its bytes got one text
-one_text : (before : List ℕ) (old new : Option (List ℕ)) (s t : List ℕ) → old ≡ Some before → Appends old new s → Appends old new t → s ≡ t
-one_text before old new s t is p q = go new (subst (λ (o : Option (List ℕ)). Appends o new s) is p) (subst (λ (o : Option (List ℕ)). Appends o new t) is q)
-  where
-    go : (end : Option (List ℕ)) → Appends (Some before) end s → Appends (Some before) end t → s ≡ t
-    go None a b = absurd a
-    go (Some all) a b = append_cancel_left before s t (sym a ∙ b)
-
--- a report that ends with the line is clean of all schedules
-all_said : (input : List ℕ) (options : Options) (x : Excuses) (what : Printed) (output : Written) (is : IsWholeReport input options x what output) → ReportEndsWith said output → IsCleanOfAll x (outcomes.Complete is.findings is.extent)
-all_said input options x what output is ends = clean_of_all what is.visited a options.depth x is.findings is.extent ends.front
-    (before_cover (has_cover what (verdict_of x outcome)) a options.depth (text_of_form what is.visited a options.depth x outcome) ends.front ends.cover (report_ends what is.visited a options.depth x is.findings is.extent)
-    (one_text ends.before output.old output.new (text_of_print (print_of what is.visited a options.depth x outcome)) (ends.front ++ (said ++ text_after ends.cover)) ends.reports is.written.appends ends.got.appends))
-  where
-    a : Program
-    a = program_of is.explored.program
-
-    outcome : Outcome
-    outcome = outcomes.Complete is.findings is.extent
-
-pub all_means_all : AllMeansAll
-all_means_all r options x what e low ends =
-    let is = whole_report r options x what e low in
-    (is.explored.program, is.explored.module_text, is.of_all (all_said r.input options x what r.output is ends) is.explored.program is.explored.module_text)
-
 -- ---- the report is exact
 
 -- what the laws of the tree say of what its nodes show
@@ -269,36 +251,41 @@ module _ (law : TreeLaws) (e : ExplorationSeen) (limit : ℕ) (findings : Findin
 
   errors_found : (s : Search) (v : Visited) → Comes s v → AreFoundBy s (program_in e) e.depth findings.errors
   errors_found ByTree Nodes is = subst (λ (fs : Findings). AreOfTree (program_in e) e.depth fs.errors) (sym is.0) (errors_of_tree law e)
-  errors_found ByTree (States whole_to) is = absurd is
-  errors_found ByStates Nodes is = absurd is
-  errors_found ByStates (States whole_to) is = subst (λ (fs : Findings). AreOfAll (program_in e) e.depth fs.errors) (sym is.0) (errors_of_states e)
+  errors_found ByTree (States delivery whole_to) is = absurd is
+  errors_found (ByStates d) Nodes is = absurd is
+  errors_found (ByStates d) (States delivery whole_to) is = subst (λ (fs : Findings). AreOfAll d (program_in e) e.depth fs.errors) (sym is.1.0) (errors_of_states d e)
 
   refusals_found : (s : Search) (v : Visited) → Comes s v → AreFoundBy s (program_in e) e.depth findings.refusals
   refusals_found ByTree Nodes is = subst (λ (fs : Findings). AreOfTree (program_in e) e.depth fs.refusals) (sym is.0) (refusals_of_tree law e)
-  refusals_found ByTree (States whole_to) is = absurd is
-  refusals_found ByStates Nodes is = absurd is
-  refusals_found ByStates (States whole_to) is = subst (λ (fs : Findings). AreOfAll (program_in e) e.depth fs.refusals) (sym is.0) (refusals_of_states e)
+  refusals_found ByTree (States delivery whole_to) is = absurd is
+  refusals_found (ByStates d) Nodes is = absurd is
+  refusals_found (ByStates d) (States delivery whole_to) is = subst (λ (fs : Findings). AreOfAll d (program_in e) e.depth fs.refusals) (sym is.1.0) (refusals_of_states d e)
 
   settled_by : (s : Search) (v : Visited) → Comes s v → findings ≡ findings_by s e
   settled_by ByTree Nodes is = is.0
-  settled_by ByTree (States whole_to) is = absurd is
-  settled_by ByStates Nodes is = absurd is
-  settled_by ByStates (States whole_to) is = is.0
+  settled_by ByTree (States delivery whole_to) is = absurd is
+  settled_by (ByStates d) Nodes is = absurd is
+  settled_by (ByStates d) (States delivery whole_to) is = is.1.0
 
   extent_by : (s : Search) (v : Visited) → Comes s v → IsExtentBy s (program_in e) e.depth extent
   extent_by ByTree Nodes is = subst (IsExtentOf (program_in e) e.depth) (sym is.1) (extent_of_tree law e)
-  extent_by ByTree (States whole_to) is = absurd is
-  extent_by ByStates Nodes is = absurd is
-  extent_by ByStates (States whole_to) is = is.1
+  extent_by ByTree (States delivery whole_to) is = absurd is
+  extent_by (ByStates d) Nodes is = absurd is
+  extent_by (ByStates d) (States delivery whole_to) is = is.1.1
 
   visited_is : (s : Search) (v : Visited) → Comes s v → v ≡ visited_by s e.depth
   visited_is ByTree Nodes is = refl
-  visited_is ByTree (States whole_to) is = absurd is
-  visited_is ByStates Nodes is = absurd is
-  visited_is ByStates (States whole_to) is = ap States is.3
+  visited_is ByTree (States delivery whole_to) is = absurd is
+  visited_is (ByStates d) Nodes is = absurd is
+  visited_is (ByStates d) (States delivery whole_to) is = λ i. States (is.0 i) (is.1.3 i)
 
-pub report_is_exact : TreeLaws → ReportIsExact
-report_is_exact law r options x what e low =
+-- of one search the schedules that are followed and those that are told deliver signals alike
+told_alike : (s : Search) (n : ℕ) → delivery_in (visited_by s n) ≡ delivery_by s
+told_alike ByTree n = refl
+told_alike (ByStates d) n = refl
+
+exact_by : TreeLaws → (r : ProgramRun) (options : Options) (x : Excuses) (what : Printed) → IsExplore r.words options x what → (r.status ≡ 0) ⊎ (r.status ≡ 1) → HasExactReport (delivery_by options.search) r.input options x what r.output
+exact_by law r options x what e low =
     let is = whole_report r options x what e low in
     let seen : ExplorationSeen = explored_by is.explored.program options in
     let comes = is.explored.is_outcome in
@@ -317,11 +304,17 @@ report_is_exact law r options x what e low =
           (visited_is law seen options.nodes is.findings is.extent options.search is.visited comes) is.written;
     }
 
+pub report_is_exact : TreeLaws → ReportIsExact
+report_is_exact law r options x what e by low = subst (λ d. HasExactReport d r.input options x what r.output) by (exact_by law r options x what e low)
+
+pub prompt_report_is_exact : TreeLaws → PromptReportIsExact
+prompt_report_is_exact law r options x what e by low = subst (λ d. HasExactReport d r.input options x what r.output) by (exact_by law r options x what e low)
+
 -- ---- the schedule is the least of all
 
 pub schedule_is_least : TreeLaws → ScheduleIsLeast
-schedule_is_least law r options x what e by_states low =
-    let is = report_is_exact law r options x what e low in
+schedule_is_least law r options x what d e by_states low =
+    let is = exact_by law r options x what e low in
     let a : Program = program_of is.program in
     record {
       program = is.program;
@@ -332,6 +325,43 @@ schedule_is_least law r options x what e by_states low =
       refusals = (subst (λ (s : Search). AreFoundBy s a options.depth is.findings.refusals) by_states is.refusals).least;
       got = subst (λ (s : Search). Got r.output (text_of_print (print_of what (visited_by s options.depth) a options.depth x (outcomes.Complete is.findings is.extent)))) by_states is.got;
     }
+
+-- ---- all means all
+
+-- an output that reports its bytes got one text
+one_text : (before : List ℕ) (old new : Option (List ℕ)) (s t : List ℕ) → old ≡ Some before → Appends old new s → Appends old new t → s ≡ t
+one_text before old new s t is p q = go new (subst (λ (o : Option (List ℕ)). Appends o new s) is p) (subst (λ (o : Option (List ℕ)). Appends o new t) is q)
+  where
+    go : (end : Option (List ℕ)) → Appends (Some before) end s → Appends (Some before) end t → s ≡ t
+    go None a b = absurd a
+    go (Some all) a b = append_cancel_left before s t (sym a ∙ b)
+
+-- a report that ends with the line is clean of all schedules that deliver signals so
+all_said : (w : Delivery) (input : List ℕ) (options : Options) (x : Excuses) (what : Printed) (output : Written) (is : IsWholeReport input options x what output) → ReportEndsWith (all_clean_line w) output → (delivery_in is.visited ≡ w) × IsCleanOfAll x (outcomes.Complete is.findings is.extent)
+all_said w input options x what output is ends = clean_of_all what is.visited w a options.depth x is.findings is.extent ends.front
+    (before_cover w (has_cover what (verdict_of x outcome)) a options.depth (text_of_form what is.visited a options.depth x outcome) ends.front ends.cover (report_ends what is.visited a options.depth x is.findings is.extent)
+    (one_text ends.before output.old output.new (text_of_print (print_of what is.visited a options.depth x outcome)) (ends.front ++ (said w ++ text_after ends.cover)) ends.reports is.written.appends ends.got.appends))
+  where
+    a : Program
+    a = program_of is.explored.program
+
+    outcome : Outcome
+    outcome = outcomes.Complete is.findings is.extent
+
+all_by : TreeLaws → (w : Delivery) (r : ProgramRun) (options : Options) (x : Excuses) (what : Printed) → IsExplore r.words options x what → (r.status ≡ 0) ⊎ (r.status ≡ 1) → ReportEndsWith (all_clean_line w) r.output → HasNoErrorEver w r.input (counts (flags_in options.flags) x)
+all_by law w r options x what e low ends =
+    let is = whole_report r options x what e low in
+    let seen : ExplorationSeen = explored_by is.explored.program options in
+    let told = all_said w r.input options x what r.output is ends in
+    let visited = visited_is law seen options.nodes is.findings is.extent options.search is.visited is.explored.is_outcome in
+    let by : delivery_by options.search ≡ w = sym (told_alike options.search options.depth) ∙ ap delivery_in (sym visited) ∙ told.0 in
+    subst (λ d. HasNoErrorEver d r.input (counts (flags_in options.flags) x)) by (is.explored.program, is.explored.module_text, is.of_all told.1 is.explored.program is.explored.module_text)
+
+pub all_means_all : TreeLaws → AllMeansAll
+all_means_all law = all_by law AnyTime
+
+pub all_prompt : TreeLaws → AllPromptMeansAllPrompt
+all_prompt law = all_by law AtOnce
 
 -- ---- the transcript is the run
 

@@ -1,4 +1,4 @@
--- What the program promises, in six statements about each of its runs.
+-- What the program promises, in nine statements about each of its runs.
 use Rattle.std.specs.Prelude.{◌≡◌, ◌⊎◌, ◌≤◌, ℕ, Bool, true, List, [], ◌∷◌, ◌++◌, length, codes, Option, Some, None}
 use Rattle.term_core.specs.Meaning.{Meaning}
 use Rattle.term_core.specs.Stream.{WritesAll}
@@ -15,11 +15,11 @@ use Rattle.world_model.specs.Requests.{Program}
 use Rattle.world_model.specs.Run as schedules
 use Rattle.world_model.specs.Run.{run}
 use Rattle.world_model.specs.Shown.{Identity}
-use Rattle.tree_coverage.specs.Covers.{Lines, ShowsNothing}
+use Rattle.tree_coverage.specs.Covers.{Lines}
 use Rattle.tree_coverage.specs.Findings.{AreSorted, Finding, Findings, IsLeast}
 use Rattle.tree_coverage.specs.Trees.{node_count, nodes}
 use Rattle.tree_covers.specs.CoverText.{text_of_cover}
-use Rattle.tree_cuts.specs.Cuts.{IsEverShown, cuts_of}
+use Rattle.tree_cuts.specs.Cuts.{cuts_of}
 use Rattle.tree_excuses.specs.Excuses.{Excuses, counts}
 use Rattle.world_identities.specs.Identities.{flags_in}
 use Rattle.tree_findings.specs.declared.extent.Extent.{Extent}
@@ -27,17 +27,19 @@ use Rattle.tree_findings.specs.declared.options.Options.{Options}
 use Rattle.tree_findings.specs.declared.options.Search.{Search}
 use Rattle.tree_findings.specs.declared.options.Search.TheVariants.{ByTree, ByStates}
 use Rattle.tree_findings.specs.declared.outcome.Outcome.TheVariants.{Complete}
-use Rattle.search_crew.specs.Outcomes.{IsListedOf, IsListedOfAll, all_findings}
+use Rattle.search_crew.specs.Outcomes.{all_findings}
 use Rattle.search_jobs.specs.Explorations.{ExplorationSeen, explored_by, program_in}
 use Rattle.search_levels.specs.Searched.{TellsReach}
-use Rattle.tree_schedules.specs.Schedules.{IsLeastOfAll, findings_of_all}
+use Rattle.tree_schedules.specs.Schedules.{IsEverShownBy, IsLeastOfAll, findings_of_all}
+use Rattle.tree_schedules.specs.declared.delivery.Delivery.{Delivery}
+use Rattle.tree_schedules.specs.declared.delivery.Delivery.TheVariants.{AnyTime, AtOnce}
 use Rattle.report_text.specs.declared.visited.Visited.{Visited}
 use Rattle.report_text.specs.declared.visited.Visited.TheVariants.{Nodes, States}
 use Rattle.world_event_text.specs.EventText.{text_of_events}
 use Rattle.program_words.specs.Words.{IsExplore, IsReplay}
 use Rattle.program_words.specs.declared.words.Printed.{Printed}
 use Rattle.program_runs.specs.Replayed.{IsGiven}
-use Rattle.program_runs.specs.Explored.{print_of}
+use Rattle.program_runs.specs.Explored.{IsListedBy, IsListedOfAllBy, ShowsNothingBy, delivery_by, print_of}
 use Rattle.program_runs.specs.Printing.{text_of_print}
 use Rattle.program_runs.specs.Program.{IsRun, Written}
 
@@ -55,13 +57,13 @@ pub record ProgramRun : Type 0 where
 abbrev pub Got : Written → List ℕ → Type 0
 Got output text = WritesAll output.old output.new output.failed text
 
--- these bytes are the text of a module, no schedule of which that has at most so many steps shows anything that counts as an error
-abbrev pub HasNoError : List ℕ → ℕ → (Identity → Bool) → Type 0
-HasNoError text depth is_counted = (m : ModuleTree) × SpellsModule text m × ShowsNothing is_counted (program_of m) depth
+-- these bytes are the text of a module, no schedule of which that delivers signals so and has at most so many steps shows anything that counts as an error
+abbrev pub HasNoError : Delivery → List ℕ → ℕ → (Identity → Bool) → Type 0
+HasNoError d text depth is_counted = (m : ModuleTree) × SpellsModule text m × ShowsNothingBy d is_counted (program_of m) depth
 
--- these bytes are the text of a module, no schedule of which shows anything that counts as an error, whatever its length
-abbrev pub HasNoErrorEver : List ℕ → (Identity → Bool) → Type 0
-HasNoErrorEver text is_counted = (m : ModuleTree) × SpellsModule text m × ((i : Identity) → is_counted i ≡ true → IsEverShown (program_of m) i → ⊥)
+-- these bytes are the text of a module, no schedule of which that delivers signals so shows anything that counts as an error, whatever its length
+abbrev pub HasNoErrorEver : Delivery → List ℕ → (Identity → Bool) → Type 0
+HasNoErrorEver d text is_counted = (m : ModuleTree) × SpellsModule text m × ((i : Identity) → is_counted i ≡ true → IsEverShownBy d (program_of m) i → ⊥)
 
 -- what comes after a report: nothing, or a cover
 abbrev pub text_after : Option Lines → List ℕ
@@ -87,56 +89,56 @@ pub record IsExtentOf (a : Program) (depth : ℕ) (extent : Extent) : Type 0 whe
   pub nodes : extent.nodes ≡ node_count a depth
   pub cut : extent.cut ≡ cuts_of a depth
 
--- each finding is listed once, in their order; beside it is the least schedule of all that show it and have at most so many steps
-pub record AreOfAll (a : Program) (depth : ℕ) (fs : List Finding) : Type 0 where
+-- each finding is listed once, in their order; beside it is the least of all schedules that deliver signals so, show it and have at most so many steps
+pub record AreOfAll (d : Delivery) (a : Program) (depth : ℕ) (fs : List Finding) : Type 0 where
   pub each_once : AreSorted fs
-  pub least : (f : Finding) → IsAmong f fs → IsLeastOfAll a depth f
+  pub least : (f : Finding) → IsAmong f fs → IsLeastOfAll d a depth f
 
 -- ---- by each search
 
 -- what is listed, by the tree or by states
 abbrev pub AreFoundBy : Search → Program → ℕ → List Finding → Type 0
 AreFoundBy ByTree a depth fs = AreOfTree a depth fs
-AreFoundBy ByStates a depth fs = AreOfAll a depth fs
+AreFoundBy (ByStates d) a depth fs = AreOfAll d a depth fs
 
 -- all that is listed: what the nodes of the tree show, or all schedules
 abbrev pub findings_by : Search → ExplorationSeen → Findings
 findings_by ByTree e = all_findings e
-findings_by ByStates e = findings_of_all e.flags (program_in e) e.depth
+findings_by (ByStates d) e = findings_of_all e.flags d (program_in e) e.depth
 
 -- how far it came: the nodes and the cuts are those of the tree, or the cuts tell whether some schedule is longer
 abbrev pub IsExtentBy : Search → Program → ℕ → Extent → Type 0
 IsExtentBy ByTree a depth extent = IsExtentOf a depth extent
-IsExtentBy ByStates a depth extent = TellsReach a depth extent.cut
+IsExtentBy (ByStates d) a depth extent = TellsReach d a depth extent.cut
 
 -- what the report tells of the way: nodes of the tree, or states, with all schedules to the depth
 abbrev pub visited_by : Search → ℕ → Visited
 visited_by ByTree depth = Nodes
-visited_by ByStates depth = States depth
+visited_by (ByStates d) depth = States d depth
 
--- the output got the report of these findings and of this extent. An error is listed exactly where some schedule of at most so many steps shows it, and so is a refusal; where nothing is cut, exactly where some schedule does, of whatever length. Each is listed once, with the least schedule of a node, or by states with the least of all. The module, the depth, the flags and the search settle what is listed.
-pub record HasExactReport (input : List ℕ) (options : Options) (x : Excuses) (what : Printed) (output : Written) : Type 0 where
+-- the output got the report of these findings and of this extent. Of the schedules that deliver signals so, an error is listed exactly where some one of at most so many steps shows it, and so is a refusal; where nothing is cut, exactly where some one does, of whatever length. Each is listed once, with the least schedule of a node, or by states with the least of all. The module, the depth, the flags and the search settle what is listed.
+pub record HasExactReport (d : Delivery) (input : List ℕ) (options : Options) (x : Excuses) (what : Printed) (output : Written) : Type 0 where
   pub program : ModuleTree
   pub module_text : SpellsModule input program
   pub findings : Findings
   pub extent : Extent
-  pub exact : (i : Identity) → IsListedOf (explored_by program options) findings i
-  pub of_all : extent.cut ≡ 0 → (i : Identity) → IsListedOfAll (explored_by program options) findings i
+  pub exact : (i : Identity) → IsListedBy d (explored_by program options) findings i
+  pub of_all : extent.cut ≡ 0 → (i : Identity) → IsListedOfAllBy d (explored_by program options) findings i
   pub errors : AreFoundBy options.search (program_of program) options.depth findings.errors
   pub refusals : AreFoundBy options.search (program_of program) options.depth findings.refusals
   pub settled : findings ≡ findings_by options.search (explored_by program options)
   pub size : IsExtentBy options.search (program_of program) options.depth extent
   pub got : Got output (text_of_print (print_of what (visited_by options.search options.depth) (program_of program) options.depth x (Complete findings extent)))
 
--- the output got the report of these findings, and beside each is the least schedule of all that show it
-pub record HasLeastSchedules (input : List ℕ) (options : Options) (x : Excuses) (what : Printed) (output : Written) : Type 0 where
+-- the output got the report of these findings, and beside each is the least of all schedules that deliver signals so and show it
+pub record HasLeastSchedules (d : Delivery) (input : List ℕ) (options : Options) (x : Excuses) (what : Printed) (output : Written) : Type 0 where
   pub program : ModuleTree
   pub module_text : SpellsModule input program
   pub findings : Findings
   pub extent : Extent
-  pub errors : (f : Finding) → IsAmong f findings.errors → IsLeastOfAll (program_of program) options.depth f
-  pub refusals : (f : Finding) → IsAmong f findings.refusals → IsLeastOfAll (program_of program) options.depth f
-  pub got : Got output (text_of_print (print_of what (States options.depth) (program_of program) options.depth x (Complete findings extent)))
+  pub errors : (f : Finding) → IsAmong f findings.errors → IsLeastOfAll d (program_of program) options.depth f
+  pub refusals : (f : Finding) → IsAmong f findings.refusals → IsLeastOfAll d (program_of program) options.depth f
+  pub got : Got output (text_of_print (print_of what (States d options.depth) (program_of program) options.depth x (Complete findings extent)))
 
 -- the output got the lines of the events of the one run of the schedule in this word
 pub record HasTranscript (input word : List ℕ) (output : Written) : Type 0 where
@@ -149,21 +151,37 @@ pub record HasTranscript (input word : List ℕ) (output : Written) : Type 0 whe
 
 -- ---- the theorem
 
--- Clean means none: where an exploration ends with status 0, no schedule of its module that has at most so many steps shows an error.
+-- Clean means none: where an exploration without `--at-once` ends with status 0, no schedule of its module that has at most so many steps shows an error.
 abbrev pub CleanMeansNone : Type 0
-CleanMeansNone = (r : ProgramRun) (options : Options) (x : Excuses) (what : Printed) → IsExplore r.words options x what → r.status ≡ 0 → HasNoError r.input options.depth (counts (flags_in options.flags) x)
+CleanMeansNone = (r : ProgramRun) (options : Options) (x : Excuses) (what : Printed) → IsExplore r.words options x what → delivery_by options.search ≡ AnyTime → r.status ≡ 0 → HasNoError AnyTime r.input options.depth (counts (flags_in options.flags) x)
 
 -- All means all: where an exploration ends with status 0 or 1, and the last line of its report is `result: clean, all schedules`, no schedule of its module shows an error, whatever its length.
 abbrev pub AllMeansAll : Type 0
-AllMeansAll = (r : ProgramRun) (options : Options) (x : Excuses) (what : Printed) → IsExplore r.words options x what → (r.status ≡ 0) ⊎ (r.status ≡ 1) → ReportEndsWith (codes "result: clean, all schedules\n") r.output → HasNoErrorEver r.input (counts (flags_in options.flags) x)
+AllMeansAll = (r : ProgramRun) (options : Options) (x : Excuses) (what : Printed) → IsExplore r.words options x what → (r.status ≡ 0) ⊎ (r.status ≡ 1) → ReportEndsWith (codes "result: clean, all schedules\n") r.output → HasNoErrorEver AnyTime r.input (counts (flags_in options.flags) x)
 
--- The report is exact: where an exploration ends with status 0 or 1, it lists the errors and refusals that schedules of at most so many steps show, and no others, each once, with the least schedule of a node that shows it, or by states of all that do.
+-- The report is exact: where an exploration without `--at-once` ends with status 0 or 1, it lists the errors and refusals that schedules of at most so many steps show, and no others, each once, with the least schedule of a node that shows it, or by states of all that do.
 abbrev pub ReportIsExact : Type 0
-ReportIsExact = (r : ProgramRun) (options : Options) (x : Excuses) (what : Printed) → IsExplore r.words options x what → (r.status ≡ 0) ⊎ (r.status ≡ 1) → HasExactReport r.input options x what r.output
+ReportIsExact = (r : ProgramRun) (options : Options) (x : Excuses) (what : Printed) → IsExplore r.words options x what → delivery_by options.search ≡ AnyTime → (r.status ≡ 0) ⊎ (r.status ≡ 1) → HasExactReport AnyTime r.input options x what r.output
 
--- The schedule is the least of all: where an exploration by states ends with status 0 or 1, beside each finding of its report is a schedule that shows it, and none that shows it is shorter, or as long and before it step by step.
+-- The schedule is the least of all: where an exploration by states ends with status 0 or 1, beside each finding of its report is a schedule that shows it, and none that shows it is shorter, or as long and before it step by step; with `--at-once`, no prompt one.
 abbrev pub ScheduleIsLeast : Type 0
-ScheduleIsLeast = (r : ProgramRun) (options : Options) (x : Excuses) (what : Printed) → IsExplore r.words options x what → options.search ≡ ByStates → (r.status ≡ 0) ⊎ (r.status ≡ 1) → HasLeastSchedules r.input options x what r.output
+ScheduleIsLeast = (r : ProgramRun) (options : Options) (x : Excuses) (what : Printed) (d : Delivery) → IsExplore r.words options x what → options.search ≡ ByStates d → (r.status ≡ 0) ⊎ (r.status ≡ 1) → HasLeastSchedules d r.input options x what r.output
+
+-- ---- of an exploration with `--at-once`, which says nothing of schedules that are not prompt
+
+-- Clean means no prompt one: where it ends with status 0, no prompt schedule of its module that has at most so many steps shows an error.
+abbrev pub CleanMeansNoPromptOne : Type 0
+CleanMeansNoPromptOne = (r : ProgramRun) (options : Options) (x : Excuses) (what : Printed) → IsExplore r.words options x what → delivery_by options.search ≡ AtOnce → r.status ≡ 0 → HasNoError AtOnce r.input options.depth (counts (flags_in options.flags) x)
+
+-- All prompt means all prompt: where an exploration ends with status 0 or 1, and the last line of its report is `result: clean, all prompt schedules`, no prompt schedule of its module shows an error, whatever its length.
+abbrev pub AllPromptMeansAllPrompt : Type 0
+AllPromptMeansAllPrompt = (r : ProgramRun) (options : Options) (x : Excuses) (what : Printed) → IsExplore r.words options x what → (r.status ≡ 0) ⊎ (r.status ≡ 1) → ReportEndsWith (codes "result: clean, all prompt schedules\n") r.output → HasNoErrorEver AtOnce r.input (counts (flags_in options.flags) x)
+
+-- The report is exact of prompt schedules: where it ends with status 0 or 1, it lists the errors and refusals that prompt schedules of at most so many steps show, and no others, each once, with the least prompt schedule that shows it.
+abbrev pub PromptReportIsExact : Type 0
+PromptReportIsExact = (r : ProgramRun) (options : Options) (x : Excuses) (what : Printed) → IsExplore r.words options x what → delivery_by options.search ≡ AtOnce → (r.status ≡ 0) ⊎ (r.status ≡ 1) → HasExactReport AtOnce r.input options x what r.output
+
+-- ---- of all
 
 -- The transcript is the run: where a replay ends with status 0, it wrote the events of its schedule.
 abbrev pub TranscriptIsTheRun : Type 0

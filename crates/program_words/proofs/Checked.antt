@@ -24,6 +24,7 @@ module _ (words : List Text) (given : List Given) (steps : ℕ) (flags : Flags) 
     cover = omega (arith, says.no_cover);
     jobs = omega (arith, ap length says.no_job);
     states = omega (arith, says.no_states);
+    at_once = omega (arith, says.no_at_once);
   }
 
   -- the options of a check, each once, except for `--normal`, and in its range
@@ -46,6 +47,7 @@ module _ (words : List Text) (given : List Given) (steps : ℕ) (flags : Flags) 
       ats = omega (arith, ap length says.no_at);
       jobs = omega (arith, ap length says.no_job);
       states = omega (arith, says.no_states);
+      at_once = omega (arith, says.no_at_once);
     };
     lawful = check_lawful_by given (subst (Each (λ n. n ≤ 400)) (sym says.depth) (says.in_range, tt)) (omega (arith, ap length says.no_at)) none says.normal;
     place = 0;

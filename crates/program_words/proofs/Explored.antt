@@ -1,6 +1,7 @@
 -- What the program makes of the words of an exploration.
-use Rattle.std.proofs.Common.{◌≡◌, ◌∙◌, ◌⊎◌, ℕ, ◌≤◌, Bool, true, false, List, [], ◌∷◌, length, Option, Some, None, codes, option_map, refl, sym, ap, subst, inl, inr, arith}
+use Rattle.std.proofs.Common.{◌≡◌, ◌∙◌, ◌⊎◌, ℕ, ◌≤◌, Bool, true, false, List, [], ◌∷◌, length, Option, Some, None, cond, codes, option_map, refl, sym, ap, subst, inl, inr, arith}
 use Rattle.std.specs.Fmt.{decimal, digits}
+use Rattle.std.specs.List.{count_by}
 use Rattle.std.specs.Prelude.{MatchBool, option_and_then, slice_get}
 use Rattle.std.specs.Str.{bytes_eq}
 use Rattle.std.proofs.lemmas.Slice.Eq.{bytes_eq-Decides}
@@ -10,15 +11,16 @@ use Rattle.world_identities.specs.declared.flags.Flags.{Flags}
 use Rattle.tree_findings.specs.declared.options.Options.{Options}
 use Rattle.tree_findings.specs.declared.options.Search.{Search}
 use Rattle.tree_findings.specs.declared.options.Search.TheVariants.{ByTree, ByStates}
+use Rattle.tree_schedules.specs.declared.delivery.Delivery.TheVariants.{AnyTime, AtOnce}
 use Rattle.program_words.specs.declared.words.Printed.{Printed}
-use Rattle.program_words.specs.Words.{AreInRange, AreWordsOfExplore, Given, IsGivenOr, is_by_states, is_cover, is_explain, is_states, job, jobs_of, nodes_of, workers_of}
+use Rattle.program_words.specs.Words.{AreInRange, AreWordsOfExplore, AsksSearch, Given, IsGivenOr, is_at_once, is_by_states, is_cover, is_explain, is_states, job, jobs_of, nodes_of, workers_of}
 use Rattle.program_words.specs.inside.CommandLine.{command_line, exploring}
-use Rattle.program_words.specs.inside.Found.{AreOptionsIn, AreOptionsOf, AreRead, IsCheckOf, IsSearchOf, ReadsNumber, job_in, schedule_in}
+use Rattle.program_words.specs.inside.Found.{AreOptionsIn, AreOptionsOf, AreRead, IsCheckOf, IsSearchOf, ReadsNumber, is_prompt, job_in, schedule_in}
 use Rattle.program_words.proofs.Asked.{IsAsked, asked_enters, asked_has_no_schedule, asked_passes, at_most_once, depth_is_read, depth_read, flag_read, flags_read, number_not_read, number_read, rows_of_given}
 use Rattle.program_words.proofs.Entered.{entered_rows, number_fits}
 use Rattle.program_words.proofs.Once.{Each, lawful_by}
 use Rattle.program_words.proofs.Ranges.{depth_fits, nodes_fits, workers_fits}
-use Rattle.program_words.proofs.Rows.{cover_left, cover_row, explain_left, explain_row, given_row, job_left, job_row, nodes_left, nodes_row, put_all, row_at, row_of, row_or, row_with, states_left, states_row, text_of_row, workers_left, workers_row}
+use Rattle.program_words.proofs.Rows.{at_once_left, at_once_row, cover_left, cover_row, explain_left, explain_row, given_row, job_left, job_row, nodes_left, nodes_row, put_all, row_at, row_of, row_or, row_with, states_left, states_row, text_of_row, workers_left, workers_row}
 
 -- ---- the options of an exploration, each once and in its range
 
@@ -70,12 +72,26 @@ job_given given = ap (option_and_then (λ (r : Row). slice_get r.values 0)) (job
 
 -- ---- its search
 
--- searches are the same where both are by states, or both are not
-same_search : (found search : Search) → is_by_states found ≡ is_by_states search → found ≡ search
-same_search ByTree ByTree is = refl
-same_search ByTree ByStates is = cc
-same_search ByStates ByTree is = cc
-same_search ByStates ByStates is = refl
+-- searches are the same where both or neither are by states, and both or neither deliver signals at once
+same_search : (found search : Search) → is_by_states found ≡ is_by_states search → is_prompt found ≡ is_prompt search → found ≡ search
+same_search ByTree ByTree states prompt = refl
+same_search ByTree (ByStates when) states prompt = cc
+same_search (ByStates when) ByTree states prompt = cc
+same_search (ByStates AnyTime) (ByStates AnyTime) states prompt = refl
+same_search (ByStates AnyTime) (ByStates AtOnce) states prompt = cc
+same_search (ByStates AtOnce) (ByStates AnyTime) states prompt = cc
+same_search (ByStates AtOnce) (ByStates AtOnce) states prompt = refl
+
+-- a search with signals delivered at once is by states
+prompt_by_states : (found : Search) → is_prompt found ≡ true → is_by_states found ≡ true
+prompt_by_states ByTree prompt = cc
+prompt_by_states (ByStates when) prompt = refl
+
+-- the options that ask for it are given once or not at all
+search_once : (by_states prompt : ℕ) (search : Search) → AsksSearch by_states prompt search → (by_states ≤ 1) × (prompt ≤ 1)
+search_once by_states prompt ByTree asks = (omega (arith, asks.0), omega (arith, asks.1))
+search_once by_states prompt (ByStates AnyTime) asks = (omega (arith, asks.0), omega (arith, asks.1))
+search_once by_states prompt (ByStates AtOnce) asks = (asks.0, omega (arith, asks.1))
 
 -- ---- the words of an exploration
 
@@ -98,7 +114,8 @@ module _ (words : List Text) (given : List Given) (options : Options) (printed :
       cover = at_most_once _ printed.cover says.cover;
       ats = omega (arith, ap length says.no_at);
       jobs = says.job;
-      states = at_most_once _ (is_by_states options.search) says.states;
+      states = (search_once _ _ options.search says.search).0;
+      at_once = (search_once _ _ options.search says.search).1;
     };
     lawful = lawful_by given (subst (Each (λ n. n ≤ 400)) (sym says.depth) (says.in_range.depth, tt))
         (given_lawful 10000000 1000000 options.nodes (nodes_of given) says.nodes says.in_range.least_nodes says.in_range.most_nodes)
@@ -131,10 +148,26 @@ module _ (words : List Text) (given : List Given) (options : Options) (printed :
   explore_job = ap job_in explore_enters ∙ job_given given
 
   search_read : (found : Search) → IsSearchOf (rows_of_given exploring given) found → found ≡ options.search
-  search_read found read =
-      same_search found options.search
-      (flag_read exploring (codes "states") is_states given (is_by_states options.search) (is_by_states found) says.states
-      (states_left (put_all [] given)) (given_row (codes "states") given refl ∙ states_row given) read)
+  search_read found read = by options.search says.search
+    where
+      prompt_read : (flag : Bool) → count_by is_at_once given ≡ cond flag 1 0 → is_prompt found ≡ flag
+      prompt_read flag counted =
+          flag_read exploring (codes "at-once") is_at_once given flag (is_prompt found) counted (at_once_left (put_all [] given)) (given_row (codes "at-once") given refl ∙ at_once_row given) read.at_once
+
+      states_read : (flag : Bool) → count_by is_states given ≡ cond flag 1 0 → is_prompt found ≡ false → is_by_states found ≡ flag
+      states_read flag counted later =
+          flag_read exploring (codes "states") is_states given flag (is_by_states found) counted (states_left (put_all [] given)) (given_row (codes "states") given refl ∙ states_row given) (read.states later)
+
+      by : (search : Search) → AsksSearch (count_by is_states given) (count_by is_at_once given) search → found ≡ search
+      by ByTree asks =
+          let later = prompt_read false asks.1 in
+          same_search found ByTree (states_read false asks.0 later) later
+      by (ByStates AnyTime) asks =
+          let later = prompt_read false asks.1 in
+          same_search found (ByStates AnyTime) (states_read true asks.0 later) later
+      by (ByStates AtOnce) asks =
+          let prompt = prompt_read true asks.1 in
+          same_search found (ByStates AtOnce) (prompt_by_states found prompt) prompt
 
   same_options : (found : Options) (prints : Printed) → AreRead (rows_of_given exploring given) found prints → found ≡ options
   same_options found prints read =

@@ -42,6 +42,7 @@ defaults_pass exploring rows =
     let nine = with_default eight (filled (flag_rule (codes "cover"))) in
     let ten = with_default nine (filled job_rule) in
     let eleven = with_default ten (filled (flag_rule (codes "states"))) in
+    let twelve = with_default eleven (filled (flag_rule (codes "at-once"))) in
     both_none _ _ (no_default_fault (has_row (codes "depth") rows) [])
     (both_none _ _ (no_fault (has_row (codes "nodes") one || false))
     (both_none _ _ (no_fault (has_row (codes "workers") two || false))
@@ -53,7 +54,8 @@ defaults_pass exploring rows =
     (both_none _ _ (no_fault (has_row (codes "cover") eight || false))
     (both_none _ _ (no_default_fault (has_row (codes "job") nine) [])
     (both_none _ _ (no_fault (has_row (codes "states") ten || false))
-    (both_none _ _ (no_default_fault (has_row (codes "help") eleven) (DisplayHelp ∷ [])) refl)))))))))))
+    (both_none _ _ (no_fault (has_row (codes "at-once") eleven || false))
+    (both_none _ _ (no_default_fault (has_row (codes "help") twelve) (DisplayHelp ∷ [])) refl))))))))))))
 defaults_pass checking rows =
     let one = with_default rows (filled depth_rule) in
     let two = with_default one (filled (flag_rule (codes "allow-deadlock"))) in

@@ -5,7 +5,7 @@ use Rattle.std.specs.Option.{is_some}
 use Rattle.std.specs.Str.{bytes_eq}
 use Rattle.std.proofs.lemmas.List.Sums.{sum_by-cons}
 use Rattle.clap.specs.Walk.{Row, Text, has_row}
-use Rattle.program_words.specs.Words.{Given, depth, nodes, workers, allow_deadlock, strict_access, explain, cover, main_deadlock, normal, at, job, states, depths_of, nodes_of, workers_of, texts_of, ats_of, jobs_of, is_allow_deadlock, is_main_deadlock, is_strict_access, is_explain, is_cover, is_states, ArePlain}
+use Rattle.program_words.specs.Words.{Given, depth, nodes, workers, allow_deadlock, strict_access, explain, cover, main_deadlock, normal, at, job, states, at_once, depths_of, nodes_of, workers_of, texts_of, ats_of, jobs_of, is_allow_deadlock, is_main_deadlock, is_strict_access, is_explain, is_cover, is_states, is_at_once, ArePlain}
 use Rattle.program_words.specs.inside.CommandLine.{Splitter, checking, exploring, splitting}
 use Rattle.program_words.proofs.Options.{AreLawful, AreNew, IsNew}
 use Rattle.program_words.proofs.Rows.{has_row-at, id_of, put, put_apart}
@@ -34,6 +34,7 @@ no_depth (normal text ∷ rest) few = (tt, no_depth rest few)
 no_depth (at n ∷ rest) few = (refl, no_depth rest few)
 no_depth (job line ∷ rest) few = (refl, no_depth rest few)
 no_depth (states ∷ rest) few = (refl, no_depth rest few)
+no_depth (at_once ∷ rest) few = (refl, no_depth rest few)
 
 no_nodes : (given : List Given) → length (nodes_of given) ≤ 0 → IsNoneOf (codes "nodes") given
 no_nodes [] few = tt
@@ -49,6 +50,7 @@ no_nodes (normal text ∷ rest) few = (tt, no_nodes rest few)
 no_nodes (at n ∷ rest) few = (refl, no_nodes rest few)
 no_nodes (job line ∷ rest) few = (refl, no_nodes rest few)
 no_nodes (states ∷ rest) few = (refl, no_nodes rest few)
+no_nodes (at_once ∷ rest) few = (refl, no_nodes rest few)
 
 no_workers : (given : List Given) → length (workers_of given) ≤ 0 → IsNoneOf (codes "workers") given
 no_workers [] few = tt
@@ -64,6 +66,7 @@ no_workers (normal text ∷ rest) few = (tt, no_workers rest few)
 no_workers (at n ∷ rest) few = (refl, no_workers rest few)
 no_workers (job line ∷ rest) few = (refl, no_workers rest few)
 no_workers (states ∷ rest) few = (refl, no_workers rest few)
+no_workers (at_once ∷ rest) few = (refl, no_workers rest few)
 
 counted : (p : Given → Bool) (given : Given) (rest : List Given) → count_by p (given ∷ rest) ≡ cond (p given) 1 0 + count_by p rest
 counted p given rest = sum_by-cons (λ x. cond (p x) 1 0) given rest
@@ -82,6 +85,7 @@ no_allow_deadlock (normal text ∷ rest) few = (tt, no_allow_deadlock rest (omeg
 no_allow_deadlock (at n ∷ rest) few = (refl, no_allow_deadlock rest (omega (arith, counted is_allow_deadlock (at n) rest)))
 no_allow_deadlock (job line ∷ rest) few = (refl, no_allow_deadlock rest (omega (arith, counted is_allow_deadlock (job line) rest)))
 no_allow_deadlock (states ∷ rest) few = (refl, no_allow_deadlock rest (omega (arith, counted is_allow_deadlock states rest)))
+no_allow_deadlock (at_once ∷ rest) few = (refl, no_allow_deadlock rest (omega (arith, counted is_allow_deadlock at_once rest)))
 
 no_main_deadlock : (given : List Given) → count_by is_main_deadlock given ≤ 0 → IsNoneOf (codes "main-deadlock") given
 no_main_deadlock [] few = tt
@@ -97,6 +101,7 @@ no_main_deadlock (normal text ∷ rest) few = (tt, no_main_deadlock rest (omega 
 no_main_deadlock (at n ∷ rest) few = (refl, no_main_deadlock rest (omega (arith, counted is_main_deadlock (at n) rest)))
 no_main_deadlock (job line ∷ rest) few = (refl, no_main_deadlock rest (omega (arith, counted is_main_deadlock (job line) rest)))
 no_main_deadlock (states ∷ rest) few = (refl, no_main_deadlock rest (omega (arith, counted is_main_deadlock states rest)))
+no_main_deadlock (at_once ∷ rest) few = (refl, no_main_deadlock rest (omega (arith, counted is_main_deadlock at_once rest)))
 
 no_strict_access : (given : List Given) → count_by is_strict_access given ≤ 0 → IsNoneOf (codes "strict-access") given
 no_strict_access [] few = tt
@@ -112,6 +117,7 @@ no_strict_access (normal text ∷ rest) few = (tt, no_strict_access rest (omega 
 no_strict_access (at n ∷ rest) few = (refl, no_strict_access rest (omega (arith, counted is_strict_access (at n) rest)))
 no_strict_access (job line ∷ rest) few = (refl, no_strict_access rest (omega (arith, counted is_strict_access (job line) rest)))
 no_strict_access (states ∷ rest) few = (refl, no_strict_access rest (omega (arith, counted is_strict_access states rest)))
+no_strict_access (at_once ∷ rest) few = (refl, no_strict_access rest (omega (arith, counted is_strict_access at_once rest)))
 
 no_explain : (given : List Given) → count_by is_explain given ≤ 0 → IsNoneOf (codes "explain") given
 no_explain [] few = tt
@@ -127,6 +133,7 @@ no_explain (normal text ∷ rest) few = (tt, no_explain rest (omega (arith, coun
 no_explain (at n ∷ rest) few = (refl, no_explain rest (omega (arith, counted is_explain (at n) rest)))
 no_explain (job line ∷ rest) few = (refl, no_explain rest (omega (arith, counted is_explain (job line) rest)))
 no_explain (states ∷ rest) few = (refl, no_explain rest (omega (arith, counted is_explain states rest)))
+no_explain (at_once ∷ rest) few = (refl, no_explain rest (omega (arith, counted is_explain at_once rest)))
 
 no_cover : (given : List Given) → count_by is_cover given ≤ 0 → IsNoneOf (codes "cover") given
 no_cover [] few = tt
@@ -142,6 +149,7 @@ no_cover (normal text ∷ rest) few = (tt, no_cover rest (omega (arith, counted 
 no_cover (at n ∷ rest) few = (refl, no_cover rest (omega (arith, counted is_cover (at n) rest)))
 no_cover (job line ∷ rest) few = (refl, no_cover rest (omega (arith, counted is_cover (job line) rest)))
 no_cover (states ∷ rest) few = (refl, no_cover rest (omega (arith, counted is_cover states rest)))
+no_cover (at_once ∷ rest) few = (refl, no_cover rest (omega (arith, counted is_cover at_once rest)))
 
 no_states : (given : List Given) → count_by is_states given ≤ 0 → IsNoneOf (codes "states") given
 no_states [] few = tt
@@ -157,6 +165,23 @@ no_states (normal text ∷ rest) few = (tt, no_states rest (omega (arith, counte
 no_states (at n ∷ rest) few = (refl, no_states rest (omega (arith, counted is_states (at n) rest)))
 no_states (job line ∷ rest) few = (refl, no_states rest (omega (arith, counted is_states (job line) rest)))
 no_states (cover ∷ rest) few = (refl, no_states rest (omega (arith, counted is_states cover rest)))
+no_states (at_once ∷ rest) few = (refl, no_states rest (omega (arith, counted is_states at_once rest)))
+
+no_at_once : (given : List Given) → count_by is_at_once given ≤ 0 → IsNoneOf (codes "at-once") given
+no_at_once [] few = tt
+no_at_once (at_once ∷ rest) few = absurd (omega (arith, counted is_at_once at_once rest))
+no_at_once (depth n ∷ rest) few = (refl, no_at_once rest (omega (arith, counted is_at_once (depth n) rest)))
+no_at_once (nodes n ∷ rest) few = (refl, no_at_once rest (omega (arith, counted is_at_once (nodes n) rest)))
+no_at_once (workers n ∷ rest) few = (refl, no_at_once rest (omega (arith, counted is_at_once (workers n) rest)))
+no_at_once (allow_deadlock ∷ rest) few = (refl, no_at_once rest (omega (arith, counted is_at_once allow_deadlock rest)))
+no_at_once (strict_access ∷ rest) few = (refl, no_at_once rest (omega (arith, counted is_at_once strict_access rest)))
+no_at_once (explain ∷ rest) few = (refl, no_at_once rest (omega (arith, counted is_at_once explain rest)))
+no_at_once (main_deadlock ∷ rest) few = (refl, no_at_once rest (omega (arith, counted is_at_once main_deadlock rest)))
+no_at_once (normal text ∷ rest) few = (tt, no_at_once rest (omega (arith, counted is_at_once (normal text) rest)))
+no_at_once (at n ∷ rest) few = (refl, no_at_once rest (omega (arith, counted is_at_once (at n) rest)))
+no_at_once (job line ∷ rest) few = (refl, no_at_once rest (omega (arith, counted is_at_once (job line) rest)))
+no_at_once (cover ∷ rest) few = (refl, no_at_once rest (omega (arith, counted is_at_once cover rest)))
+no_at_once (states ∷ rest) few = (refl, no_at_once rest (omega (arith, counted is_at_once states rest)))
 
 no_at : (given : List Given) → length (ats_of given) ≤ 0 → IsNoneOf (codes "at") given
 no_at [] few = tt
@@ -172,6 +197,7 @@ no_at (main_deadlock ∷ rest) few = (refl, no_at rest few)
 no_at (normal text ∷ rest) few = (tt, no_at rest few)
 no_at (job line ∷ rest) few = (refl, no_at rest few)
 no_at (states ∷ rest) few = (refl, no_at rest few)
+no_at (at_once ∷ rest) few = (refl, no_at rest few)
 
 no_job : (given : List Given) → length (jobs_of given) ≤ 0 → IsNoneOf (codes "job") given
 no_job [] few = tt
@@ -187,6 +213,7 @@ no_job (main_deadlock ∷ rest) few = (refl, no_job rest few)
 no_job (normal text ∷ rest) few = (tt, no_job rest few)
 no_job (at n ∷ rest) few = (refl, no_job rest few)
 no_job (states ∷ rest) few = (refl, no_job rest few)
+no_job (at_once ∷ rest) few = (refl, no_job rest few)
 
 no_normal : (given : List Given) → IsNoneOf (codes "normal") given
 no_normal [] = tt
@@ -202,6 +229,7 @@ no_normal (cover ∷ rest) = (refl, no_normal rest)
 no_normal (at n ∷ rest) = (refl, no_normal rest)
 no_normal (job line ∷ rest) = (refl, no_normal rest)
 no_normal (states ∷ rest) = (refl, no_normal rest)
+no_normal (at_once ∷ rest) = (refl, no_normal rest)
 
 -- no name comes twice
 abbrev AreApart : List Given → Type 0
@@ -221,6 +249,7 @@ pub record AreOnce (given : List Given) : Type 0 where
   pub ats : length (ats_of given) ≤ 1
   pub jobs : length (jobs_of given) ≤ 1
   pub states : count_by is_states given ≤ 1
+  pub at_once : count_by is_at_once given ≤ 1
 
 -- the options after the first are given no more often
 fewer_depths : (first : Given) (rest : List Given) → length (depths_of rest) ≤ length (depths_of (first ∷ rest))
@@ -236,6 +265,7 @@ fewer_depths (normal text) rest = omega arith
 fewer_depths (at n) rest = omega arith
 fewer_depths (job line) rest = omega arith
 fewer_depths states rest = omega arith
+fewer_depths at_once rest = omega arith
 
 fewer_nodes : (first : Given) (rest : List Given) → length (nodes_of rest) ≤ length (nodes_of (first ∷ rest))
 fewer_nodes (depth n) rest = omega arith
@@ -250,6 +280,7 @@ fewer_nodes (normal text) rest = omega arith
 fewer_nodes (at n) rest = omega arith
 fewer_nodes (job line) rest = omega arith
 fewer_nodes states rest = omega arith
+fewer_nodes at_once rest = omega arith
 
 fewer_workers : (first : Given) (rest : List Given) → length (workers_of rest) ≤ length (workers_of (first ∷ rest))
 fewer_workers (depth n) rest = omega arith
@@ -264,6 +295,7 @@ fewer_workers (normal text) rest = omega arith
 fewer_workers (at n) rest = omega arith
 fewer_workers (job line) rest = omega arith
 fewer_workers states rest = omega arith
+fewer_workers at_once rest = omega arith
 
 fewer_ats : (first : Given) (rest : List Given) → length (ats_of rest) ≤ length (ats_of (first ∷ rest))
 fewer_ats (depth n) rest = omega arith
@@ -278,6 +310,7 @@ fewer_ats (normal text) rest = omega arith
 fewer_ats (at n) rest = omega arith
 fewer_ats (job line) rest = omega arith
 fewer_ats states rest = omega arith
+fewer_ats at_once rest = omega arith
 
 fewer_jobs : (first : Given) (rest : List Given) → length (jobs_of rest) ≤ length (jobs_of (first ∷ rest))
 fewer_jobs (depth n) rest = omega arith
@@ -292,6 +325,7 @@ fewer_jobs (normal text) rest = omega arith
 fewer_jobs (at n) rest = omega arith
 fewer_jobs (job line) rest = omega arith
 fewer_jobs states rest = omega arith
+fewer_jobs at_once rest = omega arith
 
 rest_once : (first : Given) (rest : List Given) → AreOnce (first ∷ rest) → AreOnce rest
 rest_once first rest once = record {
@@ -306,6 +340,7 @@ rest_once first rest once = record {
   ats = omega (arith, once.ats, fewer_ats first rest);
   jobs = omega (arith, once.jobs, fewer_jobs first rest);
   states = omega (arith, once.states, counted is_states first rest);
+  at_once = omega (arith, once.at_once, counted is_at_once first rest);
 }
 
 first_apart : (first : Given) (rest : List Given) → AreOnce (first ∷ rest) → IsNoneOf (id_of first) rest
@@ -321,6 +356,7 @@ first_apart cover rest once = no_cover rest (omega (arith, once.cover, counted i
 first_apart (at n) rest once = no_at rest (omega (arith, once.ats))
 first_apart (job line) rest once = no_job rest (omega (arith, once.jobs))
 first_apart states rest once = no_states rest (omega (arith, once.states, counted is_states states rest))
+first_apart at_once rest once = no_at_once rest (omega (arith, once.at_once, counted is_at_once at_once rest))
 
 apart : (given : List Given) → AreOnce given → AreApart given
 apart [] once = tt
@@ -347,6 +383,7 @@ new_after first cover rows differs new = still_new (codes "cover") first rows di
 new_after first (at n) rows differs new = still_new (codes "at") first rows differs new
 new_after first (job line) rows differs new = still_new (codes "job") first rows differs new
 new_after first states rows differs new = still_new (codes "states") first rows differs new
+new_after first at_once rows differs new = still_new (codes "at-once") first rows differs new
 
 unseen_after : (rows : List Row) (first : Given) (given : List Given) → IsNoneOf (id_of first) given → AreUnseen rows given → AreUnseen (put rows first) given
 unseen_after rows first [] none unseen = tt
@@ -369,6 +406,7 @@ new_at_first cover = refl
 new_at_first (at n) = refl
 new_at_first (job line) = refl
 new_at_first states = refl
+new_at_first at_once = refl
 
 unseen_at_first : (given : List Given) → AreUnseen [] given
 unseen_at_first [] = tt
@@ -398,6 +436,7 @@ lawful_by (cover ∷ rest) depths numbers crews none plain lines = (tt, lawful_b
 lawful_by (at n ∷ rest) depths numbers crews none plain lines = absurd (omega arith)
 lawful_by (job line ∷ rest) depths numbers crews none plain lines = (lines.0, lawful_by rest depths numbers crews none plain lines.1)
 lawful_by (states ∷ rest) depths numbers crews none plain lines = (tt, lawful_by rest depths numbers crews none plain lines)
+lawful_by (at_once ∷ rest) depths numbers crews none plain lines = (tt, lawful_by rest depths numbers crews none plain lines)
 
 -- no option that is of `explore` alone is given
 pub record AreOfNoExploration (given : List Given) : Type 0 where
@@ -407,6 +446,7 @@ pub record AreOfNoExploration (given : List Given) : Type 0 where
   pub cover : count_by is_cover given ≤ 0
   pub jobs : length (jobs_of given) ≤ 0
   pub states : count_by is_states given ≤ 0
+  pub at_once : count_by is_at_once given ≤ 0
 
 rest_of_none : (first : Given) (rest : List Given) → AreOfNoExploration (first ∷ rest) → AreOfNoExploration rest
 rest_of_none first rest none = record {
@@ -416,6 +456,7 @@ rest_of_none first rest none = record {
   cover = omega (arith, none.cover, counted is_cover first rest);
   jobs = omega (arith, none.jobs, fewer_jobs first rest);
   states = omega (arith, none.states, counted is_states first rest);
+  at_once = omega (arith, none.at_once, counted is_at_once first rest);
 }
 
 -- options of `check`
@@ -433,6 +474,7 @@ check_lawful_by (cover ∷ rest) depths ats none plain = absurd (omega (arith, n
 check_lawful_by (at n ∷ rest) depths ats none plain = absurd (omega arith)
 check_lawful_by (job line ∷ rest) depths ats none plain = absurd (omega (arith, none.jobs))
 check_lawful_by (states ∷ rest) depths ats none plain = absurd (omega (arith, none.states, counted is_states states rest))
+check_lawful_by (at_once ∷ rest) depths ats none plain = absurd (omega (arith, none.at_once, counted is_at_once at_once rest))
 
 -- options of a command that splits the tree
 pub split_lawful_by : (which : Splitter) (given : List Given) → Each (λ n. n ≤ 400) (depths_of given) → Each (λ n. n ≤ 400) (ats_of given) → AreOfNoExploration given → ArePlain (texts_of given) → AreLawful given (splitting which)
@@ -449,3 +491,4 @@ split_lawful_by which (cover ∷ rest) depths ats none plain = absurd (omega (ar
 split_lawful_by which (at n ∷ rest) depths ats none plain = (ats.0, split_lawful_by which rest depths ats.1 (rest_of_none (at n) rest none) plain)
 split_lawful_by which (job line ∷ rest) depths ats none plain = absurd (omega (arith, none.jobs))
 split_lawful_by which (states ∷ rest) depths ats none plain = absurd (omega (arith, none.states, counted is_states states rest))
+split_lawful_by which (at_once ∷ rest) depths ats none plain = absurd (omega (arith, none.at_once, counted is_at_once at_once rest))

@@ -14,7 +14,7 @@ use Rattle.clap.specs.declared.parser.matches.ValueSource.TheVariants.{CommandLi
 use Rattle.clap.specs.ValueTests.{is_unsigned_in}
 use Rattle.program_words.proofs.Numbers.{decimal_fits, decimal_is_plain}
 use Rattle.clap.proofs.OnLiterals.{clap_on_literals}
-use Rattle.program_words.specs.Words.{Given, begins_with_hyphen, depth, nodes, workers, allow_deadlock, strict_access, explain, cover, main_deadlock, normal, at, job, states, words_of, words_of_all}
+use Rattle.program_words.specs.Words.{Given, begins_with_hyphen, depth, nodes, workers, allow_deadlock, strict_access, explain, cover, main_deadlock, normal, at, job, states, at_once, words_of, words_of_all}
 use Rattle.program_words.specs.inside.CommandLine.{Level, Splitter, at_rule, built_of, checking, depth_rule, exploring, flag_rule, job_rule, nodes_rule, normal_rule, splitting, workers_rule}
 use Rattle.program_words.proofs.Rows.{id_of, put, put_all, row_with, used_once}
 
@@ -55,6 +55,9 @@ IsLawful (job line) (splitting which) = ⊥
 IsLawful states exploring = Unit {0}
 IsLawful states checking = ⊥
 IsLawful states (splitting which) = ⊥
+IsLawful at_once exploring = Unit {0}
+IsLawful at_once checking = ⊥
+IsLawful at_once (splitting which) = ⊥
 
 -- ---- one use of an option
 
@@ -115,6 +118,7 @@ after cover level h = with_flag level (codes "cover") h
 after (at n) level h = with_number level (codes "at") (decimal n) h
 after (job line) level h = with_number level (codes "job") line h
 after states level h = with_flag level (codes "states") h
+after at_once level h = with_flag level (codes "at-once") h
 
 -- between the word of an option and its value
 abbrev waiting_for : Level → Text → Held → Walk
@@ -181,6 +185,10 @@ cover_word h = refl
 states_word : (h : Held) → met exploring (walk_from h) (codes "--states") ≡ walk_from (with_flag exploring (codes "states") h)
 unfolding clap_on_literals
 states_word h = refl
+
+at_once_word : (h : Held) → met exploring (walk_from h) (codes "--at-once") ≡ walk_from (with_flag exploring (codes "at-once") h)
+unfolding clap_on_literals
+at_once_word h = refl
 
 depth_number : (level : Level) (h : Held) (value : Text) → begins_with_hyphen value ≡ false
     → met level (waiting_for level (codes "depth") h) value ≡ walk_from (with_number level (codes "depth") value h)
@@ -310,6 +318,11 @@ unfolding clap_on_literals
 states_passes rows h ready none =
     both_none (react_fault (built_of exploring).rules false (filled (flag_rule (codes "states"))) [] h) [] (reacts exploring (codes "states") rows h ready none) refl
 
+at_once_passes : (rows : List Row) (h : Held) → IsReady exploring rows h → has_row (codes "at-once") rows ≡ false → turn_fault (built_of exploring) [] (walk_from h) (codes "--at-once") ≡ []
+unfolding clap_on_literals
+at_once_passes rows h ready none =
+    both_none (react_fault (built_of exploring).rules false (filled (flag_rule (codes "at-once"))) [] h) [] (reacts exploring (codes "at-once") rows h ready none) refl
+
 -- the walk over an option
 option_walks : (given : Given) (level : Level) (h : Held) (rest : List Text) → IsLawful given level
     → fold (walked (built_of level).rules []) (walk_from h) (words_of given ++ rest) ≡ fold (walked (built_of level).rules []) (walk_from (after given level h)) rest
@@ -349,6 +362,9 @@ option_walks (job line) (splitting which) h rest lawful = absurd lawful
 option_walks states exploring h rest lawful = ap (λ w. fold (walked (built_of exploring).rules []) w rest) (states_word h)
 option_walks states checking h rest lawful = absurd lawful
 option_walks states (splitting which) h rest lawful = absurd lawful
+option_walks at_once exploring h rest lawful = ap (λ w. fold (walked (built_of exploring).rules []) w rest) (at_once_word h)
+option_walks at_once checking h rest lawful = absurd lawful
+option_walks at_once (splitting which) h rest lawful = absurd lawful
 
 -- a word that passes
 passes_on : (level : Level) (w after : Walk) (word : Text) (rest : List Text) → turn_fault (built_of level) [] w word ≡ [] → met level w word ≡ after
@@ -413,6 +429,10 @@ option_passes states exploring rows h rest ready none lawful =
     passes_on exploring (walk_from h) (walk_from (after states exploring h)) (codes "--states") rest (states_passes rows h ready none) (states_word h)
 option_passes states checking rows h rest ready none lawful = absurd lawful
 option_passes states (splitting which) rows h rest ready none lawful = absurd lawful
+option_passes at_once exploring rows h rest ready none lawful =
+    passes_on exploring (walk_from h) (walk_from (after at_once exploring h)) (codes "--at-once") rest (at_once_passes rows h ready none) (at_once_word h)
+option_passes at_once checking rows h rest ready none lawful = absurd lawful
+option_passes at_once (splitting which) rows h rest ready none lawful = absurd lawful
 
 -- what is held after an option, with its row
 number_ready : (level : Level) (id value : Text) (rows : List Row) (h : Held) → IsReady level rows h → has_row id rows ≡ false
@@ -491,6 +511,9 @@ option_ready (job line) (splitting which) rows h ready none lawful = absurd lawf
 option_ready states exploring rows h ready none lawful = flag_ready exploring (codes "states") rows h ready none
 option_ready states checking rows h ready none lawful = absurd lawful
 option_ready states (splitting which) rows h ready none lawful = absurd lawful
+option_ready at_once exploring rows h ready none lawful = flag_ready exploring (codes "at-once") rows h ready none
+option_ready at_once checking rows h ready none lawful = absurd lawful
+option_ready at_once (splitting which) rows h ready none lawful = absurd lawful
 
 -- ---- all options
 

@@ -164,8 +164,9 @@ module _ (id : Text) (low high : ℕ) where
   each_use_fits : (values : List Text) (rows : List Row) → (use_fault false depth_built values rows ≡ [] → AllFit (used depth_built values rows))
       → (use_fault false nodes_built values rows ≡ [] → AllFit (used nodes_built values rows)) → (use_fault false workers_built values rows ≡ [] → AllFit (used workers_built values rows))
       → AreOthers id → bytes_eq (codes "explain") id ≡ false → bytes_eq (codes "cover") id ≡ false → bytes_eq (codes "job") id ≡ false → bytes_eq (codes "states") id ≡ false
+      → bytes_eq (codes "at-once") id ≡ false
       → (p : Rule → Bool) (a : Rule) → find p explore_built.rules ≡ Some a → use_fault false a values rows ≡ [] → AllFit rows → AllFit (used a values rows)
-  each_use_fits values rows depth nodes workers others no_explain no_cover no_job no_states p a found none fit = by (among p explore_built.rules a found)
+  each_use_fits values rows depth nodes workers others no_explain no_cover no_job no_states no_at_once p a found none fit = by (among p explore_built.rules a found)
     where
       at : (x : Rule) → a ≡ x → (use_fault false x values rows ≡ [] → AllFit (used x values rows)) → AllFit (used a values rows)
       at x is kept = subst (λ y. use_fault false y values rows ≡ [] → AllFit (used y values rows)) (sym is) kept none
@@ -182,8 +183,9 @@ module _ (id : Text) (low high : ℕ) where
       by (inr (inr (inr (inr (inr (inr (inr (inr (inl is))))))))) = at _ is (λ none. other_used_fits (codes "cover") AsWritten _ rows no_cover fit)
       by (inr (inr (inr (inr (inr (inr (inr (inr (inr (inl is)))))))))) = at _ is (λ none. other_used_fits (codes "job") AsWritten _ rows no_job fit)
       by (inr (inr (inr (inr (inr (inr (inr (inr (inr (inr (inl is))))))))))) = at _ is (λ none. other_used_fits (codes "states") AsWritten _ rows no_states fit)
-      by (inr (inr (inr (inr (inr (inr (inr (inr (inr (inr (inr (inl is)))))))))))) = at _ is (λ none. fit)
-      by (inr (inr (inr (inr (inr (inr (inr (inr (inr (inr (inr (inr nothing)))))))))))) = absurd nothing
+      by (inr (inr (inr (inr (inr (inr (inr (inr (inr (inr (inr (inl is)))))))))))) = at _ is (λ none. other_used_fits (codes "at-once") AsWritten _ rows no_at_once fit)
+      by (inr (inr (inr (inr (inr (inr (inr (inr (inr (inr (inr (inr (inl is))))))))))))) = at _ is (λ none. fit)
+      by (inr (inr (inr (inr (inr (inr (inr (inr (inr (inr (inr (inr (inr nothing))))))))))))) = absurd nothing
 
   -- and so does each of `check`
   each_check_use_fits : (values : List Text) (rows : List Row) → (use_fault false depth_built values rows ≡ [] → AllFit (used depth_built values rows))
@@ -224,9 +226,9 @@ module _ (id : Text) (low high : ℕ) where
   -- and so does each default of `explore`
   defaults_fit : (rows : List Row) → ((rows : List Row) → AllFit rows → AllFit (with_values (codes "nodes") AsWritten DefaultValue (codes "1000000" ∷ []) rows))
       → ((rows : List Row) → AllFit rows → AllFit (with_values (codes "workers") AsWritten DefaultValue (codes "1" ∷ []) rows))
-      → AreOthers id → bytes_eq (codes "explain") id ≡ false → bytes_eq (codes "cover") id ≡ false → bytes_eq (codes "states") id ≡ false → AllFit rows
+      → AreOthers id → bytes_eq (codes "explain") id ≡ false → bytes_eq (codes "cover") id ≡ false → bytes_eq (codes "states") id ≡ false → bytes_eq (codes "at-once") id ≡ false → AllFit rows
       → AllFit (fold with_default rows explore_built.rules)
-  defaults_fit rows nodes workers others no_explain no_cover no_states fit =
+  defaults_fit rows nodes workers others no_explain no_cover no_states no_at_once fit =
       let one = kept_default depth_built rows (λ fit. fit) fit in
       let two = kept_default nodes_built _ (nodes _) one in
       let three = kept_default workers_built _ (workers _) two in
@@ -238,7 +240,8 @@ module _ (id : Text) (low high : ℕ) where
       let nine = flag_default (codes "cover") _ no_cover eight in
       let ten = kept_default (filled job_rule) _ (λ fit. fit) nine in
       let eleven = flag_default (codes "states") _ no_states ten in
-      kept_default (filled help_rule) _ (λ fit. fit) eleven
+      let twelve = flag_default (codes "at-once") _ no_at_once eleven in
+      kept_default (filled help_rule) _ (λ fit. fit) twelve
 
   -- and of `check`
   check_defaults_fit : (rows : List Row) → AreOthers id → AllFit rows → AllFit (fold with_default rows check_built.rules)
@@ -286,9 +289,9 @@ pub depth_fits : (level : Level) (words : List Text) (text : Text) → level_fau
 depth_fits exploring words text =
     left_fits (codes "depth") 0 400 explore_built words text
     (λ p a values rows found none fit. each_use_fits (codes "depth") 0 400 values rows (λ none. used_fits (codes "depth") 0 400 _ _ _ rows none fit)
-    (λ none. other_used_fits (codes "depth") 0 400 (codes "nodes") AsWritten _ rows refl fit) (λ none. other_used_fits (codes "depth") 0 400 (codes "workers") AsWritten _ rows refl fit) depth_apart refl refl refl refl p a found none fit)
+    (λ none. other_used_fits (codes "depth") 0 400 (codes "nodes") AsWritten _ rows refl fit) (λ none. other_used_fits (codes "depth") 0 400 (codes "workers") AsWritten _ rows refl fit) depth_apart refl refl refl refl refl p a found none fit)
     (λ rows fit. defaults_fit (codes "depth") 0 400 rows (λ rows fit. others_fit (codes "depth") 0 400 (codes "nodes") AsWritten DefaultValue _ rows refl fit)
-    (λ rows fit. others_fit (codes "depth") 0 400 (codes "workers") AsWritten DefaultValue _ rows refl fit) depth_apart refl refl refl fit)
+    (λ rows fit. others_fit (codes "depth") 0 400 (codes "workers") AsWritten DefaultValue _ rows refl fit) depth_apart refl refl refl refl fit)
 depth_fits checking words text =
     left_fits (codes "depth") 0 400 check_built words text
     (λ p a values rows found none fit. each_check_use_fits (codes "depth") 0 400 values rows (λ none. used_fits (codes "depth") 0 400 _ _ _ rows none fit) depth_apart p a found none fit)
@@ -305,15 +308,15 @@ pub nodes_fits : (words : List Text) (text : Text) → level_fault explore_built
 nodes_fits words text =
     left_fits (codes "nodes") 1 10000000 explore_built words text
     (λ p a values rows found none fit. each_use_fits (codes "nodes") 1 10000000 values rows (λ none. other_used_fits (codes "nodes") 1 10000000 (codes "depth") AsWritten _ rows refl fit)
-    (λ none. used_fits (codes "nodes") 1 10000000 _ _ _ rows none fit) (λ none. other_used_fits (codes "nodes") 1 10000000 (codes "workers") AsWritten _ rows refl fit) nodes_apart refl refl refl refl p a found none fit)
+    (λ none. used_fits (codes "nodes") 1 10000000 _ _ _ rows none fit) (λ none. other_used_fits (codes "nodes") 1 10000000 (codes "workers") AsWritten _ rows refl fit) nodes_apart refl refl refl refl refl p a found none fit)
     (λ rows fit. defaults_fit (codes "nodes") 1 10000000 rows (λ rows fit. own_fit (codes "nodes") 1 10000000 AsWritten DefaultValue _ rows refl refl fit)
-    (λ rows fit. others_fit (codes "nodes") 1 10000000 (codes "workers") AsWritten DefaultValue _ rows refl fit) nodes_apart refl refl refl fit)
+    (λ rows fit. others_fit (codes "nodes") 1 10000000 (codes "workers") AsWritten DefaultValue _ rows refl fit) nodes_apart refl refl refl refl fit)
 
 pub workers_fits : (words : List Text) (text : Text) → level_fault explore_built [] nothing_held words false [] ≡ [] → one_of (codes "workers") (rows_after explore_built.rules [] words) ≡ Some text
     → is_unsigned_in 1 16 text ≡ true
 workers_fits words text =
     left_fits (codes "workers") 1 16 explore_built words text
     (λ p a values rows found none fit. each_use_fits (codes "workers") 1 16 values rows (λ none. other_used_fits (codes "workers") 1 16 (codes "depth") AsWritten _ rows refl fit)
-    (λ none. other_used_fits (codes "workers") 1 16 (codes "nodes") AsWritten _ rows refl fit) (λ none. used_fits (codes "workers") 1 16 _ _ _ rows none fit) workers_apart refl refl refl refl p a found none fit)
+    (λ none. other_used_fits (codes "workers") 1 16 (codes "nodes") AsWritten _ rows refl fit) (λ none. used_fits (codes "workers") 1 16 _ _ _ rows none fit) workers_apart refl refl refl refl refl p a found none fit)
     (λ rows fit. defaults_fit (codes "workers") 1 16 rows (λ rows fit. others_fit (codes "workers") 1 16 (codes "nodes") AsWritten DefaultValue _ rows refl fit)
-    (λ rows fit. own_fit (codes "workers") 1 16 AsWritten DefaultValue _ rows refl refl fit) workers_apart refl refl refl fit)
+    (λ rows fit. own_fit (codes "workers") 1 16 AsWritten DefaultValue _ rows refl refl fit) workers_apart refl refl refl refl fit)

@@ -12,7 +12,7 @@ use Rattle.clap.specs.declared.builder.value_parser.Reading.{Reading}
 use Rattle.clap.specs.declared.builder.value_parser.Reading.TheVariants.{AsWritten}
 use Rattle.clap.specs.declared.parser.matches.ValueSource.{ValueSource}
 use Rattle.clap.specs.declared.parser.matches.ValueSource.TheVariants.{CommandLine, DefaultValue}
-use Rattle.program_words.specs.Words.{Given, depth, nodes, workers, allow_deadlock, strict_access, explain, cover, main_deadlock, normal, at, job, states, depths_of, nodes_of, workers_of, texts_of, ats_of, jobs_of, is_allow_deadlock, is_main_deadlock, is_strict_access, is_explain, is_cover, is_states}
+use Rattle.program_words.specs.Words.{Given, depth, nodes, workers, allow_deadlock, strict_access, explain, cover, main_deadlock, normal, at, job, states, at_once, depths_of, nodes_of, workers_of, texts_of, ats_of, jobs_of, is_allow_deadlock, is_main_deadlock, is_strict_access, is_explain, is_cover, is_states, is_at_once}
 use Rattle.program_words.specs.inside.CommandLine.{Level, Splitter, built_of, checking, exploring, splitting}
 use Rattle.program_words.specs.inside.Found.{texts_in}
 
@@ -41,6 +41,7 @@ id_of cover = codes "cover"
 id_of (at n) = codes "at"
 id_of (job line) = codes "job"
 id_of states = codes "states"
+id_of at_once = codes "at-once"
 
 abbrev pub value_of : Given → Text
 value_of (depth n) = decimal n
@@ -55,6 +56,7 @@ value_of cover = codes "true"
 value_of (at n) = decimal n
 value_of (job line) = line
 value_of states = codes "true"
+value_of at_once = codes "true"
 
 -- the row of an option that is given
 abbrev pub row_of : Given → Row
@@ -159,6 +161,7 @@ put_apart id rows cover differs = row_at-more id rows (row_of cover) differs
 put_apart id rows (at n) differs = row_at-more id rows (row_of (at n)) differs
 put_apart id rows (job line) differs = row_at-more id rows (row_of (job line)) differs
 put_apart id rows states differs = row_at-more id rows (row_of states) differs
+put_apart id rows at_once differs = row_at-more id rows (row_of at_once) differs
 
 put_row : (id : Text) (rows : List Row) (option : Given) → bytes_eq (codes "normal") id ≡ false → row_at id (put rows option) ≡ row_at id (rows ++ row_of option ∷ [])
 put_row id rows (normal text) differs =
@@ -174,6 +177,7 @@ put_row id rows cover differs = refl
 put_row id rows (at n) differs = refl
 put_row id rows (job line) differs = refl
 put_row id rows states differs = refl
+put_row id rows at_once differs = refl
 
 -- the row of an option that is not `--normal` is that of the first one
 put_rows : (id : Text) (rows : List Row) (given : List Given) → bytes_eq (codes "normal") id ≡ false → row_at id (put_all rows given) ≡ row_at id (rows ++ map row_of given)
@@ -223,6 +227,7 @@ put_texts rows (cover ∷ rest) = other_put rows cover rest refl (put_texts (put
 put_texts rows (at n ∷ rest) = other_put rows (at n) rest refl (put_texts (put rows (at n)) rest)
 put_texts rows (job line ∷ rest) = other_put rows (job line) rest refl (put_texts (put rows (job line)) rest)
 put_texts rows (states ∷ rest) = other_put rows states rest refl (put_texts (put rows states) rest)
+put_texts rows (at_once ∷ rest) = other_put rows at_once rest refl (put_texts (put rows at_once) rest)
 
 -- all texts that are given are in the rows, in their order
 pub given_texts : (given : List Given) → texts_in (put_all [] given) ≡ texts_of given
@@ -242,6 +247,7 @@ depth_row (normal text ∷ rest) = depth_row rest
 depth_row (at n ∷ rest) = depth_row rest
 depth_row (job line ∷ rest) = depth_row rest
 depth_row (states ∷ rest) = depth_row rest
+depth_row (at_once ∷ rest) = depth_row rest
 
 pub nodes_row : (given : List Given) → row_at (codes "nodes") (map row_of given) ≡ option_map (λ n. row_of (nodes n)) (slice_get (nodes_of given) 0)
 nodes_row [] = refl
@@ -257,6 +263,7 @@ nodes_row (normal text ∷ rest) = nodes_row rest
 nodes_row (at n ∷ rest) = nodes_row rest
 nodes_row (job line ∷ rest) = nodes_row rest
 nodes_row (states ∷ rest) = nodes_row rest
+nodes_row (at_once ∷ rest) = nodes_row rest
 
 pub workers_row : (given : List Given) → row_at (codes "workers") (map row_of given) ≡ option_map (λ n. row_of (workers n)) (slice_get (workers_of given) 0)
 workers_row [] = refl
@@ -272,6 +279,7 @@ workers_row (normal text ∷ rest) = workers_row rest
 workers_row (at n ∷ rest) = workers_row rest
 workers_row (job line ∷ rest) = workers_row rest
 workers_row (states ∷ rest) = workers_row rest
+workers_row (at_once ∷ rest) = workers_row rest
 
 pub allow_deadlock_row : (given : List Given) → row_at (codes "allow-deadlock") (map row_of given) ≡ cond (list_any is_allow_deadlock given) (Some (row_of allow_deadlock)) None
 allow_deadlock_row [] = refl
@@ -287,6 +295,7 @@ allow_deadlock_row (normal text ∷ rest) = allow_deadlock_row rest
 allow_deadlock_row (at n ∷ rest) = allow_deadlock_row rest
 allow_deadlock_row (job line ∷ rest) = allow_deadlock_row rest
 allow_deadlock_row (states ∷ rest) = allow_deadlock_row rest
+allow_deadlock_row (at_once ∷ rest) = allow_deadlock_row rest
 
 pub main_deadlock_row : (given : List Given) → row_at (codes "main-deadlock") (map row_of given) ≡ cond (list_any is_main_deadlock given) (Some (row_of main_deadlock)) None
 main_deadlock_row [] = refl
@@ -302,6 +311,7 @@ main_deadlock_row (normal text ∷ rest) = main_deadlock_row rest
 main_deadlock_row (at n ∷ rest) = main_deadlock_row rest
 main_deadlock_row (job line ∷ rest) = main_deadlock_row rest
 main_deadlock_row (states ∷ rest) = main_deadlock_row rest
+main_deadlock_row (at_once ∷ rest) = main_deadlock_row rest
 
 pub strict_access_row : (given : List Given) → row_at (codes "strict-access") (map row_of given) ≡ cond (list_any is_strict_access given) (Some (row_of strict_access)) None
 strict_access_row [] = refl
@@ -317,6 +327,7 @@ strict_access_row (normal text ∷ rest) = strict_access_row rest
 strict_access_row (at n ∷ rest) = strict_access_row rest
 strict_access_row (job line ∷ rest) = strict_access_row rest
 strict_access_row (states ∷ rest) = strict_access_row rest
+strict_access_row (at_once ∷ rest) = strict_access_row rest
 
 pub explain_row : (given : List Given) → row_at (codes "explain") (map row_of given) ≡ cond (list_any is_explain given) (Some (row_of explain)) None
 explain_row [] = refl
@@ -332,6 +343,7 @@ explain_row (normal text ∷ rest) = explain_row rest
 explain_row (at n ∷ rest) = explain_row rest
 explain_row (job line ∷ rest) = explain_row rest
 explain_row (states ∷ rest) = explain_row rest
+explain_row (at_once ∷ rest) = explain_row rest
 
 pub cover_row : (given : List Given) → row_at (codes "cover") (map row_of given) ≡ cond (list_any is_cover given) (Some (row_of cover)) None
 cover_row [] = refl
@@ -347,6 +359,7 @@ cover_row (normal text ∷ rest) = cover_row rest
 cover_row (at n ∷ rest) = cover_row rest
 cover_row (job line ∷ rest) = cover_row rest
 cover_row (states ∷ rest) = cover_row rest
+cover_row (at_once ∷ rest) = cover_row rest
 
 pub states_row : (given : List Given) → row_at (codes "states") (map row_of given) ≡ cond (list_any is_states given) (Some (row_of states)) None
 states_row [] = refl
@@ -362,6 +375,23 @@ states_row (normal text ∷ rest) = states_row rest
 states_row (at n ∷ rest) = states_row rest
 states_row (job line ∷ rest) = states_row rest
 states_row (cover ∷ rest) = states_row rest
+states_row (at_once ∷ rest) = states_row rest
+
+pub at_once_row : (given : List Given) → row_at (codes "at-once") (map row_of given) ≡ cond (list_any is_at_once given) (Some (row_of at_once)) None
+at_once_row [] = refl
+at_once_row (at_once ∷ rest) = refl
+at_once_row (depth n ∷ rest) = at_once_row rest
+at_once_row (nodes n ∷ rest) = at_once_row rest
+at_once_row (workers n ∷ rest) = at_once_row rest
+at_once_row (allow_deadlock ∷ rest) = at_once_row rest
+at_once_row (strict_access ∷ rest) = at_once_row rest
+at_once_row (explain ∷ rest) = at_once_row rest
+at_once_row (main_deadlock ∷ rest) = at_once_row rest
+at_once_row (normal text ∷ rest) = at_once_row rest
+at_once_row (at n ∷ rest) = at_once_row rest
+at_once_row (job line ∷ rest) = at_once_row rest
+at_once_row (cover ∷ rest) = at_once_row rest
+at_once_row (states ∷ rest) = at_once_row rest
 
 pub at_option_row : (given : List Given) → row_at (codes "at") (map row_of given) ≡ option_map (λ n. row_of (at n)) (slice_get (ats_of given) 0)
 at_option_row [] = refl
@@ -377,6 +407,7 @@ at_option_row (main_deadlock ∷ rest) = at_option_row rest
 at_option_row (normal text ∷ rest) = at_option_row rest
 at_option_row (job line ∷ rest) = at_option_row rest
 at_option_row (states ∷ rest) = at_option_row rest
+at_option_row (at_once ∷ rest) = at_option_row rest
 
 pub job_row : (given : List Given) → row_at (codes "job") (map row_of given) ≡ option_map (λ line. row_of (job line)) (slice_get (jobs_of given) 0)
 job_row [] = refl
@@ -392,6 +423,7 @@ job_row (main_deadlock ∷ rest) = job_row rest
 job_row (normal text ∷ rest) = job_row rest
 job_row (at n ∷ rest) = job_row rest
 job_row (states ∷ rest) = job_row rest
+job_row (at_once ∷ rest) = job_row rest
 
 -- ---- the defaults
 
@@ -497,6 +529,9 @@ cover_left rows = all_left (codes "cover") (built_of exploring).rules rows
 
 pub states_left : (rows : List Row) → row_at (codes "states") (with_defaults exploring rows) ≡ row_or (codes "states") (codes "false") (row_at (codes "states") rows)
 states_left rows = all_left (codes "states") (built_of exploring).rules rows
+
+pub at_once_left : (rows : List Row) → row_at (codes "at-once") (with_defaults exploring rows) ≡ row_or (codes "at-once") (codes "false") (row_at (codes "at-once") rows)
+at_once_left rows = all_left (codes "at-once") (built_of exploring).rules rows
 
 -- the texts of `--normal` have no default
 pub normal_left : (level : Level) (rows : List Row) → texts_in (with_defaults level rows) ≡ texts_in rows

@@ -84,6 +84,7 @@ module _ (which : Splitter) (words : List Text) (given : List Given) (steps plac
     cover = omega (arith, says.no_cover);
     jobs = omega (arith, ap length says.no_job);
     states = omega (arith, says.no_states);
+    at_once = omega (arith, says.no_at_once);
   }
 
   -- the options of such a command, each once, except for `--normal`, and in its range
@@ -106,6 +107,7 @@ module _ (which : Splitter) (words : List Text) (given : List Given) (steps plac
       ats = omega (arith, ap length says.at);
       jobs = omega (arith, ap length says.no_job);
       states = omega (arith, says.no_states);
+      at_once = omega (arith, says.no_at_once);
     };
     lawful = split_lawful_by which given (subst (Each (λ n. n ≤ 400)) (sym says.depth) (says.in_range, tt)) (subst (Each (λ n. n ≤ 400)) (sym says.at) (says.at_in_range, tt)) none says.normal;
     place = place;

@@ -181,11 +181,11 @@ module _ (words : List Text) (given : List Given) (options : Options) (printed :
   explore_unread (inr (inl more)) (Explore found read prints) is = has_line (jobs_of given) more.0 (sym (explore_job words given options printed says) ∙ is.1.1.0)
   explore_unread (inr (inr tree)) (Explore found read prints) is =
       let reads = explore_reads words given options printed says (found, prints) is.0 in
-      states_unread (is_by_states options.search) printed.cover (jobs_of given) (ap is_by_states tree.0) tree.1
+      states_unread (is_by_states options.search) printed.cover (jobs_of given) tree.0 tree.1
       (sym (λ i. is_by_states (reads.0 i).search && (reads.1 i).cover) ∙ is.1.1.1) (sym (explore_job words given options printed says) ∙ is.1.1.0)
   explore_unread (inl bad) (ExploreJob found read line) is = explore_excuses_nothing (found, report_alone) is.0 read is.1.0 bad
   explore_unread (inr (inr tree)) (ExploreJob found read line) is =
-      true≢false (sym (ap is_by_states tree.0) ∙ sym (explore_search (found, report_alone) is.0) ∙ is.1.1.1)
+      true≢false (sym tree.0 ∙ sym (explore_search (found, report_alone) is.0) ∙ is.1.1.1)
   explore_unread (inr (inl more)) (ExploreJob found read line) is =
       let same : report_alone ≡ printed = (explore_reads words given options printed says (found, report_alone) is.0).1 in
       true≢false (sym more.1 ∙ sym (ap (λ (x : Printed). x.explained || x.cover) same))

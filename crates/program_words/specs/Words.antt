@@ -13,6 +13,7 @@ use Rattle.world_identities.specs.declared.flags.Flags.{Flags}
 use Rattle.tree_findings.specs.declared.options.Options.{Options}
 use Rattle.tree_findings.specs.declared.options.Search.{Search}
 use Rattle.tree_findings.specs.declared.options.Search.TheVariants.{ByTree, ByStates}
+use Rattle.tree_schedules.specs.declared.delivery.Delivery.TheVariants.{AnyTime, AtOnce}
 use Rattle.program_words.specs.declared.words.Printed.{Printed}
 use Rattle.program_words.specs.declared.words.Words.{Words}
 use Rattle.program_words.specs.declared.words.Words.TheVariants.{Replay, Explore, ExploreJob, Check, Jobs, Merge}
@@ -42,6 +43,7 @@ pub data Given : Type 0 where
   at : ℕ → Given
   job : (line : List ℕ) → Given
   states : Given
+  at_once : Given
 
 -- its words: a number is given by its decimal digits, a term by its text, and a job by its line
 abbrev pub words_of : Given → List (List ℕ)
@@ -57,6 +59,7 @@ words_of cover = codes "--cover" ∷ []
 words_of (at n) = codes "--at" ∷ decimal n ∷ []
 words_of (job line) = codes "--job" ∷ line ∷ []
 words_of states = codes "--states" ∷ []
+words_of at_once = codes "--at-once" ∷ []
 
 -- the words of one option after another
 abbrev pub words_of_all : List Given → List (List ℕ)
@@ -129,10 +132,21 @@ abbrev pub is_states : Given → Bool
 is_states states = true
 is_states _ = false
 
+-- whether it is the option that asks for signals to be delivered at once
+abbrev pub is_at_once : Given → Bool
+is_at_once at_once = true
+is_at_once _ = false
+
 -- whether the schedules are searched by states, in place of the tree
 abbrev pub is_by_states : Search → Bool
 is_by_states ByTree = false
-is_by_states ByStates = true
+is_by_states (ByStates delivery) = true
+
+-- the search is asked for where `--states` and `--at-once` are given so many times: each once or not at all, and with `--at-once` the search is by states, whether `--states` is given or not
+abbrev pub AsksSearch : (by_states prompt : ℕ) → Search → Type 0
+AsksSearch by_states prompt ByTree = (by_states ≡ 0) × (prompt ≡ 0)
+AsksSearch by_states prompt (ByStates AnyTime) = (by_states ≡ 1) × (prompt ≡ 0)
+AsksSearch by_states prompt (ByStates AtOnce) = (by_states ≤ 1) × (prompt ≡ 1)
 
 -- a number that may be given once, or else is the default
 abbrev pub IsGivenOr : ℕ → List ℕ → ℕ → Type 0
@@ -185,7 +199,7 @@ pub record AreWordsOfExplore (words : List (List ℕ)) (given : List Given) (opt
   pub cover : count_by is_cover given ≡ (if printed.cover then 1 else 0)
   pub job : length (jobs_of given) ≤ 1
   pub line : ArePlain (jobs_of given)
-  pub states : count_by is_states given ≡ (if is_by_states options.search then 1 else 0)
+  pub search : AsksSearch (count_by is_states given) (count_by is_at_once given) options.search
   pub no_at : ats_of given ≡ []
   pub in_range : AreInRange options
 
@@ -205,6 +219,7 @@ pub record AreWordsOfCheck (words : List (List ℕ)) (given : List Given) (steps
   pub no_at : ats_of given ≡ []
   pub no_job : jobs_of given ≡ []
   pub no_states : count_by is_states given ≡ 0
+  pub no_at_once : count_by is_at_once given ≡ 0
   pub in_range : steps ≤ 400
 
 -- the words are the name of the program, this command, which names one level of the tree, and these options in any order: `--depth` and `--at` once each, `--normal` any number of times, each of its flags once or not at all, and no option that is of `explore` alone
@@ -223,6 +238,7 @@ pub record AreWordsOfLevel (words : List (List ℕ)) (command : List ℕ) (given
   pub no_cover : count_by is_cover given ≡ 0
   pub no_job : jobs_of given ≡ []
   pub no_states : count_by is_states given ≡ 0
+  pub no_at_once : count_by is_at_once given ≡ 0
   pub in_range : steps ≤ 400
   pub at_in_range : place ≤ 400
 
@@ -284,7 +300,7 @@ AskMoreOfJob given printed = (length (jobs_of given) ≡ 1) × ((printed.explain
 
 -- a search by states is asked for, and with it what is of the tree: its cover, or a job of it
 abbrev pub AskTreeOfStates : List Given → Options → Printed → Type 0
-AskTreeOfStates given options printed = (options.search ≡ ByStates) × ((printed.cover ≡ true) ⊎ (length (jobs_of given) ≡ 1))
+AskTreeOfStates given options printed = (is_by_states options.search ≡ true) × ((printed.cover ≡ true) ⊎ (length (jobs_of given) ≡ 1))
 
 -- the words are those of `explore` except for what they excuse, what they print of a job, or what they ask of a search by states
 pub record IsNoExplore (words : List (List ℕ)) : Type 0 where

@@ -11,6 +11,7 @@ use clap::error::ErrorKind;
 use clap::{Arg, ArgAction, ArgMatches, Command, Error, value_parser};
 use std::alloc::Global;
 use tree_findings::{Options, Search};
+use tree_schedules::Delivery;
 use world_identities::Flags;
 
 /// The name of the program.
@@ -102,6 +103,11 @@ fn explore_command<'a>(alloc: Global) -> Result<Command<'a>, Error>
             alloc,
             "states",
             "Searches by states, level by level, in place of the tree",
+        ))?
+        .arg(flag(
+            alloc,
+            "at-once",
+            "Delivers signals at once, and searches by states",
         ))?;
     Ok(explore)
 }
@@ -355,8 +361,12 @@ fn found_flags(matches: &ArgMatches<'_>) -> Flags
 fn found_search(matches: &ArgMatches<'_>) -> Search
     ensures { IsSearchOf (rows_of (found_of matches.now)) result }
 {
-    if matches.get_flag("states") {
-        Search::ByStates
+    let at_once = matches.get_flag("at-once");
+    let states = matches.get_flag("states");
+    if at_once {
+        Search::ByStates(Delivery::AtOnce)
+    } else if states {
+        Search::ByStates(Delivery::AnyTime)
     } else {
         Search::ByTree
     }

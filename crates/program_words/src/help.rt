@@ -48,8 +48,10 @@ not count as an error.
 A LINE is one that `jobs` prints for this module and depth. With --job only the
 nodes of that job are visited: its own node, and those below it.
 With --states each state is expanded once, and --nodes limits the states. The
-first line of the report then tells how many there are. --states is not for
---cover or --job, which are of the tree.
+first line of the report then tells how many there are. --at-once searches so
+too, through the schedules in which signals are delivered at once: no process
+takes a turn while a delivery is enabled, and the first delivery comes next.
+--states and --at-once are not for --cover or --job, which are of the tree.
 
 Statuses:
   0   all nodes were visited, and none shows an error

@@ -27,7 +27,8 @@ use world_identities::Flags;
 const MORE_OF_JOB: &str = "the argument '--job' cannot be used with '--explain' or '--cover'";
 
 // What is said where a search by states is asked for what is of the tree.
-const TREE_OF_STATES: &str = "the argument '--states' cannot be used with '--cover' or '--job'";
+const TREE_OF_STATES: &str =
+    "the arguments '--states' and '--at-once' cannot be used with '--cover' or '--job'";
 
 /// What an exploration prints with its report.
 #[derive(Clone, Copy, Debug, PartialEq, Eq)]
@@ -63,7 +64,8 @@ pub enum Words {
 /// The parser's error where the words are not those of a command, where they ask for help, and where
 /// there was no memory; an error of the same form where a text of `--normal` is that of no term, where
 /// there are more than 16, where both flags of deadlocks are given, where a job is given with `--explain`
-/// or `--cover`, where `--states` is given with `--cover` or a job, and where `--at` is greater than `--depth`.
+/// or `--cover`, where `--states` or `--at-once` is given with `--cover` or a job, and where `--at` is greater than
+/// `--depth`.
 pub fn read_words<S: AsStr>(alloc: Global, words: &[S]) -> Result<Words, Error>
     ensures replay { (schedule : List ℕ) → IsReplay (map S.text words.now) schedule → AreReadAs (AsksReplay schedule) result }
     ensures explore { (options : Options) (excuses : Excused) (printed : Printed) → IsExplore (map S.text words.now) options excuses printed
@@ -146,7 +148,7 @@ fn asks_tree_of_states(search: Search, cover: bool, job: Option<&str>) -> bool
 {
     match search {
         Search::ByTree => false,
-        Search::ByStates => cover || job.is_some(),
+        Search::ByStates(_) => cover || job.is_some(),
     }
 }
 

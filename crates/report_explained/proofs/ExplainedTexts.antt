@@ -17,8 +17,8 @@ use Rattle.world_replay.specs.Replay.{reached}
 
 -- by what was found
 pub report-findings : (visited : Visited) (a : Program) (depth : ℕ) (x : Excuses) (o : Outcome) (f : coverage.Findings) → f ≡ findings_in o
-    → text_of_explained_report_by visited a depth x o ≡ explained_first_line_by visited depth o ++ (explained_findings a x f ++ (text_of_counts x f ++ explained_last_line depth x o))
-report-findings visited a depth x o f is = sym (ap (λ w. explained_first_line_by visited depth o ++ (explained_findings a x w ++ (text_of_counts x w ++ explained_last_line depth x o))) is)
+    → text_of_explained_report_by visited a depth x o ≡ explained_first_line_by visited depth o ++ (explained_findings a x f ++ (text_of_counts x f ++ explained_last_line visited depth x o))
+report-findings visited a depth x o f is = sym (ap (λ w. explained_first_line_by visited depth o ++ (explained_findings a x w ++ (text_of_counts x w ++ explained_last_line visited depth x o))) is)
 
 -- by what the errors and the refusals are
 pub findings-lists : (a : Program) (x : Excuses) (f : coverage.Findings) (es rs : List coverage.Finding) → es ≡ f.errors → rs ≡ f.refusals

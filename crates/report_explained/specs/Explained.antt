@@ -73,7 +73,7 @@ explained_findings a x findings =
 -- what an exploration with schedules of at most so many steps results in
 abbrev pub text_of_explained_report_by : Visited → Program → ℕ → Excuses → Outcome → List ℕ
 text_of_explained_report_by visited a depth x outcome =
-    explained_first_line_by visited depth outcome ++ (explained_findings a x (findings_in outcome) ++ (text_of_counts x (findings_in outcome) ++ explained_last_line depth x outcome))
+    explained_first_line_by visited depth outcome ++ (explained_findings a x (findings_in outcome) ++ (text_of_counts x (findings_in outcome) ++ explained_last_line visited depth x outcome))
 
 -- of the tree
 abbrev pub text_of_explained_report : Program → ℕ → Excuses → Outcome → List ℕ

@@ -34,10 +34,11 @@ pub fn explanations_are_of_runs()
 
 /// Writes the explained report of an exploration with schedules of at most so many steps. Its first line says what it
 /// went through, and also at how many nodes or states the depth cuts off what could follow. Its last one says which
-/// schedules the result is about. The errors that count come first, then the refusals, and then the errors that are
-/// taken as normal. Below each finding come the lines of its schedule, each after four blanks: they come from a new
-/// world of the module, in which the steps are taken one after another, up to one that is not enabled. Below these
-/// comes, at a deadlock, a line for each of its processes, with the messages in its mailbox.
+/// schedules the result is about: all, all that deliver signals at once, or those up to the depth. The errors that
+/// count come first, then the refusals, and then the errors that are taken as normal. Below each finding come the lines
+/// of its schedule, each after four blanks: they come from a new world of the module, in which the steps are taken one
+/// after another, up to one that is not enabled. Below these comes, at a deadlock, a line for each of its processes,
+/// with the messages in its mailbox.
 ///
 /// # Errors
 ///
@@ -58,7 +59,7 @@ pub fn write_explained_report<W: Sink>(
     write_explained_first_line(sink, visited, depth, outcome)?;
     write_explained_findings(alloc, program, excuses, findings, sink)?;
     write_counts(sink, excuses, findings)?;
-    write_explained_last_line(sink, depth, excuses, outcome)?;
+    write_explained_last_line(sink, visited, depth, excuses, outcome)?;
     Ok(())
 }
 

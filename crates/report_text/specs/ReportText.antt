@@ -4,6 +4,8 @@ use Rattle.std.specs.Fmt.{decimal}
 use Rattle.term_core.specs.Text.{text_of_schedule}
 use Rattle.tree_coverage.specs.Findings.{Finding, Findings}
 use Rattle.tree_excuses.specs.Excuses.{Excuses, are_any, counted, taken}
+use Rattle.tree_schedules.specs.declared.delivery.Delivery.{Delivery}
+use Rattle.tree_schedules.specs.declared.delivery.Delivery.TheVariants.{AnyTime, AtOnce}
 use Rattle.tree_findings.specs.declared.extent.Extent.{Extent}
 use Rattle.tree_findings.specs.declared.outcome.Cause.{Cause}
 use Rattle.tree_findings.specs.declared.outcome.Cause.TheVariants.{NodeLimit, Memory}
@@ -17,6 +19,21 @@ use Rattle.report_text.specs.IdentityText.{text_of_identity}
 abbrev pub findings_in : Outcome → Findings
 findings_in (Complete findings extent) = findings
 findings_in (Incomplete cause findings) = findings
+
+-- ---- which schedules the report is about
+
+-- when signals are delivered in them: in those of the tree at any time
+abbrev pub delivery_in : Visited → Delivery
+delivery_in Nodes = AnyTime
+delivery_in (States delivery whole_to) = delivery
+
+-- the words for the schedules that deliver signals then
+abbrev pub schedules_by : Delivery → List ℕ
+schedules_by AnyTime = codes "schedules"
+schedules_by AtOnce = codes "prompt schedules"
+
+abbrev pub schedules_told : Visited → List ℕ
+schedules_told visited = schedules_by (delivery_in visited)
 
 -- ---- the first line
 
@@ -42,19 +59,20 @@ text_of_states_cause Memory = codes "memory"
 abbrev pub text_of_states : ℕ → List ℕ
 text_of_states states = codes "states " ++ (decimal states ++ codes ", complete")
 
--- that a search of states stopped before its end, why, and of how many steps at most all schedules were followed by then
-abbrev pub text_of_incomplete_states : ℕ → Cause → List ℕ
-text_of_incomplete_states whole_to cause = codes "incomplete: " ++ (text_of_states_cause cause ++ (codes "; all schedules to depth " ++ decimal whole_to))
+-- that a search of states stopped before its end, why, and of how many steps at most all schedules that deliver signals so were followed by then
+abbrev pub text_of_incomplete_states : Delivery → ℕ → Cause → List ℕ
+text_of_incomplete_states delivery whole_to cause =
+    codes "incomplete: " ++ (text_of_states_cause cause ++ (codes "; all " ++ (schedules_by delivery ++ (codes " to depth " ++ decimal whole_to))))
 
 -- that all were visited, and how many they are
 abbrev pub text_of_complete_by : Visited → ℕ → List ℕ
 text_of_complete_by Nodes number = text_of_nodes number
-text_of_complete_by (States whole_to) number = text_of_states number
+text_of_complete_by (States delivery whole_to) number = text_of_states number
 
--- that it stopped before its end, and why; of states also, of how many steps at most all schedules were followed by then
+-- that it stopped before its end, and why; of states also, of how many steps at most all schedules that deliver signals so were followed by then
 abbrev pub text_of_incomplete_by : Visited → Cause → List ℕ
 text_of_incomplete_by Nodes cause = text_of_incomplete cause
-text_of_incomplete_by (States whole_to) cause = text_of_incomplete_states whole_to cause
+text_of_incomplete_by (States delivery whole_to) cause = text_of_incomplete_states delivery whole_to cause
 
 -- how far the exploration came
 abbrev pub text_of_extent_by : Visited → Outcome → List ℕ
@@ -153,13 +171,17 @@ explained_first_line depth outcome = explained_first_line_by Nodes depth outcome
 abbrev pub text_of_depth_reached : ℕ → List ℕ
 text_of_depth_reached depth = codes " to depth " ++ decimal depth
 
--- which schedules the result is about: all, where the tree is cut at no node, and else those up to the depth
-abbrev pub text_of_reach : ℕ → Extent → List ℕ
-text_of_reach depth extent = if extent.cut == 0 then codes ", all schedules" else text_of_depth_reached depth
+-- that it is about all schedules, or all that are prompt
+abbrev pub text_of_all_reached : Visited → List ℕ
+text_of_all_reached visited = codes ", all " ++ schedules_told visited
 
-abbrev pub explained_result : ℕ → Excuses → Outcome → List ℕ
-explained_result depth x (Complete findings extent) = complete_result (counted x findings.errors) ++ text_of_reach depth extent
-explained_result depth x (Incomplete cause findings) = codes "incomplete"
+-- which schedules the result is about: all, where the depth cuts off nothing, and else those up to the depth
+abbrev pub text_of_reach : Visited → ℕ → Extent → List ℕ
+text_of_reach visited depth extent = if extent.cut == 0 then text_of_all_reached visited else text_of_depth_reached depth
 
-abbrev pub explained_last_line : ℕ → Excuses → Outcome → List ℕ
-explained_last_line depth x outcome = codes "result: " ++ (explained_result depth x outcome ++ codes "\n")
+abbrev pub explained_result : Visited → ℕ → Excuses → Outcome → List ℕ
+explained_result visited depth x (Complete findings extent) = complete_result (counted x findings.errors) ++ text_of_reach visited depth extent
+explained_result visited depth x (Incomplete cause findings) = codes "incomplete"
+
+abbrev pub explained_last_line : Visited → ℕ → Excuses → Outcome → List ℕ
+explained_last_line visited depth x outcome = codes "result: " ++ (explained_result visited depth x outcome ++ codes "\n")

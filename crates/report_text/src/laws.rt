@@ -1,10 +1,13 @@
 // Laws of reports.
 ghost use Rattle.report_text.specs.Clean.{LastLinesSayIt};
-ghost use Rattle.report_text.specs.FirstLines.{CutStatesAreCounted, NodesAreCounted, StateLimitIsTold, StatesAreCounted, StatesTakeMemory, StopIsToldAlike};
+ghost use Rattle.report_text.specs.FirstLines.{CutStatesAreCounted, NodesAreCounted, PromptStatesAreCounted, PromptStopIsTold, PromptStopIsToldAlike, StateLimitIsTold, StatesAreCounted, StatesTakeMemory, StopIsToldAlike};
+ghost use Rattle.report_text.specs.LastLines.{CutIsToDepth, ErrorsAreOfAll, ErrorsAreOfPrompt, StatesAreOfAll, StatesAreOfPrompt, TreeIsOfAll};
 ghost use Rattle.report_text.specs.NoExcuses.{NoExcusesTellNothing};
 
-/// Whatever is excused, the last line of an explained report is `result: clean, all schedules` exactly where all nodes were
-/// visited, none shows an error that counts, and the tree is cut at none.
+/// Whatever is excused, the last line of an explained report is `result: clean, all schedules` exactly where signals were
+/// delivered at any time, all nodes or states were visited, none shows an error that counts, and the depth cuts off
+/// nothing; and it is `result: clean, all prompt schedules` exactly where they were delivered at once, and all the rest
+/// is so.
 pub fn last_lines_say_it()
     ensures { LastLinesSayIt }
 {}
@@ -22,4 +25,17 @@ pub fn first_lines_are_so()
     ensures memory { StatesTakeMemory }
     ensures cut { CutStatesAreCounted }
     ensures stop { StopIsToldAlike }
+    ensures prompt { PromptStatesAreCounted }
+    ensures prompt_stop { PromptStopIsTold }
+    ensures prompt_alike { PromptStopIsToldAlike }
+{}
+
+/// Last lines of explained reports, of all schedules and of prompt ones, are what was worked out by hand.
+pub fn last_lines_are_so()
+    ensures tree { TreeIsOfAll }
+    ensures states { StatesAreOfAll }
+    ensures errors { ErrorsAreOfAll }
+    ensures prompt { StatesAreOfPrompt }
+    ensures prompt_errors { ErrorsAreOfPrompt }
+    ensures cut { CutIsToDepth }
 {}

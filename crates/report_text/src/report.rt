@@ -92,7 +92,7 @@ pub(crate) fn write_complete_by<W: Sink>(
 }
 
 /// Writes that the exploration stopped before its end, and why; of states also, of how many steps at most all schedules
-/// were followed by then.
+/// that deliver signals so were followed by then.
 pub(crate) fn write_incomplete_by<W: Sink>(
     sink: &mut W,
     visited: Visited,
@@ -103,7 +103,9 @@ pub(crate) fn write_incomplete_by<W: Sink>(
 {
     match visited {
         Visited::Nodes => write_incomplete(sink, cause),
-        Visited::States { whole_to } => write_incomplete_states(sink, whole_to, cause),
+        Visited::States { delivery, whole_to } => {
+            write_incomplete_states(sink, delivery, whole_to, cause)
+        }
     }
 }
 

@@ -3,7 +3,7 @@ use Rattle.std.proofs.Common.{◌≡◌, inl, inr, ℕ, ◌+◌, List, [], ◌�
 use Rattle.std.proofs.lemmas.List.{append-nil}
 use Rattle.std.specs.List.{AllByRecursion}
 use Rattle.search_levels.specs.Arrivals.{AreArrivals, IsArrival}
-use Rattle.search_levels.specs.inside.Expanding.{Arrives, ArrivesAt, Expands, on_by}
+use Rattle.search_levels.specs.inside.Expanding.{Arrives, ArrivesAt, Expands, MayArrive, on_by}
 use Rattle.search_levels.specs.inside.Levels.{AreAt, IsAt, IsCovered, Keeps, Puts, PutsAt}
 use Rattle.search_levels.specs.inside.Paths.{schedule_in}
 use Rattle.search_levels.specs.declared.arrival.Arrival.{Arrival}
@@ -11,9 +11,11 @@ use Rattle.search_levels.specs.declared.path.Path.{Path}
 use Rattle.search_levels.specs.declared.visit.Visit.{Visit}
 use Rattle.search_levels.proofs.Placed.{all_front, all_have, all_last}
 use Rattle.tree_coverage.specs.Findings.{Findings, findings_among}
-use Rattle.tree_coverage.proofs.Instance.{choice_laws, take}
-use Rattle.tree_coverage.proofs.Lists.{Source, among_append, from_theory, source}
+use Rattle.tree_coverage.proofs.Lists.{Source, among_append, among_map, source}
+use Rattle.tree_schedules.proofs.Delivering.{delivers_more, run_more}
+use Rattle.tree_schedules.specs.Deliveries.{DeliversBy, steps_by}
 use Rattle.tree_schedules.specs.StandIns.{IsUpTo}
+use Rattle.tree_schedules.specs.declared.delivery.Delivery.{Delivery}
 use Rattle.tree_findings.specs.Laws.{AddsSchedule}
 use Rattle.world_identities.specs.Identities.{identity_in}
 use Rattle.world_model.specs.Names.{IsAmong}
@@ -21,18 +23,12 @@ use Rattle.world_model.specs.Shown.{Flags, shown}
 use Rattle.term_core.specs.declared.step.Step.{Step}
 use Rattle.world_model.specs.Events.{Event, History}
 use Rattle.world_model.specs.Requests.{Program}
-use Rattle.world_model.specs.Run.{enabled_steps, extended, next_event, run, run_from}
+use Rattle.world_model.specs.Run.{extended, next_event, run, run_from}
 
 -- ---- runs of one more step
 
 some_is : {X : Type 0} {x y : X} → Some x ≡ Some y → x ≡ y
 some_is e = cc
-
-pub run_more : (a : Program) (o : Option History) (s : List Step) (x : Step) (h : History) (e : Event) → run_from a o s ≡ Some h → next_event a h x ≡ Some e → run_from a o (s ++ x ∷ []) ≡ Some (e ∷ h)
-run_more a None s x h e now next = absurd cc
-run_more a (Some g) [] x h e now next =
-    ap (λ k. run_from a (extended k (next_event a k x)) []) (some_is now) ∙ ap (λ o. run_from a (extended h o) []) next
-run_more a (Some g) (y ∷ s) x h e now next = run_more a (extended g (next_event a g y)) s x h e now next
 
 -- the last step of a run
 pub record LastStep (a : Program) (o : Option History) (s : List Step) (h : History) : Type 0 where
@@ -72,20 +68,26 @@ map_more : {X Y : Type 0} (f : X → Y) (xs : List X) (x : X) → map f (xs ++ x
 map_more f [] x = refl
 map_more f (y ∷ xs) x = ap (λ r. f y ∷ r) (map_more f xs x)
 
--- an enabled step is listed
-pub listed : (a : Program) (h : History) (x : Step) (e : Event) → next_event a h x ≡ Some e → IsAmong x (enabled_steps a h)
-listed a h x e next = from_theory (enabled_steps a h) x ((choice_laws a).has_enabled h x tt (take a h x e next))
+-- each of them is a step that may be taken
+pub all_may : {S : Type 0} (d : Delivery) (Agrees : S → Program → History → Type 0) (a : Program) (h : History) (rs : List (Arrival S)) → AreArrivals d Agrees a h rs → AllByRecursion (MayArrive d Agrees a h) rs
+all_may {S} d Agrees a h rs all = go rs all.each (λ r there. subst (IsAmong r.step) all.steps (among_map (λ r. r.step) rs r there))
+  where
+    go : (ys : List (Arrival S)) → AllByRecursion (IsArrival Agrees a h) ys → ((r : Arrival S) → IsAmong r ys → IsAmong r.step (steps_by d a h)) → AllByRecursion (MayArrive d Agrees a h) ys
+    go [] each may = tt
+    go (y ∷ ys) each may = ((each.0, may y (inl refl)), go ys each.1 (λ r there. may r (inr there)))
 
 module _ {S : Type 0} (Agrees : S → Program → History → Type 0) (flags : Flags) where
   -- ---- one step
 
-  pub arrives_at : (a : Program) (k : ℕ) (h : History) (visited : List (List Step)) (schedule : List Step) (r : Arrival S) (path : Path) (old new : List (Visit S)) (before after : Findings) → Puts Agrees old (record { path = path; state = r.state }) new → schedule_in path ≡ schedule ++ r.step ∷ [] → AddsSchedule flags (schedule_in path) (map identity_in r.shown.items) before after
-      → length schedule ≡ k → run a schedule ≡ Some h → IsArrival Agrees a h r → AreAt Agrees a (k + 1) old → before ≡ findings_among flags a visited → ArrivesAt Agrees flags a k visited schedule r old new after
-  arrives_at a k h visited schedule r path old new before after puts is adds len runs arr at found =
+  pub arrives_at : (d : Delivery) (a : Program) (k : ℕ) (h : History) (visited : List (List Step)) (schedule : List Step) (r : Arrival S) (path : Path) (old new : List (Visit S)) (before after : Findings) → Puts Agrees old (record { path = path; state = r.state }) new → schedule_in path ≡ schedule ++ r.step ∷ [] → AddsSchedule flags (schedule_in path) (map identity_in r.shown.items) before after
+      → length schedule ≡ k → DeliversBy d a schedule → run a schedule ≡ Some h → MayArrive d Agrees a h r → AreAt d Agrees a (k + 1) old → before ≡ findings_among flags a visited → ArrivesAt d Agrees flags a k visited schedule r old new after
+  arrives_at d a k h visited schedule r path old new before after puts is adds len delivers runs may at found =
+      let arr : IsArrival Agrees a h r = may.0 in
       let now : run a (schedule_in path) ≡ Some (arr.event ∷ h) = ap (run a) is ∙ run_more a (Some []) schedule r.step h arr.event runs arr.is_next in
       let visit : Visit S = record { path = path; state = r.state } in
-      let new_at : IsAt Agrees a (k + 1) visit = (ap length is ∙ longer schedule r.step ∙ ap (λ n. n + 1) len, arr.event ∷ h, now, arr.agrees) in
-      let p : PutsAt Agrees a (k + 1) old visit new = puts a (k + 1) at new_at in
+      let so : DeliversBy d a (schedule_in path) = subst (DeliversBy d a) (sym is) (delivers_more d a schedule r.step h delivers runs may.1) in
+      let new_at : IsAt d Agrees a (k + 1) visit = (ap length is ∙ longer schedule r.step ∙ ap (λ n. n + 1) len, so, arr.event ∷ h, now, arr.agrees) in
+      let p : PutsAt d Agrees a (k + 1) old visit new = puts d a (k + 1) at new_at in
       record {
         at = p.at;
         keeps = p.keeps;
@@ -97,18 +99,18 @@ module _ {S : Type 0} (Agrees : S → Program → History → Type 0) (flags : F
 
   module _ (schedule : List Step) (first : List (Visit S)) (begun : Findings) where
     -- what is after these steps is covered, and what is shown there is found
-    pub record ExpandsSoFar (a : Program) (k : ℕ) (visited : List (List Step)) (ys : List (Arrival S)) (level : List (Visit S)) (findings : Findings) : Type 0 where
-      pub at : AreAt Agrees a (k + 1) level
+    pub record ExpandsSoFar (d : Delivery) (a : Program) (k : ℕ) (visited : List (List Step)) (ys : List (Arrival S)) (level : List (Visit S)) (findings : Findings) : Type 0 where
+      pub at : AreAt d Agrees a (k + 1) level
       pub keeps : Keeps Agrees a first level
       pub covers : (r : Arrival S) → IsAmong r ys → (s : List Step) (g : History) → Agrees r.state a g → IsUpTo (schedule ++ r.step ∷ []) s → IsCovered Agrees a level s g
       pub found : findings ≡ findings_among flags a (visited ++ on_by schedule (map (λ r. r.step) ys))
 
     abbrev pub SoFar : List (Arrival S) → List (Visit S) → Findings → Type 0
     SoFar ys level findings =
-        (a : Program) (k : ℕ) (h : History) (visited : List (List Step)) → length schedule ≡ k → run a schedule ≡ Some h → AreAt Agrees a (k + 1) first → begun ≡ findings_among flags a visited → AllByRecursion (IsArrival Agrees a h) ys → ExpandsSoFar a k visited ys level findings
+        (d : Delivery) (a : Program) (k : ℕ) (h : History) (visited : List (List Step)) → length schedule ≡ k → DeliversBy d a schedule → run a schedule ≡ Some h → AreAt d Agrees a (k + 1) first → begun ≡ findings_among flags a visited → AllByRecursion (MayArrive d Agrees a h) ys → ExpandsSoFar d a k visited ys level findings
 
     pub so_far_none : SoFar [] first begun
-    so_far_none a k h visited len runs at found all = record {
+    so_far_none d a k h visited len delivers runs at found all = record {
       at = at;
       keeps = λ s g c. c;
       covers = λ r there. absurd there;
@@ -116,10 +118,10 @@ module _ {S : Type 0} (Agrees : S → Program → History → Type 0) (flags : F
     }
 
     pub so_far_more : (ys : List (Arrival S)) (r : Arrival S) (old new : List (Visit S)) (before after : Findings) → SoFar ys old before → Arrives Agrees flags schedule r old new before after → SoFar (ys ++ r ∷ []) new after
-    so_far_more ys r old new before after so_far arrives a k h visited len runs at found all =
-        let p : ExpandsSoFar a k visited ys old before = so_far a k h visited len runs at found (all_front (IsArrival Agrees a h) ys r all) in
+    so_far_more ys r old new before after so_far arrives d a k h visited len delivers runs at found all =
+        let p : ExpandsSoFar d a k visited ys old before = so_far d a k h visited len delivers runs at found (all_front (MayArrive d Agrees a h) ys r all) in
         let here : List (List Step) = visited ++ on_by schedule (map (λ r. r.step) ys) in
-        let q : ArrivesAt Agrees flags a k here schedule r old new after = arrives a k h here len runs (all_last (IsArrival Agrees a h) ys r all) p.at p.found in
+        let q : ArrivesAt d Agrees flags a k here schedule r old new after = arrives d a k h here len delivers runs (all_last (MayArrive d Agrees a h) ys r all) p.at p.found in
         record {
           at = q.at;
           keeps = λ s g c. q.keeps s g (p.keeps s g c);
@@ -130,30 +132,30 @@ module _ {S : Type 0} (Agrees : S → Program → History → Type 0) (flags : F
           found = q.found ∙ ap (findings_among flags a) (assoc visited (on_by schedule (map (λ r. r.step) ys)) ((schedule ++ r.step ∷ []) ∷ []) ∙ ap (λ t. visited ++ t) (sym (ap (on_by schedule) (map_more (λ r. r.step) ys r) ∙ map_more (λ x. schedule ++ x ∷ []) (map (λ r. r.step) ys) r.step)));
         }
       where
-        only : (z : Arrival S) → IsAmong z (r ∷ []) → (s : List Step) (g : History) → Agrees z.state a g → IsUpTo (schedule ++ z.step ∷ []) s → ArrivesAt Agrees flags a k (visited ++ on_by schedule (map (λ r. r.step) ys)) schedule r old new after → IsCovered Agrees a new s g
+        only : (z : Arrival S) → IsAmong z (r ∷ []) → (s : List Step) (g : History) → Agrees z.state a g → IsUpTo (schedule ++ z.step ∷ []) s → ArrivesAt d Agrees flags a k (visited ++ on_by schedule (map (λ r. r.step) ys)) schedule r old new after → IsCovered Agrees a new s g
         only z (inl e) s g agrees up q = q.covers s g (subst (λ (y : Arrival S). Agrees y.state a g) (sym e) agrees) (subst (λ (y : Arrival S). IsUpTo (schedule ++ y.step ∷ []) s) (sym e) up)
         only z (inr never) s g agrees up q = absurd never
 
-  event_is : (a : Program) (g : History) (x y : Step) (d e : Event) → y ≡ x → next_event a g y ≡ Some d → next_event a g x ≡ Some e → d ≡ e
-  event_is a g x y d e is p q = some_is (sym p ∙ ap (next_event a g) is ∙ q)
+  event_is : (a : Program) (g : History) (x y : Step) (f e : Event) → y ≡ x → next_event a g y ≡ Some f → next_event a g x ≡ Some e → f ≡ e
+  event_is a g x y f e is p q = some_is (sym p ∙ ap (next_event a g) is ∙ q)
 
-  pub so_far_all : (from : Visit S) (rs : List (Arrival S)) (first level : List (Visit S)) (begun after : Findings) → ((a : Program) (h : History) → Agrees from.state a h → AreArrivals Agrees a h rs) → SoFar (schedule_in from.path) first begun rs level after → Expands Agrees flags from first level begun after
-  so_far_all from rs first level begun after are so_far a k h visited len runs agrees at found =
-      let all : AreArrivals Agrees a h rs = are a h agrees in
-      let p : ExpandsSoFar (schedule_in from.path) first begun a k visited rs level after = so_far a k h visited len runs at found all.each in
+  pub so_far_all : (d : Delivery) (from : Visit S) (rs : List (Arrival S)) (first level : List (Visit S)) (begun after : Findings) → ((a : Program) (h : History) → Agrees from.state a h → AreArrivals d Agrees a h rs) → SoFar (schedule_in from.path) first begun rs level after → Expands d Agrees flags from first level begun after
+  so_far_all d from rs first level begun after are so_far a k h visited len delivers runs agrees at found =
+      let all : AreArrivals d Agrees a h rs = are a h agrees in
+      let p : ExpandsSoFar (schedule_in from.path) first begun d a k visited rs level after = so_far d a k h visited len delivers runs at found (all_may d Agrees a h rs all) in
       record {
         at = p.at;
         keeps = p.keeps;
-        covers = λ s g agrees x e next up.
-            let r : Source (λ (r : Arrival S). r.step) rs x = source (λ r. r.step) rs x (subst (λ xs. IsAmong x xs) (sym (are a g agrees).steps) (listed a g x e next)) in
+        covers = λ s g agrees x e may next up.
+            let r : Source (λ (r : Arrival S). r.step) rs x = source (λ r. r.step) rs x (subst (λ xs. IsAmong x xs) (sym (are a g agrees).steps) may) in
             let b : IsArrival Agrees a g r.from = all_have (IsArrival Agrees a g) rs r.from (are a g agrees).each r.is_among in
             let is : b.event ≡ e = event_is a g x r.from.step b.event e r.is b.is_next next in
-            p.covers r.from r.is_among s (e ∷ g) (subst (λ d. Agrees r.from.state a (d ∷ g)) is b.agrees) (subst (λ z. IsUpTo (schedule_in from.path ++ z ∷ []) s) (sym r.is) up);
-        same = λ g agrees x e next.
-            let r : Source (λ (r : Arrival S). r.step) rs x = source (λ r. r.step) rs x (subst (λ xs. IsAmong x xs) (sym (are a g agrees).steps) (listed a g x e next)) in
+            p.covers r.from r.is_among s (e ∷ g) (subst (λ f. Agrees r.from.state a (f ∷ g)) is b.agrees) (subst (λ z. IsUpTo (schedule_in from.path ++ z ∷ []) s) (sym r.is) up);
+        same = λ g agrees x e may next.
+            let r : Source (λ (r : Arrival S). r.step) rs x = source (λ r. r.step) rs x (subst (λ xs. IsAmong x xs) (sym (are a g agrees).steps) may) in
             let b : IsArrival Agrees a g r.from = all_have (IsArrival Agrees a g) rs r.from (are a g agrees).each r.is_among in
             let c : IsArrival Agrees a h r.from = all_have (IsArrival Agrees a h) rs r.from all.each r.is_among in
             let is : b.event ≡ e = event_is a g x r.from.step b.event e r.is b.is_next next in
-            (c.event, sym (ap (next_event a h) r.is) ∙ c.is_next, sym c.shown ∙ b.shown ∙ ap (λ d. shown a (d ∷ g)) is);
+            (subst (IsAmong x) (sym (are a g agrees).steps ∙ all.steps) may, c.event, sym (ap (next_event a h) r.is) ∙ c.is_next, sym c.shown ∙ b.shown ∙ ap (λ f. shown a (f ∷ g)) is);
         found = p.found ∙ ap (λ xs. findings_among flags a (visited ++ on_by (schedule_in from.path) xs)) all.steps;
       }

@@ -16,6 +16,7 @@ use crate::state::State;
 use crate::visit::Visit;
 use std::alloc::{AllocError, Global};
 use tree_findings::{Cause, Findings};
+use tree_schedules::Delivery;
 use world_identities::{Flags, Identity};
 
 /// Adds what a schedule shows. `AllocError` if there is no memory for it; then the findings stay as they were.
@@ -58,45 +59,48 @@ fn arrive<S: State>(
     level.put(Visit { path, state }, left)
 }
 
-// Adds what is shown after all steps from a state, and puts the states after them into a level. `NodeLimit` where one is
-// new and none may be found any more, `Memory` where there is no memory for it.
+// Adds what is shown after all steps that may be taken from a state, and puts the states after them into a level.
+// `NodeLimit` where one is new and none may be found any more, `Memory` where there is no memory for it.
 fn expand<S: State>(
     alloc: Global,
     flags: Flags,
+    delivery: Delivery,
     from: &Visit<S>,
     level: &mut Level<S>,
     left: &mut u64,
     findings: &mut Findings,
 ) -> Result<(), Cause>
-    ensures expands { OnOk result ((m : ModuleTree) → Expands (of_module S.agrees m) (flags_in flags) from.now level.old.visits.items level.new.visits.items findings.old findings.new) }
-    ensures notes { (m : ModuleTree) → NotesArrivals (of_module S.agrees m) (flags_in flags) from.now findings.old findings.new }
+    ensures expands { OnOk result ((m : ModuleTree) → Expands delivery (of_module S.agrees m) (flags_in flags) from.now level.old.visits.items level.new.visits.items findings.old findings.new) }
+    ensures notes { (m : ModuleTree) → NotesArrivals delivery (of_module S.agrees m) (flags_in flags) from.now findings.old findings.new }
     ensures fewer { left.new ≤ left.old }
 {
-    let arrivals = from.state.arrivals(alloc)?;
+    let arrivals = from.state.arrivals(alloc, delivery)?;
     for arrival in arrivals {
         arrive(alloc, flags, &from.path, arrival, level, left, findings)?;
     }
     Ok(())
 }
 
-/// The level after another one, with what is shown there. `NodeLimit` where more states would be found than may be,
-/// `Memory` where there is no memory for it: then what was found shows itself by its schedule all the same.
+/// The level after another one where signals are delivered so, with what is shown there. `NodeLimit` where more states
+/// would be found than may be, `Memory` where there is no memory for it: then what was found shows itself by its schedule
+/// all the same.
 pub(crate) fn next_level<S: State, O: LevelObserver>(
     alloc: Global,
     flags: Flags,
+    delivery: Delivery,
     level: &Level<S>,
     left: &mut u64,
     findings: &mut Findings,
     observer: &O,
 ) -> Result<Level<S>, Cause>
-    ensures goes_on { IfOk result (λ next. (m : ModuleTree) → GoesOn (of_module S.agrees m) (flags_in flags) level.now.visits.items next.visits.items findings.old findings.new) }
-    ensures notes { (m : ModuleTree) → NotesLevel (of_module S.agrees m) (flags_in flags) level.now.visits.items findings.old findings.new }
+    ensures goes_on { IfOk result (λ next. (m : ModuleTree) → GoesOn delivery (of_module S.agrees m) (flags_in flags) level.now.visits.items next.visits.items findings.old findings.new) }
+    ensures notes { (m : ModuleTree) → NotesLevel delivery (of_module S.agrees m) (flags_in flags) level.now.visits.items findings.old findings.new }
     ensures fewer { left.new ≤ left.old }
 {
     let mut next = Level::new(alloc);
     for visit in level.visits.as_slice() {
         observer.visited();
-        expand(alloc, flags, visit, &mut next, left, findings)?;
+        expand(alloc, flags, delivery, visit, &mut next, left, findings)?;
     }
     Ok(next)
 }

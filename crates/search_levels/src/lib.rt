@@ -1,4 +1,5 @@
-// A search by states, level by level: of the schedules of one length that lead to the same one goes on, the least.
+// A search by states, level by level: of the schedules of one length that lead to the same one goes on, the least. Signals
+// are delivered at any time in these schedules, or at once.
 #![tactic(auto)]
 
 pub mod arrival;

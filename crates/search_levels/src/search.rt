@@ -14,13 +14,16 @@ use crate::state::State;
 use crate::visit::Visit;
 use std::alloc::{AllocError, Global};
 use tree_findings::{Cause, Extent, Findings, Outcome};
+use tree_schedules::Delivery;
 use world_identities::{Flags, Identity};
 
-/// What is searched for, and within which limits.
+/// What is searched for, in which schedules, and within which limits.
 #[derive(Clone, Copy, Debug, PartialEq, Eq)]
 pub struct Bounds {
     /// What counts as an error.
     pub flags: Flags,
+    /// When signals are delivered in the schedules that are followed.
+    pub delivery: Delivery,
     /// How many steps a schedule may have.
     pub depth: u64,
     /// How many states may be found.
@@ -30,9 +33,10 @@ pub struct Bounds {
 /// What a search by states results in.
 #[derive(Drop)]
 pub struct Searched {
-    /// What was found: of all schedules to the depth, or of some of them where it stopped before its end.
+    /// What was found: of all schedules to the depth that deliver signals so, or of some of them where it stopped before
+    /// its end.
     pub outcome: Outcome,
-    /// All schedules of at most so many steps were followed.
+    /// All of these schedules of at most so many steps were followed.
     pub whole_to: u64,
 }
 
@@ -79,7 +83,7 @@ fn whole<S: State>(
     findings: Findings,
 ) -> Searched
     requires { left ≤ bounds.states }
-    ensures { (m : ModuleTree) → ComesTo (of_module S.agrees m) (flags_in bounds.flags) bounds.depth bounds.states level.now.visits.items findings result }
+    ensures { (m : ModuleTree) → ComesTo bounds.delivery (of_module S.agrees m) (flags_in bounds.flags) bounds.depth bounds.states level.now.visits.items findings result }
 {
     let whole_to = bounds.depth;
     match count_open(alloc, level) {
@@ -92,14 +96,15 @@ fn whole<S: State>(
     }
 }
 
-/// Follows all schedules of at most so many steps, level by level, from what is kept of the world before anything
-/// happened and what is shown there. Of the schedules of one length that lead to states that are the same, the least goes
-/// on. Where a level has no states no schedule is as long, and the search ends.
+/// Follows all schedules of at most so many steps that deliver signals as the bounds say, at any time or at once, level
+/// by level, from what is kept of the world before anything happened and what is shown there. Of the schedules of one
+/// length that lead to states that are the same, the least goes on. Where a level has no states no such schedule is as
+/// long, and the search ends.
 ///
 /// It is `Complete` where all were followed: then each error and each refusal is found that one of them shows, with the
-/// least of all schedules that show it, and `cut` is 0 exactly where no schedule is longer. It is `Incomplete` for
+/// least of those that show it, and `cut` is 0 exactly where none is longer. It is `Incomplete` for
 /// `NodeLimit` where there are more states than may be found, and for `Memory` where memory ran out: then each finding is
-/// shown by its schedule, and what schedules of at most `whole_to` steps show is found.
+/// shown by its schedule, which is such a one, and what those of at most `whole_to` steps show is found.
 ///
 /// # Errors
 ///
@@ -126,6 +131,7 @@ pub fn search_levels<S: State, O: LevelObserver>(
         match next_level(
             alloc,
             bounds.flags,
+            bounds.delivery,
             &level,
             &mut left,
             &mut findings,

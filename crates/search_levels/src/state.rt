@@ -1,6 +1,7 @@
 // What a search by states keeps of a world.
 use crate::arrival::Arrival;
 use std::alloc::{AllocError, Global};
+use tree_schedules::Delivery;
 
 /// What is kept of a world: it agrees with what happened there, and maybe with more that happened elsewhere.
 pub trait State: Sized + Drop {
@@ -24,7 +25,8 @@ pub trait State: Sized + Drop {
     fn goes_on(&self, alloc: Global) -> Result<bool, AllocError>
         ensures { IfOk result (λ goes_on. (m : ModuleTree) (h : History) → agrees self.now m h → goes_on ≡ has_step (program_of m) h) };
 
-    /// The steps that are enabled, in their order, and what is after them. `AllocError` if there is no memory for it.
-    fn arrivals(&self, alloc: Global) -> Result<Vec<Arrival<Self>>, AllocError>
-        ensures { IfOk result (λ arrivals. (m : ModuleTree) (h : History) → agrees self.now m h → AreArrivals (of_module agrees m) (program_of m) h arrivals.items) };
+    /// The steps that may be taken where signals are delivered so, in their order, and what is after them. `AllocError`
+    /// if there is no memory for it.
+    fn arrivals(&self, alloc: Global, delivery: Delivery) -> Result<Vec<Arrival<Self>>, AllocError>
+        ensures { IfOk result (λ arrivals. (m : ModuleTree) (h : History) → agrees self.now m h → AreArrivals delivery (of_module agrees m) (program_of m) h arrivals.items) };
 }

@@ -11,6 +11,7 @@ use Rattle.search_levels.specs.declared.arrival.Arrival.{Arrival}
 use Rattle.search_states.specs.declared.kept.Kept.{Kept}
 use Rattle.search_states.specs.inside.Keeping.{IsKept}
 use Rattle.term_core.specs.declared.step.Step.{Step}
+use Rattle.tree_schedules.specs.declared.delivery.Delivery.TheVariants.{AnyTime}
 use Rattle.tree_coverage.proofs.Lists.{kept_passes}
 use Rattle.world_model.specs.Asking.{program_of}
 use Rattle.world_model.specs.Events.{Event, History}
@@ -68,7 +69,7 @@ module _ (m : ModuleTree) (h : History) where
     steps = ap (λ (xs : List (Arrival Kept)). map (λ r. r.step) xs ++ steps_in (reverse line)) none ∙ standing.steps ∙ all_awake all_steps;
   }
 
-  pub all_so_far : (rs : List (Arrival Kept)) (line : List Shared) → line ≡ [] → AreSoFar m h rs line → AreArrivals (of_module IsKept m) (program_of m) h rs
+  pub all_so_far : (rs : List (Arrival Kept)) (line : List Shared) → line ≡ [] → AreSoFar m h rs line → AreArrivals AnyTime (of_module IsKept m) (program_of m) h rs
   all_so_far rs line none so_far = record {
     steps = sym (append-nil (map (λ r. r.step) rs)) ∙ ap (λ (ps : List Shared). map (λ r. r.step) rs ++ steps_in (reverse ps)) (sym none) ∙ so_far.steps;
     each = so_far.each;

@@ -1,1 +1,3 @@
 pub mod Following
+pub mod Prompt
+pub mod Alone

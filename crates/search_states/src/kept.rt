@@ -2,6 +2,7 @@
 use crate::arriving::arrivals_from;
 use search_levels::{Arrival, State};
 use std::alloc::{AllocError, Global};
+use tree_schedules::Delivery;
 use world_records::Records;
 use world_steps::enabled_steps;
 
@@ -29,7 +30,11 @@ impl<'m> State for Kept<'m> {
         Ok(!enabled.is_empty())
     }
 
-    fn arrivals(&self, alloc: Global) -> Result<Vec<Arrival<Kept<'m>>>, AllocError> {
-        arrivals_from(alloc, &self.records)
+    fn arrivals(
+        &self,
+        alloc: Global,
+        delivery: Delivery,
+    ) -> Result<Vec<Arrival<Kept<'m>>>, AllocError> {
+        arrivals_from(alloc, &self.records, delivery)
     }
 }

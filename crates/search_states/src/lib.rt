@@ -2,6 +2,7 @@
 #![tactic(auto)]
 
 mod arriving;
+mod choosing;
 pub(crate) mod kept;
 pub mod search;
 

@@ -1,4 +1,4 @@
-// The search of all schedules of a module by states.
+// The search of the schedules of a module by states.
 ghost use Rattle.std.specs.Prelude.{◌≡◌, IfOk};
 ghost use Rattle.search_levels.specs.Searched.{IsSearched};
 ghost use Rattle.search_states.specs.inside.Keeping.{IsBeginning};
@@ -11,6 +11,7 @@ use core_tree::Module;
 use search_levels::{Bounds, LevelObserver, Searched, search_levels};
 use std::alloc::{AllocError, Global};
 use tree_findings::Options;
+use tree_schedules::Delivery;
 use world_identities::Identity;
 use world_records::Records;
 
@@ -27,10 +28,10 @@ fn beginning<'m>(
     Ok((records, shown))
 }
 
-/// Follows all schedules of a module, level by level over its states, within the depth and the limit of states of the
-/// options: the states to which schedules of so many steps lead are those of one level, and where several lead to states
-/// that are the same the least goes on. `search_levels` says what the outcome is. The observer is informed of each level
-/// and of each state.
+/// Follows all schedules of a module that deliver signals at any time, or all that deliver them at once, level by level
+/// over its states, within the depth and the limit of states of the options: the states to which such schedules of so many
+/// steps lead are those of one level, and where several lead to states that are the same the least goes on.
+/// `search_levels` says what the outcome is. The observer is informed of each level and of each state.
 ///
 /// # Errors
 ///
@@ -39,13 +40,15 @@ pub fn search_states<O: LevelObserver>(
     alloc: Global,
     program: &Module,
     options: &Options,
+    delivery: Delivery,
     observer: &O,
 ) -> Result<Searched, AllocError>
-    ensures { IfOk result (λ searched. IsSearched (flags_in options.now.flags) (program_of program.now) options.now.depth options.now.nodes searched) }
+    ensures { IfOk result (λ searched. IsSearched (flags_in options.now.flags) delivery (program_of program.now) options.now.depth options.now.nodes searched) }
 {
     let (records, shown) = beginning(alloc, program)?;
     let bounds = Bounds {
         flags: options.flags,
+        delivery,
         depth: options.depth,
         states: options.nodes,
     };

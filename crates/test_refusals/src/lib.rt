@@ -2,6 +2,8 @@
 #![tactic(auto)]
 
 #[cfg(test)]
+mod other_words;
+#[cfg(test)]
 mod refusals;
 #[cfg(test)]
 mod words;

@@ -327,7 +327,7 @@ fn only_normal_ones_are_clean(rt: HostRuntime) -> Result<(), Fail> {
 fn ends_so(alloc: Global, excuses: &Excuses, cut: u64, line: &str) -> Result<(), Fail> {
     let outcome = Outcome::Complete(of_boom(alloc)?, Extent { nodes: 12, cut });
     let mut sink = MemorySink::in_pieces(alloc, 1000, 1)?;
-    write_explained_last_line(&mut sink, 9, excuses, &outcome)?;
+    write_explained_last_line(&mut sink, Visited::Nodes, 9, excuses, &outcome)?;
     same(sink.bytes.as_slice(), line.as_bytes())
 }
 

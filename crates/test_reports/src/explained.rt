@@ -110,7 +110,7 @@ pub(super) fn is_framed(
     write_explained_first_line(&mut sink, visited, 9, outcome)?;
     same(sink.bytes.as_slice(), first.as_bytes())?;
     let mut sink = MemorySink::in_pieces(alloc, 1000, 1)?;
-    write_explained_last_line(&mut sink, 9, &Excuses::none(alloc), outcome)?;
+    write_explained_last_line(&mut sink, visited, 9, &Excuses::none(alloc), outcome)?;
     same(sink.bytes.as_slice(), last.as_bytes())
 }
 

@@ -1,7 +1,7 @@
 // The reports of explorations with several budgets.
 ghost use Rattle.std.specs.Prelude.{◌≡◌, ◌≤◌};
 
-use crate::modules::{INSERTS, LINE, MAKERS, MESSAGES, MIXED, WRITERS};
+use crate::modules::{EXPLORED, LINE};
 use core_reader::{Module, read_module};
 use report_text::{Visited, write_report};
 use search_crew::{Job, Observer, SearchFault, Unwatched, search};
@@ -91,15 +91,6 @@ fn budgets_change_nothing_of<T: Threads + Wait + Sync>(
     let one = reported(rt, alloc, &program, depth, 1)?;
     same(one.as_slice(), many.as_slice())
 }
-
-// Modules, and how many steps their schedules have.
-const EXPLORED: [(&str, u64); 5] = [
-    (WRITERS, 9),
-    (MAKERS, 5),
-    (INSERTS, 12),
-    (MESSAGES, 12),
-    (MIXED, 16),
-];
 
 #[test]
 fn budgets_change_nothing(rt: HostRuntime) -> Result<(), Fail> {

@@ -13,6 +13,7 @@ use std::thread::Threads;
 use term_core::{Output, Step, WriteFault, read_schedule};
 use test_support::holds;
 use tree_findings::{FindingList, Outcome};
+use tree_schedules::Delivery;
 use world_core::World;
 use world_identities::Identity;
 
@@ -158,7 +159,7 @@ fn finds_by_states(
     depth: u64,
     wanted: &str,
 ) -> Result<bool, Fail> {
-    match followed(alloc, program, depth)?.outcome {
+    match followed(alloc, program, Delivery::AnyTime, depth)?.outcome {
         Outcome::Complete(found, _) => {
             Ok(lists(alloc, found.errors(), wanted)? || lists(alloc, found.refusals(), wanted)?)
         }

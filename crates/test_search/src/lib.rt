@@ -1,5 +1,5 @@
 // Tests of the searches: explorations of the tree with several budgets, by several workers, and of jobs that are not the
-// whole tree; and explorations by states.
+// whole tree; and explorations by states, with any delivery of signals and at once.
 #![tactic(auto)]
 
 #[cfg(test)]
@@ -10,6 +10,8 @@ mod handwritten;
 mod jobs;
 #[cfg(test)]
 mod modules;
+#[cfg(test)]
+mod prompt;
 #[cfg(test)]
 mod states;
 #[cfg(test)]

@@ -1,6 +1,6 @@
 // Explorations by states, beside those of the tree.
 use crate::budgets::{options, searched, text_of};
-use crate::modules::{INSERTS, LINE, MAKERS, MESSAGES, MIXED, WRITERS};
+use crate::modules::{EXPLORED, LINE, MAKERS};
 use core_reader::{Module, read_module};
 use search_crew::Unwatched;
 use search_states::{LevelObserver, Searched, Unobserved, search_states};
@@ -11,32 +11,30 @@ use std::test::Fail;
 use std::thread::Threads;
 use test_support::same;
 use tree_findings::{Cause, Extent, Findings, Options, Outcome, Search};
+use tree_schedules::Delivery;
 
 // What is explored by states, with so many of them at most.
 fn options_of_states(depth: u64, states: u64) -> Options {
     Options {
         nodes: states,
-        search: Search::ByStates,
+        search: Search::ByStates(Delivery::AnyTime),
         ..options(depth, 1)
     }
 }
 
-/// What a search by states results in, with a million states at most.
+/// What a search by states results in that delivers signals so, with a million states at most.
 pub(crate) fn followed(
     alloc: Global,
     program: &Module,
+    delivery: Delivery,
     depth: u64,
 ) -> Result<Searched, AllocError> {
-    search_states(
-        alloc,
-        program,
-        &options_of_states(depth, 1_000_000),
-        &Unobserved,
-    )
+    let options = options_of_states(depth, 1_000_000);
+    search_states(alloc, program, &options, delivery, &Unobserved)
 }
 
-// What was found by a search that reached its end, and how far it came.
-fn complete(outcome: Outcome) -> Result<(Findings, Extent), Fail> {
+/// What was found by a search that reached its end, and how far it came.
+pub(crate) fn complete(outcome: Outcome) -> Result<(Findings, Extent), Fail> {
     match outcome {
         Outcome::Complete(found, extent) => Ok((found, extent)),
         Outcome::Incomplete(_, found) => {
@@ -46,8 +44,8 @@ fn complete(outcome: Outcome) -> Result<(Findings, Extent), Fail> {
     }
 }
 
-// What both searches of a module list, as text. Both begin with the same line, since both are told as trees of no node.
-fn listed(alloc: Global, depth: u64, found: Findings) -> Result<Vec<u8>, Fail> {
+/// What a search of a module lists, as text. Each begins with the same line, since each is told as a tree of no node.
+pub(crate) fn listed(alloc: Global, depth: u64, found: Findings) -> Result<Vec<u8>, Fail> {
     let none = Extent { nodes: 0, cut: 0 };
     let text = text_of(alloc, depth, &Outcome::Complete(found, none))?;
     Ok(text)
@@ -65,20 +63,11 @@ fn both_list_the_same<T: Threads + Wait + Sync>(
         return Err(Fail::from("the search was not begun"));
     };
     let (by_tree, _) = complete(tree)?;
-    let (by_states, _) = complete(followed(alloc, &program, depth)?.outcome)?;
+    let (by_states, _) = complete(followed(alloc, &program, Delivery::AnyTime, depth)?.outcome)?;
     let by_tree = listed(alloc, depth, by_tree)?;
     let by_states = listed(alloc, depth, by_states)?;
     same(by_states.as_slice(), by_tree.as_slice())
 }
-
-// Modules, and how many steps their schedules have.
-const EXPLORED: [(&str, u64); 5] = [
-    (WRITERS, 9),
-    (MAKERS, 5),
-    (INSERTS, 12),
-    (MESSAGES, 12),
-    (MIXED, 16),
-];
 
 #[test]
 fn states_show_what_the_tree_shows(rt: HostRuntime) -> Result<(), Fail> {
@@ -88,14 +77,19 @@ fn states_show_what_the_tree_shows(rt: HostRuntime) -> Result<(), Fail> {
     Ok(())
 }
 
-// Depths, how many states the line has then, and at how many of them a step is enabled at the depth.
-const STATES: [(u64, u64, u64); 4] = [(40, 22, 0), (21, 22, 0), (17, 18, 1), (16, 17, 1)];
+/// Depths, how many states the line has then, and at how many of them a step is enabled at the depth.
+pub(crate) const STATES: [(u64, u64, u64); 4] = [
+    (40, 22, 0),
+    (21, 22, 0),
+    (17, 18, 1),
+    (16, 17, 1),
+];
 
 #[test]
 fn a_line_has_a_state_for_each_turn(rt: HostRuntime) -> Result<(), Fail> {
     let program = read_module(rt.alloc(), LINE.as_bytes())?;
     for (depth, nodes, cut) in STATES {
-        let searched = followed(rt.alloc(), &program, depth)?;
+        let searched = followed(rt.alloc(), &program, Delivery::AnyTime, depth)?;
         assert_eq!(rt; searched.whole_to, depth, "{depth}");
         let (_, extent) = complete(searched.outcome)?;
         assert_eq!(rt; extent, Extent { nodes, cut }, "{depth}");
@@ -107,7 +101,7 @@ fn a_line_has_a_state_for_each_turn(rt: HostRuntime) -> Result<(), Fail> {
 #[test]
 fn orders_meet_again(rt: HostRuntime) -> Result<(), Fail> {
     let program = read_module(rt.alloc(), MAKERS.as_bytes())?;
-    let (_, extent) = complete(followed(rt.alloc(), &program, 5)?.outcome)?;
+    let (_, extent) = complete(followed(rt.alloc(), &program, Delivery::AnyTime, 5)?.outcome)?;
     assert!(rt; extent.nodes < 20);
     assert_eq!(rt; extent.cut, 0);
     Ok(())
@@ -134,7 +128,7 @@ fn stopped(outcome: Outcome) -> Result<Findings, Fail> {
 // Whether a search by states stops at its limit, where all schedules of at most so many steps were followed.
 fn stops_at(alloc: Global, program: &Module, states: u64, whole_to: u64) -> Result<(), Fail> {
     let options = options_of_states(40, states);
-    let searched = search_states(alloc, program, &options, &Unobserved)?;
+    let searched = search_states(alloc, program, &options, Delivery::AnyTime, &Unobserved)?;
     let told = searched.whole_to;
     let found = stopped(searched.outcome)?;
     if told == whole_to && found.errors().len() == 0 {
@@ -159,6 +153,7 @@ fn a_limit_of_all_states_is_not_met(rt: HostRuntime) -> Result<(), Fail> {
         rt.alloc(),
         &program,
         &options_of_states(40, 22),
+        Delivery::AnyTime,
         &Unobserved,
     )?;
     let (_, extent) = complete(searched.outcome)?;
@@ -190,7 +185,8 @@ fn each_level_and_each_state_is_told(rt: HostRuntime) -> Result<(), Fail> {
         levels: AtomicU64::new(0),
         states: AtomicU64::new(0),
     };
-    let searched = search_states(rt.alloc(), &program, &options_of_states(40, 100), &told)?;
+    let options = options_of_states(40, 100);
+    let searched = search_states(rt.alloc(), &program, &options, Delivery::AnyTime, &told)?;
     let (_, extent) = complete(searched.outcome)?;
     assert_eq!(rt; extent.nodes, 22);
     assert_eq!(rt; told.levels.load(Ordering::SeqCst), 22);

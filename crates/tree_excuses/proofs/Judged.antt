@@ -3,9 +3,8 @@ use Rattle.std.proofs.Common.{◌≡◌, ◌↔◌, ◌⊎◌, inl, inr, Bool, t
 use Rattle.world_model.specs.Names.{IsAmong}
 use Rattle.world_model.specs.Shown.{Identity, End, Deadlock, Runaway, RefusedCall, Flags, is_error}
 use Rattle.tree_coverage.specs.Findings.{Finding, IsFound}
-use Rattle.tree_coverage.specs.Shown.{IsShown}
-use Rattle.tree_cuts.specs.Cuts.{IsEverShown}
 use Rattle.tree_coverage.proofs.Lists.{both_first, both_second, both_true, kept_passes, passes_kept}
+use Rattle.tree_schedules.specs.Schedules.{IsEverShownBy, IsShownBy}
 use Rattle.tree_excuses.specs.Excuses.{Excuses, no_excuses, is_excused, counted, taken}
 use Rattle.tree_excuses.specs.Laws.{AreErrorsThat, AreJudged, JudgedAreExact, JudgedAreWhole, NoExcusesChangeNothing, NothingIsLost}
 
@@ -32,10 +31,10 @@ judged : (flags : Flags) (x : Excuses) (Holds : Identity → Type 0) (fs : List 
 judged flags x Holds fs are = record { errors = listed flags (λ i. not (is_excused x i)) Holds fs are; normal = listed flags (is_excused x) Holds fs are }
 
 pub judged_to : JudgedAreExact
-judged_to flags x a n fs are = judged flags x (IsShown a n) fs are
+judged_to flags x d a n fs are = judged flags x (IsShownBy d a n) fs are
 
 pub judged_all : JudgedAreWhole
-judged_all flags x a fs are = judged flags x (IsEverShown a) fs are
+judged_all flags x d a fs are = judged flags x (IsEverShownBy d a) fs are
 
 -- ---- each counts, or is taken as normal
 

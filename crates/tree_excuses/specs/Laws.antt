@@ -4,8 +4,8 @@ use Rattle.world_model.specs.Names.{IsAmong}
 use Rattle.world_model.specs.Requests.{Program}
 use Rattle.world_model.specs.Shown.{Identity, Flags, is_error}
 use Rattle.tree_coverage.specs.Findings.{Finding, IsFound}
-use Rattle.tree_coverage.specs.Shown.{IsShown}
-use Rattle.tree_cuts.specs.Cuts.{IsEverShown}
+use Rattle.tree_schedules.specs.Schedules.{IsEverShownBy, IsShownBy}
+use Rattle.tree_schedules.specs.declared.delivery.Delivery.{Delivery}
 use Rattle.tree_excuses.specs.Excuses.{Excuses, no_excuses, is_normal, counts, counted, taken}
 
 -- the errors that are listed are those for which this is true
@@ -17,13 +17,13 @@ pub record AreJudged (flags : Flags) (x : Excuses) (Holds : Identity → Type 0)
   pub errors : (i : Identity) → IsFound i (counted x fs) ↔ ((counts flags x i ≡ true) × Holds i)
   pub normal : (i : Identity) → IsFound i (taken x fs) ↔ ((is_normal flags x i ≡ true) × Holds i)
 
--- of what schedules of at most so many steps show
+-- of what schedules of at most so many steps show, of all or of those that deliver signals at once
 abbrev pub JudgedAreExact : Type 0
-JudgedAreExact = (flags : Flags) (x : Excuses) (a : Program) (n : ℕ) (fs : List Finding) → AreErrorsThat flags (IsShown a n) fs → AreJudged flags x (IsShown a n) fs
+JudgedAreExact = (flags : Flags) (x : Excuses) (d : Delivery) (a : Program) (n : ℕ) (fs : List Finding) → AreErrorsThat flags (IsShownBy d a n) fs → AreJudged flags x (IsShownBy d a n) fs
 
 -- and of what schedules of whatever length show
 abbrev pub JudgedAreWhole : Type 0
-JudgedAreWhole = (flags : Flags) (x : Excuses) (a : Program) (fs : List Finding) → AreErrorsThat flags (IsEverShown a) fs → AreJudged flags x (IsEverShown a) fs
+JudgedAreWhole = (flags : Flags) (x : Excuses) (d : Delivery) (a : Program) (fs : List Finding) → AreErrorsThat flags (IsEverShownBy d a) fs → AreJudged flags x (IsEverShownBy d a) fs
 
 -- each error that was found counts or is taken as normal, and nothing else is listed
 abbrev pub NothingIsLost : Type 0

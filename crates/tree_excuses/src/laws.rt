@@ -3,7 +3,7 @@ ghost use Rattle.tree_excuses.specs.Laws.{JudgedAreExact, JudgedAreWhole, NoExcu
 
 /// Where the errors that are listed are exactly those that some schedule shows, of at most so many steps or of whatever
 /// length, those that count are listed exactly where some schedule shows them, and so are those that are taken as
-/// normal.
+/// normal. So it is of all schedules, and of those alone that deliver signals at once.
 pub fn judged_are_exact()
     ensures bounded { JudgedAreExact }
     ensures all { JudgedAreWhole }

@@ -1,4 +1,5 @@
 // What an exploration is asked for.
+use tree_schedules::Delivery;
 use world_identities::Flags;
 
 /// How an exploration goes through the schedules.
@@ -6,8 +7,9 @@ use world_identities::Flags;
 pub enum Search {
     /// By the tree of schedules with sleep sets: what one leaves out is shown elsewhere in it.
     ByTree,
-    /// By states, level by level: of the schedules of one length that lead to the same state one goes on.
-    ByStates,
+    /// By states, level by level: of the schedules of one length that lead to the same state one goes on. Signals are
+    /// delivered at any time or at once.
+    ByStates(Delivery),
 }
 
 /// The bounds of an exploration, how it searches, and what counts as an error in it.

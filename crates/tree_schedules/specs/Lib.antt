@@ -1,2 +1,4 @@
+pub mod Deliveries
 pub mod Schedules
 pub mod StandIns
+pub mod PromptExamples

@@ -4,7 +4,9 @@ use Rattle.std.specs.Prelude.{◌≡◌, ◌≤◌, ℕ, false, List, length, So
 use Rattle.term_core.specs.StepOrder.{order_of_schedules}
 use Rattle.term_core.specs.declared.step.Step.{Step}
 use Rattle.tree_coverage.specs.Findings.{findings_among}
-use Rattle.tree_schedules.specs.Schedules.{findings_of_all}
+use Rattle.tree_schedules.specs.Deliveries.{DeliversBy}
+use Rattle.tree_schedules.specs.Schedules.{IsRunBy, findings_of_all}
+use Rattle.tree_schedules.specs.declared.delivery.Delivery.{Delivery}
 use Rattle.world_model.specs.Events.{History}
 use Rattle.world_model.specs.Names.{IsAmong}
 use Rattle.world_model.specs.Requests.{Program}
@@ -24,15 +26,15 @@ pub record HasStandIn (a : Program) (visited : List (List Step)) (s : List Step)
   pub same : shown a history ≡ shown a h
   pub up_to : IsUpTo by s
 
--- each of these schedules has at most so many steps and runs
-abbrev pub AreRuns : Program → ℕ → List (List Step) → Type 0
-AreRuns a n visited = (s : List Step) → IsAmong s visited → (length s ≤ n) × (h : History) × (run a s ≡ Some h)
+-- each of these schedules has at most so many steps, delivers signals then, and runs
+abbrev pub AreRuns : Delivery → Program → ℕ → List (List Step) → Type 0
+AreRuns d a n visited = (s : List Step) → IsAmong s visited → IsRunBy d a n s
 
 -- these schedules stand for all of at most so many steps
-pub record StandForAll (a : Program) (n : ℕ) (visited : List (List Step)) : Type 0 where
-  pub runs : AreRuns a n visited
-  pub stand : (s : List Step) (h : History) → length s ≤ n → run a s ≡ Some h → HasStandIn a visited s h
+pub record StandForAll (d : Delivery) (a : Program) (n : ℕ) (visited : List (List Step)) : Type 0 where
+  pub runs : AreRuns d a n visited
+  pub stand : (s : List Step) (h : History) → length s ≤ n → DeliversBy d a s → run a s ≡ Some h → HasStandIn a visited s h
 
 -- what is found among them is what is found among all
 abbrev pub StandInsFindAll : Type 0
-StandInsFindAll = (flags : Flags) (a : Program) (n : ℕ) (visited : List (List Step)) → StandForAll a n visited → findings_among flags a visited ≡ findings_of_all flags a n
+StandInsFindAll = (flags : Flags) (d : Delivery) (a : Program) (n : ℕ) (visited : List (List Step)) → StandForAll d a n visited → findings_among flags a visited ≡ findings_of_all flags d a n

@@ -51,7 +51,7 @@ with_errors app = with_rule (with_rule (with_rule (with_rule app (flag_rule (cod
 -- `explore` with its options
 abbrev pub explore_command : App
 explore_command =
-    with_rule (with_rule (with_rule (with_rule (with_errors (with_rule (with_rule (with_rule (new_app (codes "explore")) depth_rule) nodes_rule) workers_rule)) (flag_rule (codes "explain"))) (flag_rule (codes "cover"))) job_rule) (flag_rule (codes "states"))
+    with_rule (with_rule (with_rule (with_rule (with_rule (with_errors (with_rule (with_rule (with_rule (new_app (codes "explore")) depth_rule) nodes_rule) workers_rule)) (flag_rule (codes "explain"))) (flag_rule (codes "cover"))) job_rule) (flag_rule (codes "states"))) (flag_rule (codes "at-once"))
 
 -- `check` with its options
 abbrev pub check_command : App

@@ -13,6 +13,8 @@ use Rattle.program_words.specs.Words.{AreExcusesInRange, AreSmall, is_by_states,
 use Rattle.world_identities.specs.declared.flags.Flags.{Flags}
 use Rattle.tree_findings.specs.declared.options.Options.{Options}
 use Rattle.tree_findings.specs.declared.options.Search.{Search}
+use Rattle.tree_findings.specs.declared.options.Search.TheVariants.{ByTree, ByStates}
+use Rattle.tree_schedules.specs.declared.delivery.Delivery.TheVariants.{AnyTime, AtOnce}
 use Rattle.program_words.specs.declared.command_line.Split.{Split}
 use Rattle.program_words.specs.declared.words.Printed.{Printed}
 use Rattle.program_words.specs.declared.words.Words.{Words}
@@ -49,9 +51,16 @@ pub record IsPrintedOf (rows : List Row) (printed : Printed) : Type 0 where
   pub explained : ReadsFlag (one_of (codes "explain") rows) printed.explained
   pub cover : ReadsFlag (one_of (codes "cover") rows) printed.cover
 
--- the search is the one that the rows ask for
-abbrev pub IsSearchOf : List Row → Search → Type 0
-IsSearchOf rows search = ReadsFlag (one_of (codes "states") rows) (is_by_states search)
+-- whether signals are delivered at once in a search
+abbrev pub is_prompt : Search → Bool
+is_prompt ByTree = false
+is_prompt (ByStates AnyTime) = false
+is_prompt (ByStates AtOnce) = true
+
+-- the search is the one that the rows ask for: `--states` is read where `--at-once` is not given
+pub record IsSearchOf (rows : List Row) (search : Search) : Type 0 where
+  pub at_once : ReadsFlag (one_of (codes "at-once") rows) (is_prompt search)
+  pub states : is_prompt search ≡ false → ReadsFlag (one_of (codes "states") rows) (is_by_states search)
 
 -- the options are those of the rows, and what is printed
 pub record AreRead (rows : List Row) (options : Options) (printed : Printed) : Type 0 where

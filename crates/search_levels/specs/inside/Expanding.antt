@@ -7,58 +7,65 @@ use Rattle.search_levels.specs.declared.arrival.Arrival.{Arrival}
 use Rattle.search_levels.specs.declared.visit.Visit.{Visit}
 use Rattle.term_core.specs.declared.step.Step.{Step}
 use Rattle.tree_coverage.specs.Findings.{Findings, findings_among}
+use Rattle.tree_schedules.specs.Deliveries.{DeliversBy, steps_by}
 use Rattle.tree_schedules.specs.StandIns.{AreRuns, IsUpTo}
+use Rattle.tree_schedules.specs.declared.delivery.Delivery.{Delivery}
 use Rattle.world_model.specs.Events.{Event, History}
+use Rattle.world_model.specs.Names.{IsAmong}
 use Rattle.world_model.specs.Requests.{Program}
-use Rattle.world_model.specs.Run.{enabled_steps, next_event, run}
+use Rattle.world_model.specs.Run.{next_event, run}
 use Rattle.world_model.specs.Shown.{Flags, shown}
 
+-- a step that may be taken after a history by this delivery of signals, and what is after it
+abbrev pub MayArrive : {S : Type 0} → Delivery → (S → Program → History → Type 0) → Program → History → Arrival S → Type 0
+MayArrive d Agrees a h r = IsArrival Agrees a h r × IsAmong r.step (steps_by d a h)
+
 -- a step from a state to which this schedule leads: what is after it is covered, and what is shown there is found
-pub record ArrivesAt {S : Type 0} (Agrees : S → Program → History → Type 0) (flags : Flags) (a : Program) (k : ℕ) (visited : List (List Step)) (schedule : List Step) (r : Arrival S) (old new : List (Visit S)) (after : Findings) : Type 0 where
-  pub at : AreAt Agrees a (k + 1) new
+pub record ArrivesAt {S : Type 0} (d : Delivery) (Agrees : S → Program → History → Type 0) (flags : Flags) (a : Program) (k : ℕ) (visited : List (List Step)) (schedule : List Step) (r : Arrival S) (old new : List (Visit S)) (after : Findings) : Type 0 where
+  pub at : AreAt d Agrees a (k + 1) new
   pub keeps : Keeps Agrees a old new
   pub covers : (s : List Step) (h : History) → Agrees r.state a h → IsUpTo (schedule ++ r.step ∷ []) s → IsCovered Agrees a new s h
   pub found : after ≡ findings_among flags a (visited ++ (schedule ++ r.step ∷ []) ∷ [])
 
 abbrev pub Arrives : {S : Type 0} → (S → Program → History → Type 0) → Flags → List Step → Arrival S → List (Visit S) → List (Visit S) → Findings → Findings → Type 0
 Arrives Agrees flags schedule r old new before after =
-    (a : Program) (k : ℕ) (h : History) (visited : List (List Step)) → length schedule ≡ k → run a schedule ≡ Some h → IsArrival Agrees a h r → AreAt Agrees a (k + 1) old → before ≡ findings_among flags a visited
-    → ArrivesAt Agrees flags a k visited schedule r old new after
+    (d : Delivery) (a : Program) (k : ℕ) (h : History) (visited : List (List Step)) → length schedule ≡ k → DeliversBy d a schedule → run a schedule ≡ Some h → MayArrive d Agrees a h r → AreAt d Agrees a (k + 1) old → before ≡ findings_among flags a visited
+    → ArrivesAt d Agrees flags a k visited schedule r old new after
 
 -- these schedules go on from one by each of these steps
 abbrev pub on_by : List Step → List Step → List (List Step)
 on_by schedule steps = map (λ x. schedule ++ x ∷ []) steps
 
--- all steps from a state: what is after them is covered, whatever the state agrees with, and what is shown there is found
-pub record ExpandsAt {S : Type 0} (Agrees : S → Program → History → Type 0) (flags : Flags) (a : Program) (k : ℕ) (h : History) (visited : List (List Step)) (from : Visit S) (old new : List (Visit S)) (after : Findings) : Type 0 where
-  pub at : AreAt Agrees a (k + 1) new
+-- all steps that may be taken from a state: what is after them is covered, whatever the state agrees with, and what is shown there is found
+pub record ExpandsAt {S : Type 0} (d : Delivery) (Agrees : S → Program → History → Type 0) (flags : Flags) (a : Program) (k : ℕ) (h : History) (visited : List (List Step)) (from : Visit S) (old new : List (Visit S)) (after : Findings) : Type 0 where
+  pub at : AreAt d Agrees a (k + 1) new
   pub keeps : Keeps Agrees a old new
-  pub covers : (s : List Step) (g : History) → Agrees from.state a g → (x : Step) (e : Event) → next_event a g x ≡ Some e → IsUpTo (schedule_in from.path ++ x ∷ []) s → IsCovered Agrees a new s (e ∷ g)
-  pub same : (g : History) → Agrees from.state a g → (x : Step) (e : Event) → next_event a g x ≡ Some e → (d : Event) × (next_event a h x ≡ Some d) × (shown a (d ∷ h) ≡ shown a (e ∷ g))
-  pub found : after ≡ findings_among flags a (visited ++ on_by (schedule_in from.path) (enabled_steps a h))
+  pub covers : (s : List Step) (g : History) → Agrees from.state a g → (x : Step) (e : Event) → IsAmong x (steps_by d a g) → next_event a g x ≡ Some e → IsUpTo (schedule_in from.path ++ x ∷ []) s → IsCovered Agrees a new s (e ∷ g)
+  pub same : (g : History) → Agrees from.state a g → (x : Step) (e : Event) → IsAmong x (steps_by d a g) → next_event a g x ≡ Some e → IsAmong x (steps_by d a h) × (f : Event) × (next_event a h x ≡ Some f) × (shown a (f ∷ h) ≡ shown a (e ∷ g))
+  pub found : after ≡ findings_among flags a (visited ++ on_by (schedule_in from.path) (steps_by d a h))
 
-abbrev pub Expands : {S : Type 0} → (S → Program → History → Type 0) → Flags → Visit S → List (Visit S) → List (Visit S) → Findings → Findings → Type 0
-Expands Agrees flags from old new before after =
-    (a : Program) (k : ℕ) (h : History) (visited : List (List Step)) → length (schedule_in from.path) ≡ k → run a (schedule_in from.path) ≡ Some h → Agrees from.state a h → AreAt Agrees a (k + 1) old → before ≡ findings_among flags a visited
-    → ExpandsAt Agrees flags a k h visited from old new after
+abbrev pub Expands : {S : Type 0} → Delivery → (S → Program → History → Type 0) → Flags → Visit S → List (Visit S) → List (Visit S) → Findings → Findings → Type 0
+Expands d Agrees flags from old new before after =
+    (a : Program) (k : ℕ) (h : History) (visited : List (List Step)) → length (schedule_in from.path) ≡ k → DeliversBy d a (schedule_in from.path) → run a (schedule_in from.path) ≡ Some h → Agrees from.state a h → AreAt d Agrees a (k + 1) old → before ≡ findings_among flags a visited
+    → ExpandsAt d Agrees flags a k h visited from old new after
 
 -- ---- also where it stops before its end
 
--- what some schedules of at most so many steps show, is found with what was found before
-abbrev pub NotesSome : Flags → Program → ℕ → Findings → Findings → Type 0
-NotesSome flags a n before after =
-    (visited : List (List Step)) → before ≡ findings_among flags a visited → (more : List (List Step)) × AreRuns a n more × (after ≡ findings_among flags a (visited ++ more))
+-- what some schedules of at most so many steps show that deliver signals so, is found with what was found before
+abbrev pub NotesSome : Flags → Delivery → Program → ℕ → Findings → Findings → Type 0
+NotesSome flags d a n before after =
+    (visited : List (List Step)) → before ≡ findings_among flags a visited → (more : List (List Step)) × AreRuns d a n more × (after ≡ findings_among flags a (visited ++ more))
 
 -- after a step from a state to which this schedule leads
 abbrev pub NotesArrival : {S : Type 0} → (S → Program → History → Type 0) → Flags → List Step → Arrival S → Findings → Findings → Type 0
 NotesArrival Agrees flags schedule r before after =
-    (a : Program) (k : ℕ) (h : History) → length schedule ≡ k → run a schedule ≡ Some h → IsArrival Agrees a h r → NotesSome flags a (k + 1) before after
+    (d : Delivery) (a : Program) (k : ℕ) (h : History) → length schedule ≡ k → DeliversBy d a schedule → run a schedule ≡ Some h → MayArrive d Agrees a h r → NotesSome flags d a (k + 1) before after
 
 -- after steps from a state
-abbrev pub NotesArrivals : {S : Type 0} → (S → Program → History → Type 0) → Flags → Visit S → Findings → Findings → Type 0
-NotesArrivals Agrees flags from before after =
-    (a : Program) (k : ℕ) (h : History) → length (schedule_in from.path) ≡ k → run a (schedule_in from.path) ≡ Some h → Agrees from.state a h → NotesSome flags a (k + 1) before after
+abbrev pub NotesArrivals : {S : Type 0} → Delivery → (S → Program → History → Type 0) → Flags → Visit S → Findings → Findings → Type 0
+NotesArrivals d Agrees flags from before after =
+    (a : Program) (k : ℕ) (h : History) → length (schedule_in from.path) ≡ k → DeliversBy d a (schedule_in from.path) → run a (schedule_in from.path) ≡ Some h → Agrees from.state a h → NotesSome flags d a (k + 1) before after
 
 -- after steps from the states of a level
-abbrev pub NotesLevel : {S : Type 0} → (S → Program → History → Type 0) → Flags → List (Visit S) → Findings → Findings → Type 0
-NotesLevel Agrees flags level before after = (a : Program) (k : ℕ) → AreAt Agrees a k level → NotesSome flags a (k + 1) before after
+abbrev pub NotesLevel : {S : Type 0} → Delivery → (S → Program → History → Type 0) → Flags → List (Visit S) → Findings → Findings → Type 0
+NotesLevel d Agrees flags level before after = (a : Program) (k : ℕ) → AreAt d Agrees a k level → NotesSome flags d a (k + 1) before after

@@ -23,4 +23,5 @@ returns-clause-line c =
     let eight = made_with _ _ _ _ _ seven c.flag.ensures c.in_ok-arg-8.ensures in
     let nine = made_with _ _ _ _ _ eight c.flag-2.ensures c.in_ok-arg-9.ensures in
     let ten = made_with _ _ _ _ _ nine c.job_option.ensures c.in_ok-arg-10.ensures in
-    made_with _ _ _ _ _ ten c.flag-3.ensures c.in_ok-explore.ensures
+    let eleven = made_with _ _ _ _ _ ten c.flag-3.ensures c.in_ok-arg-11.ensures in
+    made_with _ _ _ _ _ eleven c.flag-4.ensures c.in_ok-explore.ensures

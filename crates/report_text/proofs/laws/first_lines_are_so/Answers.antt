@@ -25,3 +25,15 @@ returns-clause-cut c = λ findings. refl
 pub returns-clause-stop : goal.returns-clause-stop
 unfolding digits
 returns-clause-stop c = λ findings. refl
+
+pub returns-clause-prompt : goal.returns-clause-prompt
+unfolding digits
+returns-clause-prompt c = λ findings. refl
+
+pub returns-clause-prompt_stop : goal.returns-clause-prompt_stop
+unfolding digits
+returns-clause-prompt_stop c = λ findings. refl
+
+pub returns-clause-prompt_alike : goal.returns-clause-prompt_alike
+unfolding digits
+returns-clause-prompt_alike c = λ findings. refl

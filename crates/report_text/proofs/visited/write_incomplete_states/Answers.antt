@@ -1,7 +1,7 @@
 use Rattle.std.proofs.Common.{codes}
 use Rattle.std.proofs.lemmas.Result.{err_from_is_err_and}
 use Rattle.term_core.specs.inside.Writing.{owes_all, owes_less, owes_break_in, writes_last, breaks_at}
-use Rattle.report_text.specs.ReportText.{text_of_states_cause}
+use Rattle.report_text.specs.ReportText.{schedules_by, text_of_states_cause}
 use Rattle.report_text.proofs.visited.write_incomplete_states.Goals as goal
 
 pub returns-in_err-write_all : goal.returns-in_err-write_all
@@ -20,11 +20,30 @@ returns-in_err-write_all-2 g c =
     let p = err_from_is_err_and c.from_residual-in_err-write_all-2.result c.from_residual-in_err-write_all-2.ensures.1 in
     let o1 = owes_less _ _ _ (codes "incomplete: ") _ _ (owes_all _ _) c.in_ok-write_all.ensures.appends in
     let o2 = owes_less _ _ _ (text_of_states_cause c.args.cause) _ _ o1 c.in_ok-write_states_cause.ensures.appends in
-    breaks_at _ _ _ _ _ _ p.1 (owes_break_in _ _ _ _ (codes "; all schedules to depth ") _ _ o2 c.in_err-write_all-2.ensures)
+    breaks_at _ _ _ _ _ _ p.1 (owes_break_in _ _ _ _ (codes "; all ") _ _ o2 c.in_err-write_all-2.ensures)
+
+pub returns-in_err-write_schedules : goal.returns-in_err-write_schedules
+returns-in_err-write_schedules g c =
+    let p = err_from_is_err_and c.from_residual-in_err-write_schedules.result c.from_residual-in_err-write_schedules.ensures.1 in
+    let o1 = owes_less _ _ _ (codes "incomplete: ") _ _ (owes_all _ _) c.in_ok-write_all.ensures.appends in
+    let o2 = owes_less _ _ _ (text_of_states_cause c.args.cause) _ _ o1 c.in_ok-write_states_cause.ensures.appends in
+    let o3 = owes_less _ _ _ (codes "; all ") _ _ o2 c.in_ok-write_all-2.ensures.appends in
+    breaks_at _ _ _ _ _ _ p.1 (owes_break_in _ _ _ _ (schedules_by c.args.delivery) _ _ o3 c.in_err-write_schedules.ensures)
+
+pub returns-in_err-write_all-3 : goal.returns-in_err-write_all-3
+returns-in_err-write_all-3 g c =
+    let p = err_from_is_err_and c.from_residual-in_err-write_all-3.result c.from_residual-in_err-write_all-3.ensures.1 in
+    let o1 = owes_less _ _ _ (codes "incomplete: ") _ _ (owes_all _ _) c.in_ok-write_all.ensures.appends in
+    let o2 = owes_less _ _ _ (text_of_states_cause c.args.cause) _ _ o1 c.in_ok-write_states_cause.ensures.appends in
+    let o3 = owes_less _ _ _ (codes "; all ") _ _ o2 c.in_ok-write_all-2.ensures.appends in
+    let o4 = owes_less _ _ _ (schedules_by c.args.delivery) _ _ o3 c.in_ok-write_schedules.ensures.appends in
+    breaks_at _ _ _ _ _ _ p.1 (owes_break_in _ _ _ _ (codes " to depth ") _ _ o4 c.in_err-write_all-3.ensures)
 
 pub returns : goal.returns
 returns g c =
     let o1 = owes_less _ _ _ (codes "incomplete: ") _ _ (owes_all _ _) c.in_ok-write_all.ensures.appends in
     let o2 = owes_less _ _ _ (text_of_states_cause c.args.cause) _ _ o1 c.in_ok-write_states_cause.ensures.appends in
-    let o3 = owes_less _ _ _ (codes "; all schedules to depth ") _ _ o2 c.in_ok-write_all-2.ensures.appends in
-    writes_last _ _ _ _ _ _ _ o3 c.write_number.ensures
+    let o3 = owes_less _ _ _ (codes "; all ") _ _ o2 c.in_ok-write_all-2.ensures.appends in
+    let o4 = owes_less _ _ _ (schedules_by c.args.delivery) _ _ o3 c.in_ok-write_schedules.ensures.appends in
+    let o5 = owes_less _ _ _ (codes " to depth ") _ _ o4 c.in_ok-write_all-3.ensures.appends in
+    writes_last _ _ _ _ _ _ _ o5 c.write_number.ensures

@@ -15,8 +15,8 @@ returns-clause-arrives g c =
     let old = c.args.findings.now in
     let new = c.note.new.findings in
     let adds = subst (λ is. AddsSchedule flags (schedule_in path) (map identity_in is) old new) c.as_slice.ensures.value c.in_ok-note.ensures.ok in
-    on_ok_weaker c.put.result (λ puts m a k h visited len runs arr at found.
-    arrives_at (of_module g.S.State.agrees m) flags a k h visited (schedule_in c.args.from.now) c.args.arrival path c.args.level.now.visits.items c.put.new.self.visits.items old new (puts m) c.in_ok-path.ensures adds len runs arr at found) c.put.ensures.puts
+    on_ok_weaker c.put.result (λ puts m d a k h visited len delivers runs may at found.
+    arrives_at (of_module g.S.State.agrees m) flags d a k h visited (schedule_in c.args.from.now) c.args.arrival path c.args.level.now.visits.items c.put.new.self.visits.items old new (puts m) c.in_ok-path.ensures adds len delivers runs may at found) c.put.ensures.puts
 
 pub returns-clause-notes : goal.returns-clause-notes
 returns-clause-notes g c = λ m.

@@ -25,7 +25,7 @@ loop-arrival-preserved g c =
     let there : IsAmong r rs = element rs _ r turn.0 turn.1 in
     record {
       so_far = λ m. so_far_more (of_module g.S.State.agrees m) flags (schedule_in from.path) first begun c.loop-arrival.yielded r c.loop-arrival.level.visits.items c.arrive.new.level.visits.items before after (c.loop-arrival.invariant.so_far m) (c.in_ok-arrive.ensures.arrives m);
-      notes = λ m. arrivals_more (of_module g.S.State.agrees m) flags from r begun before after (arrival_is (g.S.State.agrees) m from rs r (c.in_ok-arrivals.ensures m) there) (c.loop-arrival.invariant.notes m) (c.in_ok-arrive.ensures.notes m);
+      notes = λ m. arrivals_more (of_module g.S.State.agrees m) flags c.args.delivery from r begun before after (arrival_is c.args.delivery (g.S.State.agrees) m from rs r (c.in_ok-arrivals.ensures m) there) (c.loop-arrival.invariant.notes m) (c.in_ok-arrive.ensures.notes m);
       fewer = omega (arith, c.loop-arrival.invariant.fewer, c.in_ok-arrive.ensures.fewer);
     }
 
@@ -38,7 +38,7 @@ returns-in_err-arrive-clause-notes g c = λ m.
     let it = YieldsList-from_vec rs c.into_iter-arrival-iterator.ensures.into_iter_gives.0 (c.into_iter-arrival-iterator.ensures.into_iter_gives.1 ∙ (search rules)) in
     let turn = YieldsList-turn it c.loop-arrival.yielded c.loop-arrival.arrival-iterator c.loop-arrival.yielded_by c.next.result c.next.new.self r c.in-Some.is c.next.ensures.steps in
     let there : IsAmong r rs = element rs _ r turn.0 turn.1 in
-    arrivals_more (of_module g.S.State.agrees m) flags from r c.args.findings.now c.loop-arrival.findings c.arrive.new.findings (arrival_is (g.S.State.agrees) m from rs r (c.in_ok-arrivals.ensures m) there) (c.loop-arrival.invariant.notes m) (c.in_err-arrive.ensures.notes m)
+    arrivals_more (of_module g.S.State.agrees m) flags c.args.delivery from r c.args.findings.now c.loop-arrival.findings c.arrive.new.findings (arrival_is c.args.delivery (g.S.State.agrees) m from rs r (c.in_ok-arrivals.ensures m) there) (c.loop-arrival.invariant.notes m) (c.in_err-arrive.ensures.notes m)
 
 pub returns-clause-expands : goal.returns-clause-expands
 returns-clause-expands g c = λ m.
@@ -50,5 +50,5 @@ returns-clause-expands g c = λ m.
     let rs = c.in_ok-arrivals.arrivals.items in
     let it = YieldsList-from_vec rs c.into_iter-arrival-iterator.ensures.into_iter_gives.0 (c.into_iter-arrival-iterator.ensures.into_iter_gives.1 ∙ (search rules)) in
     let all : c.loop-arrival.yielded ≡ rs = sym (same_all c.loop-arrival.yielded) ∙ (YieldsList-end it c.loop-arrival.yielded c.loop-arrival.arrival-iterator c.loop-arrival.yielded_by c.next.result c.next.new.self c.in-None.is c.next.ensures.steps).0 in
-    so_far_all (of_module g.S.State.agrees m) flags from rs first level begun c.loop-arrival.findings (λ a h p. subst (λ b. AreArrivals (of_module g.S.State.agrees m) b h rs) p.0 (c.in_ok-arrivals.ensures m h p.1))
+    so_far_all (of_module g.S.State.agrees m) flags c.args.delivery from rs first level begun c.loop-arrival.findings (λ a h p. subst (λ b. AreArrivals c.args.delivery (of_module g.S.State.agrees m) b h rs) p.0 (c.in_ok-arrivals.ensures m h p.1))
     (subst (λ ys. SoFar (of_module g.S.State.agrees m) flags (schedule_in from.path) first begun ys level c.loop-arrival.findings) all (c.loop-arrival.invariant.so_far m))

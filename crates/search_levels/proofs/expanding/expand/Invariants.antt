@@ -11,6 +11,6 @@ use Rattle.search_levels.proofs.expanding.expand.Given as goal
 abbrev pub invariant-loop-arrival : goal.invariant-loop-arrival
 invariant-loop-arrival g l = record {
   so_far : (m : ModuleTree) → SoFar (of_module g.S.State.agrees m) (flags_in l.fn.flags) (schedule_in l.fn.from.path) l.fn.level.visits.items l.fn.findings l.yielded l.level.visits.items l.findings;
-  notes : (m : ModuleTree) → NotesArrivals (of_module g.S.State.agrees m) (flags_in l.fn.flags) l.fn.from l.fn.findings l.findings;
+  notes : (m : ModuleTree) → NotesArrivals l.fn.delivery (of_module g.S.State.agrees m) (flags_in l.fn.flags) l.fn.from l.fn.findings l.findings;
   fewer : l.left ≤ l.fn.left;
 }

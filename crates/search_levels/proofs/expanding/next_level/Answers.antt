@@ -8,8 +8,8 @@ use Rattle.search_levels.proofs.expanding.next_level.Goals as goal
 
 pub loop-visit-init : goal.loop-visit-init
 loop-visit-init g c = record {
-  so_far = λ m. subst (λ xs. LevelSoFar (of_module g.S.State.agrees m) (flags_in c.args.flags) c.args.findings.now [] xs c.args.findings.now) (sym c.new-next.ensures) (level_none (of_module g.S.State.agrees m) (flags_in c.args.flags) c.args.findings.now);
-  notes = λ m. noting.level_none (of_module g.S.State.agrees m) (flags_in c.args.flags) c.args.level.now.visits.items c.args.findings.now;
+  so_far = λ m. subst (λ xs. LevelSoFar c.args.delivery (of_module g.S.State.agrees m) (flags_in c.args.flags) c.args.findings.now [] xs c.args.findings.now) (sym c.new-next.ensures) (level_none c.args.delivery (of_module g.S.State.agrees m) (flags_in c.args.flags) c.args.findings.now);
+  notes = λ m. noting.level_none (of_module g.S.State.agrees m) (flags_in c.args.flags) c.args.delivery c.args.level.now.visits.items c.args.findings.now;
   fewer = omega arith;
 }
 
@@ -18,7 +18,7 @@ returns-in_err-expand-clause-notes g c = λ m.
     let level = c.args.level.now.visits.items in
     let y = c.visit-item.result in
     let there : IsAmong y level = subst (IsAmong y) c.as_slice-visit-items.ensures.value (element c.as_slice-visit-items.result.now c.loop-visit.visit-index y c.loop-visit-test.true c.visit-item.is) in
-    noting.level_more (of_module g.S.State.agrees m) (flags_in c.args.flags) level y c.args.findings.now c.loop-visit.findings c.expand.new.findings there (c.loop-visit.invariant.notes m) (c.in_err-expand.ensures.notes m)
+    noting.level_more (of_module g.S.State.agrees m) (flags_in c.args.flags) c.args.delivery level y c.args.findings.now c.loop-visit.findings c.expand.new.findings there (c.loop-visit.invariant.notes m) (c.in_err-expand.ensures.notes m)
 
 pub loop-visit-preserved : goal.loop-visit-preserved
 loop-visit-preserved g c =
@@ -35,8 +35,8 @@ loop-visit-preserved g c =
     let there : IsAmong y level = subst (IsAmong y) c.as_slice-visit-items.ensures.value (element c.as_slice-visit-items.result.now c.loop-visit.visit-index y c.loop-visit-test.true c.visit-item.is) in
     let more : one ≡ done ++ y ∷ [] = subst (λ xs. take (c.loop-visit.visit-index + 1) xs ≡ take c.loop-visit.visit-index xs ++ y ∷ []) c.as_slice-visit-items.ensures.value (taken c.as_slice-visit-items.result.now c.loop-visit.visit-index y c.loop-visit-test.true c.visit-item.is) in
     record {
-      so_far = λ m. subst (λ ys. LevelSoFar (of_module g.S.State.agrees m) flags begun ys new after) (sym more) (level_more (of_module g.S.State.agrees m) flags begun done y old new before after (c.loop-visit.invariant.so_far m) (c.in_ok-expand.ensures.expands m));
-      notes = λ m. noting.level_more (of_module g.S.State.agrees m) flags level y begun before after there (c.loop-visit.invariant.notes m) (c.in_ok-expand.ensures.notes m);
+      so_far = λ m. subst (λ ys. LevelSoFar c.args.delivery (of_module g.S.State.agrees m) flags begun ys new after) (sym more) (level_more c.args.delivery (of_module g.S.State.agrees m) flags begun done y old new before after (c.loop-visit.invariant.so_far m) (c.in_ok-expand.ensures.expands m));
+      notes = λ m. noting.level_more (of_module g.S.State.agrees m) flags c.args.delivery level y begun before after there (c.loop-visit.invariant.notes m) (c.in_ok-expand.ensures.notes m);
       fewer = omega (arith, c.loop-visit.invariant.fewer, c.in_ok-expand.ensures.fewer);
     }
 
@@ -46,5 +46,5 @@ returns-clause-goes_on g c = λ m.
     let begun = c.args.findings.now in
     let level = c.args.level.now.visits.items in
     let next = c.loop-visit.next.visits.items in
-    goes_on (of_module g.S.State.agrees m) flags begun level next c.loop-visit.findings
-    (subst (λ ys. LevelSoFar (of_module g.S.State.agrees m) flags begun ys next c.loop-visit.findings) (take_all c.loop-visit.visit-index level (omega (arith, c.loop-visit-test.false, ap length c.as_slice-visit-items.ensures.value))) (c.loop-visit.invariant.so_far m))
+    goes_on c.args.delivery (of_module g.S.State.agrees m) flags begun level next c.loop-visit.findings
+    (subst (λ ys. LevelSoFar c.args.delivery (of_module g.S.State.agrees m) flags begun ys next c.loop-visit.findings) (take_all c.loop-visit.visit-index level (omega (arith, c.loop-visit-test.false, ap length c.as_slice-visit-items.ensures.value))) (c.loop-visit.invariant.so_far m))

@@ -9,7 +9,7 @@ use Rattle.search_levels.proofs.expanding.next_level.Given as goal
 -- the states so far are expanded
 abbrev pub invariant-loop-visit : goal.invariant-loop-visit
 invariant-loop-visit g l = record {
-  so_far : (m : ModuleTree) → LevelSoFar (of_module g.S.State.agrees m) (flags_in l.fn.flags) l.fn.findings (take l.visit-index l.level.visits.items) l.next.visits.items l.findings;
-  notes : (m : ModuleTree) → NotesLevel (of_module g.S.State.agrees m) (flags_in l.fn.flags) l.level.visits.items l.fn.findings l.findings;
+  so_far : (m : ModuleTree) → LevelSoFar l.fn.delivery (of_module g.S.State.agrees m) (flags_in l.fn.flags) l.fn.findings (take l.visit-index l.level.visits.items) l.next.visits.items l.findings;
+  notes : (m : ModuleTree) → NotesLevel l.fn.delivery (of_module g.S.State.agrees m) (flags_in l.fn.flags) l.level.visits.items l.fn.findings l.findings;
   fewer : l.left ≤ l.fn.left;
 }

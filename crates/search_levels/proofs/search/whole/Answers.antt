@@ -7,11 +7,11 @@ use Rattle.search_levels.proofs.search.whole.Goals as goal
 
 pub returns-in-Ok : goal.returns-in-Ok
 returns-in-Ok g c = λ m a reached.
-    complete (of_module g.S.State.agrees m) (flags_in c.args.bounds.flags) a c.args.bounds.depth c.args.bounds.states c.args.level.now.visits.items c.args.findings reached (record { nodes = c.args.bounds.states - c.args.left; cut = c.in-Ok.cut }) (c.in-Ok.ensures m) (omega arith)
+    complete c.args.bounds.delivery (of_module g.S.State.agrees m) (flags_in c.args.bounds.flags) a c.args.bounds.depth c.args.bounds.states c.args.level.now.visits.items c.args.findings reached (record { nodes = c.args.bounds.states - c.args.left; cut = c.in-Ok.cut }) (c.in-Ok.ensures m) (omega arith)
 
 pub returns-in-Err : goal.returns-in-Err
 returns-in-Err g c = λ m a reached.
     let flags = flags_in c.args.bounds.flags in
     let depth = c.args.bounds.depth in
     let limit = c.args.bounds.states in
-    rw c.stopped.ensures (stopped_at_end (of_module g.S.State.agrees m) flags a depth limit c.args.level.now.visits.items c.args.findings reached Memory)
+    rw c.stopped.ensures (stopped_at_end c.args.bounds.delivery (of_module g.S.State.agrees m) flags a depth limit c.args.level.now.visits.items c.args.findings reached Memory)

@@ -1,4 +1,4 @@
-use Rattle.tree_schedules.proofs.Least.{errors_of_all, refusals_of_all, errors_least, refusals_least, trees_same}
+use Rattle.tree_schedules.proofs.Least.{errors_of_all, refusals_of_all, errors_least, refusals_least, trees_same, prompt_among_all}
 use Rattle.tree_schedules.proofs.laws.findings_are_of_all.Goals as goal
 
 pub returns-clause-errors : goal.returns-clause-errors
@@ -15,3 +15,6 @@ returns-clause-least_refusals c = refusals_least
 
 pub returns-clause-trees : goal.returns-clause-trees
 returns-clause-trees c = trees_same
+
+pub returns-clause-prompt : goal.returns-clause-prompt
+returns-clause-prompt c = prompt_among_all

@@ -2,7 +2,7 @@ use Rattle.std.proofs.Common.{vec_len}
 use Rattle.core_tree.specs.Syntax.{ModuleTree}
 use Rattle.search_agenda.specs.Plans.{IsWorld}
 use Rattle.search_states.proofs.Following.{AreSoFar}
-use Rattle.search_states.proofs.arriving.arrivals_from.Given as goal
+use Rattle.search_states.proofs.arriving.all_arrivals.Given as goal
 use Rattle.world_model.specs.Events.{History}
 
 -- the arrivals so far, and the plans that are left, are of the enabled steps
