@@ -129,7 +129,7 @@ form_found what m n x found = text_of_form what found.visited (program_of m) n x
 abbrev pub print_found : Printed → ModuleTree → ℕ → Excuses → Explored → Print
 print_found what m n x found = print_of what found.visited (program_of m) n x found.outcome
 
--- no schedule of the module that is followed shows anything that counts as an error, whatever its length
+-- no schedule of the module that delivers signals as the search does shows anything that counts as an error, whatever its length
 abbrev pub ShowsNoErrorEver : ModuleTree → Options → Excuses → Type 0
 ShowsNoErrorEver m options x = (i : Identity) → counts (flags_in options.flags) x i ≡ true → IsEverShownBy (delivery_by options.search) (program_of m) i → ⊥
 
@@ -170,6 +170,6 @@ IsExplorationOf input options x what old new failed _ = ⊥
 abbrev pub ShowsNothingBy : Delivery → (Identity → Bool) → Program → ℕ → Type 0
 ShowsNothingBy d is_counted a n = (i : Identity) → is_counted i ≡ true → IsShownBy d a n i → ⊥
 
--- clean means none: no schedule of the module that is followed and has at most so many steps shows anything that counts as an error
+-- clean means none: no schedule of the module that delivers signals as the search does and has at most so many steps shows anything that counts as an error
 abbrev pub IsCleanIfSaid : List ℕ → Options → Excuses → Result Verdict RunFault → Type 0
 IsCleanIfSaid input options x result = result ≡ Ok Clean → (m : ModuleTree) → SpellsModule input m → ShowsNothingBy (delivery_by options.search) (counts (flags_in options.flags) x) (program_of m) options.depth

@@ -1,5 +1,5 @@
 -- A prompt step is the least delivery, or a turn where there is none.
-use Rattle.std.proofs.Common.{◌≡◌, ◌↔◌, inl, inr, Bool, true, false, true≢false, List, [], ◌∷◌, filter, sym, ap, subst, ◌∙◌}
+use Rattle.std.proofs.Common.{◌≡◌, ◌↔◌, inl, inr, true, false, true≢false, List, [], ◌∷◌, filter, sym, ap, subst, ◌∙◌}
 use Rattle.std.proofs.lemmas.Cmp.{tied_itself}
 use Rattle.std.specs.Ordering.{is_gt, ordering_reverse}
 use Rattle.term_core.specs.StepOrder.{order_of_steps}
