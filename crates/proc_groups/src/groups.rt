@@ -6,6 +6,7 @@ ghost use Rattle.world_model.specs.Changes.{set_in_order, without_first};
 
 use std::alloc::{AllocError, Global};
 use std::collections::{BTreeMap, BTreeSet};
+use std::hash::{Hash, Hasher};
 use term_core::{Pid, RefId};
 
 /// What sets are of: a clone of an item is the same item, and items that compare as equal are the same item.
@@ -142,5 +143,13 @@ impl<K: Member> Groups<K> {
         ensures { (q : List ℕ) → members_in self.new q ≡ (if bytes_eq pid.now q then [] else members_in self.old q) }
     {
         let _items = self.sets.remove(pid);
+    }
+}
+
+impl<K: Member + Hash> Groups<K> {
+    /// Feeds a hasher with each process and the items in its set, by which a search finds what may be the same: it gives
+    /// the same for sets that are. It takes no memory.
+    pub fn feed<H: Hasher>(&self, state: &mut H) {
+        self.sets.hash(state);
     }
 }

@@ -1,5 +1,5 @@
 -- What names have which holders after a change of one.
-use Rattle.std.proofs.Common.{◌≡◌, ◌⊎◌, inl, inr, true, false, cond, IsSome, Option, Some, None, bytes_eq, if◌then◌else◌, refl, subst, sym, ap, ◌∙◌}
+use Rattle.std.proofs.Common.{◌≡◌, true, false, cond, IsSome, Option, Some, bytes_eq, if◌then◌else◌, refl, subst, ap, ◌∙◌}
 use Rattle.std.specs.BTreeMap.{BTreeMap, get, is_at, WritesThrough}
 use Rattle.std.proofs.lemmas.Map.Text.{is_eq-slice_cmp}
 use Rattle.std.proofs.lemmas.Slice.Eq.{bytes_eq-Decides}
@@ -7,9 +7,8 @@ use Rattle.term_core.specs.Order.{order_of_lists}
 use Rattle.world_model.specs.Cells as cells
 use Rattle.world_model.specs.Cells.{Contents}
 use Rattle.world_model.specs.Names.{Name, Pid}
-use Rattle.proc_links.specs.Bearers.{put_at, IsPut, AreSame}
-use Rattle.proc_links.specs.Names.{holder_in, name_in, AreHolders, AreBorne, IsNamed, IsUnchanged}
-use Rattle.proc_links.specs.declared.names.Bearers.{Bearers}
+use Rattle.proc_links.specs.Bearers.{put_at}
+use Rattle.proc_links.specs.Names.{name_in, AreBorne, IsNamed}
 use Rattle.proc_links.specs.declared.names.Names.{Names}
 
 pub put_now : {X : Type 0} (m n : BTreeMap Name X) (k : Name) (w : Option X) → ((q : Name) → get order_of_lists n q ≡ cond (is_at (order_of_lists k) q) w (get order_of_lists m q)) → (q : Name) → get order_of_lists n q ≡ put_at k w q (get order_of_lists m q)
@@ -31,32 +30,5 @@ put_back f k w before is m =
 pub put_there : {X : Type 0} (f : Name → Option X) (k : Name) (x : X) → put_at k (Some x) k (f k) ≡ Some x
 put_there f k x = ap (λ b. if b then Some x else f k) ((bytes_eq-Decides k k).1 refl)
 
-pub same_bearers : (old now : Bearers) → (now ≡ old) ⊎ AreSame old now → AreSame old now
-same_bearers old now (inl e) = record { holders = λ m. ap (λ b. get order_of_lists b.holders m) e; names = λ r. ap (λ b. get order_of_lists b.names r) e }
-same_bearers old now (inr same) = same
-
-pub still_unchanged : (old new : Names) (b c : Bearers) → AreSame old.bearers.value b → AreSame b c → new.bearers.value ≡ c → IsUnchanged old new
-still_unchanged old new b c same next is = record {
-  holders = λ m. ap (λ x. get order_of_lists x.holders m) is ∙ next.holders m ∙ same.holders m;
-  names = λ r. ap (λ x. get order_of_lists x.names r) is ∙ next.names r ∙ same.names r;
-}
-
-pub now_named : (old new : Names) (b c : Bearers) (n : Name) (p : Pid) (h : Option Pid) (w : Option Name) → AreSame old.bearers.value b → IsPut n p h w b c → new.bearers.value ≡ c → IsNamed n p h w old new
-now_named old new b c n p h w same put is = record {
-  holders = λ m. ap (λ x. get order_of_lists x.holders m) is ∙ put.holders m ∙ ap (put_at n h m) (same.holders m);
-  names = λ r. ap (λ x. get order_of_lists x.names r) is ∙ put.names r ∙ ap (put_at p w r) (same.names r);
-}
-
-pub holders_told : (old new : Names) (n : Name) (p : Pid) (h : Option Pid) (w : Option Name) (v : Contents) → IsNamed n p h w old new → AreHolders old v → (m : Name) → holder_in new m ≡ put_at n h m (v (cells.Holder m))
-holders_told old new n p h w v named told m = named.holders m ∙ ap (put_at n h m) (told m)
-
 pub names_told : (old new : Names) (n : Name) (p : Pid) (h : Option Pid) (w : Option Name) (v : Contents) → IsNamed n p h w old new → AreBorne old v → (r : Pid) → name_in new r ≡ put_at p w r (v (cells.NameOf r))
 names_told old new n p h w v named told r = named.names r ∙ ap (put_at p w r) (told r)
-
--- where nothing was, to take it away leaves all as it was
-pub none_away : {X : Type 0} (f g : Name → Option X) (k : Name) → f k ≡ None → ((m : Name) → f m ≡ g m) → (m : Name) → f m ≡ put_at k None m (g m)
-none_away f g k none told m =
-    elim (bytes_eq k m) as (λ b. bytes_eq k m ≡ b → f m ≡ (if b then None else g m)) [
-      | true ↦ λ e. ap f (sym ((bytes_eq-Decides k m).0 e)) ∙ none
-      | false ↦ λ e. told m
-    ] refl

@@ -17,6 +17,7 @@ use crate::process::{Exits, Life};
 use proc_groups::Groups;
 use std::alloc::{AllocError, Global};
 use std::collections::BTreeSet;
+use std::hash::Hasher;
 use std::sync::Arc;
 use term_core::{Pid, Term};
 
@@ -91,6 +92,12 @@ impl Links {
         ensures agrees { result ≡ true → (v : Contents) → AreLinks other.now v → AreLinks self.now v }
     {
         self.partners.is_same(&other.partners)
+    }
+
+    /// Feeds a hasher with each process and its partners, by which a search finds what may be the same: it gives the same
+    /// for links that are. It takes no memory.
+    pub fn feed<H: Hasher>(&self, state: &mut H) {
+        self.partners.feed(state);
     }
 
     /// The processes that a process is linked to, in the order of pids; `None` where there is none. It takes no memory.

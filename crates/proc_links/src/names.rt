@@ -11,6 +11,7 @@ ghost use Rattle.world_model.specs.ProcessLines.{register_refusal, unregister_li
 use crate::process::Life;
 use std::alloc::{AllocError, Global};
 use std::collections::BTreeMap;
+use std::hash::{Hash, Hasher};
 use std::sync::Arc;
 use term_core::{Atom, Pid};
 
@@ -67,6 +68,11 @@ impl Bearers {
             return false;
         }
         self.names == other.names
+    }
+
+    // Feeds a hasher with each name and its holder.
+    fn feed<H: Hasher>(&self, state: &mut H) {
+        self.holders.hash(state);
     }
 
     // A process holds a name, and has it, whatever either had before.
@@ -172,6 +178,12 @@ impl Names {
         ensures names { result ≡ true → (v : Contents) → AreBorne other.now v → AreBorne self.now v }
     {
         self.bearers.is_same(&other.bearers)
+    }
+
+    /// Feeds a hasher with each name and its holder, by which a search finds what may be the same: it gives the same for
+    /// names that are. It takes no memory.
+    pub fn feed<H: Hasher>(&self, state: &mut H) {
+        self.bearers.feed(state);
     }
 
     /// `whereis/1`: who holds a name, or `None`. It takes no memory.

@@ -20,6 +20,7 @@ use crate::living::{Living, living_references};
 use proc_groups::Groups;
 use std::alloc::{AllocError, Global};
 use std::collections::{BTreeMap, BTreeSet};
+use std::hash::{Hash, Hasher};
 use std::sync::Arc;
 use term_core::{Pid, RefId, Term};
 
@@ -66,6 +67,11 @@ impl Watches {
             return false;
         }
         self.targets == other.targets
+    }
+
+    // Feeds a hasher with each reference and the process that it watches.
+    fn feed<H: Hasher>(&self, state: &mut H) {
+        self.targets.hash(state);
     }
 
     // A reference watches a process.
@@ -138,6 +144,12 @@ impl Watchers {
         ensures watches { result ≡ true → (v : Contents) → AreWatches other.now v → AreWatches self.now v }
     {
         self.watches.is_same(&other.watches)
+    }
+
+    /// Feeds a hasher with each reference and the process that it watches, by which a search finds what may be the same: it
+    /// gives the same for watches that are. It takes no memory.
+    pub fn feed<H: Hasher>(&self, state: &mut H) {
+        self.watches.feed(state);
     }
 
     /// The watches of a process, in the order of references; `None` where it has none. It takes no memory.

@@ -15,7 +15,7 @@ use Rattle.world_model.specs.Names.{Pid, same_pid}
 use Rattle.world_model.specs.Requests.{Origin}
 use Rattle.world_model.specs.World.{beginning}
 use Rattle.proc_machines.specs.Courses.{StandsAs, turned, turns_of, standing_of}
-use Rattle.proc_machines.specs.Processes.{Agrees, IsClosed, IsUnchanged, module_of, lives_in, traps_in, course_in, turns_in, standing_in}
+use Rattle.proc_machines.specs.Processes.{Agrees, IsClosed, module_of, lives_in, traps_in, course_in, turns_in, standing_in}
 use Rattle.proc_machines.specs.declared.course.Course.{Course}
 use Rattle.proc_machines.specs.declared.processes.Processes.{Processes}
 
@@ -214,26 +214,3 @@ machines_live m ps v p told =
 pub some_copied : {X : Type 0} (o : Option (Bor X)) → is_some o ≡ is_some (option_copied o)
 some_copied None = refl
 some_copied (Some x) = refl
-
--- where nothing is changed, the processes are still what the contents say
-pub still_agrees : (m : ModuleTree) (old new : Processes) (v : Contents) → IsUnchanged old new → Agrees m old v → Agrees m new v
-still_agrees m old new v same told = record {
-  program = same.program ∙ told.program;
-  alive = λ p. same.alive p ∙ told.alive p;
-  trap = λ p. same.trap p ∙ told.trap p;
-  turns = λ p. ap turns_of (same.courses p) ∙ told.turns p;
-  stands = λ p a. subst (λ c. StandsAs m p (v (cells.Machine p)) (standing_of c)) (sym (same.courses p)) (told.stands p (sym (same.alive p) ∙ a));
-  gone = λ p a. ap standing_of (same.courses p) ∙ told.gone p (sym (same.alive p) ∙ a);
-}
-
--- contents that are the same in the cells of processes are met by the same processes
-pub agrees_alike : (m : ModuleTree) (ps : Processes) (v w : Contents) → ((p : Pid) → v (cells.Alive p) ≡ w (cells.Alive p)) → ((p : Pid) → v (cells.Trap p) ≡ w (cells.Trap p)) → ((p : Pid) → v (cells.Machine p) ≡ w (cells.Machine p))
-    → Agrees m ps v → Agrees m ps w
-agrees_alike m ps v w alive trap machine told = record {
-  program = told.program;
-  alive = λ p. told.alive p ∙ alive p;
-  trap = λ p. told.trap p ∙ trap p;
-  turns = λ p. told.turns p ∙ ap (λ c. c.turns) (machine p);
-  stands = λ p a. subst (λ c. StandsAs m p c (standing_in ps p)) (machine p) (told.stands p a);
-  gone = told.gone;
-}

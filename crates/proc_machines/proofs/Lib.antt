@@ -2,4 +2,3 @@ pub mod Agreeing
 pub mod Placing
 pub mod Listing
 pub mod Ordered
-pub mod Alike

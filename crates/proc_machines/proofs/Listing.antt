@@ -5,11 +5,11 @@ use Rattle.std.proofs.Math.ListN.{set}
 use Rattle.std.proofs.lemmas.Cmp.{nat_list_eq_equiv}
 use Rattle.std.proofs.lemmas.Grind.{common_steps}
 use Rattle.std.proofs.lemmas.List.Sums.{position_or_len_is}
-use Rattle.std.proofs.lemmas.Map.{NonePasses, none_passes_from_lookup, lookup-insert, lookup-set_value}
+use Rattle.std.proofs.lemmas.Map.{NonePasses, none_passes_from_lookup, lookup-insert, lookup-remove_entry, lookup-set_value}
 use Rattle.std.proofs.lemmas.Map.Made.{lookup-map_values}
 use Rattle.std.proofs.lemmas.Slice.Eq.{bytes_eq-Decides}
-use Rattle.std.specs.List.{position_or_len}
-use Rattle.std.specs.Map.{lookup, set_value}
+use Rattle.std.specs.List.{IsDistinct, position_or_len, remove}
+use Rattle.std.specs.Map.{keys_of, lookup, remove_entry, set_value}
 use Rattle.world_model.specs.Names.{Pid, same_pid}
 
 -- ---- the first place that passes a test
@@ -113,3 +113,46 @@ found_there show p es n any place =
 
 pub found_nowhere : {X Y : Type 0} (show : X → Y) (p : Pid) (es : List (Pid × X)) → None ≡ position (λ e. same_pid p e.0) es → None ≡ lookup (same_pid p) (shown show es)
 found_nowhere show p es place = sym (lookup-map_values show (same_pid p) es ∙ ap (option_map show) (absent (same_pid p) es (unplaced (λ e. same_pid p e.0) es (sym place))))
+
+-- ---- what is found after one is left out
+
+removed_if : {K X : Type 0} (b : Bool) (e : K × X) (es fs : List (K × X)) (n : ℕ) → remove es n ≡ fs → remove (e ∷ es) (cond (not b) (1 + n) 0) ≡ cond b es (e ∷ fs)
+removed_if true e es fs n later = refl
+removed_if false e es fs n later = ap (remove (e ∷ es)) (sym (one_more n)) ∙ ap (λ xs. e ∷ xs) later
+
+removed : {K X : Type 0} (test : K → Bool) (es : List (K × X)) → remove es (position_or_len (λ e. test e.0) es) ≡ remove_entry test es
+removed test [] = refl
+removed test (e ∷ es) = removed_if (test e.0) e es (remove_entry test es) (position_or_len (λ e. test e.0) es) (removed test es)
+
+none_over_if : {X Y : Type 0} (f : X → Y) (b : Bool) (o : Option X) → option_map f (cond b None o) ≡ (if b then None else option_map f o)
+none_over_if f true o = refl
+none_over_if f false o = refl
+
+pub left_out : {X Y : Type 0} (show : X → Y) (p : Pid) (es fs : List (Pid × X)) (n : ℕ) → IsDistinct same_pid (keys_of es) → Some n ≡ position (λ e. same_pid p e.0) es → fs ≡ remove es n
+    → (q : Pid) → lookup (same_pid q) (shown show fs) ≡ (if same_pid p q then None else lookup (same_pid q) (shown show es))
+left_out show p es fs n distinct place is q =
+    let at = placed (λ e. same_pid p e.0) es n (sym place) in
+    let now : fs ≡ remove_entry (same_pid p) es = is ∙ ap (remove es) (sym at.0) ∙ removed (same_pid p) es in
+    lookup-map_values show (same_pid q) fs ∙ ap (λ xs. option_map show (lookup (same_pid q) xs)) now
+    ∙ ap (option_map show) (lookup-remove_entry nat_list_eq_equiv (same_pid p) (same_test p) q es distinct)
+    ∙ none_over_if show (same_pid p q) (lookup (same_pid q) es)
+    ∙ ap (λ o. if same_pid p q then None else o) (sym (lookup-map_values show (same_pid q) es))
+
+none_if : {Y : Type 0} (b : Bool) (o : Option Y) → (b ≡ true → o ≡ None) → o ≡ (if b then None else o)
+none_if true o none = none refl
+none_if false o none = refl
+
+-- a process that was not there is left out already
+pub never_there : {X Y : Type 0} (show : X → Y) (p : Pid) (es : List (Pid × X)) → None ≡ position (λ e. same_pid p e.0) es
+    → (q : Pid) → lookup (same_pid q) (shown show es) ≡ (if same_pid p q then None else lookup (same_pid q) (shown show es))
+never_there show p es place q =
+    none_if (same_pid p q) (lookup (same_pid q) (shown show es)) (λ e. ap (λ r. lookup (same_pid r) (shown show es)) (sym ((bytes_eq-Decides p q).0 e)) ∙ sym (found_nowhere show p es place))
+
+-- ---- what one process has is what it has in another list
+
+here_if : {Y : Type 0} (b : Bool) (x y z : Y) → (b ≡ true → x ≡ y) → (if b then x else z) ≡ (if b then y else z)
+here_if true x y z same = same refl
+here_if false x y z same = refl
+
+pub at_its_pid : {Y : Type 0} (p : Pid) (o : Option Y) (other old new : Pid → Option Y) → o ≡ other p → ((q : Pid) → new q ≡ (if same_pid p q then o else old q)) → (q : Pid) → new q ≡ (if same_pid p q then other q else old q)
+at_its_pid p o other old new here is q = is q ∙ here_if (same_pid p q) o (other q) (old q) (λ e. here ∙ ap other ((bytes_eq-Decides p q).0 e))

@@ -4,8 +4,10 @@ use Rattle.std.proofs.Math.ListN.{set}
 use Rattle.std.proofs.lemmas.Bool.{cases_lt}
 use Rattle.std.proofs.lemmas.Cmp.{nat_list_cmp_total, tied_itself}
 use Rattle.std.proofs.lemmas.Map.{NonePasses}
+use Rattle.std.proofs.lemmas.Map.Keys.{IsDistinct-from_sorted}
+use Rattle.std.proofs.lemmas.Map.Text.{is_eq-slice_cmp}
 use Rattle.std.proofs.lemmas.Slice.Eq.{bytes_eq-Decides}
-use Rattle.std.specs.List.{AllByRecursion}
+use Rattle.std.specs.List.{AllByRecursion, IsDistinct, remove}
 use Rattle.std.specs.List.Sorted.{IsStrictlySortedBy}
 use Rattle.std.specs.Map.{keys_of}
 use Rattle.std.specs.Ordering.{ordering_reverse}
@@ -102,6 +104,23 @@ module _ {X : Type 0} where
     all_inserted (λ k. order_of_lists e.0 k ≡ Less) es n x (omega arith) (before 0 e (omega arith) (omega arith)) sorted.0,
     inserted_in_order es n x (omega arith) (λ k d low high. before (suc k) d (omega arith) (omega arith)) (λ h. behind (omega arith)) none.1 sorted.1,
   )
+
+  all_removed : (P : Pid → Type 0) (es : List (Pid × X)) (n : ℕ) → AllByRecursion P (keys_of es) → AllByRecursion P (keys_of (remove es n))
+  all_removed P [] zero all = tt
+  all_removed P [] (suc n) all = tt
+  all_removed P (e ∷ es) zero all = all.1
+  all_removed P (e ∷ es) (suc n) all = (all.0, all_removed P es n all.1)
+
+  pub removed_in_order : (es : List (Pid × X)) (n : ℕ) → AreInOrder es → AreInOrder (remove es n)
+  unfolding IsStrictlySortedBy
+  removed_in_order [] zero sorted = tt
+  removed_in_order [] (suc n) sorted = tt
+  removed_in_order (e ∷ es) zero sorted = sorted.1
+  removed_in_order (e ∷ es) (suc n) sorted = (all_removed (λ k. order_of_lists e.0 k ≡ Less) es n sorted.0, removed_in_order es n sorted.1)
+
+  -- processes in order are each there once
+  pub each_once : (es : List (Pid × X)) → AreInOrder es → IsDistinct same_pid (keys_of es)
+  each_once es sorted = subst (λ eq. IsDistinct eq (keys_of es)) (λ i x y. is_eq-slice_cmp x y i) (IsDistinct-from_sorted order_of_lists (keys_of es) sorted)
 
 -- a list that was written or stayed as it was
 pub either_in_order : {X : Type 0} (written : Bool) (old new now : List (Pid × X)) → AreInOrder old → AreInOrder new → now ≡ (if written then new else old) → AreInOrder now

@@ -1,6 +1,6 @@
 -- How far processes have come.
 use Rattle.std.specs.Map.{lookup}
-use Rattle.std.specs.Prelude.{◌≡◌, ◌+◌, ◌++◌, ℕ, List, [], ◌∷◌, Option, Some, None, map, if◌then◌else◌}
+use Rattle.std.specs.Prelude.{◌≡◌, ◌+◌, ◌++◌, ℕ, List, Option, Some, None, map, if◌then◌else◌}
 use Rattle.core_tree.specs.Syntax.{ModuleTree}
 use Rattle.core_semantics.specs.Ask.{ask}
 use Rattle.core_semantics.specs.Asked.{Answered}
@@ -43,9 +43,21 @@ course_at courses p = lookup (same_pid p) (listed courses.courses.value)
 abbrev pub IsPut : Pid → Course → List (Pid × Course) → List (Pid × Course) → Type 0
 IsPut p course old new = (q : Pid) → lookup (same_pid q) new ≡ (if same_pid p q then Some course else lookup (same_pid q) old)
 
+-- one process has no course in a list, and the others those that they had
+abbrev pub IsLeftOut : Pid → List (Pid × Course) → List (Pid × Course) → Type 0
+IsLeftOut p old new = (q : Pid) → lookup (same_pid q) new ≡ (if same_pid p q then None else lookup (same_pid q) old)
+
+-- one process has in a list what it has in another, and the others have the courses that they had
+abbrev pub IsTakenOver : Pid → List (Pid × Course) → List (Pid × Course) → List (Pid × Course) → Type 0
+IsTakenOver p other old new = (q : Pid) → lookup (same_pid q) new ≡ (if same_pid p q then lookup (same_pid q) other else lookup (same_pid q) old)
+
 -- one process has this course, and the others those that they had
 abbrev pub HasAt : Pid → Course → Courses → Courses → Type 0
 HasAt p course old new = (q : Pid) → course_at new q ≡ (if same_pid p q then Some course else course_at old q)
+
+-- one process has the course that it has among others, if it has one there, and the others have those that they had
+abbrev pub TakesAt : Pid → Courses → Courses → Courses → Type 0
+TakesAt p other old new = (q : Pid) → course_at new q ≡ (if same_pid p q then course_at other q else course_at old q)
 
 -- the same courses
 abbrev pub AreSame : Courses → Courses → Type 0
@@ -66,13 +78,3 @@ abbrev pub AreSameIf : Option Course → Option Course → Type 0
 AreSameIf None None = Unit {0}
 AreSameIf (Some a) (Some b) = IsSameCourse a b
 AreSameIf a b = ⊥
-
--- the same processes in one order, each with courses that are the same
-abbrev pub AreSameLists : List (Pid × Course) → List (Pid × Course) → Type 0
-AreSameLists [] [] = Unit {0}
-AreSameLists (e ∷ es) (f ∷ fs) = (e.0 ≡ f.0) × IsSameCourse e.1 f.1 × AreSameLists es fs
-AreSameLists es fs = ⊥
-
--- each process has courses that are the same
-abbrev pub AreSameCourses : Courses → Courses → Type 0
-AreSameCourses one other = (p : Pid) → AreSameIf (course_at one p) (course_at other p)

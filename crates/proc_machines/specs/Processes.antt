@@ -87,6 +87,16 @@ pub record IsClosed (p : Pid) (course : Course) (old new : Processes) : Type 0 w
   pub trap : (q : Pid) → traps_in new q ≡ traps_in old q
   pub courses : (q : Pid) → course_in new q ≡ (if same_pid p q then Some course else course_in old q)
 
--- what one agrees with the other agrees with too, where both are of one module
-abbrev pub AgreesToo : Processes → Processes → Type 0
-AgreesToo one other = (m : ModuleTree) (v w : Contents) → Agrees m one v → Agrees m other w → Agrees m one w
+-- one process has come as far as it has among others, and nothing else is changed
+pub record TakesCourse (p : Pid) (other old new : Processes) : Type 0 where
+  pub program : module_of new ≡ module_of old
+  pub alive : (q : Pid) → lives_in new q ≡ lives_in old q
+  pub trap : (q : Pid) → traps_in new q ≡ traps_in old q
+  pub courses : (q : Pid) → course_in new q ≡ (if same_pid p q then course_in other q else course_in old q)
+
+-- one process lives, and traps exits, where it does among others, and nothing else is changed
+pub record TakesFlags (p : Pid) (other old new : Processes) : Type 0 where
+  pub program : module_of new ≡ module_of old
+  pub alive : (q : Pid) → lives_in new q ≡ (if same_pid p q then lives_in other q else lives_in old q)
+  pub trap : (q : Pid) → traps_in new q ≡ (if same_pid p q then traps_in other q else traps_in old q)
+  pub courses : (q : Pid) → course_in new q ≡ course_in old q

@@ -16,7 +16,7 @@ pub(crate) struct Course<'m> {
     pub(crate) turns: u64,
 }
 
-ghost use Rattle.proc_machines.specs.Courses.{AreOneIf, IsSameCourse, StandsAs, turned, turns_of, standing_of};
+ghost use Rattle.proc_machines.specs.Courses.{AreOneIf, AreSameIf, IsSameCourse, StandsAs, turned, turns_of, standing_of};
 
 /// How many turns a process took; none where it was never begun.
 pub(crate) fn turns_of(course: Option<&Course<'_>>) -> u64
@@ -123,6 +123,17 @@ pub(crate) fn killed<'m>(course: Option<&Course<'m>>) -> Course<'m>
 // Whether two machines of one module ask the same, or there are none.
 fn same_machine(one: Option<&Machine<'_>>, other: Option<&Machine<'_>>) -> bool
     ensures { result ≡ true → AreOneIf (option_copied one.entry) (option_copied other.entry) }
+{
+    match (one, other) {
+        (None, None) => true,
+        (Some(one), Some(other)) => one.is_same(other),
+        _ => false,
+    }
+}
+
+/// Whether two courses are the same, or there are none. It takes no memory.
+pub(crate) fn same_course(one: Option<&Course<'_>>, other: Option<&Course<'_>>) -> bool
+    ensures { result ≡ true → AreSameIf (option_copied one.entry) (option_copied other.entry) }
 {
     match (one, other) {
         (None, None) => true,

@@ -1,5 +1,5 @@
 // How far each process has come: copies share it until one of them is changed.
-ghost use Rattle.std.specs.Prelude.{◌≡◌, ◌≢◌, ◌<◌, ◌≤◌, length, IfOk, OnOk, OnErr, None, option_copied, position, true};
+ghost use Rattle.std.specs.Prelude.{◌≡◌, ◌≢◌, ◌<◌, ◌≤◌, length, IfOk, OnOk, OnErr, None, option_copied, position};
 ghost use Rattle.std.specs.List.{AllWithin, HoldsAt};
 ghost use Rattle.std.specs.List.Sorted.{IsStrictlySortedBy, IsStrictlySortedBy-prop};
 ghost use Rattle.std.specs.Map.{keys_of};
@@ -10,7 +10,6 @@ ghost use Rattle.world_model.specs.Names.{same_pid};
 use crate::course::Course;
 use std::alloc::{AllocError, Global};
 use std::cmp::Ordering;
-use std::hash::{Hash, Hasher};
 use std::sync::Arc;
 use term_core::Pid;
 
@@ -42,43 +41,7 @@ impl<'m> Clone for CourseList<'m> {
 }
 
 impl<'m> CourseList<'m> {
-    ghost use Rattle.proc_machines.specs.Courses.{AreSameLists, IsPut, IsSameCourse, listed};
-
-    // Whether two entries are of one process, with courses that are the same.
-    fn same_entry(one: &(Pid, Arc<Course<'m>>), other: &(Pid, Arc<Course<'_>>)) -> bool
-        ensures pid { result ≡ true → one.now.0 ≡ other.now.0 }
-        ensures course { result ≡ true → IsSameCourse one.now.1.value other.now.1.value }
-    {
-        if one.0 != other.0 {
-            return false;
-        }
-        one.1.is_same(&other.1)
-    }
-
-    /// Whether two lists have the same processes, each with courses that are the same. It takes no memory.
-    fn is_same(&self, other: &CourseList<'_>) -> bool
-        ensures { result ≡ true → AreSameLists (listed self.now) (listed other.now) }
-    {
-        let left = self.entries.as_slice();
-        let right = other.entries.as_slice();
-        if left.len() != right.len() {
-            return false;
-        }
-        for place in 0..left.len() {
-            if !Self::same_entry(&left[place], &right[place]) {
-                return false;
-            }
-        }
-        true
-    }
-
-    // Feeds a hasher with each process and its course.
-    fn feed<H: Hasher>(&self, state: &mut H) {
-        for (pid, course) in self.entries.as_slice() {
-            pid.hash(state);
-            course.feed(state);
-        }
-    }
+    ghost use Rattle.proc_machines.specs.Courses.{IsLeftOut, IsPut, IsTakenOver, listed};
 
     // Where a process is or is put in: after those that come before it.
     fn room(&self, pid: &Pid) -> usize
@@ -130,6 +93,30 @@ impl<'m> CourseList<'m> {
         self.entries[place].1 = course;
         Ok(())
     }
+
+    // Leaves out a process, with its course. It takes no memory.
+    fn leave_out(&mut self, pid: &Pid)
+        ensures { IsLeftOut pid.now (listed self.old) (listed self.new) }
+    {
+        let Some(place) = self.place(pid) else {
+            return;
+        };
+        self.entries.remove(place);
+    }
+
+    // Gives a process the course that it has in another list, which both share then; where it has none there, it is
+    // left out.
+    fn take_from(&mut self, pid: &Pid, other: &CourseList<'m>) -> Result<(), AllocError>
+        ensures { OnOk result (IsTakenOver pid.now (listed other.now) (listed self.old) (listed self.new)) }
+    {
+        let Some(place) = other.place(pid) else {
+            self.leave_out(pid);
+            return Ok(());
+        };
+        let course = Arc::try_clone(&other.entries[place].1)?;
+        self.put(pid, course)?;
+        Ok(())
+    }
 }
 
 /// The course of each process that was begun.
@@ -139,19 +126,7 @@ pub(crate) struct Courses<'m> {
 }
 
 impl<'m> Courses<'m> {
-    ghost use Rattle.proc_machines.specs.Courses.{AreSame, AreSameCourses, HasAt, course_at};
-
-    /// Whether each process has courses that are the same. It takes no memory.
-    pub(crate) fn is_same(&self, other: &Courses<'_>) -> bool
-        ensures { result ≡ true → AreSameCourses self.now other.now }
-    {
-        self.courses.is_same(&other.courses)
-    }
-
-    /// Feeds a hasher with all courses: the same for courses that are the same. It takes no memory.
-    pub(crate) fn feed<H: Hasher>(&self, state: &mut H) {
-        self.courses.feed(state);
-    }
+    ghost use Rattle.proc_machines.specs.Courses.{AreSame, HasAt, TakesAt, course_at};
 
     /// No courses, or `AllocError` if there is no memory.
     pub(crate) fn new(alloc: Global) -> Result<Courses<'m>, AllocError>
@@ -198,6 +173,15 @@ impl<'m> Courses<'m> {
         let course = Arc::new(alloc, course)?;
         let courses = Arc::make_mut(&mut self.courses)?;
         courses.put(pid, course)?;
+        Ok(())
+    }
+
+    /// Takes over the course of one process from others, and shares it with them. `AllocError` if there is no memory.
+    pub(crate) fn take_from(&mut self, pid: &Pid, other: &Courses<'m>) -> Result<(), AllocError>
+        ensures { OnOk result (TakesAt pid.now other.now self.old self.new) }
+    {
+        let courses = Arc::make_mut(&mut self.courses)?;
+        courses.take_from(pid, &other.courses)?;
         Ok(())
     }
 }

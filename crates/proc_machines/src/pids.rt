@@ -3,7 +3,6 @@ ghost use Rattle.std.specs.Prelude.{◌≡◌, true, false, IfOk, OnOk, OnErr, i
 ghost use Rattle.std.specs.BTreeSet.{contains};
 ghost use Rattle.term_core.specs.Order.{order_of_lists};
 ghost use Rattle.world_model.specs.Names as names;
-ghost use Rattle.world_model.specs.Names.{same_pid};
 
 use std::alloc::{AllocError, Global};
 use std::collections::BTreeSet;
@@ -17,7 +16,7 @@ pub(crate) struct Pids {
 }
 
 impl Pids {
-    ghost use Rattle.proc_machines.specs.Pids.{is_in, HasAt, AreSame};
+    ghost use Rattle.proc_machines.specs.Pids.{is_in, HasAt, AreSame, TakesAt};
 
     /// No processes, or `AllocError` if there is no memory.
     pub(crate) fn new(alloc: Global) -> Result<Pids, AllocError>
@@ -35,13 +34,6 @@ impl Pids {
         Ok(Pids {
             pids: Arc::try_clone(&self.pids)?,
         })
-    }
-
-    /// Whether the same processes are among them. It takes no memory.
-    pub(crate) fn is_same(&self, other: &Pids) -> bool
-        ensures { result ≡ true → AreSame self.now other.now }
-    {
-        *self.pids == *other.pids
     }
 
     /// Whether a process is among them. It takes no memory.
@@ -77,6 +69,18 @@ impl Pids {
     {
         let pids = Arc::make_mut(&mut self.pids)?;
         pids.remove(pid);
+        Ok(())
+    }
+
+    /// Has one process among them if others have it, and else not. `AllocError` if there is no memory.
+    pub(crate) fn take_from(&mut self, pid: &Pid, other: &Pids) -> Result<(), AllocError>
+        ensures { OnOk result (TakesAt pid.now other.now self.old self.new) }
+    {
+        if other.has(pid) {
+            self.put(pid)?;
+            return Ok(());
+        }
+        self.take(pid)?;
         Ok(())
     }
 }

@@ -1,12 +1,12 @@
 // The processes of a world (Erlang reference manual, "Processes").
-ghost use Rattle.std.specs.Prelude.{◌≡◌, ◌+◌, ◌∷◌, [], false, true, IfOk, OnOk, OnErr, IfSome, IfNone, Some, None, option_copied, option_map, is_some};
+ghost use Rattle.std.specs.Prelude.{◌≡◌, ◌+◌, ◌∷◌, [], false, true, IfOk, OnOk, OnErr, IfSome, Some, option_copied, option_map, is_some};
 ghost use Rattle.std.specs.BTreeSet.{contains};
 ghost use Rattle.core_eval.specs.Requests.{answered_of, told_by};
 ghost use Rattle.core_tree.specs.Syntax.{ModuleTree};
 ghost use Rattle.proc_links.specs.Process.{are_trapped};
-ghost use Rattle.proc_machines.specs.Courses.{StandsAs};
+ghost use Rattle.proc_machines.specs.Courses.{AreSameIf, StandsAs};
 ghost use Rattle.proc_machines.specs.Receivers.{taken_by};
-ghost use Rattle.proc_machines.specs.Processes.{Agrees, AgreesToo, IsClosed, IsRequestOf, IsUnchanged, changes_begun, lives_in, traps_in, turns_in, module_of, request_with, selects_in, standing_in};
+ghost use Rattle.proc_machines.specs.Processes.{Agrees, IsClosed, IsRequestOf, IsUnchanged, TakesCourse, TakesFlags, changes_begun, course_in, lives_in, traps_in, turns_in, request_with, selects_in, standing_in};
 ghost use Rattle.term_core.specs.Meaning.{Meaning};
 ghost use Rattle.term_core.specs.Order.{order_of_lists};
 ghost use Rattle.world_model.specs.Cells as cells;
@@ -17,7 +17,9 @@ ghost use Rattle.world_model.specs.Requests.{Spawned};
 ghost use Rattle.world_model.specs.Steps.{asked};
 ghost use Rattle.world_model.specs.World.{beginning};
 
-use crate::course::{Course, answered, ended, killed, machine_of, next_turn, turns_of};
+use crate::course::{
+    Course, answered, ended, killed, machine_of, next_turn, same_course, turns_of,
+};
 use crate::courses::Courses;
 use crate::pids::Pids;
 use crate::receiver::Receiver;
@@ -26,7 +28,7 @@ use core_tree::Module;
 use proc_links::Exits;
 use std::alloc::{AllocError, Global};
 use std::collections::BTreeSet;
-use std::hash::Hasher;
+use std::hash::{Hash, Hasher};
 use term_core::{Atom, Pid, Terms};
 
 /// The processes of a module: the machine of each that lives, how many turns each took, which of them live, and which
@@ -96,24 +98,59 @@ impl<'m> Processes<'m> {
         })
     }
 
-    /// Whether these processes agree with all that others agree with, both of one module: the same processes live and trap
-    /// exits, and each took as many turns and will ask the same. It takes no memory.
-    pub fn is_same(&self, other: &Processes<'_>) -> bool
-        ensures { result ≡ true → AgreesToo self.now other.now }
+    /// Whether one process took as many turns in both and has machines that ask the same, or was begun in neither. It takes no
+    /// memory.
+    pub fn is_same_course(&self, pid: &Pid, other: &Processes<'_>) -> bool
+        ensures { result ≡ true → AreSameIf (course_in self.now pid.now) (course_in other.now pid.now) }
     {
-        if !self.living.is_same(&other.living) {
-            return false;
-        }
-        if !self.trapping.is_same(&other.trapping) {
-            return false;
-        }
-        self.courses.is_same(&other.courses)
+        same_course(self.courses.of(pid), other.courses.of(pid))
     }
 
-    /// Feeds a hasher with the course of each process, by which a search finds what may be the same: it gives the same for
-    /// processes that are. It takes no memory.
-    pub fn feed<H: Hasher>(&self, state: &mut H) {
-        self.courses.feed(state);
+    /// Whether one process lives in both or in neither, and traps exits in both or in neither. It takes no memory.
+    pub fn is_same_flags(&self, pid: &Pid, other: &Processes<'_>) -> bool
+        ensures lives { result ≡ true → lives_in self.now pid.now ≡ lives_in other.now pid.now }
+        ensures traps { result ≡ true → traps_in self.now pid.now ≡ traps_in other.now pid.now }
+    {
+        if self.lives(pid) != other.lives(pid) {
+            return false;
+        }
+        self.trapping.has(pid) == other.trapping.has(pid)
+    }
+
+    /// Feeds a hasher with the course of one process, by which a search finds what may be the same: it gives the same for
+    /// courses that are. It takes no memory.
+    pub fn feed_course<H: Hasher>(&self, pid: &Pid, state: &mut H) {
+        if let Some(course) = self.courses.of(pid) {
+            course.feed(state);
+        }
+    }
+
+    /// Feeds a hasher with whether one process lives and whether it traps exits, by which a search finds what may be the
+    /// same. It takes no memory.
+    pub fn feed_flags<H: Hasher>(&self, pid: &Pid, state: &mut H) {
+        self.lives(pid).hash(state);
+        self.trapping.has(pid).hash(state);
+    }
+
+    /// Takes over how far one process has come, with its machine, from other processes, and shares it with them; which
+    /// processes live and trap exits stays, and so do the other courses. `AllocError` if there is no memory: then the
+    /// processes may be changed in part, and the caller drops them.
+    pub fn take_course(&mut self, pid: &Pid, other: &Processes<'m>) -> Result<(), AllocError>
+        ensures ok { OnOk result (TakesCourse pid.now other.now self.old self.new) }
+    {
+        self.courses.take_from(pid, &other.courses)?;
+        Ok(())
+    }
+
+    /// Takes over from other processes whether one process lives and whether it traps exits; how far it has come stays,
+    /// and all of the others stays. `AllocError` if there is no memory: then the processes may be changed in part, and
+    /// the caller drops them.
+    pub fn take_flags(&mut self, pid: &Pid, other: &Processes<'_>) -> Result<(), AllocError>
+        ensures ok { OnOk result (TakesFlags pid.now other.now self.old self.new) }
+    {
+        self.living.take_from(pid, &other.living)?;
+        self.trapping.take_from(pid, &other.trapping)?;
+        Ok(())
     }
 
     /// Whether a process lives: it was begun and has not ended. It takes no memory.

@@ -13,15 +13,12 @@ use Rattle.proc_signals.proofs.Removing.{place_selected, place_removed}
 use Rattle.proc_signals.proofs.Cells.{mails_at, picks_at}
 use Rattle.world_model.proofs.MailboxLaws.{selected_there, without_selected, without_none}
 use Rattle.proc_signals.specs.Mailbox.{first_place, IsMailbox}
+use Rattle.proc_mailboxes.proofs.Kept.{if_alike}
 use Rattle.proc_mailboxes.specs.Mailboxes.{Mailboxes, AreMailboxes, IsChangedAt, messages_in}
 
 -- a message comes in at one process
 pub mails_follow : (p : Pid) (m : Meaning) (old new : Mailboxes) (v : Contents) → IsChangedAt p (λ messages. messages ++ m ∷ []) old new → AreMailboxes old v → AreMailboxes new (changed (MessageAdded p m) v)
 mails_follow p m old new v is told q = subst (λ ms. IsMailbox ms (changed (MessageAdded p m) v) q) (sym (is q)) (mails_at p q m (messages_in old q) v (told q))
-
-if_alike : (b : Bool) (x y z : List Meaning) → (b ≡ true → x ≡ y) → (if b then x else z) ≡ (if b then y else z)
-if_alike true x y z same = same refl
-if_alike false x y z same = refl
 
 -- the same change, made in another way
 in_other_way : (f g : List Meaning → List Meaning) (p : Pid) (old new : Mailboxes) → f (messages_in old p) ≡ g (messages_in old p) → IsChangedAt p f old new → IsChangedAt p g old new

@@ -12,7 +12,7 @@ use Rattle.term_core.specs.Order.{order_of_lists}
 use Rattle.world_model.specs.Names.{Pid, same_pid}
 use Rattle.proc_signals.proofs.Beside.{pids_same}
 use Rattle.proc_signals.specs.Channels.{beside}
-use Rattle.proc_mailboxes.specs.Mailboxes.{Mailboxes, IsChangedAt, messages_in, messages_of}
+use Rattle.proc_mailboxes.specs.Mailboxes.{Mailboxes, IsChangedAt, TakesFrom, messages_in, messages_of}
 
 -- a process is changed, another is not
 after_if : (f : List Meaning → List Meaning) (w o : Option (List Meaning)) (b : Bool) → (b ≡ true → messages_of w ≡ f (messages_of o)) → messages_of (if b then w else o) ≡ (if b then f (messages_of o) else messages_of o)
@@ -33,6 +33,14 @@ pub changed_at : (f : List Meaning → List Meaning) (es fs now : Mailboxes) (j 
 changed_at f es fs now j k w view same new here =
     subst (λ m. IsChangedAt k f m fs) view
     (subst (λ p. IsChangedAt p f es fs) same (at_key f es fs j w new (here ∙ ap (λ m. f (messages_in m k)) (sym view) ∙ ap (λ p. f (messages_in es p)) (sym same))))
+
+pub if_alike : (b : Bool) (x y z : List Meaning) → (b ≡ true → x ≡ y) → (if b then x else z) ≡ (if b then y else z)
+if_alike true x y z same = same refl
+if_alike false x y z same = refl
+
+-- a process that has the messages of its mailbox in others takes them over
+pub takes_from : (p : Pid) (other old new : Mailboxes) → IsChangedAt p (λ _. messages_in other p) old new → TakesFrom p other old new
+takes_from p other old new is q = is q ∙ if_alike (same_pid p q) (messages_in other p) (messages_in other q) (messages_in old q) (λ e. ap (messages_in other) (pids_same p q e))
 
 -- what is made of the messages that were there
 pub made_of : (f : List Meaning → List Meaning) (es now : Mailboxes) (k : Pid) (was new : List Meaning) → es ≡ now → Some was ≡ lookup (is_at (order_of_lists k)) es → new ≡ f was → new ≡ f (messages_in now k)

@@ -37,3 +37,7 @@ IsUnchanged old new = (p : Pid) → messages_in new p ≡ messages_in old p
 -- one process has what f makes of its messages, and the others have those that they had
 abbrev pub IsChangedAt : Pid → (List Meaning → List Meaning) → Mailboxes → Mailboxes → Type 0
 IsChangedAt p f old new = (q : Pid) → messages_in new q ≡ (if same_pid p q then f (messages_in old q) else messages_in old q)
+
+-- one process has the messages that it has in others, and the others have those that they had
+abbrev pub TakesFrom : Pid → Mailboxes → Mailboxes → Mailboxes → Type 0
+TakesFrom p other old new = (q : Pid) → messages_in new q ≡ (if same_pid p q then messages_in other q else messages_in old q)

@@ -1,7 +1,7 @@
 // Mailboxes by their processes, as they lie in memory.
 ghost use Rattle.std.specs.Prelude.{◌≡◌, ◌<◌, [], ◌∷◌, ◌++◌, IfOk, OnOk, OnErr, length, option_copied, option_map, slice_get, true};
 ghost use Rattle.std.specs.List.{remove};
-ghost use Rattle.proc_mailboxes.specs.Mailboxes.{IsChangedAt, messages_in};
+ghost use Rattle.proc_mailboxes.specs.Mailboxes.{IsChangedAt, TakesFrom, messages_in};
 ghost use Rattle.proc_signals.specs.Channels.{beside};
 ghost use Rattle.term_core.specs.Term.{meaning_of};
 
@@ -9,7 +9,7 @@ use crate::held::Held;
 use proc_signals::Mailbox;
 use std::alloc::{AllocError, Global};
 use std::collections::BTreeMap;
-use std::hash::{Hash, Hasher};
+use std::hash::Hasher;
 use std::marker::Model;
 use term_core::{Pid, Term};
 
@@ -54,17 +54,20 @@ impl MailboxMap {
         }
     }
 
-    /// Whether the same processes have mailboxes with the same messages. It takes no memory.
-    pub(crate) fn is_same(&self, other: &MailboxMap) -> bool
-        ensures { result ≡ true → self.now ≡ other.now }
+    /// Whether one process has a mailbox with the same messages in both, or in none of them. It takes no memory.
+    pub(crate) fn is_same_at(&self, pid: &Pid, other: &MailboxMap) -> bool
+        ensures { result ≡ true → messages_in self.now pid.now ≡ messages_in other.now pid.now }
     {
-        self.mailboxes == other.mailboxes
+        match (self.mailboxes.get(pid), other.mailboxes.get(pid)) {
+            (None, None) => true,
+            (Some(one), Some(another)) => *one == *another,
+            _ => false,
+        }
     }
 
-    /// Feeds a hasher with each process and its messages: the same for mailboxes that are the same. It takes no memory.
-    pub(crate) fn feed<H: Hasher>(&self, state: &mut H) {
-        for (pid, held) in self.mailboxes.iter() {
-            pid.hash(state);
+    /// Feeds a hasher with the messages of one process: the same for mailboxes that are the same. It takes no memory.
+    pub(crate) fn feed_at<H: Hasher>(&self, pid: &Pid, state: &mut H) {
+        if let Some(held) = self.mailboxes.get(pid) {
             held.mailbox().feed(state);
         }
     }
@@ -101,6 +104,19 @@ impl MailboxMap {
     {
         let mailbox = Held::of(alloc, message)?;
         self.mailboxes.insert(pid.copy()?, mailbox)?;
+        Ok(())
+    }
+
+    /// Takes over the mailbox of one process, which both share then, or has none for it where the other has none.
+    /// `AllocError` if there is no memory for it.
+    pub(crate) fn take_from(&mut self, pid: &Pid, other: &MailboxMap) -> Result<(), AllocError>
+        ensures { OnOk result (TakesFrom pid.now other.now self.old self.new) }
+    {
+        let Some(held) = other.mailboxes.get(pid) else {
+            self.mailboxes.remove(pid);
+            return Ok(());
+        };
+        self.mailboxes.insert(pid.copy()?, held.clone()?)?;
         Ok(())
     }
 

@@ -1,7 +1,7 @@
 // The mailboxes of all processes: copies share them until one of them is changed.
 ghost use Rattle.std.specs.Prelude.{◌≡◌, ◌<◌, [], ◌∷◌, ◌++◌, IfOk, IfSome, OnOk, OnErr, None, length, option_and_then, option_copied, option_map, slice_get, true};
 ghost use Rattle.std.specs.List.{remove};
-ghost use Rattle.proc_mailboxes.specs.Mailboxes.{AreMailboxes, IsChangedAt, IsTakenFrom, IsUnchanged, messages_in, messages_of};
+ghost use Rattle.proc_mailboxes.specs.Mailboxes.{AreMailboxes, IsChangedAt, IsTakenFrom, IsUnchanged, TakesFrom, messages_in, messages_of};
 ghost use Rattle.proc_signals.specs.Mailbox.{first_place};
 ghost use Rattle.term_core.specs.Term.{meaning_of};
 ghost use Rattle.world_model.specs.Cells.{Contents};
@@ -65,19 +65,28 @@ impl Mailboxes {
         })
     }
 
-    /// Whether each process has the same messages: where it is so, these agree with all contents that the others agree with.
-    /// It takes no memory.
-    pub fn is_same(&self, other: &Mailboxes) -> bool
-        ensures same { result ≡ true → IsUnchanged self.now other.now }
-        ensures agrees { result ≡ true → (v : Contents) → AreMailboxes other.now v → AreMailboxes self.now v }
+    /// Whether one process has the same messages in both. It takes no memory.
+    pub fn is_same_at(&self, pid: &Pid, other: &Mailboxes) -> bool
+        ensures { result ≡ true → messages_in self.now pid.now ≡ messages_in other.now pid.now }
     {
-        self.mailboxes.is_same(&other.mailboxes)
+        self.mailboxes.is_same_at(pid, &other.mailboxes)
     }
 
-    /// Feeds a hasher with all messages, by which a search finds what may be the same: it gives the same for mailboxes that
-    /// are. It takes no memory.
-    pub fn feed<H: Hasher>(&self, state: &mut H) {
-        self.mailboxes.feed(state);
+    /// Feeds a hasher with the messages of one process, by which a search finds what may be the same: it gives the same for
+    /// messages that are. It takes no memory.
+    pub fn feed_at<H: Hasher>(&self, pid: &Pid, state: &mut H) {
+        self.mailboxes.feed_at(pid, state);
+    }
+
+    /// Takes over the messages of one process from other mailboxes, and shares its mailbox with them; the other processes
+    /// have the messages that they had. `AllocError` if there is no memory: then the mailboxes may be changed in part, and
+    /// the caller drops them.
+    pub fn take_from(&mut self, pid: &Pid, other: &Mailboxes) -> Result<(), AllocError>
+        ensures ok { OnOk result (TakesFrom pid.now other.now self.old self.new) }
+    {
+        let mailboxes = Arc::make_mut(&mut self.mailboxes)?;
+        mailboxes.take_from(pid, &other.mailboxes)?;
+        Ok(())
     }
 
     /// The mailbox of a process, which may be empty, or `None` where no message ever came in. It takes no memory.

@@ -34,6 +34,11 @@ abbrev pub IsChangedBetween : Pid → Pid → (List Signal → List Signal) → 
 IsChangedBetween p q f before after =
     (s r : Pid) → between after s r ≡ (if same_pid p s && same_pid q r then f (between before s r) else between before s r)
 
+-- after a change the signals from p to q are those of other channels, and all others are as they were
+abbrev pub TakesFrom : Pid → Pid → Senders → Senders → Senders → Type 0
+TakesFrom p q other before after =
+    (s r : Pid) → between after s r ≡ (if same_pid p s && same_pid q r then between other s r else between before s r)
+
 -- these signals wait in a channel, where so many were delivered and these were put: at most as many as were put
 pub record AreWaiting (signals : List Signal) (front : ℕ) (tail : List Signal) : Type 0 where
   pub waiting : signals ≡ drop front tail

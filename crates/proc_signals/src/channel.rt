@@ -8,7 +8,7 @@ use crate::queue::Queue;
 use crate::signal::Signal;
 use std::alloc::{AllocError, Global};
 use std::cmp::Ordering;
-use std::hash::{Hash, Hasher};
+use std::hash::Hasher;
 use std::marker::Model;
 use std::sync::Arc;
 use term_core::Pid;
@@ -76,10 +76,8 @@ impl Channel {
         self.queue.is_same(&other.queue)
     }
 
-    /// Feeds a hasher with the two processes and the signals: the same for channels that are the same. It takes no memory.
-    pub(crate) fn feed<H: Hasher>(&self, state: &mut H) {
-        self.from.hash(state);
-        self.to.hash(state);
+    /// Feeds a hasher with the signals alone: the same for signals that are the same. It takes no memory.
+    pub(crate) fn feed_signals<H: Hasher>(&self, state: &mut H) {
         self.queue.feed(state);
     }
 

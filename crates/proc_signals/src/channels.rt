@@ -4,7 +4,7 @@ ghost use Rattle.world_model.specs.Cells.{Contents};
 ghost use Rattle.world_model.specs.Changes.{changed, SignalPut, SignalDelivered};
 ghost use Rattle.world_model.specs.Names.{Pid as PidSeen, IsAmong};
 ghost use Rattle.world_model.specs.Signals.{first_of};
-ghost use Rattle.proc_signals.specs.Channels.{between, IsChangedBetween, AreChannels, order_of_pairs};
+ghost use Rattle.proc_signals.specs.Channels.{between, IsChangedBetween, TakesFrom, AreChannels, order_of_pairs};
 ghost use Rattle.std.specs.List.Sorted.{IsStrictlySortedBy};
 ghost use Rattle.proc_signals.specs.Signal.{signal_of};
 
@@ -53,19 +53,17 @@ impl Channels {
         })
     }
 
-    /// Whether the same signals are on their way: where it is so, these agree with all contents that the others agree with.
-    /// It takes no memory.
-    pub fn is_same(&self, other: &Channels) -> bool
-        ensures same { result ≡ true → self.now ≡ other.now }
-        ensures agrees { result ≡ true → (v : Contents) → AreChannels other.now v → AreChannels self.now v }
+    /// Whether the same signals are on their way from one process to another as in other channels. It takes no memory.
+    pub fn is_same_between(&self, from: &Pid, to: &Pid, other: &Channels) -> bool
+        ensures { result ≡ true → between self.now from.now to.now ≡ between other.now from.now to.now }
     {
-        self.senders.is_same(&other.senders)
+        self.senders.is_same_between(from, to, &other.senders)
     }
 
-    /// Feeds a hasher with the signals on their way, by which a search finds what may be the same: it gives the same for
-    /// channels that are. It takes no memory.
-    pub fn feed<H: Hasher>(&self, state: &mut H) {
-        self.senders.feed(state);
+    /// Feeds a hasher with the signals on their way from one process to another, by which a search finds what may be the
+    /// same: it gives the same where these signals are the same. It takes no memory.
+    pub fn feed_between<H: Hasher>(&self, from: &Pid, to: &Pid, state: &mut H) {
+        self.senders.feed_between(from, to, state);
     }
 
     /// The same channels, or `AllocError` where their copies can no longer be counted. It takes no memory and
@@ -122,6 +120,18 @@ impl Channels {
         let senders = Arc::make_mut(&mut self.senders)?;
         let taken = senders.take_front(from, to)?;
         Ok(taken)
+    }
+
+    /// Takes over the signals on their way from one process to another from other channels, with which it shares them
+    /// then; all others stay. Where the other channels have none there, there are none afterwards. `AllocError` if there
+    /// is no memory for it, or copies can no longer be counted; then the channels are as they were.
+    pub fn take_from(&mut self, from: &Pid, to: &Pid, other: &Channels) -> Result<(), AllocError>
+        ensures ok { OnOk result (TakesFrom from.now to.now other.now self.old self.new) }
+        ensures err { OnErr result (self.new ≡ self.old) }
+    {
+        let senders = Arc::make_mut(&mut self.senders)?;
+        senders.take_from(from, to, &other.senders)?;
+        Ok(())
     }
 
     /// The pairs of processes whose channel is not empty, each once, in the order of senders and then of

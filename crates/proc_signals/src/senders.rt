@@ -1,10 +1,10 @@
 // The channels of all senders.
-ghost use Rattle.std.specs.Prelude.{◌≡◌, true, ◌≢◌, ◌<◌, ◌≤◌, [], ◌∷◌, ◌++◌, None, drop, length, map, IfOk, IfSome, OnOk, OnErr, option_map};
+ghost use Rattle.std.specs.Prelude.{◌≡◌, true, ◌≢◌, ◌<◌, ◌≤◌, [], ◌∷◌, ◌++◌, None, drop, length, IfOk, IfSome, OnOk, OnErr, option_map};
 ghost use Rattle.std.specs.List.{AllWithin, HoldsAt};
 ghost use Rattle.std.specs.List.Sorted.{IsStrictlySortedBy};
 ghost use Rattle.std.specs.Map.{keys_of};
 ghost use Rattle.world_model.specs.Signals.{first_of};
-ghost use Rattle.proc_signals.specs.Channels.{between, IsChangedBetween, order_of_pairs};
+ghost use Rattle.proc_signals.specs.Channels.{between, signals_in, IsChangedBetween, TakesFrom, order_of_pairs};
 ghost use Rattle.proc_signals.specs.Signal.{signal_of};
 
 use crate::channel::Channel;
@@ -98,36 +98,48 @@ fn place_of(channels: &[Channel], from: &Pid, to: &Pid) -> Option<usize>
 }
 
 impl Senders {
-    /// Feeds a hasher with all channels: the same for channels that are the same. It takes no memory.
-    pub(crate) fn feed<H: Hasher>(&self, state: &mut H) {
-        for channel in self.channels.as_slice() {
-            channel.feed(state);
-        }
-    }
-
-    /// Whether the two have the same channels. It takes no memory.
-    pub(crate) fn is_same(&self, other: &Senders) -> bool
-        ensures { result ≡ true → self.now ≡ other.now }
-    {
-        let left = self.channels.as_slice();
-        let right = other.channels.as_slice();
-        if left.len() != right.len() {
-            return false;
-        }
-        for place in 0..left.len() {
-            if !left[place].is_same(&right[place]) {
-                return false;
-            }
-        }
-        true
-    }
-
     /// No channels. It takes no memory.
     pub(crate) fn new(alloc: Global) -> Senders
         ensures { result ≡ [] }
     {
         Senders {
             channels: Vec::new(alloc),
+        }
+    }
+
+    // The channel from one process to another, if it is not empty.
+    fn channel(&self, from: &Pid, to: &Pid) -> Option<&Channel>
+        ensures pair { IfSome result (λ channel. channel.now.0 ≡ (from.now, to.now)) }
+        ensures signals { IfSome result (λ channel. signals_in channel.now.1 ≡ between self.now from.now to.now) }
+        ensures none { result ≡ None → between self.now from.now to.now ≡ [] }
+    {
+        let channels = self.channels.as_slice();
+        match place_of(channels, from, to) {
+            Some(at) => Some(&channels[at]),
+            None => None,
+        }
+    }
+
+    /// Whether the two have the same signals on their way from one process to another. It takes no memory.
+    pub(crate) fn is_same_between(&self, from: &Pid, to: &Pid, other: &Senders) -> bool
+        ensures { result ≡ true → between self.now from.now to.now ≡ between other.now from.now to.now }
+    {
+        match (self.channel(from, to), other.channel(from, to)) {
+            (Some(left), Some(right)) => left.is_same(right),
+            (None, None) => true,
+            _ => false,
+        }
+    }
+
+    /// Feeds a hasher with the signals on their way from one process to another: the same where these are the same. It
+    /// takes no memory.
+    pub(crate) fn feed_between<H: Hasher>(&self, from: &Pid, to: &Pid, state: &mut H) {
+        match self.channel(from, to) {
+            Some(channel) => {
+                state.write_u8(1);
+                channel.feed_signals(state);
+            }
+            None => state.write_u8(0),
         }
     }
 
@@ -197,6 +209,48 @@ impl Senders {
         }
         let signal = self.channels[at].take_oldest()?;
         Ok(Some(signal))
+    }
+
+    /// Takes over the signals on their way from one process to another from other channels, with which it shares them
+    /// then. `AllocError` if there is no memory for it or their copies can no longer be counted.
+    pub(crate) fn take_from(
+        &mut self,
+        from: &Pid,
+        to: &Pid,
+        other: &Senders,
+    ) -> Result<(), AllocError>
+        ensures ok { OnOk result (TakesFrom from.now to.now other.now self.old self.new) }
+        ensures err { OnErr result (self.new ≡ self.old) }
+    {
+        match other.channel(from, to) {
+            Some(channel) => self.put(from, to, channel.copy()?)?,
+            None => self.close(from, to),
+        }
+        Ok(())
+    }
+
+    // Puts the channel from one process to another in place of the one that is there, if there is one.
+    fn put(&mut self, from: &Pid, to: &Pid, channel: Channel) -> Result<(), AllocError>
+        requires { channel.0 ≡ (from.now, to.now) }
+        ensures ok { OnOk result (IsChangedBetween from.now to.now (λ _. signals_in channel.1) self.old self.new) }
+        ensures err { OnErr result (self.new ≡ self.old) }
+    {
+        if let Some(at) = place_of(self.channels.as_slice(), from, to) {
+            self.channels[at] = channel;
+            return Ok(());
+        }
+        let at = room_of(self.channels.as_slice(), from, to);
+        self.channels.insert(at, channel)?;
+        Ok(())
+    }
+
+    // Removes the channel from one process to another, if it is not empty.
+    fn close(&mut self, from: &Pid, to: &Pid)
+        ensures { IsChangedBetween from.now to.now (λ _. []) self.old self.new }
+    {
+        if let Some(at) = place_of(self.channels.as_slice(), from, to) {
+            drop(self.channels.remove(at));
+        }
     }
 
     /// The pairs whose channel is not empty, by sender and then by receiver.

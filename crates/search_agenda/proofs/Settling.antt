@@ -5,6 +5,7 @@ use Rattle.term_core.specs.declared.step.Step.{Step}
 use Rattle.world_model.specs.Cells.{Cell, Contents, meet}
 use Rattle.world_model.specs.Changes.{Change, cell_of}
 use Rattle.world_model.specs.Events.{Deed, Event, event, History}
+use Rattle.world_model.specs.Frames.{AgreeOn}
 use Rattle.world_model.specs.Independence as model
 use Rattle.world_model.specs.Independence.{Footprint, are_apart, one_meets, some_meet, written}
 use Rattle.world_model.specs.Requests.{Program}
@@ -17,6 +18,7 @@ use Rattle.world_model.proofs.StepFrames.{frames}
 use Rattle.world_records.specs.Cells.{cells_in}
 use Rattle.world_plans.specs.Independence.{are_independent, footprint, is_enabled, written_of}
 use Rattle.world_footprints.specs.Plans.{first_changes, other_changes, others_if}
+use Rattle.world_footprints.specs.Footprints as footprints
 use Rattle.world_footprints.specs.Footprints.{footprint_in, written_in}
 use Rattle.world_footprints.specs.declared.plan.Plan.{Plan}
 use Rattle.world_plans.proofs.Apart.{enabled_is, footprint_is}
@@ -54,13 +56,10 @@ others_of : (v : Contents) (s : Step) (o : Option Deed) → others_out s (option
 others_of v s None = refl
 others_of v s (Some d) = ap (drop (length (first_changes s d))) (in_order v s d) ∙ dropped (first_changes s d) (other_changes v s d)
 
--- so a plan holds on
-pub plan_stays : PlansSettle
-unfolding contents
-plan_stays a h e p was apart =
-    let v = contents h in
-    let w = contents (e ∷ h) in
-    let same = frames a v w p.step (agree_after (changes h e) v (reads a v p.step) (met (changes h e) (reads a v p.step) ∙ ap (some_meet (map cell_of (changes h e))) (sym was.reads) ∙ apart)) in
+-- so a plan holds of all contents that agree on what its step reads
+pub plan_framed : (a : Program) (v w : Contents) (p : Plan) → footprints.IsPlan a v p → AgreeOn v w (reads a v p.step) → footprints.IsPlan a w p
+plan_framed a v w p was agree =
+    let same = frames a v w p.step agree in
     let deed : next_deed a v p.step ≡ next_deed a w p.step = sym (deed_of v p.step (next_deed a v p.step)) ∙ ap deed_out same.0 ∙ deed_of w p.step (next_deed a w p.step) in
     let others : others_if v p.step (next_deed a v p.step) ≡ others_if w p.step (next_deed a w p.step) = sym (others_of v p.step (next_deed a v p.step)) ∙ ap (others_out p.step) same.0 ∙ others_of w p.step (next_deed a w p.step) in
     record {
@@ -68,6 +67,12 @@ plan_stays a h e p was apart =
       reads = was.reads ∙ same.1;
       changes = was.changes ∙ others;
     }
+
+-- and it holds on
+pub plan_stays : PlansSettle
+unfolding contents
+plan_stays a h e p was apart =
+    plan_framed a (contents h) (contents (e ∷ h)) p was (agree_after (changes h e) (contents h) (reads a (contents h) p.step) (met (changes h e) (reads a (contents h) p.step) ∙ ap (some_meet (map cell_of (changes h e))) (sym was.reads) ∙ apart))
 
 -- ---- what a plan says, in the words of histories
 

@@ -2,16 +2,19 @@
 use Rattle.std.proofs.Common.{◌≡◌, inl, inr, ℕ, ◌+◌, List, [], ◌∷◌, ◌++◌, length, map, Option, Some, None, refl, sym, ap, subst, ◌∙◌, arith}
 use Rattle.std.proofs.lemmas.List.{append-nil}
 use Rattle.std.specs.List.{AllByRecursion}
+use Rattle.std.specs.declared.cmp.Ordering.TheVariants.{Less}
 use Rattle.search_levels.specs.Arrivals.{AreArrivals, IsArrival}
 use Rattle.search_levels.specs.inside.Expanding.{Arrives, ArrivesAt, Expands, MayArrive, on_by}
-use Rattle.search_levels.specs.inside.Levels.{AreAt, IsAt, IsCovered, Keeps, Puts, PutsAt}
+use Rattle.search_levels.specs.inside.Levels.{AreAt, AreBefore, AreBeforeNext, ComeInOrder, IsCovered, Keeps}
 use Rattle.search_levels.specs.inside.Paths.{schedule_in}
 use Rattle.search_levels.specs.declared.arrival.Arrival.{Arrival}
-use Rattle.search_levels.specs.declared.path.Path.{Path}
 use Rattle.search_levels.specs.declared.visit.Visit.{Visit}
+use Rattle.search_levels.proofs.InOrder.{StepsInOrder, arrivals_sorted, before_last, sorted_front}
+use Rattle.search_levels.proofs.Orders.{less_by_step, less_chain, less_next}
 use Rattle.search_levels.proofs.Placed.{all_front, all_have, all_last}
+use Rattle.search_levels.proofs.Putting.{Puts, PutsAt}
 use Rattle.tree_coverage.specs.Findings.{Findings, findings_among}
-use Rattle.tree_coverage.proofs.Lists.{Source, among_append, among_map, source}
+use Rattle.tree_coverage.proofs.Lists.{Source, among_append, among_map, among_right, source}
 use Rattle.tree_schedules.proofs.Delivering.{delivers_more, run_more}
 use Rattle.tree_schedules.specs.Deliveries.{DeliversBy, steps_by}
 use Rattle.tree_schedules.specs.StandIns.{IsUpTo}
@@ -20,6 +23,7 @@ use Rattle.tree_findings.specs.Laws.{AddsSchedule}
 use Rattle.world_identities.specs.Identities.{identity_in}
 use Rattle.world_model.specs.Names.{IsAmong}
 use Rattle.world_model.specs.Shown.{Flags, shown}
+use Rattle.term_core.specs.StepOrder.{order_of_schedules, order_of_steps}
 use Rattle.term_core.specs.declared.step.Step.{Step}
 use Rattle.world_model.specs.Events.{Event, History}
 use Rattle.world_model.specs.Requests.{Program}
@@ -79,19 +83,18 @@ all_may {S} d Agrees a h rs all = go rs all.each (λ r there. subst (IsAmong r.s
 module _ {S : Type 0} (Agrees : S → Program → History → Type 0) (flags : Flags) where
   -- ---- one step
 
-  pub arrives_at : (d : Delivery) (a : Program) (k : ℕ) (h : History) (visited : List (List Step)) (schedule : List Step) (r : Arrival S) (path : Path) (old new : List (Visit S)) (before after : Findings) → Puts Agrees old (record { path = path; state = r.state }) new → schedule_in path ≡ schedule ++ r.step ∷ [] → AddsSchedule flags (schedule_in path) (map identity_in r.shown.items) before after
-      → length schedule ≡ k → DeliversBy d a schedule → run a schedule ≡ Some h → MayArrive d Agrees a h r → AreAt d Agrees a (k + 1) old → before ≡ findings_among flags a visited → ArrivesAt d Agrees flags a k visited schedule r old new after
-  arrives_at d a k h visited schedule r path old new before after puts is adds len delivers runs may at found =
+  pub arrives_at : (schedule s : List Step) (r : Arrival S) (old new : List (Visit S)) (before after : Findings) → s ≡ schedule ++ r.step ∷ [] → Puts Agrees old s r.state new → AddsSchedule flags s (map identity_in r.shown.items) before after → Arrives Agrees flags schedule r old new before after
+  arrives_at schedule s r old new before after is puts adds d a k h visited len delivers runs may at in_order first found =
       let arr : IsArrival Agrees a h r = may.0 in
-      let now : run a (schedule_in path) ≡ Some (arr.event ∷ h) = ap (run a) is ∙ run_more a (Some []) schedule r.step h arr.event runs arr.is_next in
-      let visit : Visit S = record { path = path; state = r.state } in
-      let so : DeliversBy d a (schedule_in path) = subst (DeliversBy d a) (sym is) (delivers_more d a schedule r.step h delivers runs may.1) in
-      let new_at : IsAt d Agrees a (k + 1) visit = (ap length is ∙ longer schedule r.step ∙ ap (λ n. n + 1) len, so, arr.event ∷ h, now, arr.agrees) in
-      let p : PutsAt d Agrees a (k + 1) old visit new = puts d a (k + 1) at new_at in
+      let now : run a s ≡ Some (arr.event ∷ h) = ap (run a) is ∙ run_more a (Some []) schedule r.step h arr.event runs arr.is_next in
+      let so : DeliversBy d a s = subst (DeliversBy d a) (sym is) (delivers_more d a schedule r.step h delivers runs may.1) in
+      let p : PutsAt d Agrees a (k + 1) old s r.state new = puts d a (k + 1) (arr.event ∷ h) (ap length is ∙ longer schedule r.step ∙ ap (λ n. n + 1) len) so now arr.agrees at in_order (subst (AreBefore old) (sym is) first) in
       record {
         at = p.at;
+        in_order = p.in_order;
+        before = λ t less. p.before t (ap (λ q. order_of_schedules q t) is ∙ less);
         keeps = p.keeps;
-        covers = λ s g agrees up. p.covers s g agrees (subst (λ t. IsUpTo t s) (sym is) up);
+        covers = λ t g agrees up. p.covers t g agrees (subst (λ q. IsUpTo q t) (sym is) up);
         found = adds a visited (arr.event ∷ h) now arr.shown found ∙ ap (λ t. findings_among flags a (visited ++ t ∷ [])) is;
       }
 
@@ -101,29 +104,38 @@ module _ {S : Type 0} (Agrees : S → Program → History → Type 0) (flags : F
     -- what is after these steps is covered, and what is shown there is found
     pub record ExpandsSoFar (d : Delivery) (a : Program) (k : ℕ) (visited : List (List Step)) (ys : List (Arrival S)) (level : List (Visit S)) (findings : Findings) : Type 0 where
       pub at : AreAt d Agrees a (k + 1) level
+      pub in_order : ComeInOrder level
+      pub before : (s : List Step) → AreBefore first s → ((r : Arrival S) → IsAmong r ys → order_of_schedules (schedule ++ r.step ∷ []) s ≡ Less) → AreBefore level s
       pub keeps : Keeps Agrees a first level
       pub covers : (r : Arrival S) → IsAmong r ys → (s : List Step) (g : History) → Agrees r.state a g → IsUpTo (schedule ++ r.step ∷ []) s → IsCovered Agrees a level s g
       pub found : findings ≡ findings_among flags a (visited ++ on_by schedule (map (λ r. r.step) ys))
 
     abbrev pub SoFar : List (Arrival S) → List (Visit S) → Findings → Type 0
     SoFar ys level findings =
-        (d : Delivery) (a : Program) (k : ℕ) (h : History) (visited : List (List Step)) → length schedule ≡ k → DeliversBy d a schedule → run a schedule ≡ Some h → AreAt d Agrees a (k + 1) first → begun ≡ findings_among flags a visited → AllByRecursion (MayArrive d Agrees a h) ys → ExpandsSoFar d a k visited ys level findings
+        (d : Delivery) (a : Program) (k : ℕ) (h : History) (visited : List (List Step)) → length schedule ≡ k → DeliversBy d a schedule → run a schedule ≡ Some h
+        → AreAt d Agrees a (k + 1) first → ComeInOrder first → AreBeforeNext first schedule → begun ≡ findings_among flags a visited → AllByRecursion (MayArrive d Agrees a h) ys → StepsInOrder ys → ExpandsSoFar d a k visited ys level findings
 
     pub so_far_none : SoFar [] first begun
-    so_far_none d a k h visited len delivers runs at found all = record {
+    so_far_none d a k h visited len delivers runs at in_order next found all sorted = record {
       at = at;
+      in_order = in_order;
+      before = λ s before each. before;
       keeps = λ s g c. c;
       covers = λ r there. absurd there;
       found = found ∙ ap (findings_among flags a) (sym (append-nil visited));
     }
 
     pub so_far_more : (ys : List (Arrival S)) (r : Arrival S) (old new : List (Visit S)) (before after : Findings) → SoFar ys old before → Arrives Agrees flags schedule r old new before after → SoFar (ys ++ r ∷ []) new after
-    so_far_more ys r old new before after so_far arrives d a k h visited len delivers runs at found all =
-        let p : ExpandsSoFar d a k visited ys old before = so_far d a k h visited len delivers runs at found (all_front (MayArrive d Agrees a h) ys r all) in
+    so_far_more ys r old new before after so_far arrives d a k h visited len delivers runs at in_order next found all sorted =
+        let by_steps = λ (x y : Arrival S). order_of_steps x.step y.step in
+        let p : ExpandsSoFar d a k visited ys old before = so_far d a k h visited len delivers runs at in_order next found (all_front (MayArrive d Agrees a h) ys r all) (sorted_front by_steps ys r sorted) in
+        let first_ones : AreBefore old (schedule ++ r.step ∷ []) = p.before (schedule ++ r.step ∷ []) (next r.step) (λ y there. less_by_step schedule y.step r.step (before_last by_steps ys r sorted y there)) in
         let here : List (List Step) = visited ++ on_by schedule (map (λ r. r.step) ys) in
-        let q : ArrivesAt d Agrees flags a k here schedule r old new after = arrives d a k h here len delivers runs (all_last (MayArrive d Agrees a h) ys r all) p.at p.found in
+        let q : ArrivesAt d Agrees flags a k here schedule r old new after = arrives d a k h here len delivers runs (all_last (MayArrive d Agrees a h) ys r all) p.at p.in_order first_ones p.found in
         record {
           at = q.at;
+          in_order = q.in_order;
+          before = λ s first_before each. q.before s (each r (among_right ys (r ∷ []) r (inl refl)));
           keeps = λ s g c. q.keeps s g (p.keeps s g c);
           covers = λ z there s g agrees up. elim (among_append ys (r ∷ []) z there) [
             | inl t ↦ q.keeps s g (p.covers z t s g agrees up)
@@ -140,11 +152,13 @@ module _ {S : Type 0} (Agrees : S → Program → History → Type 0) (flags : F
   event_is a g x y f e is p q = some_is (sym p ∙ ap (next_event a g) is ∙ q)
 
   pub so_far_all : (d : Delivery) (from : Visit S) (rs : List (Arrival S)) (first level : List (Visit S)) (begun after : Findings) → ((a : Program) (h : History) → Agrees from.state a h → AreArrivals d Agrees a h rs) → SoFar (schedule_in from.path) first begun rs level after → Expands d Agrees flags from first level begun after
-  so_far_all d from rs first level begun after are so_far a k h visited len delivers runs agrees at found =
+  so_far_all d from rs first level begun after are so_far a k h visited len delivers runs agrees at in_order next found =
       let all : AreArrivals d Agrees a h rs = are a h agrees in
-      let p : ExpandsSoFar (schedule_in from.path) first begun d a k visited rs level after = so_far d a k h visited len delivers runs at found (all_may d Agrees a h rs all) in
+      let p : ExpandsSoFar (schedule_in from.path) first begun d a k visited rs level after = so_far d a k h visited len delivers runs at in_order next found (all_may d Agrees a h rs all) (arrivals_sorted d a h rs all.steps) in
       record {
         at = p.at;
+        in_order = p.in_order;
+        before = λ s less x. p.before (s ++ x ∷ []) (λ y there. less_chain (schedule_in y.path) (schedule_in from.path ++ x ∷ []) (s ++ x ∷ []) (next x y there) (less_next (schedule_in from.path) s x x less)) (λ r there. less_next (schedule_in from.path) s r.step x less);
         keeps = p.keeps;
         covers = λ s g agrees x e may next up.
             let r : Source (λ (r : Arrival S). r.step) rs x = source (λ r. r.step) rs x (subst (λ xs. IsAmong x xs) (sym (are a g agrees).steps) may) in

@@ -2,13 +2,16 @@
 use Rattle.std.proofs.Common.{◌≡◌, ◌⊎◌, inl, inr, ℕ, zero, suc, ◌+◌, ◌≤◌, ◌<◌, List, [], ◌∷◌, ◌++◌, length, get_or, take, Option, Some, None, is_some, true, refl, sym, ap, subst, ◌∙◌, arith}
 use Rattle.std.proofs.lemmas.List.{append-nil, take_more}
 use Rattle.search_levels.specs.inside.Expanding.{Expands, ExpandsAt, on_by}
-use Rattle.search_levels.specs.inside.Levels.{AreAt, IsAt, IsCovered, Puts, PutsAt}
+use Rattle.search_levels.specs.inside.Levels.{AreAt, AreBefore, AreBeforeNext, ComeInOrder, IsAt, IsCovered}
 use Rattle.search_levels.specs.inside.Paths.{schedule_in}
 use Rattle.search_levels.specs.inside.Searching.{Begins, GoesOn, IsLevel}
 use Rattle.search_levels.specs.declared.visit.Visit.{Visit}
 use Rattle.search_levels.proofs.Arriving.{LastStep, assoc, last_step, longer}
+use Rattle.search_levels.proofs.InOrder.{before_last, sorted_front, sorted_none}
 use Rattle.search_levels.proofs.Orders.{up_to_itself, up_to_more}
 use Rattle.search_levels.proofs.Placed.{got_there}
+use Rattle.search_levels.proofs.Putting.{PutsAt, puts_last}
+use Rattle.term_core.specs.StepOrder.{order_of_schedules}
 use Rattle.term_core.specs.declared.step.Step.{Step}
 use Rattle.tree_coverage.specs.Findings.{Findings, findings_among}
 use Rattle.tree_coverage.proofs.Lists.{Source, among_append, among_left, among_map, among_right, kept_passes, source}
@@ -41,6 +44,8 @@ module _ {S : Type 0} (d : Delivery) (Agrees : S → Program → History → Typ
   -- the states so far are expanded
   pub record GoesOnSoFar (a : Program) (k : ℕ) (visited : List (List Step)) (done : List (Visit S)) (next : List (Visit S)) (findings : Findings) : Type 0 where
     pub at : AreAt d Agrees a (k + 1) next
+    pub in_order : ComeInOrder next
+    pub before : (s : List Step) → AreBefore done s → AreBeforeNext next s
     pub covers : (y : Visit S) → IsAmong y done → (s : List Step) (g : History) → Agrees y.state a g → (x : Step) (e : Event) → IsAmong x (steps_by d a g) → next_event a g x ≡ Some e → IsUpTo (schedule_in y.path ++ x ∷ []) s → IsCovered Agrees a next s (e ∷ g)
     pub more : List (List Step)
     pub found : findings ≡ findings_among flags a (visited ++ more)
@@ -48,11 +53,13 @@ module _ {S : Type 0} (d : Delivery) (Agrees : S → Program → History → Typ
     pub shows : (y : Visit S) → IsAmong y done → (g : History) → Agrees y.state a g → (x : Step) (e : Event) → IsAmong x (steps_by d a g) → next_event a g x ≡ Some e → (h : History) × IsAmong (schedule_in y.path ++ x ∷ []) more × (run a (schedule_in y.path ++ x ∷ []) ≡ Some h) × (shown a h ≡ shown a (e ∷ g))
 
   abbrev pub LevelSoFar : List (Visit S) → List (Visit S) → Findings → Type 0
-  LevelSoFar done next findings = (a : Program) (k : ℕ) (visited : List (List Step)) → AreAt d Agrees a k done → begun ≡ findings_among flags a visited → GoesOnSoFar a k visited done next findings
+  LevelSoFar done next findings = (a : Program) (k : ℕ) (visited : List (List Step)) → AreAt d Agrees a k done → ComeInOrder done → begun ≡ findings_among flags a visited → GoesOnSoFar a k visited done next findings
 
   pub level_none : LevelSoFar [] [] begun
-  level_none a k visited at found = record {
+  level_none a k visited at in_order found = record {
     at = λ x there. absurd there;
+    in_order = in_order;
+    before = λ s before x y there. absurd there;
     covers = λ y there. absurd there;
     more = [];
     found = found ∙ ap (findings_among flags a) (sym (append-nil visited));
@@ -67,14 +74,17 @@ module _ {S : Type 0} (d : Delivery) (Agrees : S → Program → History → Typ
       subst (λ t. (length t ≡ k + 1) × DeliversBy d a t × (g : History) × (run a t ≡ Some g)) b.is (longer path b.from ∙ ap (λ n. n + 1) len, delivers_more d a path b.from h delivers runs b.is_among, f.0 ∷ h, run_more a (Some []) path b.from h f.0 runs f.1)
 
   pub level_more : (done : List (Visit S)) (y : Visit S) (old new : List (Visit S)) (before after : Findings) → LevelSoFar done old before → Expands d Agrees flags y old new before after → LevelSoFar (done ++ y ∷ []) new after
-  level_more done y old new before after so_far expands a k visited at found =
-      let p : GoesOnSoFar a k visited done old before = so_far a k visited (λ x there. at x (among_left done (y ∷ []) x there)) found in
+  level_more done y old new before after so_far expands a k visited at in_order found =
+      let by_schedules = λ (x z : Visit S). order_of_schedules (schedule_in x.path) (schedule_in z.path) in
+      let p : GoesOnSoFar a k visited done old before = so_far a k visited (λ x there. at x (among_left done (y ∷ []) x there)) (sorted_front by_schedules done y in_order) found in
       let y_at : IsAt d Agrees a k y = at y (among_right done (y ∷ []) y (inl refl)) in
       let h : History = y_at.2 in
-      let q : ExpandsAt d Agrees flags a k h (visited ++ p.more) y old new after = expands a k h (visited ++ p.more) y_at.0 y_at.1 y_at.3 y_at.4 p.at p.found in
+      let q : ExpandsAt d Agrees flags a k h (visited ++ p.more) y old new after = expands a k h (visited ++ p.more) y_at.0 y_at.1 y_at.3 y_at.4 p.at p.in_order (p.before (schedule_in y.path) (before_last by_schedules done y in_order)) p.found in
       let here : List (List Step) = on_by (schedule_in y.path) (steps_by d a h) in
       record {
         at = q.at;
+        in_order = q.in_order;
+        before = λ s before_s. q.before s (before_s y (among_right done (y ∷ []) y (inl refl)));
         covers = λ z there s g agrees x e may next up. elim (among_append done (y ∷ []) z there) [
           | inl t ↦ q.keeps s (e ∷ g) (p.covers z t s g agrees x e may next up)
           | inr t ↦ one_covers z t s g agrees x e may next up h (visited ++ p.more) q
@@ -117,6 +127,7 @@ module _ {S : Type 0} (d : Delivery) (Agrees : S → Program → History → Typ
   pub goes_on : (level next : List (Visit S)) (after : Findings) → LevelSoFar level next after → GoesOn d Agrees flags level next begun after
   goes_on level next after so_far a k l = record {
     at = p.at;
+    in_order = p.in_order;
     covers = λ s h len delivers now. covers s h len delivers now;
     visited = l.visited ++ p.more;
     stand = record { runs = runs; stand = stand };
@@ -124,7 +135,7 @@ module _ {S : Type 0} (d : Delivery) (Agrees : S → Program → History → Typ
   }
     where
       p : GoesOnSoFar a k l.visited level next after
-      p = so_far a k l.visited l.at l.found
+      p = so_far a k l.visited l.at l.in_order l.found
 
       covers : (s : List Step) (h : History) → length s ≡ k + 1 → DeliversBy d a s → run a s ≡ Some h → IsCovered Agrees a next s h
       covers s h len delivers now =
@@ -133,9 +144,8 @@ module _ {S : Type 0} (d : Delivery) (Agrees : S → Program → History → Typ
           let so : DeliversBy d a (r.front ++ r.step ∷ []) = subst (DeliversBy d a) r.is delivers in
           let may : IsAmong r.step (steps_by d a r.before) = delivers_last d a r.front r.step r.before r.event so r.runs r.next in
           let y : IsCovered Agrees a level r.front r.before = l.covers r.front r.before n (delivers_front d a r.front r.step so) r.runs in
-          let same : length (schedule_in y.0.path) ≡ length r.front = (l.at y.0 y.1).0 ∙ sym n in
           subst (λ g. IsCovered Agrees a next s g) r.history
-          (p.covers y.0 y.1 s r.before y.2 r.step r.event may r.next (subst (λ t. IsUpTo (schedule_in y.0.path ++ r.step ∷ []) t) (sym r.is) (up_to_more r.step (schedule_in y.0.path) r.front same y.3)))
+          (p.covers y.0 y.1 s r.before y.2 r.step r.event may r.next (subst (λ t. IsUpTo (schedule_in y.0.path ++ r.step ∷ []) t) (sym r.is) (up_to_more r.step (schedule_in y.0.path) r.front y.3)))
 
       runs : (s : List Step) → IsAmong s (l.visited ++ p.more) → IsRunBy d a (k + 1) s
       runs s there = elim (among_append l.visited p.more s there) [
@@ -150,7 +160,6 @@ module _ {S : Type 0} (d : Delivery) (Agrees : S → Program → History → Typ
           let so : DeliversBy d a (r.front ++ r.step ∷ []) = subst (DeliversBy d a) r.is delivers in
           let may : IsAmong r.step (steps_by d a r.before) = delivers_last d a r.front r.step r.before r.event so r.runs r.next in
           let y : IsCovered Agrees a level r.front r.before = l.covers r.front r.before n (delivers_front d a r.front r.step so) r.runs in
-          let same : length (schedule_in y.0.path) ≡ length r.front = (l.at y.0 y.1).0 ∙ sym n in
           let f = p.shows y.0 y.1 r.before y.2 r.step r.event may r.next in
           record {
             by = schedule_in y.0.path ++ r.step ∷ [];
@@ -158,7 +167,7 @@ module _ {S : Type 0} (d : Delivery) (Agrees : S → Program → History → Typ
             history = f.0;
             runs = f.2;
             same = f.3 ∙ ap (shown a) r.history;
-            up_to = subst (λ t. IsUpTo (schedule_in y.0.path ++ r.step ∷ []) t) (sym r.is) (up_to_more r.step (schedule_in y.0.path) r.front same y.3);
+            up_to = subst (λ t. IsUpTo (schedule_in y.0.path ++ r.step ∷ []) t) (sym r.is) (up_to_more r.step (schedule_in y.0.path) r.front y.3);
           }
 
       stand : (s : List Step) (h : History) → length s ≤ k + 1 → DeliversBy d a s → run a s ≡ Some h → HasStandIn a (l.visited ++ p.more) s h
@@ -182,11 +191,11 @@ alone d a = record { runs = runs; stand = stand }
     stand (y ∷ s) h short delivers now = absurd (omega (arith, short))
 
 module _ {S : Type 0} (Agrees : S → Program → History → Type 0) where
-  pub begins : (x : Visit S) (old new : List (Visit S)) → schedule_in x.path ≡ [] → old ≡ [] → Puts Agrees old x new → Begins Agrees x.state new
-  begins x old new none empty puts d a agrees =
-      let at : AreAt d Agrees a 0 old = subst (AreAt d Agrees a 0) (sym empty) (λ y there. absurd there) in
-      let p : PutsAt d Agrees a 0 old x new = puts d a 0 at (ap length none, subst (DeliversBy d a) (sym none) (delivers_none d a), [], ap (run a) none, agrees) in
-      (p.at, p.covers [] [] agrees (subst (λ t. IsUpTo t []) (sym none) (up_to_itself [])))
+  pub begins : (x : Visit S) → schedule_in x.path ≡ [] → Begins Agrees x.state (x ∷ [])
+  begins x none d a agrees =
+      let delivers : DeliversBy d a (schedule_in x.path) = subst (DeliversBy d a) (sym none) (delivers_none d a) in
+      let p : PutsAt d Agrees a 0 [] (schedule_in x.path) x.state (x ∷ []) = puts_last Agrees [] x d a 0 [] (ap length none) delivers (ap (run a) none) agrees (λ y there. absurd there) (sorted_none _) (λ y there. absurd there) in
+      (p.at, p.in_order, p.covers [] [] agrees (subst (λ t. IsUpTo t []) (sym none) (up_to_itself [])))
 
 module _ {S : Type 0} (d : Delivery) (Agrees : S → Program → History → Type 0) (flags : Flags) (a : Program) where
   some_history : {h g : History} → Some h ≡ Some g → h ≡ g
@@ -195,6 +204,7 @@ module _ {S : Type 0} (d : Delivery) (Agrees : S → Program → History → Typ
   pub first_level : (first : S) (level : List (Visit S)) (findings : Findings) → Begins Agrees first level → Agrees first a [] → findings ≡ findings_among flags a ([] ∷ []) → IsLevel d Agrees flags a 0 level findings
   first_level first level findings begun agrees found = record {
     at = (begun d a agrees).0;
+    in_order = (begun d a agrees).1;
     covers = covers;
     visited = [] ∷ [];
     stand = alone d a;
@@ -202,7 +212,7 @@ module _ {S : Type 0} (d : Delivery) (Agrees : S → Program → History → Typ
   }
     where
       covers : (s : List Step) (h : History) → length s ≡ 0 → DeliversBy d a s → run a s ≡ Some h → IsCovered Agrees a level s h
-      covers [] h len delivers now = subst (λ g. IsCovered Agrees a level [] g) (some_history now) (begun d a agrees).1
+      covers [] h len delivers now = subst (λ g. IsCovered Agrees a level [] g) (some_history now) (begun d a agrees).2
       covers (y ∷ s) h len delivers now = absurd (omega (arith, len))
 
   -- where the last level is reached, all is found

@@ -1,3 +1,4 @@
 pub mod Arrivals
+pub mod Known
 pub mod Searched
 pub mod inside

@@ -1,10 +1,10 @@
-// A search by states, level by level: of the schedules of one length that lead to the same one goes on, the least. Signals
-// are delivered at any time in these schedules, or at once.
+// A search by states, level by level: of the schedules of one length that lead to the same one goes on, the first to come,
+// which is the least. Signals are delivered at any time in these schedules, or at once.
 #![tactic(auto)]
 
 pub mod arrival;
 pub(crate) mod expanding;
-mod index;
+pub mod index;
 pub(crate) mod level;
 pub mod observer;
 pub(crate) mod path;
@@ -13,6 +13,7 @@ pub mod state;
 pub(crate) mod visit;
 
 pub use arrival::Arrival;
+pub use index::Index;
 pub use observer::{LevelObserver, Unobserved};
 pub use search::{Bounds, Searched, search_levels};
 pub use state::State;

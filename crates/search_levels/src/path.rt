@@ -1,10 +1,8 @@
 // Schedules that share their beginnings.
 ghost use Rattle.std.specs.Prelude.{◌≡◌, ◌∷◌, ◌++◌, [], IfOk, MatchOption};
 ghost use Rattle.search_levels.specs.inside.Paths.{latest_first, schedule_in};
-ghost use Rattle.term_core.specs.StepOrder.{order_of_schedules};
 
 use std::alloc::{AllocError, Global};
-use std::cmp::Ordering;
 use std::marker::Model;
 use std::sync::Arc;
 use term_core::Step;
@@ -123,27 +121,5 @@ impl Path {
         }
         steps.reverse();
         Ok(steps)
-    }
-
-    /// Which of two schedules comes first: the shorter one, or of two that are as long the one that is less where they
-    /// first differ. It takes no memory.
-    pub(crate) fn compare(&self, other: &Path) -> Ordering
-        ensures { result ≡ order_of_schedules (schedule_in self.now) (schedule_in other.now) }
-    {
-        let mut order = Ordering::Equal;
-        let mut left = self;
-        let mut right = other;
-        loop {
-            match (left.latest(), right.latest()) {
-                (None, None) => return order,
-                (None, Some(_)) => return Ordering::Less,
-                (Some(_), None) => return Ordering::Greater,
-                (Some((one, before_one)), Some((two, before_two))) => {
-                    order = one.cmp(two).then(order);
-                    left = before_one;
-                    right = before_two;
-                }
-            }
-        }
     }
 }

@@ -2,7 +2,9 @@
 ghost use Rattle.std.specs.Prelude.{◌≡◌, ◌≤◌, IfOk, map};
 ghost use Rattle.core_tree.specs.Syntax.{ModuleTree};
 ghost use Rattle.search_levels.specs.Arrivals.{of_module};
+ghost use Rattle.search_levels.specs.Known.{FromNowOn, Grows};
 ghost use Rattle.search_levels.specs.Searched.{IsSearchFrom};
+ghost use Rattle.search_levels.specs.inside.Levels.{AreOf};
 ghost use Rattle.search_levels.specs.inside.Searching.{Begins, ComesTo, TellsOpen};
 ghost use Rattle.world_identities.specs.Identities.{flags_in, identity_in};
 
@@ -43,22 +45,30 @@ pub struct Searched {
 // The level of the schedule without steps. `NodeLimit` where no state may be found, `Memory` where there is no memory for
 // it.
 fn first_level<S: State>(alloc: Global, first: S, left: &mut u64) -> Result<Level<S>, Cause>
-    ensures begins { IfOk result (λ level. (m : ModuleTree) → Begins (of_module S.agrees m) first level.visits.items) }
+    ensures begins { IfOk result (λ level. (k : S.Known) (m : ModuleTree) → Begins (of_module (S.agrees k) m) first level.visits.items) }
+    ensures of_known { IfOk result (λ level. (k : S.Known) → S.is_of k first → AreOf (S.is_of k) level.visits.items) }
     ensures fewer { left.new ≤ left.old }
 {
     let mut level = Level::new(alloc);
     let path = Path::Start;
-    level.put(Visit { path, state: first }, left)?;
+    let digest = first.digest();
+    level.put(Visit { path, state: first }, digest, left)?;
     Ok(level)
 }
 
 // At how many states of a level a step is enabled. `AllocError` if there is no memory to decide it.
-fn count_open<S: State>(alloc: Global, level: &Level<S>) -> Result<u64, AllocError>
-    ensures { IfOk result (λ count. (m : ModuleTree) → TellsOpen (of_module S.agrees m) level.now.visits.items count) }
+fn count_open<S: State>(
+    alloc: Global,
+    known: &mut S::Known,
+    level: &Level<S>,
+) -> Result<u64, AllocError>
+    requires { AreOf (S.is_of known.old) level.now.visits.items }
+    ensures tells { IfOk result (λ count. FromNowOn S.follows known.new (λ k m. TellsOpen (of_module (S.agrees k) m) level.now.visits.items count)) }
+    ensures grows { Grows S.is_of S.follows known.old known.new }
 {
     let mut count = 0;
     for visit in level.visits.as_slice() {
-        if visit.state.goes_on(alloc)? {
+        if visit.state.goes_on(known, alloc)? {
             count += 1;
         }
     }
@@ -77,16 +87,19 @@ fn stopped(cause: Cause, findings: Findings, whole_to: u64) -> Searched
 // so many states.
 fn whole<S: State>(
     alloc: Global,
+    known: &mut S::Known,
     bounds: Bounds,
     level: &Level<S>,
     left: u64,
     findings: Findings,
 ) -> Searched
-    requires { left ≤ bounds.states }
-    ensures { (m : ModuleTree) → ComesTo bounds.delivery (of_module S.agrees m) (flags_in bounds.flags) bounds.depth bounds.states level.now.visits.items findings result }
+    requires fewer { left ≤ bounds.states }
+    requires of_known { AreOf (S.is_of known.old) level.now.visits.items }
+    ensures comes_to { FromNowOn S.follows known.new (λ k m. ComesTo bounds.delivery (of_module (S.agrees k) m) (flags_in bounds.flags) bounds.depth bounds.states level.now.visits.items findings result) }
+    ensures grows { Grows S.is_of S.follows known.old known.new }
 {
     let whole_to = bounds.depth;
-    match count_open(alloc, level) {
+    match count_open(alloc, known, level) {
         Ok(cut) => {
             let nodes = bounds.states - left;
             let outcome = Outcome::Complete(findings, Extent { nodes, cut });
@@ -97,9 +110,9 @@ fn whole<S: State>(
 }
 
 /// Follows all schedules of at most so many steps that deliver signals as the bounds say, at any time or at once, level
-/// by level, from what is kept of the world before anything happened and what is shown there. Of the schedules of one
-/// length that lead to states that are the same, the least goes on. Where a level has no states no such schedule is as
-/// long, and the search ends.
+/// by level, from what is kept of the world before anything happened and what is shown there. The schedules of a level
+/// come in their order, so of those that lead to states that are the same the first goes on, which is the least. Where a
+/// level has no states no such schedule is as long, and the search ends.
 ///
 /// It is `Complete` where all were followed: then each error and each refusal is found that one of them shows, with the
 /// least of those that show it, and `cut` is 0 exactly where none is longer. It is `Incomplete` for
@@ -112,11 +125,14 @@ fn whole<S: State>(
 pub fn search_levels<S: State, O: LevelObserver>(
     alloc: Global,
     bounds: Bounds,
+    known: &mut S::Known,
     first: S,
     shown: &[Identity],
     observer: &O,
 ) -> Result<Searched, AllocError>
-    ensures { IfOk result (λ searched. (m : ModuleTree) → IsSearchFrom S.agrees m bounds first (map identity_in shown.now) searched) }
+    requires { S.is_of known.old first }
+    ensures searched { IfOk result (λ searched. FromNowOn S.follows known.new (λ k m. IsSearchFrom (S.agrees k) m bounds first (map identity_in shown.now) searched)) }
+    ensures grows { Grows S.is_of S.follows known.old known.new }
 {
     let mut findings = Findings::new(alloc);
     note(alloc, bounds.flags, shown, &Path::Start, &mut findings)?;
@@ -130,6 +146,7 @@ pub fn search_levels<S: State, O: LevelObserver>(
         observer.level(steps);
         match next_level(
             alloc,
+            known,
             bounds.flags,
             bounds.delivery,
             &level,
@@ -142,5 +159,5 @@ pub fn search_levels<S: State, O: LevelObserver>(
         }
         steps += 1;
     }
-    Ok(whole(alloc, bounds, &level, left, findings))
+    Ok(whole(alloc, known, bounds, &level, left, findings))
 }

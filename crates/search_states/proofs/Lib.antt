@@ -1,3 +1,3 @@
 pub mod Following
-pub mod Prompt
-pub mod Alone
+pub mod There
+pub mod Deadlocks

@@ -1,40 +1,48 @@
 // What a search by states keeps of a world.
 use crate::arriving::arrivals_from;
+use core_tree::Module;
 use search_levels::{Arrival, State};
+use search_numbers::{Known, Row};
 use std::alloc::{AllocError, Global};
+use std::marker::PhantomData;
 use tree_schedules::Delivery;
-use world_records::Records;
-use world_steps::enabled_steps;
 
-/// The records of a world. They agree with each history that leaves such records.
+/// A world as a row of numbers. It agrees with each history that leaves the world of these numbers.
 #[derive(Drop)]
 pub(crate) struct Kept<'m> {
-    pub(crate) records: Records<'m>,
+    pub(crate) row: Row,
+    pub(crate) of: PhantomData<&'m Module>,
 }
 
 impl<'m> State for Kept<'m> {
-    ghost use Rattle.search_states.specs.inside.Keeping.{IsKept};
+    ghost use Rattle.search_states.specs.inside.Keeping.{CanBeRead, Comes, IsKept};
+
+    type Known = Known<'m>;
 
     ghost agrees = { IsKept };
 
+    ghost is_of = { CanBeRead };
+
+    ghost follows = { Comes };
+
     fn digest(&self) -> u64 {
-        self.records.digest()
+        self.row.digest()
     }
 
     fn is_same(&self, other: &Kept<'m>) -> bool {
-        self.records.is_same(&other.records)
+        self.row.is_same(&other.row)
     }
 
-    fn goes_on(&self, alloc: Global) -> Result<bool, AllocError> {
-        let enabled = enabled_steps(&self.records, alloc)?;
-        Ok(!enabled.is_empty())
+    fn goes_on(&self, known: &mut Known<'m>, alloc: Global) -> Result<bool, AllocError> {
+        known.goes_on(alloc, &self.row)
     }
 
     fn arrivals(
         &self,
+        known: &mut Known<'m>,
         alloc: Global,
         delivery: Delivery,
     ) -> Result<Vec<Arrival<Kept<'m>>>, AllocError> {
-        arrivals_from(alloc, &self.records, delivery)
+        arrivals_from(alloc, known, &self.row, delivery)
     }
 }

@@ -1,8 +1,7 @@
-// A search of the schedules of a module by states: what is kept of a world is its records.
+// A search of the schedules of a module by states: what is kept of a world is a row of numbers.
 #![tactic(auto)]
 
 mod arriving;
-mod choosing;
 pub(crate) mod kept;
 pub mod search;
 

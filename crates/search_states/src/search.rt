@@ -1,7 +1,6 @@
 // The search of the schedules of a module by states.
 ghost use Rattle.std.specs.Prelude.{◌≡◌, IfOk};
 ghost use Rattle.search_levels.specs.Searched.{IsSearched};
-ghost use Rattle.search_states.specs.inside.Keeping.{IsBeginning};
 ghost use Rattle.world_identities.specs.Identities.{flags_in};
 ghost use Rattle.world_model.specs.Asking.{program_of};
 
@@ -9,24 +8,11 @@ use crate::arriving::add_deadlock;
 use crate::kept::Kept;
 use core_tree::Module;
 use search_levels::{Bounds, LevelObserver, Searched, search_levels};
+use search_numbers::{Known, Row};
 use std::alloc::{AllocError, Global};
+use std::marker::PhantomData;
 use tree_findings::Options;
 use tree_schedules::Delivery;
-use world_identities::Identity;
-use world_records::Records;
-
-// The records of a module before anything happened, and what is shown there. `AllocError` if there is no memory for it.
-fn beginning<'m>(
-    alloc: Global,
-    program: &'m Module,
-) -> Result<(Records<'m>, Vec<Identity>), AllocError>
-    ensures { IfOk result (λ begun. IsBeginning program.now begun.0 begun.1.items) }
-{
-    let records = Records::open(alloc, program)?;
-    let mut shown = Vec::new(alloc);
-    add_deadlock(alloc, &records, &mut shown)?;
-    Ok((records, shown))
-}
 
 /// Follows all schedules of a module that deliver signals at any time, or all that deliver them at once, level by level
 /// over its states, within the depth and the limit of states of the options: the states to which such schedules of so many
@@ -45,12 +31,19 @@ pub fn search_states<O: LevelObserver>(
 ) -> Result<Searched, AllocError>
     ensures { IfOk result (λ searched. IsSearched (flags_in options.now.flags) delivery (program_of program.now) options.now.depth options.now.nodes searched) }
 {
-    let (records, shown) = beginning(alloc, program)?;
+    let mut known = Known::open(alloc, program)?;
+    let row = Row::new(alloc);
+    let mut shown = Vec::new(alloc);
+    add_deadlock(alloc, &mut known, &row, &mut shown)?;
     let bounds = Bounds {
         flags: options.flags,
         delivery,
         depth: options.depth,
         states: options.nodes,
     };
-    search_levels(alloc, bounds, Kept { records }, shown.as_slice(), observer)
+    let first = Kept {
+        row,
+        of: PhantomData,
+    };
+    search_levels(alloc, bounds, &mut known, first, shown.as_slice(), observer)
 }

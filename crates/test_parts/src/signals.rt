@@ -213,6 +213,40 @@ fn each_of_many_channels_is_found(rt: HostRuntime) -> Result<(), Fail> {
     Ok(())
 }
 
+// Whether the signals of three pairs are those of other channels once they are taken over, and another pair keeps its own.
+// The other channels stay as they are when those are taken out.
+fn takes_over(
+    alloc: Global,
+    channels: &mut Channels,
+    other: &Channels,
+) -> Result<bool, AllocError> {
+    let first = pid(alloc, 1)?;
+    let second = pid(alloc, 2)?;
+    let third = pid(alloc, 3)?;
+    channels.take_from(&first, &second, other)?;
+    channels.take_from(&second, &first, other)?;
+    channels.take_from(&first, &third, other)?;
+    let taken = takes_numbers(channels, &first, &second, 3)?;
+    let begun = takes_numbers(channels, &second, &first, 2)?;
+    let emptied = channels.front(&first, &third).is_none();
+    let stays = takes_numbers(channels, &third, &first, 1)?;
+    let kept = other.front(&first, &second).is_some() && other.front(&third, &first).is_none();
+    Ok(taken && begun && emptied && stays && kept)
+}
+
+#[test]
+fn signals_of_a_pair_are_taken_over(rt: HostRuntime) -> Result<(), Fail> {
+    let mut channels = Channels::new(rt.alloc())?;
+    send_along(rt.alloc(), &mut channels, &[(1, 2), (1, 3), (3, 1)])?;
+    let mut other = Channels::new(rt.alloc())?;
+    let first = pid(rt.alloc(), 1)?;
+    let second = pid(rt.alloc(), 2)?;
+    send_numbers(rt.alloc(), &mut other, &first, &second, 3)?;
+    send_numbers(rt.alloc(), &mut other, &second, &first, 2)?;
+    assert!(rt; takes_over(rt.alloc(), &mut channels, &other)?);
+    Ok(())
+}
+
 // Takes one term.
 #[derive(Drop)]
 struct Wanted(Term);

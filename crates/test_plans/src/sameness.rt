@@ -1,10 +1,14 @@
 // Worlds that came about by different schedules, and whether their records are the same.
+use crate::plans::pid_of;
 use core_reader::{Module, read_module};
-use std::alloc::Global;
+use proc_machines::Processes;
+use std::alloc::{AllocError, Global};
+use std::hash::{FoldHasher, Hasher};
 use std::test::Fail;
-use term_core::read_schedule;
+use term_core::{Pid, read_schedule};
 use test_support::holds;
 use world_core::World;
+use world_records::Place;
 
 // The first process makes a table, spawns P.2 and P.3, and waits. Each of these puts in an object under its own key, then
 // one under the key of both, and then sends the first process its own name.
@@ -44,6 +48,34 @@ fn world_after<'m>(
     Ok(world)
 }
 
+// The course and the mailbox of each of the three processes, and what all share.
+fn places(alloc: Global) -> Result<Vec<Place>, AllocError> {
+    let mut places = Vec::new(alloc);
+    for number in [0, 2, 3] {
+        places.push(Place::Course(pid_of(alloc, number)?))?;
+        places.push(Place::Inbox(pid_of(alloc, number)?))?;
+    }
+    for number in [2, 3] {
+        places.push(Place::Channel(pid_of(alloc, number)?, pid_of(alloc, 0)?))?;
+    }
+    places.push(Place::Links)?;
+    places.push(Place::Watches)?;
+    places.push(Place::Names)?;
+    places.push(Place::Tables)?;
+    Ok(places)
+}
+
+// Whether two worlds are the same at all places, and found by the same numbers there.
+fn are_same(alloc: Global, one: &World<'_>, other: &World<'_>) -> Result<bool, AllocError> {
+    for place in places(alloc)?.as_slice() {
+        let is_same = one.records().is_same_at(place, other.records());
+        if !is_same || one.records().digest_at(place) != other.records().digest_at(place) {
+            return Ok(false);
+        }
+    }
+    Ok(true)
+}
+
 #[test]
 fn worlds_are_compared(rt: HostRuntime) -> Result<(), Fail> {
     let alloc = rt.alloc();
@@ -51,7 +83,50 @@ fn worlds_are_compared(rt: HostRuntime) -> Result<(), Fail> {
     for row in &ROWS {
         let one = world_after(alloc, &program, row.0, row.1)?;
         let other = world_after(alloc, &program, row.0, row.2)?;
-        holds(one.records().is_same(other.records()) == row.3, row.2)?;
+        holds(are_same(alloc, &one, &other)? == row.3, row.2)?;
     }
     Ok(())
+}
+
+// A number by which the course of one process is found, and whether it lives and traps exits.
+fn digest_of(processes: &Processes<'_>, pid: &Pid) -> u64 {
+    let mut hasher = FoldHasher::default();
+    processes.feed_course(pid, &mut hasher);
+    processes.feed_flags(pid, &mut hasher);
+    hasher.finish()
+}
+
+// Whether one process is the same in both.
+fn are_same_at(one: &Processes<'_>, other: &Processes<'_>, pid: &Pid) -> bool {
+    one.is_same_course(pid, other)
+        && one.is_same_flags(pid, other)
+        && digest_of(one, pid) == digest_of(other, pid)
+}
+
+#[test]
+fn one_process_is_taken_over(rt: HostRuntime) -> Result<(), Fail> {
+    let alloc = rt.alloc();
+    let program = read_module(alloc, MODULE.as_bytes())?;
+    let before = world_after(alloc, &program, "P", "P")?;
+    let after = world_after(alloc, &program, "P", "P P")?;
+    let (early, late) = (before.records().processes(), after.records().processes());
+    let first = pid_of(alloc, 0)?;
+    let third = pid_of(alloc, 3)?;
+    holds(!early.is_same_course(&first, late), "a turn was taken")?;
+    holds(!early.is_same_course(&third, late), "a course began")?;
+    holds(!early.is_same_flags(&third, late), "a process was born")?;
+    let mut taken = early.copy()?;
+    taken.take_course(&third, late)?;
+    taken.take_flags(&third, late)?;
+    holds(
+        are_same_at(&taken, late, &third),
+        "what began is taken over",
+    )?;
+    holds(are_same_at(&taken, early, &first), "the others stay")?;
+    taken.take_course(&third, early)?;
+    taken.take_flags(&third, early)?;
+    holds(
+        are_same_at(&taken, early, &third),
+        "what never began is taken over",
+    )
 }

@@ -35,7 +35,7 @@ pub enum View<'a> {
 }
 
 /// One cell, or two.
-pub(crate) type Views<'a> = (View<'a>, Option<View<'a>>);
+pub type Views<'a> = (View<'a>, Option<View<'a>>);
 
 /// A cell as it is looked at.
 pub fn view_of(cell: &Cell) -> View<'_>
@@ -125,7 +125,7 @@ fn table_cells(change: &TableChange) -> Views<'_>
 }
 
 /// The cells that a change is of.
-pub(crate) fn changed_cells(change: &Change) -> Views<'_>
+pub fn changed_cells(change: &Change) -> Views<'_>
     ensures { views_in result ≡ map cell_of (changes_in change.now) }
 {
     match change {
@@ -179,7 +179,7 @@ fn delivery_cells<'a>(from: &'a Pid, to: &'a Pid, deed: &Deed) -> Option<Views<'
 }
 
 /// The cells of what a deed changes first.
-pub(crate) fn first_cells<'a>(step: &'a Step, deed: &Deed) -> Option<Views<'a>>
+pub fn first_cells<'a>(step: &'a Step, deed: &Deed) -> Option<Views<'a>>
     ensures { AreWritten result (map cell_of (first_changes step.now (deed_in deed.now))) }
 {
     match step {

@@ -1,4 +1,5 @@
 pub mod Cells
 pub mod Changes
+pub mod Places
 pub mod Records
 pub mod inside

@@ -8,9 +8,11 @@ mod bonds;
 pub mod cell;
 pub mod change;
 pub mod mail;
+pub mod place;
 pub mod records;
 pub mod turns;
 
 pub use cell::{Cell, ChannelPart, NamePart, ProcessPart, ReferencePart};
 pub use change::Change;
+pub use place::Place;
 pub use records::Records;

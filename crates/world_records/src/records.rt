@@ -1,9 +1,7 @@
 // All parts of a world.
-ghost use Rattle.std.specs.Prelude.{◌≡◌, IfOk, true};
-ghost use Rattle.core_tree.specs.Syntax.{ModuleTree};
-ghost use Rattle.world_model.specs.Cells.{Contents};
+ghost use Rattle.std.specs.Prelude.{◌≡◌, IfOk};
 ghost use Rattle.world_model.specs.World.{beginning};
-ghost use Rattle.world_records.specs.inside.Alike.{HaveBonds, HaveStores};
+ghost use Rattle.world_records.specs.Places.{AreAlikeAt};
 ghost use Rattle.world_records.specs.Records.{Agrees, AreAlike, channels_of, links_of, mailboxes_of, names_of, processes_of, tables_of, watchers_of};
 
 use core_tree::Module;
@@ -13,7 +11,6 @@ use proc_machines::Processes;
 use proc_mailboxes::Mailboxes;
 use proc_signals::Channels;
 use std::alloc::{AllocError, Global};
-use std::hash::{FoldHasher, Hasher};
 
 /// The parts of a world: its processes, what each has in its mailbox, the signals on their way, links, watches and
 /// names, and the tables. Copies share all of it until one of them is changed.
@@ -62,7 +59,8 @@ impl<'m> Records<'m> {
     /// The same parts, which share memory with these, or `AllocError` where the copies can no longer be counted. It
     /// is one step for each part, whatever they hold.
     pub fn copy(&self) -> Result<Records<'m>, AllocError>
-        ensures { IfOk result (λ copied. AreAlike self.now copied) }
+        ensures alike { IfOk result (λ copied. AreAlike self.now copied) }
+        ensures places { IfOk result (λ copied. AreAlikeAt self.now copied) }
     {
         Ok(Records {
             processes: self.processes.copy()?,
@@ -73,57 +71,6 @@ impl<'m> Records<'m> {
             names: self.names.copy()?,
             tables: self.tables.copy()?,
         })
-    }
-
-    // Whether the two have the same links, watches and names.
-    fn same_bonds(&self, other: &Records<'_>) -> bool
-        ensures { result ≡ true → (v : Contents) → HaveBonds other.now v → HaveBonds self.now v }
-    {
-        if !self.links.is_same(&other.links) {
-            return false;
-        }
-        if !self.watchers.is_same(&other.watchers) {
-            return false;
-        }
-        self.names.is_same(&other.names)
-    }
-
-    // Whether the two have the same signals on their way, the same messages, and the same tables.
-    fn same_stores(&self, other: &Records<'_>) -> bool
-        ensures { result ≡ true → (v : Contents) → HaveStores other.now v → HaveStores self.now v }
-    {
-        if !self.channels.is_same(&other.channels) {
-            return false;
-        }
-        if !self.mailboxes.is_same(&other.mailboxes) {
-            return false;
-        }
-        self.tables.is_same(&other.tables)
-    }
-
-    /// Whether all parts are the same: where it is so, and both are of one module, these agree with all contents that the
-    /// others agree with. It takes no memory.
-    pub fn is_same(&self, other: &Records<'_>) -> bool
-        ensures { result ≡ true → (m : ModuleTree) (v w : Contents) → Agrees m self.now v → Agrees m other.now w → Agrees m self.now w }
-    {
-        if !self.same_bonds(other) {
-            return false;
-        }
-        if !self.same_stores(other) {
-            return false;
-        }
-        self.processes.is_same(&other.processes)
-    }
-
-    /// A number by which a search finds records that may be the same: records that are the same have the same number. It
-    /// takes no memory.
-    pub fn digest(&self) -> u64 {
-        let mut hasher = FoldHasher::default();
-        self.processes.feed(&mut hasher);
-        self.mailboxes.feed(&mut hasher);
-        self.channels.feed(&mut hasher);
-        self.tables.feed(&mut hasher);
-        hasher.finish()
     }
 
     /// The processes. It takes no memory.

@@ -2,7 +2,7 @@
 use Rattle.std.specs.Prelude.{◌≡◌, ◌+◌, ℕ, zero, suc, false, List, [], Some, length}
 use Rattle.search_levels.specs.Arrivals.{has_step}
 use Rattle.search_levels.specs.Searched.{IsLonger, IsSearched}
-use Rattle.search_levels.specs.inside.Levels.{AreAt, IsCovered}
+use Rattle.search_levels.specs.inside.Levels.{AreAt, ComeInOrder, IsCovered}
 use Rattle.search_levels.specs.declared.search.Searched.{Searched}
 use Rattle.search_levels.specs.declared.visit.Visit.{Visit}
 use Rattle.term_core.specs.declared.step.Step.{Step}
@@ -16,9 +16,10 @@ use Rattle.world_model.specs.Requests.{Program}
 use Rattle.world_model.specs.Run.{run}
 use Rattle.world_model.specs.Shown.{Flags}
 
--- each history of so many steps is covered whose schedule delivers signals so, and what schedules that stand for all such ones of at most so many steps show is found
+-- the schedules of the level come in order, each history of so many steps is covered whose schedule delivers signals so, and what schedules that stand for all such ones of at most so many steps show is found
 pub record IsLevel {S : Type 0} (d : Delivery) (Agrees : S → Program → History → Type 0) (flags : Flags) (a : Program) (k : ℕ) (level : List (Visit S)) (findings : Findings) : Type 0 where
   pub at : AreAt d Agrees a k level
+  pub in_order : ComeInOrder level
   pub covers : (s : List Step) (h : History) → length s ≡ k → DeliversBy d a s → run a s ≡ Some h → IsCovered Agrees a level s h
   pub visited : List (List Step)
   pub stand : StandForAll d a k visited
@@ -26,7 +27,7 @@ pub record IsLevel {S : Type 0} (d : Delivery) (Agrees : S → Program → Histo
 
 -- the level of the schedule without steps, where this was kept of the world before anything happened
 abbrev pub Begins : {S : Type 0} → (S → Program → History → Type 0) → S → List (Visit S) → Type 0
-Begins Agrees first level = (d : Delivery) (a : Program) → Agrees first a [] → AreAt d Agrees a 0 level × IsCovered Agrees a level [] []
+Begins Agrees first level = (d : Delivery) (a : Program) → Agrees first a [] → AreAt d Agrees a 0 level × ComeInOrder level × IsCovered Agrees a level [] []
 
 -- a level is followed by the next one
 abbrev pub GoesOn : {S : Type 0} → Delivery → (S → Program → History → Type 0) → Flags → List (Visit S) → List (Visit S) → Findings → Findings → Type 0

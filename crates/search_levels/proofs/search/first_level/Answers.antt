@@ -1,9 +1,18 @@
-use Rattle.std.proofs.Common.{refl}
+use Rattle.std.proofs.Common.{◌∷◌, ◌++◌, ◌∙◌, [], ap, refl, sym, subst}
 use Rattle.search_levels.specs.Arrivals.{of_module}
+use Rattle.search_levels.specs.inside.Searching.{Begins}
 use Rattle.search_levels.specs.declared.path.Path.TheVariants.{Start}
+use Rattle.search_levels.specs.declared.visit.Visit.{Visit}
 use Rattle.search_levels.proofs.Going.{begins}
+use Rattle.search_levels.proofs.Putting.{takes_last}
+use Rattle.world_model.specs.Names.{IsAmong}
 use Rattle.search_levels.proofs.search.first_level.Goals as goal
 
 pub returns-clause-begins : goal.returns-clause-begins
-returns-clause-begins g c = λ m.
-    begins (of_module g.S.State.agrees m) (record { path = Start; state = c.args.first }) c.new-level.result.visits.items c.put.new.self.visits.items refl c.new-level.ensures (c.in_ok-put.ensures.puts m)
+returns-clause-begins g c = λ known m.
+    let Agrees = of_module (g.S.State.agrees known) m in
+    let first : Visit g.row.S.Denot = record { path = Start; state = c.args.first } in
+    subst (Begins Agrees c.args.first) (sym (c.in_ok-put.ensures.puts ∙ ap (λ level. level ++ first ∷ []) c.new-level.ensures)) (begins Agrees first refl)
+
+pub returns-clause-of_known : goal.returns-clause-of_known
+returns-clause-of_known g c = λ known is. takes_last (g.S.State.is_of known) c.new-level.result.visits.items c.put.new.self.visits.items (record { path = Start; state = c.args.first }) c.in_ok-put.ensures.puts (λ x there. absurd (subst (IsAmong x) c.new-level.ensures there)) is

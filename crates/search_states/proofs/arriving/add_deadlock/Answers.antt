@@ -1,14 +1,18 @@
-use Rattle.std.proofs.Common.{◌∙◌, sym}
-use Rattle.world_model.specs.Asking.{program_of}
-use Rattle.search_expansion.proofs.Stepping.{dies_out, lives_on, none_there, some_there}
+use Rattle.std.proofs.Common.{subst}
+use Rattle.search_numbers.specs.Knowing.{GoesOn}
+use Rattle.search_numbers.specs.Rows.{numbers_in}
+use Rattle.search_states.proofs.Deadlocks.{none_added, on_ok, one_added}
+use Rattle.search_states.proofs.There.{still_read}
 use Rattle.search_states.proofs.arriving.add_deadlock.Goals as goal
 
-pub returns-then-not-is_empty : goal.returns-then-not-is_empty
-returns-then-not-is_empty c = λ m h there.
-    let listed = c.in_ok-enabled.ensures m h there.agrees in
-    lives_on (program_of m) h c.args.shown.now.items (λ none. some_there c.in_ok-enabled.enabled.items _ c.in_ok-enabled.enabled.ok.0 c.if-not-is_empty.ensures (listed ∙ none))
+pub returns-then-branch-clause-adds : goal.returns-then-branch-clause-adds
+returns-then-branch-clause-adds c = none_added c.goes_on.new.self c.args.row.now c.args.shown.now.items (subst (GoesOn c.goes_on.new.self (numbers_in c.args.row.now)) c.if-branch.true c.in_ok-goes_on.ensures.goes_on)
 
-pub returns : goal.returns
-returns c = λ m h there.
-    let listed = c.in_ok-enabled.ensures m h there.agrees in
-    dies_out (program_of m) h c.args.shown.now.items c.push_deadlock.new.shown.items (sym listed ∙ none_there c.in_ok-enabled.enabled.items _ c.in_ok-enabled.enabled.ok.0 c.if-not-is_empty.ensures) (c.in_ok-push_deadlock.ensures m h there.agrees)
+pub records_of-requires : goal.records_of-requires
+records_of-requires c = (still_read c.args.known.now c.goes_on.new.self (numbers_in c.args.row.now) c.goes_on.ensures.knows c.requires).1
+
+pub returns-clause-adds : goal.returns-clause-adds
+returns-clause-adds c =
+    on_ok c.push_deadlock.result
+    (one_added c.goes_on.new.self c.args.row.now c.in_ok-records.records c.args.shown.now.items c.push_deadlock.new.shown.items (still_read c.args.known.now c.goes_on.new.self (numbers_in c.args.row.now) c.goes_on.ensures.knows c.requires).1
+    (subst (GoesOn c.goes_on.new.self (numbers_in c.args.row.now)) c.if-branch.false c.in_ok-goes_on.ensures.goes_on) c.in_ok-records.ensures) c.push_deadlock.ensures

@@ -1,13 +1,21 @@
-use Rattle.std.proofs.Common.{vec_len}
+use Rattle.std.proofs.Common.{drop}
+use Rattle.std.specs.List.{AllByRecursion}
 use Rattle.core_tree.specs.Syntax.{ModuleTree}
-use Rattle.search_agenda.specs.Plans.{IsWorld}
+use Rattle.search_numbers.specs.Knowing.{IsThere, KnowsMore}
+use Rattle.search_numbers.specs.Rows.{numbers_in}
+use Rattle.search_numbers.specs.Stored.{AreOf}
+use Rattle.search_numbers.specs.declared.known.Known.{Known}
 use Rattle.search_states.proofs.Following.{AreSoFar}
 use Rattle.search_states.proofs.arriving.all_arrivals.Given as goal
+use Rattle.search_states.specs.inside.Keeping.{CanBeRead, Comes}
 use Rattle.world_model.specs.Events.{History}
 
--- the arrivals so far, and the plans that are left, are of the enabled steps
-abbrev pub invariant-loop-plan : goal.invariant-loop-plan
-invariant-loop-plan l = (m : ModuleTree) (h : History) → IsWorld m h l.records → AreSoFar m h l.arrivals.items l.line.items
-
-abbrev pub decreases-loop-plan : goal.decreases-loop-plan
-decreases-loop-plan l = vec_len l.line
+-- the arrivals so far, and the places that are left, are of the enabled steps
+abbrev pub invariant-loop-at : goal.invariant-loop-at
+invariant-loop-at l = record {
+  knows : KnowsMore l.fn.known l.known;
+  more : KnowsMore l.initial.known l.known;
+  so_far : (later : Known) (m : ModuleTree) (h : History) → Comes later l.known → AreOf later.store (numbers_in l.row) m h → AreSoFar l.initial.known (numbers_in l.row) later m h l.arrivals.items (drop l.at-index l.at-items);
+  there : AllByRecursion (IsThere l.initial.known (numbers_in l.row)) (drop l.at-index l.at-items);
+  read : AllByRecursion (λ r. CanBeRead l.known r.state) l.arrivals.items;
+}

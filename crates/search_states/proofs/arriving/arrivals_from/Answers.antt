@@ -1,10 +1,11 @@
 use Rattle.std.proofs.Common.{subst, sym}
 use Rattle.std.specs.Prelude.{IfOk}
+use Rattle.search_numbers.specs.Rows.{numbers_in}
 use Rattle.search_states.proofs.arriving.arrivals_from.Goals as goal
-use Rattle.search_states.specs.inside.Keeping.{AreArrivalsFrom}
+use Rattle.search_states.specs.inside.Keeping.{AreArrivalsIn}
 
-pub returns-in-AnyTime : goal.returns-in-AnyTime
-returns-in-AnyTime c = subst (λ d. IfOk c.all_arrivals.result (λ arrivals. AreArrivalsFrom d c.args.records.now arrivals.items)) (sym c.in-AnyTime.is) c.all_arrivals.ensures
+pub returns-in-AnyTime-clause-arrivals : goal.returns-in-AnyTime-clause-arrivals
+returns-in-AnyTime-clause-arrivals c = subst (λ d. IfOk c.all_arrivals.result (λ arrivals. AreArrivalsIn d c.all_arrivals.new.known (numbers_in c.args.row.now) arrivals.items)) (sym c.in-AnyTime.is) c.all_arrivals.ensures.arrivals
 
-pub returns-in-AtOnce : goal.returns-in-AtOnce
-returns-in-AtOnce c = subst (λ d. IfOk c.prompt_arrivals.result (λ arrivals. AreArrivalsFrom d c.args.records.now arrivals.items)) (sym c.in-AtOnce.is) c.prompt_arrivals.ensures
+pub returns-in-AtOnce-clause-arrivals : goal.returns-in-AtOnce-clause-arrivals
+returns-in-AtOnce-clause-arrivals c = subst (λ d. IfOk c.prompt_arrivals.result (λ arrivals. AreArrivalsIn d c.prompt_arrivals.new.known (numbers_in c.args.row.now) arrivals.items)) (sym c.in-AtOnce.is) c.prompt_arrivals.ensures.arrivals

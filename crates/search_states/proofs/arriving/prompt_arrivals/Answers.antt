@@ -1,16 +1,31 @@
-use Rattle.std.proofs.Common.{◌∙◌, ap}
+use Rattle.std.proofs.Common.{subst}
 use Rattle.std.proofs.lemmas.Result.{IfOk-weaker}
-use Rattle.search_states.proofs.Alone.{all_arrive, first_arrives}
-use Rattle.search_states.proofs.Prompt.{deliveries}
+use Rattle.search_numbers.specs.Knowing.{IsFirstDelivery}
+use Rattle.search_numbers.specs.Rows.{numbers_in}
+use Rattle.search_states.proofs.Deadlocks.{all_arrive, first_arrives}
+use Rattle.search_states.proofs.There.{first_there, still_read}
 use Rattle.search_states.proofs.arriving.prompt_arrivals.Goals as goal
-use Rattle.world_model.specs.Signals.{first_of}
 
-pub returns-in-Some : goal.returns-in-Some
-returns-in-Some c =
-    IfOk-weaker c.arrival_alone.result _ _ (λ arrivals alone.
-    first_arrives c.args.records.now c.in_ok-enabled.enabled.items arrivals.items c.in_ok-enabled.ensures c.in-Some.step.now (c.in-Some.ensures ∙ ap (λ steps. first_of (deliveries steps)) c.as_slice.ensures.value) alone) c.arrival_alone.ensures
+pub arrival_alone-requires-clause-world : goal.arrival_alone-requires-clause-world
+arrival_alone-requires-clause-world c = still_read c.args.known.now c.first_delivery.new.self (numbers_in c.args.row.now) c.first_delivery.ensures.knows c.requires
 
-pub returns : goal.returns
-returns c =
-    IfOk-weaker c.all_arrivals.result _ _ (λ arrivals all.
-    all_arrive c.args.records.now c.in_ok-enabled.enabled.items arrivals.items c.in_ok-enabled.ensures (c.in-None.ensures ∙ ap (λ steps. first_of (deliveries steps)) c.as_slice.ensures.value) all) c.all_arrivals.ensures
+pub all_arrivals-requires : goal.all_arrivals-requires
+all_arrivals-requires c = still_read c.args.known.now c.first_delivery.new.self (numbers_in c.args.row.now) c.first_delivery.ensures.knows c.requires
+
+pub arrival_alone-requires-clause-there : goal.arrival_alone-requires-clause-there
+arrival_alone-requires-clause-there c =
+    let first = c.first_delivery.new.self in
+    let numbers = numbers_in c.args.row.now in
+    first_there first numbers c.in-Some.at (still_read c.args.known.now first numbers c.first_delivery.ensures.knows c.requires).1 (subst (IsFirstDelivery first numbers) c.in-Some.is c.in_ok-at.ensures.first)
+
+pub returns-in-Some-clause-arrivals : goal.returns-in-Some-clause-arrivals
+returns-in-Some-clause-arrivals c =
+    let first = c.first_delivery.new.self in
+    let numbers = numbers_in c.args.row.now in
+    IfOk-weaker c.arrival_alone.result _ _ (λ arrivals alone. first_arrives first c.arrival_alone.new.known numbers c.in-Some.at arrivals.items (subst (IsFirstDelivery first numbers) c.in-Some.is c.in_ok-at.ensures.first) c.arrival_alone.ensures.knows alone) c.arrival_alone.ensures.arrives
+
+pub returns-in-None-clause-arrivals : goal.returns-in-None-clause-arrivals
+returns-in-None-clause-arrivals c =
+    let first = c.first_delivery.new.self in
+    let numbers = numbers_in c.args.row.now in
+    IfOk-weaker c.all_arrivals.result _ _ (λ arrivals all. all_arrive first c.all_arrivals.new.known numbers arrivals.items (subst (IsFirstDelivery first numbers) c.in-None.is c.in_ok-at.ensures.first) c.all_arrivals.ensures.knows all) c.all_arrivals.ensures.arrivals

@@ -19,7 +19,7 @@ returns-then-lives_below-clause-lives c = λ m h e is next.
 
 pub returns-then-not-is_empty-clause-adds : goal.returns-then-not-is_empty-clause-adds
 returns-then-not-is_empty-clause-adds c = λ m h e is next.
-    let copied : IsWorld m h c.in_ok-copy.field-0 = record { agrees = c.in_ok-copy.ensures m (contents h) is.world.agrees; is_run = is.world.is_run } in
+    let copied : IsWorld m h c.in_ok-copy.field-0 = record { agrees = c.in_ok-copy.ensures.alike m (contents h) is.world.agrees; is_run = is.world.is_run } in
     let plan = subst (IsPlan (program_of m) h) (sym c.deref-2.ensures) is.line.0 in
     let there = c.in_ok-records.ensures m h e copied plan (ap (λ (p : Plan). next_event (program_of m) h p.step) c.deref-2.ensures ∙ next) in
     let listed = c.in_ok-enabled.ensures m (e ∷ h) there.agrees in
@@ -27,7 +27,7 @@ returns-then-not-is_empty-clause-adds c = λ m h e is next.
 
 pub returns-then-not-is_empty-clause-lives : goal.returns-then-not-is_empty-clause-lives
 returns-then-not-is_empty-clause-lives c = λ m h e is next.
-    let copied : IsWorld m h c.in_ok-copy.field-0 = record { agrees = c.in_ok-copy.ensures m (contents h) is.world.agrees; is_run = is.world.is_run } in
+    let copied : IsWorld m h c.in_ok-copy.field-0 = record { agrees = c.in_ok-copy.ensures.alike m (contents h) is.world.agrees; is_run = is.world.is_run } in
     let plan = subst (IsPlan (program_of m) h) (sym c.deref-2.ensures) is.line.0 in
     let there = c.in_ok-records.ensures m h e copied plan (ap (λ (p : Plan). next_event (program_of m) h p.step) c.deref-2.ensures ∙ next) in
     let listed = c.in_ok-enabled.ensures m (e ∷ h) there.agrees in
@@ -35,7 +35,7 @@ returns-then-not-is_empty-clause-lives c = λ m h e is next.
 
 pub returns-clause-adds : goal.returns-clause-adds
 returns-clause-adds c = λ m h e is next.
-    let copied : IsWorld m h c.in_ok-copy.field-0 = record { agrees = c.in_ok-copy.ensures m (contents h) is.world.agrees; is_run = is.world.is_run } in
+    let copied : IsWorld m h c.in_ok-copy.field-0 = record { agrees = c.in_ok-copy.ensures.alike m (contents h) is.world.agrees; is_run = is.world.is_run } in
     let plan = subst (IsPlan (program_of m) h) (sym c.deref-2.ensures) is.line.0 in
     let there = c.in_ok-records.ensures m h e copied plan (ap (λ (p : Plan). next_event (program_of m) h p.step) c.deref-2.ensures ∙ next) in
     let listed = c.in_ok-enabled.ensures m (e ∷ h) there.agrees in
@@ -43,7 +43,7 @@ returns-clause-adds c = λ m h e is next.
 
 pub returns-clause-lives : goal.returns-clause-lives
 returns-clause-lives c = λ m h e is next.
-    let copied : IsWorld m h c.in_ok-copy.field-0 = record { agrees = c.in_ok-copy.ensures m (contents h) is.world.agrees; is_run = is.world.is_run } in
+    let copied : IsWorld m h c.in_ok-copy.field-0 = record { agrees = c.in_ok-copy.ensures.alike m (contents h) is.world.agrees; is_run = is.world.is_run } in
     let plan = subst (IsPlan (program_of m) h) (sym c.deref-2.ensures) is.line.0 in
     let there = c.in_ok-records.ensures m h e copied plan (ap (λ (p : Plan). next_event (program_of m) h p.step) c.deref-2.ensures ∙ next) in
     let listed = c.in_ok-enabled.ensures m (e ∷ h) there.agrees in

@@ -24,7 +24,7 @@ returns-clause-begins c =
     let named = c.name.view_is ∙ c.name-name.ensures in
     let path_is = c.in_ok-path.ensures ∙ c.as_slice-2.ensures.value ∙ ap (λ (x : Job). x.prefix) named in
     let world : IsWorld w.program w.history c.in_ok-records.records = record {
-      agrees = c.in_ok-records.ensures w.program (contents w.history) (c.records.ensures at.lives);
+      agrees = c.in_ok-records.ensures.alike w.program (contents w.history) (c.records.ensures at.lives);
       is_run = is_run_of (program_in e) w.program name.prefix w.history at.program at.runs;
     } in
     let here : IsWorld m w.history c.in_ok-records.records = subst (λ p. IsWorld p w.history c.in_ok-records.records) module_is world in

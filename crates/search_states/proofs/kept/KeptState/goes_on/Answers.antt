@@ -1,7 +1,9 @@
-use Rattle.std.proofs.Common.{◌∙◌, ap}
-use Rattle.search_levels.specs.Arrivals.{is_some_step}
-use Rattle.search_states.proofs.Following.{some_step}
+use Rattle.std.proofs.lemmas.Result.{IfOk-weaker}
+use Rattle.search_states.proofs.There.{grows}
 use Rattle.search_states.proofs.kept.KeptState.goes_on.Goals as goal
 
-pub returns : goal.returns
-returns c = λ m h world. some_step c.in_ok-enabled.enabled.items _ c.is_empty.result c.in_ok-enabled.enabled.ok.0 c.is_empty.ensures ∙ ap is_some_step (c.in_ok-enabled.ensures m h world.agrees)
+pub returns-clause-goes_on : goal.returns-clause-goes_on
+returns-clause-goes_on c = IfOk-weaker c.goes_on.result _ _ (λ b goes k follows m h kept. goes k.store m h follows kept) c.goes_on.ensures.goes_on
+
+pub returns-clause-grows : goal.returns-clause-grows
+returns-clause-grows c = grows _ _ c.goes_on.ensures.knows

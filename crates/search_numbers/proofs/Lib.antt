@@ -1,0 +1,16 @@
+pub mod Asking
+pub mod Columns
+pub mod Everywhere
+pub mod Keeping
+pub mod Kept
+pub mod Learned
+pub mod Listed
+pub mod Seen
+pub mod Mixed
+pub mod Local
+pub mod Followed
+pub mod Covers
+pub mod Numbers
+pub mod Beginning
+pub mod Taking
+pub mod Opening

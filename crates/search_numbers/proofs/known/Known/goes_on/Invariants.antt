@@ -1,0 +1,14 @@
+use Rattle.std.proofs.Common.{ℕ, map, take}
+use Rattle.search_numbers.specs.Knowing.{KnowsMore}
+use Rattle.search_numbers.specs.Rows.{numbers_in}
+use Rattle.search_numbers.specs.Stored.{AllBegin}
+use Rattle.search_numbers.proofs.Listed.{NoneIs, every}
+use Rattle.search_numbers.proofs.known.Known.goes_on.Given as goal
+use Rattle.term_core.specs.declared.step.Step.{Step}
+
+-- whichever steps begin at the columns
+abbrev pub invariant-loop-column : goal.invariant-loop-column
+invariant-loop-column l = record {
+  knows : KnowsMore l.fn.self l.self;
+  none : (step : ℕ → Step) → AllBegin l.fn.self.store.places.items step l.column-items → NoneIs every l.self (numbers_in l.row) (map step (take l.column-index l.column-items));
+}

@@ -1,0 +1,309 @@
+// What is known of all worlds of a search.
+ghost use Rattle.std.specs.Prelude.{◌≡◌, ◌∷◌, ◌++◌, ◌<◌, [], ℕ, true, length, map, IfOk, IfSome, OnOk};
+ghost use Rattle.search_numbers.specs.Knowing.{AreEnabled, AreRight, GoesOn, IsAt, IsFirstDelivery, IsTaken, IsThere, KnowsMore};
+ghost use Rattle.search_numbers.specs.inside.Finding.{Begins, IsFoundAt};
+ghost use Rattle.search_numbers.specs.Remembering.{IsRight, identities_in, shown_in};
+ghost use Rattle.search_numbers.specs.Rows.{numbers_in};
+ghost use Rattle.search_numbers.specs.Stored.{AreOf, BeginsAt, IsWorldOf, part_at};
+ghost use Rattle.search_numbers.specs.Local.{HasAll};
+ghost use Rattle.core_tree.specs.Syntax.{ModuleTree};
+ghost use Rattle.term_core.specs.declared.step.Step.{Step};
+ghost use Rattle.world_identities.specs.Identities.{identity_in};
+ghost use Rattle.world_model.specs.Cells.{Contents};
+ghost use Rattle.world_records.specs.Records.{Agrees};
+
+use crate::learning::learn;
+use crate::places::step_at;
+use crate::remembered::Remembered;
+use crate::row::Row;
+use crate::store::Store;
+use core_tree::Module;
+use search_levels::Index;
+use std::alloc::{AllocError, Global};
+use std::hash::{FoldHasher, Hasher};
+use term_core::Step;
+use world_identities::Identity;
+use world_records::Records;
+
+/// What is known of all worlds of a search: their parts, and the steps that were taken or were not enabled, each by the
+/// numbers of what it touches.
+#[derive(Drop)]
+pub struct Known<'m> {
+    pub(crate) store: Store<'m>,
+    // The columns that steps touch, each list once, and for each column which of these the steps of its place have.
+    shapes: Vec<Vec<usize>>,
+    of_column: Vec<Vec<usize>>,
+    pub(crate) remembered: Vec<Remembered>,
+    // Where the steps of a digest are.
+    index: Index,
+}
+
+/// What a step does in a world.
+#[derive(Drop)]
+pub struct Taken {
+    /// The step.
+    pub step: Step,
+    /// What its event shows, but for a deadlock after it.
+    pub shown: Vec<Identity>,
+    /// The world after it.
+    pub row: Row,
+}
+
+// Copies of what is shown, if anything is. `AllocError` if there is no memory for them.
+fn copies(alloc: Global, shown: &Option<Vec<Identity>>) -> Result<Vec<Identity>, AllocError>
+    ensures { IfOk result (λ copied. map identity_in copied.items ≡ identities_in (shown_in shown.now)) }
+{
+    let mut copied = Vec::new(alloc);
+    if let Some(shown) = shown {
+        for identity in shown.as_slice() {
+            copied.push(identity.copy(alloc)?)?;
+        }
+    }
+    Ok(copied)
+}
+
+// A number by which a step is found, from its shape and the numbers of a world there.
+fn digest_of(row: &Row, shape: usize, columns: &[usize]) -> u64 {
+    let mut hasher = FoldHasher::default();
+    hasher.write_usize(shape);
+    for column in columns {
+        hasher.write_u32(row.at(*column));
+    }
+    hasher.finish()
+}
+
+// The columns that a remembered step touches. `AllocError` if there is no memory for them.
+fn columns_of(alloc: Global, learned: &Remembered) -> Result<Vec<usize>, AllocError> {
+    let mut columns = Vec::with_capacity(alloc, learned.touches.len())?;
+    for touch in learned.touches.as_slice() {
+        columns.push(touch.column)?;
+    }
+    Ok(columns)
+}
+
+impl<'m> Known<'m> {
+    /// What is known before anything happened in a module. `AllocError` if there is no memory for it.
+    pub fn open(alloc: Global, program: &'m Module) -> Result<Known<'m>, AllocError>
+        ensures are { IfOk result (λ known. AreOf known.store (λ c. 0) program.now []) }
+        ensures world { IfOk result (λ known. IsWorldOf known.store (λ c. 0)) }
+        ensures right { IfOk result AreRight }
+    {
+        Ok(Known {
+            store: Store::open(alloc, program)?,
+            shapes: Vec::new(alloc),
+            of_column: Vec::new(alloc),
+            remembered: Vec::new(alloc),
+            index: Index::new(alloc),
+        })
+    }
+
+    // The place of what is remembered of the step that begins at a column where the columns that it touches are these, if one is
+    // found that has the numbers of a world.
+    fn find_by(&self, row: &Row, column: usize, shape: usize) -> Option<usize>
+        ensures { IfSome result (IsFoundAt self.now (numbers_in row.now) column) }
+    {
+        let columns = self.shapes.get(shape)?;
+        let mut found = self.index.last(digest_of(row, shape, columns.as_slice()));
+        for _ in 0..self.remembered.len() {
+            let at = found?;
+            if at < self.remembered.len() && self.remembered[at].is_of(column, row) {
+                return Some(at);
+            }
+            found = self.index.before(at);
+        }
+        None
+    }
+
+    // The place of what is remembered of the step that begins at a column, if one is found that has the numbers of a world.
+    fn find(&self, row: &Row, column: usize) -> Option<usize>
+        ensures { IfSome result (IsFoundAt self.now (numbers_in row.now) column) }
+    {
+        for shape in self.of_column.get(column)?.as_slice() {
+            if let Some(at) = self.find_by(row, column, *shape) {
+                return Some(at);
+            }
+        }
+        None
+    }
+
+    // The shape of these columns among those of the steps of a place, if there is one.
+    fn shape_of(&self, column: usize, columns: &[usize]) -> Option<usize> {
+        for shape in self.of_column.get(column)?.as_slice() {
+            if *self.shapes.get(*shape)?.as_slice() == *columns {
+                return Some(*shape);
+            }
+        }
+        None
+    }
+
+    // A place has a list of shapes at its column. `AllocError` if there is no memory for it.
+    fn widen(&mut self, alloc: Global, column: usize) -> Result<(), AllocError>
+        ensures store { self.new.store ≡ self.old.store }
+        ensures remembered { self.new.remembered ≡ self.old.remembered }
+    {
+        for _ in self.of_column.len()..=column {
+            self.of_column.push(Vec::new(alloc))?;
+        }
+        Ok(())
+    }
+
+    // The shape of these columns, which is a new one of the steps of a place where there is none. `AllocError` if there is no
+    // memory for it.
+    fn shape(
+        &mut self,
+        alloc: Global,
+        column: usize,
+        columns: Vec<usize>,
+    ) -> Result<usize, AllocError>
+        ensures store { self.new.store ≡ self.old.store }
+        ensures remembered { self.new.remembered ≡ self.old.remembered }
+    {
+        if let Some(shape) = self.shape_of(column, columns.as_slice()) {
+            return Ok(shape);
+        }
+        let shape = self.shapes.len();
+        self.shapes.push(columns)?;
+        self.widen(alloc, column)?;
+        if let Some(shapes) = self.of_column.get_mut(column) {
+            shapes.push(shape)?;
+        }
+        Ok(shape)
+    }
+
+    // Remembers a step of a world. `AllocError` if there is no memory for it.
+    fn remember(
+        &mut self,
+        alloc: Global,
+        row: &Row,
+        column: usize,
+        learned: Remembered,
+    ) -> Result<usize, AllocError>
+        requires { IsRight self.old.store learned }
+        ensures place { IfOk result (λ at. at ≡ length self.old.remembered.items) }
+        ensures more { OnOk result (self.new.remembered.items ≡ self.old.remembered.items ++ learned ∷ []) }
+        ensures knows { KnowsMore self.old self.new }
+    {
+        let columns = columns_of(alloc, &learned)?;
+        let digest_columns = columns.clone()?;
+        let shape = self.shape(alloc, column, columns)?;
+        let at = self.remembered.len();
+        self.index
+            .put(digest_of(row, shape, digest_columns.as_slice()))?;
+        self.remembered.push(learned)?;
+        Ok(at)
+    }
+
+    // The place of what is remembered in a world of the step that begins at a column, which is learned where nothing is.
+    // `AllocError` if there is no memory for it.
+    fn look_up(&mut self, alloc: Global, row: &Row, column: usize) -> Result<usize, AllocError>
+        requires world { IsWorldOf self.old.store (numbers_in row.now) }
+        requires right { AreRight self.old }
+        requires begins { Begins self.old.store.places.items column }
+        ensures answers { IfOk result (λ at. (s : Step) → BeginsAt self.old.store.places.items column s → IsAt self.new (numbers_in row.now) s at) }
+        ensures knows { KnowsMore self.old self.new }
+    {
+        if let Some(at) = self.find(row, column) {
+            return Ok(at);
+        }
+        let Some(step) = step_at(&self.store.places[column])? else {
+            unreachable!();
+        };
+        let learned = learn(alloc, &mut self.store, row, &step, column)?;
+        self.remember(alloc, row, column, learned)
+    }
+
+    /// The places of what is remembered of the enabled steps of a world, in the order of steps. `AllocError` if there is no
+    /// memory for it.
+    pub fn enabled(&mut self, alloc: Global, row: &Row) -> Result<Vec<usize>, AllocError>
+        requires world { IsWorldOf self.old.store (numbers_in row.now) }
+        requires right { AreRight self.old }
+        ensures enabled { IfOk result (λ places. AreEnabled self.new (numbers_in row.now) places.items) }
+        ensures knows { KnowsMore self.old self.new }
+    {
+        let asked = self.store.asked(alloc, row)?;
+        let mut enabled = Vec::with_capacity(alloc, asked.len())?;
+        for column in asked.as_slice() {
+            let at = self.look_up(alloc, row, *column)?;
+            if self.remembered[at].shown.is_some() {
+                enabled.push(at)?;
+            }
+        }
+        Ok(enabled)
+    }
+
+    /// The place of what is remembered of the first delivery that is enabled in a world, if one is. `AllocError` if there is no
+    /// memory for it.
+    pub fn first_delivery(&mut self, alloc: Global, row: &Row) -> Result<Option<usize>, AllocError>
+        requires world { IsWorldOf self.old.store (numbers_in row.now) }
+        requires right { AreRight self.old }
+        ensures first { IfOk result (λ place. IsFirstDelivery self.new (numbers_in row.now) place) }
+        ensures knows { KnowsMore self.old self.new }
+    {
+        let asked = self.store.asked(alloc, row)?;
+        for column in asked.as_slice() {
+            if self.store.is_channel(*column) {
+                let at = self.look_up(alloc, row, *column)?;
+                if self.remembered[at].shown.is_some() {
+                    return Ok(Some(at));
+                }
+            }
+        }
+        Ok(None)
+    }
+
+    /// Whether one of the steps that are remembered at these places is enabled in a world, as far as its numbers show it. It takes
+    /// no memory.
+    pub fn is_one_enabled(&self, places: &[usize], row: &Row) -> bool
+        ensures { result ≡ true → AreRight self.now → GoesOn self.now (numbers_in row.now) true }
+    {
+        for at in places {
+            if let Some(remembered) = self.remembered.get(*at) {
+                if remembered.is_enabled_in(row) {
+                    return true;
+                }
+            }
+        }
+        false
+    }
+
+    /// Whether a step is enabled in a world. `AllocError` if there is no memory to decide it.
+    pub fn goes_on(&mut self, alloc: Global, row: &Row) -> Result<bool, AllocError>
+        requires world { IsWorldOf self.old.store (numbers_in row.now) }
+        requires right { AreRight self.old }
+        ensures goes_on { IfOk result (λ goes_on. GoesOn self.new (numbers_in row.now) goes_on) }
+        ensures knows { KnowsMore self.old self.new }
+    {
+        let asked = self.store.asked(alloc, row)?;
+        for column in asked.as_slice() {
+            let at = self.look_up(alloc, row, *column)?;
+            if self.remembered[at].shown.is_some() {
+                return Ok(true);
+            }
+        }
+        Ok(false)
+    }
+
+    /// The records of a world. `AllocError` if there is no memory for them.
+    pub fn records_of(&self, row: &Row) -> Result<Records<'m>, AllocError>
+        requires { IsWorldOf self.now.store (numbers_in row.now) }
+        ensures { IfOk result (λ records. (m : ModuleTree) (v : Contents) → HasAll m (part_at self.now.store (numbers_in row.now)) v → Agrees m records v) }
+    {
+        self.store.records_of(row)
+    }
+
+    /// What a remembered step does in a world. `AllocError` if there is no memory for it.
+    pub fn taken(&self, alloc: Global, row: &Row, at: usize) -> Result<Taken, AllocError>
+        requires world { IsWorldOf self.now.store (numbers_in row.now) }
+        requires right { AreRight self.now }
+        requires there { IsThere self.now (numbers_in row.now) at }
+        ensures taken { IfOk result (IsTaken self.now (numbers_in row.now) at) }
+        ensures world { IfOk result (λ taken. IsWorldOf self.now.store (numbers_in taken.row)) }
+    {
+        let remembered = &self.remembered[at];
+        Ok(Taken {
+            step: remembered.step.copy()?,
+            shown: copies(alloc, &remembered.shown)?,
+            row: row.after(remembered.touches.as_slice())?,
+        })
+    }
+}

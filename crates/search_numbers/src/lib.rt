@@ -1,0 +1,18 @@
+// What is known of the worlds of a search: each part of one is kept once and has a number, a world is a row of such
+// numbers, and steps are remembered by the numbers of what they read.
+#![tactic(auto)]
+
+pub(crate) mod covering;
+pub mod known;
+pub mod laws;
+pub(crate) mod learning;
+pub(crate) mod parts;
+pub(crate) mod places;
+pub(crate) mod remembered;
+pub mod row;
+pub mod store;
+pub(crate) mod touch;
+
+pub use known::{Known, Taken};
+pub use row::Row;
+pub use store::Store;
