@@ -1,15 +1,22 @@
 #!/usr/bin/env escript
 %%! +A0 +fnu
-%% convert.escript FILE.erl [--entry f/0] [--after-timeout MS] [--strict] [--notes] [--doubts FILE] [-I DIR] [-D NAME[=VALUE]]
+%% convert.escript FILE.erl [--entry f/0] [--after-timeout MS] [--strict] [--tests] [--notes] [--doubts FILE] [-I DIR] [-D NAME[=VALUE]]
 %% Prints the Core Erlang module that the explorer reads. README.md in this folder says more.
--mode(compile).
+-mode(interpret).
 -include("built.hrl").
 
 main(Arguments) ->
     Here = filename:dirname(filename:absname(escript:script_name())),
     Built = built(Here, "converter", fun(Work) -> compile(Here, Work) end),
     {ok, Library} = file:read_file(filename:join(Built, "library.terms")),
-    halt(converter:main(Arguments, binary_to_term(Library))).
+    halt(converter:main(Arguments ++ headers(Here), binary_to_term(Library))).
+
+%% Where EUnit is not installed its header is one of this folder.
+headers(Here) ->
+    case code:lib_dir(eunit) of
+        {error, bad_name} -> ["-I", filename:join(Here, "include")];
+        _ -> []
+    end.
 
 compile(Here, Work) ->
     [{ok, _} = compile:file(File, [report_errors, {outdir, Work}]) || File <- modules(Here)],

@@ -1,10 +1,10 @@
 #!/usr/bin/env escript
 %% -*- erlang -*-
 %%! +A0 +fnu
-%% Reports an exploration to people: report.escript explore|replay FOLDER FILE COVERAGE CHART DRAWINGS, as ./explore calls
-%% it. report.escript normal FOLDER prints terms that people wrote in the spelling of the program. The modules of src/ whose
-%% names begin with report_ are compiled the first time (built.hrl).
--mode(compile).
+%% Reports an exploration to people: report.escript FOLDER FILE DELIVERY UNFOLD CHART DRAWINGS, as ./explore calls it. The lines of
+%% standard input say what to do (report_main). The modules of src/ whose names begin with report_ are compiled the first time
+%% (built.hrl).
+-mode(interpret).
 -include("built.hrl").
 
 main(Words) ->

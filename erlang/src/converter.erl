@@ -5,11 +5,11 @@
 
 -include("core.hrl").
 
--record(options, {files = [], folders = [], entry = none, after_timeout = none, strict = false, notes = false, doubts = none, environment = [],
+-record(options, {files = [], folders = [], entry = none, after_timeout = none, strict = false, tests = false, notes = false, doubts = none, environment = [],
                   compiler = []}).
 
 usage() ->
-    "usage: convert.escript FILE.erl|FILE.beam [FILE|FOLDER ..] [-pa FOLDER] [--entry [m:]f/0] [--after-timeout MS] [--strict] [--notes]"
+    "usage: convert.escript FILE.erl|FILE.beam [FILE|FOLDER ..] [-pa FOLDER] [--entry [m:]f/0] [--after-timeout MS] [--strict] [--tests] [--notes]"
     " [--doubts FILE] [--env APPLICATION.KEY=TERM] [-I DIR] [-D NAME[=VALUE]]\n".
 
 %% Prints, and gives the status. Library is the folder's library, {Name, Arity} => function.
@@ -24,6 +24,7 @@ main(Words, Library) ->
 %% {Status, Output, Errors}
 run(Words, Library) ->
     case options(Words, #options{}) of
+        {ok, #options{files = [_ | _] = Files, tests = true} = Options} -> tests(Options#options{files = lists:reverse(Files)}, Library);
         {ok, #options{files = [_ | _] = Files} = Options} -> told(convert(Options#options{files = lists:reverse(Files)}, Library), Options);
         _ -> {64, "", usage()}
     end.
@@ -39,6 +40,7 @@ options(["--after-timeout", Text | T], O) ->
         _ -> error
     end;
 options(["--strict" | T], O) -> options(T, O#options{strict = true});
+options(["--tests" | T], O) -> options(T, O#options{tests = true});
 options(["--notes" | T], O) -> options(T, O#options{notes = true});
 options(["--doubts", File | T], O) -> options(T, O#options{doubts = File});
 options(["-pa", Folder | T], #options{folders = Folders} = O) -> options(T, O#options{folders = Folders ++ [Folder]});
@@ -101,6 +103,17 @@ written(File, Ledger) -> file:write_file(File, unicode:characters_to_binary(ledg
 small(File, Text, Notes) when byte_size(Text) > 1048576 ->
     {2, "", [Notes, io_lib:format("~ts: a text of ~w bytes is not read, only 1048576~n", [File, byte_size(Text)])]};
 small(_, Text, Notes) -> {0, Text, Notes}.
+
+%% The names of EUnit's tests in the first module, and of the functions that make some, a line each.
+tests(#options{files = Files, folders = Folders, compiler = Words}, Library) ->
+    case modules:open(Files, Folders, Words, none, linker:modules_of(Library)) of
+        {error, Lines} -> {2, "", Lines};
+        {ok, _, Modules} -> {0, [[Name, "\n"] || Name <- names(Modules), is_test(Name)], ""}
+    end.
+
+names(Modules) -> [atom_to_list(F) || {F, 0} <- modules:functions(modules:main(Modules), Modules)].
+
+is_test(Name) -> lists:suffix("_test", Name) orelse lists:suffix("_test_", Name).
 
 %% {ok, File, Text, Ledger}, where Text() is the text if nothing was refused, and File is the first one.
 convert(#options{files = Files, folders = Folders, entry = Entry, environment = Set, compiler = Words} = Options, Library0) ->

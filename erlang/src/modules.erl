@@ -3,7 +3,7 @@
 %% of its functions is asked for, from its source, or from the abstract code that a compiled one keeps.
 -module(modules).
 
--export([open/5, main/1, file/1, exports/2, definition/3, place/3, origin/2, is_given/2]).
+-export([open/5, main/1, file/1, exports/2, functions/2, definition/3, place/3, origin/2, is_given/2]).
 -export([environment/1]).
 
 -include("core.hrl").
@@ -95,6 +95,11 @@ exports(Module, Modules) ->
         {#module{exports = Exports}, Modules1} -> {Exports, Modules1};
         none -> {none, Modules}
     end.
+
+%% The functions of a module that was read, in the order of its source.
+functions(Module, #modules{loaded = Loaded}) ->
+    #module{functions = Functions} = map_get(Module, Loaded),
+    [Name || {_, Name} <- lists:sort([{Place, Name} || {Name, {Place, _}} <- maps:to_list(Functions)])].
 
 %% {The definition of a function, or none, Modules}.
 definition(Module, Name, Modules) ->

@@ -9,30 +9,37 @@
 -include("report.hrl").
 
 %% What a report is made with: the name of the source, when signals arrive, the module that the machine plays, what the first
-%% process runs, and what is drawn.
--record(work, {folder, source, delivery, module, first, chart, drawings}).
+%% process runs, whether each error has its transcript, and what is drawn.
+-record(work, {folder, source, delivery, module, first, unfold, chart, drawings}).
 
-main(Words) ->
+%% A finding with what it is, all that is shown of its transcript, and whether it needs that signals overtake.
+-record(finding, {kind, number, identity, schedule, told, overtakes}).
+
+main([Folder, Source, Delivery, Unfold, Chart, Drawings]) ->
     [ok = io:setopts(Device, [{encoding, unicode}]) || Device <- [standard_io, standard_error]],
-    ran(Words).
+    load(),
+    asked(#work{folder = Folder, source = filename:basename(Source), delivery = Delivery, unfold = Unfold =:= "yes",
+                chart = Chart =:= "yes", drawings = Drawings}).
 
-ran(["normal", Folder]) -> spelled(Folder);
-ran([Kind, Folder, Source, Delivery, Coverage, Chart, Drawings]) ->
-    {Module, First} = prepare(filename:join(Folder, "module.core"), filename:basename(Source)),
-    Work = #work{folder = Folder, source = filename:basename(Source), delivery = Delivery, module = Module,
-                 first = First, chart = Chart =:= "yes", drawings = Drawings},
-    case Kind of
-        "explore" -> explored(Work, string:lexemes(Coverage, " "));
-        "replay" -> replayed(Work)
+%% Compiles a small module, so that what does it is loaded before it is asked for: until then there is nothing else to do.
+load() -> {ok, _, _, _} = report_instrument:module("module 'm' ['main'/0] attributes [] 'main'/0 = fun () -> 'ok' end", "m.erl").
+
+%% Does what the lines of standard input ask for: first, if at all, the spelling of terms, and at last a report.
+asked(Work) ->
+    case io:get_line("") of
+        "normal\n" -> spelled(Work#work.folder), asked(Work);
+        "explore " ++ Coverage -> explored(prepared(Work), string:lexemes(Coverage, " \n"));
+        "replay\n" -> replayed(prepared(Work));
+        eof -> ok
     end.
 
-%% The module to be played, or none where the machine does not take it; and what its first process runs.
-prepare(File, Source) ->
-    case report_instrument:module(read(File), Source) of
-        {ok, Module, First, Code} -> report_machine:load(Code), {Module, First};
+%% With the module to be played, or none where the machine does not take it, and with what its first process runs.
+prepared(#work{folder = Folder, source = Source} = Work) ->
+    case report_instrument:module(read(filename:join(Folder, "module.core")), Source) of
+        {ok, Module, First, Code} -> report_machine:load(Code), Work#work{module = Module, first = First};
         {error, Reason} ->
             complain("there are no lines, since the Erlang machine does not take the module: ~0tp", [Reason]),
-            {none, "main/0"}
+            Work#work{module = none, first = "main/0"}
     end.
 
 read(File) ->
@@ -43,12 +50,14 @@ complain(Format, Arguments) -> io:format(standard_error, "explore: " ++ Format +
 
 %% ---- terms that were typed
 
-%% Prints the terms of the file `normal`, each with a zero after it there, in the spelling of the program, a line each. A
-%% text that is no term has status 64.
+%% Writes the terms of the file `normal`, each with a zero after it there, into the file `spelled` in the spelling of the
+%% program, a line each, and prints a line when that is done. A text that is no term has status 64.
 spelled(Folder) ->
     Texts = lists:droplast(string:split(read(filename:join(Folder, "normal")), [0], all)),
     Module = try report_instrument:read(read(filename:join(Folder, "module.core"))) catch error:_ -> none end,
-    [print([spelling(Text, Module), "\n"]) || Text <- Texts].
+    Spelled = [[spelling(Text, Module), "\n"] || Text <- Texts],
+    ok = file:write_file(filename:join(Folder, "spelled"), unicode:characters_to_binary(Spelled)),
+    print("spelled\n").
 
 spelling(Text, Module) ->
     case report_spelling:spelled(Text, Module) of
@@ -76,14 +85,19 @@ explored(Work, Coverage) ->
     {Reach, All, Last} = report_reader:report(read(filename:join(Work#work.folder, "report"))),
     {Findings, Stops, Deadlocks} = report_unread:sorted(All, fun(Place) -> report_reader:transcript(transcript(Work, Place)) end),
     print(report_unread:head(Stops, report_text:head(Work#work.source, Work#work.delivery, Coverage, Reach))),
-    Errors = [{Number, report_reader:identity(Identity)} || {_, {error, Number, Identity, _}} <- Findings],
     Prompt = prompt(Work),
-    Told = [finding(Work, Place, Finding, Errors, Prompt) || {Place, Finding} <- Findings],
+    {Errors, Others} = lists:partition(fun(#finding{kind = Kind}) -> Kind =:= error end,
+                                       [finding(Work, Place, Finding, Prompt) || {Place, Finding} <- Findings]),
+    Groups = grouped(Errors, Work#work.unfold),
+    Each = [{Number, Identity} || {Cause, Followers} <- Groups, #finding{number = Number, identity = Identity} <- [Cause | firsts(Followers)]],
+    [error(Work, Cause, Followers, Each) || {Cause, Followers} <- Groups],
+    [print(report_text:brief(title(Other), Other#finding.schedule, Other#finding.told)) || Other <- Others],
     Reached = [unread(Work, Stop) || Stop <- Stops],
-    print(report_text:tail(Work#work.delivery, Coverage, Reach, report_unread:sums(Findings, Stops, Last))),
+    Folded = length(lists:append([Followers || {_, Followers} <- Groups])),
+    print(report_text:tail(Work#work.delivery, Coverage, Reach, report_unread:sums(Findings, Stops, Last), Folded)),
     print(report_unread:below(Stops, Deadlocks)),
     print(report_text:doubts(doubts(Work))),
-    disagreements(Told ++ Reached).
+    disagreements([Told || #finding{told = Told} <- Errors ++ Others] ++ Reached).
 
 transcript(#work{folder = Folder}, Place) -> read(filename:join([Folder, "transcripts", integer_to_list(Place)])).
 
@@ -105,22 +119,36 @@ prompt(#work{folder = Folder}) ->
         false -> any
     end.
 
-%% One finding: an error with all that leads to it, a refusal and what is taken as normal with the last event.
-finding(Work, Place, {Kind, Number, Identity, Schedule}, Errors, Prompt) ->
+finding(Work, Place, {Kind, Number, Identity, Schedule}, Prompt) ->
     File = filename:join([Work#work.folder, "transcripts", integer_to_list(Place)]),
     Told = (told(Work, read(File)))#{waits => report_reader:waits(read(File ++ ".waits"))},
-    Read = report_reader:identity(Identity),
-    Title = [atom_to_list(Kind), " ", integer_to_list(Number), ": ", report_text:identity(Read)],
-    case Kind of
-        error ->
-            Earlier = report_story:earlier(Read, Errors, maps:get(events, Told)),
-            Overtakes = Prompt =/= any andalso not lists:member(Identity, Prompt),
-            print(["\n", Title, "\n", report_text:overtakes(Overtakes), report_text:limit(report_story:limit(Told)), report_text:schedule(Schedule),
-                   report_text:earlier(Earlier), report_text:transcript(Read, Told)]),
-            draw(Work, ["error_", integer_to_list(Number)], Title, Read, Told);
-        _ -> print(report_text:brief(Title, Schedule, Told))
-    end,
-    Told.
+    #finding{kind = Kind, number = Number, identity = report_reader:identity(Identity), schedule = Schedule, told = Told,
+             overtakes = Prompt =/= any andalso not lists:member(Identity, Prompt)}.
+
+%% The errors in groups, each that has a transcript with those that follow from it, {Cause, [{Follower, Why}]}. They are
+%% numbered in this order, which is the same where each has its transcript.
+grouped(Errors, Unfold) ->
+    Groups = report_cause:groups([{Number, Identity, Told, Overtakes} ||
+        #finding{number = Number, identity = Identity, told = Told, overtakes = Overtakes} <- Errors]),
+    Order = lists:append([[Key | firsts(Followers)] || {Key, Followers} <- Groups]),
+    New = maps:from_list([{Key, (lists:keyfind(Key, #finding.number, Errors))#finding{number = Number}} || {Number, Key} <- lists:enumerate(Order)]),
+    case Unfold of
+        true -> [{maps:get(Key, New), []} || Key <- Order];
+        false -> [{maps:get(Key, New), [{maps:get(Follower, New), Why} || {Follower, Why} <- Followers]} || {Key, Followers} <- Groups]
+    end.
+
+firsts(Pairs) -> [First || {First, _} <- Pairs].
+
+title(#finding{kind = Kind, number = Number, identity = Identity}) ->
+    [atom_to_list(Kind), " ", integer_to_list(Number), ": ", report_text:identity(Identity)].
+
+%% An error with all that leads to it, and a line for each that follows from it.
+error(Work, #finding{number = Number, identity = Identity, told = Told} = Error, Followers, Each) ->
+    print(["\n", title(Error), "\n", report_text:overtakes(Error#finding.overtakes), report_text:limit(report_story:limit(Told)),
+           report_text:schedule(Error#finding.schedule),
+           report_text:earlier(report_story:earlier(Identity, Each, maps:get(events, Told))), report_text:transcript(Identity, Told),
+           [report_text:follower(title(Follower), Why) || {Follower, Why} <- Followers]]),
+    draw(Work, ["error_", integer_to_list(Number)], title(Error), Identity, Told).
 
 %% All that is shown of a transcript: its events, their places, and what the processes are; to that come, of a finding, the
 %% processes that wait with what is in their mailboxes.

@@ -1,6 +1,6 @@
 %% What a transcript says beyond its lines: what each process is, and which send a delivery comes from.
 -module(report_story).
--export([processes/1, roles/2, places/2, schedule/1, earlier/3, limit/1]).
+-export([processes/1, roles/2, places/2, schedule/1, earlier/3, shown/1, spawned/1, limit/1]).
 -include("report.hrl").
 
 %% The names of the processes, in the order in which they appear.

@@ -78,6 +78,12 @@ text({tuple, [{atom, binary}, {list, Bytes, nil}, Filler | Filling]} = Tuple) ->
         true -> text_of_binary([B || {int, B} <- Bytes]);
         false -> text_of_tuple(Tuple)
     end;
+%% (what EUnit says of the text of an assertion)
+text({tuple, [{atom, Tag}, {list, [_ | _] = Terms, nil}]} = Tuple) when Tag =:= expression; Tag =:= pattern ->
+    case lists:all(fun is_printable/1, Terms) of
+        true -> ["{", atom_to_list(Tag), ",", io_lib:write_string([C || {int, C} <- Terms]), "}"];
+        false -> text_of_tuple(Tuple)
+    end;
 text({tuple, _} = Tuple) -> text_of_tuple(Tuple);
 text({list, Terms, nil} = List) ->
     case is_string(Terms) of

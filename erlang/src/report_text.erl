@@ -1,7 +1,7 @@
 %% The report for people.
 -module(report_text).
 -export([call/3, deed/1, identity/1, place/1, role/2, waits/2, stands/2]).
--export([head/4, tail/4, doubts/1, schedule/1, limit/1, earlier/1, overtakes/1, transcript/2, brief/3]).
+-export([head/4, tail/5, doubts/1, schedule/1, limit/1, earlier/1, overtakes/1, follower/2, transcript/2, brief/3]).
 -include("report.hrl").
 
 -define(GREATEST_COLUMN, 76).
@@ -104,10 +104,14 @@ steps(Count) -> many(Count, "steps").
 many("1", What) -> ["1 ", lists:droplast(What)];
 many(Count, What) -> [Count, " ", What].
 
-%% The last lines: how many errors and refusals there are, and the result, as the program prints them; and below these what
-%% was not explored, where something was not.
-tail(Delivery, Coverage, Reach, [Counts, Result]) ->
-    ["\n", Counts, "\n", result(Result), "\n", unexplored(Coverage, of_delivery(Delivery), Reach, Counts), delays(Delivery)].
+%% The last lines: how many errors and refusals there are, and the result, as the program prints them; in between how many
+%% errors have no transcript; and below these what was not explored, where something was not.
+tail(Delivery, Coverage, Reach, [Counts, Result], Folded) ->
+    ["\n", Counts, "\n", folded(Folded), result(Result), "\n", unexplored(Coverage, of_delivery(Delivery), Reach, Counts), delays(Delivery)].
+
+folded(0) -> "";
+folded(1) -> "1 of the errors follows from another one (--unfold shows its events)\n";
+folded(Count) -> [integer_to_list(Count), " of the errors follow from others (--unfold shows their events)\n"].
 
 result(Result) ->
     case string:split(Result, ", all prompt schedules") of
@@ -163,6 +167,15 @@ overtakes(false) -> "".
 %% An error that another one comes after may follow from it.
 earlier(none) -> "";
 earlier({Error, Event}) -> io_lib:format("  comes after error ~w (event ~w)~n", [Error, Event]).
+
+%% An error that follows from the one above it, in a line that says how.
+follower(Title, Why) -> ["  and then: ", Title, ", ", follows(Why), "\n"].
+
+follows({link, Name}) -> ["by the link to ", Name];
+follows({watch, Name}) -> ["by the 'DOWN' of ", Name];
+follows({trapped, Name}) -> ["by the 'EXIT' of ", Name];
+follows({left, [Name]}) -> ["since ", Name, " has ended"];
+follows({left, Names}) -> ["since ", lists:join(", ", lists:droplast(Names)), " and ", lists:last(Names), " have ended"].
 
 %% A transcript: what the processes are, each event with its place, and who waits for ever where it is a deadlock.
 transcript(Finding, #{events := Events, places := Places} = Told) ->

@@ -20,6 +20,8 @@ files() ->
                       "as_fun(_) -> ok.\ngo() -> ok.\ntest() -> eunit:test(?MODULE), {1.5, go()}.\n"},
      {"computed.erl", "-module(computed).\n-export([main/0, f/0, g/1, test/0]).\nmain() -> start(f).\nstart(F) -> spawn(?MODULE, F, []).\n"
                       "f() -> ok.\ng(X) -> {X, 1.5}.\ntest() -> {1.5, f()}.\n"},
+     {"tested.erl", "-module(tested).\n-include_lib(\"eunit/include/eunit.hrl\").\n"
+                    "last_test() -> ?assertEqual(1, one()).\nmade_test_() -> [?_assert(true)].\none() -> 1.\nother_test(X) -> X.\nfirst_test() -> ok.\ntest_one() -> ok.\n"},
      {"wrong.erl", "-module(wrong).\n-export([main/0]).\nmain() -> x(.\n"},
      {"warned.erl", "-module(warned).\n-export([main/0]).\n-compile(warnings_as_errors).\nmain() -> X = 1, ok.\n"},
      {"sleeper.erl", "-module(sleeper).\n-export([main/0]).\nmain() -> timer:sleep(1).\n"},
@@ -34,9 +36,13 @@ files() ->
 
 %% {Status, what standard output has to have in it (or none), standard error}
 cases() ->
-    Usage = "usage: convert.escript FILE.erl|FILE.beam [FILE|FOLDER ..] [-pa FOLDER] [--entry [m:]f/0] [--after-timeout MS] [--strict] [--notes]"
+    Usage = "usage: convert.escript FILE.erl|FILE.beam [FILE|FOLDER ..] [-pa FOLDER] [--entry [m:]f/0] [--after-timeout MS] [--strict] [--tests] [--notes]"
             " [--doubts FILE] [--env APPLICATION.KEY=TERM] [-I DIR] [-D NAME[=VALUE]]\n",
     [{"a module", "good.erl", {0, "module 'good' ['main'/0]", ""}},
+     {"the tests of a module", "tested.erl --tests", {0, "last_test\nmade_test_\nfirst_test\n", ""}},
+     {"a module without tests", "good.erl --tests", {0, "", ""}},
+     {"tests of a wrong source", "unbound.erl --tests", {2, none, "unbound.erl:3:11: variable 'X' is unbound\n"}},
+     {"a test that is explored", "tested.erl --entry last_test/0", {0, "'main'/0 =\n  fun () ->\n    apply 'last_test'/0()", ""}},
      {"an entry", "good.erl --entry other/0", {0, "'main'/0 =\n  fun () ->\n    apply 'other'/0()", ""}},
      {"an entry with the name none", "none.erl --entry none/0", {0, "'main'/0 =\n  fun () ->\n    apply 'none'/0()", ""}},
      {"doubts in a file", "good.erl --doubts doubts", {0, "module 'good' ['main'/0]", ""}},

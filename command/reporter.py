@@ -1,0 +1,53 @@
+"""The process of Erlang that makes the report for people (erlang/report.escript)."""
+from __future__ import annotations
+
+import contextlib
+import os
+import subprocess
+from collections.abc import Iterator
+from pathlib import Path
+from typing import Optional
+
+from .children import erlang, status_of
+from .ending import Ended, complain
+from .words import Request
+
+
+class Reporter:
+    """It is asked by lines: first, if at all, for the spelling of terms, and at last for a report."""
+
+    def __init__(self, running: subprocess.Popen, room: Path):
+        self.running, self.room = running, room
+
+    def spell(self, terms: list[str]) -> list[str]:
+        """Terms that people wrote, in the spelling of the program. Where one is none the process says so, and ends."""
+        (self.room / "normal").write_bytes(b"".join(os.fsencode(it) + b"\0" for it in terms))
+        with contextlib.suppress(BrokenPipeError):  # of a process that has ended
+            self.running.stdin.write(b"normal\n")
+        if not self.running.stdout.readline():
+            raise Ended(self._ended()[0])
+        return [os.fsdecode(line) for line in (self.room / "spelled").read_bytes().split(b"\n")[:-1]]
+
+    def report(self, asked: str) -> Optional[bytes]:
+        """The report of what is in the folder, or none where it cannot be made. `asked` is `explore COVERAGE` or `replay`."""
+        status, told = self._ended(f"{asked}\n".encode())
+        return told if status == 0 else None
+
+    def _ended(self, asked: bytes = b"") -> tuple[int, bytes]:
+        """The status and what is printed, where nothing more is asked; what it complains of is passed on."""
+        told, said = self.running.communicate(asked)
+        complain(said)
+        return status_of(self.running, "Erlang"), told
+
+
+@contextlib.contextmanager
+def reporter(request: Request, room: Path) -> Iterator[Optional[Reporter]]:
+    """The process, if it will be needed. It begins at once, beside all else, and then waits until it is asked."""
+    if not request.needs_reporter:
+        yield None
+        return
+    delivery = "at-once" if request.at_once else "any-delay"
+    unfold, chart = ("yes" if it else "no" for it in (request.unfold, request.chart))
+    words = [room, request.source, delivery, unfold, chart, request.drawings]
+    with erlang("report.escript", *words, stdin=subprocess.PIPE) as running:
+        yield Reporter(running, room)

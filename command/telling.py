@@ -1,0 +1,65 @@
+"""From what the program printed to what people read."""
+from __future__ import annotations
+
+from pathlib import Path
+from typing import Optional
+
+from .ending import say, show
+from .exploring import DEEPEST, Explored
+from .program_report import Report
+from .reporter import Reporter
+
+
+def report_of(reporter: Reporter, explored: Explored, prompt: Optional[Report]) -> str:
+    """The report for people, with the mark of errors that no prompt report has."""
+    room = reporter.room
+    _write(room / "report", explored.report.titles)
+    if prompt is not None:
+        _write(room / "prompt", prompt.titles)
+    transcripts = room / "transcripts"
+    transcripts.mkdir()
+    for place, transcript in enumerate(explored.report.transcripts, 1):
+        _write(transcripts / f"{place}", "".join(transcript.events))
+        _write(transcripts / f"{place}.waits", "".join(transcript.waits))
+    return _told(reporter, f"explore {explored.coverage}")
+
+
+def tell_replay(reporter: Reporter, printed: str) -> None:
+    _write(reporter.room / "report", printed)
+    show_text(_told(reporter, "replay"))
+
+
+def show_raw(explored: Explored) -> None:
+    """Prints the report of the program, and says on standard error what was explored."""
+    show_text(explored.report.text)
+    coverage = {
+        "all": "all schedules: there are no longer ones",
+        "errors": f"depth {explored.depth} shows an error; there are longer schedules",
+        "limit": f"depth {explored.depth} has more nodes than may be visited",
+        "deepest": f"depth {DEEPEST} is the greatest; there may be longer schedules",
+    }
+    if explored.reach in coverage:
+        say(coverage[explored.reach])
+    if explored.report.reaches_unread:
+        say("what is not read was reached: what comes after it was not explored")
+
+
+def show_text(text: str) -> None:
+    show(_bytes(text))
+
+
+def _told(reporter: Reporter, asked: str) -> str:
+    """The report for people; where it cannot be made, the program's own takes its place."""
+    told = reporter.report(asked)
+    if told is None:
+        say("the report could not be made; this is what the program printed")
+        told = (reporter.room / "report").read_bytes()
+    return told.decode(errors="surrogateescape")
+
+
+def _write(file: Path, text: str) -> None:
+    file.write_bytes(_bytes(text))
+
+
+def _bytes(text: str) -> bytes:
+    return text.encode(errors="surrogateescape")
