@@ -3,12 +3,11 @@ use Rattle.std.proofs.Common.{◌≡◌, inl, inr, ℕ, ◌+◌, List, [], ◌�
 use Rattle.std.proofs.lemmas.List.{append-nil}
 use Rattle.std.specs.List.{AllByRecursion}
 use Rattle.std.specs.declared.cmp.Ordering.TheVariants.{Less}
-use Rattle.search_levels.specs.Arrivals.{AreArrivals, IsArrival}
+use Rattle.search_levels.specs.Arrivals.{Arrived, AreArrivals, IsArrival}
 use Rattle.search_levels.specs.inside.Expanding.{Arrives, ArrivesAt, Expands, MayArrive, on_by}
 use Rattle.search_levels.specs.inside.Levels.{AreAt, AreBefore, AreBeforeNext, ComeInOrder, IsCovered, Keeps}
 use Rattle.search_levels.specs.inside.Paths.{schedule_in}
-use Rattle.search_levels.specs.declared.arrival.Arrival.{Arrival}
-use Rattle.search_levels.specs.declared.visit.Visit.{Visit}
+use Rattle.search_levels.specs.inside.Visits.{Visit}
 use Rattle.search_levels.proofs.InOrder.{StepsInOrder, arrivals_sorted, before_last, sorted_front}
 use Rattle.search_levels.proofs.Orders.{less_by_step, less_chain, less_next}
 use Rattle.search_levels.proofs.Placed.{all_front, all_have, all_last}
@@ -73,22 +72,22 @@ map_more f [] x = refl
 map_more f (y ∷ xs) x = ap (λ r. f y ∷ r) (map_more f xs x)
 
 -- each of them is a step that may be taken
-pub all_may : {S : Type 0} (d : Delivery) (Agrees : S → Program → History → Type 0) (a : Program) (h : History) (rs : List (Arrival S)) → AreArrivals d Agrees a h rs → AllByRecursion (MayArrive d Agrees a h) rs
-all_may {S} d Agrees a h rs all = go rs all.each (λ r there. subst (IsAmong r.step) all.steps (among_map (λ r. r.step) rs r there))
+pub all_may : (d : Delivery) (Agrees : List ℕ → Program → History → Type 0) (a : Program) (h : History) (rs : List Arrived) → AreArrivals d Agrees a h rs → AllByRecursion (MayArrive d Agrees a h) rs
+all_may d Agrees a h rs all = go rs all.each (λ r there. subst (IsAmong r.of.step) all.steps (among_map (λ r. r.of.step) rs r there))
   where
-    go : (ys : List (Arrival S)) → AllByRecursion (IsArrival Agrees a h) ys → ((r : Arrival S) → IsAmong r ys → IsAmong r.step (steps_by d a h)) → AllByRecursion (MayArrive d Agrees a h) ys
+    go : (ys : List Arrived) → AllByRecursion (IsArrival Agrees a h) ys → ((r : Arrived) → IsAmong r ys → IsAmong r.of.step (steps_by d a h)) → AllByRecursion (MayArrive d Agrees a h) ys
     go [] each may = tt
     go (y ∷ ys) each may = ((each.0, may y (inl refl)), go ys each.1 (λ r there. may r (inr there)))
 
-module _ {S : Type 0} (Agrees : S → Program → History → Type 0) (flags : Flags) where
+module _ (Agrees : List ℕ → Program → History → Type 0) (flags : Flags) where
   -- ---- one step
 
-  pub arrives_at : (schedule s : List Step) (r : Arrival S) (old new : List (Visit S)) (before after : Findings) → s ≡ schedule ++ r.step ∷ [] → Puts Agrees old s r.state new → AddsSchedule flags s (map identity_in r.shown.items) before after → Arrives Agrees flags schedule r old new before after
+  pub arrives_at : (schedule s : List Step) (r : Arrived) (old new : List Visit) (before after : Findings) → s ≡ schedule ++ r.of.step ∷ [] → Puts Agrees old s r.row new → AddsSchedule flags s (map identity_in r.of.shown.items) before after → Arrives Agrees flags schedule r old new before after
   arrives_at schedule s r old new before after is puts adds d a k h visited len delivers runs may at in_order first found =
       let arr : IsArrival Agrees a h r = may.0 in
-      let now : run a s ≡ Some (arr.event ∷ h) = ap (run a) is ∙ run_more a (Some []) schedule r.step h arr.event runs arr.is_next in
-      let so : DeliversBy d a s = subst (DeliversBy d a) (sym is) (delivers_more d a schedule r.step h delivers runs may.1) in
-      let p : PutsAt d Agrees a (k + 1) old s r.state new = puts d a (k + 1) (arr.event ∷ h) (ap length is ∙ longer schedule r.step ∙ ap (λ n. n + 1) len) so now arr.agrees at in_order (subst (AreBefore old) (sym is) first) in
+      let now : run a s ≡ Some (arr.event ∷ h) = ap (run a) is ∙ run_more a (Some []) schedule r.of.step h arr.event runs arr.is_next in
+      let so : DeliversBy d a s = subst (DeliversBy d a) (sym is) (delivers_more d a schedule r.of.step h delivers runs may.1) in
+      let p : PutsAt d Agrees a (k + 1) old s r.row new = puts d a (k + 1) (arr.event ∷ h) (ap length is ∙ longer schedule r.of.step ∙ ap (λ n. n + 1) len) so now arr.agrees at in_order (subst (AreBefore old) (sym is) first) in
       record {
         at = p.at;
         in_order = p.in_order;
@@ -100,17 +99,17 @@ module _ {S : Type 0} (Agrees : S → Program → History → Type 0) (flags : F
 
   -- ---- all steps from a state
 
-  module _ (schedule : List Step) (first : List (Visit S)) (begun : Findings) where
+  module _ (schedule : List Step) (first : List Visit) (begun : Findings) where
     -- what is after these steps is covered, and what is shown there is found
-    pub record ExpandsSoFar (d : Delivery) (a : Program) (k : ℕ) (visited : List (List Step)) (ys : List (Arrival S)) (level : List (Visit S)) (findings : Findings) : Type 0 where
+    pub record ExpandsSoFar (d : Delivery) (a : Program) (k : ℕ) (visited : List (List Step)) (ys : List Arrived) (level : List Visit) (findings : Findings) : Type 0 where
       pub at : AreAt d Agrees a (k + 1) level
       pub in_order : ComeInOrder level
-      pub before : (s : List Step) → AreBefore first s → ((r : Arrival S) → IsAmong r ys → order_of_schedules (schedule ++ r.step ∷ []) s ≡ Less) → AreBefore level s
+      pub before : (s : List Step) → AreBefore first s → ((r : Arrived) → IsAmong r ys → order_of_schedules (schedule ++ r.of.step ∷ []) s ≡ Less) → AreBefore level s
       pub keeps : Keeps Agrees a first level
-      pub covers : (r : Arrival S) → IsAmong r ys → (s : List Step) (g : History) → Agrees r.state a g → IsUpTo (schedule ++ r.step ∷ []) s → IsCovered Agrees a level s g
-      pub found : findings ≡ findings_among flags a (visited ++ on_by schedule (map (λ r. r.step) ys))
+      pub covers : (r : Arrived) → IsAmong r ys → (s : List Step) (g : History) → Agrees r.row a g → IsUpTo (schedule ++ r.of.step ∷ []) s → IsCovered Agrees a level s g
+      pub found : findings ≡ findings_among flags a (visited ++ on_by schedule (map (λ r. r.of.step) ys))
 
-    abbrev pub SoFar : List (Arrival S) → List (Visit S) → Findings → Type 0
+    abbrev pub SoFar : List Arrived → List Visit → Findings → Type 0
     SoFar ys level findings =
         (d : Delivery) (a : Program) (k : ℕ) (h : History) (visited : List (List Step)) → length schedule ≡ k → DeliversBy d a schedule → run a schedule ≡ Some h
         → AreAt d Agrees a (k + 1) first → ComeInOrder first → AreBeforeNext first schedule → begun ≡ findings_among flags a visited → AllByRecursion (MayArrive d Agrees a h) ys → StepsInOrder ys → ExpandsSoFar d a k visited ys level findings
@@ -125,12 +124,12 @@ module _ {S : Type 0} (Agrees : S → Program → History → Type 0) (flags : F
       found = found ∙ ap (findings_among flags a) (sym (append-nil visited));
     }
 
-    pub so_far_more : (ys : List (Arrival S)) (r : Arrival S) (old new : List (Visit S)) (before after : Findings) → SoFar ys old before → Arrives Agrees flags schedule r old new before after → SoFar (ys ++ r ∷ []) new after
+    pub so_far_more : (ys : List Arrived) (r : Arrived) (old new : List Visit) (before after : Findings) → SoFar ys old before → Arrives Agrees flags schedule r old new before after → SoFar (ys ++ r ∷ []) new after
     so_far_more ys r old new before after so_far arrives d a k h visited len delivers runs at in_order next found all sorted =
-        let by_steps = λ (x y : Arrival S). order_of_steps x.step y.step in
+        let by_steps = λ (x y : Arrived). order_of_steps x.of.step y.of.step in
         let p : ExpandsSoFar d a k visited ys old before = so_far d a k h visited len delivers runs at in_order next found (all_front (MayArrive d Agrees a h) ys r all) (sorted_front by_steps ys r sorted) in
-        let first_ones : AreBefore old (schedule ++ r.step ∷ []) = p.before (schedule ++ r.step ∷ []) (next r.step) (λ y there. less_by_step schedule y.step r.step (before_last by_steps ys r sorted y there)) in
-        let here : List (List Step) = visited ++ on_by schedule (map (λ r. r.step) ys) in
+        let first_ones : AreBefore old (schedule ++ r.of.step ∷ []) = p.before (schedule ++ r.of.step ∷ []) (next r.of.step) (λ y there. less_by_step schedule y.of.step r.of.step (before_last by_steps ys r sorted y there)) in
+        let here : List (List Step) = visited ++ on_by schedule (map (λ r. r.of.step) ys) in
         let q : ArrivesAt d Agrees flags a k here schedule r old new after = arrives d a k h here len delivers runs (all_last (MayArrive d Agrees a h) ys r all) p.at p.in_order first_ones p.found in
         record {
           at = q.at;
@@ -141,35 +140,35 @@ module _ {S : Type 0} (Agrees : S → Program → History → Type 0) (flags : F
             | inl t ↦ q.keeps s g (p.covers z t s g agrees up)
             | inr t ↦ only z t s g agrees up q
           ];
-          found = q.found ∙ ap (findings_among flags a) (assoc visited (on_by schedule (map (λ r. r.step) ys)) ((schedule ++ r.step ∷ []) ∷ []) ∙ ap (λ t. visited ++ t) (sym (ap (on_by schedule) (map_more (λ r. r.step) ys r) ∙ map_more (λ x. schedule ++ x ∷ []) (map (λ r. r.step) ys) r.step)));
+          found = q.found ∙ ap (findings_among flags a) (assoc visited (on_by schedule (map (λ r. r.of.step) ys)) ((schedule ++ r.of.step ∷ []) ∷ []) ∙ ap (λ t. visited ++ t) (sym (ap (on_by schedule) (map_more (λ r. r.of.step) ys r) ∙ map_more (λ x. schedule ++ x ∷ []) (map (λ r. r.of.step) ys) r.of.step)));
         }
       where
-        only : (z : Arrival S) → IsAmong z (r ∷ []) → (s : List Step) (g : History) → Agrees z.state a g → IsUpTo (schedule ++ z.step ∷ []) s → ArrivesAt d Agrees flags a k (visited ++ on_by schedule (map (λ r. r.step) ys)) schedule r old new after → IsCovered Agrees a new s g
-        only z (inl e) s g agrees up q = q.covers s g (subst (λ (y : Arrival S). Agrees y.state a g) (sym e) agrees) (subst (λ (y : Arrival S). IsUpTo (schedule ++ y.step ∷ []) s) (sym e) up)
+        only : (z : Arrived) → IsAmong z (r ∷ []) → (s : List Step) (g : History) → Agrees z.row a g → IsUpTo (schedule ++ z.of.step ∷ []) s → ArrivesAt d Agrees flags a k (visited ++ on_by schedule (map (λ r. r.of.step) ys)) schedule r old new after → IsCovered Agrees a new s g
+        only z (inl e) s g agrees up q = q.covers s g (subst (λ (y : Arrived). Agrees y.row a g) (sym e) agrees) (subst (λ (y : Arrived). IsUpTo (schedule ++ y.of.step ∷ []) s) (sym e) up)
         only z (inr never) s g agrees up q = absurd never
 
   event_is : (a : Program) (g : History) (x y : Step) (f e : Event) → y ≡ x → next_event a g y ≡ Some f → next_event a g x ≡ Some e → f ≡ e
   event_is a g x y f e is p q = some_is (sym p ∙ ap (next_event a g) is ∙ q)
 
-  pub so_far_all : (d : Delivery) (from : Visit S) (rs : List (Arrival S)) (first level : List (Visit S)) (begun after : Findings) → ((a : Program) (h : History) → Agrees from.state a h → AreArrivals d Agrees a h rs) → SoFar (schedule_in from.path) first begun rs level after → Expands d Agrees flags from first level begun after
+  pub so_far_all : (d : Delivery) (from : Visit) (rs : List Arrived) (first level : List Visit) (begun after : Findings) → ((a : Program) (h : History) → Agrees from.row a h → AreArrivals d Agrees a h rs) → SoFar (schedule_in from.of) first begun rs level after → Expands d Agrees flags from first level begun after
   so_far_all d from rs first level begun after are so_far a k h visited len delivers runs agrees at in_order next found =
       let all : AreArrivals d Agrees a h rs = are a h agrees in
-      let p : ExpandsSoFar (schedule_in from.path) first begun d a k visited rs level after = so_far d a k h visited len delivers runs at in_order next found (all_may d Agrees a h rs all) (arrivals_sorted d a h rs all.steps) in
+      let p : ExpandsSoFar (schedule_in from.of) first begun d a k visited rs level after = so_far d a k h visited len delivers runs at in_order next found (all_may d Agrees a h rs all) (arrivals_sorted d a h rs all.steps) in
       record {
         at = p.at;
         in_order = p.in_order;
-        before = λ s less x. p.before (s ++ x ∷ []) (λ y there. less_chain (schedule_in y.path) (schedule_in from.path ++ x ∷ []) (s ++ x ∷ []) (next x y there) (less_next (schedule_in from.path) s x x less)) (λ r there. less_next (schedule_in from.path) s r.step x less);
+        before = λ s less x. p.before (s ++ x ∷ []) (λ y there. less_chain (schedule_in y.of) (schedule_in from.of ++ x ∷ []) (s ++ x ∷ []) (next x y there) (less_next (schedule_in from.of) s x x less)) (λ r there. less_next (schedule_in from.of) s r.of.step x less);
         keeps = p.keeps;
         covers = λ s g agrees x e may next up.
-            let r : Source (λ (r : Arrival S). r.step) rs x = source (λ r. r.step) rs x (subst (λ xs. IsAmong x xs) (sym (are a g agrees).steps) may) in
+            let r : Source (λ (r : Arrived). r.of.step) rs x = source (λ r. r.of.step) rs x (subst (λ xs. IsAmong x xs) (sym (are a g agrees).steps) may) in
             let b : IsArrival Agrees a g r.from = all_have (IsArrival Agrees a g) rs r.from (are a g agrees).each r.is_among in
-            let is : b.event ≡ e = event_is a g x r.from.step b.event e r.is b.is_next next in
-            p.covers r.from r.is_among s (e ∷ g) (subst (λ f. Agrees r.from.state a (f ∷ g)) is b.agrees) (subst (λ z. IsUpTo (schedule_in from.path ++ z ∷ []) s) (sym r.is) up);
+            let is : b.event ≡ e = event_is a g x r.from.of.step b.event e r.is b.is_next next in
+            p.covers r.from r.is_among s (e ∷ g) (subst (λ f. Agrees r.from.row a (f ∷ g)) is b.agrees) (subst (λ z. IsUpTo (schedule_in from.of ++ z ∷ []) s) (sym r.is) up);
         same = λ g agrees x e may next.
-            let r : Source (λ (r : Arrival S). r.step) rs x = source (λ r. r.step) rs x (subst (λ xs. IsAmong x xs) (sym (are a g agrees).steps) may) in
+            let r : Source (λ (r : Arrived). r.of.step) rs x = source (λ r. r.of.step) rs x (subst (λ xs. IsAmong x xs) (sym (are a g agrees).steps) may) in
             let b : IsArrival Agrees a g r.from = all_have (IsArrival Agrees a g) rs r.from (are a g agrees).each r.is_among in
             let c : IsArrival Agrees a h r.from = all_have (IsArrival Agrees a h) rs r.from all.each r.is_among in
-            let is : b.event ≡ e = event_is a g x r.from.step b.event e r.is b.is_next next in
+            let is : b.event ≡ e = event_is a g x r.from.of.step b.event e r.is b.is_next next in
             (subst (IsAmong x) (sym (are a g agrees).steps ∙ all.steps) may, c.event, sym (ap (next_event a h) r.is) ∙ c.is_next, sym c.shown ∙ b.shown ∙ ap (λ f. shown a (f ∷ g)) is);
-        found = p.found ∙ ap (λ xs. findings_among flags a (visited ++ on_by (schedule_in from.path) xs)) all.steps;
+        found = p.found ∙ ap (λ xs. findings_among flags a (visited ++ on_by (schedule_in from.of) xs)) all.steps;
       }

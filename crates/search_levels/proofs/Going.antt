@@ -1,11 +1,12 @@
 -- One level after another.
-use Rattle.std.proofs.Common.{◌≡◌, ◌⊎◌, inl, inr, ℕ, zero, suc, ◌+◌, ◌≤◌, ◌<◌, List, [], ◌∷◌, ◌++◌, length, get_or, take, Option, Some, None, is_some, true, refl, sym, ap, subst, ◌∙◌, arith}
+use Rattle.std.proofs.Common.{slice_get, ◌≡◌, ◌⊎◌, inl, inr, ℕ, zero, suc, ◌+◌, ◌≤◌, List, [], ◌∷◌, ◌++◌, length, take, Option, Some, None, is_some, true, refl, sym, ap, subst, ◌∙◌, arith}
 use Rattle.std.proofs.lemmas.List.{append-nil, take_more}
+use Rattle.std.proofs.lemmas.Option.{get_or_from_slice_get, slice_get_within}
 use Rattle.search_levels.specs.inside.Expanding.{Expands, ExpandsAt, on_by}
 use Rattle.search_levels.specs.inside.Levels.{AreAt, AreBefore, AreBeforeNext, ComeInOrder, IsAt, IsCovered}
 use Rattle.search_levels.specs.inside.Paths.{schedule_in}
 use Rattle.search_levels.specs.inside.Searching.{Begins, GoesOn, IsLevel}
-use Rattle.search_levels.specs.declared.visit.Visit.{Visit}
+use Rattle.search_levels.specs.inside.Visits.{Visit}
 use Rattle.search_levels.proofs.Arriving.{LastStep, assoc, last_step, longer}
 use Rattle.search_levels.proofs.InOrder.{before_last, sorted_front, sorted_none}
 use Rattle.search_levels.proofs.Orders.{up_to_itself, up_to_more}
@@ -28,31 +29,31 @@ use Rattle.world_model.specs.Run.{is_enabled, next_event, possible_steps, run}
 use Rattle.world_model.specs.Shown.{Flags, shown}
 
 -- the element at this place
-pub element : {X : Type 0} (xs : List X) (i : ℕ) (x : X) → i < length xs → x ≡ get_or xs i x → IsAmong x xs
-element xs i x lt is = subst (λ y. IsAmong y xs) (sym is) (got_there xs i x lt)
+pub element : {X : Type 0} (xs : List X) (i : ℕ) (x : X) → slice_get xs i ≡ Some x → IsAmong x xs
+element xs i x is = subst (λ y. IsAmong y xs) (get_or_from_slice_get xs i x x is) (got_there xs i x (slice_get_within xs i x is))
 
 -- so many elements, and the one at this place
-pub taken : {X : Type 0} (xs : List X) (i : ℕ) (x : X) → i < length xs → x ≡ get_or xs i x → take (i + 1) xs ≡ take i xs ++ x ∷ []
-taken xs i x lt is = take_more xs i x lt ∙ ap (λ y. take i xs ++ y ∷ []) (sym is)
+pub taken : {X : Type 0} (xs : List X) (i : ℕ) (x : X) → slice_get xs i ≡ Some x → take (i + 1) xs ≡ take i xs ++ x ∷ []
+taken xs i x is = take_more xs i x (slice_get_within xs i x is) ∙ ap (λ y. take i xs ++ y ∷ []) (get_or_from_slice_get xs i x x is)
 
 -- an event, if there is one
 pub some_event : (o : Option Event) → is_some o ≡ true → (e : Event) × (o ≡ Some e)
 some_event None e = absurd cc
 some_event (Some d) e = (d, refl)
 
-module _ {S : Type 0} (d : Delivery) (Agrees : S → Program → History → Type 0) (flags : Flags) (begun : Findings) where
+module _ (d : Delivery) (Agrees : List ℕ → Program → History → Type 0) (flags : Flags) (begun : Findings) where
   -- the states so far are expanded
-  pub record GoesOnSoFar (a : Program) (k : ℕ) (visited : List (List Step)) (done : List (Visit S)) (next : List (Visit S)) (findings : Findings) : Type 0 where
+  pub record GoesOnSoFar (a : Program) (k : ℕ) (visited : List (List Step)) (done : List Visit) (next : List Visit) (findings : Findings) : Type 0 where
     pub at : AreAt d Agrees a (k + 1) next
     pub in_order : ComeInOrder next
     pub before : (s : List Step) → AreBefore done s → AreBeforeNext next s
-    pub covers : (y : Visit S) → IsAmong y done → (s : List Step) (g : History) → Agrees y.state a g → (x : Step) (e : Event) → IsAmong x (steps_by d a g) → next_event a g x ≡ Some e → IsUpTo (schedule_in y.path ++ x ∷ []) s → IsCovered Agrees a next s (e ∷ g)
+    pub covers : (y : Visit) → IsAmong y done → (s : List Step) (g : History) → Agrees y.row a g → (x : Step) (e : Event) → IsAmong x (steps_by d a g) → next_event a g x ≡ Some e → IsUpTo (schedule_in y.of ++ x ∷ []) s → IsCovered Agrees a next s (e ∷ g)
     pub more : List (List Step)
     pub found : findings ≡ findings_among flags a (visited ++ more)
     pub runs : (s : List Step) → IsAmong s more → (length s ≡ k + 1) × DeliversBy d a s × (h : History) × (run a s ≡ Some h)
-    pub shows : (y : Visit S) → IsAmong y done → (g : History) → Agrees y.state a g → (x : Step) (e : Event) → IsAmong x (steps_by d a g) → next_event a g x ≡ Some e → (h : History) × IsAmong (schedule_in y.path ++ x ∷ []) more × (run a (schedule_in y.path ++ x ∷ []) ≡ Some h) × (shown a h ≡ shown a (e ∷ g))
+    pub shows : (y : Visit) → IsAmong y done → (g : History) → Agrees y.row a g → (x : Step) (e : Event) → IsAmong x (steps_by d a g) → next_event a g x ≡ Some e → (h : History) × IsAmong (schedule_in y.of ++ x ∷ []) more × (run a (schedule_in y.of ++ x ∷ []) ≡ Some h) × (shown a h ≡ shown a (e ∷ g))
 
-  abbrev pub LevelSoFar : List (Visit S) → List (Visit S) → Findings → Type 0
+  abbrev pub LevelSoFar : List Visit → List Visit → Findings → Type 0
   LevelSoFar done next findings = (a : Program) (k : ℕ) (visited : List (List Step)) → AreAt d Agrees a k done → ComeInOrder done → begun ≡ findings_among flags a visited → GoesOnSoFar a k visited done next findings
 
   pub level_none : LevelSoFar [] [] begun
@@ -73,14 +74,14 @@ module _ {S : Type 0} (d : Delivery) (Agrees : S → Program → History → Typ
       let f : (e : Event) × (next_event a h b.from ≡ Some e) = some_event (next_event a h b.from) ((kept_passes (is_enabled a h) (possible_steps h) b.from (steps_enabled d a h b.from b.is_among)).0) in
       subst (λ t. (length t ≡ k + 1) × DeliversBy d a t × (g : History) × (run a t ≡ Some g)) b.is (longer path b.from ∙ ap (λ n. n + 1) len, delivers_more d a path b.from h delivers runs b.is_among, f.0 ∷ h, run_more a (Some []) path b.from h f.0 runs f.1)
 
-  pub level_more : (done : List (Visit S)) (y : Visit S) (old new : List (Visit S)) (before after : Findings) → LevelSoFar done old before → Expands d Agrees flags y old new before after → LevelSoFar (done ++ y ∷ []) new after
+  pub level_more : (done : List Visit) (y : Visit) (old new : List Visit) (before after : Findings) → LevelSoFar done old before → Expands d Agrees flags y old new before after → LevelSoFar (done ++ y ∷ []) new after
   level_more done y old new before after so_far expands a k visited at in_order found =
-      let by_schedules = λ (x z : Visit S). order_of_schedules (schedule_in x.path) (schedule_in z.path) in
+      let by_schedules = λ (x z : Visit). order_of_schedules (schedule_in x.of) (schedule_in z.of) in
       let p : GoesOnSoFar a k visited done old before = so_far a k visited (λ x there. at x (among_left done (y ∷ []) x there)) (sorted_front by_schedules done y in_order) found in
       let y_at : IsAt d Agrees a k y = at y (among_right done (y ∷ []) y (inl refl)) in
       let h : History = y_at.2 in
-      let q : ExpandsAt d Agrees flags a k h (visited ++ p.more) y old new after = expands a k h (visited ++ p.more) y_at.0 y_at.1 y_at.3 y_at.4 p.at p.in_order (p.before (schedule_in y.path) (before_last by_schedules done y in_order)) p.found in
-      let here : List (List Step) = on_by (schedule_in y.path) (steps_by d a h) in
+      let q : ExpandsAt d Agrees flags a k h (visited ++ p.more) y old new after = expands a k h (visited ++ p.more) y_at.0 y_at.1 y_at.3 y_at.4 p.at p.in_order (p.before (schedule_in y.of) (before_last by_schedules done y in_order)) p.found in
+      let here : List (List Step) = on_by (schedule_in y.of) (steps_by d a h) in
       record {
         at = q.at;
         in_order = q.in_order;
@@ -91,23 +92,23 @@ module _ {S : Type 0} (d : Delivery) (Agrees : S → Program → History → Typ
         ];
         more = p.more ++ here;
         found = q.found ∙ ap (findings_among flags a) (assoc visited p.more here);
-        runs = λ s there. elim (among_append p.more here s there) [ inl t ↦ p.runs s t | inr t ↦ on_runs a k (schedule_in y.path) h y_at.0 y_at.1 y_at.3 s t ];
+        runs = λ s there. elim (among_append p.more here s there) [ inl t ↦ p.runs s t | inr t ↦ on_runs a k (schedule_in y.of) h y_at.0 y_at.1 y_at.3 s t ];
         shows = λ z there g agrees x e may next. elim (among_append done (y ∷ []) z there) [
           | inl t ↦ (let r = p.shows z t g agrees x e may next in (r.0, among_left p.more here _ r.1, r.2, r.3))
           | inr t ↦ one_shows z t g agrees x e may next p.more h (visited ++ p.more) y_at.3 q
         ];
       }
     where
-      one_covers : (z : Visit S) → IsAmong z (y ∷ []) → (s : List Step) (g : History) → Agrees z.state a g → (x : Step) (e : Event) → IsAmong x (steps_by d a g) → next_event a g x ≡ Some e → IsUpTo (schedule_in z.path ++ x ∷ []) s → (h : History) (here : List (List Step)) → ExpandsAt d Agrees flags a k h here y old new after → IsCovered Agrees a new s (e ∷ g)
-      one_covers z (inl is) s g agrees x e may next up h here q = q.covers s g (subst (λ (v : Visit S). Agrees v.state a g) (sym is) agrees) x e may next (subst (λ (v : Visit S). IsUpTo (schedule_in v.path ++ x ∷ []) s) (sym is) up)
+      one_covers : (z : Visit) → IsAmong z (y ∷ []) → (s : List Step) (g : History) → Agrees z.row a g → (x : Step) (e : Event) → IsAmong x (steps_by d a g) → next_event a g x ≡ Some e → IsUpTo (schedule_in z.of ++ x ∷ []) s → (h : History) (here : List (List Step)) → ExpandsAt d Agrees flags a k h here y old new after → IsCovered Agrees a new s (e ∷ g)
+      one_covers z (inl is) s g agrees x e may next up h here q = q.covers s g (subst (λ (v : Visit). Agrees v.row a g) (sym is) agrees) x e may next (subst (λ (v : Visit). IsUpTo (schedule_in v.of ++ x ∷ []) s) (sym is) up)
       one_covers z (inr never) s g agrees x e may next up h here q = absurd never
 
-      one_shows : (z : Visit S) → IsAmong z (y ∷ []) → (g : History) → Agrees z.state a g → (x : Step) (e : Event) → IsAmong x (steps_by d a g) → next_event a g x ≡ Some e → (more : List (List Step)) (h : History) (here : List (List Step)) → run a (schedule_in y.path) ≡ Some h → ExpandsAt d Agrees flags a k h here y old new after
-          → (f : History) × IsAmong (schedule_in z.path ++ x ∷ []) (more ++ on_by (schedule_in y.path) (steps_by d a h)) × (run a (schedule_in z.path ++ x ∷ []) ≡ Some f) × (shown a f ≡ shown a (e ∷ g))
+      one_shows : (z : Visit) → IsAmong z (y ∷ []) → (g : History) → Agrees z.row a g → (x : Step) (e : Event) → IsAmong x (steps_by d a g) → next_event a g x ≡ Some e → (more : List (List Step)) (h : History) (here : List (List Step)) → run a (schedule_in y.of) ≡ Some h → ExpandsAt d Agrees flags a k h here y old new after
+          → (f : History) × IsAmong (schedule_in z.of ++ x ∷ []) (more ++ on_by (schedule_in y.of) (steps_by d a h)) × (run a (schedule_in z.of ++ x ∷ []) ≡ Some f) × (shown a f ≡ shown a (e ∷ g))
       one_shows z (inl is) g agrees x e may next more h here runs q =
-          let f = q.same g (subst (λ (v : Visit S). Agrees v.state a g) (sym is) agrees) x e may next in
-          subst (λ (v : Visit S). (f : History) × IsAmong (schedule_in v.path ++ x ∷ []) (more ++ on_by (schedule_in y.path) (steps_by d a h)) × (run a (schedule_in v.path ++ x ∷ []) ≡ Some f) × (shown a f ≡ shown a (e ∷ g))) is
-          (f.1 ∷ h, among_right more _ _ (among_map (λ z. schedule_in y.path ++ z ∷ []) (steps_by d a h) x f.0), run_more a (Some []) (schedule_in y.path) x h f.1 runs f.2, f.3)
+          let f = q.same g (subst (λ (v : Visit). Agrees v.row a g) (sym is) agrees) x e may next in
+          subst (λ (v : Visit). (f : History) × IsAmong (schedule_in v.of ++ x ∷ []) (more ++ on_by (schedule_in y.of) (steps_by d a h)) × (run a (schedule_in v.of ++ x ∷ []) ≡ Some f) × (shown a f ≡ shown a (e ∷ g))) is
+          (f.1 ∷ h, among_right more _ _ (among_map (λ z. schedule_in y.of ++ z ∷ []) (steps_by d a h) x f.0), run_more a (Some []) (schedule_in y.of) x h f.1 runs f.2, f.3)
       one_shows z (inr never) g agrees x e may next more h here runs q = absurd never
 
   -- ---- the whole level
@@ -124,7 +125,7 @@ module _ {S : Type 0} (d : Delivery) (Agrees : S → Program → History → Typ
   fronts : (k : ℕ) (s front : List Step) (x : Step) → s ≡ front ++ x ∷ [] → length s ≡ k + 1 → length front ≡ k
   fronts k s front x is len = let e : length front + 1 ≡ k + 1 = sym (longer front x) ∙ sym (ap length is) ∙ len in omega (arith, e)
 
-  pub goes_on : (level next : List (Visit S)) (after : Findings) → LevelSoFar level next after → GoesOn d Agrees flags level next begun after
+  pub goes_on : (level next : List Visit) (after : Findings) → LevelSoFar level next after → GoesOn d Agrees flags level next begun after
   goes_on level next after so_far a k l = record {
     at = p.at;
     in_order = p.in_order;
@@ -145,7 +146,7 @@ module _ {S : Type 0} (d : Delivery) (Agrees : S → Program → History → Typ
           let may : IsAmong r.step (steps_by d a r.before) = delivers_last d a r.front r.step r.before r.event so r.runs r.next in
           let y : IsCovered Agrees a level r.front r.before = l.covers r.front r.before n (delivers_front d a r.front r.step so) r.runs in
           subst (λ g. IsCovered Agrees a next s g) r.history
-          (p.covers y.0 y.1 s r.before y.2 r.step r.event may r.next (subst (λ t. IsUpTo (schedule_in y.0.path ++ r.step ∷ []) t) (sym r.is) (up_to_more r.step (schedule_in y.0.path) r.front y.3)))
+          (p.covers y.0 y.1 s r.before y.2 r.step r.event may r.next (subst (λ t. IsUpTo (schedule_in y.0.of ++ r.step ∷ []) t) (sym r.is) (up_to_more r.step (schedule_in y.0.of) r.front y.3)))
 
       runs : (s : List Step) → IsAmong s (l.visited ++ p.more) → IsRunBy d a (k + 1) s
       runs s there = elim (among_append l.visited p.more s there) [
@@ -162,12 +163,12 @@ module _ {S : Type 0} (d : Delivery) (Agrees : S → Program → History → Typ
           let y : IsCovered Agrees a level r.front r.before = l.covers r.front r.before n (delivers_front d a r.front r.step so) r.runs in
           let f = p.shows y.0 y.1 r.before y.2 r.step r.event may r.next in
           record {
-            by = schedule_in y.0.path ++ r.step ∷ [];
+            by = schedule_in y.0.of ++ r.step ∷ [];
             is_among = among_right l.visited p.more _ f.1;
             history = f.0;
             runs = f.2;
             same = f.3 ∙ ap (shown a) r.history;
-            up_to = subst (λ t. IsUpTo (schedule_in y.0.path ++ r.step ∷ []) t) (sym r.is) (up_to_more r.step (schedule_in y.0.path) r.front y.3);
+            up_to = subst (λ t. IsUpTo (schedule_in y.0.of ++ r.step ∷ []) t) (sym r.is) (up_to_more r.step (schedule_in y.0.of) r.front y.3);
           }
 
       stand : (s : List Step) (h : History) → length s ≤ k + 1 → DeliversBy d a s → run a s ≡ Some h → HasStandIn a (l.visited ++ p.more) s h
@@ -190,18 +191,18 @@ alone d a = record { runs = runs; stand = stand }
     stand [] h short delivers now = record { by = []; is_among = inl refl; history = h; runs = now; same = refl; up_to = up_to_itself [] }
     stand (y ∷ s) h short delivers now = absurd (omega (arith, short))
 
-module _ {S : Type 0} (Agrees : S → Program → History → Type 0) where
-  pub begins : (x : Visit S) → schedule_in x.path ≡ [] → Begins Agrees x.state (x ∷ [])
+module _ (Agrees : List ℕ → Program → History → Type 0) where
+  pub begins : (x : Visit) → schedule_in x.of ≡ [] → Begins Agrees x.row (x ∷ [])
   begins x none d a agrees =
-      let delivers : DeliversBy d a (schedule_in x.path) = subst (DeliversBy d a) (sym none) (delivers_none d a) in
-      let p : PutsAt d Agrees a 0 [] (schedule_in x.path) x.state (x ∷ []) = puts_last Agrees [] x d a 0 [] (ap length none) delivers (ap (run a) none) agrees (λ y there. absurd there) (sorted_none _) (λ y there. absurd there) in
+      let delivers : DeliversBy d a (schedule_in x.of) = subst (DeliversBy d a) (sym none) (delivers_none d a) in
+      let p : PutsAt d Agrees a 0 [] (schedule_in x.of) x.row (x ∷ []) = puts_last Agrees [] x d a 0 [] (ap length none) delivers (ap (run a) none) agrees (λ y there. absurd there) (sorted_none _) (λ y there. absurd there) in
       (p.at, p.in_order, p.covers [] [] agrees (subst (λ t. IsUpTo t []) (sym none) (up_to_itself [])))
 
-module _ {S : Type 0} (d : Delivery) (Agrees : S → Program → History → Type 0) (flags : Flags) (a : Program) where
+module _ (d : Delivery) (Agrees : List ℕ → Program → History → Type 0) (flags : Flags) (a : Program) where
   some_history : {h g : History} → Some h ≡ Some g → h ≡ g
   some_history e = cc
 
-  pub first_level : (first : S) (level : List (Visit S)) (findings : Findings) → Begins Agrees first level → Agrees first a [] → findings ≡ findings_among flags a ([] ∷ []) → IsLevel d Agrees flags a 0 level findings
+  pub first_level : (first : List ℕ) (level : List Visit) (findings : Findings) → Begins Agrees first level → Agrees first a [] → findings ≡ findings_among flags a ([] ∷ []) → IsLevel d Agrees flags a 0 level findings
   first_level first level findings begun agrees found = record {
     at = (begun d a agrees).0;
     in_order = (begun d a agrees).1;
@@ -216,5 +217,5 @@ module _ {S : Type 0} (d : Delivery) (Agrees : S → Program → History → Typ
       covers (y ∷ s) h len delivers now = absurd (omega (arith, len))
 
   -- where the last level is reached, all is found
-  pub all_found : (n : ℕ) (level : List (Visit S)) (findings : Findings) → IsLevel d Agrees flags a n level findings → findings ≡ findings_of_all flags d a n
+  pub all_found : (n : ℕ) (level : List Visit) (findings : Findings) → IsLevel d Agrees flags a n level findings → findings ≡ findings_of_all flags d a n
   all_found n level findings l = l.found ∙ stand_ins flags d a n l.visited l.stand

@@ -3,7 +3,7 @@ use Rattle.std.proofs.Common.{◌≡◌, inl, inr, List, [], ◌∷◌, ◌++◌
 use Rattle.std.specs.List.Sorted.{IsStrictlySortedBy}
 use Rattle.std.specs.declared.cmp.Ordering.{Ordering}
 use Rattle.std.specs.declared.cmp.Ordering.TheVariants.{Less}
-use Rattle.search_levels.specs.declared.arrival.Arrival.{Arrival}
+use Rattle.search_levels.specs.Arrivals.{Arrived}
 use Rattle.search_levels.proofs.Placed.{all_front, all_last, all_more}
 use Rattle.term_core.specs.StepOrder.{order_of_steps}
 use Rattle.term_core.specs.declared.step.Step.{Step}
@@ -44,8 +44,8 @@ module _ {X : Type 0} (order : X → X → Ordering) where
 
 -- ---- steps
 
-abbrev pub StepsInOrder : {S : Type 0} → List (Arrival S) → Type 0
-StepsInOrder {S} rs = IsStrictlySortedBy (λ (x y : Arrival S). order_of_steps x.step y.step) rs
+abbrev pub StepsInOrder : List Arrived → Type 0
+StepsInOrder rs = IsStrictlySortedBy (λ (x y : Arrived). order_of_steps x.of.step y.of.step) rs
 
 first_in_order : (ds es : List Step) → AreInOrder es → AreInOrder (first_or_all ds es)
 first_in_order [] es sorted = sorted
@@ -55,11 +55,11 @@ in_order_by : (d : Delivery) (a : Program) (h : History) → AreInOrder (steps_b
 in_order_by AnyTime a h = listed_in_order a h
 in_order_by AtOnce a h = first_in_order (filter is_delivery (enabled_steps a h)) (enabled_steps a h) (listed_in_order a h)
 
-steps_sorted : {S : Type 0} (rs : List (Arrival S)) → AreInOrder (map (λ r. r.step) rs) → StepsInOrder rs
+steps_sorted : (rs : List Arrived) → AreInOrder (map (λ r. r.of.step) rs) → StepsInOrder rs
 unfolding IsStrictlySortedBy
 steps_sorted [] sorted = tt
-steps_sorted (r ∷ rs) sorted = (all_among (λ z. order_of_steps r.step z.step ≡ Less) rs (λ z there. comes r.step z.step (map (λ r. r.step) rs) sorted.0 (among_map (λ r. r.step) rs z there)), steps_sorted rs sorted.1)
+steps_sorted (r ∷ rs) sorted = (all_among (λ z. order_of_steps r.of.step z.of.step ≡ Less) rs (λ z there. comes r.of.step z.of.step (map (λ r. r.of.step) rs) sorted.0 (among_map (λ r. r.of.step) rs z there)), steps_sorted rs sorted.1)
 
 -- what comes by the steps that may be taken, in their order, comes in order
-pub arrivals_sorted : {S : Type 0} (d : Delivery) (a : Program) (h : History) (rs : List (Arrival S)) → map (λ r. r.step) rs ≡ steps_by d a h → StepsInOrder rs
+pub arrivals_sorted : (d : Delivery) (a : Program) (h : History) (rs : List Arrived) → map (λ r. r.of.step) rs ≡ steps_by d a h → StepsInOrder rs
 arrivals_sorted d a h rs is = steps_sorted rs (subst AreInOrder (sym is) (in_order_by d a h))

@@ -3,12 +3,11 @@ use Rattle.std.proofs.Common.{◌≡◌, inl, inr, ℕ, ◌+◌, ◌≤◌, ◌=
 use Rattle.std.proofs.lemmas.Bool.{eqb-true}
 use Rattle.std.proofs.lemmas.List.{append-nil}
 use Rattle.core_tree.specs.Syntax.{ModuleTree}
-use Rattle.search_levels.specs.Arrivals.{AreArrivals, IsArrival, of_module}
+use Rattle.search_levels.specs.Arrivals.{Arrived, AreArrivals, IsArrival, of_module}
 use Rattle.search_levels.specs.inside.Expanding.{MayArrive, NotesArrival, NotesArrivals, NotesLevel, NotesSome}
 use Rattle.search_levels.specs.inside.Levels.{IsAt}
 use Rattle.search_levels.specs.inside.Paths.{schedule_in}
-use Rattle.search_levels.specs.declared.arrival.Arrival.{Arrival}
-use Rattle.search_levels.specs.declared.visit.Visit.{Visit}
+use Rattle.search_levels.specs.inside.Visits.{Visit}
 use Rattle.search_levels.proofs.Arriving.{all_may, assoc, longer}
 use Rattle.search_levels.proofs.Placed.{all_have}
 use Rattle.term_core.specs.declared.step.Step.{Step}
@@ -62,32 +61,32 @@ module _ (flags : Flags) (d : Delivery) (a : Program) (n : ℕ) where
       (p.0 ++ q.0, both_run d a n p.0 q.0 p.1 q.1, q.2 ∙ ap (findings_among flags a) (assoc visited p.0 q.0))
 
 -- one of the arrivals after each history that a state agrees with
-pub arrival_is : {S : Type 0} (d : Delivery) (agrees : S → ModuleTree → History → Type 0) (m : ModuleTree) (from : Visit S) (rs : List (Arrival S)) (r : Arrival S) → ((h : History) → agrees from.state m h → AreArrivals d (of_module agrees m) (program_of m) h rs) → IsAmong r rs
-    → (a : Program) (h : History) → of_module agrees m from.state a h → MayArrive d (of_module agrees m) a h r
+pub arrival_is : (d : Delivery) (agrees : List ℕ → ModuleTree → History → Type 0) (m : ModuleTree) (from : Visit) (rs : List Arrived) (r : Arrived) → ((h : History) → agrees from.row m h → AreArrivals d (of_module agrees m) (program_of m) h rs) → IsAmong r rs
+    → (a : Program) (h : History) → of_module agrees m from.row a h → MayArrive d (of_module agrees m) a h r
 arrival_is d agrees m from rs r are there a h p = subst (λ b. MayArrive d (of_module agrees m) b h r) p.0 (all_have (MayArrive d (of_module agrees m) (program_of m) h) rs r (all_may d (of_module agrees m) (program_of m) h rs (are h p.1)) there)
 
-module _ {S : Type 0} (Agrees : S → Program → History → Type 0) (flags : Flags) where
+module _ (Agrees : List ℕ → Program → History → Type 0) (flags : Flags) where
   -- ---- after one step
 
-  pub one_arrival : (schedule : List Step) (r : Arrival S) (s : List Step) (before after : Findings) → s ≡ schedule ++ r.step ∷ [] → AddsSchedule flags s (map identity_in r.shown.items) before after → NotesArrival Agrees flags schedule r before after
+  pub one_arrival : (schedule : List Step) (r : Arrived) (s : List Step) (before after : Findings) → s ≡ schedule ++ r.of.step ∷ [] → AddsSchedule flags s (map identity_in r.of.shown.items) before after → NotesArrival Agrees flags schedule r before after
   one_arrival schedule r s before after is adds d a k h len delivers runs may =
       let arr : IsArrival Agrees a h r = may.0 in
-      let n : length s ≡ k + 1 = ap length is ∙ longer schedule r.step ∙ ap (λ m. m + 1) len in
-      notes_one flags d a (k + 1) s (arr.event ∷ h) (map identity_in r.shown.items) before after (omega (arith, n)) (subst (DeliversBy d a) (sym is) (delivers_more d a schedule r.step h delivers runs may.1))
-      (ap (run a) is ∙ run_more a (Some []) schedule r.step h arr.event runs arr.is_next) arr.shown adds
+      let n : length s ≡ k + 1 = ap length is ∙ longer schedule r.of.step ∙ ap (λ m. m + 1) len in
+      notes_one flags d a (k + 1) s (arr.event ∷ h) (map identity_in r.of.shown.items) before after (omega (arith, n)) (subst (DeliversBy d a) (sym is) (delivers_more d a schedule r.of.step h delivers runs may.1))
+      (ap (run a) is ∙ run_more a (Some []) schedule r.of.step h arr.event runs arr.is_next) arr.shown adds
 
   -- ---- after the steps from a state
 
-  pub arrivals_more : (d : Delivery) (from : Visit S) (r : Arrival S) (begun before after : Findings) → ((a : Program) (h : History) → Agrees from.state a h → MayArrive d Agrees a h r) → NotesArrivals d Agrees flags from begun before → NotesArrival Agrees flags (schedule_in from.path) r before after → NotesArrivals d Agrees flags from begun after
+  pub arrivals_more : (d : Delivery) (from : Visit) (r : Arrived) (begun before after : Findings) → ((a : Program) (h : History) → Agrees from.row a h → MayArrive d Agrees a h r) → NotesArrivals d Agrees flags from begun before → NotesArrival Agrees flags (schedule_in from.of) r before after → NotesArrivals d Agrees flags from begun after
   arrivals_more d from r begun before after is so_far more a k h len delivers runs agrees =
       notes_both flags d a (k + 1) begun before after (so_far a k h len delivers runs agrees) (more d a k h len delivers runs (is a h agrees))
 
   -- ---- after those from the states of a level
 
-  pub level_none : (d : Delivery) (level : List (Visit S)) (begun : Findings) → NotesLevel d Agrees flags level begun begun
+  pub level_none : (d : Delivery) (level : List Visit) (begun : Findings) → NotesLevel d Agrees flags level begun begun
   level_none d level begun a k at = notes_none flags d a (k + 1) begun begun refl
 
-  pub level_more : (d : Delivery) (level : List (Visit S)) (x : Visit S) (begun before after : Findings) → IsAmong x level → NotesLevel d Agrees flags level begun before → NotesArrivals d Agrees flags x before after → NotesLevel d Agrees flags level begun after
+  pub level_more : (d : Delivery) (level : List Visit) (x : Visit) (begun before after : Findings) → IsAmong x level → NotesLevel d Agrees flags level begun before → NotesArrivals d Agrees flags x before after → NotesLevel d Agrees flags level begun after
   level_more d level x begun before after there so_far more a k at =
       let is : IsAt d Agrees a k x = at x there in
       notes_both flags d a (k + 1) begun before after (so_far a k at) (more a k is.2 is.0 is.1 is.3 is.4)

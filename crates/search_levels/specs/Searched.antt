@@ -53,6 +53,6 @@ abbrev pub IsSearched : Flags → Delivery → Program → (depth limit : ℕ) �
 IsSearched flags d a depth limit searched = IsOutcomeOfAll flags d a depth limit searched.whole_to searched.outcome
 
 -- so it is where this was kept of the world before anything happened, and this is shown there
-abbrev pub IsSearchFrom : {S : Type 0} → (S → ModuleTree → History → Type 0) → ModuleTree → Bounds → S → List Identity → Searched → Type 0
+abbrev pub IsSearchFrom : (List ℕ → ModuleTree → History → Type 0) → ModuleTree → Bounds → List ℕ → List Identity → Searched → Type 0
 IsSearchFrom Agrees m bounds first told searched =
     Agrees first m [] → told ≡ shown (program_of m) [] → IsSearched (flags_in bounds.flags) bounds.delivery (program_of m) bounds.depth bounds.states searched

@@ -1,4 +1,5 @@
 pub mod Paths
+pub mod Visits
 pub mod Levels
 pub mod Expanding
 pub mod Searching

@@ -7,6 +7,7 @@ ghost use Rattle.search_levels.specs.inside.Expanding.{Arrives, Expands, NotesAr
 ghost use Rattle.search_levels.specs.inside.Levels.{AreOf, TakesIn};
 ghost use Rattle.search_levels.specs.inside.Paths.{schedule_in};
 ghost use Rattle.search_levels.specs.inside.Searching.{GoesOn};
+ghost use Rattle.search_levels.specs.inside.Visits.{entry_of};
 ghost use Rattle.tree_findings.specs.Laws.{AddsSchedule};
 ghost use Rattle.world_identities.specs.Identities.{flags_in, identity_in};
 
@@ -14,8 +15,8 @@ use crate::arrival::Arrival;
 use crate::level::Level;
 use crate::observer::LevelObserver;
 use crate::path::Path;
-use crate::state::State;
-use crate::visit::Visit;
+use crate::rows::{Rows, Seen};
+use crate::worlds::Worlds;
 use std::alloc::{AllocError, Global};
 use tree_findings::{Cause, Findings};
 use tree_schedules::Delivery;
@@ -41,58 +42,58 @@ pub(crate) fn note(
 }
 
 // Adds what is shown after a step from a state to which this schedule leads, and puts the state after it into a level,
-// where none is there that is the same: that one came first, and so its schedule is less. `NodeLimit` where it is new and
+// where none is there that has its row: that one came first, and so its schedule is less. `NodeLimit` where it is new and
 // none may be found any more, `Memory` where there is no memory for it.
-fn arrive<S: State>(
+fn arrive<W: Worlds>(
     alloc: Global,
     flags: Flags,
     from: &Path,
-    to: Arrival<S>,
-    level: &mut Level<S>,
+    to: Seen<'_, Arrival>,
+    level: &mut Level,
     left: &mut u64,
     findings: &mut Findings,
 ) -> Result<(), Cause>
-    ensures arrives { OnOk result ((k : S.Known) (m : ModuleTree) → Arrives (of_module (S.agrees k) m) (flags_in flags) (schedule_in from.now) to level.old.visits.items level.new.visits.items findings.old findings.new) }
-    ensures notes { (k : S.Known) (m : ModuleTree) → NotesArrival (of_module (S.agrees k) m) (flags_in flags) (schedule_in from.now) to findings.old findings.new }
-    ensures of_known { OnOk result ((k : S.Known) → TakesIn (S.is_of k) level.old.visits.items to.state level.new.visits.items) }
+    ensures arrives { OnOk result ((k : W) (m : ModuleTree) → Arrives (of_module (W.agrees k) m) (flags_in flags) (schedule_in from.now) (entry_of to.entry) level.old.states level.new.states findings.old findings.new) }
+    ensures notes { (k : W) (m : ModuleTree) → NotesArrival (of_module (W.agrees k) m) (flags_in flags) (schedule_in from.now) (entry_of to.entry) findings.old findings.new }
+    ensures of_known { OnOk result ((k : W) → TakesIn (W.is_of k) level.old.states to.entry.row.now level.new.states) }
     ensures fewer { left.new ≤ left.old }
 {
-    let Arrival { step, shown, state } = to;
-    let digest = state.digest();
-    let is_there = level.has(&state, digest);
-    if is_there && shown.is_empty() {
+    let is_there = level.has(to.row, to.digest);
+    if is_there && to.of.shown.is_empty() {
         return Ok(());
     }
-    let path = from.with(alloc, step)?;
-    note(alloc, flags, shown.as_slice(), &path, findings)?;
+    let path = from.with(alloc, to.of.step.copy()?)?;
+    note(alloc, flags, to.of.shown.as_slice(), &path, findings)?;
     if is_there {
         return Ok(());
     }
-    level.put(Visit { path, state }, digest, left)
+    level.put(path, to.row, to.digest, left)
 }
 
-// Adds what is shown after all steps that may be taken from a state, and puts the states after them into a level.
-// `NodeLimit` where one is new and none may be found any more, `Memory` where there is no memory for it.
-fn expand<S: State>(
+// Adds what is shown after all steps that may be taken from a state, and puts the states after them into a level. The
+// steps are put in the place of other ones. `NodeLimit` where a state is new and none may be found any more, `Memory`
+// where there is no memory for it.
+fn expand<W: Worlds>(
     alloc: Global,
-    known: &mut S::Known,
+    worlds: &mut W,
     flags: Flags,
     delivery: Delivery,
-    from: &Visit<S>,
-    level: &mut Level<S>,
+    from: Seen<'_, Path>,
+    arrivals: &mut Rows<Arrival>,
+    level: &mut Level,
     left: &mut u64,
     findings: &mut Findings,
 ) -> Result<(), Cause>
-    requires { S.is_of known.old from.now.state }
-    ensures expands { OnOk result (FromNowOn S.follows known.new (λ k m. Expands delivery (of_module (S.agrees k) m) (flags_in flags) from.now level.old.visits.items level.new.visits.items findings.old findings.new)) }
-    ensures notes { FromNowOn S.follows known.new (λ k m. NotesArrivals delivery (of_module (S.agrees k) m) (flags_in flags) from.now findings.old findings.new) }
-    ensures of_known { OnOk result (AreOf (S.is_of known.old) level.old.visits.items → AreOf (S.is_of known.new) level.new.visits.items) }
-    ensures grows { Grows S.is_of S.follows known.old known.new }
+    requires { W.is_of worlds.old from.row.now }
+    ensures expands { OnOk result (FromNowOn W.follows worlds.new (λ k m. Expands delivery (of_module (W.agrees k) m) (flags_in flags) (entry_of from.entry) level.old.states level.new.states findings.old findings.new)) }
+    ensures notes { FromNowOn W.follows worlds.new (λ k m. NotesArrivals delivery (of_module (W.agrees k) m) (flags_in flags) (entry_of from.entry) findings.old findings.new) }
+    ensures of_known { OnOk result (AreOf (W.is_of worlds.old) level.old.states → AreOf (W.is_of worlds.new) level.new.states) }
+    ensures grows { Grows W.is_of W.follows worlds.old worlds.new }
     ensures fewer { left.new ≤ left.old }
 {
-    let arrivals = from.state.arrivals(known, alloc, delivery)?;
-    for arrival in arrivals {
-        arrive(alloc, flags, &from.path, arrival, level, left, findings)?;
+    worlds.arrivals(alloc, delivery, from.row, from.digest, arrivals)?;
+    for place in 0..arrivals.len() {
+        arrive::<W>(alloc, flags, from.of, arrivals.at(place), level, left, findings)?;
     }
     Ok(())
 }
@@ -100,28 +101,37 @@ fn expand<S: State>(
 /// The level after another one where signals are delivered so, with what is shown there. `NodeLimit` where more states
 /// would be found than may be, `Memory` where there is no memory for it: then what was found shows itself by its schedule
 /// all the same.
-pub(crate) fn next_level<S: State, O: LevelObserver>(
+pub(crate) fn next_level<W: Worlds, O: LevelObserver>(
     alloc: Global,
-    known: &mut S::Known,
+    worlds: &mut W,
     flags: Flags,
     delivery: Delivery,
-    level: &Level<S>,
+    level: &Level,
     left: &mut u64,
     findings: &mut Findings,
     observer: &O,
-) -> Result<Level<S>, Cause>
-    requires { AreOf (S.is_of known.old) level.now.visits.items }
-    ensures goes_on { IfOk result (λ next. FromNowOn S.follows known.new (λ k m. GoesOn delivery (of_module (S.agrees k) m) (flags_in flags) level.now.visits.items next.visits.items findings.old findings.new)) }
-    ensures notes { FromNowOn S.follows known.new (λ k m. NotesLevel delivery (of_module (S.agrees k) m) (flags_in flags) level.now.visits.items findings.old findings.new) }
-    ensures of_known { IfOk result (λ next. AreOf (S.is_of known.new) next.visits.items) }
-    ensures grows { Grows S.is_of S.follows known.old known.new }
+) -> Result<Level, Cause>
+    requires { AreOf (W.is_of worlds.old) level.now.states }
+    ensures goes_on { IfOk result (λ next. FromNowOn W.follows worlds.new (λ k m. GoesOn delivery (of_module (W.agrees k) m) (flags_in flags) level.now.states next.states findings.old findings.new)) }
+    ensures notes { FromNowOn W.follows worlds.new (λ k m. NotesLevel delivery (of_module (W.agrees k) m) (flags_in flags) level.now.states findings.old findings.new) }
+    ensures of_known { IfOk result (λ next. AreOf (W.is_of worlds.new) next.states) }
+    ensures grows { Grows W.is_of W.follows worlds.old worlds.new }
     ensures fewer { left.new ≤ left.old }
 {
     let mut next = Level::new(alloc);
-    for visit in level.visits.as_slice() {
+    let mut arrivals = Rows::new(alloc);
+    for place in 0..level.states.len() {
         observer.visited();
         expand(
-            alloc, known, flags, delivery, visit, &mut next, left, findings,
+            alloc,
+            worlds,
+            flags,
+            delivery,
+            level.states.at(place),
+            &mut arrivals,
+            &mut next,
+            left,
+            findings,
         )?;
     }
     Ok(next)

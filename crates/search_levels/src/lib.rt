@@ -8,12 +8,14 @@ pub mod index;
 pub(crate) mod level;
 pub mod observer;
 pub(crate) mod path;
+pub mod rows;
 pub mod search;
-pub mod state;
-pub(crate) mod visit;
+pub mod span;
+pub mod worlds;
 
 pub use arrival::Arrival;
 pub use index::Index;
 pub use observer::{LevelObserver, Unobserved};
+pub use rows::{Rows, Seen};
 pub use search::{Bounds, Searched, search_levels};
-pub use state::State;
+pub use worlds::Worlds;

@@ -12,8 +12,7 @@ use crate::expanding::{next_level, note};
 use crate::level::Level;
 use crate::observer::LevelObserver;
 use crate::path::Path;
-use crate::state::State;
-use crate::visit::Visit;
+use crate::worlds::Worlds;
 use std::alloc::{AllocError, Global};
 use tree_findings::{Cause, Extent, Findings, Outcome};
 use tree_schedules::Delivery;
@@ -44,31 +43,30 @@ pub struct Searched {
 
 // The level of the schedule without steps. `NodeLimit` where no state may be found, `Memory` where there is no memory for
 // it.
-fn first_level<S: State>(alloc: Global, first: S, left: &mut u64) -> Result<Level<S>, Cause>
-    ensures begins { IfOk result (λ level. (k : S.Known) (m : ModuleTree) → Begins (of_module (S.agrees k) m) first level.visits.items) }
-    ensures of_known { IfOk result (λ level. (k : S.Known) → S.is_of k first → AreOf (S.is_of k) level.visits.items) }
+fn first_level<W: Worlds>(
+    alloc: Global,
+    first: &[u32],
+    digest: u64,
+    left: &mut u64,
+) -> Result<Level, Cause>
+    ensures begins { IfOk result (λ level. (k : W) (m : ModuleTree) → Begins (of_module (W.agrees k) m) first.now level.states) }
+    ensures of_known { IfOk result (λ level. (k : W) → W.is_of k first.now → AreOf (W.is_of k) level.states) }
     ensures fewer { left.new ≤ left.old }
 {
     let mut level = Level::new(alloc);
-    let path = Path::Start;
-    let digest = first.digest();
-    level.put(Visit { path, state: first }, digest, left)?;
+    level.put(Path::Start, first, digest, left)?;
     Ok(level)
 }
 
 // At how many states of a level a step is enabled. `AllocError` if there is no memory to decide it.
-fn count_open<S: State>(
-    alloc: Global,
-    known: &mut S::Known,
-    level: &Level<S>,
-) -> Result<u64, AllocError>
-    requires { AreOf (S.is_of known.old) level.now.visits.items }
-    ensures tells { IfOk result (λ count. FromNowOn S.follows known.new (λ k m. TellsOpen (of_module (S.agrees k) m) level.now.visits.items count)) }
-    ensures grows { Grows S.is_of S.follows known.old known.new }
+fn count_open<W: Worlds>(alloc: Global, worlds: &mut W, level: &Level) -> Result<u64, AllocError>
+    requires { AreOf (W.is_of worlds.old) level.now.states }
+    ensures tells { IfOk result (λ count. FromNowOn W.follows worlds.new (λ k m. TellsOpen (of_module (W.agrees k) m) level.now.states count)) }
+    ensures grows { Grows W.is_of W.follows worlds.old worlds.new }
 {
     let mut count = 0;
-    for visit in level.visits.as_slice() {
-        if visit.state.goes_on(known, alloc)? {
+    for place in 0..level.states.len() {
+        if worlds.goes_on(alloc, level.states.at(place).row)? {
             count += 1;
         }
     }
@@ -85,21 +83,21 @@ fn stopped(cause: Cause, findings: Findings, whole_to: u64) -> Searched
 
 // What a search comes to that followed all schedules to the depth, whose last level this is, and which might still find
 // so many states.
-fn whole<S: State>(
+fn whole<W: Worlds>(
     alloc: Global,
-    known: &mut S::Known,
+    worlds: &mut W,
     bounds: Bounds,
-    level: &Level<S>,
+    level: &Level,
     left: u64,
     findings: Findings,
 ) -> Searched
     requires fewer { left ≤ bounds.states }
-    requires of_known { AreOf (S.is_of known.old) level.now.visits.items }
-    ensures comes_to { FromNowOn S.follows known.new (λ k m. ComesTo bounds.delivery (of_module (S.agrees k) m) (flags_in bounds.flags) bounds.depth bounds.states level.now.visits.items findings result) }
-    ensures grows { Grows S.is_of S.follows known.old known.new }
+    requires of_known { AreOf (W.is_of worlds.old) level.now.states }
+    ensures comes_to { FromNowOn W.follows worlds.new (λ k m. ComesTo bounds.delivery (of_module (W.agrees k) m) (flags_in bounds.flags) bounds.depth bounds.states level.now.states findings result) }
+    ensures grows { Grows W.is_of W.follows worlds.old worlds.new }
 {
     let whole_to = bounds.depth;
-    match count_open(alloc, known, level) {
+    match count_open(alloc, worlds, level) {
         Ok(cut) => {
             let nodes = bounds.states - left;
             let outcome = Outcome::Complete(findings, Extent { nodes, cut });
@@ -110,7 +108,7 @@ fn whole<S: State>(
 }
 
 /// Follows all schedules of at most so many steps that deliver signals as the bounds say, at any time or at once, level
-/// by level, from what is kept of the world before anything happened and what is shown there. The schedules of a level
+/// by level, from the row of the world before anything happened, with its digest, and what is shown there. The schedules of a level
 /// come in their order, so of those that lead to states that are the same the first goes on, which is the least. Where a
 /// level has no states no such schedule is as long, and the search ends.
 ///
@@ -122,31 +120,32 @@ fn whole<S: State>(
 /// # Errors
 ///
 /// `AllocError` where there was no memory for what is shown before anything happens.
-pub fn search_levels<S: State, O: LevelObserver>(
+pub fn search_levels<W: Worlds, O: LevelObserver>(
     alloc: Global,
     bounds: Bounds,
-    known: &mut S::Known,
-    first: S,
+    worlds: &mut W,
+    first: &[u32],
+    digest: u64,
     shown: &[Identity],
     observer: &O,
 ) -> Result<Searched, AllocError>
-    requires { S.is_of known.old first }
-    ensures searched { IfOk result (λ searched. FromNowOn S.follows known.new (λ k m. IsSearchFrom (S.agrees k) m bounds first (map identity_in shown.now) searched)) }
-    ensures grows { Grows S.is_of S.follows known.old known.new }
+    requires { W.is_of worlds.old first.now }
+    ensures searched { IfOk result (λ searched. FromNowOn W.follows worlds.new (λ k m. IsSearchFrom (W.agrees k) m bounds first.now (map identity_in shown.now) searched)) }
+    ensures grows { Grows W.is_of W.follows worlds.old worlds.new }
 {
     let mut findings = Findings::new(alloc);
     note(alloc, bounds.flags, shown, &Path::Start, &mut findings)?;
     let mut left = bounds.states;
-    let mut level = match first_level(alloc, first, &mut left) {
+    let mut level = match first_level::<W>(alloc, first, digest, &mut left) {
         Ok(level) => level,
         Err(cause) => return Ok(stopped(cause, findings, 0)),
     };
     let mut steps = 0;
-    while steps < bounds.depth && !level.visits.is_empty() {
+    while steps < bounds.depth && level.states.len() != 0 {
         observer.level(steps);
         match next_level(
             alloc,
-            known,
+            worlds,
             bounds.flags,
             bounds.delivery,
             &level,
@@ -159,5 +158,5 @@ pub fn search_levels<S: State, O: LevelObserver>(
         }
         steps += 1;
     }
-    Ok(whole(alloc, known, bounds, &level, left, findings))
+    Ok(whole(alloc, worlds, bounds, &level, left, findings))
 }

@@ -4,14 +4,14 @@ use Rattle.std.proofs.Common.{Global, Vec}
 use Rattle.std.proofs.lemmas.Bool.{eqb-true}
 use Rattle.std.specs.List.{AllByRecursion}
 use Rattle.core_tree.specs.Syntax.{ModuleTree}
+use Rattle.search_levels.specs.declared.arrival.Arrival.{Arrival}
 use Rattle.search_numbers.proofs.Followed.{follows_itself}
 use Rattle.search_numbers.proofs.Listed.{right_at}
 use Rattle.search_numbers.specs.Knowing.{AreRight, IsAfter, IsEnabledAt, IsTaken, IsThere}
 use Rattle.search_numbers.specs.Remembering.{Happens, IsRight, IsSo, identities_in, shown_in}
-use Rattle.search_numbers.specs.Rows.{fits, numbers_in, written}
+use Rattle.search_numbers.specs.Rows.{fits, written}
 use Rattle.search_numbers.specs.Stored.{AreKept, AreOf, Follows, IsWorldOf}
 use Rattle.search_numbers.specs.declared.known.Known.{Known}
-use Rattle.search_numbers.specs.declared.known.Taken.{Taken}
 use Rattle.search_numbers.specs.declared.remembered.Remembered.{Remembered}
 use Rattle.search_numbers.specs.declared.store.Store.{Store}
 use Rattle.search_numbers.specs.declared.touch.Touch.{Touch}
@@ -42,15 +42,15 @@ written_kept store (t ∷ touches) numbers all kept = written_kept store touches
 some_is : {X : Type 0} {x y : X} → Some x ≡ Some y → x ≡ y
 some_is e = cc
 
-module _ (known : Known) (numbers : ℕ → ℕ) (at : ℕ) (r : Remembered) (taken : Taken) (right : AreRight known) (there : slice_get known.remembered.items at ≡ Some r) (same : taken.step ≡ r.step)
-    (shows : map identity_in taken.shown.items ≡ identities_in (shown_in r.shown)) (row : (c : ℕ) → numbers_in taken.row c ≡ written r.touches.items numbers c) where
-  all_numbers : numbers_in taken.row ≡ written r.touches.items numbers
+module _ (known : Known) (numbers : ℕ → ℕ) (at : ℕ) (r : Remembered) (left : ℕ → ℕ) (taken : Arrival) (right : AreRight known) (there : slice_get known.remembered.items at ≡ Some r) (same : taken.step ≡ r.step)
+    (shows : map identity_in taken.shown.items ≡ identities_in (shown_in r.shown)) (row : (c : ℕ) → left c ≡ written r.touches.items numbers c) where
+  all_numbers : left ≡ written r.touches.items numbers
   all_numbers i c = row c i
 
   is_right : IsRight known.store r
   is_right = right_at known at r right there
 
-  is_after : (later : Store) (m : ModuleTree) (h : History) (step : Step) (o : Option (Vec Identity Global)) → r.step ≡ step → is_some o ≡ true → map identity_in taken.shown.items ≡ identities_in (shown_in o) → IsSo later numbers m h r (shown_in o) → IsAfter later m h step taken
+  is_after : (later : Store) (m : ModuleTree) (h : History) (step : Step) (o : Option (Vec Identity Global)) → r.step ≡ step → is_some o ≡ true → map identity_in taken.shown.items ≡ identities_in (shown_in o) → IsSo later numbers m h r (shown_in o) → IsAfter later m h step left taken
   is_after later m h step None is on shown so = absurd cc
   is_after later m h step (Some found) is on shown so = record {
     event = so.event;
@@ -59,18 +59,18 @@ module _ (known : Known) (numbers : ℕ → ℕ) (at : ℕ) (r : Remembered) (ta
     shown = shown ∙ so.shows;
   }
 
-  after_it : (step : Step) → IsEnabledAt known numbers step at → (later : Store) (m : ModuleTree) (h : History) → Follows later known.store → AreOf later numbers m h → IsAfter later m h step taken
+  after_it : (step : Step) → IsEnabledAt known numbers step at → (later : Store) (m : ModuleTree) (h : History) → Follows later known.store → AreOf later numbers m h → IsAfter later m h step left taken
   after_it step is later m h follows are =
       let one : is.remembered ≡ r = some_is (sym is.there ∙ there) in
       is_after later m h step r.shown (ap (λ (x : Remembered). x.step) (sym one) ∙ is.is_of) (subst (λ (x : Remembered). is_some x.shown ≡ true) one is.enabled) shows
       (is_right.is_so later numbers m h follows (subst (λ (x : Remembered). fits x.touches.items numbers ≡ true) one is.matches) are)
 
-  pub is_taken : IsTaken known numbers at taken
+  pub is_taken : IsTaken known numbers at left taken
   is_taken step is =
       let one : is.remembered ≡ r = some_is (sym is.there ∙ there) in
       (same ∙ ap (λ (x : Remembered). x.step) (sym one) ∙ is.is_of, after_it step is)
 
-  pub world_taken : IsWorldOf known.store numbers → IsThere known numbers at → IsWorldOf known.store (numbers_in taken.row)
+  pub world_taken : IsWorldOf known.store numbers → IsThere known numbers at → IsWorldOf known.store left
   world_taken world is =
       let reached = world.reached in
       let after = after_it is.step is.enabled known.store reached.tree reached.history (follows_itself known.store) reached.are in

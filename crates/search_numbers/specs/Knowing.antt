@@ -3,11 +3,11 @@ use Rattle.std.specs.List.{AllByRecursion, filter}
 use Rattle.std.specs.Prelude.{◌≡◌, ◌<◌, ◌++◌, ℕ, Bool, true, List, [], ◌∷◌, Option, Some, None, is_some, length, map, slice_get}
 use Rattle.core_tree.specs.Syntax.{ModuleTree}
 use Rattle.search_levels.specs.Arrivals.{has_step}
+use Rattle.search_levels.specs.declared.arrival.Arrival.{Arrival}
 use Rattle.search_numbers.specs.Remembering.{IsRight}
-use Rattle.search_numbers.specs.Rows.{fits, numbers_in}
+use Rattle.search_numbers.specs.Rows.{fits}
 use Rattle.search_numbers.specs.Stored.{AreOf, Follows}
 use Rattle.search_numbers.specs.declared.known.Known.{Known}
-use Rattle.search_numbers.specs.declared.known.Taken.{Taken}
 use Rattle.search_numbers.specs.declared.remembered.Remembered.{Remembered}
 use Rattle.search_numbers.specs.declared.store.Store.{Store}
 use Rattle.term_core.specs.declared.step.Step.{Step}
@@ -72,16 +72,16 @@ abbrev pub GoesOn : Known → (ℕ → ℕ) → Bool → Type 0
 GoesOn known numbers goes_on = InWorlds known numbers (λ m h. goes_on ≡ has_step (program_of m) h)
 
 -- after a step that is enabled the world is that of these numbers, and its event shows this
-pub record IsAfter (store : Store) (m : ModuleTree) (h : History) (step : Step) (taken : Taken) : Type 0 where
+pub record IsAfter (store : Store) (m : ModuleTree) (h : History) (step : Step) (left : ℕ → ℕ) (taken : Arrival) : Type 0 where
   pub event : Event
   pub is_next : next_event (program_of m) h step ≡ Some event
-  pub are : AreOf store (numbers_in taken.row) m (event ∷ h)
+  pub are : AreOf store left m (event ∷ h)
   pub shown : map identity_in taken.shown.items ≡ shown_last (event ∷ h)
 
--- what a step does that is remembered at a place as enabled, in each world of these numbers
-abbrev pub IsTaken : Known → (ℕ → ℕ) → ℕ → Taken → Type 0
-IsTaken known numbers at taken = (step : Step) → IsEnabledAt known numbers step at
-    → (taken.step ≡ step) × ((later : Store) (m : ModuleTree) (h : History) → Follows later known.store → AreOf later numbers m h → IsAfter later m h step taken)
+-- what a step does that is remembered at a place as enabled, in each world of the first numbers: it leaves that of the others
+abbrev pub IsTaken : Known → (ℕ → ℕ) → ℕ → (ℕ → ℕ) → Arrival → Type 0
+IsTaken known numbers at left taken = (step : Step) → IsEnabledAt known numbers step at
+    → (taken.step ≡ step) × ((later : Store) (m : ModuleTree) (h : History) → Follows later known.store → AreOf later numbers m h → IsAfter later m h step left taken)
 
 -- some step is remembered at a place as enabled
 pub record IsThere (known : Known) (numbers : ℕ → ℕ) (at : ℕ) : Type 0 where

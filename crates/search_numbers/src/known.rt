@@ -15,10 +15,10 @@ ghost use Rattle.world_records.specs.Records.{Agrees};
 use crate::learning::learn;
 use crate::places::step_at;
 use crate::remembered::Remembered;
-use crate::row::Row;
+use crate::row::{Row, number_in};
 use crate::store::Store;
 use core_tree::Module;
-use search_levels::Index;
+use search_levels::{Arrival, Index};
 use std::alloc::{AllocError, Global};
 use std::hash::{FoldHasher, Hasher};
 use term_core::Step;
@@ -38,17 +38,6 @@ pub struct Known<'m> {
     index: Index,
 }
 
-/// What a step does in a world.
-#[derive(Drop)]
-pub struct Taken {
-    /// The step.
-    pub step: Step,
-    /// What its event shows, but for a deadlock after it.
-    pub shown: Vec<Identity>,
-    /// The world after it.
-    pub row: Row,
-}
-
 // Copies of what is shown, if anything is. `AllocError` if there is no memory for them.
 fn copies(alloc: Global, shown: &Option<Vec<Identity>>) -> Result<Vec<Identity>, AllocError>
     ensures { IfOk result (λ copied. map identity_in copied.items ≡ identities_in (shown_in shown.now)) }
@@ -63,11 +52,11 @@ fn copies(alloc: Global, shown: &Option<Vec<Identity>>) -> Result<Vec<Identity>,
 }
 
 // A number by which a step is found, from its shape and the numbers of a world there.
-fn digest_of(row: &Row, shape: usize, columns: &[usize]) -> u64 {
+fn digest_of(row: &[u32], shape: usize, columns: &[usize]) -> u64 {
     let mut hasher = FoldHasher::default();
     hasher.write_usize(shape);
     for column in columns {
-        hasher.write_u32(row.at(*column));
+        hasher.write_u32(number_in(row, *column));
     }
     hasher.finish()
 }
@@ -99,7 +88,7 @@ impl<'m> Known<'m> {
 
     // The place of what is remembered of the step that begins at a column where the columns that it touches are these, if one is
     // found that has the numbers of a world.
-    fn find_by(&self, row: &Row, column: usize, shape: usize) -> Option<usize>
+    fn find_by(&self, row: &[u32], column: usize, shape: usize) -> Option<usize>
         ensures { IfSome result (IsFoundAt self.now (numbers_in row.now) column) }
     {
         let columns = self.shapes.get(shape)?;
@@ -115,7 +104,7 @@ impl<'m> Known<'m> {
     }
 
     // The place of what is remembered of the step that begins at a column, if one is found that has the numbers of a world.
-    fn find(&self, row: &Row, column: usize) -> Option<usize>
+    fn find(&self, row: &[u32], column: usize) -> Option<usize>
         ensures { IfSome result (IsFoundAt self.now (numbers_in row.now) column) }
     {
         for shape in self.of_column.get(column)?.as_slice() {
@@ -174,7 +163,7 @@ impl<'m> Known<'m> {
     fn remember(
         &mut self,
         alloc: Global,
-        row: &Row,
+        row: &[u32],
         column: usize,
         learned: Remembered,
     ) -> Result<usize, AllocError>
@@ -195,7 +184,7 @@ impl<'m> Known<'m> {
 
     // The place of what is remembered in a world of the step that begins at a column, which is learned where nothing is.
     // `AllocError` if there is no memory for it.
-    fn look_up(&mut self, alloc: Global, row: &Row, column: usize) -> Result<usize, AllocError>
+    fn look_up(&mut self, alloc: Global, row: &[u32], column: usize) -> Result<usize, AllocError>
         requires world { IsWorldOf self.old.store (numbers_in row.now) }
         requires right { AreRight self.old }
         requires begins { Begins self.old.store.places.items column }
@@ -214,7 +203,7 @@ impl<'m> Known<'m> {
 
     /// The places of what is remembered of the enabled steps of a world, in the order of steps. `AllocError` if there is no
     /// memory for it.
-    pub fn enabled(&mut self, alloc: Global, row: &Row) -> Result<Vec<usize>, AllocError>
+    pub fn enabled(&mut self, alloc: Global, row: &[u32]) -> Result<Vec<usize>, AllocError>
         requires world { IsWorldOf self.old.store (numbers_in row.now) }
         requires right { AreRight self.old }
         ensures enabled { IfOk result (λ places. AreEnabled self.new (numbers_in row.now) places.items) }
@@ -233,7 +222,7 @@ impl<'m> Known<'m> {
 
     /// The place of what is remembered of the first delivery that is enabled in a world, if one is. `AllocError` if there is no
     /// memory for it.
-    pub fn first_delivery(&mut self, alloc: Global, row: &Row) -> Result<Option<usize>, AllocError>
+    pub fn first_delivery(&mut self, alloc: Global, row: &[u32]) -> Result<Option<usize>, AllocError>
         requires world { IsWorldOf self.old.store (numbers_in row.now) }
         requires right { AreRight self.old }
         ensures first { IfOk result (λ place. IsFirstDelivery self.new (numbers_in row.now) place) }
@@ -253,7 +242,7 @@ impl<'m> Known<'m> {
 
     /// Whether one of the steps that are remembered at these places is enabled in a world, as far as its numbers show it. It takes
     /// no memory.
-    pub fn is_one_enabled(&self, places: &[usize], row: &Row) -> bool
+    pub fn is_one_enabled(&self, places: &[usize], row: &[u32]) -> bool
         ensures { result ≡ true → AreRight self.now → GoesOn self.now (numbers_in row.now) true }
     {
         for at in places {
@@ -267,7 +256,7 @@ impl<'m> Known<'m> {
     }
 
     /// Whether a step is enabled in a world. `AllocError` if there is no memory to decide it.
-    pub fn goes_on(&mut self, alloc: Global, row: &Row) -> Result<bool, AllocError>
+    pub fn goes_on(&mut self, alloc: Global, row: &[u32]) -> Result<bool, AllocError>
         requires world { IsWorldOf self.old.store (numbers_in row.now) }
         requires right { AreRight self.old }
         ensures goes_on { IfOk result (λ goes_on. GoesOn self.new (numbers_in row.now) goes_on) }
@@ -284,26 +273,34 @@ impl<'m> Known<'m> {
     }
 
     /// The records of a world. `AllocError` if there is no memory for them.
-    pub fn records_of(&self, row: &Row) -> Result<Records<'m>, AllocError>
+    pub fn records_of(&self, row: &[u32]) -> Result<Records<'m>, AllocError>
         requires { IsWorldOf self.now.store (numbers_in row.now) }
         ensures { IfOk result (λ records. (m : ModuleTree) (v : Contents) → HasAll m (part_at self.now.store (numbers_in row.now)) v → Agrees m records v) }
     {
         self.store.records_of(row)
     }
 
-    /// What a remembered step does in a world. `AllocError` if there is no memory for it.
-    pub fn taken(&self, alloc: Global, row: &Row, at: usize) -> Result<Taken, AllocError>
+    /// What a remembered step does in the world of a row, whose digest this is, but for a deadlock after it; the row of the
+    /// world after it is put in the place of another one. `AllocError` if there is no memory for it.
+    pub fn take(
+        &self,
+        alloc: Global,
+        row: &[u32],
+        digest: u64,
+        at: usize,
+        after: &mut Row,
+    ) -> Result<Arrival, AllocError>
         requires world { IsWorldOf self.now.store (numbers_in row.now) }
         requires right { AreRight self.now }
         requires there { IsThere self.now (numbers_in row.now) at }
-        ensures taken { IfOk result (IsTaken self.now (numbers_in row.now) at) }
-        ensures world { IfOk result (λ taken. IsWorldOf self.now.store (numbers_in taken.row)) }
+        ensures taken { IfOk result (IsTaken self.now (numbers_in row.now) at (numbers_in after.new.numbers.items)) }
+        ensures world { OnOk result (IsWorldOf self.now.store (numbers_in after.new.numbers.items)) }
     {
         let remembered = &self.remembered[at];
-        Ok(Taken {
+        after.become_after(row, digest, remembered.touches.as_slice())?;
+        Ok(Arrival {
             step: remembered.step.copy()?,
             shown: copies(alloc, &remembered.shown)?,
-            row: row.after(remembered.touches.as_slice())?,
         })
     }
 }

@@ -12,7 +12,7 @@ ghost use Rattle.world_records.specs.Records.{Agrees, OfWorld};
 
 use crate::covering::columns_of;
 use crate::remembered::Remembered;
-use crate::row::Row;
+use crate::row::number_in;
 use crate::store::Store;
 use crate::touch::Touch;
 use std::alloc::{AllocError, Global};
@@ -33,12 +33,12 @@ fn actor_of(step: &Step) -> &Pid
 }
 
 // What a step touches that leaves all as it is.
-fn untouched(alloc: Global, row: &Row, columns: &[usize]) -> Result<Vec<Touch>, AllocError>
+fn untouched(alloc: Global, row: &[u32], columns: &[usize]) -> Result<Vec<Touch>, AllocError>
     ensures { IfOk result (λ touches. AreUntouched (numbers_in row.now) columns.now touches.items) }
 {
     let mut touches = Vec::with_capacity(alloc, columns.len())?;
     for column in columns {
-        let number = row.at(*column);
+        let number = number_in(row, *column);
         touches.push(Touch {
             column: *column,
             before: number,
@@ -52,7 +52,7 @@ fn untouched(alloc: Global, row: &Row, columns: &[usize]) -> Result<Vec<Touch>, 
 fn touched<'m>(
     alloc: Global,
     store: &mut Store<'m>,
-    row: &Row,
+    row: &[u32],
     columns: &[usize],
     after: &Arc<Records<'m>>,
 ) -> Result<Vec<Touch>, AllocError>
@@ -66,7 +66,7 @@ fn touched<'m>(
         let number = store.number(*column, after)?;
         touches.push(Touch {
             column: *column,
-            before: row.at(*column),
+            before: number_in(row, *column),
             after: number,
         })?;
     }
@@ -77,7 +77,7 @@ fn touched<'m>(
 fn learn_of_the_dead(
     alloc: Global,
     store: &mut Store<'_>,
-    row: &Row,
+    row: &[u32],
     step: &Step,
     begins: usize,
 ) -> Result<Remembered, AllocError>
@@ -113,7 +113,7 @@ fn left_by<'m>(
 fn learn_of_an_event<'m>(
     alloc: Global,
     store: &mut Store<'m>,
-    row: &Row,
+    row: &[u32],
     records: Records<'m>,
     plan: &Plan,
     columns: &[usize],
@@ -140,7 +140,7 @@ fn learn_of_an_event<'m>(
 pub(crate) fn learn<'m>(
     alloc: Global,
     store: &mut Store<'m>,
-    row: &Row,
+    row: &[u32],
     step: &Step,
     begins: usize,
 ) -> Result<Remembered, AllocError>

@@ -13,6 +13,6 @@ pub mod row;
 pub mod store;
 pub(crate) mod touch;
 
-pub use known::{Known, Taken};
+pub use known::Known;
 pub use row::Row;
 pub use store::Store;

@@ -8,7 +8,7 @@ ghost use Rattle.world_model.specs.Cells.{Contents};
 ghost use Rattle.world_records.specs.Places.{AgreesTooAt};
 ghost use Rattle.world_records.specs.Records.{Agrees};
 
-use crate::row::Row;
+use crate::row::number_in;
 use crate::store::{Part, Store};
 use std::alloc::AllocError;
 use std::hash::{FoldHasher, Hasher};
@@ -61,7 +61,7 @@ impl<'m> Store<'m> {
     }
 
     /// The records of a world. `AllocError` if there is no memory for them.
-    pub(crate) fn records_of(&self, row: &Row) -> Result<Records<'m>, AllocError>
+    pub(crate) fn records_of(&self, row: &[u32]) -> Result<Records<'m>, AllocError>
         requires { IsStore self.now }
         ensures agrees { IfOk result (λ records. (m : ModuleTree) (v : Contents) → HasAll m (part_at self.now (numbers_in row.now)) v → Agrees m records v) }
     {
@@ -75,7 +75,7 @@ impl<'m> Store<'m> {
     // Takes over what a world has at a column. `AllocError` if there is no memory for it.
     fn take_column(
         &self,
-        row: &Row,
+        row: &[u32],
         column: usize,
         records: &mut Records<'m>,
     ) -> Result<(), AllocError>
@@ -84,7 +84,7 @@ impl<'m> Store<'m> {
         requires so_far { HasSoFar self.now (numbers_in row.now) column records.old }
         ensures { OnOk result (HasSoFar self.now (numbers_in row.now) (column + 1) records.new) }
     {
-        let number = row.at(column);
+        let number = number_in(row, column);
         if number == 0 {
             return Ok(());
         }

@@ -8,7 +8,7 @@ ghost use Rattle.world_model.specs.Names.{IsAmong};
 ghost use Rattle.world_records.specs.declared.place.Place.{Place};
 ghost use Rattle.search_numbers.specs.Stored.{AreAsked, BeginsAt, EachBegins, Follows, HasMore, HaveColumns, IsIdle, IsStore, column_in, module_in, step_at};
 
-use crate::row::Row;
+use crate::row::number_in;
 use crate::store::Store;
 use core_tree::Module;
 use search_levels::Index;
@@ -100,16 +100,16 @@ impl<'m> Store<'m> {
 
     // Whether the step that begins at the place of a column may be enabled in a world: it is no delivery of a channel that is as
     // before anything happened.
-    fn may_be_enabled(&self, row: &Row, column: usize) -> bool
+    fn may_be_enabled(&self, row: &[u32], column: usize) -> bool
         requires { HaveColumns self.now.places.items }
         ensures { result ≡ false → (s : Step) → BeginsAt self.now.places.items column s → IsIdle self.now.places.items (numbers_in row.now) s }
     {
-        !self.is_channel(column) || row.at(column) != 0
+        !self.is_channel(column) || number_in(row, column) != 0
     }
 
     /// The columns of the places whose steps may be enabled in a world, in the order of these steps. `AllocError` if there is no
     /// memory for them.
-    pub(crate) fn asked(&self, alloc: Global, row: &Row) -> Result<Vec<usize>, AllocError>
+    pub(crate) fn asked(&self, alloc: Global, row: &[u32]) -> Result<Vec<usize>, AllocError>
         requires { IsStore self.now }
         ensures { IfOk result (λ asked. AreAsked self.now (numbers_in row.now) asked.items) }
     {

@@ -2,7 +2,7 @@
 ghost use Rattle.std.specs.Prelude.{◌≡◌, true, is_some};
 ghost use Rattle.search_numbers.specs.Rows.{fits, numbers_in};
 
-use crate::row::Row;
+use crate::row::matches;
 use crate::touch::Touch;
 use term_core::Step;
 use world_identities::Identity;
@@ -20,18 +20,18 @@ pub struct Remembered {
 
 impl Remembered {
     /// Whether it is the step that begins at the place of a column, in a world that has its numbers. It takes no memory.
-    pub(crate) fn is_of(&self, column: usize, row: &Row) -> bool
+    pub(crate) fn is_of(&self, column: usize, row: &[u32]) -> bool
         ensures column { result ≡ true → self.now.column ≡ column }
         ensures matches { result ≡ true → fits self.now.touches.items (numbers_in row.now) ≡ true }
     {
-        self.column == column && row.matches(self.touches.as_slice())
+        self.column == column && matches(row, self.touches.as_slice())
     }
 
     /// Whether it is enabled in a world that has its numbers. It takes no memory.
-    pub(crate) fn is_enabled_in(&self, row: &Row) -> bool
+    pub(crate) fn is_enabled_in(&self, row: &[u32]) -> bool
         ensures enabled { result ≡ true → is_some self.now.shown ≡ true }
         ensures matches { result ≡ true → fits self.now.touches.items (numbers_in row.now) ≡ true }
     {
-        self.shown.is_some() && row.matches(self.touches.as_slice())
+        self.shown.is_some() && matches(row, self.touches.as_slice())
     }
 }

@@ -1,16 +1,35 @@
-// A world as numbers.
-ghost use Rattle.std.specs.Prelude.{◌≡◌, ◌==◌, ◌≤◌, ◌-◌, ℕ, if◌then◌else◌, true, length, slice_get, IfOk, OnOk, Some};
+// Worlds as rows of numbers.
+ghost use Rattle.std.specs.Prelude.{◌≡◌, ◌==◌, ◌≤◌, ◌-◌, ℕ, if◌then◌else◌, true, length, slice_get, OnOk, Some};
 ghost use Rattle.search_numbers.specs.Rows.{fits, numbers_in, written};
 
 use crate::touch::Touch;
 use std::alloc::{AllocError, Global};
 use std::hash::{FoldHasher, Hasher};
 
-/// A world: for each column the number of what is kept of its place, 0 where that is as before anything happened. The last
-/// number is not 0, so that worlds with the same numbers have the same rows.
+/// The number of a row at a column; 0 where it has none. It takes no memory.
+pub(crate) fn number_in(row: &[u32], column: usize) -> u32
+    ensures { result ≡ numbers_in row.now column }
+{
+    match row.get(column) {
+        Some(number) => *number,
+        None => 0,
+    }
+}
+
+/// Whether a row has the numbers that a step found at all columns that it touches. It takes no memory.
+pub(crate) fn matches(row: &[u32], touches: &[Touch]) -> bool
+    ensures { result ≡ fits touches.now (numbers_in row.now) }
+{
+    touches
+        .iter()
+        .all(|touch| number_in(row, touch.column) == touch.before)
+}
+
+/// A row that is made: for each column the number of what is kept of its place, 0 where that is as before anything
+/// happened. The last number is not 0, so that worlds with the same numbers have the same rows.
 #[derive(Drop)]
 pub struct Row {
-    numbers: Vec<u32>,
+    pub(crate) numbers: Vec<u32>,
     // The shares of its numbers in its digest, taken together.
     digest: u64,
 }
@@ -27,9 +46,9 @@ fn share(column: usize, number: u32) -> u64 {
 }
 
 impl Row {
-    /// The world before anything happened. It takes no memory.
+    /// The row of the world before anything happened. It takes no memory.
     pub fn new(alloc: Global) -> Row
-        ensures { (c : ℕ) → numbers_in result c ≡ 0 }
+        ensures { (c : ℕ) → numbers_in result.numbers.items c ≡ 0 }
     {
         Row {
             numbers: Vec::new(alloc),
@@ -37,21 +56,11 @@ impl Row {
         }
     }
 
-    /// The number at a column. It takes no memory.
-    pub fn at(&self, column: usize) -> u32
-        ensures { result ≡ numbers_in self.now column }
+    /// Its numbers. It takes no memory.
+    pub fn numbers(&self) -> &[u32]
+        ensures { result.now ≡ self.now.numbers.items }
     {
-        match self.numbers.get(column) {
-            Some(number) => *number,
-            None => 0,
-        }
-    }
-
-    /// Whether the two have the same numbers. It takes no memory.
-    pub fn is_same(&self, other: &Row) -> bool
-        ensures { result ≡ true → numbers_in self.now ≡ numbers_in other.now }
-    {
-        *self.numbers.as_slice() == *other.numbers.as_slice()
+        self.numbers.as_slice()
     }
 
     /// A number by which a search finds the rows that may be the same: those that are have the same. It takes no memory.
@@ -59,29 +68,20 @@ impl Row {
         self.digest
     }
 
-    /// Whether it has the numbers that a step found at all columns that it touches. It takes no memory.
-    pub(crate) fn matches(&self, touches: &[Touch]) -> bool
-        ensures { result ≡ fits touches.now (numbers_in self.now) }
+    // The numbers of a row, with its digest. `AllocError` if there is no memory for them.
+    fn become_row(&mut self, row: &[u32], digest: u64) -> Result<(), AllocError>
+        ensures { OnOk result (self.new.numbers.items ≡ row.now) }
     {
-        touches
-            .iter()
-            .all(|touch| self.at(touch.column) == touch.before)
-    }
-
-    // The same numbers. `AllocError` if there is no memory for them.
-    fn copy(&self) -> Result<Row, AllocError>
-        ensures { IfOk result (λ copied. (c : ℕ) → numbers_in copied c ≡ numbers_in self.now c) }
-    {
-        Ok(Row {
-            numbers: self.numbers.clone()?,
-            digest: self.digest,
-        })
+        self.numbers.clear();
+        self.numbers.extend_from_slice(row)?;
+        self.digest = digest;
+        Ok(())
     }
 
     // So many columns at least, the new ones with 0.
     #[tactic(auto, using(crate::proofs::Numbers::zero_at_end))]
     fn widen(&mut self, columns: usize) -> Result<(), AllocError>
-        ensures numbers { (c : ℕ) → numbers_in self.new c ≡ numbers_in self.old c }
+        ensures numbers { (c : ℕ) → numbers_in self.new.numbers.items c ≡ numbers_in self.old.numbers.items c }
         ensures wide { OnOk result (columns ≤ length self.new.numbers.items) }
     {
         for _ in self.numbers.len()..columns {
@@ -92,7 +92,7 @@ impl Row {
 
     // Puts a number at a column.
     fn put(&mut self, column: usize, number: u32) -> Result<(), AllocError>
-        ensures { OnOk result ((c : ℕ) → numbers_in self.new c ≡ (if c == column then number else numbers_in self.old c)) }
+        ensures { OnOk result ((c : ℕ) → numbers_in self.new.numbers.items c ≡ (if c == column then number else numbers_in self.old.numbers.items c)) }
     {
         let Some(columns) = column.checked_add(1) else {
             return Err(AllocError);
@@ -115,7 +115,7 @@ impl Row {
 
     // Takes away the zeros at its end.
     fn trim(&mut self)
-        ensures { (c : ℕ) → numbers_in self.new c ≡ numbers_in self.old c }
+        ensures { (c : ℕ) → numbers_in self.new.numbers.items c ≡ numbers_in self.old.numbers.items c }
     {
         for _ in 0..self.numbers.len() {
             if !self.ends_with_zero() {
@@ -125,15 +125,21 @@ impl Row {
         }
     }
 
-    /// The row after a remembered step. `AllocError` if there is no memory for it.
-    pub(crate) fn after(&self, touches: &[Touch]) -> Result<Row, AllocError>
-        ensures { IfOk result (λ after. (c : ℕ) → numbers_in after c ≡ written touches.now (numbers_in self.now) c) }
+    /// The row after a remembered step, in the place of what was there, from the row before it, whose digest this is.
+    /// `AllocError` if there is no memory for it.
+    pub(crate) fn become_after(
+        &mut self,
+        row: &[u32],
+        digest: u64,
+        touches: &[Touch],
+    ) -> Result<(), AllocError>
+        ensures { OnOk result ((c : ℕ) → numbers_in self.new.numbers.items c ≡ written touches.now (numbers_in row.now) c) }
     {
-        let mut row = self.copy()?;
+        self.become_row(row, digest)?;
         for touch in touches {
-            row.put(touch.column, touch.after)?;
+            self.put(touch.column, touch.after)?;
         }
-        row.trim();
-        Ok(row)
+        self.trim();
+        Ok(())
     }
 }

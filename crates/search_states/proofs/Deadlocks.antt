@@ -1,7 +1,7 @@
 -- The deadlock of a world, and what is after a step with it.
 use Rattle.std.proofs.Common.{◌≡◌, ◌∙◌, ◌++◌, ℕ, true, false, List, [], ◌∷◌, Some, None, Result, Ok, Err, OnOk, map, sym, ap, subst}
 use Rattle.std.specs.List.{filter}
-use Rattle.search_levels.specs.Arrivals.{AreArrivals, of_module}
+use Rattle.search_levels.specs.Arrivals.{AreArrivals, Arrived, of_module}
 use Rattle.tree_schedules.specs.Deliveries.{is_delivery}
 use Rattle.tree_schedules.specs.declared.delivery.Delivery.TheVariants.{AnyTime, AtOnce}
 use Rattle.core_tree.specs.Syntax.{ModuleTree}
@@ -13,11 +13,8 @@ use Rattle.search_numbers.specs.Local.{HasAll}
 use Rattle.search_numbers.specs.Rows.{numbers_in}
 use Rattle.search_numbers.specs.Stored.{IsWorldOf, part_at}
 use Rattle.search_numbers.specs.declared.known.Known.{Known}
-use Rattle.search_numbers.specs.declared.known.Taken.{Taken}
-use Rattle.search_numbers.specs.declared.row.Row.{Row}
 use Rattle.search_states.proofs.Following.{all_prompt, arrives, goes_on, one_prompt, stands_still}
-use Rattle.search_states.specs.declared.kept.Kept.{Kept}
-use Rattle.search_states.specs.inside.Keeping.{AddsDeadlockIn, AreArrivalsIn, IsArrivalAlone, IsArrivalOf, IsKept}
+use Rattle.search_states.specs.inside.Keeping.{AddsDeadlockIn, AreArrivalsIn, IsArrivalOf, IsKept, PutsAlone}
 use Rattle.world_identities.specs.Identities.{identity_in}
 use Rattle.world_identities.specs.declared.identity.Identity.{Identity}
 use Rattle.world_model.specs.Asking.{program_of}
@@ -30,38 +27,38 @@ use Rattle.world_records.specs.Records.{Agrees}
 use Rattle.world_records.specs.declared.records.Records.{Records}
 
 -- where a step is enabled there is none
-pub none_added : (known : Known) (row : Row) (shown : List Identity) → GoesOn known (numbers_in row) true → AddsDeadlockIn known row shown shown
-none_added known row shown goes later m h follows are = goes_on (map identity_in shown) (enabled_steps (program_of m) h) (living h) (goes later m h follows are)
+pub none_added : (known : Known) (numbers : ℕ → ℕ) (shown : List Identity) → GoesOn known numbers true → AddsDeadlockIn known numbers shown shown
+none_added known numbers shown goes later m h follows are = goes_on (map identity_in shown) (enabled_steps (program_of m) h) (living h) (goes later m h follows are)
 
 -- where none is, it is that of the records of the world
-pub one_added : (known : Known) (row : Row) (records : Records) (old new : List Identity) → IsWorldOf known.store (numbers_in row) → GoesOn known (numbers_in row) false
-    → ((m : ModuleTree) (v : Contents) → HasAll m (part_at known.store (numbers_in row)) v → Agrees m records v)
-    → ((m : ModuleTree) (h : History) → Agrees m records (contents h) → map identity_in new ≡ map identity_in old ++ deadlock_of [] (living h)) → AddsDeadlockIn known row old new
-one_added known row records old new world goes agrees adds later m h follows are =
+pub one_added : (known : Known) (numbers : ℕ → ℕ) (records : Records) (old new : List Identity) → IsWorldOf known.store numbers → GoesOn known numbers false
+    → ((m : ModuleTree) (v : Contents) → HasAll m (part_at known.store numbers) v → Agrees m records v)
+    → ((m : ModuleTree) (h : History) → Agrees m records (contents h) → map identity_in new ≡ map identity_in old ++ deadlock_of [] (living h)) → AddsDeadlockIn known numbers old new
+one_added known numbers records old new world goes agrees adds later m h follows are =
     stands_still (map identity_in old) (map identity_in new) (enabled_steps (program_of m) h) (living h) (goes later m h follows are)
-    (adds m h (agrees m (contents h) (has_earlier known.store later (numbers_in row) follows world.kept m (contents h) are.has)))
+    (adds m h (agrees m (contents h) (has_earlier known.store later numbers follows world.kept m (contents h) are.has)))
 
 -- what is after a remembered step, with the deadlock there
-pub arrival_of : (before known : Known) (numbers : ℕ → ℕ) (at : ℕ) (taken : Taken) (r : Arrival Kept) → KnowsMore before known → IsTaken before numbers at taken → r.step ≡ taken.step → r.state.row ≡ taken.row → AddsDeadlockIn known taken.row taken.shown.items r.shown.items
-    → IsArrivalOf before known numbers at r
-arrival_of before known numbers at taken r more is same row adds step enabled =
+pub arrival_of : (before known : Known) (numbers : ℕ → ℕ) (at : ℕ) (row : List ℕ) (taken to : Arrival) → KnowsMore before known → IsTaken before numbers at (numbers_in row) taken → to.step ≡ taken.step → AddsDeadlockIn known (numbers_in row) taken.shown.items to.shown.items
+    → IsArrivalOf before known numbers at (record { of = to; row = row })
+arrival_of before known numbers at row taken to more is same adds step enabled =
     let one = is step enabled in (
       same ∙ one.0,
       λ later m h follows are.
-          arrives later m h step taken r same one.0 row (λ e. adds later.store m (e.event ∷ h) follows e.are) (one.1 later.store m h (follows_on later.store known.store before.store follows more.follows) are),
+          arrives later m h step row taken to same one.0 (λ e. adds later.store m (e.event ∷ h) follows e.are) (one.1 later.store m h (follows_on later.store known.store before.store follows more.follows) are),
     )
 
 -- ---- where signals are delivered at once
 
-pub first_arrives : (before known : Known) (numbers : ℕ → ℕ) (at : ℕ) (rs : List (Arrival Kept)) → IsFirstDelivery before numbers (Some at) → KnowsMore before known → IsArrivalAlone before known numbers at rs → AreArrivalsIn AtOnce known numbers rs
+pub first_arrives : (before known : Known) (numbers : ℕ → ℕ) (at : ℕ) (rs : List Arrived) → IsFirstDelivery before numbers (Some at) → KnowsMore before known → PutsAlone before known numbers at rs → AreArrivalsIn AtOnce known numbers rs
 first_arrives before known numbers at rs first more alone later m h follows of =
     let a = program_of m in
     let steps = enabled_steps a h in
     let one = one_prompt before numbers at (filter is_delivery steps) steps (first later.store m h (follows_on later.store known.store before.store follows more.follows) of) in
-    let is = alone.2 one.0 one.1 in
-    subst (AreArrivals AtOnce (of_module (IsKept later) m) a h) (sym alone.1) (record { steps = ap (λ s. s ∷ []) is.0 ∙ sym one.2; each = (is.1 later m h follows of, tt) })
+    let is = alone.is one.0 one.1 in
+    subst (AreArrivals AtOnce (of_module (IsKept later) m) a h) (sym alone.put) (record { steps = ap (λ s. s ∷ []) is.0 ∙ sym one.2; each = (is.1 later m h follows of, tt) })
 
-pub all_arrive : (before known : Known) (numbers : ℕ → ℕ) (rs : List (Arrival Kept)) → IsFirstDelivery before numbers None → KnowsMore before known → AreArrivalsIn AnyTime known numbers rs → AreArrivalsIn AtOnce known numbers rs
+pub all_arrive : (before known : Known) (numbers : ℕ → ℕ) (rs : List Arrived) → IsFirstDelivery before numbers None → KnowsMore before known → AreArrivalsIn AnyTime known numbers rs → AreArrivalsIn AtOnce known numbers rs
 all_arrive before known numbers rs none more all later m h follows of =
     let a = program_of m in
     let steps = enabled_steps a h in

@@ -8,9 +8,9 @@ use Rattle.search_numbers.specs.Stored.{IsWorldOf}
 use Rattle.search_numbers.proofs.Kept.{world_later}
 use Rattle.search_numbers.proofs.Listed.{enabled_at_later}
 use Rattle.search_levels.specs.Known.{Grows}
-use Rattle.search_levels.specs.declared.arrival.Arrival.{Arrival}
-use Rattle.search_states.specs.declared.kept.Kept.{Kept}
-use Rattle.search_states.specs.inside.Keeping.{CanBeRead, CanRead, Comes}
+use Rattle.search_levels.specs.Arrivals.{Arrived}
+use Rattle.search_states.specs.declared.numbered.Numbered.{Numbered}
+use Rattle.search_states.specs.inside.Keeping.{AreRead, CanRead, Comes, PutsArrival}
 use Rattle.search_numbers.specs.declared.known.Known.{Known}
 use Rattle.search_numbers.proofs.Followed.{follows_itself, follows_on}
 use Rattle.search_states.proofs.Following.{one_prompt}
@@ -33,15 +33,15 @@ each_there known numbers (step ∷ steps) (at ∷ places) are = (record { step =
 pub still_read : (old new : Known) (numbers : ℕ → ℕ) → KnowsMore old new → CanRead old numbers → CanRead new numbers
 still_read old new numbers more is = (more.right is.0, world_later old.store new.store numbers more.follows is.1)
 
-pub grows : (old new : Known) → KnowsMore old new → Grows CanBeRead Comes old new
+pub grows : (old new : Numbered) → KnowsMore old.known new.known → Grows (λ (worlds : Numbered) (row : List ℕ). CanRead worlds.known (numbers_in row)) (λ (later earlier : Numbered). Comes later.known earlier.known) old new
 grows old new more = record {
-  passes = λ later follows. follows_on later.store new.store old.store follows more.follows;
-  keeps = λ kept is. still_read old new (numbers_in kept.row) more is;
+  passes = λ later follows. follows_on later.known.store new.known.store old.known.store follows more.follows;
+  keeps = λ row is. still_read old.known new.known (numbers_in row) more is;
 }
 
-pub all_still_read : (old new : Known) (rs : List (Arrival Kept)) → KnowsMore old new → AllByRecursion (λ r. CanBeRead old r.state) rs → AllByRecursion (λ r. CanBeRead new r.state) rs
+pub all_still_read : (old new : Known) (rs : List Arrived) → KnowsMore old new → AreRead old rs → AreRead new rs
 all_still_read old new [] more are = tt
-all_still_read old new (r ∷ rs) more are = (still_read old new (numbers_in r.state.row) more are.0, all_still_read old new rs more are.1)
+all_still_read old new (r ∷ rs) more are = (still_read old new (numbers_in r.row) more are.0, all_still_read old new rs more are.1)
 
 -- all that are enabled, in a world that a history leaves
 pub are_there : (known : Known) (numbers : ℕ → ℕ) (places : List ℕ) → IsWorldOf known.store numbers → AreEnabled known numbers places → AllByRecursion (IsThere known numbers) places
@@ -59,6 +59,9 @@ first_there known numbers at world is =
 
 -- ---- arrivals that can be read
 
-pub one_more_read : (old new : Known) (rs more : List (Arrival Kept)) (r : Arrival Kept) → KnowsMore old new → AllByRecursion (λ x. CanBeRead old x.state) rs → CanBeRead new r.state → more ≡ rs ++ r ∷ [] → AllByRecursion (λ x. CanBeRead new x.state) more
-one_more_read old new rs more r knows are is now =
-    subst (AllByRecursion (λ (x : Arrival Kept). CanBeRead new x.state)) (sym now) (all_append (λ (x : Arrival Kept). CanBeRead new x.state) rs (r ∷ []) (all_still_read old new rs knows are) (is, tt))
+pub one_more_read : (before old new : Known) (numbers : ℕ → ℕ) (at : ℕ) (rs more : List Arrived) → KnowsMore old new → AreRead old rs → PutsArrival before new numbers at rs more → AreRead new more
+one_more_read before old new numbers at rs more knows are put =
+    subst (AreRead new) (sym put.put) (all_append (λ (x : Arrived). CanRead new (numbers_in x.row)) rs (put.one ∷ []) (all_still_read old new rs knows are) (put.read, tt))
+
+pub read_alone : (before known : Known) (numbers : ℕ → ℕ) (at : ℕ) (rs : List Arrived) → PutsArrival before known numbers at [] rs → AreRead known rs
+read_alone before known numbers at rs put = subst (AreRead known) (sym put.put) (put.read, tt)

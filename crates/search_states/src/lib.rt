@@ -2,7 +2,7 @@
 #![tactic(auto)]
 
 mod arriving;
-pub(crate) mod kept;
+pub(crate) mod numbered;
 pub mod search;
 
 pub use search::search_states;

@@ -5,12 +5,11 @@ ghost use Rattle.world_identities.specs.Identities.{flags_in};
 ghost use Rattle.world_model.specs.Asking.{program_of};
 
 use crate::arriving::add_deadlock;
-use crate::kept::Kept;
+use crate::numbered::Numbered;
 use core_tree::Module;
 use search_levels::{Bounds, LevelObserver, Searched, search_levels};
-use search_numbers::{Known, Row};
+use search_numbers::Known;
 use std::alloc::{AllocError, Global};
-use std::marker::PhantomData;
 use tree_findings::Options;
 use tree_schedules::Delivery;
 
@@ -32,18 +31,14 @@ pub fn search_states<O: LevelObserver>(
     ensures { IfOk result (λ searched. IsSearched (flags_in options.now.flags) delivery (program_of program.now) options.now.depth options.now.nodes searched) }
 {
     let mut known = Known::open(alloc, program)?;
-    let row = Row::new(alloc);
     let mut shown = Vec::new(alloc);
-    add_deadlock(alloc, &mut known, &row, &mut shown)?;
+    add_deadlock(alloc, &mut known, &[], &mut shown)?;
     let bounds = Bounds {
         flags: options.flags,
         delivery,
         depth: options.depth,
         states: options.nodes,
     };
-    let first = Kept {
-        row,
-        of: PhantomData,
-    };
-    search_levels(alloc, bounds, &mut known, first, shown.as_slice(), observer)
+    let mut worlds = Numbered { known };
+    search_levels(alloc, bounds, &mut worlds, &[], 0, shown.as_slice(), observer)
 }

@@ -1,5 +1,6 @@
-use Rattle.std.proofs.Common.{◌≡◌, ◌∷◌, ◌++◌, ◌+◌, [], ap, arith, length, sym, subst, take, take_all}
+use Rattle.std.proofs.Common.{◌≡◌, ◌∷◌, ◌++◌, ◌+◌, [], arith, sym, subst, take, take_all}
 use Rattle.search_levels.specs.Arrivals.{of_module}
+use Rattle.search_levels.specs.inside.Visits.{entry_of}
 use Rattle.search_levels.proofs.Going.{LevelSoFar, element, goes_on, level_more, level_none, taken}
 use Rattle.search_levels.proofs.Known.{grows_on, stays}
 use Rattle.search_levels.proofs.Noting as noting
@@ -7,57 +8,57 @@ use Rattle.world_identities.specs.Identities.{flags_in}
 use Rattle.world_model.specs.Names.{IsAmong}
 use Rattle.search_levels.proofs.expanding.next_level.Goals as goal
 
-pub loop-visit-init : goal.loop-visit-init
-loop-visit-init g c = record {
-  so_far = λ known later m. subst (λ xs. LevelSoFar c.args.delivery (of_module (g.S.State.agrees known) m) (flags_in c.args.flags) c.args.findings.now [] xs c.args.findings.now) (sym c.new-next.ensures) (level_none c.args.delivery (of_module (g.S.State.agrees known) m) (flags_in c.args.flags) c.args.findings.now);
-  notes = λ known later m. noting.level_none (of_module (g.S.State.agrees known) m) (flags_in c.args.flags) c.args.delivery c.args.level.now.visits.items c.args.findings.now;
+pub loop-place-init : goal.loop-place-init
+loop-place-init g c = record {
+  so_far = λ known later m. subst (λ xs. LevelSoFar c.args.delivery (of_module (g.W.Worlds.agrees known) m) (flags_in c.args.flags) c.args.findings.now [] xs c.args.findings.now) (sym c.new-next.ensures) (level_none c.args.delivery (of_module (g.W.Worlds.agrees known) m) (flags_in c.args.flags) c.args.findings.now);
+  notes = λ known later m. noting.level_none (of_module (g.W.Worlds.agrees known) m) (flags_in c.args.flags) c.args.delivery c.args.level.now.states c.args.findings.now;
   of_known = λ x there. absurd (subst (IsAmong x) c.new-next.ensures there);
-  grows = stays c.args.known.now;
+  grows = stays c.args.worlds.now;
   fewer = omega arith;
 }
 
 pub expand-requires : goal.expand-requires
 expand-requires g c =
-    let y = c.visit-item.result in
-    c.loop-visit.invariant.grows.keeps y.state (c.requires y (subst (IsAmong y) c.as_slice-visit-items.ensures.value (element c.as_slice-visit-items.result.now c.loop-visit.visit-index y c.loop-visit-test.true c.visit-item.is)))
+    let y = entry_of c.at.result in
+    c.loop-place.invariant.grows.keeps y.row (c.requires y (element c.args.level.now.states c.loop-place.place y c.at.ensures))
 
 pub returns-in_err-expand-clause-grows : goal.returns-in_err-expand-clause-grows
-returns-in_err-expand-clause-grows g c = grows_on c.loop-visit.invariant.grows c.in_err-expand.ensures.grows
+returns-in_err-expand-clause-grows g c = grows_on c.loop-place.invariant.grows c.in_err-expand.ensures.grows
 
 pub returns-in_err-expand-clause-notes : goal.returns-in_err-expand-clause-notes
 returns-in_err-expand-clause-notes g c = λ known later m.
-    let level = c.args.level.now.visits.items in
-    let y = c.visit-item.result in
-    let there : IsAmong y level = subst (IsAmong y) c.as_slice-visit-items.ensures.value (element c.as_slice-visit-items.result.now c.loop-visit.visit-index y c.loop-visit-test.true c.visit-item.is) in
-    noting.level_more (of_module (g.S.State.agrees known) m) (flags_in c.args.flags) c.args.delivery level y c.args.findings.now c.loop-visit.findings c.expand.new.findings there (c.loop-visit.invariant.notes known (c.in_err-expand.ensures.grows.passes known later) m) (c.in_err-expand.ensures.notes known later m)
+    let level = c.args.level.now.states in
+    let y = entry_of c.at.result in
+    let there : IsAmong y level = element level c.loop-place.place y c.at.ensures in
+    noting.level_more (of_module (g.W.Worlds.agrees known) m) (flags_in c.args.flags) c.args.delivery level y c.args.findings.now c.loop-place.findings c.expand.new.findings there (c.loop-place.invariant.notes known (c.in_err-expand.ensures.grows.passes known later) m) (c.in_err-expand.ensures.notes known later m)
 
-pub loop-visit-preserved : goal.loop-visit-preserved
-loop-visit-preserved g c =
+pub loop-place-preserved : goal.loop-place-preserved
+loop-place-preserved g c =
     let flags = flags_in c.args.flags in
     let begun = c.args.findings.now in
-    let level = c.args.level.now.visits.items in
-    let done = take c.loop-visit.visit-index level in
-    let one = take (c.loop-visit.visit-index + 1) level in
-    let y = c.visit-item.result in
-    let old = c.loop-visit.next.visits.items in
-    let new = c.expand.new.level.visits.items in
-    let before = c.loop-visit.findings in
+    let level = c.args.level.now.states in
+    let done = take c.loop-place.place level in
+    let one = take (c.loop-place.place + 1) level in
+    let y = entry_of c.at.result in
+    let old = c.loop-place.next.states in
+    let new = c.expand.new.level.states in
+    let before = c.loop-place.findings in
     let after = c.expand.new.findings in
-    let there : IsAmong y level = subst (IsAmong y) c.as_slice-visit-items.ensures.value (element c.as_slice-visit-items.result.now c.loop-visit.visit-index y c.loop-visit-test.true c.visit-item.is) in
-    let more : one ≡ done ++ y ∷ [] = subst (λ xs. take (c.loop-visit.visit-index + 1) xs ≡ take c.loop-visit.visit-index xs ++ y ∷ []) c.as_slice-visit-items.ensures.value (taken c.as_slice-visit-items.result.now c.loop-visit.visit-index y c.loop-visit-test.true c.visit-item.is) in
+    let there : IsAmong y level = element level c.loop-place.place y c.at.ensures in
+    let more : one ≡ done ++ y ∷ [] = taken level c.loop-place.place y c.at.ensures in
     record {
-      so_far = λ known later m. subst (λ ys. LevelSoFar c.args.delivery (of_module (g.S.State.agrees known) m) flags begun ys new after) (sym more) (level_more c.args.delivery (of_module (g.S.State.agrees known) m) flags begun done y old new before after (c.loop-visit.invariant.so_far known (c.in_ok-expand.ensures.grows.passes known later) m) (c.in_ok-expand.ensures.expands known later m));
-      notes = λ known later m. noting.level_more (of_module (g.S.State.agrees known) m) flags c.args.delivery level y begun before after there (c.loop-visit.invariant.notes known (c.in_ok-expand.ensures.grows.passes known later) m) (c.in_ok-expand.ensures.notes known later m);
-      of_known = c.in_ok-expand.ensures.of_known c.loop-visit.invariant.of_known;
-      grows = grows_on c.loop-visit.invariant.grows c.in_ok-expand.ensures.grows;
-      fewer = omega (arith, c.loop-visit.invariant.fewer, c.in_ok-expand.ensures.fewer);
+      so_far = λ known later m. subst (λ ys. LevelSoFar c.args.delivery (of_module (g.W.Worlds.agrees known) m) flags begun ys new after) (sym more) (level_more c.args.delivery (of_module (g.W.Worlds.agrees known) m) flags begun done y old new before after (c.loop-place.invariant.so_far known (c.in_ok-expand.ensures.grows.passes known later) m) (c.in_ok-expand.ensures.expands known later m));
+      notes = λ known later m. noting.level_more (of_module (g.W.Worlds.agrees known) m) flags c.args.delivery level y begun before after there (c.loop-place.invariant.notes known (c.in_ok-expand.ensures.grows.passes known later) m) (c.in_ok-expand.ensures.notes known later m);
+      of_known = c.in_ok-expand.ensures.of_known c.loop-place.invariant.of_known;
+      grows = grows_on c.loop-place.invariant.grows c.in_ok-expand.ensures.grows;
+      fewer = omega (arith, c.loop-place.invariant.fewer, c.in_ok-expand.ensures.fewer);
     }
 
 pub returns-clause-goes_on : goal.returns-clause-goes_on
 returns-clause-goes_on g c = λ known later m.
     let flags = flags_in c.args.flags in
     let begun = c.args.findings.now in
-    let level = c.args.level.now.visits.items in
-    let next = c.loop-visit.next.visits.items in
-    goes_on c.args.delivery (of_module (g.S.State.agrees known) m) flags begun level next c.loop-visit.findings
-    (subst (λ ys. LevelSoFar c.args.delivery (of_module (g.S.State.agrees known) m) flags begun ys next c.loop-visit.findings) (take_all c.loop-visit.visit-index level (omega (arith, c.loop-visit-test.false, ap length c.as_slice-visit-items.ensures.value))) (c.loop-visit.invariant.so_far known later m))
+    let level = c.args.level.now.states in
+    let next = c.loop-place.next.states in
+    goes_on c.args.delivery (of_module (g.W.Worlds.agrees known) m) flags begun level next c.loop-place.findings
+    (subst (λ ys. LevelSoFar c.args.delivery (of_module (g.W.Worlds.agrees known) m) flags begun ys next c.loop-place.findings) (take_all c.loop-place.place level (omega (arith, c.loop-place-test.false, c.len-place-end.ensures))) (c.loop-place.invariant.so_far known later m))

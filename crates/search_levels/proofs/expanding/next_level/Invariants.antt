@@ -8,11 +8,11 @@ use Rattle.world_identities.specs.Identities.{flags_in}
 use Rattle.search_levels.proofs.expanding.next_level.Given as goal
 
 -- the states so far are expanded, and those of the next level can be read
-abbrev pub invariant-loop-visit : goal.invariant-loop-visit
-invariant-loop-visit g l = record {
-  so_far : FromNowOn g.S.State.follows l.known (λ known m. LevelSoFar l.fn.delivery (of_module (g.S.State.agrees known) m) (flags_in l.fn.flags) l.fn.findings (take l.visit-index l.level.visits.items) l.next.visits.items l.findings);
-  notes : FromNowOn g.S.State.follows l.known (λ known m. NotesLevel l.fn.delivery (of_module (g.S.State.agrees known) m) (flags_in l.fn.flags) l.level.visits.items l.fn.findings l.findings);
-  of_known : AreOf (g.S.State.is_of l.known) l.next.visits.items;
-  grows : Grows g.S.State.is_of g.S.State.follows l.fn.known l.known;
+abbrev pub invariant-loop-place : goal.invariant-loop-place
+invariant-loop-place g l = record {
+  so_far : FromNowOn g.W.Worlds.follows l.worlds (λ known m. LevelSoFar l.fn.delivery (of_module (g.W.Worlds.agrees known) m) (flags_in l.fn.flags) l.fn.findings (take l.place l.level.states) l.next.states l.findings);
+  notes : FromNowOn g.W.Worlds.follows l.worlds (λ known m. NotesLevel l.fn.delivery (of_module (g.W.Worlds.agrees known) m) (flags_in l.fn.flags) l.level.states l.fn.findings l.findings);
+  of_known : AreOf (g.W.Worlds.is_of l.worlds) l.next.states;
+  grows : Grows g.W.Worlds.is_of g.W.Worlds.follows l.fn.worlds l.worlds;
   fewer : l.left ≤ l.fn.left;
 }

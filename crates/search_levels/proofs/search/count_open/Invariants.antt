@@ -5,9 +5,9 @@ use Rattle.search_levels.specs.Known.{FromNowOn, Grows}
 use Rattle.search_levels.proofs.search.count_open.Given as goal
 
 -- a step is enabled at so many of the states so far
-abbrev pub invariant-loop-visit : goal.invariant-loop-visit
-invariant-loop-visit g l = record {
-  tells : FromNowOn g.S.State.follows l.known (λ known m. TellsOpen (of_module (g.S.State.agrees known) m) (take l.visit-index l.level.visits.items) l.count);
-  grows : Grows g.S.State.is_of g.S.State.follows l.fn.known l.known;
-  few : l.count ≤ l.visit-index;
+abbrev pub invariant-loop-place : goal.invariant-loop-place
+invariant-loop-place g l = record {
+  tells : FromNowOn g.W.Worlds.follows l.worlds (λ known m. TellsOpen (of_module (g.W.Worlds.agrees known) m) (take l.place l.level.states) l.count);
+  grows : Grows g.W.Worlds.is_of g.W.Worlds.follows l.fn.worlds l.worlds;
+  few : l.count ≤ l.place;
 }

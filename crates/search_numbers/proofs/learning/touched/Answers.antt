@@ -29,11 +29,11 @@ loop-column-preserved c =
     let columns = c.args.columns.now in
     let i = c.loop-column.column-index in
     let column = get_or columns i 0 in
-    let more = touched_more old new numbers left (take i columns) c.loop-column.touches.items (record { column = column; before = c.at.result; after = c.in_ok-number.number })
-    c.in_ok-number.ensures.follows (λ j. (c.in_ok-number.ensures.places j).items) c.loop-column.invariant.touched c.at.ensures c.in_ok-number.ensures.kept c.in_ok-number.ensures.number in
+    let more = touched_more old new numbers left (take i columns) c.loop-column.touches.items (record { column = column; before = c.number_in.result; after = c.in_ok-number.number })
+    c.in_ok-number.ensures.follows (λ j. (c.in_ok-number.ensures.places j).items) c.loop-column.invariant.touched c.number_in.ensures c.in_ok-number.ensures.kept c.in_ok-number.ensures.number in
     record {
       touched = subst (λ ts. AreTouched new numbers left (take (i + 1) columns) ts) (sym c.in_ok-push.ensures.items)
-          (subst (λ cs. AreTouched new numbers left cs (c.loop-column.touches.items ++ record { column = column; before = c.at.result; after = c.in_ok-number.number } ∷ [])) (sym (take_more columns i 0 c.loop-column-test.true)) more);
+          (subst (λ cs. AreTouched new numbers left cs (c.loop-column.touches.items ++ record { column = column; before = c.number_in.result; after = c.in_ok-number.number } ∷ [])) (sym (take_more columns i 0 c.loop-column-test.true)) more);
       follows = follows_too c.args.store.now old new c.loop-column.invariant.follows c.in_ok-number.ensures.follows;
       places = c.in_ok-number.ensures.places ∙ c.loop-column.invariant.places;
     }

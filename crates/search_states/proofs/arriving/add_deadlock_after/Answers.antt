@@ -1,9 +1,10 @@
+use Rattle.search_numbers.specs.Rows.{numbers_in}
 use Rattle.search_numbers.proofs.Listed.{knows_itself}
 use Rattle.search_states.proofs.Deadlocks.{none_added}
 use Rattle.search_states.proofs.arriving.add_deadlock_after.Goals as goal
 
 pub returns-then-is_one_enabled-clause-adds : goal.returns-then-is_one_enabled-clause-adds
-returns-then-is_one_enabled-clause-adds c = none_added c.args.known.now c.args.row.now c.args.shown.now.items (c.is_one_enabled.ensures c.if-is_one_enabled.true c.requires.0)
+returns-then-is_one_enabled-clause-adds c = none_added c.args.known.now (numbers_in c.args.row.now) c.args.shown.now.items (c.is_one_enabled.ensures c.if-is_one_enabled.true c.requires.0)
 
 pub returns-then-is_one_enabled-clause-knows : goal.returns-then-is_one_enabled-clause-knows
 returns-then-is_one_enabled-clause-knows c = knows_itself c.args.known.now

@@ -7,7 +7,7 @@ use Rattle.search_numbers.specs.Stored.{AreOf}
 use Rattle.search_numbers.specs.declared.known.Known.{Known}
 use Rattle.search_states.proofs.Following.{AreSoFar}
 use Rattle.search_states.proofs.arriving.all_arrivals.Given as goal
-use Rattle.search_states.specs.inside.Keeping.{CanBeRead, Comes}
+use Rattle.search_states.specs.inside.Keeping.{AreRead, Comes}
 use Rattle.world_model.specs.Events.{History}
 
 -- the arrivals so far, and the places that are left, are of the enabled steps
@@ -15,7 +15,7 @@ abbrev pub invariant-loop-at : goal.invariant-loop-at
 invariant-loop-at l = record {
   knows : KnowsMore l.fn.known l.known;
   more : KnowsMore l.initial.known l.known;
-  so_far : (later : Known) (m : ModuleTree) (h : History) → Comes later l.known → AreOf later.store (numbers_in l.row) m h → AreSoFar l.initial.known (numbers_in l.row) later m h l.arrivals.items (drop l.at-index l.at-items);
+  so_far : (later : Known) (m : ModuleTree) (h : History) → Comes later l.known → AreOf later.store (numbers_in l.row) m h → AreSoFar l.initial.known (numbers_in l.row) later m h l.into (drop l.at-index l.at-items);
   there : AllByRecursion (IsThere l.initial.known (numbers_in l.row)) (drop l.at-index l.at-items);
-  read : AllByRecursion (λ r. CanBeRead l.known r.state) l.arrivals.items;
+  read : AreRead l.known l.into;
 }

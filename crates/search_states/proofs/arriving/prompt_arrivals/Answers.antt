@@ -1,9 +1,9 @@
 use Rattle.std.proofs.Common.{subst}
-use Rattle.std.proofs.lemmas.Result.{IfOk-weaker}
+use Rattle.std.proofs.lemmas.Result.{on_ok_weaker}
 use Rattle.search_numbers.specs.Knowing.{IsFirstDelivery}
 use Rattle.search_numbers.specs.Rows.{numbers_in}
 use Rattle.search_states.proofs.Deadlocks.{all_arrive, first_arrives}
-use Rattle.search_states.proofs.There.{first_there, still_read}
+use Rattle.search_states.proofs.There.{first_there, read_alone, still_read}
 use Rattle.search_states.proofs.arriving.prompt_arrivals.Goals as goal
 
 pub arrival_alone-requires-clause-world : goal.arrival_alone-requires-clause-world
@@ -22,10 +22,13 @@ pub returns-in-Some-clause-arrivals : goal.returns-in-Some-clause-arrivals
 returns-in-Some-clause-arrivals c =
     let first = c.first_delivery.new.self in
     let numbers = numbers_in c.args.row.now in
-    IfOk-weaker c.arrival_alone.result _ _ (λ arrivals alone. first_arrives first c.arrival_alone.new.known numbers c.in-Some.at arrivals.items (subst (IsFirstDelivery first numbers) c.in-Some.is c.in_ok-at.ensures.first) c.arrival_alone.ensures.knows alone) c.arrival_alone.ensures.arrives
+    on_ok_weaker c.arrival_alone.result (λ alone. first_arrives first c.arrival_alone.new.known numbers c.in-Some.at c.arrival_alone.new.into (subst (IsFirstDelivery first numbers) c.in-Some.is c.in_ok-at.ensures.first) c.arrival_alone.ensures.knows alone) c.arrival_alone.ensures.puts
 
 pub returns-in-None-clause-arrivals : goal.returns-in-None-clause-arrivals
 returns-in-None-clause-arrivals c =
     let first = c.first_delivery.new.self in
     let numbers = numbers_in c.args.row.now in
-    IfOk-weaker c.all_arrivals.result _ _ (λ arrivals all. all_arrive first c.all_arrivals.new.known numbers arrivals.items (subst (IsFirstDelivery first numbers) c.in-None.is c.in_ok-at.ensures.first) c.all_arrivals.ensures.knows all) c.all_arrivals.ensures.arrivals
+    on_ok_weaker c.all_arrivals.result (λ all. all_arrive first c.all_arrivals.new.known numbers c.all_arrivals.new.into (subst (IsFirstDelivery first numbers) c.in-None.is c.in_ok-at.ensures.first) c.all_arrivals.ensures.knows all) c.all_arrivals.ensures.arrivals
+
+pub returns-in-Some-clause-of_known : goal.returns-in-Some-clause-of_known
+returns-in-Some-clause-of_known c = on_ok_weaker c.arrival_alone.result (λ alone. read_alone _ _ _ _ _ alone) c.arrival_alone.ensures.puts

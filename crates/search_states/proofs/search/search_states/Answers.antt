@@ -15,23 +15,21 @@ use Rattle.world_model.specs.Shown.{deadlock_of}
 pub search_levels-requires : goal.search_levels-requires
 search_levels-requires g c =
     let known = c.in_ok-known.known in
-    let zeros : numbers_in c.new-row.result ≡ (λ (k : ℕ). 0) = λ i k. c.new-row.ensures k i in
-    still_read known c.add_deadlock.new.known (numbers_in c.new-row.result) c.add_deadlock.ensures.knows (c.in_ok-known.ensures.right, subst (IsWorldOf known.store) (sym zeros) c.in_ok-known.ensures.world)
+    still_read known c.add_deadlock.new.known (numbers_in []) c.add_deadlock.ensures.knows (c.in_ok-known.ensures.right, c.in_ok-known.ensures.world)
 
 pub returns : goal.returns
 returns g c =
     let m = c.args.program.now in
     let known = c.in_ok-known.known in
     let shown_in = c.add_deadlock.new.known in
-    let last = c.search_levels.new.known in
-    let numbers = numbers_in c.new-row.result in
-    let zeros : numbers ≡ (λ (k : ℕ). 0) = λ i k. c.new-row.ensures k i in
-    let are : AreOf known.store numbers m [] = subst (λ ns. AreOf known.store ns m []) (sym zeros) c.in_ok-known.ensures.are in
-    let world = subst (IsWorldOf known.store) (sym zeros) c.in_ok-known.ensures.world in
+    let last = c.search_levels.new.worlds.known in
+    let numbers = numbers_in [] in
+    let are : AreOf known.store numbers m [] = c.in_ok-known.ensures.are in
+    let world : IsWorldOf known.store numbers = c.in_ok-known.ensures.world in
     let kept = world.kept in
-    let follows = follows_on last.store shown_in.store known.store (c.search_levels.ensures.grows.passes last (follows_itself last.store)) c.add_deadlock.ensures.knows.follows in
+    let follows = follows_on last.store shown_in.store known.store (c.search_levels.ensures.grows.passes c.search_levels.new.worlds (follows_itself last.store)) c.add_deadlock.ensures.knows.follows in
     let told = c.in_ok-add_deadlock.ensures.adds shown_in.store m [] (follows_itself shown_in.store) (are_later known.store shown_in.store numbers c.add_deadlock.ensures.knows.follows kept m [] are) in
     IfOk-weaker c.search_levels.result _ _
-    (λ searched is. is last (follows_itself last.store) m (are_later known.store last.store numbers follows kept m [] are)
+    (λ searched is. is c.search_levels.new.worlds (follows_itself last.store) m (are_later known.store last.store numbers follows kept m [] are)
     (ap (map identity_in) c.as_slice.ensures.value ∙ told ∙ ap (λ (xs : List Identity). map identity_in xs ++ deadlock_of (enabled_steps (program_of m) []) (living [])) c.new-shown.ensures.items))
     c.search_levels.ensures.searched

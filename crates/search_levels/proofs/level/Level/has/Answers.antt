@@ -1,11 +1,12 @@
-use Rattle.std.proofs.Common.{get_or, subst}
-use Rattle.search_levels.proofs.Placed.{got_there}
-use Rattle.world_model.specs.Names.{IsAmong}
+use Rattle.std.proofs.Common.{arith}
+use Rattle.std.proofs.lemmas.Bool.Decides.{Decides-eqb}
+use Rattle.std.proofs.lemmas.Slice.Eq.{slice_eq-Decides}
+use Rattle.search_levels.specs.inside.Visits.{entry_of}
+use Rattle.search_levels.proofs.Going.{element}
 use Rattle.search_levels.proofs.level.Level.has.Goals as goal
 
-pub returns-then-is_same : goal.returns-then-is_same
-returns-then-is_same g c = λ e.
-    let visits = c.as_slice-visits.result.now in
-    let x = c.index-visits-place.result in
-    let there = get_or visits c.in-Some.place x in
-    (there, subst (IsAmong there) c.as_slice-visits.ensures.value (got_there visits c.in-Some.place x c.if-place-visits.true), c.is_same.ensures c.if-is_same.true)
+pub at-requires : goal.at-requires
+at-requires c = omega (arith, c.if-place-len.true, c.len.ensures)
+
+pub returns-then-eq : goal.returns-then-eq
+returns-then-eq c = λ e. (entry_of c.at.result, element c.args.self.now.states c.in-Some.place (entry_of c.at.result) c.at.ensures, (slice_eq-Decides Decides-eqb c.at.result.row.now c.args.row.now c.eq.result c.eq.ensures).0 c.if-eq.true)

@@ -4,6 +4,6 @@ use Rattle.search_numbers.proofs.row.Row.widen.Given as goal
 
 abbrev pub invariant-loop : goal.invariant-loop
 invariant-loop l = record {
-  same : (c : ℕ) → numbers_in l.self c ≡ numbers_in l.fn.self c;
+  same : (c : ℕ) → numbers_in l.self.numbers.items c ≡ numbers_in l.fn.self.numbers.items c;
   wide : length l.self.numbers.items ≡ l.counter;
 }

@@ -11,5 +11,5 @@ returns c =
     let store = c.args.self.now in
     let places = store.places.items in
     let there : slice_get places c.args.column ≡ Some c.index.result.now = slice_get_read places (length places) c.args.column c.index.result.now refl c.requires.there c.index.ensures in
-    let same : c.numbered.result.now ≡ numbered store (numbers_in c.args.row.now c.args.column) = c.numbered.ensures ∙ ap (numbered store) c.at-number.ensures in
+    let same : c.numbered.result.now ≡ numbered store (numbers_in c.args.row.now c.args.column) = c.numbered.ensures ∙ ap (numbered store) c.number_in-number.ensures in
     on_ok_weaker c.take_place.result (λ takes. column_taken store (numbers_in c.args.row.now) c.args.column c.index.result.now c.numbered.result.now c.args.records.now c.take_place.new.self c.requires.whole.columns c.requires.whole.each there c.requires.so_far same takes) c.take_place.ensures
