@@ -1,9 +1,10 @@
 -- One level after another.
-use Rattle.std.proofs.Common.{slice_get, ◌≡◌, ◌⊎◌, inl, inr, ℕ, zero, suc, ◌+◌, ◌≤◌, List, [], ◌∷◌, ◌++◌, length, take, Option, Some, None, is_some, true, refl, sym, ap, subst, ◌∙◌, arith}
+use Rattle.std.proofs.Common.{◌<◌, slice_get, ◌≡◌, ◌⊎◌, inl, inr, ℕ, zero, suc, ◌+◌, ◌≤◌, List, [], ◌∷◌, ◌++◌, length, take, Option, Some, None, is_some, true, refl, sym, ap, subst, ◌∙◌, arith, drop, slice_range, ◌-◌, take_all, length-take-le, length-drop}
 use Rattle.std.proofs.lemmas.List.{append-nil, take_more}
+use Rattle.std.proofs.lemmas.List.{drop_more}
 use Rattle.std.proofs.lemmas.Option.{get_or_from_slice_get, slice_get_within}
-use Rattle.search_levels.specs.inside.Expanding.{Expands, ExpandsAt, on_by}
-use Rattle.search_levels.specs.inside.Levels.{AreAt, AreBefore, AreBeforeNext, ComeInOrder, IsAt, IsCovered}
+use Rattle.search_levels.specs.inside.Expanding.{GoesOnSoFar, LevelSoFar, Expands, ExpandsAt, on_by}
+use Rattle.search_levels.specs.inside.Levels.{IsAt, IsCovered}
 use Rattle.search_levels.specs.inside.Paths.{schedule_in}
 use Rattle.search_levels.specs.inside.Searching.{Begins, GoesOn, IsLevel}
 use Rattle.search_levels.specs.inside.Visits.{Visit}
@@ -36,27 +37,55 @@ element xs i x is = subst (λ y. IsAmong y xs) (get_or_from_slice_get xs i x x i
 pub taken : {X : Type 0} (xs : List X) (i : ℕ) (x : X) → slice_get xs i ≡ Some x → take (i + 1) xs ≡ take i xs ++ x ∷ []
 taken xs i x is = take_more xs i x (slice_get_within xs i x is) ∙ ap (λ y. take i xs ++ y ∷ []) (get_or_from_slice_get xs i x x is)
 
+-- the elements from a place on are that one and those after it
+pub left_at : {X : Type 0} (xs : List X) (i : ℕ) (x : X) → slice_get xs i ≡ Some x → drop i xs ≡ x ∷ drop (i + 1) xs
+left_at xs i x is = drop_more xs i x (slice_get_within xs i x is) ∙ ap (λ y. y ∷ drop (i + 1) xs) (get_or_from_slice_get xs i x x is)
+
+-- what stands after so many elements
+pub got_dropped : {X : Type 0} (xs : List X) (a i n : ℕ) → a + i ≡ n → slice_get (drop a xs) i ≡ slice_get xs n
+got_dropped xs zero i n is = ap (slice_get xs) (omega (arith, is))
+got_dropped [] (suc a) i n is = refl
+got_dropped (x ∷ xs) (suc a) i zero is = absurd (omega (arith, is))
+got_dropped (x ∷ xs) (suc a) i (suc n) is = got_dropped xs a i n (omega (arith, is))
+
+-- what stands among so many elements
+pub got_within : {X : Type 0} (xs : List X) (n i : ℕ) → i < n → slice_get (take n xs) i ≡ slice_get xs i
+got_within xs zero i lt = absurd (omega (arith, lt))
+got_within [] (suc n) i lt = refl
+got_within (x ∷ xs) (suc n) zero lt = refl
+got_within (x ∷ xs) (suc n) (suc i) lt = got_within xs n i (omega (arith, lt))
+
+-- a part of a list, and the element after it
+pub range_next : {X : Type 0} (xs : List X) (a b : ℕ) (x : X) → a ≤ b → slice_get xs b ≡ Some x → slice_range xs a (b + 1) ≡ slice_range xs a b ++ x ∷ []
+range_next xs a b x le is =
+    let more : b + 1 - a ≡ b - a + 1 = omega (arith, le) in
+    let on : a + (b - a) ≡ b = omega (arith, le) in
+    ap (λ n. take n (drop a xs)) more ∙ taken (drop a xs) (b - a) x (got_dropped xs a (b - a) b on ∙ is)
+
+pub range_none : {X : Type 0} (xs : List X) (a : ℕ) → slice_range xs a a ≡ []
+range_none xs a = let none : a - a ≡ 0 = omega arith in ap (λ n. take n (drop a xs)) none
+
+pub whole_range : {X : Type 0} (xs : List X) (n : ℕ) → n ≡ length xs → slice_range xs 0 n ≡ xs
+whole_range xs n is = take_all (n - 0) xs (omega (arith, is))
+
+pub range_first : {X : Type 0} (xs : List X) (a b : ℕ) (x : X) → a < b → slice_get xs a ≡ Some x → slice_range xs a b ≡ x ∷ slice_range xs (a + 1) b
+range_first xs a b x lt is =
+    let more : b - a ≡ suc (b - (a + 1)) = omega (arith, lt) in
+    ap (take (b - a)) (left_at xs a x is) ∙ ap (λ n. take n (x ∷ drop (a + 1) xs)) more
+
+pub range_length : {X : Type 0} (xs : List X) (a b : ℕ) → a ≤ b → b ≤ length xs → length (slice_range xs a b) ≡ b - a
+range_length xs a b le within = length-take-le (b - a) (drop a xs) (omega (arith, le, within, length-drop a xs))
+
+pub got_range : {X : Type 0} (xs : List X) (a b i : ℕ) → a ≤ i → i < b → slice_get (slice_range xs a b) (i - a) ≡ slice_get xs i
+got_range xs a b i le lt = got_within (drop a xs) (b - a) (i - a) (omega (arith, le, lt)) ∙ got_dropped xs a (i - a) i (omega (arith, le))
+
 -- an event, if there is one
 pub some_event : (o : Option Event) → is_some o ≡ true → (e : Event) × (o ≡ Some e)
 some_event None e = absurd cc
 some_event (Some d) e = (d, refl)
 
 module _ (d : Delivery) (Agrees : List ℕ → Program → History → Type 0) (flags : Flags) (begun : Findings) where
-  -- the states so far are expanded
-  pub record GoesOnSoFar (a : Program) (k : ℕ) (visited : List (List Step)) (done : List Visit) (next : List Visit) (findings : Findings) : Type 0 where
-    pub at : AreAt d Agrees a (k + 1) next
-    pub in_order : ComeInOrder next
-    pub before : (s : List Step) → AreBefore done s → AreBeforeNext next s
-    pub covers : (y : Visit) → IsAmong y done → (s : List Step) (g : History) → Agrees y.row a g → (x : Step) (e : Event) → IsAmong x (steps_by d a g) → next_event a g x ≡ Some e → IsUpTo (schedule_in y.of ++ x ∷ []) s → IsCovered Agrees a next s (e ∷ g)
-    pub more : List (List Step)
-    pub found : findings ≡ findings_among flags a (visited ++ more)
-    pub runs : (s : List Step) → IsAmong s more → (length s ≡ k + 1) × DeliversBy d a s × (h : History) × (run a s ≡ Some h)
-    pub shows : (y : Visit) → IsAmong y done → (g : History) → Agrees y.row a g → (x : Step) (e : Event) → IsAmong x (steps_by d a g) → next_event a g x ≡ Some e → (h : History) × IsAmong (schedule_in y.of ++ x ∷ []) more × (run a (schedule_in y.of ++ x ∷ []) ≡ Some h) × (shown a h ≡ shown a (e ∷ g))
-
-  abbrev pub LevelSoFar : List Visit → List Visit → Findings → Type 0
-  LevelSoFar done next findings = (a : Program) (k : ℕ) (visited : List (List Step)) → AreAt d Agrees a k done → ComeInOrder done → begun ≡ findings_among flags a visited → GoesOnSoFar a k visited done next findings
-
-  pub level_none : LevelSoFar [] [] begun
+  pub level_none : LevelSoFar d Agrees flags begun [] [] begun
   level_none a k visited at in_order found = record {
     at = λ x there. absurd there;
     in_order = in_order;
@@ -74,10 +103,10 @@ module _ (d : Delivery) (Agrees : List ℕ → Program → History → Type 0) (
       let f : (e : Event) × (next_event a h b.from ≡ Some e) = some_event (next_event a h b.from) ((kept_passes (is_enabled a h) (possible_steps h) b.from (steps_enabled d a h b.from b.is_among)).0) in
       subst (λ t. (length t ≡ k + 1) × DeliversBy d a t × (g : History) × (run a t ≡ Some g)) b.is (longer path b.from ∙ ap (λ n. n + 1) len, delivers_more d a path b.from h delivers runs b.is_among, f.0 ∷ h, run_more a (Some []) path b.from h f.0 runs f.1)
 
-  pub level_more : (done : List Visit) (y : Visit) (old new : List Visit) (before after : Findings) → LevelSoFar done old before → Expands d Agrees flags y old new before after → LevelSoFar (done ++ y ∷ []) new after
+  pub level_more : (done : List Visit) (y : Visit) (old new : List Visit) (before after : Findings) → LevelSoFar d Agrees flags begun done old before → Expands d Agrees flags y old new before after → LevelSoFar d Agrees flags begun (done ++ y ∷ []) new after
   level_more done y old new before after so_far expands a k visited at in_order found =
       let by_schedules = λ (x z : Visit). order_of_schedules (schedule_in x.of) (schedule_in z.of) in
-      let p : GoesOnSoFar a k visited done old before = so_far a k visited (λ x there. at x (among_left done (y ∷ []) x there)) (sorted_front by_schedules done y in_order) found in
+      let p : GoesOnSoFar d Agrees flags a k visited done old before = so_far a k visited (λ x there. at x (among_left done (y ∷ []) x there)) (sorted_front by_schedules done y in_order) found in
       let y_at : IsAt d Agrees a k y = at y (among_right done (y ∷ []) y (inl refl)) in
       let h : History = y_at.2 in
       let q : ExpandsAt d Agrees flags a k h (visited ++ p.more) y old new after = expands a k h (visited ++ p.more) y_at.0 y_at.1 y_at.3 y_at.4 p.at p.in_order (p.before (schedule_in y.of) (before_last by_schedules done y in_order)) p.found in
@@ -125,7 +154,7 @@ module _ (d : Delivery) (Agrees : List ℕ → Program → History → Type 0) (
   fronts : (k : ℕ) (s front : List Step) (x : Step) → s ≡ front ++ x ∷ [] → length s ≡ k + 1 → length front ≡ k
   fronts k s front x is len = let e : length front + 1 ≡ k + 1 = sym (longer front x) ∙ sym (ap length is) ∙ len in omega (arith, e)
 
-  pub goes_on : (level next : List Visit) (after : Findings) → LevelSoFar level next after → GoesOn d Agrees flags level next begun after
+  pub goes_on : (level next : List Visit) (after : Findings) → LevelSoFar d Agrees flags begun level next after → GoesOn d Agrees flags level next begun after
   goes_on level next after so_far a k l = record {
     at = p.at;
     in_order = p.in_order;
@@ -135,7 +164,7 @@ module _ (d : Delivery) (Agrees : List ℕ → Program → History → Type 0) (
     found = p.found;
   }
     where
-      p : GoesOnSoFar a k l.visited level next after
+      p : GoesOnSoFar d Agrees flags a k l.visited level next after
       p = so_far a k l.visited l.at l.in_order l.found
 
       covers : (s : List Step) (h : History) → length s ≡ k + 1 → DeliversBy d a s → run a s ≡ Some h → IsCovered Agrees a next s h

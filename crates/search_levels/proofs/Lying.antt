@@ -5,11 +5,11 @@ use Rattle.std.proofs.Math.Seq.{drop-append_seam}
 use Rattle.search_levels.specs.Rows.{Entry, LieWithin, entries_in}
 use Rattle.search_levels.specs.declared.span.Span.{Span}
 
-range_more : (xs ys : List ℕ) (a b : ℕ) → a ≤ b → b ≤ length xs → slice_range (xs ++ ys) a b ≡ slice_range xs a b
+pub range_more : {X : Type 0} (xs ys : List X) (a b : ℕ) → a ≤ b → b ≤ length xs → slice_range (xs ++ ys) a b ≡ slice_range xs a b
 range_more xs ys a b less within =
     ap (take (b - a)) (drop-append-le a xs ys (omega (arith, less, within))) ∙ take-append-le (b - a) (drop a xs) ys (omega (arith, length-drop a xs, less, within))
 
-range_last : (xs ys : List ℕ) (a b : ℕ) → a ≡ length xs → b ≡ length xs + length ys → slice_range (xs ++ ys) a b ≡ ys
+pub range_last : {X : Type 0} (xs ys : List X) (a b : ℕ) → a ≡ length xs → b ≡ length xs + length ys → slice_range (xs ++ ys) a b ≡ ys
 range_last xs ys a b is_start is_end =
     ap (λ n. take (b - a) (drop n (xs ++ ys))) is_start ∙ ap (take (b - a)) (drop-append_seam xs ys) ∙ take_all (b - a) ys (omega (arith, is_start, is_end))
 

@@ -86,6 +86,9 @@ module _ (Agrees : List ℕ → Program → History → Type 0) (flags : Flags) 
   pub level_none : (d : Delivery) (level : List Visit) (begun : Findings) → NotesLevel d Agrees flags level begun begun
   level_none d level begun a k at = notes_none flags d a (k + 1) begun begun refl
 
+  pub level_both : (d : Delivery) (level : List Visit) (begun before after : Findings) → NotesLevel d Agrees flags level begun before → NotesLevel d Agrees flags level before after → NotesLevel d Agrees flags level begun after
+  level_both d level begun before after so_far more a k at = notes_both flags d a (k + 1) begun before after (so_far a k at) (more a k at)
+
   pub level_more : (d : Delivery) (level : List Visit) (x : Visit) (begun before after : Findings) → IsAmong x level → NotesLevel d Agrees flags level begun before → NotesArrivals d Agrees flags x before after → NotesLevel d Agrees flags level begun after
   level_more d level x begun before after there so_far more a k at =
       let is : IsAt d Agrees a k x = at x there in

@@ -3,3 +3,4 @@ pub mod Visits
 pub mod Levels
 pub mod Expanding
 pub mod Searching
+pub mod Following

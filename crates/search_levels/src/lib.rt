@@ -2,14 +2,17 @@
 // which is the least. Signals are delivered at any time in these schedules, or at once.
 #![tactic(auto)]
 
+pub(crate) mod advancing;
 pub mod arrival;
 pub(crate) mod expanding;
+pub(crate) mod following;
 pub mod index;
-pub(crate) mod level;
+pub(crate) mod indexed;
 pub mod observer;
 pub(crate) mod path;
 pub mod rows;
 pub mod search;
+pub(crate) mod share;
 pub mod span;
 pub mod worlds;
 

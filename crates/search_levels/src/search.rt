@@ -8,12 +8,14 @@ ghost use Rattle.search_levels.specs.inside.Levels.{AreOf};
 ghost use Rattle.search_levels.specs.inside.Searching.{Begins, ComesTo, TellsOpen};
 ghost use Rattle.world_identities.specs.Identities.{flags_in, identity_in};
 
-use crate::expanding::{next_level, note};
-use crate::level::Level;
+use crate::advancing::next_level;
+use crate::expanding::note;
+use crate::indexed::Indexed;
 use crate::observer::LevelObserver;
 use crate::path::Path;
 use crate::worlds::Worlds;
 use std::alloc::{AllocError, Global};
+use std::thread::Threads;
 use tree_findings::{Cause, Extent, Findings, Outcome};
 use tree_schedules::Delivery;
 use world_identities::{Flags, Identity};
@@ -29,6 +31,8 @@ pub struct Bounds {
     pub depth: u64,
     /// How many states may be found.
     pub states: u64,
+    /// How many threads may follow states at once.
+    pub threads: usize,
 }
 
 /// What a search by states results in.
@@ -48,25 +52,29 @@ fn first_level<W: Worlds>(
     first: &[u32],
     digest: u64,
     left: &mut u64,
-) -> Result<Level, Cause>
-    ensures begins { IfOk result (λ level. (k : W) (m : ModuleTree) → Begins (of_module (W.agrees k) m) first.now level.states) }
-    ensures of_known { IfOk result (λ level. (k : W) → W.is_of k first.now → AreOf (W.is_of k) level.states) }
+) -> Result<Indexed<Path>, Cause>
+    ensures begins { IfOk result (λ level. (k : W) (m : ModuleTree) → Begins (of_module (W.agrees k) m) first.now level.rows) }
+    ensures of_known { IfOk result (λ level. (k : W) → W.is_of k first.now → AreOf (W.is_of k) level.rows) }
     ensures fewer { left.new ≤ left.old }
 {
-    let mut level = Level::new(alloc);
+    let mut level = Indexed::new(alloc);
     level.put(Path::Start, first, digest, left)?;
     Ok(level)
 }
 
 // At how many states of a level a step is enabled. `AllocError` if there is no memory to decide it.
-fn count_open<W: Worlds>(alloc: Global, worlds: &mut W, level: &Level) -> Result<u64, AllocError>
-    requires { AreOf (W.is_of worlds.old) level.now.states }
-    ensures tells { IfOk result (λ count. FromNowOn W.follows worlds.new (λ k m. TellsOpen (of_module (W.agrees k) m) level.now.states count)) }
+fn count_open<W: Worlds>(
+    alloc: Global,
+    worlds: &mut W,
+    level: &Indexed<Path>,
+) -> Result<u64, AllocError>
+    requires { AreOf (W.is_of worlds.old) level.now.rows }
+    ensures tells { IfOk result (λ count. FromNowOn W.follows worlds.new (λ k m. TellsOpen (of_module (W.agrees k) m) level.now.rows count)) }
     ensures grows { Grows W.is_of W.follows worlds.old worlds.new }
 {
     let mut count = 0;
-    for place in 0..level.states.len() {
-        if worlds.goes_on(alloc, level.states.at(place).row)? {
+    for place in 0..level.rows.len() {
+        if worlds.goes_on(alloc, level.rows.at(place).row)? {
             count += 1;
         }
     }
@@ -87,13 +95,13 @@ fn whole<W: Worlds>(
     alloc: Global,
     worlds: &mut W,
     bounds: Bounds,
-    level: &Level,
+    level: &Indexed<Path>,
     left: u64,
     findings: Findings,
 ) -> Searched
     requires fewer { left ≤ bounds.states }
-    requires of_known { AreOf (W.is_of worlds.old) level.now.states }
-    ensures comes_to { FromNowOn W.follows worlds.new (λ k m. ComesTo bounds.delivery (of_module (W.agrees k) m) (flags_in bounds.flags) bounds.depth bounds.states level.now.states findings result) }
+    requires of_known { AreOf (W.is_of worlds.old) level.now.rows }
+    ensures comes_to { FromNowOn W.follows worlds.new (λ k m. ComesTo bounds.delivery (of_module (W.agrees k) m) (flags_in bounds.flags) bounds.depth bounds.states level.now.rows findings result) }
     ensures grows { Grows W.is_of W.follows worlds.old worlds.new }
 {
     let whole_to = bounds.depth;
@@ -120,7 +128,8 @@ fn whole<W: Worlds>(
 /// # Errors
 ///
 /// `AllocError` where there was no memory for what is shown before anything happens.
-pub fn search_levels<W: Worlds, O: LevelObserver>(
+pub fn search_levels<W: Worlds + Sync, T: Threads + Sync, O: LevelObserver>(
+    rt: &T,
     alloc: Global,
     bounds: Bounds,
     worlds: &mut W,
@@ -141,10 +150,12 @@ pub fn search_levels<W: Worlds, O: LevelObserver>(
         Err(cause) => return Ok(stopped(cause, findings, 0)),
     };
     let mut steps = 0;
-    while steps < bounds.depth && level.states.len() != 0 {
+    while steps < bounds.depth && level.rows.len() != 0 {
         observer.level(steps);
         match next_level(
+            rt,
             alloc,
+            bounds.threads,
             worlds,
             bounds.flags,
             bounds.delivery,

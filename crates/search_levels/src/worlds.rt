@@ -7,7 +7,7 @@ use tree_schedules::Delivery;
 /// What is known of all worlds of a search, each of which is a row of numbers. It only grows while the search goes on. The
 /// world of a row agrees with what happened there, and maybe with more that happened elsewhere.
 pub trait Worlds: Sized {
-    ghost use Rattle.std.specs.Prelude.{◌≡◌, ℕ, List, IfOk, OnOk};
+    ghost use Rattle.std.specs.Prelude.{◌≡◌, ℕ, List, true, IfOk, OnOk};
     ghost use Rattle.std.specs.List.{AllByRecursion};
     ghost use Rattle.search_levels.specs.Arrivals.{AreArrivals, has_step, of_module};
     ghost use Rattle.search_levels.specs.Known.{FromNowOn, Grows};
@@ -45,4 +45,18 @@ pub trait Worlds: Sized {
         ensures arrivals { OnOk result (FromNowOn follows self.new (λ k m. (h : History) → agrees k row.now m h → AreArrivals delivery (of_module (agrees k) m) (program_of m) h into.new)) }
         ensures of_known { OnOk result (AllByRecursion (λ r. is_of self.new r.row) into.new) }
         ensures grows { Grows is_of follows self.old self.new };
+
+    /// As `arrivals`, but nothing is learned: `false` where something is not known that would be needed; then what is put is of
+    /// no use.
+    fn known_arrivals(
+        &self,
+        alloc: Global,
+        delivery: Delivery,
+        row: &[u32],
+        digest: u64,
+        into: &mut Rows<Arrival>,
+    ) -> Result<bool, AllocError>
+        requires { is_of self.now row.now }
+        ensures arrivals { IfOk result (λ is_known. is_known ≡ true → FromNowOn follows self.now (λ k m. (h : History) → agrees k row.now m h → AreArrivals delivery (of_module (agrees k) m) (program_of m) h into.new)) }
+        ensures of_known { IfOk result (λ is_known. is_known ≡ true → AllByRecursion (λ r. is_of self.now r.row) into.new) };
 }

@@ -76,3 +76,29 @@ NotesArrivals d Agrees flags from before after =
 -- after steps from the states of a level
 abbrev pub NotesLevel : Delivery → (List ℕ → Program → History → Type 0) → Flags → List Visit → Findings → Findings → Type 0
 NotesLevel d Agrees flags level before after = (a : Program) (k : ℕ) → AreAt d Agrees a k level → NotesSome flags d a (k + 1) before after
+
+-- ---- several states
+
+-- the states so far are expanded: what is after all steps that may be taken from them is covered, the level comes in order up to the schedules that go on from what comes later, and what is shown there is found
+pub record GoesOnSoFar (d : Delivery) (Agrees : List ℕ → Program → History → Type 0) (flags : Flags) (a : Program) (k : ℕ) (visited : List (List Step)) (done : List Visit) (next : List Visit) (findings : Findings) : Type 0 where
+  pub at : AreAt d Agrees a (k + 1) next
+  pub in_order : ComeInOrder next
+  pub before : (s : List Step) → AreBefore done s → AreBeforeNext next s
+  pub covers : (y : Visit) → IsAmong y done → (s : List Step) (g : History) → Agrees y.row a g → (x : Step) (e : Event) → IsAmong x (steps_by d a g) → next_event a g x ≡ Some e → IsUpTo (schedule_in y.of ++ x ∷ []) s → IsCovered Agrees a next s (e ∷ g)
+  pub more : List (List Step)
+  pub found : findings ≡ findings_among flags a (visited ++ more)
+  pub runs : (s : List Step) → IsAmong s more → (length s ≡ k + 1) × DeliversBy d a s × (h : History) × (run a s ≡ Some h)
+  pub shows : (y : Visit) → IsAmong y done → (g : History) → Agrees y.row a g → (x : Step) (e : Event) → IsAmong x (steps_by d a g) → next_event a g x ≡ Some e → (h : History) × IsAmong (schedule_in y.of ++ x ∷ []) more × (run a (schedule_in y.of ++ x ∷ []) ≡ Some h) × (shown a h ≡ shown a (e ∷ g))
+
+-- so it is with the level that is made and what is found, where the states come in order
+abbrev pub LevelSoFar : Delivery → (List ℕ → Program → History → Type 0) → Flags → Findings → List Visit → List Visit → Findings → Type 0
+LevelSoFar d Agrees flags begun done next findings = (a : Program) (k : ℕ) (visited : List (List Step)) → AreAt d Agrees a k done → ComeInOrder done → begun ≡ findings_among flags a visited → GoesOnSoFar d Agrees flags a k visited done next findings
+
+-- where some more states are expanded
+abbrev pub GoesFrom : Delivery → (List ℕ → Program → History → Type 0) → Flags → (done more : List Visit) → (old new : List Visit) → (before after : Findings) → Type 0
+GoesFrom d Agrees flags done more old new before after = (begun : Findings) → LevelSoFar d Agrees flags begun done old before → LevelSoFar d Agrees flags begun more new after
+
+-- after some of these steps from a state to which this schedule leads
+abbrev pub NotesAll : (List ℕ → Program → History → Type 0) → Flags → List Step → List Arrived → Findings → Findings → Type 0
+NotesAll Agrees flags schedule rs before after =
+    (d : Delivery) (a : Program) (k : ℕ) (h : History) → length schedule ≡ k → DeliversBy d a schedule → run a schedule ≡ Some h → ((r : Arrived) → IsAmong r rs → MayArrive d Agrees a h r) → NotesSome flags d a (k + 1) before after

@@ -48,7 +48,3 @@ IsCovered Agrees a level s h = (x : Visit) × IsAmong x level × Agrees x.row a 
 -- what one level covers, another one covers
 abbrev pub Keeps : (List ℕ → Program → History → Type 0) → Program → List Visit → List Visit → Type 0
 Keeps Agrees a old new = (s : List Step) (h : History) → IsCovered Agrees a old s h → IsCovered Agrees a new s h
-
--- this is the row of a state of the level
-abbrev pub HasRow : List Visit → List ℕ → Type 0
-HasRow level row = (x : Visit) × IsAmong x level × (x.row ≡ row)

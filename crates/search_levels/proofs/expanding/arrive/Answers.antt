@@ -4,6 +4,7 @@ use Rattle.search_levels.specs.Arrivals.{of_module}
 use Rattle.search_levels.specs.inside.Paths.{schedule_in}
 use Rattle.search_levels.specs.inside.Visits.{Visit, entry_of}
 use Rattle.search_levels.proofs.Arriving.{arrives_at}
+use Rattle.search_levels.proofs.Merging.{put_last}
 use Rattle.search_levels.proofs.Noting.{is_empty, one_arrival}
 use Rattle.search_levels.proofs.Putting.{is_there, puts_after, takes_last}
 use Rattle.term_core.specs.declared.step.Step.{Step}
@@ -22,7 +23,7 @@ returns-then-is_empty-clause-arrives g c = λ known m.
     let flags = flags_in c.args.flags in
     let from = schedule_in c.args.from.now in
     let schedule = from ++ c.args.to.of.now.step ∷ [] in
-    let level = c.args.level.now.states in
+    let level = c.args.level.now.rows in
     let findings = c.args.findings.now in
     let there = c.has-is_there.ensures c.if-is_there.true in
     let none : c.args.to.of.now.shown.items ≡ [] = is_empty c.args.to.of.now.shown.items _ c.args.to.of.now.shown.ok.0 (sym c.if-is_empty.true ∙ c.is_empty.ensures) in
@@ -34,7 +35,7 @@ returns-then-is_there-2-clause-arrives g c = λ known m.
     let Agrees = of_module (g.W.Worlds.agrees known) m in
     let flags = flags_in c.args.flags in
     let schedule = schedule_in c.in_ok-path.path in
-    let level = c.args.level.now.states in
+    let level = c.args.level.now.rows in
     let old = c.args.findings.now in
     let new = c.note.new.findings in
     let there = c.has-is_there.ensures c.if-is_there-2.true in
@@ -55,8 +56,8 @@ returns-clause-arrives g c =
     let flags = flags_in c.args.flags in
     let path = c.in_ok-path.path in
     let visit : Visit = record { of = path; row = c.args.to.row.now } in
-    let level = c.args.level.now.states in
-    let more = c.put.new.self.states in
+    let level = c.args.level.now.rows in
+    let more = c.put.new.self.rows in
     let old = c.args.findings.now in
     let new = c.note.new.findings in
     let adds = subst (λ is. AddsSchedule flags (schedule_in path) (map identity_in is) old new) c.as_slice.ensures.value c.in_ok-note.ensures.ok in
@@ -75,4 +76,9 @@ returns-clause-notes g c = λ known m.
 pub returns-clause-of_known : goal.returns-clause-of_known
 returns-clause-of_known g c =
     let visit : Visit = record { of = c.in_ok-path.path; row = c.args.to.row.now } in
-    on_ok_weaker c.put.result (λ puts known. takes_last (g.W.Worlds.is_of known) c.args.level.now.states c.put.new.self.states visit puts) c.put.ensures.puts
+    on_ok_weaker c.put.result (λ puts known. takes_last (g.W.Worlds.is_of known) c.args.level.now.rows c.put.new.self.rows visit puts) c.put.ensures.puts
+
+pub returns-clause-rows : goal.returns-clause-rows
+returns-clause-rows g c =
+    let visit : Visit = record { of = c.in_ok-path.path; row = c.args.to.row.now } in
+    on_ok_weaker c.put.result (λ puts. put_last c.args.level.now.rows c.put.new.self.rows visit puts) c.put.ensures.puts

@@ -19,11 +19,11 @@ loop-place-init g c = record {
 pub goes_on-requires : goal.goes_on-requires
 goes_on-requires g c =
     let y = entry_of c.at.result in
-    c.loop-place.invariant.grows.keeps y.row (c.requires y (element c.args.level.now.states c.loop-place.place y c.at.ensures))
+    c.loop-place.invariant.grows.keeps y.row (c.requires y (element c.args.level.now.rows c.loop-place.place y c.at.ensures))
 
 pub loop-place-preserved : goal.loop-place-preserved
 loop-place-preserved g c =
-    let level = c.args.level.now.states in
+    let level = c.args.level.now.rows in
     let i = c.loop-place.place in
     let y = entry_of c.at.result in
     let done = take i level in
@@ -48,5 +48,5 @@ returns-in_err-goes_on-clause-grows g c = grows_on c.loop-place.invariant.grows 
 
 pub returns-clause-tells : goal.returns-clause-tells
 returns-clause-tells g c = λ known later m.
-    let level = c.args.level.now.states in
+    let level = c.args.level.now.rows in
     subst (λ xs. TellsOpen (of_module (g.W.Worlds.agrees known) m) xs c.loop-place.count) (take_all c.loop-place.place level (omega (arith, c.loop-place-test.false, c.len-place-end.ensures))) (c.loop-place.invariant.tells known later m)

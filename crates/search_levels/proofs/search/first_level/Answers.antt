@@ -15,4 +15,4 @@ returns-clause-begins g c = λ known m.
     subst (Begins Agrees c.args.first.now) (sym (c.in_ok-put.ensures.puts ∙ ap (λ level. level ++ first ∷ []) c.new-level.ensures)) (begins Agrees first refl)
 
 pub returns-clause-of_known : goal.returns-clause-of_known
-returns-clause-of_known g c = λ known is. takes_last (g.W.Worlds.is_of known) c.new-level.result.states c.put.new.self.states (record { of = Start; row = c.args.first.now }) c.in_ok-put.ensures.puts (λ x there. absurd (subst (IsAmong x) c.new-level.ensures there)) is
+returns-clause-of_known g c = λ known is. takes_last (g.W.Worlds.is_of known) c.new-level.result.rows c.put.new.self.rows (record { of = Start; row = c.args.first.now }) c.in_ok-put.ensures.puts (λ x there. absurd (subst (IsAmong x) c.new-level.ensures there)) is
