@@ -44,7 +44,8 @@ fn search_by_tree<T: Threads + Wait + Sync, O: Observer + Sync>(
 }
 
 // Follows all schedules by their states, with this delivery of signals.
-fn search_by_states<O: Observer>(
+fn search_by_states<T: Threads + Sync, O: Observer>(
+    rt: &T,
     alloc: Global,
     program: &Module,
     options: &Options,
@@ -55,7 +56,7 @@ fn search_by_states<O: Observer>(
     ensures exact { IfOk result (λ found. IsExactBy delivery (explored_by program.now options.now) found.outcome) }
     ensures whole { IfOk result (λ found. IsWholeBy delivery (explored_by program.now options.now) found.outcome) }
 {
-    let searched = search_states(alloc, program, options, delivery, &Watched { observer })?;
+    let searched = search_states(rt, alloc, program, options, delivery, &Watched { observer })?;
     Ok(Explored {
         outcome: searched.outcome,
         visited: Visited::States {
@@ -85,7 +86,7 @@ pub(crate) fn search_schedules<T: Threads + Wait + Sync, O: Observer + Sync>(
     match options.search {
         Search::ByTree => search_by_tree(rt, alloc, program, options, observer),
         Search::ByStates(delivery) => {
-            search_by_states(alloc, program, options, delivery, observer)
+            search_by_states(rt, alloc, program, options, delivery, observer)
         }
     }
 }

@@ -11,7 +11,8 @@ use crate::rows::{Rows, Seen};
 use crate::share::Share;
 use crate::worlds::Worlds;
 use std::alloc::{AllocError, Global};
-use std::thread::{Threads, map_indices};
+use std::thread;
+use std::thread::Threads;
 use tree_schedules::Delivery;
 
 /// What follows some states, one after the other, and for each state where what follows it ends; `None` where it is not
@@ -82,7 +83,7 @@ pub(crate) fn follow<W: Worlds>(
 {
     let mut kept = Indexed::new(alloc);
     let mut arrivals = Rows::new(alloc);
-    let mut ends = Vec::with_capacity(alloc, last - first)?;
+    let mut ends = Vec::new(alloc);
     for place in first..last {
         let from = level.rows.at(place);
         ends.push(follow_one(alloc, worlds, delivery, from, &mut arrivals, &mut kept)?)?;
@@ -127,7 +128,7 @@ pub(crate) fn follow_all<W: Worlds + Sync, T: Threads + Sync>(
     ensures count { IfOk result (λ followed. vec_len followed ≡ length shares.now) }
     ensures each { IfOk result (λ followed. (i : ℕ) (r : _) → i < length shares.now → slice_get followed.items i ≡ Some r → FollowsShare (AreKnownArrivals W.agrees W.is_of W.follows worlds.now delivery) level.now.rows shares.now i r) }
 {
-    map_indices(
+    thread::map_indices(
         rt,
         alloc,
         shares.len(),

@@ -10,18 +10,21 @@ use core_tree::Module;
 use search_levels::{Bounds, LevelObserver, Searched, search_levels};
 use search_numbers::Known;
 use std::alloc::{AllocError, Global};
+use std::thread::Threads;
 use tree_findings::Options;
 use tree_schedules::Delivery;
 
 /// Follows all schedules of a module that deliver signals at any time, or all that deliver them at once, level by level
 /// over its states, within the depth and the limit of states of the options: the states to which such schedules of so many
 /// steps lead are those of one level, and where several lead to states that are the same the least goes on.
-/// `search_levels` says what the outcome is. The observer is informed of each level and of each state.
+/// `search_levels` says what the outcome is. As many threads as the options have workers follow the states of a large level
+/// at once, and change nothing of the outcome. The observer is informed of each level and of each state.
 ///
 /// # Errors
 ///
 /// `AllocError` where there was no memory for the first state and what is shown there.
-pub fn search_states<O: LevelObserver>(
+pub fn search_states<T: Threads + Sync, O: LevelObserver>(
+    rt: &T,
     alloc: Global,
     program: &Module,
     options: &Options,
@@ -38,7 +41,8 @@ pub fn search_states<O: LevelObserver>(
         delivery,
         depth: options.depth,
         states: options.nodes,
+        threads: options.workers as usize,
     };
     let mut worlds = Numbered { known };
-    search_levels(alloc, bounds, &mut worlds, &[], 0, shown.as_slice(), observer)
+    search_levels(rt, alloc, bounds, &mut worlds, &[], 0, shown.as_slice(), observer)
 }

@@ -153,13 +153,14 @@ fn finds<T: Threads + Wait + Sync>(
 }
 
 // Whether the exploration by states to a depth finds this, as an error or as a refusal.
-fn finds_by_states(
+fn finds_by_states<T: Threads + Sync>(
+    rt: &T,
     alloc: Global,
     program: &Module,
     depth: u64,
     wanted: &str,
 ) -> Result<bool, Fail> {
-    match followed(alloc, program, Delivery::AnyTime, depth)?.outcome {
+    match followed(rt, alloc, program, Delivery::AnyTime, depth)?.outcome {
         Outcome::Complete(found, _) => {
             Ok(lists(alloc, found.errors(), wanted)? || lists(alloc, found.refusals(), wanted)?)
         }
@@ -186,7 +187,7 @@ fn are_shown_and_found<T: Threads + Wait + Sync>(
             wanted,
         )?;
         holds(
-            finds_by_states(alloc, &program, steps.len() as u64, wanted)?,
+            finds_by_states(rt, alloc, &program, steps.len() as u64, wanted)?,
             wanted,
         )?;
     }

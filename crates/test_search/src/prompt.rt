@@ -4,6 +4,7 @@ use crate::states::{STATES, complete, followed, listed};
 use core_reader::{Module, read_module};
 use std::alloc::Global;
 use std::test::Fail;
+use std::thread::Threads;
 use test_support::same;
 use tree_findings::{Extent, FindingList};
 use tree_schedules::Delivery;
@@ -48,43 +49,49 @@ const INHERITED: Row = (
 );
 
 // Whether the search of a module that delivers signals so lists this.
-fn lists(alloc: Global, module: &str, delivery: Delivery, wanted: &str) -> Result<(), Fail> {
+fn lists<T: Threads + Sync>(
+    rt: &T,
+    alloc: Global,
+    module: &str,
+    delivery: Delivery,
+    wanted: &str,
+) -> Result<(), Fail> {
     let program = read_module(alloc, module.as_bytes())?;
-    let (found, _) = complete(followed(alloc, &program, delivery, 60)?.outcome)?;
+    let (found, _) = complete(followed(rt, alloc, &program, delivery, 60)?.outcome)?;
     let list = listed(alloc, 60, found)?;
     same(list.as_slice(), wanted.as_bytes())
 }
 
 // Whether a module shows what its row says.
-fn shows(alloc: Global, row: Row) -> Result<(), Fail> {
+fn shows<T: Threads + Sync>(rt: &T, alloc: Global, row: Row) -> Result<(), Fail> {
     let (module, at_once, any_time) = row;
-    lists(alloc, module, Delivery::AtOnce, at_once)?;
-    lists(alloc, module, Delivery::AnyTime, any_time)
+    lists(rt, alloc, module, Delivery::AtOnce, at_once)?;
+    lists(rt, alloc, module, Delivery::AnyTime, any_time)
 }
 
 #[test]
 fn messages_of_two_senders_come_as_they_were_sent(rt: HostRuntime) -> Result<(), Fail> {
-    shows(rt.alloc(), OVERTAKEN)
+    shows(&rt, rt.alloc(), OVERTAKEN)
 }
 
 #[test]
 fn a_message_to_oneself_is_there_at_once(rt: HostRuntime) -> Result<(), Fail> {
-    shows(rt.alloc(), OWN)
+    shows(&rt, rt.alloc(), OWN)
 }
 
 #[test]
 fn who_is_killed_takes_no_later_message(rt: HostRuntime) -> Result<(), Fail> {
-    shows(rt.alloc(), KILLED)
+    shows(&rt, rt.alloc(), KILLED)
 }
 
 #[test]
 fn who_is_linked_ends_at_once(rt: HostRuntime) -> Result<(), Fail> {
-    shows(rt.alloc(), LINKED)
+    shows(&rt, rt.alloc(), LINKED)
 }
 
 #[test]
 fn an_heir_has_its_table_at_once(rt: HostRuntime) -> Result<(), Fail> {
-    shows(rt.alloc(), INHERITED)
+    shows(&rt, rt.alloc(), INHERITED)
 }
 
 // Whether an identity is among those of a list.
@@ -105,9 +112,14 @@ fn are_among(some: &FindingList, all: &FindingList) -> bool {
 }
 
 // Whether what prompt schedules of a module show is found among all, within this depth.
-fn shows_no_more(alloc: Global, program: &Module, depth: u64) -> Result<(), Fail> {
-    let (prompt, _) = complete(followed(alloc, program, Delivery::AtOnce, depth)?.outcome)?;
-    let (all, _) = complete(followed(alloc, program, Delivery::AnyTime, depth)?.outcome)?;
+fn shows_no_more<T: Threads + Sync>(
+    rt: &T,
+    alloc: Global,
+    program: &Module,
+    depth: u64,
+) -> Result<(), Fail> {
+    let (prompt, _) = complete(followed(rt, alloc, program, Delivery::AtOnce, depth)?.outcome)?;
+    let (all, _) = complete(followed(rt, alloc, program, Delivery::AnyTime, depth)?.outcome)?;
     if are_among(prompt.errors(), all.errors()) && are_among(prompt.refusals(), all.refusals()) {
         return Ok(());
     }
@@ -118,7 +130,7 @@ fn shows_no_more(alloc: Global, program: &Module, depth: u64) -> Result<(), Fail
 fn prompt_schedules_show_no_more_than_all(rt: HostRuntime) -> Result<(), Fail> {
     for (text, depth) in EXPLORED {
         let program = read_module(rt.alloc(), text.as_bytes())?;
-        shows_no_more(rt.alloc(), &program, depth)?;
+        shows_no_more(&rt, rt.alloc(), &program, depth)?;
     }
     Ok(())
 }
@@ -128,7 +140,7 @@ fn prompt_schedules_show_no_more_than_all(rt: HostRuntime) -> Result<(), Fail> {
 fn a_line_has_the_same_states_at_once(rt: HostRuntime) -> Result<(), Fail> {
     let program = read_module(rt.alloc(), LINE.as_bytes())?;
     for (depth, nodes, cut) in STATES {
-        let searched = followed(rt.alloc(), &program, Delivery::AtOnce, depth)?;
+        let searched = followed(&rt, rt.alloc(), &program, Delivery::AtOnce, depth)?;
         assert_eq!(rt; searched.whole_to, depth, "{depth}");
         let (_, extent) = complete(searched.outcome)?;
         assert_eq!(rt; extent, Extent { nodes, cut }, "{depth}");
