@@ -10,7 +10,7 @@
 
 %% An error is {Key, Identity, Told, Overtakes}: its key, what it is, all that is shown of its transcript, and whether it needs
 %% that signals overtake. This gives the keys in groups, {Key, Followers}: each cause with the errors that follow from it,
-%% {Key, Why}, those with shorter schedules first. A cause stands behind those that its schedule shows on its way.
+%% {Key, Why}, those with shorter schedules first. A cause comes after those that its schedule shows on its way.
 groups(Errors) ->
     Sorted = lists:sort(fun(A, B) -> length_of(A) =< length_of(B) end, Errors),
     Roots = lists:foldl(fun(Error, Found) -> Found#{key(Error) => root(Error, Errors, Found)} end, #{}, Sorted),
@@ -22,7 +22,7 @@ key({Key, _, _, _}) -> Key.
 
 events({_, _, #{events := Events}, _}) -> Events.
 
-%% How long a schedule is. A deadlock is there behind the last end, which is an error of as many events.
+%% How long a schedule is. A deadlock is there after the last end, which is an error of as many events.
 length_of({_, Identity, _, _} = Error) -> {length(events(Error)), element(1, Identity) =:= deadlock}.
 
 %% The first cause of an error, with why it follows: {Key, Why}. It is itself one where Why is none. The roots of errors with
