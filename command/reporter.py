@@ -29,7 +29,8 @@ class Reporter:
         return [os.fsdecode(line) for line in (self.room / "spelled").read_bytes().split(b"\n")[:-1]]
 
     def report(self, asked: str) -> Optional[bytes]:
-        """The report of what is in the folder, or none where it cannot be made. `asked` is `explore COVERAGE` or `replay`."""
+        """The report of what is in the folder, or none where it cannot be made. `asked` is `explore COVERAGE MOST` or
+        `replay`."""
         status, told = self._ended(f"{asked}\n".encode())
         return told if status == 0 else None
 

@@ -10,8 +10,9 @@ from .program_report import Report
 from .reporter import Reporter
 
 
-def report_of(reporter: Reporter, explored: Explored, prompt: Optional[Report]) -> str:
-    """The report for people, with the mark of errors that no prompt report has."""
+def report_of(reporter: Reporter, explored: Explored, prompt: Optional[Report], most: int) -> str:
+    """The report for people, with the mark of errors that no prompt report has. At most so many states or nodes were to be
+    found."""
     room = reporter.room
     _write(room / "report", explored.report.titles)
     if prompt is not None:
@@ -21,7 +22,7 @@ def report_of(reporter: Reporter, explored: Explored, prompt: Optional[Report]) 
     for place, transcript in enumerate(explored.report.transcripts, 1):
         _write(transcripts / f"{place}", "".join(transcript.events))
         _write(transcripts / f"{place}.waits", "".join(transcript.waits))
-    return _told(reporter, f"explore {explored.coverage}")
+    return _told(reporter, f"explore {explored.coverage} {most}")
 
 
 def tell_replay(reporter: Reporter, printed: str) -> None:

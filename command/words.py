@@ -11,6 +11,8 @@ from .ending import NO_INPUT, Ended, misread
 from .options import APART, CONVERSION, FLAGS, OPTIONS, SEARCH
 
 ASKING = ("-h", "--help", "--version")
+# How many states or nodes the program finds at most where nothing is asked.
+MOST = 1_000_000
 
 
 @dataclass(frozen=True)
@@ -26,6 +28,7 @@ class Request:
     search: list[str]
     normal: list[str]
     depth: Optional[int]
+    nodes: int
     replay: Optional[str]
     drawings: str
     junit: Optional[str]
@@ -104,6 +107,7 @@ def read(words: Sequence[str]) -> Request:
         search=given.words_for(SEARCH),
         normal=given.values("--normal"),
         depth=None if depth is None else int(depth),
+        nodes=int(given.value("--nodes") or MOST),
         replay=given.value("--replay"),
         drawings=given.value("--svg") or "",
         junit=given.value("--junit"),

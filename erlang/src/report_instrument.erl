@@ -144,7 +144,8 @@ waiting(Tree) ->
     Notes = cerl:get_ann(Tree),
     Late = cerl:c_seq(ask([], not_taken, []), cerl:receive_action(Tree)),
     Receive = cerl:update_c_receive(Tree, cerl:receive_clauses(Tree), cerl:abstract(0), Late),
-    cerl:c_seq(ask(Notes, wait, [place(Tree), cerl:receive_timeout(Tree)]), Receive).
+    Kind = case cerl:receive_clauses(Tree) of [] -> sleep; _ -> 'receive' end,
+    cerl:c_seq(ask(Notes, wait, [place(Tree), cerl:abstract(Kind), cerl:receive_timeout(Tree)]), Receive).
 
 applied(Tree) ->
     counted(Tree, cerl:apply_args(Tree), fun(Arguments) ->

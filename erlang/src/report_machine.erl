@@ -4,13 +4,14 @@
 %% is. The machine is also a second witness: where it asks otherwise than the transcript says, that is reported.
 -module(report_machine).
 -export([load/1, play/2]).
--export([ask/4, wait/2, not_taken/0, back/0, applied/2, built/2, caught/2, raised/2]).
+-export([ask/4, wait/3, not_taken/0, back/0, applied/2, built/2, caught/2, raised/2]).
 -include("report.hrl").
 
 -record(played, {
     lines = #{},        % the place of each event, by its number
     stands = #{},       % the place where each process is that did not end, by its name
     limits = #{},       % the limit of the explorer that an event comes from, by its number: {Limit, Place}
+    times = #{},        % how many milliseconds a receive waited before its timeout, by the number of that event
     differs = []        % what the machine does otherwise
 }).
 
@@ -37,7 +38,7 @@ play(Module, Events) ->
                          #played{}, [{"P", first} | starts(Module, Events)]),
     [exit(Pid, kill) || Pid <- maps:values(Named), is_pid(Pid)],
     #{lines => Result#played.lines, stands => Result#played.stands, limits => Result#played.limits,
-      differs => lists:reverse(Result#played.differs)}.
+      times => Result#played.times, differs => lists:reverse(Result#played.differs)}.
 
 %% ---- names
 
@@ -102,6 +103,9 @@ listen(Name, {Pid, Watch} = Player, Ended, Played) ->
         {told, Pid, {line, Number, Place}} ->
             Lines = Played#played.lines,
             listen(Name, Player, Ended, Played#played{lines = Lines#{Number => Place}});
+        {told, Pid, {time, Number, Time}} ->
+            Times = Played#played.times,
+            listen(Name, Player, Ended, Played#played{times = Times#{Number => Time}});
         {told, Pid, {limit, Number, Limit, Place}} ->
             #played{lines = Lines, limits = Limits} = Played,
             Played#played{lines = Lines#{Number => Place}, limits = Limits#{Number => {Limit, Place}}};
@@ -165,8 +169,8 @@ answer({refused, "noproc"}) -> erlang:error(noproc);
 answer({refused, _}) -> erlang:error(badarg);
 answer({ends, _}) -> tell(ended), stop().
 
-%% A receive, before it looks for its message.
-wait(Place, Timeout) ->
+%% A receive, or a sleep, before it looks for its message.
+wait(Place, Kind, Timeout) ->
     is_timeout(Timeout) orelse erlang:error(timeout_value),
     Here = place(Place),
     put('$taken', none),
@@ -176,11 +180,18 @@ wait(Place, Timeout) ->
             tell({line, Number, Here}),
             put('$taken', Event),
             self() ! report_term:real(Term, get('$named'));
-        #event{number = Number, deed = timeout} when Timeout =/= infinity -> tell({line, Number, Here});
+        #event{number = Number, deed = timeout} when Timeout =/= infinity ->
+            tell({line, Number, Here}),
+            [tell({time, Number, Timeout}) || Timeout > 0, Kind =:= 'receive', not is_timer()];
         none -> tell({stands, Here}), stop();
         #event{deed = runaway} -> tell(ended), stop();
         Event -> differ(Event, "waits for a message")
     end.
+
+%% Whether a process is a timer of the library, whose time is none of a receive in the source.
+is_timer() ->
+    {current_stacktrace, Stack} = process_info(self(), current_stacktrace),
+    lists:any(fun({_, Function, _, _}) -> lists:prefix("timer ", atom_to_list(Function)) end, Stack).
 
 is_timeout(infinity) -> true;
 is_timeout(Timeout) -> is_integer(Timeout) andalso Timeout >= 0 andalso Timeout =< 16#ffffffff.

@@ -145,17 +145,20 @@ title(#finding{kind = Kind, number = Number, identity = Identity}) ->
 %% An error with all that leads to it, and a line for each that follows from it.
 error(Work, #finding{number = Number, identity = Identity, told = Told} = Error, Followers, Each) ->
     print(["\n", title(Error), "\n", report_text:overtakes(Error#finding.overtakes), report_text:limit(report_story:limit(Told)),
-           report_text:schedule(Error#finding.schedule),
+           report_text:timeouts(report_story:timeouts(Told), is_converted(Work)), report_text:schedule(Error#finding.schedule),
            report_text:earlier(report_story:earlier(Identity, Each, maps:get(events, Told))), report_text:transcript(Identity, Told),
            [report_text:follower(title(Follower), Why) || {Follower, Why} <- Followers]]),
     draw(Work, ["error_", integer_to_list(Number)], title(Error), Identity, Told).
+
+%% Whether the module was converted, so that --after-timeout may be given.
+is_converted(#work{source = Source}) -> filename:extension(Source) =/= ".core".
 
 %% All that is shown of a transcript: its events, their places, and what the processes are; to that come, of a finding, the
 %% processes that wait with what is in their mailboxes.
 told(Work, Text) ->
     Events = report_reader:transcript(Text),
     Played = case Work#work.module of
-        none -> #{lines => #{}, stands => #{}, limits => #{}, differs => []};
+        none -> #{lines => #{}, stands => #{}, limits => #{}, times => #{}, differs => []};
         Module -> report_machine:play(Module, Events)
     end,
     Played#{events => Events, places => report_story:places(Events, maps:get(lines, Played)),

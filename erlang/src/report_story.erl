@@ -1,6 +1,6 @@
 %% What a transcript says beyond its lines: what each process is, and which send a delivery comes from.
 -module(report_story).
--export([processes/1, roles/2, places/2, schedule/1, earlier/3, shown/1, spawned/1, limit/1]).
+-export([processes/1, roles/2, places/2, schedule/1, earlier/3, shown/1, spawned/1, limit/1, timeouts/1]).
 -include("report.hrl").
 
 %% The names of the processes, in the order in which they appear.
@@ -58,6 +58,14 @@ limit(#event{who = {From, _}, deed = {exit, Reason, {ends, Reason}}}, Events, Li
         [] -> none
     end;
 limit(#event{number = Number}, _, Limits) -> maps:get(Number, Limits, none).
+
+%% ---- timeouts
+
+%% The timeouts of receives that a transcript takes, {Milliseconds, Place, Event}: of several of one time and place the first.
+timeouts(#{times := Times, places := Places}) ->
+    Taken = [{{Time, maps:get(Number, Places, none)}, Number} || {Number, Time} <- maps:to_list(Times)],
+    First = maps:from_list(lists:reverse(lists:keysort(2, Taken))),
+    [{Time, Place, Number} || {{Time, Place}, Number} <- lists:keysort(2, maps:to_list(First))].
 
 %% ---- deliveries
 

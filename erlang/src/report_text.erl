@@ -1,10 +1,12 @@
 %% The report for people.
 -module(report_text).
 -export([call/3, deed/1, identity/1, place/1, role/2, waits/2, stands/2]).
--export([head/4, tail/5, doubts/1, schedule/1, limit/1, earlier/1, overtakes/1, follower/2, transcript/2, brief/3]).
+-export([head/4, tail/5, doubts/1, schedule/1, limit/1, timeouts/2, earlier/1, overtakes/1, follower/2, transcript/2, brief/3]).
 -include("report.hrl").
 
 -define(GREATEST_COLUMN, 76).
+%% What --nodes takes at most.
+-define(GREATEST_LIMIT, 10000000).
 
 %% A call as it is written in a source.
 call(erlang, '!', [To, Message]) -> [report_term:text(To), " ! ", report_term:text(Message)];
@@ -90,7 +92,7 @@ place({File, Line}) -> [File, ":", integer_to_list(Line)].
 %% The first line: what was explored.
 head(Source, Delivery, Coverage, Reach) -> [Source, ": ", explored(Coverage, of_delivery(Delivery), Reach), "\n"].
 
-explored(["all", _], Of, {complete, _, Count, What}) -> ["all schedules", Of, ", ", many(Count, What)];
+explored(["all" | _], Of, {complete, _, Count, What}) -> ["all schedules", Of, ", ", many(Count, What)];
 explored(_, Of, {complete, Depth, Count, What}) -> ["all schedules of at most ", steps(Depth), Of, ", ", many(Count, What)];
 explored(_, Of, {stopped, Depth, _}) -> ["not all schedules of at most ", steps(Depth), Of];
 explored(_, Of, {stopped, _, _, Whole}) -> ["all schedules of at most ", steps(Whole), Of, ", and not all longer ones"].
@@ -122,23 +124,32 @@ result(Result) ->
 delays("at-once") -> "schedules in which signals arrive later were not explored (--any-delay)\n";
 delays("any-delay") -> "".
 
-unexplored(["all", _], _, _, _) -> "";
-unexplored(["limit", Depth], _, {complete, _, _, _}, _) -> ["depth ", Depth, " has more nodes than may be visited (--nodes N)\n"];
-unexplored(["deepest", Depth], _, {complete, _, _, _}, _) -> ["no schedule is followed for more than ", steps(Depth), ": longer ones were not explored\n"];
+unexplored(["all" | _], _, _, _) -> "";
+unexplored(["limit", Depth, Most], _, {complete, Whole, _, _}, _) ->
+    ["depth ", Depth, " has more than the ", many(Most, "nodes"), " that may be visited (--nodes N)\n", helps([without_tree(), fewer(), below(Whole), more(Most)])];
+unexplored(["deepest", Depth, _], _, {complete, _, _, _}, _) -> ["no schedule is followed for more than ", steps(Depth), ": longer ones were not explored\n"];
 unexplored(_, _, {complete, _, _, _}, _) -> "longer schedules were not explored\n";
-unexplored(_, _, {stopped, Depth, Cause}, _) -> ["not all nodes were visited: ", Cause, " at depth ", Depth, "\n"];
-unexplored(_, Of, {stopped, _, Cause, Whole}, Counts) -> [why(Cause), "\n", found(Whole, Of, Counts), "\n", helps(Cause, Whole), "\n"].
+unexplored([_, _, Most], _, {stopped, Depth, "node limit"}, _) ->
+    ["there are more than the ", many(Most, "nodes"), " that may be visited to depth ", Depth, " (--nodes N)\n",
+     helps([without_tree(), fewer(), lower(), more(Most)])];
+unexplored(_, _, {stopped, Depth, Cause}, _) ->
+    ["not all nodes were visited: ", Cause, " at depth ", Depth, "\n", helps([without_tree(), fewer(), lower()])];
+unexplored([_, _, Most], Of, {stopped, _, "state limit", Whole}, Counts) ->
+    ["there are more than the ", many(Most, "states"), " that may be found (--nodes N)\n", found(Whole, Of, Counts), helps([fewer(), below(Whole), more(Most)])];
+unexplored(_, Of, {stopped, _, "memory", Whole}, Counts) -> ["memory ran out\n", found(Whole, Of, Counts), helps([fewer(), below(Whole)])].
 
-%% Why a search by states stopped, what it had found by then, and what makes it come to its end.
-why("state limit") -> "there are more states than may be found (--nodes N)";
-why("memory") -> "memory ran out".
+%% What a search by states had found when it stopped.
+found(Whole, Of, "errors 0," ++ _) -> ["no schedule of at most ", steps(Whole), Of, " shows an error, but longer ones may\n"];
+found(Whole, Of, _) -> ["each error that a schedule of at most ", steps(Whole), Of, " shows is listed, but longer ones may show more\n"].
 
-found(Whole, Of, "errors 0," ++ _) -> ["no schedule of at most ", steps(Whole), Of, " shows an error, but longer ones may"];
-found(Whole, Of, _) -> ["each error that a schedule of at most ", steps(Whole), Of, " shows is listed, but longer ones may show more"].
+%% What makes a search come to its end: what helps most, and costs least, is first.
+helps(Remedies) -> ["what helps, in this order: ", lists:join(", ", lists:append(Remedies)), "\n"].
 
-helps(Cause, Whole) ->
-    ["what helps: a --depth of at most ", Whole, ",", [" a greater --nodes," || Cause =:= "state limit"], " fewer processes",
-     " or messages, --after-timeout MS"].
+without_tree() -> ["a search without --tree"].
+fewer() -> ["fewer processes or messages", "--after-timeout MS where there are timeouts", "several small programs in the place of one"].
+below(Whole) -> ["a --depth of at most " ++ Whole].
+lower() -> ["a lower --depth"].
+more(Most) -> ["a greater --nodes" || list_to_integer(Most) < ?GREATEST_LIMIT].
 
 %% What makes the result doubtful, below it.
 doubts(Lines) -> [["but: ", Line, "\n"] || Line <- Lines].
@@ -159,6 +170,15 @@ limit_in_words(some) -> "a term may have 10,000 nodes, and an integer 64 bits".
 where(none) -> "";
 where({library, Module}) -> [" (in ", Module, ")"];
 where(Place) -> [" (", place(Place), ")"].
+
+%% The timeouts that an order takes, a line each, and how to explore without them. Another order may need none of them.
+timeouts(Taken, IsConverted) ->
+    [["  this order takes the timeout of ", integer_to_list(Time), " ms", at(Place), " (event ", integer_to_list(Event), ")",
+      ["; --after-timeout " ++ integer_to_list(Time) ++ " explores without it" || IsConverted], "\n"] || {Time, Place, Event} <- Taken].
+
+at(none) -> "";
+at({library, Module}) -> [" in ", Module];
+at(Place) -> [" at ", place(Place)].
 
 %% That no schedule shows an error in which signals arrive at once.
 overtakes(true) -> "  only if signals overtake\n";
