@@ -37,8 +37,9 @@ What is explored:
   --replay SCHEDULE    Shows what happens in one schedule, such as "P P P.1>P". Nothing is explored.
 
 What counts as an error:
-  --normal TERM        An end with this reason is no error. Write TERM as the report shows it: shutdown, {shutdown,1}.
-                       The option may be given up to 16 times.
+  --normal TERM        An end with this reason is no error. Write TERM as the report shows it: killed, {shutdown,1}.
+                       The option may be given up to 15 times.
+  --strict-ends        An end with the reason shutdown is an error too. Without this it is none, as --normal says.
   --main-deadlock      A deadlock is an error only where the first process waits in it.
   --allow-deadlock     No deadlock is an error.
   --strict-access      A refused call of a table that belongs to another process is an error too.

@@ -29,8 +29,8 @@ class Reporter:
         return [os.fsdecode(line) for line in (self.room / "spelled").read_bytes().split(b"\n")[:-1]]
 
     def report(self, asked: str) -> Optional[bytes]:
-        """The report of what is in the folder, or none where it cannot be made. `asked` is `explore COVERAGE MOST` or
-        `replay`."""
+        """The report of what is in the folder, or none where it cannot be made. `asked` is `replay`, or `explore`
+        with how far it came, how many states or nodes it might find, and which sums are told."""
         status, told = self._ended(f"{asked}\n".encode())
         return told if status == 0 else None
 

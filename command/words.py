@@ -27,6 +27,7 @@ class Request:
     conversion: list[str]
     search: list[str]
     normal: list[str]
+    strict_ends: bool
     depth: Optional[int]
     nodes: int
     replay: Optional[str]
@@ -50,6 +51,12 @@ class Request:
         """Whether a report for people is made, or terms are spelled. What needs no Erlang otherwise does not need it for
         terms: then they are passed on as they are."""
         return not self.core and (not self.raw or (self.is_converted and bool(self.normal)))
+
+
+    @property
+    def tells_normal(self) -> bool:
+        """Whether anything is to be taken as normal beside `shutdown`, which is so unless it is asked for otherwise."""
+        return bool(self.normal) or "--main-deadlock" in self.search
 
 
 class Asked(Exception):
@@ -106,6 +113,7 @@ def read(words: Sequence[str]) -> Request:
         conversion=conversion,
         search=given.words_for(SEARCH),
         normal=given.values("--normal"),
+        strict_ends=given.has("--strict-ends"),
         depth=None if depth is None else int(depth),
         nodes=int(given.value("--nodes") or MOST),
         replay=given.value("--replay"),

@@ -28,7 +28,9 @@ load() -> {ok, _, _, _} = report_instrument:module("module 'm' ['main'/0] attrib
 asked(Work) ->
     case io:get_line("") of
         "normal\n" -> spelled(Work#work.folder), asked(Work);
-        "explore " ++ Coverage -> explored(prepared(Work), string:lexemes(Coverage, " \n"));
+        "explore " ++ Words ->
+            [Sums | Coverage] = lists:reverse(string:lexemes(Words, " \n")),
+            explored(prepared(Work), lists:reverse(Coverage), Sums);
         "replay\n" -> replayed(prepared(Work));
         eof -> ok
     end.
@@ -81,7 +83,7 @@ replayed(Work) ->
 
 %% ---- an exploration
 
-explored(Work, Coverage) ->
+explored(Work, Coverage, Sums) ->
     {Reach, All, Last} = report_reader:report(read(filename:join(Work#work.folder, "report"))),
     {Findings, Stops, Deadlocks} = report_unread:sorted(All, fun(Place) -> report_reader:transcript(transcript(Work, Place)) end),
     print(report_unread:head(Stops, report_text:head(Work#work.source, Work#work.delivery, Coverage, Reach))),
@@ -94,7 +96,7 @@ explored(Work, Coverage) ->
     [print(report_text:brief(title(Other), Other#finding.schedule, Other#finding.told)) || Other <- Others],
     Reached = [unread(Work, Stop) || Stop <- Stops],
     Folded = length(lists:append([Followers || {_, Followers} <- Groups])),
-    print(report_text:tail(Work#work.delivery, Coverage, Reach, report_unread:sums(Findings, Stops, Last), Folded)),
+    print(report_text:tail(Work#work.delivery, Coverage, Reach, report_text:sums(Sums, report_unread:sums(Findings, Stops, Last)), Folded)),
     print(report_unread:below(Stops, Deadlocks)),
     print(report_text:doubts(doubts(Work))),
     disagreements([Told || #finding{told = Told} <- Errors ++ Others] ++ Reached).

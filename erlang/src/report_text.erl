@@ -1,7 +1,7 @@
 %% The report for people.
 -module(report_text).
 -export([call/3, deed/1, identity/1, place/1, role/2, waits/2, stands/2]).
--export([head/4, tail/5, doubts/1, schedule/1, limit/1, timeouts/2, earlier/1, overtakes/1, follower/2, transcript/2, brief/3]).
+-export([head/4, sums/2, tail/5, doubts/1, schedule/1, limit/1, timeouts/2, earlier/1, overtakes/1, follower/2, transcript/2, brief/3]).
 -include("report.hrl").
 
 -define(GREATEST_COLUMN, 76).
@@ -105,6 +105,10 @@ steps(Count) -> many(Count, "steps").
 
 many("1", What) -> ["1 ", lists:droplast(What)];
 many(Count, What) -> [Count, " ", What].
+
+%% The sums without what is taken as normal, where that is nothing and the words of the command asked for none.
+sums("normal", Last) -> Last;
+sums("plain", [Counts, Result]) -> [lists:append(string:replace(Counts, ", taken as normal 0", "")), Result].
 
 %% The last lines: how many errors and refusals there are, and the result, as the program prints them; in between how many
 %% errors have no transcript; and below these what was not explored, where something was not.
