@@ -4,7 +4,7 @@
 %% is. The machine is also a second witness: where it asks otherwise than the transcript says, that is reported.
 -module(report_machine).
 -export([load/1, play/2]).
--export([ask/4, wait/3, not_taken/0, back/0, applied/2, built/2, caught/2, raised/2]).
+-export([enters/1, leaves/0, runs/2, ask/4, wait/3, not_taken/0, applied/2, built/2, caught/2, raised/2]).
 -include("report.hrl").
 
 -record(played, {
@@ -141,9 +141,9 @@ reason(throw, Value) -> {tuple, [{tuple, [{atom, nocatch}, Value]}, {list, [], n
 %% The end of a process, compared with what the transcript says next.
 ended({Reason, Place}) ->
     case next() of
-        #event{number = Number, deed = {ends, Reason}} -> tell({line, Number, Place}), tell(ended);
+        #event{number = Number, deed = {ends, Reason}} -> tell({line, Number, of_callback(Place)}), tell(ended);
         #event{deed = runaway} -> tell(ended);
-        none -> tell({stands, Place});
+        none -> tell({stands, of_callback(Place)});
         Event -> differ(Event, ["ends ", report_term:text(Reason)])
     end,
     stop().
@@ -152,7 +152,7 @@ ended({Reason, Place}) ->
 
 %% A call of processes or tables.
 ask(Place, Module, Function, Arguments) ->
-    Here = place(Place),
+    Here = of_callback(place(Place)),
     Asked = [of_real(Argument) || Argument <- Arguments],
     case next() of
         #event{number = Number, deed = {call, Module, Function, Asked, Answer}} ->
@@ -178,12 +178,14 @@ wait(Place, Kind, Timeout) ->
     case next() of
         #event{number = Number, deed = {receives, Term}} = Event ->
             tell({line, Number, Here}),
+            awaits(Here, Number),
             put('$taken', Event),
             self() ! report_term:real(Term, get('$named'));
         #event{number = Number, deed = timeout} when Timeout =/= infinity ->
             tell({line, Number, Here}),
+            awaits(Here, Number),
             [tell({time, Number, Timeout}) || Timeout > 0, Kind =:= 'receive', not is_timer()];
-        none -> tell({stands, Here}), stop();
+        none -> tell({stands, of_callback(Here)}), stop();
         #event{deed = runaway} -> tell(ended), stop();
         Event -> differ(Event, "waits for a message")
     end.
@@ -203,8 +205,6 @@ not_taken() ->
         Event -> differ(Event, "does not take this message")
     end.
 
-back() -> ok.
-
 caught(throw, Value) -> Value;
 caught(exit, Reason) -> {'EXIT', Reason};
 caught(error, Reason) -> {'EXIT', {Reason, []}}.
@@ -215,12 +215,55 @@ raised(Class, Reason) -> erlang:raise(Class, Reason, []).
 
 %% The next event of this process, which is taken off.
 next() ->
+    erase('$awaited'),
+    erase('$called'),
     case get('$events') of
         [Event | Events] -> put('$events', Events), Event;
         [] -> none
     end.
 
 tell(What) -> get('$boss') ! {told, self(), What}.
+
+%% ---- callbacks
+
+%% OTP's behaviours come to a computed call, of a callback or of something else.
+enters(Kind) -> is_in_source() orelse put('$called', Kind).
+
+%% Such a call has its value.
+leaves() ->
+    erase('$called'),
+    case {get('$callback'), is_in_source()} of
+        {{in, Name, Place}, false} -> put('$callback', {'after', Name, Place});
+        _ -> ok
+    end.
+
+%% A clause of the source runs. The first one after such a call is what was called; what was received before is for it.
+runs(Name, Place) ->
+    case erase('$called') of
+        undefined -> ok;
+        Kind ->
+            put('$callback', {in, Name, Place}),
+            [tell({line, Number, {for, Name, Place}}) || Kind =:= callback, Number <- [get('$awaited')], is_integer(Number)]
+    end.
+
+%% What stands for a place within OTP's behaviours: the callback that ran last there since a message was taken, or still does.
+of_callback({library, _} = Place) ->
+    case get('$callback') of
+        {_, _, _} = Callback -> Callback;
+        _ -> Place
+    end;
+of_callback(Place) -> Place.
+
+is_in_source() ->
+    {current_stacktrace, Stack} = process_info(self(), current_stacktrace),
+    case source_of(Stack) of
+        {File, _} when is_list(File) -> true;
+        _ -> false
+    end.
+
+%% What is taken within OTP's behaviours may be for the callback that comes next.
+awaits({library, _}, Number) -> erase('$callback'), put('$awaited', Number);
+awaits(_, _) -> ok.
 
 %% ---- the limits of the explorer
 
@@ -302,7 +345,7 @@ library(Names) ->
     Found = [Module || Name <- Names,
                        {match, [_, Module]} <- [re:run(Name, "^([a-z]+ (?:in|of) )?([a-z_]+)[: ][a-z]",
                                                        [{capture, all_but_first, list}])]],
-    case [Module || Module <- Found, Module =/= "apply"] of
+    case [Module || Module <- Found, Module =/= "apply", Module =/= "call", Module =/= "computed"] of
         [Module | _] -> {library, Module};
         [] -> none
     end.

@@ -2,7 +2,8 @@
 %%
 %% The folder of the exploration has the report of the program (`report`), the transcripts of its findings
 %% (`transcripts/1`, `transcripts/2` ..), the module (`module.core`), which has the lines of its source as annotations,
-%% and where it was converted what makes its verdict doubtful (`doubts`). Where signals took any time it may have the report
+%% and where it was converted what makes its verdict doubtful (`doubts`), and where its functions and their clauses are
+%% (`places`). Where signals took any time it may have the report
 %% of the schedules in which they arrive at once (`prompt`).
 -module(report_main).
 -export([main/1]).
@@ -22,7 +23,7 @@ main([Folder, Source, Delivery, Unfold, Chart, Drawings]) ->
                 chart = Chart =:= "yes", drawings = Drawings}).
 
 %% Compiles a small module, so that what does it is loaded before it is asked for: until then there is nothing else to do.
-load() -> {ok, _, _, _} = report_instrument:module("module 'm' ['main'/0] attributes [] 'main'/0 = fun () -> 'ok' end", "m.erl").
+load() -> {ok, _, _, _} = report_instrument:module("module 'm' ['main'/0] attributes [] 'main'/0 = fun () -> 'ok' end", "m.erl", #{}).
 
 %% Does what the lines of standard input ask for: first, if at all, the spelling of terms, and at last a report.
 asked(Work) ->
@@ -37,11 +38,18 @@ asked(Work) ->
 
 %% With the module to be played, or none where the machine does not take it, and with what its first process runs.
 prepared(#work{folder = Folder, source = Source} = Work) ->
-    case report_instrument:module(read(filename:join(Folder, "module.core")), Source) of
+    case report_instrument:module(read(filename:join(Folder, "module.core")), Source, places(Folder)) of
         {ok, Module, First, Code} -> report_machine:load(Code), Work#work{module = Module, first = First};
         {error, Reason} ->
             complain("there are no lines, since the Erlang machine does not take the module: ~0tp", [Reason]),
             Work#work{module = none, first = "main/0"}
+    end.
+
+%% The places of functions and their clauses, where the module was converted.
+places(Folder) ->
+    case file:consult(filename:join(Folder, "places")) of
+        {ok, Places} -> maps:from_list(Places);
+        _ -> #{}
     end.
 
 read(File) ->

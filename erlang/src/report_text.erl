@@ -84,7 +84,12 @@ place(none) -> "";
 place({library, Module}) -> ["(", Module, ")"];
 place({sent, none}) -> "";
 place({sent, {library, Module}}) -> ["sent by ", Module];
+place({sent, {_, _, _} = Callback}) -> ["sent ", place(Callback)];
 place({sent, Place}) -> ["sent at ", place(Place)];
+place({Where, {_, Function, Arity}, {File, Line}}) ->
+    [atom_to_list(Where), " ", function(Function), "/", integer_to_list(Arity), " at ", place({File, Line})];
+place({Where, {Module, Function, Arity}, none}) ->
+    [atom_to_list(Where), " ", function(Module), ":", function(Function), "/", integer_to_list(Arity)];
 place({File, Line}) -> [File, ":", integer_to_list(Line)].
 
 %% ---- the report
@@ -182,6 +187,7 @@ timeouts(Taken, IsConverted) ->
 
 at(none) -> "";
 at({library, Module}) -> [" in ", Module];
+at({_, _, _} = Callback) -> [" ", place(Callback)];
 at(Place) -> [" at ", place(Place)].
 
 %% That no schedule shows an error in which signals arrive at once.
@@ -227,7 +233,7 @@ waiting(_, _, _) -> [].
 
 waits(Name, #{waits := Waits}) ->
     {Name, Mailbox} = lists:keyfind(Name, 1, Waits),
-    ["waits for ever, mailbox ", report_term:text(Mailbox)].
+    ["waits for ever, mailbox ", report_term:text_of_items(Mailbox)].
 
 stands(Name, #{stands := Stands}) -> maps:get(Name, Stands, none).
 
