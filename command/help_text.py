@@ -48,6 +48,8 @@ What is printed:
   --unfold             Shows the events of each error. Without this one that follows from another error is a line below
                        that one, "and then: ..", with neither events nor drawing.
   --chart              Draws each error as text, with a column for each process.
+  --mermaid            Prints a Mermaid sequence diagram in the place of the events of each error, which code forges
+                       draw where it is in a text of Markdown.
   --svg FOLDER         Draws each error into FOLDER/error_1.svg, error_2.svg and so on.
   --junit FILE         Writes a JUnit XML file too, in which each error is a test that failed (docs/CI.md). With
                        --eunit each function is a test.

@@ -65,10 +65,12 @@ ALL = (
 )
 OPTIONS = {option.name: option for option in ALL}
 FLAGS = ("--eunit", "--any-delay", "--tree", "--strict-ends", "--main-deadlock", "--allow-deadlock", "--strict-access",
-         "--unfold", "--chart", "--raw", "--core", "--notes", "--no-notes", "--strict")
+         "--unfold", "--chart", "--mermaid", "--raw", "--core", "--notes", "--no-notes", "--strict")
 # which do not go together
 APART = (("--main-deadlock", "--allow-deadlock"), ("--junit", "--raw"), ("--junit", "--core"), ("--junit", "--replay"),
          ("--eunit", "--raw"), ("--eunit", "--core"), ("--eunit", "--replay"), ("--eunit", "--entry"))
 # which of them are for the converter, and which for the program
 CONVERSION = ("--entry", "-pa", "--env", "--after-timeout", "-I", "-D", "--notes", "--strict")
 SEARCH = ("--nodes", "--workers", "--strict-access", "--allow-deadlock", "--main-deadlock")
+# and which for the report
+SHOWN = ("--unfold", "--chart", "--mermaid")

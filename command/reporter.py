@@ -48,7 +48,6 @@ def reporter(request: Request, room: Path) -> Iterator[Optional[Reporter]]:
         yield None
         return
     delivery = "at-once" if request.at_once else "any-delay"
-    unfold, chart = ("yes" if it else "no" for it in (request.unfold, request.chart))
-    words = [room, request.source, delivery, unfold, chart, request.drawings]
+    words = [room, request.source, delivery, request.drawings, *request.shown]
     with erlang("report.escript", *words, stdin=subprocess.PIPE) as running:
         yield Reporter(running, room)

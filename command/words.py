@@ -8,7 +8,7 @@ from dataclasses import dataclass
 from typing import Optional
 
 from .ending import NO_INPUT, Ended, misread
-from .options import APART, CONVERSION, FLAGS, OPTIONS, SEARCH
+from .options import APART, CONVERSION, FLAGS, OPTIONS, SEARCH, SHOWN
 
 ASKING = ("-h", "--help", "--version")
 # How many states or nodes the program finds at most where nothing is asked.
@@ -19,7 +19,8 @@ MOST = 1_000_000
 class Request:
     """What the words ask for.
 
-    `source` is the file of the first module, and `conversion` and `search` are words for the converter and the program.
+    `source` is the file of the first module, and `conversion` and `search` are words for the converter and the program. `shown`
+    says how a report shows what happens.
     """
 
     files: list[str]
@@ -38,8 +39,7 @@ class Request:
     tree: bool
     raw: bool
     core: bool
-    unfold: bool
-    chart: bool
+    shown: list[str]
     doubts: bool
 
     @property
@@ -124,8 +124,7 @@ def read(words: Sequence[str]) -> Request:
         tree=given.has("--tree"),
         raw=given.has("--raw"),
         core=given.has("--core"),
-        unfold=given.has("--unfold"),
-        chart=given.has("--chart"),
+        shown=[it[2:] for it in SHOWN if given.has(it)],
         doubts=not given.has("--no-notes"),
     )
 

@@ -10,17 +10,18 @@
 -include("report.hrl").
 
 %% What a report is made with: the name of the source, when signals arrive, the module that the machine plays, what the first
-%% process runs, whether each error has its transcript, and what is drawn.
--record(work, {folder, source, delivery, module, first, unfold, chart, drawings}).
+%% process runs, the folder of drawings, and the options of what is printed: unfold, chart and mermaid.
+-record(work, {folder, source, delivery, module, first, drawings, options}).
 
 %% A finding with what it is, all that is shown of its transcript, and whether it needs that signals overtake.
 -record(finding, {kind, number, identity, schedule, told, overtakes}).
 
-main([Folder, Source, Delivery, Unfold, Chart, Drawings]) ->
+main([Folder, Source, Delivery, Drawings | Options]) ->
     [ok = io:setopts(Device, [{encoding, unicode}]) || Device <- [standard_io, standard_error]],
     load(),
-    asked(#work{folder = Folder, source = filename:basename(Source), delivery = Delivery, unfold = Unfold =:= "yes",
-                chart = Chart =:= "yes", drawings = Drawings}).
+    asked(#work{folder = Folder, source = filename:basename(Source), delivery = Delivery, drawings = Drawings, options = Options}).
+
+is_asked(Option, #work{options = Options}) -> lists:member(Option, Options).
 
 %% Compiles a small module, so that what does it is loaded before it is asked for: until then there is nothing else to do.
 load() -> {ok, _, _, _} = report_instrument:module("module 'm' ['main'/0] attributes [] 'main'/0 = fun () -> 'ok' end", "m.erl", #{}).
@@ -85,7 +86,7 @@ spelling(Text, Module) ->
 
 replayed(Work) ->
     Told = told(Work, read(filename:join(Work#work.folder, "report"))),
-    print(report_text:transcript(replay, Told)),
+    print(transcript(Work, replay, Told)),
     draw(Work, "replay", report_story:schedule(maps:get(events, Told)), replay, Told),
     disagreements([Told]).
 
@@ -98,7 +99,7 @@ explored(Work, Coverage, Sums) ->
     Prompt = prompt(Work),
     {Errors, Others} = lists:partition(fun(#finding{kind = Kind}) -> Kind =:= error end,
                                        [finding(Work, Place, Finding, Prompt) || {Place, Finding} <- Findings]),
-    Groups = grouped(Errors, Work#work.unfold),
+    Groups = grouped(Errors, is_asked("unfold", Work)),
     Each = [{Number, Identity} || {Cause, Followers} <- Groups, #finding{number = Number, identity = Identity} <- [Cause | firsts(Followers)]],
     [error(Work, Cause, Followers, Each) || {Cause, Followers} <- Groups],
     [print(report_text:brief(title(Other), Other#finding.schedule, Other#finding.told)) || Other <- Others],
@@ -110,6 +111,13 @@ explored(Work, Coverage, Sums) ->
     disagreements([Told || #finding{told = Told} <- Errors ++ Others] ++ Reached).
 
 transcript(#work{folder = Folder}, Place) -> read(filename:join([Folder, "transcripts", integer_to_list(Place)])).
+
+%% The events of a transcript, as lines or as a diagram.
+transcript(Work, Finding, Told) ->
+    case is_asked("mermaid", Work) of
+        true -> report_mermaid:text(report_rows:rows(Finding, Told), Told);
+        false -> report_text:transcript(Finding, Told)
+    end.
 
 %% What is not read, with the shortest schedule that reaches it.
 unread(Work, {What, Place, Schedule}) ->
@@ -156,7 +164,7 @@ title(#finding{kind = Kind, number = Number, identity = Identity}) ->
 error(Work, #finding{number = Number, identity = Identity, told = Told} = Error, Followers, Each) ->
     print(["\n", title(Error), "\n", report_text:overtakes(Error#finding.overtakes), report_text:limit(report_story:limit(Told)),
            report_text:timeouts(report_story:timeouts(Told), is_converted(Work)), report_text:schedule(Error#finding.schedule),
-           report_text:earlier(report_story:earlier(Identity, Each, maps:get(events, Told))), report_text:transcript(Identity, Told),
+           report_text:earlier(report_story:earlier(Identity, Each, maps:get(events, Told))), transcript(Work, Identity, Told),
            [report_text:follower(title(Follower), Why) || {Follower, Why} <- Followers]]),
     draw(Work, ["error_", integer_to_list(Number)], title(Error), Identity, Told).
 
@@ -176,7 +184,7 @@ told(Work, Text) ->
 
 draw(Work, Name, Title, Finding, Told) ->
     Rows = report_rows:rows(Finding, Told),
-    [print(["\n", report_chart:text(Rows)]) || Work#work.chart],
+    [print(["\n", report_chart:text(Rows)]) || is_asked("chart", Work)],
     [write_drawing(Work#work.drawings, Name, report_drawing:text([Work#work.source, ", ", Title], Rows, Told)) ||
         Work#work.drawings =/= ""].
 
