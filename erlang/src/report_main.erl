@@ -180,7 +180,7 @@ told(Work, Text) ->
         Module -> report_machine:play(Module, Events)
     end,
     Played#{events => Events, places => report_story:places(Events, maps:get(lines, Played)),
-            roles => report_story:roles(Events, Work#work.first)}.
+            roles => report_story:roles(Events, Work#work.first), module => Work#work.module}.
 
 draw(Work, Name, Title, Finding, Told) ->
     Rows = report_rows:rows(Finding, Told),
