@@ -51,6 +51,7 @@ What is printed:
   --mermaid            Prints a Mermaid sequence diagram in the place of the events of each error, which code forges
                        draw where it is in a text of Markdown.
   --svg FOLDER         Draws each error into FOLDER/error_1.svg, error_2.svg and so on.
+  --html FOLDER        Writes FOLDER/index.html: all errors with their events and drawings, and the source beside them.
   --junit FILE         Writes a JUnit XML file too, in which each error is a test that failed (docs/CI.md). With
                        --eunit each function is a test.
   --raw                Prints what the program prints, unchanged.

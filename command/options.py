@@ -61,6 +61,7 @@ ALL = (
     Option("--normal", "a term as the report shows it, as shutdown or {shutdown,1}", spelled(TEXT), most=15),
     Option("--replay", 'a schedule, as "P P P.1>P"', spelled(f"(?!-){TEXT}")),
     Option("--svg", "a folder", can_be_folder),
+    Option("--html", "a folder", can_be_folder),
     Option("--junit", "the name of a file", spelled(".+")),
 )
 OPTIONS = {option.name: option for option in ALL}
@@ -68,7 +69,7 @@ FLAGS = ("--eunit", "--any-delay", "--tree", "--strict-ends", "--main-deadlock",
          "--unfold", "--chart", "--mermaid", "--raw", "--core", "--notes", "--no-notes", "--strict")
 # which do not go together
 APART = (("--main-deadlock", "--allow-deadlock"), ("--junit", "--raw"), ("--junit", "--core"), ("--junit", "--replay"),
-         ("--eunit", "--raw"), ("--eunit", "--core"), ("--eunit", "--replay"), ("--eunit", "--entry"))
+         ("--html", "--raw"), ("--html", "--core"), ("--html", "--replay"), ("--eunit", "--raw"), ("--eunit", "--core"), ("--eunit", "--replay"), ("--eunit", "--entry"))
 # which of them are for the converter, and which for the program
 CONVERSION = ("--entry", "-pa", "--env", "--after-timeout", "-I", "-D", "--notes", "--strict")
 SEARCH = ("--nodes", "--workers", "--strict-access", "--allow-deadlock", "--main-deadlock")

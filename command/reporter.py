@@ -48,6 +48,7 @@ def reporter(request: Request, room: Path) -> Iterator[Optional[Reporter]]:
         yield None
         return
     delivery = "at-once" if request.at_once else "any-delay"
-    words = [room, request.source, delivery, request.drawings, *request.shown]
+    words = [room, request.source, delivery, request.drawings, request.page, *request.shown]
+    (room / "sources").write_bytes(b"".join(os.fsencode(it) + b"\0" for it in [*request.files, *request.folders]))
     with erlang("report.escript", *words, stdin=subprocess.PIPE) as running:
         yield Reporter(running, room)

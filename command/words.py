@@ -20,7 +20,7 @@ class Request:
     """What the words ask for.
 
     `source` is the file of the first module, and `conversion` and `search` are words for the converter and the program. `shown`
-    says how a report shows what happens.
+    says how a report shows what happens, and `folders` where else there may be sources.
     """
 
     files: list[str]
@@ -33,6 +33,8 @@ class Request:
     nodes: int
     replay: Optional[str]
     drawings: str
+    page: str
+    folders: list[str]
     junit: Optional[str]
     eunit: bool
     at_once: bool
@@ -118,6 +120,8 @@ def read(words: Sequence[str]) -> Request:
         nodes=int(given.value("--nodes") or MOST),
         replay=given.value("--replay"),
         drawings=given.value("--svg") or "",
+        page=given.value("--html") or "",
+        folders=[*given.values("-pa"), *given.values("-I")],
         junit=given.value("--junit"),
         eunit=given.has("--eunit"),
         at_once=not given.has("--any-delay") and not given.has("--tree"),

@@ -1,7 +1,7 @@
 %% A drawing of a transcript as SVG: processes are columns, time runs downwards, and deliveries are arrows from the event that
 %% they come from. So no arrow begins at a process that has ended.
 -module(report_drawing).
--export([text/3, escaped/1]).
+-export([text/3]).
 -include("report_rows.hrl").
 
 %% Widths in pixels of a character, in the font of labels and in the small one.
@@ -12,7 +12,7 @@
 -define(LEAST_GAP, 120).
 -define(GREATEST_GAP, 330).
 
--record(sheet, {columns, rows, places, raised, gutter, width, height}).
+-record(sheet, {columns, rows, heights, places, raised, gutter, width, height}).
 
 text(Title, {Columns, Rows}, #{roles := Given, module := Module}) ->
     Roles = maps:map(fun(_, Role) -> in_module(lists:flatten(Role), Module) end, Given),
@@ -69,7 +69,7 @@ sheet(Title, Columns, Rows, Roles) ->
     Right = lists:max([16 + round(8.6 * length(Title)), 560] ++
                       [maps:get(Name, Places) + half(Name, Roles) || Name <- Columns] ++
                       [right(Row, Places) || Row <- Rows]),
-    #sheet{columns = Columns, rows = Placed, places = Places, raised = raised(Rows, Places), gutter = Gutter, width = Right + 20,
+    #sheet{columns = Columns, rows = Placed, heights = maps:from_list([{Row#row.number, Y} || {Row, Y} <- Placed]), places = Places, raised = raised(Rows, Places), gutter = Gutter, width = Right + 20,
            height = ?TOP + ?ROW * length(Rows) + 36}.
 
 %% The events from which an arrow goes to the right, where their texts are: these stand a little higher, above the arrow.
@@ -157,8 +157,7 @@ drawn(#row{kind = spawn, column = From, other = To, text = Text} = Row, Y, Sheet
 arrow(#row{kind = spawn, column = From, other = To} = Row, Y, Sheet) ->
     joined(Row, "spawn", {at(From, Sheet), Y}, {at(To, Sheet), Y});
 arrow(#row{kind = arrow, column = From, other = To, sent = Sent} = Row, Y, Sheet) ->
-    [Begin] = [Top || {#row{number = Number}, Top} <- Sheet#sheet.rows, Number =:= Sent],
-    joined(Row, "arrow", {at(From, Sheet), Begin}, {at(To, Sheet), Y}).
+    joined(Row, "arrow", {at(From, Sheet), maps:get(Sent, Sheet#sheet.heights)}, {at(To, Sheet), Y}).
 
 joined(Row, Class, {X1, Y1}, {X2, Y2}) ->
     [line(last(Row, Class), X1, Y1, X2, Y2), point(Row, {X1, Y1}, {X2, Y2}), bar(Row, X2, Y2)].

@@ -10,16 +10,17 @@
 -include("report.hrl").
 
 %% What a report is made with: the name of the source, when signals arrive, the module that the machine plays, what the first
-%% process runs, the folder of drawings, and the options of what is printed: unfold, chart and mermaid.
--record(work, {folder, source, delivery, module, first, drawings, options}).
+%% process runs, the folders of drawings and of the page, and the options of what is printed: unfold, chart and mermaid.
+-record(work, {folder, source, delivery, module, first, drawings, page, options}).
 
 %% A finding with what it is, all that is shown of its transcript, and whether it needs that signals overtake.
 -record(finding, {kind, number, identity, schedule, told, overtakes}).
 
-main([Folder, Source, Delivery, Drawings | Options]) ->
+main([Folder, Source, Delivery, Drawings, Page | Options]) ->
     [ok = io:setopts(Device, [{encoding, unicode}]) || Device <- [standard_io, standard_error]],
     load(),
-    asked(#work{folder = Folder, source = filename:basename(Source), delivery = Delivery, drawings = Drawings, options = Options}).
+    asked(#work{folder = Folder, source = filename:basename(Source), delivery = Delivery, drawings = Drawings, page = Page,
+                options = Options}).
 
 is_asked(Option, #work{options = Options}) -> lists:member(Option, Options).
 
@@ -95,20 +96,22 @@ replayed(Work) ->
 explored(Work, Coverage, Sums) ->
     {Reach, All, Last} = report_reader:report(read(filename:join(Work#work.folder, "report"))),
     {Findings, Stops, Deadlocks} = report_unread:sorted(All, fun(Place) -> report_reader:transcript(transcript(Work, Place)) end),
-    print(report_unread:head(Stops, report_text:head(Work#work.source, Work#work.delivery, Coverage, Reach))),
+    Head = report_unread:head(Stops, report_text:head(Work#work.source, Work#work.delivery, Coverage, Reach)),
+    print(Head),
     Prompt = prompt(Work),
     {Errors, Others} = lists:partition(fun(#finding{kind = Kind}) -> Kind =:= error end,
                                        [finding(Work, Place, Finding, Prompt) || {Place, Finding} <- Findings]),
     Groups = grouped(Errors, is_asked("unfold", Work)),
     Each = [{Number, Identity} || {Cause, Followers} <- Groups, #finding{number = Number, identity = Identity} <- [Cause | firsts(Followers)]],
-    [error(Work, Cause, Followers, Each) || {Cause, Followers} <- Groups],
-    [print(report_text:brief(title(Other), Other#finding.schedule, Other#finding.told)) || Other <- Others],
-    Reached = [unread(Work, Stop) || Stop <- Stops],
+    Shown = [error(Work, Cause, Followers, Each) || {Cause, Followers} <- Groups],
+    Briefs = [report_text:brief(title(Other), Other#finding.schedule, Other#finding.told) || Other <- Others],
+    Reached = [unread(Stop) || Stop <- Stops],
     Folded = length(lists:append([Followers || {_, Followers} <- Groups])),
-    print(report_text:tail(Work#work.delivery, Coverage, Reach, report_text:sums(Sums, report_unread:sums(Findings, Stops, Last)), Folded)),
-    print(report_unread:below(Stops, Deadlocks)),
-    print(report_text:doubts(doubts(Work))),
-    disagreements([Told || #finding{told = Told} <- Errors ++ Others] ++ Reached).
+    Tail = [Briefs, Reached, report_text:tail(Work#work.delivery, Coverage, Reach, report_text:sums(Sums, report_unread:sums(Findings, Stops, Last)), Folded),
+            report_unread:below(Stops, Deadlocks), report_text:doubts(doubts(Work))],
+    print(Tail),
+    [page(Work, {Head, Tail}, Shown) || Work#work.page =/= ""],
+    disagreements([Told || #finding{told = Told} <- Errors ++ Others] ++ [told(Work, transcript(Work, Place)) || {_, Place, _} <- Stops]).
 
 transcript(#work{folder = Folder}, Place) -> read(filename:join([Folder, "transcripts", integer_to_list(Place)])).
 
@@ -120,9 +123,7 @@ transcript(Work, Finding, Told) ->
     end.
 
 %% What is not read, with the shortest schedule that reaches it.
-unread(Work, {What, Place, Schedule}) ->
-    print([report_unread:text(What), report_text:schedule(Schedule)]),
-    told(Work, transcript(Work, Place)).
+unread({What, _, Schedule}) -> [report_unread:text(What), report_text:schedule(Schedule)].
 
 doubts(#work{folder = Folder}) ->
     File = filename:join(Folder, "doubts"),
@@ -160,13 +161,15 @@ firsts(Pairs) -> [First || {First, _} <- Pairs].
 title(#finding{kind = Kind, number = Number, identity = Identity}) ->
     [atom_to_list(Kind), " ", integer_to_list(Number), ": ", report_text:identity(Identity)].
 
-%% An error with all that leads to it, and a line for each that follows from it.
+%% An error with all that leads to it, and a line for each that follows from it: printed, and as a page has it.
 error(Work, #finding{number = Number, identity = Identity, told = Told} = Error, Followers, Each) ->
-    print(["\n", title(Error), "\n", report_text:overtakes(Error#finding.overtakes), report_text:limit(report_story:limit(Told)),
-           report_text:timeouts(report_story:timeouts(Told), is_converted(Work)), report_text:schedule(Error#finding.schedule),
-           report_text:earlier(report_story:earlier(Identity, Each, maps:get(events, Told))), transcript(Work, Identity, Told),
-           [report_text:follower(title(Follower), Why) || {Follower, Why} <- Followers]]),
-    draw(Work, ["error_", integer_to_list(Number)], title(Error), Identity, Told).
+    Notes = [report_text:overtakes(Error#finding.overtakes), report_text:limit(report_story:limit(Told)),
+             report_text:timeouts(report_story:timeouts(Told), is_converted(Work)), report_text:schedule(Error#finding.schedule),
+             report_text:earlier(report_story:earlier(Identity, Each, maps:get(events, Told)))],
+    Below = [report_text:follower(title(Follower), Why) || {Follower, Why} <- Followers],
+    print(["\n", title(Error), "\n", Notes, transcript(Work, Identity, Told), Below]),
+    draw(Work, ["error_", integer_to_list(Number)], title(Error), Identity, Told),
+    {Number, title(Error), Notes, Told, Below, [drawing(Work, title(Error), report_rows:rows(Identity, Told), Told) || Work#work.page =/= ""]}.
 
 %% Whether the module was converted, so that --after-timeout may be given.
 is_converted(#work{source = Source}) -> filename:extension(Source) =/= ".core".
@@ -185,14 +188,41 @@ told(Work, Text) ->
 draw(Work, Name, Title, Finding, Told) ->
     Rows = report_rows:rows(Finding, Told),
     [print(["\n", report_chart:text(Rows)]) || is_asked("chart", Work)],
-    [write_drawing(Work#work.drawings, Name, report_drawing:text([Work#work.source, ", ", Title], Rows, Told)) ||
-        Work#work.drawings =/= ""].
+    [written(Work#work.drawings, [Name, ".svg"], "drawn", drawing(Work, Title, Rows, Told)) || Work#work.drawings =/= ""].
 
-write_drawing(Folder, Name, Text) ->
-    File = filename:join(Folder, lists:flatten([Name, ".svg"])),
+drawing(Work, Title, Rows, Told) -> report_drawing:text([Work#work.source, ", ", Title], Rows, Told).
+
+%% Writes a file of a folder, and says so.
+written(Folder, Name, What, Text) ->
+    File = filename:join(Folder, lists:flatten(Name)),
     case filelib:ensure_dir(File) =:= ok andalso file:write_file(File, unicode:characters_to_binary(Text)) of
-        ok -> print(["  drawn: ", File, "\n"]);
+        ok -> print(["  ", What, ": ", File, "\n"]);
         _ -> complain("~ts cannot be written", [File])
+    end.
+
+%% The report as a page, with the source of each file that an error comes to.
+page(Work, Around, Errors) ->
+    Places = [Place || {_, _, _, #{places := Places}, _, _} <- Errors, Place <- maps:values(Places)],
+    Names = lists:usort([File || Place <- Places, {File, _} <- [report_page:in_source(Place)]]),
+    Own = [Work#work.source || lists:member(Work#work.source, Names)],
+    Sources = [{Name, Lines} || Name <- Own ++ (Names -- Own), Lines <- source(Name, Work)],
+    written(Work#work.page, "index.html", "page", report_page:text(Work#work.source, Around, Errors, Sources)).
+
+%% The lines of a file, where it is one of those that were given or beside one, or in a folder that was given, or in a folder
+%% src beside that.
+source(Name, #work{folder = Folder}) ->
+    Given = lists:droplast(string:split(read(filename:join(Folder, "sources")), [0], all)),
+    Folders = lists:append([[One, filename:dirname(One), filename:join(filename:dirname(One), "src"), filename:join([filename:dirname(One), "..", "src"])] || One <- Given]),
+    case [File || File <- [One || One <- Given, filename:basename(One) =:= Name] ++ [filename:join(One, Name) || One <- Folders], filelib:is_regular(File)] of
+        [File | _] -> {ok, Bytes} = file:read_file(File), [string:split(string:trim(text_of(Bytes), trailing, "\n"), "\n", all)];
+        [] -> []
+    end.
+
+%% The characters of a source, in UTF-8 or else in Latin-1.
+text_of(Bytes) ->
+    case unicode:characters_to_list(Bytes) of
+        Text when is_list(Text) -> Text;
+        _ -> binary_to_list(Bytes)
     end.
 
 %% The machine is a second witness, beside the program that explored: where they differ one of them is wrong.

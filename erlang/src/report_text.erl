@@ -1,6 +1,6 @@
 %% The report for people.
 -module(report_text).
--export([call/3, deed/1, identity/1, place/1, role/2, waits/2, stands/2]).
+-export([call/3, who/1, deed/1, identity/1, place/1, role/2, waits/2, stands/2]).
 -export([head/4, sums/2, tail/5, doubts/1, schedule/1, limit/1, timeouts/2, earlier/1, overtakes/1, follower/2, transcript/2, brief/3]).
 -include("report.hrl").
 
