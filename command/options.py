@@ -66,7 +66,7 @@ ALL = (
 )
 OPTIONS = {option.name: option for option in ALL}
 FLAGS = ("--eunit", "--any-delay", "--tree", "--strict-ends", "--main-deadlock", "--allow-deadlock", "--strict-access",
-         "--unfold", "--chart", "--mermaid", "--raw", "--core", "--notes", "--no-notes", "--strict")
+         "--unfold", "--steps", "--chart", "--mermaid", "--raw", "--core", "--notes", "--no-notes", "--strict")
 # which do not go together
 APART = (("--main-deadlock", "--allow-deadlock"), ("--junit", "--raw"), ("--junit", "--core"), ("--junit", "--replay"),
          ("--html", "--raw"), ("--html", "--core"), ("--html", "--replay"), ("--eunit", "--raw"), ("--eunit", "--core"), ("--eunit", "--replay"), ("--eunit", "--entry"))
@@ -74,4 +74,4 @@ APART = (("--main-deadlock", "--allow-deadlock"), ("--junit", "--raw"), ("--juni
 CONVERSION = ("--entry", "-pa", "--env", "--after-timeout", "-I", "-D", "--notes", "--strict")
 SEARCH = ("--nodes", "--workers", "--strict-access", "--allow-deadlock", "--main-deadlock")
 # and which for the report
-SHOWN = ("--unfold", "--chart", "--mermaid")
+SHOWN = ("--unfold", "--steps", "--chart", "--mermaid")

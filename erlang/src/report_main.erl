@@ -10,7 +10,7 @@
 -include("report.hrl").
 
 %% What a report is made with: the name of the source, when signals arrive, the module that the machine plays, what the first
-%% process runs, the folders of drawings and of the page, and the options of what is printed: unfold, chart and mermaid.
+%% process runs, the folders of drawings and of the page, and the options of what is printed: unfold, steps, chart and mermaid.
 -record(work, {folder, source, delivery, module, first, drawings, page, options}).
 
 %% A finding with what it is, all that is shown of its transcript, and whether it needs that signals overtake.
@@ -119,7 +119,7 @@ transcript(#work{folder = Folder}, Place) -> read(filename:join([Folder, "transc
 transcript(Work, Finding, Told) ->
     case is_asked("mermaid", Work) of
         true -> report_mermaid:text(report_rows:rows(Finding, Told), Told);
-        false -> report_text:transcript(Finding, Told)
+        false -> report_text:transcript(Finding, Told, is_asked("steps", Work))
     end.
 
 %% What is not read, with the shortest schedule that reaches it.

@@ -1,7 +1,7 @@
 %% The report for people.
 -module(report_text).
 -export([call/3, who/1, deed/1, identity/1, place/1, role/2, waits/2, stands/2]).
--export([head/4, sums/2, tail/5, doubts/1, schedule/1, limit/1, timeouts/2, earlier/1, overtakes/1, follower/2, transcript/2, brief/3]).
+-export([head/4, sums/2, tail/5, doubts/1, schedule/1, limit/1, timeouts/2, earlier/1, overtakes/1, follower/2, transcript/3, brief/3]).
 -include("report.hrl").
 
 -define(GREATEST_COLUMN, 76).
@@ -82,6 +82,7 @@ role(Name, Arguments) -> begun(Name, Arguments, fun(Given) -> ["/", integer_to_l
 %% Where something is in the source.
 place(none) -> "";
 place({library, Module}) -> ["(", Module, ")"];
+place({both, Place, Callback}) -> [[[Text, ", "] || Text <- [lists:flatten(place(Place))], Text =/= ""], place(Callback)];
 place({sent, none}) -> "";
 place({sent, {library, Module}}) -> ["sent by ", Module];
 place({sent, {_, _, _} = Callback}) -> ["sent ", place(Callback)];
@@ -207,11 +208,14 @@ follows({trapped, Name}) -> ["by the 'EXIT' of ", Name];
 follows({left, [Name]}) -> ["since ", Name, " has ended"];
 follows({left, Names}) -> ["since ", lists:join(", ", lists:droplast(Names)), " and ", lists:last(Names), " have ended"].
 
-%% A transcript: what the processes are, each event with its place, and who waits for ever where it is a deadlock.
-transcript(Finding, #{events := Events, places := Places} = Told) ->
+%% A transcript: what the processes are, each event with its place, or a line for several, and who waits for ever where it is a
+%% deadlock.
+transcript(Finding, #{events := Events, places := Places} = Told, HasSteps) ->
+    Shown = case HasSteps of true -> Events; false -> report_calls:folded(Events, Told) end,
     Width = lists:max([length(who(Who)) || Who <- waiters(Finding) ++ [Who || #event{who = Who} <- Events]]),
-    Lines = [event(Event, Width, maps:get(Event#event.number, Places, none)) || Event <- Events],
-    [cast(Told), in_columns(Lines ++ waiting(Finding, Width, Told))].
+    Counted = lists:max([3 | [length(numbers(One)) || One <- Shown]]),
+    Lines = [event(One, {Counted, Width}, Places) || One <- Shown],
+    [cast(Told), in_columns(Lines ++ waiting(Finding, {Counted, Width}, Told))].
 
 waiters({deadlock, Names}) -> Names;
 waiters(_) -> ["P"].
@@ -220,15 +224,23 @@ cast(#{events := Events, roles := Roles}) ->
     Names = [Name || Name <- report_story:processes(Events), maps:is_key(Name, Roles)],
     ["  where ", lists:join(", ", [[Name, " is ", maps:get(Name, Roles)] || Name <- Names]), "\n"].
 
-event(#event{number = Number, who = Who, deed = Deed}, Width, Place) ->
-    {[io_lib:format("  ~3w  ", [Number]), string:pad(who(Who), Width), "  ", deed(Deed)], Place}.
+%% Numbers and names are in columns of these widths.
+event(One, {Counted, Width}, Places) ->
+    {Who, Text, Place} = shown(One, Places),
+    {["  ", string:pad(numbers(One), Counted, leading), "  ", string:pad(who(Who), Width), "  ", Text], Place}.
+
+shown(#event{number = Number, who = Who, deed = Deed}, Places) -> {Who, deed(Deed), maps:get(Number, Places, none)};
+shown({_, _, Who, Text, Place}, _) -> {Who, Text, Place}.
+
+numbers(#event{number = Number}) -> integer_to_list(Number);
+numbers({First, Last, _, _, _}) -> lists:concat([First, "-", Last]).
 
 who({From, To}) -> From ++ ">" ++ To;
 who(Name) -> Name.
 
 %% Who waits where for ever, and with which messages that it does not take.
-waiting({deadlock, Names}, Width, Told) ->
-    [{["       ", string:pad(Name, Width), "  ", waits(Name, Told)], stands(Name, Told)} || Name <- Names];
+waiting({deadlock, Names}, {Counted, Width}, Told) ->
+    [{[lists:duplicate(Counted + 4, $\s), string:pad(Name, Width), "  ", waits(Name, Told)], stands(Name, Told)} || Name <- Names];
 waiting(_, _, _) -> [].
 
 waits(Name, #{waits := Waits}) ->
