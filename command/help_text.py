@@ -47,8 +47,8 @@ What counts as an error:
 What is printed:
   --unfold             Shows the events of each error. Without this one that follows from another error is a line below
                        that one, "and then: ..", with neither events nor drawing.
-  --steps              Shows each step of a call, a cast and a start of OTP's behaviours. Without this those that nothing
-                       comes between are one line.
+  --steps              Shows each step of a call, a cast and a start of OTP's behaviours. Without this the steps of one
+                       are one line, where nothing comes between them.
   --chart              Draws each error as text, with a column for each process.
   --mermaid            Prints a Mermaid sequence diagram in the place of the events of each error, which code forges
                        draw where it is in a text of Markdown.

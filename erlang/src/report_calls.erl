@@ -29,7 +29,8 @@ whole(Events, Begun, {_, Places} = Known) ->
             case answer(Served, New, Known) of
                 {_, _, _, _, _, Answered} ->
                     case ending(Answered, New, Known) of
-                        {Last, Client, Text, _, Left, Rest} -> {Last, Client, Text, with_callback(Place, maps:get(Asked, Places, none)), Left, Rest};
+                        {Last, Client, Text, _, Left, Rest} ->
+                            {Last, Client, Text, with_callback(Place, maps:get(Asked, Places, none)), Left, Rest};
                         _ -> none
                     end;
                 none -> none
@@ -86,20 +87,24 @@ answer(_, _, _) -> none.
 
 %% What a client does when its answer has come.
 ending([#event{number = Number, who = Client, deed = {receives, {tuple, [Tag, Given]}}},
-        #event{number = Last, who = Client, deed = {call, erlang, demonitor, [Reference, {list, [{atom, flush}], nil}], {ok, _}}} | Rest], Begun, {_, Places}) ->
+        #event{number = Last, who = Client, deed = {call, erlang, demonitor, [Reference, {list, [{atom, flush}], nil}], {ok, _}}} | Rest],
+       Begun, {_, Places}) ->
     case {is_tag(Tag, Reference), Begun} of
-        {true, #{Tag := Text}} -> {Last, Client, [Text, " -> ", report_term:text(Given)], maps:get(Number, Places, none), maps:remove(Tag, Begun), Rest};
+        {true, #{Tag := Text}} ->
+            {Last, Client, [Text, " -> ", report_term:text(Given)], maps:get(Number, Places, none), maps:remove(Tag, Begun), Rest};
         _ -> none
     end;
 ending(_, _, _) -> none.
 
 %% A process of a behaviour that is started, and has answered that it is there.
-start([#event{number = First, who = Parent, deed = {call, erlang, Spawn, [_, {atom, Name}, {list, Arguments, nil}], _}} = Spawned | Rest], Begun, {_, Places}) ->
+start([#event{number = First, who = Parent, deed = {call, erlang, Spawn, [_, {atom, Name}, {list, Arguments, nil}], _}} = Spawned | Rest],
+      Begun, {_, Places}) ->
     case {report_story:spawned(Spawned), report_begin:meant(Name, Arguments)} of
         {[{Child, _}], {behaviour, Behaviour, Module}} ->
             case ready(unregistered(Rest, Child), Parent, Child, Spawn) of
                 {Last, Left} ->
-                    Text = [atom_to_list(Behaviour), ":", started(Spawn), "(", [report_term:text({atom, Module}) || Module =/= none], ") -> {ok,", Child, "}"],
+                    Of = [report_term:text({atom, Module}) || Module =/= none],
+                    Text = [atom_to_list(Behaviour), ":", started(Spawn), "(", Of, ") -> {ok,", Child, "}"],
                     {Last, Parent, Text, maps:get(First, Places, none), Begun, Left};
                 none -> none
             end;
@@ -124,14 +129,16 @@ ready([#event{who = Child, deed = {call, erlang, '!', [{pid, Parent}, Message], 
 ready(_, _, _, _) -> none.
 
 %% One that is started without a link is watched until it is there.
-unwatched(_, [#event{number = Last, who = Parent, deed = {call, erlang, demonitor, _, {ok, _}}} | Rest], Parent, spawn_monitor) -> {Last, Rest};
+unwatched(_, [#event{number = Last, who = Parent, deed = {call, erlang, demonitor, _, {ok, _}}} | Rest], Parent, spawn_monitor) ->
+    {Last, Rest};
 unwatched(_, _, _, spawn_monitor) -> none;
 unwatched(Last, Rest, _, _) -> {Last, Rest}.
 
 %% A cast, until it has arrived.
 cast([#event{number = First, who = Client, deed = {call, erlang, '!', [To, {tuple, [{atom, '$gen_cast'}, Request]} = Message], {ok, _}}},
       #event{number = Last, who = {Client, Server}, deed = {brings, Message}} | Rest], Begun, {Roles, Places}) ->
-    {Last, Client, [behaviour(Server, Roles), ":cast(", report_term:text(To), ",", report_term:text(Request), ")"], maps:get(First, Places, none), Begun, Rest};
+    Text = [behaviour(Server, Roles), ":cast(", report_term:text(To), ",", report_term:text(Request), ")"],
+    {Last, Client, Text, maps:get(First, Places, none), Begun, Rest};
 cast(_, _, _) -> none.
 
 %% The module whose function is called, by what the server runs.

@@ -69,12 +69,14 @@ sheet(Title, Columns, Rows, Roles) ->
     Right = lists:max([16 + round(8.6 * length(Title)), 560] ++
                       [maps:get(Name, Places) + half(Name, Roles) || Name <- Columns] ++
                       [right(Row, Places) || Row <- Rows]),
-    #sheet{columns = Columns, rows = Placed, heights = maps:from_list([{Row#row.number, Y} || {Row, Y} <- Placed]), places = Places, raised = raised(Rows, Places), gutter = Gutter, width = Right + 20,
+    Heights = maps:from_list([{Row#row.number, Y} || {Row, Y} <- Placed]),
+    #sheet{columns = Columns, rows = Placed, heights = Heights, places = Places, raised = raised(Rows, Places), gutter = Gutter, width = Right + 20,
            height = ?TOP + ?ROW * length(Rows) + 36}.
 
 %% The events from which an arrow goes to the right, where their texts are: these stand a little higher, above the arrow.
 raised(Rows, Places) ->
-    maps:from_list([{Sent, true} || #row{kind = arrow, column = From, other = To, sent = Sent} <- Rows, maps:get(From, Places) < maps:get(To, Places)]).
+    maps:from_list([{Sent, true} || #row{kind = arrow, column = From, other = To, sent = Sent} <- Rows,
+                                    maps:get(From, Places) < maps:get(To, Places)]).
 
 %% Between two columns is room for the longest text of an arrow, as far as it does not get too wide.
 gap(Columns, Rows, Roles) ->

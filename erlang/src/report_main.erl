@@ -87,7 +87,7 @@ spelling(Text, Module) ->
 
 replayed(Work) ->
     Told = told(Work, read(filename:join(Work#work.folder, "report"))),
-    print(transcript(Work, replay, Told)),
+    print(order(Work, replay, Told)),
     draw(Work, "replay", report_story:schedule(maps:get(events, Told)), replay, Told),
     disagreements([Told]).
 
@@ -107,16 +107,17 @@ explored(Work, Coverage, Sums) ->
     Briefs = [report_text:brief(title(Other), Other#finding.schedule, Other#finding.told) || Other <- Others],
     Reached = [unread(Stop) || Stop <- Stops],
     Folded = length(lists:append([Followers || {_, Followers} <- Groups])),
-    Tail = [Briefs, Reached, report_text:tail(Work#work.delivery, Coverage, Reach, report_text:sums(Sums, report_unread:sums(Findings, Stops, Last)), Folded),
+    Told = report_text:sums(Sums, report_unread:sums(Findings, Stops, Last)),
+    Tail = [Briefs, Reached, report_text:tail(Work#work.delivery, Coverage, Reach, Told, Folded),
             report_unread:below(Stops, Deadlocks), report_text:doubts(doubts(Work))],
     print(Tail),
     [page(Work, {Head, Tail}, Shown) || Work#work.page =/= ""],
-    disagreements([Told || #finding{told = Told} <- Errors ++ Others] ++ [told(Work, transcript(Work, Place)) || {_, Place, _} <- Stops]).
+    disagreements([One || #finding{told = One} <- Errors ++ Others] ++ [told(Work, transcript(Work, Place)) || {_, Place, _} <- Stops]).
 
 transcript(#work{folder = Folder}, Place) -> read(filename:join([Folder, "transcripts", integer_to_list(Place)])).
 
-%% The events of a transcript, as lines or as a diagram.
-transcript(Work, Finding, Told) ->
+%% The order of events, as lines or as a diagram.
+order(Work, Finding, Told) ->
     case is_asked("mermaid", Work) of
         true -> report_mermaid:text(report_rows:rows(Finding, Told), Told);
         false -> report_text:transcript(Finding, Told, is_asked("steps", Work))
@@ -167,9 +168,10 @@ error(Work, #finding{number = Number, identity = Identity, told = Told} = Error,
              report_text:timeouts(report_story:timeouts(Told), is_converted(Work)), report_text:schedule(Error#finding.schedule),
              report_text:earlier(report_story:earlier(Identity, Each, maps:get(events, Told)))],
     Below = [report_text:follower(title(Follower), Why) || {Follower, Why} <- Followers],
-    print(["\n", title(Error), "\n", Notes, transcript(Work, Identity, Told), Below]),
+    print(["\n", title(Error), "\n", Notes, order(Work, Identity, Told), Below]),
     draw(Work, ["error_", integer_to_list(Number)], title(Error), Identity, Told),
-    {Number, title(Error), Notes, Told, Below, [drawing(Work, title(Error), report_rows:rows(Identity, Told), Told) || Work#work.page =/= ""]}.
+    Drawing = [drawing(Work, title(Error), report_rows:rows(Identity, Told), Told) || Work#work.page =/= ""],
+    {Number, title(Error), Notes, Told, Below, Drawing}.
 
 %% Whether the module was converted, so that --after-timeout may be given.
 is_converted(#work{source = Source}) -> filename:extension(Source) =/= ".core".
@@ -212,11 +214,17 @@ page(Work, Around, Errors) ->
 %% src beside that.
 source(Name, #work{folder = Folder}) ->
     Given = lists:droplast(string:split(read(filename:join(Folder, "sources")), [0], all)),
-    Folders = lists:append([[One, filename:dirname(One), filename:join(filename:dirname(One), "src"), filename:join([filename:dirname(One), "..", "src"])] || One <- Given]),
-    case [File || File <- [One || One <- Given, filename:basename(One) =:= Name] ++ [filename:join(One, Name) || One <- Folders], filelib:is_regular(File)] of
+    Named = [One || One <- Given, filename:basename(One) =:= Name],
+    Inside = [filename:join(One, Name) || One <- lists:flatmap(fun folders_of_sources/1, Given)],
+    case [File || File <- Named ++ Inside, filelib:is_regular(File)] of
         [File | _] -> {ok, Bytes} = file:read_file(File), [string:split(string:trim(text_of(Bytes), trailing, "\n"), "\n", all)];
         [] -> []
     end.
+
+%% Where the sources may be that go with a file or a folder which was given, such as src/ beside ebin/.
+folders_of_sources(Given) ->
+    Above = filename:dirname(Given),
+    [Given, Above, filename:join(Above, "src"), filename:join([Above, "..", "src"])].
 
 %% The characters of a source, in UTF-8 or else in Latin-1.
 text_of(Bytes) ->

@@ -18,7 +18,8 @@ marked(#row{last = true}, Line) -> ["    rect rgb(254, 226, 226)\n", Line, "    
 marked(_, Line) -> Line.
 
 drawn(#row{kind = turn, column = Name} = Row, Keys) -> ["Note over ", maps:get(Name, Keys), ": ", label(Row)];
-drawn(#row{kind = Kind, column = From, other = To} = Row, Keys) -> [maps:get(From, Keys), arrow(Kind, Row), maps:get(To, Keys), ": ", label(Row)].
+drawn(#row{kind = Kind, column = From, other = To} = Row, Keys) ->
+    [maps:get(From, Keys), arrow(Kind, Row), maps:get(To, Keys), ": ", label(Row)].
 
 %% A delivery that ends its receiver has a cross at its end.
 arrow(spawn, _) -> "-->>";
@@ -27,7 +28,8 @@ arrow(arrow, _) -> "->>".
 
 %% The number and the text of an event, and below these its place.
 label(#row{number = Number, text = Text, place = Place}) ->
-    [[[integer_to_list(Number), " "] || is_integer(Number)], escaped(Text), [["<br/>", escaped(Where)] || Where <- [lists:flatten(report_text:place(Place))], Where =/= ""]].
+    Where = lists:flatten(report_text:place(Place)),
+    [[[integer_to_list(Number), " "] || is_integer(Number)], escaped(Text), [["<br/>", escaped(Where)] || Where =/= ""]].
 
 %% Letters, digits and what means nothing to Mermaid, to Markdown or to HTML stay as they are; any other character is written
 %% by its number.

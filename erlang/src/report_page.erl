@@ -12,7 +12,7 @@
 text(Title, {Head, Tail}, Errors, Sources) ->
     Marks = marks(Errors),
     ["<!DOCTYPE html>\n<html lang=\"en\">\n<head>\n<meta charset=\"utf-8\">\n<title>", escaped(Title), "</title>\n", style(), "</head>\n<body>\n",
-     "<main>\n<h1>", escaped(Title), "</h1>\n", block(Head), contents(Errors), [error(Error, Sources) || Error <- Errors], block(Tail), "</main>\n",
+     "<main>\n<h1>", escaped(Title), "</h1>\n", block(Head), contents(Errors), [section(Error, Sources) || Error <- Errors], block(Tail), "</main>\n",
      "<aside>\n", [source(Source, Marks) || Source <- Sources], "</aside>\n</body>\n</html>\n"].
 
 style() ->
@@ -42,7 +42,7 @@ contents(Errors) ->
 
 %% ---- an error
 
-error({Error, Title, Notes, #{events := Events, places := Places, waits := Waits} = Told, Below, Drawing}, Sources) ->
+section({Error, Title, Notes, #{events := Events, places := Places, waits := Waits} = Told, Below, Drawing}, Sources) ->
     %% (of a deadlock it is not the last event that counts, but who waits)
     Final = case Waits of [] -> length(Events); _ -> none end,
     ["<section>\n<h2 id=\"", error_key(Error), "\">", escaped(Title), "</h2>\n", block(Notes), "<table>\n",

@@ -7,7 +7,8 @@
 %% A transcript as rows, and the columns in their order.
 rows(Finding, #{events := Events, places := Places} = Told) ->
     Sources = report_story:sources(Events),
-    Rows = [(row(Event, maps:get(Number, Places, none)))#row{sent = maps:get(Number, Sources, none)} || #event{number = Number} = Event <- Events],
+    Rows = [(row(Event, maps:get(Number, Places, none)))#row{sent = maps:get(Number, Sources, none)} ||
+               #event{number = Number} = Event <- Events],
     {report_story:processes(Events), last_marked(Finding, Rows ++ waiting(Finding, Told))}.
 
 row(#event{number = Number, who = {From, To}, deed = Deed}, Place) ->

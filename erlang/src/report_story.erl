@@ -95,7 +95,7 @@ source(#event{number = Number, who = {From, To}, deed = Deed}, {Sources, Sent, E
     {maps:merge(Sources, maps:from_list([{Number, Source} || Source =/= none])), Left,
      maps:merge(Ended, maps:from_list([{To, {Number, Reason}} || Reason <- ends(Deed)]))};
 source(#event{number = Number, who = Name, deed = Deed} = Event, {Sources, Sent, Ended}) ->
-    {Sources, lists:foldl(fun(Cause, All) -> All#{Cause => queue:in(Number, maps:get(Cause, All, queue:new()))} end, Sent, sends(Name, Deed)),
+    {Sources, lists:foldl(fun(Cause, All) -> put_in(Cause, Number, All) end, Sent, sends(Name, Deed)),
      maps:merge(Ended, maps:from_list([{Name, {Number, Reason}} || {ends, _, Reason} <- shown(Event)]))}.
 
 %% An end may send to several others, a send to one.
@@ -107,6 +107,8 @@ source_of(From, To, {exit, Reason, _}, Sent, Ended) ->
     end;
 source_of(From, _, {down, _, {message, {tuple, Parts}}}, Sent, Ended) -> {end_of(From, lists:last(Parts), Ended), Sent};
 source_of(From, _, {down, _, _}, Sent, Ended) -> {element(1, maps:get(From, Ended, {none, none})), Sent}.
+
+put_in(Cause, Number, Sent) -> Sent#{Cause => queue:in(Number, maps:get(Cause, Sent, queue:new()))}.
 
 taken(Cause, Sent) ->
     case queue:out(maps:get(Cause, Sent, queue:new())) of

@@ -136,8 +136,10 @@ delays("any-delay") -> "".
 
 unexplored(["all" | _], _, _, _) -> "";
 unexplored(["limit", Depth, Most], _, {complete, Whole, _, _}, _) ->
-    ["depth ", Depth, " has more than the ", many(Most, "nodes"), " that may be visited (--nodes N)\n", helps([without_tree(), fewer(), below(Whole), more(Most)])];
-unexplored(["deepest", Depth, _], _, {complete, _, _, _}, _) -> ["no schedule is followed for more than ", steps(Depth), ": longer ones were not explored\n"];
+    ["depth ", Depth, " has more than the ", many(Most, "nodes"), " that may be visited (--nodes N)\n",
+     helps([without_tree(), fewer(), below(Whole), more(Most)])];
+unexplored(["deepest", Depth, _], _, {complete, _, _, _}, _) ->
+    ["no schedule is followed for more than ", steps(Depth), ": longer ones were not explored\n"];
 unexplored(_, _, {complete, _, _, _}, _) -> "longer schedules were not explored\n";
 unexplored([_, _, Most], _, {stopped, Depth, "node limit"}, _) ->
     ["there are more than the ", many(Most, "nodes"), " that may be visited to depth ", Depth, " (--nodes N)\n",
@@ -145,8 +147,10 @@ unexplored([_, _, Most], _, {stopped, Depth, "node limit"}, _) ->
 unexplored(_, _, {stopped, Depth, Cause}, _) ->
     ["not all nodes were visited: ", Cause, " at depth ", Depth, "\n", helps([without_tree(), fewer(), lower()])];
 unexplored([_, _, Most], Of, {stopped, _, "state limit", Whole}, Counts) ->
-    ["there are more than the ", many(Most, "states"), " that may be found (--nodes N)\n", found(Whole, Of, Counts), helps([fewer(), below(Whole), more(Most)])];
-unexplored(_, Of, {stopped, _, "memory", Whole}, Counts) -> ["memory ran out\n", found(Whole, Of, Counts), helps([fewer(), below(Whole)])].
+    ["there are more than the ", many(Most, "states"), " that may be found (--nodes N)\n", found(Whole, Of, Counts),
+     helps([fewer(), below(Whole), more(Most)])];
+unexplored(_, Of, {stopped, _, "memory", Whole}, Counts) ->
+    ["memory ran out\n", found(Whole, Of, Counts), helps([fewer(), below(Whole)])].
 
 %% What a search by states had found when it stopped.
 found(Whole, Of, "errors 0," ++ _) -> ["no schedule of at most ", steps(Whole), Of, " shows an error, but longer ones may\n"];
