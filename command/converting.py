@@ -18,11 +18,12 @@ APPLIED = re.compile(r"^'main'/0 =\s+fun \(\) ->\s+apply '((?:[^'\\]|\\.)*)'/0\(
 
 def convert(request: Request, room: Path) -> Path:
     """The Core module. That of Erlang modules has the lines of the source as annotations, and beside it is what makes a
-    verdict doubtful."""
+    verdict doubtful, and where its functions and their clauses are."""
     module = room / "module.core"
     if request.is_converted:
         need_erlang()
-        module.write_bytes(_by_converter(request, ["--doubts", room / "doubts"] if request.doubts else []))
+        beside = {"--doubts": request.doubts, "--places": request.needs_reporter and not request.raw}
+        module.write_bytes(_by_converter(request, [it for name, asked in beside.items() if asked for it in (name, room / name[2:])]))
     else:
         try:
             shutil.copyfile(request.source, module)

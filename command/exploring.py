@@ -14,6 +14,8 @@ STEP, DEEPEST = 8, 400
 # A tree of at most so many nodes is explored deeper although it shows an error.
 FEW = 50_000
 CLEAN, ERRORS, INCOMPLETE = 0, 1, 3
+# in the spelling of the program
+SHUTDOWN = "'shutdown'"
 
 
 @dataclass(frozen=True)
@@ -37,10 +39,12 @@ class Explored:
 
 
 def words_of_search(request: Request, normal: Sequence[str]) -> list[str]:
-    """The words for the program: by states, unless the tree is asked for, and at once, unless any delay is."""
+    """The words for the program: by states, unless the tree is asked for, and at once, unless any delay is. An end with
+    `shutdown` is one on purpose, as OTP has it, unless ends are to be taken strictly."""
     states = [] if request.tree else ["--states"]
     prompt = ["--at-once"] if request.at_once else []
-    return [*request.search, *(f"--normal={it}" for it in normal), *states, *prompt]
+    on_purpose = [] if request.strict_ends or SHUTDOWN in normal else [SHUTDOWN]
+    return [*request.search, *(f"--normal={it}" for it in [*on_purpose, *normal]), *states, *prompt]
 
 
 def explore(program: Program, search: Sequence[str], request: Request) -> Explored:

@@ -37,8 +37,9 @@ What is explored:
   --replay SCHEDULE    Shows what happens in one schedule, such as "P P P.1>P". Nothing is explored.
 
 What counts as an error:
-  --normal TERM        An end with this reason is no error. Write TERM as the report shows it: shutdown, {shutdown,1}.
-                       The option may be given up to 16 times.
+  --normal TERM        An end with this reason is no error. Write TERM as the report shows it: killed, {shutdown,1}.
+                       The option may be given up to 15 times.
+  --strict-ends        An end with the reason shutdown is an error too. Without this it is none, as --normal says.
   --main-deadlock      A deadlock is an error only where the first process waits in it.
   --allow-deadlock     No deadlock is an error.
   --strict-access      A refused call of a table that belongs to another process is an error too.
@@ -46,8 +47,13 @@ What counts as an error:
 What is printed:
   --unfold             Shows the events of each error. Without this one that follows from another error is a line below
                        that one, "and then: ..", with neither events nor drawing.
+  --steps              Shows each step of a call, a cast and a start of OTP's behaviours. Without this the steps of one
+                       are one line, where nothing comes between them.
   --chart              Draws each error as text, with a column for each process.
+  --mermaid            Prints a Mermaid sequence diagram in the place of the events of each error, which code forges
+                       draw where it is in a text of Markdown.
   --svg FOLDER         Draws each error into FOLDER/error_1.svg, error_2.svg and so on.
+  --html FOLDER        Writes FOLDER/index.html: all errors with their events and drawings, and the source beside them.
   --junit FILE         Writes a JUnit XML file too, in which each error is a test that failed (docs/CI.md). With
                        --eunit each function is a test.
   --raw                Prints what the program prints, unchanged.

@@ -133,5 +133,5 @@ def searched(request: Request) -> Told:
     with begun(request) as (module, waiting):
         program, words = ready(request, module, waiting)
         explored = explore(program, words, request)
-        report = report_of(waiting, explored, explore_promptly(program, words, request, explored.report))
+        report = report_of(waiting, explored, explore_promptly(program, words, request, explored.report), request)
         return Told(request.source, entry_of(module), explored.status, report, time.monotonic() - began)

@@ -58,17 +58,20 @@ ALL = (
     Option("--depth", "a number of steps, 0 to 400", number(0, 400)),
     Option("--nodes", "a number of states, or of nodes of a tree, 1 to 10000000", number(1, 10_000_000)),
     Option("--workers", "a number of threads, 1 to 16", number(1, 16)),
-    Option("--normal", "a term as the report shows it, as shutdown or {shutdown,1}", spelled(TEXT), most=16),
+    Option("--normal", "a term as the report shows it, as shutdown or {shutdown,1}", spelled(TEXT), most=15),
     Option("--replay", 'a schedule, as "P P P.1>P"', spelled(f"(?!-){TEXT}")),
     Option("--svg", "a folder", can_be_folder),
+    Option("--html", "a folder", can_be_folder),
     Option("--junit", "the name of a file", spelled(".+")),
 )
 OPTIONS = {option.name: option for option in ALL}
-FLAGS = ("--eunit", "--any-delay", "--tree", "--main-deadlock", "--allow-deadlock", "--strict-access",
-         "--unfold", "--chart", "--raw", "--core", "--notes", "--no-notes", "--strict")
+FLAGS = ("--eunit", "--any-delay", "--tree", "--strict-ends", "--main-deadlock", "--allow-deadlock", "--strict-access",
+         "--unfold", "--steps", "--chart", "--mermaid", "--raw", "--core", "--notes", "--no-notes", "--strict")
 # which do not go together
 APART = (("--main-deadlock", "--allow-deadlock"), ("--junit", "--raw"), ("--junit", "--core"), ("--junit", "--replay"),
-         ("--eunit", "--raw"), ("--eunit", "--core"), ("--eunit", "--replay"), ("--eunit", "--entry"))
+         ("--html", "--raw"), ("--html", "--core"), ("--html", "--replay"), ("--eunit", "--raw"), ("--eunit", "--core"), ("--eunit", "--replay"), ("--eunit", "--entry"))
 # which of them are for the converter, and which for the program
 CONVERSION = ("--entry", "-pa", "--env", "--after-timeout", "-I", "-D", "--notes", "--strict")
 SEARCH = ("--nodes", "--workers", "--strict-access", "--allow-deadlock", "--main-deadlock")
+# and which for the report
+SHOWN = ("--unfold", "--steps", "--chart", "--mermaid")

@@ -29,7 +29,8 @@ class Reporter:
         return [os.fsdecode(line) for line in (self.room / "spelled").read_bytes().split(b"\n")[:-1]]
 
     def report(self, asked: str) -> Optional[bytes]:
-        """The report of what is in the folder, or none where it cannot be made. `asked` is `explore COVERAGE` or `replay`."""
+        """The report of what is in the folder, or none where it cannot be made. `asked` is `replay`, or `explore`
+        with how far it came, how many states or nodes it might find, and which sums are told."""
         status, told = self._ended(f"{asked}\n".encode())
         return told if status == 0 else None
 
@@ -47,7 +48,7 @@ def reporter(request: Request, room: Path) -> Iterator[Optional[Reporter]]:
         yield None
         return
     delivery = "at-once" if request.at_once else "any-delay"
-    unfold, chart = ("yes" if it else "no" for it in (request.unfold, request.chart))
-    words = [room, request.source, delivery, unfold, chart, request.drawings]
+    words = [room, request.source, delivery, request.drawings, request.page, *request.shown]
+    (room / "sources").write_bytes(b"".join(os.fsencode(it) + b"\0" for it in [*request.files, *request.folders]))
     with erlang("report.escript", *words, stdin=subprocess.PIPE) as running:
         yield Reporter(running, room)

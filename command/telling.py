@@ -8,9 +8,10 @@ from .ending import say, show
 from .exploring import DEEPEST, Explored
 from .program_report import Report
 from .reporter import Reporter
+from .words import Request
 
 
-def report_of(reporter: Reporter, explored: Explored, prompt: Optional[Report]) -> str:
+def report_of(reporter: Reporter, explored: Explored, prompt: Optional[Report], request: Request) -> str:
     """The report for people, with the mark of errors that no prompt report has."""
     room = reporter.room
     _write(room / "report", explored.report.titles)
@@ -21,7 +22,7 @@ def report_of(reporter: Reporter, explored: Explored, prompt: Optional[Report]) 
     for place, transcript in enumerate(explored.report.transcripts, 1):
         _write(transcripts / f"{place}", "".join(transcript.events))
         _write(transcripts / f"{place}.waits", "".join(transcript.waits))
-    return _told(reporter, f"explore {explored.coverage}")
+    return _told(reporter, f"explore {explored.coverage} {request.nodes} {'normal' if request.tells_normal else 'plain'}")
 
 
 def tell_replay(reporter: Reporter, printed: str) -> None:

@@ -35,9 +35,9 @@ def _test(request: Request, name: str, explored: Callable[[Request], Told]) -> T
     entry = f"{name}/0"
     if name.endswith(GENERATOR):
         return _without_report(request, entry, NOT_EXPLORED)
-    drawings = request.drawings and os.path.join(request.drawings, name)
+    drawings, page = (it and os.path.join(it, name) for it in (request.drawings, request.page))
     try:
-        told = explored(replace(request, conversion=[*request.conversion, "--entry", entry], drawings=drawings))
+        told = explored(replace(request, conversion=[*request.conversion, "--entry", entry], drawings=drawings, page=page))
     except Ended as end:
         if end.status != NO_INPUT:
             raise

@@ -8,16 +8,19 @@ from dataclasses import dataclass
 from typing import Optional
 
 from .ending import NO_INPUT, Ended, misread
-from .options import APART, CONVERSION, FLAGS, OPTIONS, SEARCH
+from .options import APART, CONVERSION, FLAGS, OPTIONS, SEARCH, SHOWN
 
 ASKING = ("-h", "--help", "--version")
+# How many states or nodes the program finds at most where nothing is asked.
+MOST = 1_000_000
 
 
 @dataclass(frozen=True)
 class Request:
     """What the words ask for.
 
-    `source` is the file of the first module, and `conversion` and `search` are words for the converter and the program.
+    `source` is the file of the first module, and `conversion` and `search` are words for the converter and the program. `shown`
+    says how a report shows what happens, and `folders` where else there may be sources.
     """
 
     files: list[str]
@@ -25,17 +28,20 @@ class Request:
     conversion: list[str]
     search: list[str]
     normal: list[str]
+    strict_ends: bool
     depth: Optional[int]
+    nodes: int
     replay: Optional[str]
     drawings: str
+    page: str
+    folders: list[str]
     junit: Optional[str]
     eunit: bool
     at_once: bool
     tree: bool
     raw: bool
     core: bool
-    unfold: bool
-    chart: bool
+    shown: list[str]
     doubts: bool
 
     @property
@@ -47,6 +53,12 @@ class Request:
         """Whether a report for people is made, or terms are spelled. What needs no Erlang otherwise does not need it for
         terms: then they are passed on as they are."""
         return not self.core and (not self.raw or (self.is_converted and bool(self.normal)))
+
+
+    @property
+    def tells_normal(self) -> bool:
+        """Whether anything is to be taken as normal beside `shutdown`, which is so unless it is asked for otherwise."""
+        return bool(self.normal) or "--main-deadlock" in self.search
 
 
 class Asked(Exception):
@@ -103,17 +115,20 @@ def read(words: Sequence[str]) -> Request:
         conversion=conversion,
         search=given.words_for(SEARCH),
         normal=given.values("--normal"),
+        strict_ends=given.has("--strict-ends"),
         depth=None if depth is None else int(depth),
+        nodes=int(given.value("--nodes") or MOST),
         replay=given.value("--replay"),
         drawings=given.value("--svg") or "",
+        page=given.value("--html") or "",
+        folders=[*given.values("-pa"), *given.values("-I")],
         junit=given.value("--junit"),
         eunit=given.has("--eunit"),
         at_once=not given.has("--any-delay") and not given.has("--tree"),
         tree=given.has("--tree"),
         raw=given.has("--raw"),
         core=given.has("--core"),
-        unfold=given.has("--unfold"),
-        chart=given.has("--chart"),
+        shown=[it[2:] for it in SHOWN if given.has(it)],
         doubts=not given.has("--no-notes"),
     )
 

@@ -1,8 +1,8 @@
 #!/usr/bin/env escript
 %% -*- erlang -*-
 %%! +A0 +fnu
-%% Reports an exploration to people: report.escript FOLDER FILE DELIVERY UNFOLD CHART DRAWINGS, as ./explore calls it. The lines of
-%% standard input say what to do (report_main). The modules of src/ whose names begin with report_ are compiled the first time
+%% Reports an exploration to people: report.escript FOLDER FILE DELIVERY DRAWINGS PAGE [OPTION ..], as ./explore calls it. The lines of standard
+%% input say what to do (report_main). The modules of src/ whose names begin with report_ are compiled the first time
 %% (built.hrl).
 -mode(interpret).
 -include("built.hrl").

@@ -5,12 +5,12 @@
 
 -include("core.hrl").
 
--record(options, {files = [], folders = [], entry = none, after_timeout = none, strict = false, tests = false, notes = false, doubts = none, environment = [],
+-record(options, {files = [], folders = [], entry = none, after_timeout = none, strict = false, tests = false, notes = false, doubts = none, places = none, environment = [],
                   compiler = []}).
 
 usage() ->
     "usage: convert.escript FILE.erl|FILE.beam [FILE|FOLDER ..] [-pa FOLDER] [--entry [m:]f/0] [--after-timeout MS] [--strict] [--tests] [--notes]"
-    " [--doubts FILE] [--env APPLICATION.KEY=TERM] [-I DIR] [-D NAME[=VALUE]]\n".
+    " [--doubts FILE] [--places FILE] [--env APPLICATION.KEY=TERM] [-I DIR] [-D NAME[=VALUE]]\n".
 
 %% Prints, and gives the status. Library is the folder's library, {Name, Arity} => function.
 main(Words, Library) ->
@@ -43,6 +43,7 @@ options(["--strict" | T], O) -> options(T, O#options{strict = true});
 options(["--tests" | T], O) -> options(T, O#options{tests = true});
 options(["--notes" | T], O) -> options(T, O#options{notes = true});
 options(["--doubts", File | T], O) -> options(T, O#options{doubts = File});
+options(["--places", File | T], O) -> options(T, O#options{places = File});
 options(["-pa", Folder | T], #options{folders = Folders} = O) -> options(T, O#options{folders = Folders ++ [Folder]});
 options(["--env", Text | T], #options{environment = Set} = O) ->
     case value_set(string:split(Text, "=")) of
@@ -88,16 +89,21 @@ term(Text) ->
     end.
 
 told({error, Lines}, _) -> {2, "", Lines};
-told({ok, File, Text, Ledger}, #options{notes = WithNotes, doubts = Doubts}) ->
+told({ok, File, Text, Places, Ledger}, #options{notes = WithNotes, doubts = DoubtFile, places = PlaceFile}) ->
     Notes = case WithNotes of true -> ledger:notes(Ledger); false -> "" end,
-    case {ledger:refusals(Ledger), written(Doubts, Ledger)} of
-        {[], ok} -> small(File, unicode:characters_to_binary(Text()), Notes);
-        {Refusals, ok} -> {2, "", [Notes, Refusals]};
-        {Refusals, _} -> {2, "", [Notes, Refusals, io_lib:format("~ts cannot be written~n", [Doubts])]}
+    Unwritten = written(DoubtFile, fun() -> ledger:doubts(Ledger) end) ++ written(PlaceFile, Places),
+    case {ledger:refusals(Ledger), Unwritten} of
+        {[], []} -> small(File, unicode:characters_to_binary(Text()), Notes);
+        {Refusals, Unwritten} -> {2, "", [Notes, Refusals, Unwritten]}
     end.
 
-written(none, _) -> ok;
-written(File, Ledger) -> file:write_file(File, unicode:characters_to_binary(ledger:doubts(Ledger))).
+%% Writes a file beside the module, if it is asked for; where it cannot be written that is said.
+written(none, _) -> [];
+written(File, Text) ->
+    case file:write_file(File, unicode:characters_to_binary(Text())) of
+        ok -> [];
+        _ -> [io_lib:format("~ts cannot be written~n", [File])]
+    end.
 
 %% The explorer reads no larger text.
 small(File, Text, Notes) when byte_size(Text) > 1048576 ->
@@ -115,15 +121,16 @@ names(Modules) -> [atom_to_list(F) || {F, 0} <- modules:functions(modules:main(M
 
 is_test(Name) -> lists:suffix("_test", Name) orelse lists:suffix("_test_", Name).
 
-%% {ok, File, Text, Ledger}, where Text() is the text if nothing was refused, and File is the first one.
+%% {ok, File, Text, Places, Ledger}, where Text() is the text if nothing was refused, Places() that of the places of its
+%% functions, and File is the first one.
 convert(#options{files = Files, folders = Folders, entry = Entry, environment = Set, compiler = Words} = Options, Library0) ->
     Library = maps:merge(Library0, environment:functions(modules:environment(Folders) ++ lists:reverse(Set))),
     try
         case modules:open(Files, Folders, Words, named(Entry), linker:modules_of(Library)) of
             {error, Lines} -> {error, Lines};
             {ok, RunsWhenLoaded, Modules} ->
-                {Text, Ledger} = begun(RunsWhenLoaded, Modules, Options, Library, ledger:new(Options#options.strict)),
-                {ok, modules:file(Modules), Text, Ledger}
+                {Text, Places, Ledger} = begun(RunsWhenLoaded, Modules, Options, Library, ledger:new(Options#options.strict)),
+                {ok, modules:file(Modules), Text, Places, Ledger}
         end
     catch throw:{unreadable, Why} -> {error, Why}
     end.
@@ -137,7 +144,7 @@ begun(RunsWhenLoaded, Modules, #options{entry = Asked} = Options, Library, New) 
         false -> New
     end,
     case entry_point:settle(Asked, Modules, Ledger) of
-        {none, _, L} -> {none, L};
+        {none, _, L} -> {none, fun() -> "" end, L};
         {Entry, Modules1, L} -> converted(Entry, Modules1, Options, Library, L)
     end.
 
@@ -156,7 +163,7 @@ converted(Entry, Modules, Options, Library, L0) ->
     Reached = reach:by_names(FirstOrder, [{main, 0} | AllExports]),
     {Stopped, L4} = stops:put(Reached, Module, AllExports, L3),
     Ledger = readable:check(File, Stopped, Module, AllExports, L4),
-    {fun() -> core_text:module(File, Module, AllExports, Stopped) end, Ledger}.
+    {fun() -> core_text:module(File, Module, AllExports, Stopped) end, fun() -> clause_places:text(File, Stopped) end, Ledger}.
 
 %% Which tables there are is known once it is known what is reached: where there are some, it is linked again, with the calls
 %% of ets as they have to be.

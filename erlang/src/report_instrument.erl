@@ -5,18 +5,19 @@
 %% another file than the source. The module that is made has a name of its own, so that it takes the place of no module
 %% of the machine.
 -module(report_instrument).
--export([module/2, read/1, name/0, first/0]).
+-export([module/3, read/1, name/0, first/0]).
 
 %% The name of the module that is made, and that of its function which is what the first process runs.
 name() -> '$played'.
 first() -> '$first'.
 
-%% The name of the module that a text spells, what its first process runs, and its code; or why there is none.
-module(Text, Source) ->
+%% The name of the module that a text spells, what its first process runs, and its code; or why there is none. The places of its
+%% functions are those of clause_places.
+module(Text, Source, Places) ->
     try
         Core = read(Text),
         Name = cerl:concrete(cerl:module_name(Core)),
-        {ok, _, Code} = compile:forms(made(noted(Core, erlang_file(Source, Name)), Name), [from_core, binary]),
+        {ok, _, Code} = compile:forms(made(noted(Core, erlang_file(Source, Name)), Name, Places), [from_core, binary]),
         {ok, Name, first_of(Core), Code}
     catch
         error:Reason -> {error, Reason}
@@ -68,11 +69,54 @@ notes(Notes, Source) ->
         [Line | _] -> [Line, {file, hd(Files ++ [Source])}]
     end.
 
-made(Core, Name) ->
+made(Core, Name, Places) ->
     First = cerl:c_fname(first(), 0),
     Main = cerl:c_fun([], cerl:c_apply(cerl:c_fname(main, 0), [])),
-    Functions = [{Var, played(Fun, Name)} || {Var, Fun} <- cerl:module_defs(Core)],
+    Functions = [{Var, function(cerl:var_name(Var), played(Fun, Name), Name, Places)} || {Var, Fun} <- cerl:module_defs(Core)],
     cerl:c_module(cerl:abstract(name()), [First | cerl:module_exports(Core)], [], [{First, Main} | Functions]).
+
+%% A function that chooses what a computed call means (erlang/README.md) tells the machine when it begins, and when it has
+%% its value; a function of the source which clause of it runs.
+function({Name, _} = Key, Fun, Module, Places) ->
+    case atom_to_list(Name) of
+        "call " ++ _ -> dispatching(callback, Fun);
+        "computed call" -> dispatching(callback, Fun);
+        "apply computed" -> dispatching(other, Fun);
+        Text ->
+            case lists:member($\s, Text) orelse not maps:is_key(Key, Places) of
+                true -> Fun;
+                false -> telling(full_name(Key, Module), Fun, maps:get(Key, Places))
+            end
+    end.
+
+dispatching(Kind, Fun) ->
+    Value = cerl:c_var('Given@'),
+    Body = cerl:c_let([Value], cerl:fun_body(Fun), cerl:c_seq(ask([], leaves, []), Value)),
+    cerl:update_c_fun(Fun, cerl:fun_vars(Fun), cerl:c_seq(ask([], enters, [cerl:abstract(Kind)]), Body)).
+
+telling(Name, Fun, Places) when is_list(Places) ->
+    Body = cerl:fun_body(Fun),
+    case cerl:type(Body) =:= 'case' andalso length(cerl:case_clauses(Body)) =:= length(Places) of
+        true ->
+            Clauses = [told_of(Name, Clause, Place) || {Clause, Place} <- lists:zip(cerl:case_clauses(Body), Places)],
+            cerl:update_c_fun(Fun, cerl:fun_vars(Fun), cerl:update_c_case(Body, cerl:case_arg(Body), Clauses));
+        false -> Fun
+    end;
+telling(Name, Fun, Place) -> cerl:update_c_fun(Fun, cerl:fun_vars(Fun), runs(Name, Place, cerl:fun_body(Fun))).
+
+%% (a clause that the compiler added, which fails, has no place)
+told_of(_, Clause, none) -> Clause;
+told_of(Name, Clause, Place) ->
+    cerl:update_c_clause(Clause, cerl:clause_pats(Clause), cerl:clause_guard(Clause), runs(Name, Place, cerl:clause_body(Clause))).
+
+runs(Name, Place, Body) -> cerl:c_seq(ask([], runs, [cerl:abstract(Name), cerl:abstract(Place)]), Body).
+
+%% {Module, Function, Arity}, where the functions of the main module have no module in their names.
+full_name({Name, Arity}, Main) ->
+    case string:split(atom_to_list(Name), ":") of
+        [Module, Function] when Module =/= "", Function =/= "" -> {list_to_atom(Module), list_to_atom(Function), Arity};
+        _ -> {Main, Name, Arity}
+    end.
 
 %% What the first process runs: main/0, or the function that main/0 does no more than apply.
 first_of(Core) ->
@@ -144,7 +188,8 @@ waiting(Tree) ->
     Notes = cerl:get_ann(Tree),
     Late = cerl:c_seq(ask([], not_taken, []), cerl:receive_action(Tree)),
     Receive = cerl:update_c_receive(Tree, cerl:receive_clauses(Tree), cerl:abstract(0), Late),
-    cerl:c_seq(ask(Notes, wait, [place(Tree), cerl:receive_timeout(Tree)]), Receive).
+    Kind = case cerl:receive_clauses(Tree) of [] -> sleep; _ -> 'receive' end,
+    cerl:c_seq(ask(Notes, wait, [place(Tree), cerl:abstract(Kind), cerl:receive_timeout(Tree)]), Receive).
 
 applied(Tree) ->
     counted(Tree, cerl:apply_args(Tree), fun(Arguments) ->
@@ -162,10 +207,10 @@ counted(Tree, Arguments, Application) ->
                cerl:c_seq(ask([], applied, [place(Tree), cerl:make_list(Given)]), Application(Given))).
 
 %% A request, or an application in the source, leaves its caller on the stack, so that the line is found from which a
-%% library function was called.
+%% library function was called; and what it gives is shown to the machine.
 kept(Tree) ->
     Value = cerl:c_var('Kept@'),
-    cerl:c_let([Value], Tree, cerl:c_seq(ask([], back, []), Value)).
+    cerl:c_let([Value], Tree, cerl:c_seq(ask([], built, [place(Tree), Value]), Value)).
 
 %% What a catch gives has no stack in it.
 caught(Body) ->

@@ -4,13 +4,14 @@
 %% is. The machine is also a second witness: where it asks otherwise than the transcript says, that is reported.
 -module(report_machine).
 -export([load/1, play/2]).
--export([ask/4, wait/2, not_taken/0, back/0, applied/2, built/2, caught/2, raised/2]).
+-export([enters/1, leaves/0, runs/2, ask/4, wait/3, not_taken/0, applied/2, built/2, caught/2, raised/2]).
 -include("report.hrl").
 
 -record(played, {
     lines = #{},        % the place of each event, by its number
     stands = #{},       % the place where each process is that did not end, by its name
     limits = #{},       % the limit of the explorer that an event comes from, by its number: {Limit, Place}
+    times = #{},        % how many milliseconds a receive waited before its timeout, by the number of that event
     differs = []        % what the machine does otherwise
 }).
 
@@ -37,7 +38,7 @@ play(Module, Events) ->
                          #played{}, [{"P", first} | starts(Module, Events)]),
     [exit(Pid, kill) || Pid <- maps:values(Named), is_pid(Pid)],
     #{lines => Result#played.lines, stands => Result#played.stands, limits => Result#played.limits,
-      differs => lists:reverse(Result#played.differs)}.
+      times => Result#played.times, differs => lists:reverse(Result#played.differs)}.
 
 %% ---- names
 
@@ -102,6 +103,9 @@ listen(Name, {Pid, Watch} = Player, Ended, Played) ->
         {told, Pid, {line, Number, Place}} ->
             Lines = Played#played.lines,
             listen(Name, Player, Ended, Played#played{lines = Lines#{Number => Place}});
+        {told, Pid, {time, Number, Time}} ->
+            Times = Played#played.times,
+            listen(Name, Player, Ended, Played#played{times = Times#{Number => Time}});
         {told, Pid, {limit, Number, Limit, Place}} ->
             #played{lines = Lines, limits = Limits} = Played,
             Played#played{lines = Lines#{Number => Place}, limits = Limits#{Number => {Limit, Place}}};
@@ -137,9 +141,9 @@ reason(throw, Value) -> {tuple, [{tuple, [{atom, nocatch}, Value]}, {list, [], n
 %% The end of a process, compared with what the transcript says next.
 ended({Reason, Place}) ->
     case next() of
-        #event{number = Number, deed = {ends, Reason}} -> tell({line, Number, Place}), tell(ended);
+        #event{number = Number, deed = {ends, Reason}} -> tell({line, Number, of_callback(Place)}), tell(ended);
         #event{deed = runaway} -> tell(ended);
-        none -> tell({stands, Place});
+        none -> tell({stands, of_callback(Place)});
         Event -> differ(Event, ["ends ", report_term:text(Reason)])
     end,
     stop().
@@ -148,7 +152,7 @@ ended({Reason, Place}) ->
 
 %% A call of processes or tables.
 ask(Place, Module, Function, Arguments) ->
-    Here = place(Place),
+    Here = of_callback(place(Place)),
     Asked = [of_real(Argument) || Argument <- Arguments],
     case next() of
         #event{number = Number, deed = {call, Module, Function, Asked, Answer}} ->
@@ -165,8 +169,8 @@ answer({refused, "noproc"}) -> erlang:error(noproc);
 answer({refused, _}) -> erlang:error(badarg);
 answer({ends, _}) -> tell(ended), stop().
 
-%% A receive, before it looks for its message.
-wait(Place, Timeout) ->
+%% A receive, or a sleep, before it looks for its message.
+wait(Place, Kind, Timeout) ->
     is_timeout(Timeout) orelse erlang:error(timeout_value),
     Here = place(Place),
     put('$taken', none),
@@ -174,13 +178,22 @@ wait(Place, Timeout) ->
     case next() of
         #event{number = Number, deed = {receives, Term}} = Event ->
             tell({line, Number, Here}),
+            awaits(Here, Number),
             put('$taken', Event),
             self() ! report_term:real(Term, get('$named'));
-        #event{number = Number, deed = timeout} when Timeout =/= infinity -> tell({line, Number, Here});
-        none -> tell({stands, Here}), stop();
+        #event{number = Number, deed = timeout} when Timeout =/= infinity ->
+            tell({line, Number, Here}),
+            awaits(Here, Number),
+            [tell({time, Number, Timeout}) || Timeout > 0, Kind =:= 'receive', not is_timer()];
+        none -> tell({stands, of_callback(Here)}), stop();
         #event{deed = runaway} -> tell(ended), stop();
         Event -> differ(Event, "waits for a message")
     end.
+
+%% Whether a process is a timer of the library, whose time is none of a receive in the source.
+is_timer() ->
+    {current_stacktrace, Stack} = process_info(self(), current_stacktrace),
+    lists:any(fun({_, Function, _, _}) -> lists:prefix("timer ", atom_to_list(Function)) end, Stack).
 
 is_timeout(infinity) -> true;
 is_timeout(Timeout) -> is_integer(Timeout) andalso Timeout >= 0 andalso Timeout =< 16#ffffffff.
@@ -192,8 +205,6 @@ not_taken() ->
         Event -> differ(Event, "does not take this message")
     end.
 
-back() -> ok.
-
 caught(throw, Value) -> Value;
 caught(exit, Reason) -> {'EXIT', Reason};
 caught(error, Reason) -> {'EXIT', {Reason, []}}.
@@ -204,12 +215,55 @@ raised(Class, Reason) -> erlang:raise(Class, Reason, []).
 
 %% The next event of this process, which is taken off.
 next() ->
+    erase('$awaited'),
+    erase('$called'),
     case get('$events') of
         [Event | Events] -> put('$events', Events), Event;
         [] -> none
     end.
 
 tell(What) -> get('$boss') ! {told, self(), What}.
+
+%% ---- callbacks
+
+%% OTP's behaviours come to a computed call, of a callback or of something else.
+enters(Kind) -> is_in_source() orelse put('$called', Kind).
+
+%% Such a call has its value.
+leaves() ->
+    erase('$called'),
+    case {get('$callback'), is_in_source()} of
+        {{in, Name, Place}, false} -> put('$callback', {'after', Name, Place});
+        _ -> ok
+    end.
+
+%% A clause of the source runs. The first one after such a call is what was called; what was received before is for it.
+runs(Name, Place) ->
+    case erase('$called') of
+        undefined -> ok;
+        Kind ->
+            put('$callback', {in, Name, Place}),
+            [tell({line, Number, {for, Name, Place}}) || Kind =:= callback, Number <- [get('$awaited')], is_integer(Number)]
+    end.
+
+%% What stands for a place within OTP's behaviours: the callback that ran last there since a message was taken, or still does.
+of_callback({library, _} = Place) ->
+    case get('$callback') of
+        {_, _, _} = Callback -> Callback;
+        _ -> Place
+    end;
+of_callback(Place) -> Place.
+
+is_in_source() ->
+    {current_stacktrace, Stack} = process_info(self(), current_stacktrace),
+    case source_of(Stack) of
+        {File, _} when is_list(File) -> true;
+        _ -> false
+    end.
+
+%% What is taken within OTP's behaviours may be for the callback that comes next.
+awaits({library, _}, Number) -> erase('$callback'), put('$awaited', Number);
+awaits(_, _) -> ok.
 
 %% ---- the limits of the explorer
 
@@ -291,7 +345,7 @@ library(Names) ->
     Found = [Module || Name <- Names,
                        {match, [_, Module]} <- [re:run(Name, "^([a-z]+ (?:in|of) )?([a-z_]+)[: ][a-z]",
                                                        [{capture, all_but_first, list}])]],
-    case [Module || Module <- Found, Module =/= "apply"] of
+    case [Module || Module <- Found, Module =/= "apply", Module =/= "call", Module =/= "computed"] of
         [Module | _] -> {library, Module};
         [] -> none
     end.

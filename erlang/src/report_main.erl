@@ -2,44 +2,56 @@
 %%
 %% The folder of the exploration has the report of the program (`report`), the transcripts of its findings
 %% (`transcripts/1`, `transcripts/2` ..), the module (`module.core`), which has the lines of its source as annotations,
-%% and where it was converted what makes its verdict doubtful (`doubts`). Where signals took any time it may have the report
+%% and where it was converted what makes its verdict doubtful (`doubts`), and where its functions and their clauses are
+%% (`places`). Where signals took any time it may have the report
 %% of the schedules in which they arrive at once (`prompt`).
 -module(report_main).
 -export([main/1]).
 -include("report.hrl").
 
 %% What a report is made with: the name of the source, when signals arrive, the module that the machine plays, what the first
-%% process runs, whether each error has its transcript, and what is drawn.
--record(work, {folder, source, delivery, module, first, unfold, chart, drawings}).
+%% process runs, the folders of drawings and of the page, and the options of what is printed: unfold, steps, chart and mermaid.
+-record(work, {folder, source, delivery, module, first, drawings, page, options}).
 
 %% A finding with what it is, all that is shown of its transcript, and whether it needs that signals overtake.
 -record(finding, {kind, number, identity, schedule, told, overtakes}).
 
-main([Folder, Source, Delivery, Unfold, Chart, Drawings]) ->
+main([Folder, Source, Delivery, Drawings, Page | Options]) ->
     [ok = io:setopts(Device, [{encoding, unicode}]) || Device <- [standard_io, standard_error]],
     load(),
-    asked(#work{folder = Folder, source = filename:basename(Source), delivery = Delivery, unfold = Unfold =:= "yes",
-                chart = Chart =:= "yes", drawings = Drawings}).
+    asked(#work{folder = Folder, source = filename:basename(Source), delivery = Delivery, drawings = Drawings, page = Page,
+                options = Options}).
+
+is_asked(Option, #work{options = Options}) -> lists:member(Option, Options).
 
 %% Compiles a small module, so that what does it is loaded before it is asked for: until then there is nothing else to do.
-load() -> {ok, _, _, _} = report_instrument:module("module 'm' ['main'/0] attributes [] 'main'/0 = fun () -> 'ok' end", "m.erl").
+load() -> {ok, _, _, _} = report_instrument:module("module 'm' ['main'/0] attributes [] 'main'/0 = fun () -> 'ok' end", "m.erl", #{}).
 
 %% Does what the lines of standard input ask for: first, if at all, the spelling of terms, and at last a report.
 asked(Work) ->
     case io:get_line("") of
         "normal\n" -> spelled(Work#work.folder), asked(Work);
-        "explore " ++ Coverage -> explored(prepared(Work), string:lexemes(Coverage, " \n"));
+        "explore " ++ Words ->
+            [Sums | Coverage] = lists:reverse(string:lexemes(Words, " \n")),
+            explored(prepared(Work), lists:reverse(Coverage), Sums);
         "replay\n" -> replayed(prepared(Work));
         eof -> ok
     end.
 
 %% With the module to be played, or none where the machine does not take it, and with what its first process runs.
 prepared(#work{folder = Folder, source = Source} = Work) ->
-    case report_instrument:module(read(filename:join(Folder, "module.core")), Source) of
+    case report_instrument:module(read(filename:join(Folder, "module.core")), Source, places(Folder)) of
         {ok, Module, First, Code} -> report_machine:load(Code), Work#work{module = Module, first = First};
         {error, Reason} ->
             complain("there are no lines, since the Erlang machine does not take the module: ~0tp", [Reason]),
             Work#work{module = none, first = "main/0"}
+    end.
+
+%% The places of functions and their clauses, where the module was converted.
+places(Folder) ->
+    case file:consult(filename:join(Folder, "places")) of
+        {ok, Places} -> maps:from_list(Places);
+        _ -> #{}
     end.
 
 read(File) ->
@@ -75,36 +87,44 @@ spelling(Text, Module) ->
 
 replayed(Work) ->
     Told = told(Work, read(filename:join(Work#work.folder, "report"))),
-    print(report_text:transcript(replay, Told)),
+    print(order(Work, replay, Told)),
     draw(Work, "replay", report_story:schedule(maps:get(events, Told)), replay, Told),
     disagreements([Told]).
 
 %% ---- an exploration
 
-explored(Work, Coverage) ->
+explored(Work, Coverage, Sums) ->
     {Reach, All, Last} = report_reader:report(read(filename:join(Work#work.folder, "report"))),
     {Findings, Stops, Deadlocks} = report_unread:sorted(All, fun(Place) -> report_reader:transcript(transcript(Work, Place)) end),
-    print(report_unread:head(Stops, report_text:head(Work#work.source, Work#work.delivery, Coverage, Reach))),
+    Head = report_unread:head(Stops, report_text:head(Work#work.source, Work#work.delivery, Coverage, Reach)),
+    print(Head),
     Prompt = prompt(Work),
     {Errors, Others} = lists:partition(fun(#finding{kind = Kind}) -> Kind =:= error end,
                                        [finding(Work, Place, Finding, Prompt) || {Place, Finding} <- Findings]),
-    Groups = grouped(Errors, Work#work.unfold),
+    Groups = grouped(Errors, is_asked("unfold", Work)),
     Each = [{Number, Identity} || {Cause, Followers} <- Groups, #finding{number = Number, identity = Identity} <- [Cause | firsts(Followers)]],
-    [error(Work, Cause, Followers, Each) || {Cause, Followers} <- Groups],
-    [print(report_text:brief(title(Other), Other#finding.schedule, Other#finding.told)) || Other <- Others],
-    Reached = [unread(Work, Stop) || Stop <- Stops],
+    Shown = [error(Work, Cause, Followers, Each) || {Cause, Followers} <- Groups],
+    Briefs = [report_text:brief(title(Other), Other#finding.schedule, Other#finding.told) || Other <- Others],
+    Reached = [unread(Stop) || Stop <- Stops],
     Folded = length(lists:append([Followers || {_, Followers} <- Groups])),
-    print(report_text:tail(Work#work.delivery, Coverage, Reach, report_unread:sums(Findings, Stops, Last), Folded)),
-    print(report_unread:below(Stops, Deadlocks)),
-    print(report_text:doubts(doubts(Work))),
-    disagreements([Told || #finding{told = Told} <- Errors ++ Others] ++ Reached).
+    Told = report_text:sums(Sums, report_unread:sums(Findings, Stops, Last)),
+    Tail = [Briefs, Reached, report_text:tail(Work#work.delivery, Coverage, Reach, Told, Folded),
+            report_unread:below(Stops, Deadlocks), report_text:doubts(doubts(Work))],
+    print(Tail),
+    [page(Work, {Head, Tail}, Shown) || Work#work.page =/= ""],
+    disagreements([One || #finding{told = One} <- Errors ++ Others] ++ [told(Work, transcript(Work, Place)) || {_, Place, _} <- Stops]).
 
 transcript(#work{folder = Folder}, Place) -> read(filename:join([Folder, "transcripts", integer_to_list(Place)])).
 
+%% The order of events, as lines or as a diagram.
+order(Work, Finding, Told) ->
+    case is_asked("mermaid", Work) of
+        true -> report_mermaid:text(report_rows:rows(Finding, Told), Told);
+        false -> report_text:transcript(Finding, Told, is_asked("steps", Work))
+    end.
+
 %% What is not read, with the shortest schedule that reaches it.
-unread(Work, {What, Place, Schedule}) ->
-    print([report_unread:text(What), report_text:schedule(Schedule)]),
-    told(Work, transcript(Work, Place)).
+unread({What, _, Schedule}) -> [report_unread:text(What), report_text:schedule(Schedule)].
 
 doubts(#work{folder = Folder}) ->
     File = filename:join(Folder, "doubts"),
@@ -142,36 +162,75 @@ firsts(Pairs) -> [First || {First, _} <- Pairs].
 title(#finding{kind = Kind, number = Number, identity = Identity}) ->
     [atom_to_list(Kind), " ", integer_to_list(Number), ": ", report_text:identity(Identity)].
 
-%% An error with all that leads to it, and a line for each that follows from it.
+%% An error with all that leads to it, and a line for each that follows from it: printed, and as a page has it.
 error(Work, #finding{number = Number, identity = Identity, told = Told} = Error, Followers, Each) ->
-    print(["\n", title(Error), "\n", report_text:overtakes(Error#finding.overtakes), report_text:limit(report_story:limit(Told)),
-           report_text:schedule(Error#finding.schedule),
-           report_text:earlier(report_story:earlier(Identity, Each, maps:get(events, Told))), report_text:transcript(Identity, Told),
-           [report_text:follower(title(Follower), Why) || {Follower, Why} <- Followers]]),
-    draw(Work, ["error_", integer_to_list(Number)], title(Error), Identity, Told).
+    Notes = [report_text:overtakes(Error#finding.overtakes), report_text:limit(report_story:limit(Told)),
+             report_text:timeouts(report_story:timeouts(Told), is_converted(Work)), report_text:schedule(Error#finding.schedule),
+             report_text:earlier(report_story:earlier(Identity, Each, maps:get(events, Told)))],
+    Below = [report_text:follower(title(Follower), Why) || {Follower, Why} <- Followers],
+    print(["\n", title(Error), "\n", Notes, order(Work, Identity, Told), Below]),
+    draw(Work, ["error_", integer_to_list(Number)], title(Error), Identity, Told),
+    Drawing = [drawing(Work, title(Error), report_rows:rows(Identity, Told), Told) || Work#work.page =/= ""],
+    {Number, title(Error), Notes, Told, Below, Drawing}.
+
+%% Whether the module was converted, so that --after-timeout may be given.
+is_converted(#work{source = Source}) -> filename:extension(Source) =/= ".core".
 
 %% All that is shown of a transcript: its events, their places, and what the processes are; to that come, of a finding, the
 %% processes that wait with what is in their mailboxes.
 told(Work, Text) ->
     Events = report_reader:transcript(Text),
     Played = case Work#work.module of
-        none -> #{lines => #{}, stands => #{}, limits => #{}, differs => []};
+        none -> #{lines => #{}, stands => #{}, limits => #{}, times => #{}, differs => []};
         Module -> report_machine:play(Module, Events)
     end,
     Played#{events => Events, places => report_story:places(Events, maps:get(lines, Played)),
-            roles => report_story:roles(Events, Work#work.first)}.
+            roles => report_story:roles(Events, Work#work.first), module => Work#work.module}.
 
 draw(Work, Name, Title, Finding, Told) ->
     Rows = report_rows:rows(Finding, Told),
-    [print(["\n", report_chart:text(Rows)]) || Work#work.chart],
-    [write_drawing(Work#work.drawings, Name, report_drawing:text([Work#work.source, ", ", Title], Rows, Told)) ||
-        Work#work.drawings =/= ""].
+    [print(["\n", report_chart:text(Rows)]) || is_asked("chart", Work)],
+    [written(Work#work.drawings, [Name, ".svg"], "drawn", drawing(Work, Title, Rows, Told)) || Work#work.drawings =/= ""].
 
-write_drawing(Folder, Name, Text) ->
-    File = filename:join(Folder, lists:flatten([Name, ".svg"])),
+drawing(Work, Title, Rows, Told) -> report_drawing:text([Work#work.source, ", ", Title], Rows, Told).
+
+%% Writes a file of a folder, and says so.
+written(Folder, Name, What, Text) ->
+    File = filename:join(Folder, lists:flatten(Name)),
     case filelib:ensure_dir(File) =:= ok andalso file:write_file(File, unicode:characters_to_binary(Text)) of
-        ok -> print(["  drawn: ", File, "\n"]);
+        ok -> print(["  ", What, ": ", File, "\n"]);
         _ -> complain("~ts cannot be written", [File])
+    end.
+
+%% The report as a page, with the source of each file that an error comes to.
+page(Work, Around, Errors) ->
+    Places = [Place || {_, _, _, #{places := Places}, _, _} <- Errors, Place <- maps:values(Places)],
+    Names = lists:usort([File || Place <- Places, {File, _} <- [report_page:in_source(Place)]]),
+    Own = [Work#work.source || lists:member(Work#work.source, Names)],
+    Sources = [{Name, Lines} || Name <- Own ++ (Names -- Own), Lines <- source(Name, Work)],
+    written(Work#work.page, "index.html", "page", report_page:text(Work#work.source, Around, Errors, Sources)).
+
+%% The lines of a file, where it is one of those that were given or beside one, or in a folder that was given, or in a folder
+%% src beside that.
+source(Name, #work{folder = Folder}) ->
+    Given = lists:droplast(string:split(read(filename:join(Folder, "sources")), [0], all)),
+    Named = [One || One <- Given, filename:basename(One) =:= Name],
+    Inside = [filename:join(One, Name) || One <- lists:flatmap(fun folders_of_sources/1, Given)],
+    case [File || File <- Named ++ Inside, filelib:is_regular(File)] of
+        [File | _] -> {ok, Bytes} = file:read_file(File), [string:split(string:trim(text_of(Bytes), trailing, "\n"), "\n", all)];
+        [] -> []
+    end.
+
+%% Where the sources may be that go with a file or a folder which was given, such as src/ beside ebin/.
+folders_of_sources(Given) ->
+    Above = filename:dirname(Given),
+    [Given, Above, filename:join(Above, "src"), filename:join([Above, "..", "src"])].
+
+%% The characters of a source, in UTF-8 or else in Latin-1.
+text_of(Bytes) ->
+    case unicode:characters_to_list(Bytes) of
+        Text when is_list(Text) -> Text;
+        _ -> binary_to_list(Bytes)
     end.
 
 %% The machine is a second witness, beside the program that explored: where they differ one of them is wrong.

@@ -6,7 +6,9 @@
 
 %% A transcript as rows, and the columns in their order.
 rows(Finding, #{events := Events, places := Places} = Told) ->
-    Rows = [row(Event, maps:get(Event#event.number, Places, none)) || Event <- Events],
+    Sources = report_story:sources(Events),
+    Rows = [(row(Event, maps:get(Number, Places, none)))#row{sent = maps:get(Number, Sources, none)} ||
+               #event{number = Number} = Event <- Events],
     {report_story:processes(Events), last_marked(Finding, Rows ++ waiting(Finding, Told))}.
 
 row(#event{number = Number, who = {From, To}, deed = Deed}, Place) ->
@@ -36,6 +38,7 @@ mark(runaway) -> ends;
 mark(_) -> plain.
 
 %% A delivery that ends its receiver ends its column.
+delivered({brings, _}) -> message;
 delivered(Deed) when is_tuple(Deed) ->
     case element(tuple_size(Deed), Deed) of
         {ends, _} -> ends;

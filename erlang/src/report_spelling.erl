@@ -139,10 +139,17 @@ read_pairs(Text, Pairs) ->
 %% A string in quotes, or bytes with commas between them.
 read_binary(Text) ->
     case skip(Text) of
-        "\"" ++ _ = String -> {Bytes, Rest} = read_quoted(String), {binary([{int, B} || B <- Bytes], Text), expect(">>", Rest)};
+        "\"" ++ _ = String ->
+            {Characters, Rest} = read_quoted(String),
+            {Bytes, After} = encoded(Characters, skip(Rest)),
+            {binary([{int, B} || B <- Bytes], Text), expect(">>", After)};
         ">>" ++ Rest -> {{binary, []}, Rest};
         Numbers -> {Bytes, Rest} = read_bytes(Numbers), {binary(Bytes, Text), Rest}
     end.
+
+%% The bytes of a string in a binary, which are its characters, or those of UTF-8.
+encoded(Characters, "/utf8" ++ Rest) -> {binary_to_list(unicode:characters_to_binary(Characters)), Rest};
+encoded(Characters, Rest) -> {Characters, Rest}.
 
 read_bytes(Text) ->
     {Byte, Rest} = read(Text),

@@ -1,6 +1,6 @@
 %% What a transcript says beyond its lines: what each process is, and which send a delivery comes from.
 -module(report_story).
--export([processes/1, roles/2, places/2, schedule/1, earlier/3, shown/1, spawned/1, limit/1]).
+-export([processes/1, roles/2, places/2, sources/1, schedule/1, earlier/3, shown/1, spawned/1, limit/1, timeouts/1]).
 -include("report.hrl").
 
 %% The names of the processes, in the order in which they appear.
@@ -59,52 +59,76 @@ limit(#event{who = {From, _}, deed = {exit, Reason, {ends, Reason}}}, Events, Li
     end;
 limit(#event{number = Number}, _, Limits) -> maps:get(Number, Limits, none).
 
+%% ---- timeouts
+
+%% The timeouts of receives that a transcript takes, {Milliseconds, Place, Event}: of several of one time and place the first.
+timeouts(#{times := Times, places := Places}) ->
+    Taken = [{{Time, maps:get(Number, Places, none)}, Number} || {Number, Time} <- maps:to_list(Times)],
+    First = maps:from_list(lists:reverse(lists:keysort(2, Taken))),
+    [{Time, Place, Number} || {{Time, Place}, Number} <- lists:keysort(2, maps:to_list(First))].
+
 %% ---- deliveries
 
 %% The places of all events, where those of turns are known: a delivery has that of the send, of the exit/2 or of the
-%% end that it comes from.
+%% end that it comes from. Nothing is said of the signal of a watch.
 places(Events, Lines) ->
-    {Places, _} = lists:foldl(fun place/2, {Lines, []}, Events),
-    Places.
+    Sources = sources(Events),
+    lists:foldl(fun(Event, Places) -> place(Event, Places, Sources) end, Lines, Events).
 
-place(#event{number = Number, who = {From, To}, deed = Deed}, {Places, Sent}) ->
-    {Place, Left} = cause(From, To, Deed, Sent),
-    {Places#{Number => sent_at(Place)}, Left ++ [{{To, ends, Reason}, Place} || Reason <- ends(Deed)]};
-place(#event{number = Number, who = Name, deed = Deed}, {Places, Sent}) ->
-    {Places, Sent ++ [{Cause, maps:get(Number, Places, none)} || Cause <- sends(Name, Deed)]}.
+place(#event{deed = {down, _, _}}, Places, _) -> Places;
+place(#event{number = Number, who = {_, _}}, Places, Sources) ->
+    Places#{Number => sent_at(maps:get(maps:get(Number, Sources, none), Places, none))};
+place(_, Places, _) -> Places.
 
 sent_at(none) -> none;
+sent_at({sent, Place}) -> {sent, Place};
 sent_at(Place) -> {sent, Place}.
 
-%% Where a delivery comes from, and what else was sent. An end may send to several others, a send to one.
-cause(From, _, {brings, Message}, Sent) -> cause({From, Message}, Sent);
-cause(From, To, {exit, Reason, _}, Sent) ->
-    case cause({From, exit, To, Reason}, Sent) of
-        {none, Sent} -> {proplists:get_value({From, ends, Reason}, Sent, none), Sent};
+%% Which event each delivery comes from, as far as that is known, by their numbers.
+sources(Events) ->
+    {Sources, _, _} = lists:foldl(fun source/2, {#{}, #{}, #{}}, Events),
+    Sources.
+
+%% To the sources that are known come what was sent and has not arrived, the oldest first, and how each process ended.
+source(#event{number = Number, who = {From, To}, deed = Deed}, {Sources, Sent, Ended}) ->
+    {Source, Left} = source_of(From, To, Deed, Sent, Ended),
+    {maps:merge(Sources, maps:from_list([{Number, Source} || Source =/= none])), Left,
+     maps:merge(Ended, maps:from_list([{To, {Number, Reason}} || Reason <- ends(Deed)]))};
+source(#event{number = Number, who = Name, deed = Deed} = Event, {Sources, Sent, Ended}) ->
+    {Sources, lists:foldl(fun(Cause, All) -> put_in(Cause, Number, All) end, Sent, sends(Name, Deed)),
+     maps:merge(Ended, maps:from_list([{Name, {Number, Reason}} || {ends, _, Reason} <- shown(Event)]))}.
+
+%% An end may send to several others, a send to one.
+source_of(From, _, {brings, Message}, Sent, _) -> taken({From, Message}, Sent);
+source_of(From, To, {exit, Reason, _}, Sent, Ended) ->
+    case taken({From, exit, To, Reason}, Sent) of
+        {none, _} -> {end_of(From, Reason, Ended), Sent};
         Found -> Found
     end;
-cause(_, _, _, Sent) -> {none, Sent}.
+source_of(From, _, {down, _, {message, {tuple, Parts}}}, Sent, Ended) -> {end_of(From, lists:last(Parts), Ended), Sent};
+source_of(From, _, {down, _, _}, Sent, Ended) -> {element(1, maps:get(From, Ended, {none, none})), Sent}.
 
-cause(Wanted, Sent) ->
-    case take(fun({Cause, _}) -> Cause =:= Wanted end, Sent) of
-        {{_, Place}, Left} -> {Place, Left};
-        none -> {none, Sent}
+put_in(Cause, Number, Sent) -> Sent#{Cause => queue:in(Number, maps:get(Cause, Sent, queue:new()))}.
+
+taken(Cause, Sent) ->
+    case queue:out(maps:get(Cause, Sent, queue:new())) of
+        {{value, Number}, Left} -> {Number, Sent#{Cause => Left}};
+        {empty, _} -> {none, Sent}
     end.
 
-%% What a turn sends to others.
+%% The end of a process, where it was for this reason: a link or a watch of what is gone already is told another one.
+end_of(Name, Reason, Ended) ->
+    case Ended of
+        #{Name := {Number, Reason}} -> Number;
+        _ -> none
+    end.
+
+%% What a turn sends to others, beside its end.
 sends(Name, {call, erlang, Send, [To, Message], {ok, _}}) when Send =:= '!'; Send =:= send ->
     [{Name, Message} || To =/= {pid, Name}];
 sends(Name, {call, erlang, exit, [{pid, To}, Reason], {ok, _}}) -> [{Name, exit, To, Reason}];
-sends(Name, {ends, Reason}) -> [{Name, ends, Reason}];
 sends(_, _) -> [].
 
 %% The reason with which a delivery ends its receiver.
 ends({exit, _, {ends, Reason}}) -> [Reason];
 ends(_) -> [].
-
-%% The first item that is sought, and the others.
-take(IsWanted, Items) ->
-    case lists:splitwith(fun(Item) -> not IsWanted(Item) end, Items) of
-        {_, []} -> none;
-        {Before, [Item | Behind]} -> {Item, Before ++ Behind}
-    end.

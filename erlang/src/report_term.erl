@@ -3,7 +3,7 @@
 %% A term that was read is {int, N}, {atom, A}, {tuple, Terms}, {list, Terms, Tail}, {pid, Name} or {ref, Name}; the
 %% tail of a proper list is nil.
 -module(report_term).
--export([read/1, read_arguments/1, escaped/1, text/1, text_of_fun/2, is_byte/1, real/2, of_real/2, names/1]).
+-export([read/1, read_arguments/1, escaped/1, text/1, text_of_items/1, text_of_fun/2, is_byte/1, real/2, of_real/2, names/1]).
 
 %% ---- reading
 
@@ -94,6 +94,9 @@ text({list, _, _} = List) -> text_of_list(List).
 
 text_of_tuple({tuple, Terms}) -> ["{", lists:join(",", [text(Term) || Term <- Terms]), "}"].
 
+%% A list that is none of characters, whatever is in it.
+text_of_items({list, _, _} = List) -> text_of_list(List).
+
 text_of_list({list, Terms, nil}) -> ["[", lists:join(",", [text(Term) || Term <- Terms]), "]"];
 text_of_list({list, Terms, Tail}) -> ["[", lists:join(",", [text(Term) || Term <- Terms]), "|", text(Tail), "]"].
 
@@ -106,12 +109,19 @@ is_pair(_) -> false.
 is_byte({int, B}) -> B >= 0 andalso B < 256;
 is_byte(_) -> false.
 
-%% <<"abc">> where all of it can be printed in ASCII, else <<1,2,255>>.
+%% <<"abc">> where all of it can be printed in ASCII, <<"größe"/utf8>> where it is such a text, else <<1,2,255>>.
+text_of_binary([]) -> "<<>>";
 text_of_binary(Bytes) ->
-    case Bytes =/= [] andalso lists:all(fun(B) -> B >= 32 andalso B < 127 orelse B =:= $\n orelse B =:= $\t end, Bytes) of
-        true -> ["<<", io_lib:write_string(Bytes), ">>"];
-        false -> ["<<", lists:join(",", [integer_to_list(B) || B <- Bytes]), ">>"]
+    case {lists:all(fun(B) -> B < 128 end, Bytes), unicode:characters_to_list(list_to_binary(Bytes))} of
+        {IsAscii, [_ | _] = Text} ->
+            case io_lib:printable_unicode_list(Text) of
+                true -> ["<<", io_lib:write_string(Text), ["/utf8" || not IsAscii], ">>"];
+                false -> text_of_bytes(Bytes)
+            end;
+        _ -> text_of_bytes(Bytes)
     end.
+
+text_of_bytes(Bytes) -> ["<<", lists:join(",", [integer_to_list(B) || B <- Bytes]), ">>"].
 
 %% `fun in main/0 line 8` is the name of a fun without one, any other name that of a function.
 text_of_fun(Name, Arity) ->
@@ -120,15 +130,12 @@ text_of_fun(Name, Arity) ->
         Text -> ["fun ", Text, "/", integer_to_list(Arity)]
     end.
 
-%% A list of at least three characters that can be printed, most of them letters, is taken for a string.
-is_string(Terms) ->
-    Letters = length([C || {int, C} <- Terms, is_letter(C)]),
-    length(Terms) >= 3 andalso lists:all(fun is_printable/1, Terms) andalso 2 * Letters >= length(Terms).
+%% A list of two characters or more is a string where the shell of Erlang shows it as one.
+is_string([_, _ | _] = Terms) -> lists:all(fun is_printable/1, Terms);
+is_string(_) -> false.
 
-is_printable({int, C}) -> C >= 32 andalso C < 127 orelse C >= 192 andalso C < 256 orelse C =:= $\n orelse C =:= $\t;
+is_printable({int, C}) -> io_lib:printable_latin1_list([C]);
 is_printable(_) -> false.
-
-is_letter(C) -> (C >= $a andalso C =< $z) orelse (C >= $A andalso C =< $Z).
 
 %% ---- terms of the machine
 

@@ -1,10 +1,12 @@
 %% The report for people.
 -module(report_text).
--export([call/3, deed/1, identity/1, place/1, role/2, waits/2, stands/2]).
--export([head/4, tail/5, doubts/1, schedule/1, limit/1, earlier/1, overtakes/1, follower/2, transcript/2, brief/3]).
+-export([call/3, who/1, deed/1, identity/1, place/1, role/2, waits/2, stands/2]).
+-export([head/4, sums/2, tail/5, doubts/1, schedule/1, limit/1, timeouts/2, earlier/1, overtakes/1, follower/2, transcript/3, brief/3]).
 -include("report.hrl").
 
 -define(GREATEST_COLUMN, 76).
+%% What --nodes takes at most.
+-define(GREATEST_LIMIT, 10000000).
 
 %% A call as it is written in a source.
 call(erlang, '!', [To, Message]) -> [report_term:text(To), " ! ", report_term:text(Message)];
@@ -80,9 +82,15 @@ role(Name, Arguments) -> begun(Name, Arguments, fun(Given) -> ["/", integer_to_l
 %% Where something is in the source.
 place(none) -> "";
 place({library, Module}) -> ["(", Module, ")"];
+place({both, Place, Callback}) -> [[[Text, ", "] || Text <- [lists:flatten(place(Place))], Text =/= ""], place(Callback)];
 place({sent, none}) -> "";
 place({sent, {library, Module}}) -> ["sent by ", Module];
+place({sent, {_, _, _} = Callback}) -> ["sent ", place(Callback)];
 place({sent, Place}) -> ["sent at ", place(Place)];
+place({Where, {_, Function, Arity}, {File, Line}}) ->
+    [atom_to_list(Where), " ", function(Function), "/", integer_to_list(Arity), " at ", place({File, Line})];
+place({Where, {Module, Function, Arity}, none}) ->
+    [atom_to_list(Where), " ", function(Module), ":", function(Function), "/", integer_to_list(Arity)];
 place({File, Line}) -> [File, ":", integer_to_list(Line)].
 
 %% ---- the report
@@ -90,7 +98,7 @@ place({File, Line}) -> [File, ":", integer_to_list(Line)].
 %% The first line: what was explored.
 head(Source, Delivery, Coverage, Reach) -> [Source, ": ", explored(Coverage, of_delivery(Delivery), Reach), "\n"].
 
-explored(["all", _], Of, {complete, _, Count, What}) -> ["all schedules", Of, ", ", many(Count, What)];
+explored(["all" | _], Of, {complete, _, Count, What}) -> ["all schedules", Of, ", ", many(Count, What)];
 explored(_, Of, {complete, Depth, Count, What}) -> ["all schedules of at most ", steps(Depth), Of, ", ", many(Count, What)];
 explored(_, Of, {stopped, Depth, _}) -> ["not all schedules of at most ", steps(Depth), Of];
 explored(_, Of, {stopped, _, _, Whole}) -> ["all schedules of at most ", steps(Whole), Of, ", and not all longer ones"].
@@ -103,6 +111,10 @@ steps(Count) -> many(Count, "steps").
 
 many("1", What) -> ["1 ", lists:droplast(What)];
 many(Count, What) -> [Count, " ", What].
+
+%% The sums without what is taken as normal, where that is nothing and the words of the command asked for none.
+sums("normal", Last) -> Last;
+sums("plain", [Counts, Result]) -> [lists:append(string:replace(Counts, ", taken as normal 0", "")), Result].
 
 %% The last lines: how many errors and refusals there are, and the result, as the program prints them; in between how many
 %% errors have no transcript; and below these what was not explored, where something was not.
@@ -122,23 +134,36 @@ result(Result) ->
 delays("at-once") -> "schedules in which signals arrive later were not explored (--any-delay)\n";
 delays("any-delay") -> "".
 
-unexplored(["all", _], _, _, _) -> "";
-unexplored(["limit", Depth], _, {complete, _, _, _}, _) -> ["depth ", Depth, " has more nodes than may be visited (--nodes N)\n"];
-unexplored(["deepest", Depth], _, {complete, _, _, _}, _) -> ["no schedule is followed for more than ", steps(Depth), ": longer ones were not explored\n"];
+unexplored(["all" | _], _, _, _) -> "";
+unexplored(["limit", Depth, Most], _, {complete, Whole, _, _}, _) ->
+    ["depth ", Depth, " has more than the ", many(Most, "nodes"), " that may be visited (--nodes N)\n",
+     helps([without_tree(), fewer(), below(Whole), more(Most)])];
+unexplored(["deepest", Depth, _], _, {complete, _, _, _}, _) ->
+    ["no schedule is followed for more than ", steps(Depth), ": longer ones were not explored\n"];
 unexplored(_, _, {complete, _, _, _}, _) -> "longer schedules were not explored\n";
-unexplored(_, _, {stopped, Depth, Cause}, _) -> ["not all nodes were visited: ", Cause, " at depth ", Depth, "\n"];
-unexplored(_, Of, {stopped, _, Cause, Whole}, Counts) -> [why(Cause), "\n", found(Whole, Of, Counts), "\n", helps(Cause, Whole), "\n"].
+unexplored([_, _, Most], _, {stopped, Depth, "node limit"}, _) ->
+    ["there are more than the ", many(Most, "nodes"), " that may be visited to depth ", Depth, " (--nodes N)\n",
+     helps([without_tree(), fewer(), lower(), more(Most)])];
+unexplored(_, _, {stopped, Depth, Cause}, _) ->
+    ["not all nodes were visited: ", Cause, " at depth ", Depth, "\n", helps([without_tree(), fewer(), lower()])];
+unexplored([_, _, Most], Of, {stopped, _, "state limit", Whole}, Counts) ->
+    ["there are more than the ", many(Most, "states"), " that may be found (--nodes N)\n", found(Whole, Of, Counts),
+     helps([fewer(), below(Whole), more(Most)])];
+unexplored(_, Of, {stopped, _, "memory", Whole}, Counts) ->
+    ["memory ran out\n", found(Whole, Of, Counts), helps([fewer(), below(Whole)])].
 
-%% Why a search by states stopped, what it had found by then, and what makes it come to its end.
-why("state limit") -> "there are more states than may be found (--nodes N)";
-why("memory") -> "memory ran out".
+%% What a search by states had found when it stopped.
+found(Whole, Of, "errors 0," ++ _) -> ["no schedule of at most ", steps(Whole), Of, " shows an error, but longer ones may\n"];
+found(Whole, Of, _) -> ["each error that a schedule of at most ", steps(Whole), Of, " shows is listed, but longer ones may show more\n"].
 
-found(Whole, Of, "errors 0," ++ _) -> ["no schedule of at most ", steps(Whole), Of, " shows an error, but longer ones may"];
-found(Whole, Of, _) -> ["each error that a schedule of at most ", steps(Whole), Of, " shows is listed, but longer ones may show more"].
+%% What makes a search come to its end: what helps most, and costs least, is first.
+helps(Remedies) -> ["what helps, in this order: ", lists:join(", ", lists:append(Remedies)), "\n"].
 
-helps(Cause, Whole) ->
-    ["what helps: a --depth of at most ", Whole, ",", [" a greater --nodes," || Cause =:= "state limit"], " fewer processes",
-     " or messages, --after-timeout MS"].
+without_tree() -> ["a search without --tree"].
+fewer() -> ["fewer processes or messages", "--after-timeout MS where there are timeouts", "several small programs in the place of one"].
+below(Whole) -> ["a --depth of at most " ++ Whole].
+lower() -> ["a lower --depth"].
+more(Most) -> ["a greater --nodes" || list_to_integer(Most) < ?GREATEST_LIMIT].
 
 %% What makes the result doubtful, below it.
 doubts(Lines) -> [["but: ", Line, "\n"] || Line <- Lines].
@@ -160,6 +185,16 @@ where(none) -> "";
 where({library, Module}) -> [" (in ", Module, ")"];
 where(Place) -> [" (", place(Place), ")"].
 
+%% The timeouts that an order takes, a line each, and how to explore without them. Another order may need none of them.
+timeouts(Taken, IsConverted) ->
+    [["  this order takes the timeout of ", integer_to_list(Time), " ms", at(Place), " (event ", integer_to_list(Event), ")",
+      ["; --after-timeout " ++ integer_to_list(Time) ++ " explores without it" || IsConverted], "\n"] || {Time, Place, Event} <- Taken].
+
+at(none) -> "";
+at({library, Module}) -> [" in ", Module];
+at({_, _, _} = Callback) -> [" ", place(Callback)];
+at(Place) -> [" at ", place(Place)].
+
 %% That no schedule shows an error in which signals arrive at once.
 overtakes(true) -> "  only if signals overtake\n";
 overtakes(false) -> "".
@@ -177,11 +212,14 @@ follows({trapped, Name}) -> ["by the 'EXIT' of ", Name];
 follows({left, [Name]}) -> ["since ", Name, " has ended"];
 follows({left, Names}) -> ["since ", lists:join(", ", lists:droplast(Names)), " and ", lists:last(Names), " have ended"].
 
-%% A transcript: what the processes are, each event with its place, and who waits for ever where it is a deadlock.
-transcript(Finding, #{events := Events, places := Places} = Told) ->
+%% A transcript: what the processes are, each event with its place, or a line for several, and who waits for ever where it is a
+%% deadlock.
+transcript(Finding, #{events := Events, places := Places} = Told, HasSteps) ->
+    Shown = case HasSteps of true -> Events; false -> report_calls:folded(Events, Told) end,
     Width = lists:max([length(who(Who)) || Who <- waiters(Finding) ++ [Who || #event{who = Who} <- Events]]),
-    Lines = [event(Event, Width, maps:get(Event#event.number, Places, none)) || Event <- Events],
-    [cast(Told), in_columns(Lines ++ waiting(Finding, Width, Told))].
+    Counted = lists:max([3 | [length(numbers(One)) || One <- Shown]]),
+    Lines = [event(One, {Counted, Width}, Places) || One <- Shown],
+    [cast(Told), in_columns(Lines ++ waiting(Finding, {Counted, Width}, Told))].
 
 waiters({deadlock, Names}) -> Names;
 waiters(_) -> ["P"].
@@ -190,20 +228,28 @@ cast(#{events := Events, roles := Roles}) ->
     Names = [Name || Name <- report_story:processes(Events), maps:is_key(Name, Roles)],
     ["  where ", lists:join(", ", [[Name, " is ", maps:get(Name, Roles)] || Name <- Names]), "\n"].
 
-event(#event{number = Number, who = Who, deed = Deed}, Width, Place) ->
-    {[io_lib:format("  ~3w  ", [Number]), string:pad(who(Who), Width), "  ", deed(Deed)], Place}.
+%% Numbers and names are in columns of these widths.
+event(One, {Counted, Width}, Places) ->
+    {Who, Text, Place} = shown(One, Places),
+    {["  ", string:pad(numbers(One), Counted, leading), "  ", string:pad(who(Who), Width), "  ", Text], Place}.
+
+shown(#event{number = Number, who = Who, deed = Deed}, Places) -> {Who, deed(Deed), maps:get(Number, Places, none)};
+shown({_, _, Who, Text, Place}, _) -> {Who, Text, Place}.
+
+numbers(#event{number = Number}) -> integer_to_list(Number);
+numbers({First, Last, _, _, _}) -> lists:concat([First, "-", Last]).
 
 who({From, To}) -> From ++ ">" ++ To;
 who(Name) -> Name.
 
 %% Who waits where for ever, and with which messages that it does not take.
-waiting({deadlock, Names}, Width, Told) ->
-    [{["       ", string:pad(Name, Width), "  ", waits(Name, Told)], stands(Name, Told)} || Name <- Names];
+waiting({deadlock, Names}, {Counted, Width}, Told) ->
+    [{[lists:duplicate(Counted + 4, $\s), string:pad(Name, Width), "  ", waits(Name, Told)], stands(Name, Told)} || Name <- Names];
 waiting(_, _, _) -> [].
 
 waits(Name, #{waits := Waits}) ->
     {Name, Mailbox} = lists:keyfind(Name, 1, Waits),
-    ["waits for ever, mailbox ", report_term:text(Mailbox)].
+    ["waits for ever, mailbox ", report_term:text_of_items(Mailbox)].
 
 stands(Name, #{stands := Stands}) -> maps:get(Name, Stands, none).
 

@@ -37,7 +37,7 @@ files() ->
 %% {Status, what standard output has to have in it (or none), standard error}
 cases() ->
     Usage = "usage: convert.escript FILE.erl|FILE.beam [FILE|FOLDER ..] [-pa FOLDER] [--entry [m:]f/0] [--after-timeout MS] [--strict] [--tests] [--notes]"
-            " [--doubts FILE] [--env APPLICATION.KEY=TERM] [-I DIR] [-D NAME[=VALUE]]\n",
+            " [--doubts FILE] [--places FILE] [--env APPLICATION.KEY=TERM] [-I DIR] [-D NAME[=VALUE]]\n",
     [{"a module", "good.erl", {0, "module 'good' ['main'/0]", ""}},
      {"the tests of a module", "tested.erl --tests", {0, "last_test\nmade_test_\nfirst_test\n", ""}},
      {"a module without tests", "good.erl --tests", {0, "", ""}},
@@ -47,6 +47,8 @@ cases() ->
      {"an entry with the name none", "none.erl --entry none/0", {0, "'main'/0 =\n  fun () ->\n    apply 'none'/0()", ""}},
      {"doubts in a file", "good.erl --doubts doubts", {0, "module 'good' ['main'/0]", ""}},
      {"doubts in a folder that is not there", "good.erl --doubts none/doubts", {2, none, "none/doubts cannot be written\n"}},
+     {"places in a file", "good.erl --places places", {0, "module 'good' ['main'/0]", ""}},
+     {"places in a folder that is not there", "good.erl --places none/places", {2, none, "none/places cannot be written\n"}},
      {"the source's main is another then", "--entry other/0 good.erl", {0, "'main of the module'/0 =", ""}},
      {"what nothing comes to", "unused.erl --notes", {0, "module 'unused' ['main'/0]\n    attributes []\n'main'/0 =\n  fun () ->\n    'ok'\nend", ""}},
      {"an exported function that nothing reaches", "exported.erl --notes", {0, "module 'exported' ['as_fun'/1,'by_name'/1,'called'/0,'main'/0]\n", "note: functions are tuples here: they sort among tuples, element/2 and tuple_size/1 take them, and two of one place and the same values are equal\n"}},
