@@ -288,15 +288,6 @@ pub read_at : (known : Known) (at : ℕ) (r : Remembered) → at < length known.
 read_at known at r within is = slice_get_read known.remembered.items (length known.remembered.items) at r refl within is
 
 -- and so it is shown or not as was read
-pub shown_at : (known : Known) (numbers : ℕ → ℕ) (s : Step) (at : ℕ) (is : IsAt known numbers s at) (r : Remembered) (b : Bool) → r ≡ get_or known.remembered.items at r → is_some r.shown ≡ b → is_some is.remembered.shown ≡ b
-shown_at known numbers s at is r b read shown =
-    let within : at < length known.remembered.items = slice_get_within known.remembered.items at is.remembered is.there in
-    let one : is.remembered ≡ r = the_same (sym is.there ∙ read_at known at r within read) in
-    ap (λ (x : Remembered). is_some x.shown) one ∙ shown
-  where
-    the_same : {x y : Remembered} → Some x ≡ Some y → x ≡ y
-    the_same e = cc
-
 -- the next step that is asked is enabled, and its place is put after the others
 module _ (old new : Known) (numbers : ℕ → ℕ) (step : ℕ → Step) (items : List ℕ) (i : ℕ) (within : i < length items) where
   abbrev next : Step
