@@ -40,5 +40,13 @@ pub fn search_states<O: LevelObserver>(
         states: options.nodes,
     };
     let mut worlds = Numbered { known };
-    search_levels(alloc, bounds, &mut worlds, &[], 0, shown.as_slice(), observer)
+    search_levels(
+        alloc,
+        bounds,
+        &mut worlds,
+        &[],
+        0,
+        shown.as_slice(),
+        observer,
+    )
 }
