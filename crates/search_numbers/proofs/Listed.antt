@@ -1,15 +1,15 @@
 -- The steps that are remembered as enabled are those that are.
-use Rattle.std.proofs.Common.{◌≡◌, ◌∙◌, ◌⊎◌, inl, inr, ◌+◌, ◌<◌, ◌≤◌, ◌++◌, ◌∷◌, [], ℕ, zero, suc, cond, Bool, true, false, List, Option, Some, None, Result, Ok, Err, IfOk, OnOk, Vec, Global, length, map, is_some, refl, sym, ap, subst, true≢false, append_assoc, append-nil}
+use Rattle.std.proofs.Common.{◌≡◌, ◌∙◌, inl, inr, ◌+◌, ◌<◌, ◌++◌, ◌∷◌, [], ℕ, cond, Bool, true, false, List, Option, Some, None, Result, Ok, Err, IfOk, OnOk, Vec, Global, length, map, is_some, refl, sym, ap, subst, append_assoc, append-nil}
 use Rattle.std.proofs.lemmas.List.Elements.{filter-append}
 use Rattle.std.proofs.lemmas.List.Kept.{IsStrictlySortedBy-filter}
 use Rattle.std.specs.List.{AllByRecursion, filter, slice_get}
 use Rattle.std.proofs.Common.{drop, get_or, take}
 use Rattle.std.proofs.lemmas.List.{drop_more, map-append, take-append-drop, take_more}
-use Rattle.std.proofs.lemmas.Option.{slice_get-get_or, slice_get_read, slice_get_within}
+use Rattle.std.proofs.lemmas.Option.{slice_get-get_or, slice_get_read}
 use Rattle.std.specs.List.Sorted.{IsStrictlySortedBy}
 use Rattle.std.specs.declared.cmp.Ordering.TheVariants.{Less}
 use Rattle.core_tree.specs.Syntax.{ModuleTree}
-use Rattle.search_levels.specs.Arrivals.{has_step, is_some_step}
+use Rattle.search_levels.specs.Arrivals.{is_some_step}
 use Rattle.search_numbers.specs.Knowing.{AreAt, AreEnabled, AreRight, FirstIs, GoesOn, InWorlds, IsAt, IsEnabledAt, IsFirstDelivery, KnowsMore}
 use Rattle.search_numbers.specs.inside.Finding.{IsFoundAt}
 use Rattle.search_numbers.specs.inside.Learning.{IsLearned}
@@ -27,7 +27,7 @@ use Rattle.world_model.specs.Asking.{program_of}
 use Rattle.world_model.specs.Events.{History}
 use Rattle.world_model.specs.Names.{IsAmong}
 use Rattle.world_model.specs.Requests.{Program}
-use Rattle.world_model.specs.Run.{enabled_steps, is_enabled, next_event}
+use Rattle.world_model.specs.Run.{enabled_steps, is_enabled}
 use Rattle.world_model.specs.StepLaws.{AreInOrder, ComesBefore}
 use Rattle.world_model.proofs.Opened.{enabled_listed, listed_enabled, listed_in_order}
 use Rattle.world_model.proofs.StepLists.{same_list}

@@ -4,7 +4,7 @@ use Rattle.std.proofs.lemmas.Option.{slice_get_within}
 use Rattle.std.specs.List.{slice_get}
 use Rattle.search_numbers.specs.inside.Finding.{Begins}
 use Rattle.search_numbers.specs.Knowing.{AreRight, IsAt, KnowsMore}
-use Rattle.search_numbers.specs.Stored.{AllBegin, AreAsked, BeginsAt, IsStore, IsWorldOf}
+use Rattle.search_numbers.specs.Stored.{AreAsked, BeginsAt, IsStore, IsWorldOf}
 use Rattle.search_numbers.specs.declared.known.Known.{Known}
 use Rattle.search_numbers.specs.declared.remembered.Remembered.{Remembered}
 use Rattle.search_numbers.proofs.Kept.{world_later}

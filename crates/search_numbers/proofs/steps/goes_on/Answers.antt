@@ -1,4 +1,4 @@
-use Rattle.std.proofs.Common.{◌∙◌, true, false, get_or, map, refl, subst, sym}
+use Rattle.std.proofs.Common.{true, false, get_or, map, refl, subst}
 use Rattle.std.proofs.lemmas.List.{take_all}
 use Rattle.search_numbers.specs.Rows.{numbers_in}
 use Rattle.search_numbers.proofs.Listed.{NoneIs, every, item_begins, knows_itself, knows_too, none_goes_on, one_goes_on, still_none_taken}
