@@ -2,13 +2,12 @@
 use Rattle.std.proofs.Common.{◌≡◌, ℕ, Option, Some, None, [], refl, sym, subst, arith}
 use Rattle.core_tree.specs.Syntax.{ModuleTree}
 use Rattle.search_numbers.proofs.Everywhere.{places_agree}
-use Rattle.search_numbers.specs.Stored.{AreOf, IsStore, IsWorldOf, column_in, module_in, number_in, numbered, part_at}
+use Rattle.search_numbers.specs.Stored.{AreOf, IsStore, IsWorldOf, column_in, module_in, number_in, numbered}
 use Rattle.search_numbers.specs.declared.store.Store.{Store}
 use Rattle.world_core.proofs.Worlds.{opened}
 use Rattle.world_model.specs.World.{beginning, contents}
 use Rattle.world_records.specs.Places.{AgreesAt}
 use Rattle.world_records.specs.Records.{Agrees}
-use Rattle.world_records.specs.declared.place.Place.{Place}
 
 opening_at : (store : Store) (o : Option ℕ) → numbered store (number_in (λ c. 0) o) ≡ store.opening
 opening_at store None = refl

@@ -14,3 +14,4 @@ pub mod Numbers
 pub mod Beginning
 pub mod Taking
 pub mod Opening
+pub mod Looked

@@ -1,15 +1,15 @@
 -- The steps that are remembered as enabled are those that are.
-use Rattle.std.proofs.Common.{◌≡◌, ◌∙◌, ◌⊎◌, inl, inr, ◌+◌, ◌<◌, ◌≤◌, ◌++◌, ◌∷◌, [], ℕ, zero, suc, cond, Bool, true, false, List, Option, Some, None, Result, Ok, Err, IfOk, OnOk, Vec, Global, length, map, is_some, refl, sym, ap, subst, true≢false, append_assoc, append-nil}
+use Rattle.std.proofs.Common.{◌≡◌, ◌∙◌, inl, inr, ◌+◌, ◌<◌, ◌++◌, ◌∷◌, [], ℕ, cond, Bool, true, false, List, Option, Some, None, Result, Ok, Err, IfOk, OnOk, Vec, Global, length, map, is_some, refl, sym, ap, subst, append_assoc, append-nil}
 use Rattle.std.proofs.lemmas.List.Elements.{filter-append}
 use Rattle.std.proofs.lemmas.List.Kept.{IsStrictlySortedBy-filter}
 use Rattle.std.specs.List.{AllByRecursion, filter, slice_get}
 use Rattle.std.proofs.Common.{drop, get_or, take}
 use Rattle.std.proofs.lemmas.List.{drop_more, map-append, take-append-drop, take_more}
-use Rattle.std.proofs.lemmas.Option.{slice_get-get_or, slice_get_read, slice_get_within}
+use Rattle.std.proofs.lemmas.Option.{slice_get-get_or, slice_get_read}
 use Rattle.std.specs.List.Sorted.{IsStrictlySortedBy}
 use Rattle.std.specs.declared.cmp.Ordering.TheVariants.{Less}
 use Rattle.core_tree.specs.Syntax.{ModuleTree}
-use Rattle.search_levels.specs.Arrivals.{has_step, is_some_step}
+use Rattle.search_levels.specs.Arrivals.{is_some_step}
 use Rattle.search_numbers.specs.Knowing.{AreAt, AreEnabled, AreRight, FirstIs, GoesOn, InWorlds, IsAt, IsEnabledAt, IsFirstDelivery, KnowsMore}
 use Rattle.search_numbers.specs.inside.Finding.{IsFoundAt}
 use Rattle.search_numbers.specs.inside.Learning.{IsLearned}
@@ -27,7 +27,7 @@ use Rattle.world_model.specs.Asking.{program_of}
 use Rattle.world_model.specs.Events.{History}
 use Rattle.world_model.specs.Names.{IsAmong}
 use Rattle.world_model.specs.Requests.{Program}
-use Rattle.world_model.specs.Run.{enabled_steps, is_enabled, next_event}
+use Rattle.world_model.specs.Run.{enabled_steps, is_enabled}
 use Rattle.world_model.specs.StepLaws.{AreInOrder, ComesBefore}
 use Rattle.world_model.proofs.Opened.{enabled_listed, listed_enabled, listed_in_order}
 use Rattle.world_model.proofs.StepLists.{same_list}
@@ -288,15 +288,6 @@ pub read_at : (known : Known) (at : ℕ) (r : Remembered) → at < length known.
 read_at known at r within is = slice_get_read known.remembered.items (length known.remembered.items) at r refl within is
 
 -- and so it is shown or not as was read
-pub shown_at : (known : Known) (numbers : ℕ → ℕ) (s : Step) (at : ℕ) (is : IsAt known numbers s at) (r : Remembered) (b : Bool) → r ≡ get_or known.remembered.items at r → is_some r.shown ≡ b → is_some is.remembered.shown ≡ b
-shown_at known numbers s at is r b read shown =
-    let within : at < length known.remembered.items = slice_get_within known.remembered.items at is.remembered is.there in
-    let one : is.remembered ≡ r = the_same (sym is.there ∙ read_at known at r within read) in
-    ap (λ (x : Remembered). is_some x.shown) one ∙ shown
-  where
-    the_same : {x y : Remembered} → Some x ≡ Some y → x ≡ y
-    the_same e = cc
-
 -- the next step that is asked is enabled, and its place is put after the others
 module _ (old new : Known) (numbers : ℕ → ℕ) (step : ℕ → Step) (items : List ℕ) (i : ℕ) (within : i < length items) where
   abbrev next : Step

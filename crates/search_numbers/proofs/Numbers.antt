@@ -1,5 +1,5 @@
 -- Numbers at columns, where a row gets longer or shorter.
-use Rattle.std.proofs.Common.{◌≡◌, ◌∙◌, ◌==◌, ◌++◌, ◌∷◌, ◌<◌, ℕ, if◌then◌else◌, List, [], get_or, length, drop, append-nil, zero, refl, sym, ap, arith, suc, Option, Some, None, option_to_list, ◌-◌, slice_get, add-one, drop-cons}
+use Rattle.std.proofs.Common.{◌≡◌, ◌∙◌, ◌==◌, ◌++◌, ◌∷◌, ◌<◌, ℕ, if◌then◌else◌, List, [], get_or, length, append-nil, zero, refl, sym, ap, arith, suc, Option, Some, None, option_to_list, ◌-◌, slice_get}
 use Rattle.std.proofs.Math.Seq.{get_or-append_seam}
 use Rattle.std.proofs.lemmas.List.{length-append}
 use Rattle.std.proofs.lemmas.Option.{slice_get-get_or}

@@ -1,6 +1,6 @@
 -- What a store keeps before anything happened.
-use Rattle.std.proofs.Common.{◌≡◌, ◌∙◌, ◌∷◌, ℕ, zero, suc, List, [], Option, Some, None, position, refl, sym, ap, subst}
-use Rattle.std.specs.List.{AllByRecursion, slice_get}
+use Rattle.std.proofs.Common.{◌≡◌, ◌∙◌, ◌∷◌, ℕ, zero, suc, List, [], Some, refl, sym, ap, subst}
+use Rattle.std.specs.List.{AllByRecursion}
 use Rattle.core_tree.specs.Syntax.{ModuleTree}
 use Rattle.std.proofs.Common.{arith}
 use Rattle.std.proofs.lemmas.Grind.{common_steps}
@@ -10,7 +10,6 @@ use Rattle.std.specs.Map.{keys_of}
 use Rattle.term_core.specs.declared.step.Step.{Step}
 use Rattle.term_core.specs.declared.step.Step.TheVariants.{Turn}
 use Rattle.world_model.specs.Names.{IsAmong}
-use Rattle.world_records.specs.Places.{same_place}
 use Rattle.world_records.specs.declared.place.Place.{Place}
 use Rattle.world_records.specs.declared.place.Place.TheVariants.{Course}
 use Rattle.search_numbers.specs.declared.store.Part.{Part}

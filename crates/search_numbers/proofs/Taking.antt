@@ -8,7 +8,7 @@ use Rattle.search_levels.specs.declared.arrival.Arrival.{Arrival}
 use Rattle.search_numbers.proofs.Followed.{follows_itself}
 use Rattle.search_numbers.proofs.Listed.{right_at}
 use Rattle.search_numbers.specs.Knowing.{AreRight, IsAfter, IsEnabledAt, IsTaken, IsThere}
-use Rattle.search_numbers.specs.Remembering.{Happens, IsRight, IsSo, identities_in, shown_in}
+use Rattle.search_numbers.specs.Remembering.{IsRight, IsSo, identities_in, shown_in}
 use Rattle.search_numbers.specs.Rows.{fits, written}
 use Rattle.search_numbers.specs.Stored.{AreKept, AreOf, Follows, IsWorldOf}
 use Rattle.search_numbers.specs.declared.known.Known.{Known}

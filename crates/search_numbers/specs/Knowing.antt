@@ -1,6 +1,6 @@
 -- What is known of all worlds of a search.
 use Rattle.std.specs.List.{AllByRecursion, filter}
-use Rattle.std.specs.Prelude.{◌≡◌, ◌<◌, ◌++◌, ℕ, Bool, true, List, [], ◌∷◌, Option, Some, None, is_some, length, map, slice_get}
+use Rattle.std.specs.Prelude.{◌≡◌, ◌++◌, ℕ, Bool, true, List, [], ◌∷◌, Option, Some, None, is_some, map, slice_get}
 use Rattle.core_tree.specs.Syntax.{ModuleTree}
 use Rattle.search_levels.specs.Arrivals.{has_step}
 use Rattle.search_levels.specs.declared.arrival.Arrival.{Arrival}

@@ -1,7 +1,7 @@
 -- What is kept of the places of worlds: their columns, what each part agrees with, and the steps that begin at places.
 use Rattle.std.specs.List.{AllByRecursion}
 use Rattle.std.specs.Map.{keys_of}
-use Rattle.std.specs.Prelude.{◌≡◌, ℕ, List, [], ◌∷◌, Option, Some, None, position, slice_get}
+use Rattle.std.specs.Prelude.{◌≡◌, ℕ, List, [], Option, Some, None, position, slice_get}
 use Rattle.core_tree.specs.Syntax.{ModuleTree}
 use Rattle.proc_machines.specs.Processes.{module_of}
 use Rattle.search_numbers.specs.declared.store.Part.{Part}

@@ -7,7 +7,6 @@ use Rattle.search_numbers.specs.Rows.{fits, written}
 use Rattle.search_numbers.specs.Stored.{AreOf, BeginsAt, Follows}
 use Rattle.search_numbers.specs.declared.remembered.Remembered.{Remembered}
 use Rattle.search_numbers.specs.declared.store.Store.{Store}
-use Rattle.search_numbers.specs.declared.touch.Touch.{Touch}
 use Rattle.world_identities.specs.Identities.{identity_in}
 use Rattle.world_identities.specs.declared.identity.Identity.{Identity}
 use Rattle.world_model.specs.Asking.{program_of}

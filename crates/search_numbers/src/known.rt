@@ -1,12 +1,13 @@
 // What is known of all worlds of a search.
-ghost use Rattle.std.specs.Prelude.{◌≡◌, ◌∷◌, ◌++◌, ◌<◌, [], ℕ, true, length, map, IfOk, IfSome, OnOk};
-ghost use Rattle.search_numbers.specs.Knowing.{AreEnabled, AreRight, GoesOn, IsAt, IsFirstDelivery, IsTaken, IsThere, KnowsMore};
+ghost use Rattle.std.specs.Prelude.{◌≡◌, ◌∷◌, ◌++◌, ◌<◌, [], ℕ, true, is_some, length, map, slice_get, IfOk, IfSome, OnOk, Some};
+ghost use Rattle.search_numbers.specs.Knowing.{AreRight, GoesOn, IsAt, IsTaken, IsThere, KnowsMore};
 ghost use Rattle.search_numbers.specs.inside.Finding.{Begins, IsFoundAt};
 ghost use Rattle.search_numbers.specs.Remembering.{IsRight, identities_in, shown_in};
 ghost use Rattle.search_numbers.specs.Rows.{numbers_in};
 ghost use Rattle.search_numbers.specs.Stored.{AreOf, BeginsAt, IsWorldOf, part_at};
 ghost use Rattle.search_numbers.specs.Local.{HasAll};
 ghost use Rattle.core_tree.specs.Syntax.{ModuleTree};
+ghost use Rattle.search_numbers.specs.declared.remembered.Remembered.{Remembered};
 ghost use Rattle.term_core.specs.declared.step.Step.{Step};
 ghost use Rattle.world_identities.specs.Identities.{identity_in};
 ghost use Rattle.world_model.specs.Cells.{Contents};
@@ -103,8 +104,9 @@ impl<'m> Known<'m> {
         None
     }
 
-    // The place of what is remembered of the step that begins at a column, if one is found that has the numbers of a world.
-    fn find(&self, row: &[u32], column: usize) -> Option<usize>
+    /// The place of what is remembered of the step that begins at a column, if one is found that has the numbers of a world. It
+    /// takes no memory.
+    pub(crate) fn find(&self, row: &[u32], column: usize) -> Option<usize>
         ensures { IfSome result (IsFoundAt self.now (numbers_in row.now) column) }
     {
         for shape in self.of_column.get(column)?.as_slice() {
@@ -182,9 +184,14 @@ impl<'m> Known<'m> {
         Ok(at)
     }
 
-    // The place of what is remembered in a world of the step that begins at a column, which is learned where nothing is.
-    // `AllocError` if there is no memory for it.
-    fn look_up(&mut self, alloc: Global, row: &[u32], column: usize) -> Result<usize, AllocError>
+    /// The place of what is remembered in a world of the step that begins at a column, which is learned where nothing is.
+    /// `AllocError` if there is no memory for it.
+    pub(crate) fn learn_up(
+        &mut self,
+        alloc: Global,
+        row: &[u32],
+        column: usize,
+    ) -> Result<usize, AllocError>
         requires world { IsWorldOf self.old.store (numbers_in row.now) }
         requires right { AreRight self.old }
         requires begins { Begins self.old.store.places.items column }
@@ -201,43 +208,12 @@ impl<'m> Known<'m> {
         self.remember(alloc, row, column, learned)
     }
 
-    /// The places of what is remembered of the enabled steps of a world, in the order of steps. `AllocError` if there is no
-    /// memory for it.
-    pub fn enabled(&mut self, alloc: Global, row: &[u32]) -> Result<Vec<usize>, AllocError>
-        requires world { IsWorldOf self.old.store (numbers_in row.now) }
-        requires right { AreRight self.old }
-        ensures enabled { IfOk result (λ places. AreEnabled self.new (numbers_in row.now) places.items) }
-        ensures knows { KnowsMore self.old self.new }
+    /// Whether what is remembered at a place is of a step that is enabled where a world has its numbers. It takes no memory.
+    pub(crate) fn is_enabled_at(&self, at: usize) -> bool
+        requires { at < length self.now.remembered.items }
+        ensures { (r : Remembered) → slice_get self.now.remembered.items at ≡ Some r → result ≡ is_some r.shown }
     {
-        let asked = self.store.asked(alloc, row)?;
-        let mut enabled = Vec::with_capacity(alloc, asked.len())?;
-        for column in asked.as_slice() {
-            let at = self.look_up(alloc, row, *column)?;
-            if self.remembered[at].shown.is_some() {
-                enabled.push(at)?;
-            }
-        }
-        Ok(enabled)
-    }
-
-    /// The place of what is remembered of the first delivery that is enabled in a world, if one is. `AllocError` if there is no
-    /// memory for it.
-    pub fn first_delivery(&mut self, alloc: Global, row: &[u32]) -> Result<Option<usize>, AllocError>
-        requires world { IsWorldOf self.old.store (numbers_in row.now) }
-        requires right { AreRight self.old }
-        ensures first { IfOk result (λ place. IsFirstDelivery self.new (numbers_in row.now) place) }
-        ensures knows { KnowsMore self.old self.new }
-    {
-        let asked = self.store.asked(alloc, row)?;
-        for column in asked.as_slice() {
-            if self.store.is_channel(*column) {
-                let at = self.look_up(alloc, row, *column)?;
-                if self.remembered[at].shown.is_some() {
-                    return Ok(Some(at));
-                }
-            }
-        }
-        Ok(None)
+        self.remembered[at].shown.is_some()
     }
 
     /// Whether one of the steps that are remembered at these places is enabled in a world, as far as its numbers show it. It takes
@@ -253,23 +229,6 @@ impl<'m> Known<'m> {
             }
         }
         false
-    }
-
-    /// Whether a step is enabled in a world. `AllocError` if there is no memory to decide it.
-    pub fn goes_on(&mut self, alloc: Global, row: &[u32]) -> Result<bool, AllocError>
-        requires world { IsWorldOf self.old.store (numbers_in row.now) }
-        requires right { AreRight self.old }
-        ensures goes_on { IfOk result (λ goes_on. GoesOn self.new (numbers_in row.now) goes_on) }
-        ensures knows { KnowsMore self.old self.new }
-    {
-        let asked = self.store.asked(alloc, row)?;
-        for column in asked.as_slice() {
-            let at = self.look_up(alloc, row, *column)?;
-            if self.remembered[at].shown.is_some() {
-                return Ok(true);
-            }
-        }
-        Ok(false)
     }
 
     /// The records of a world. `AllocError` if there is no memory for them.

@@ -6,13 +6,17 @@ pub(crate) mod covering;
 pub mod known;
 pub mod laws;
 pub(crate) mod learning;
+pub mod look;
 pub(crate) mod parts;
 pub(crate) mod places;
 pub(crate) mod remembered;
 pub mod row;
+pub mod steps;
 pub mod store;
 pub(crate) mod touch;
 
 pub use known::Known;
+pub use look::{Lasting, Look, Reader, Unknown};
 pub use row::Row;
+pub use steps::{enabled, first_delivery, goes_on};
 pub use store::Store;

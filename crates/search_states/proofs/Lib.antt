@@ -1,3 +1,4 @@
 pub mod Following
 pub mod There
 pub mod Deadlocks
+pub mod Looking

@@ -44,5 +44,14 @@ pub fn search_states<T: Threads + Sync, O: LevelObserver>(
         threads: options.workers as usize,
     };
     let mut worlds = Numbered { known };
-    search_levels(rt, alloc, bounds, &mut worlds, &[], 0, shown.as_slice(), observer)
+    search_levels(
+        rt,
+        alloc,
+        bounds,
+        &mut worlds,
+        &[],
+        0,
+        shown.as_slice(),
+        observer,
+    )
 }

@@ -1,4 +1,4 @@
-use Rattle.std.proofs.Common.{◌+◌, drop, get_or, subst, sym}
+use Rattle.std.proofs.Common.{◌+◌, drop, get_or, refl, subst, sym}
 use Rattle.std.proofs.lemmas.List.{drop_all, drop_more}
 use Rattle.std.specs.List.{AllByRecursion}
 use Rattle.search_numbers.proofs.Followed.{follows_on}
@@ -13,8 +13,8 @@ use Rattle.world_model.specs.Asking.{program_of}
 use Rattle.world_model.specs.Run.{enabled_steps}
 
 pub loop-at-init : goal.loop-at-init
-loop-at-init c =
-    let first = c.enabled.new.self in
+loop-at-init g c =
+    let first = g.L.Look.seen c.enabled.new.look in
     let numbers = numbers_in c.args.row.now in
     let places = c.as_slice-at-items.result.now in
     record {
@@ -23,25 +23,29 @@ loop-at-init c =
       so_far = λ later m h follows of.
           none_so_far first numbers later m h c.clear.new.self places c.clear.ensures
           (subst (AreAt first numbers (enabled_steps (program_of m) h)) (sym c.as_slice-at-items.ensures.value) (c.in_ok-enabled.ensures.enabled later.store m h follows of));
-      there = subst (AllByRecursion (IsThere first numbers)) (sym c.as_slice-at-items.ensures.value) (are_there first numbers c.in_ok-enabled.enabled.items (still_read c.args.known.now first numbers c.enabled.ensures.knows c.requires).1 c.in_ok-enabled.ensures.enabled);
+      there = subst (AllByRecursion (IsThere first numbers)) (sym c.as_slice-at-items.ensures.value) (are_there first numbers c.in_ok-enabled.enabled.items (still_read (g.L.Look.seen c.args.look.now) first numbers c.enabled.ensures.knows c.requires).1 c.in_ok-enabled.ensures.enabled);
       read = subst (AreRead first) (sym c.clear.ensures) tt;
     }
 
-pub put_arrival-requires-clause-world : goal.put_arrival-requires-clause-world
-put_arrival-requires-clause-world c = still_read c.args.known.now c.loop-at.known (numbers_in c.args.row.now) c.loop-at.invariant.knows c.requires
-
-pub put_arrival-requires-clause-there : goal.put_arrival-requires-clause-there
-put_arrival-requires-clause-there c =
+pub put_arrival-requires : goal.put_arrival-requires
+put_arrival-requires g c κs =
+    let first = g.L.Look.seen c.enabled.new.look in
+    let old = g.L.Look.seen c.loop-at.look in
+    let numbers = numbers_in c.args.row.now in
     let items = c.as_slice-at-items.result.now in
-    let i = c.loop-at.at-index in
-    still_is_there c.enabled.new.self c.loop-at.known (numbers_in c.args.row.now) (get_or items i 0) c.loop-at.invariant.more
-    (subst (AllByRecursion (IsThere c.enabled.new.self (numbers_in c.args.row.now))) (drop_more items i 0 c.loop-at-test.true) c.loop-at.invariant.there).0
+    let i = c.loop-at.at-index in (
+      (refl, tt),
+      (
+        still_read (g.L.Look.seen c.args.look.now) old numbers c.loop-at.invariant.knows c.requires,
+        still_is_there first old numbers (get_or items i 0) c.loop-at.invariant.more (subst (AllByRecursion (IsThere first numbers)) (drop_more items i 0 c.loop-at-test.true) c.loop-at.invariant.there).0,
+      ),
+    )
 
 pub loop-at-preserved : goal.loop-at-preserved
-loop-at-preserved c =
-    let first = c.enabled.new.self in
-    let old = c.loop-at.known in
-    let new = c.put_arrival.new.known in
+loop-at-preserved g c =
+    let first = g.L.Look.seen c.enabled.new.look in
+    let old = g.L.Look.seen c.loop-at.look in
+    let new = g.L.Look.seen c.put_arrival.new.look in
     let numbers = numbers_in c.args.row.now in
     let items = c.as_slice-at-items.result.now in
     let i = c.loop-at.at-index in
@@ -50,7 +54,7 @@ loop-at-preserved c =
     let put = c.in_ok-put_arrival.ensures.puts in
     let r = put.one in
     record {
-      knows = knows_too c.args.known.now old new before.knows knows;
+      knows = knows_too (g.L.Look.seen c.args.look.now) old new before.knows knows;
       more = knows_too first old new before.more knows;
       so_far = λ later m h follows of.
           one_more first numbers later m h c.loop-at.into c.put_arrival.new.into r (get_or items i 0) (drop (i + 1) items)
@@ -63,6 +67,6 @@ loop-at-preserved c =
     }
 
 pub returns-clause-arrivals : goal.returns-clause-arrivals
-returns-clause-arrivals c = λ later m h follows of.
-    all_so_far c.enabled.new.self (numbers_in c.args.row.now) later m h c.loop-at.into
-    (subst (AreSoFar c.enabled.new.self (numbers_in c.args.row.now) later m h c.loop-at.into) (drop_all c.loop-at.at-index c.as_slice-at-items.result.now c.loop-at-test.false) (c.loop-at.invariant.so_far later m h follows of))
+returns-clause-arrivals g c = λ later m h follows of.
+    all_so_far (g.L.Look.seen c.enabled.new.look) (numbers_in c.args.row.now) later m h c.loop-at.into
+    (subst (AreSoFar (g.L.Look.seen c.enabled.new.look) (numbers_in c.args.row.now) later m h c.loop-at.into) (drop_all c.loop-at.at-index c.as_slice-at-items.result.now c.loop-at-test.false) (c.loop-at.invariant.so_far later m h follows of))

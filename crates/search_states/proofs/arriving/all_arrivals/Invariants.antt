@@ -12,10 +12,10 @@ use Rattle.world_model.specs.Events.{History}
 
 -- the arrivals so far, and the places that are left, are of the enabled steps
 abbrev pub invariant-loop-at : goal.invariant-loop-at
-invariant-loop-at l = record {
-  knows : KnowsMore l.fn.known l.known;
-  more : KnowsMore l.initial.known l.known;
-  so_far : (later : Known) (m : ModuleTree) (h : History) → Comes later l.known → AreOf later.store (numbers_in l.row) m h → AreSoFar l.initial.known (numbers_in l.row) later m h l.into (drop l.at-index l.at-items);
-  there : AllByRecursion (IsThere l.initial.known (numbers_in l.row)) (drop l.at-index l.at-items);
-  read : AreRead l.known l.into;
+invariant-loop-at g l = record {
+  knows : KnowsMore (g.L.Look.seen l.fn.look) (g.L.Look.seen l.look);
+  more : KnowsMore (g.L.Look.seen l.initial.look) (g.L.Look.seen l.look);
+  so_far : (later : Known) (m : ModuleTree) (h : History) → Comes later (g.L.Look.seen l.look) → AreOf later.store (numbers_in l.row) m h → AreSoFar (g.L.Look.seen l.initial.look) (numbers_in l.row) later m h l.into (drop l.at-index l.at-items);
+  there : AllByRecursion (IsThere (g.L.Look.seen l.initial.look) (numbers_in l.row)) (drop l.at-index l.at-items);
+  read : AreRead (g.L.Look.seen l.look) l.into;
 }

@@ -15,13 +15,13 @@ use Rattle.world_model.specs.Shown.{deadlock_of}
 pub search_levels-requires : goal.search_levels-requires
 search_levels-requires g c =
     let known = c.in_ok-known.known in
-    still_read known c.add_deadlock.new.known (numbers_in []) c.add_deadlock.ensures.knows (c.in_ok-known.ensures.right, c.in_ok-known.ensures.world)
+    still_read known c.add_deadlock.new.look (numbers_in []) c.add_deadlock.ensures.knows (c.in_ok-known.ensures.right, c.in_ok-known.ensures.world)
 
 pub returns : goal.returns
 returns g c =
     let m = c.args.program.now in
     let known = c.in_ok-known.known in
-    let shown_in = c.add_deadlock.new.known in
+    let shown_in = c.add_deadlock.new.look in
     let last = c.search_levels.new.worlds.known in
     let numbers = numbers_in [] in
     let are : AreOf known.store numbers m [] = c.in_ok-known.ensures.are in

@@ -1,6 +1,6 @@
 use Rattle.search_numbers.specs.Rows.{numbers_in}
 use Rattle.search_numbers.proofs.Keeping.{all_taken}
-use Rattle.std.proofs.Common.{◌≡◌, ℕ, arith, length}
+use Rattle.std.proofs.Common.{◌≡◌, arith, length}
 use Rattle.search_numbers.proofs.store.Store.records_of.Goals as goal
 
 pub returns : goal.returns

@@ -1,4 +1,4 @@
-use Rattle.std.proofs.Common.{◌≡◌, ◌∙◌, Some, length, refl, slice_get, sym, ap}
+use Rattle.std.proofs.Common.{◌≡◌, ◌∙◌, Some, length, refl, slice_get, ap}
 use Rattle.std.proofs.lemmas.Option.{slice_get_read}
 use Rattle.std.proofs.lemmas.Result.{on_ok_weaker}
 use Rattle.search_numbers.specs.Rows.{numbers_in}

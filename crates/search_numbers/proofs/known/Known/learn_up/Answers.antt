@@ -3,7 +3,7 @@ use Rattle.search_numbers.specs.Rows.{numbers_in}
 use Rattle.search_numbers.specs.Stored.{BeginsAt}
 use Rattle.search_numbers.proofs.Followed.{begins_read}
 use Rattle.search_numbers.proofs.Listed.{at_last, found_is, knows_grown, knows_itself, knows_too}
-use Rattle.search_numbers.proofs.known.Known.look_up.Goals as goal
+use Rattle.search_numbers.proofs.known.Known.learn_up.Goals as goal
 
 pub returns-in-Some-clause-answers : goal.returns-in-Some-clause-answers
 returns-in-Some-clause-answers c s begins = found_is c.args.self.now (numbers_in c.args.row.now) c.args.column s c.in-Some.at c.requires.right c.in-Some.ensures begins

@@ -4,12 +4,12 @@ use Rattle.search_numbers.specs.Knowing.{KnowsMore}
 use Rattle.search_numbers.specs.Rows.{numbers_in}
 use Rattle.search_numbers.specs.Stored.{AllBegin}
 use Rattle.search_numbers.proofs.Listed.{NoneIs}
-use Rattle.search_numbers.proofs.known.Known.first_delivery.Given as goal
+use Rattle.search_numbers.proofs.steps.first_delivery.Given as goal
 use Rattle.term_core.specs.declared.step.Step.{Step}
 
 -- whichever steps begin at the columns
 abbrev pub invariant-loop-column : goal.invariant-loop-column
-invariant-loop-column l = record {
-  knows : KnowsMore l.fn.self l.self;
-  none : (step : ℕ → Step) → AllBegin l.fn.self.store.places.items step l.column-items → NoneIs is_delivery l.self (numbers_in l.row) (map step (take l.column-index l.column-items));
+invariant-loop-column g l = record {
+  knows : KnowsMore (g.L.Look.seen l.fn.look) (g.L.Look.seen l.look);
+  none : (step : ℕ → Step) → AllBegin (g.L.Look.seen l.fn.look).store.places.items step l.column-items → NoneIs is_delivery (g.L.Look.seen l.look) (numbers_in l.row) (map step (take l.column-index l.column-items));
 }
