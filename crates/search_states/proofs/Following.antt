@@ -1,5 +1,5 @@
 -- The enabled steps of a world, which are taken one after the other, and the deadlock after each.
-use Rattle.std.proofs.Common.{◌≡◌, ◌∙◌, ℕ, Bool, true, false, List, [], ◌∷◌, ◌++◌, Option, Some, None, map, refl, sym, ap, subst, append_assoc, append-nil}
+use Rattle.std.proofs.Common.{◌≡◌, ◌∙◌, ℕ, true, false, List, [], ◌∷◌, ◌++◌, Some, None, map, refl, sym, ap, subst, append_assoc, append-nil}
 use Rattle.std.proofs.lemmas.List.{map-append}
 use Rattle.std.specs.List.{AllByRecursion}
 use Rattle.core_tree.specs.Syntax.{ModuleTree}
@@ -14,8 +14,6 @@ use Rattle.search_states.specs.inside.Keeping.{IsKept}
 use Rattle.term_core.specs.declared.step.Step.{Step}
 use Rattle.tree_schedules.specs.Deliveries.{first_or_all}
 use Rattle.tree_schedules.specs.declared.delivery.Delivery.TheVariants.{AnyTime}
-use Rattle.world_identities.specs.Identities.{identity_in}
-use Rattle.world_identities.specs.declared.identity.Identity.{Identity}
 use Rattle.world_model.specs.Asking.{program_of}
 use Rattle.world_model.specs.Events.{History}
 use Rattle.world_model.specs.Names.{Pid}

@@ -1,5 +1,5 @@
 -- Steps that are remembered as enabled ones, when more is known.
-use Rattle.std.proofs.Common.{◌≡◌, ℕ, List, [], ◌∷◌, ◌++◌, Some, subst, sym}
+use Rattle.std.proofs.Common.{ℕ, List, [], ◌∷◌, Some, subst, sym}
 use Rattle.search_agenda.proofs.Putting.{all_append}
 use Rattle.std.specs.List.{AllByRecursion}
 use Rattle.search_numbers.specs.Knowing.{AreAt, AreEnabled, IsFirstDelivery, IsThere, KnowsMore}

@@ -10,11 +10,9 @@ use Rattle.search_numbers.specs.Stored.{AreOf, Follows, IsWorldOf}
 use Rattle.search_numbers.specs.declared.known.Known.{Known}
 use Rattle.term_core.specs.declared.step.Step.{Step}
 use Rattle.tree_schedules.specs.declared.delivery.Delivery.{Delivery}
-use Rattle.world_identities.specs.Identities.{identity_in}
 use Rattle.world_identities.specs.declared.identity.Identity.{Identity}
 use Rattle.world_model.specs.Asking.{program_of}
 use Rattle.world_model.specs.Events.{History}
-use Rattle.world_model.specs.Shown.{shown}
 
 -- a row agrees with each history that leaves the world of its numbers
 abbrev pub IsKept : Known → List ℕ → ModuleTree → History → Type 0

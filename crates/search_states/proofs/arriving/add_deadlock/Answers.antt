@@ -1,7 +1,7 @@
 use Rattle.std.proofs.Common.{subst}
 use Rattle.search_numbers.specs.Knowing.{GoesOn}
 use Rattle.search_numbers.specs.Rows.{numbers_in}
-use Rattle.search_states.proofs.Deadlocks.{none_added, on_ok, one_added}
+use Rattle.search_states.proofs.Deadlocks.{none_added, one_added}
 use Rattle.search_states.proofs.Looking.{agree_seen, world_seen}
 use Rattle.search_states.proofs.There.{still_read}
 use Rattle.search_states.proofs.arriving.add_deadlock.Goals as goal

@@ -1,4 +1,4 @@
-use Rattle.std.proofs.Common.{◌≡◌, ◌∙◌, refl, subst, sym}
+use Rattle.std.proofs.Common.{◌∙◌, refl, subst, sym}
 use Rattle.search_numbers.specs.Rows.{numbers_in}
 use Rattle.search_numbers.specs.declared.known.Known.{Known}
 use Rattle.search_states.proofs.Looking.{some_is}

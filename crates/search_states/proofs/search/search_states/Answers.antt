@@ -1,4 +1,4 @@
-use Rattle.std.proofs.Common.{◌≡◌, ◌∙◌, ◌++◌, ℕ, List, [], ap, map, subst, sym}
+use Rattle.std.proofs.Common.{◌∙◌, ◌++◌, List, [], ap, map}
 use Rattle.std.proofs.lemmas.Result.{IfOk-weaker}
 use Rattle.search_numbers.proofs.Followed.{follows_itself, follows_on}
 use Rattle.search_numbers.proofs.Kept.{are_later}
