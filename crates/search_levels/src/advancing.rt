@@ -1,9 +1,9 @@
 // The level after another one.
-ghost use Rattle.std.specs.Prelude.{◌≡◌, ◌≤◌, ◌<◌, [], IfOk, OnOk, length, slice_range, take};
+ghost use Rattle.std.specs.Prelude.{◌≡◌, ◌≤◌, ◌<◌, [], IfOk, OnOk, length, slice_range};
 ghost use Rattle.search_levels.specs.Arrivals.{of_module};
 ghost use Rattle.search_levels.specs.Known.{FromNowOn, Grows};
-ghost use Rattle.search_levels.specs.inside.Expanding.{Expands, GoesFrom, NotesArrivals, NotesLevel};
-ghost use Rattle.search_levels.specs.inside.Following.{AreFollowed, AreKnownArrivals, IsReady, TakesRows, place_after, taken_by};
+ghost use Rattle.search_levels.specs.inside.Expanding.{Expands, NotesArrivals, NotesLevel};
+ghost use Rattle.search_levels.specs.inside.Following.{AreFollowed, AreKnownArrivals, GoesBy, IsReady, TakesRows, place_after, taken_by};
 ghost use Rattle.search_levels.specs.inside.Levels.{AreOf};
 ghost use Rattle.search_levels.specs.inside.Searching.{GoesOn};
 ghost use Rattle.search_levels.specs.inside.Visits.{entry_of};
@@ -85,7 +85,7 @@ fn merge<W: Worlds, O: LevelObserver>(
     requires forward { share.first ≤ share.last }
     requires within { share.last ≤ length level.now.rows }
     requires followed { AreFollowed (AreKnownArrivals W.agrees W.is_of W.follows worlds.old delivery) [] followed.now.arrivals 0 (slice_range level.now.rows share.first share.last) followed.now.ends.items }
-    ensures goes_on { OnOk result (FromNowOn W.follows worlds.new (λ k m. GoesFrom delivery (of_module (W.agrees k) m) (flags_in flags) (take share.first level.now.rows) (take share.last level.now.rows) next.old.rows next.new.rows findings.old findings.new)) }
+    ensures goes_on { OnOk result (FromNowOn W.follows worlds.new (λ k m. GoesBy delivery (of_module (W.agrees k) m) (flags_in flags) level.now.rows share next.old.rows next.new.rows findings.old findings.new)) }
     ensures notes { FromNowOn W.follows worlds.new (λ k m. NotesLevel delivery (of_module (W.agrees k) m) (flags_in flags) level.now.rows findings.old findings.new) }
     ensures of_known { OnOk result (AreOf (W.is_of worlds.old) next.old.rows → AreOf (W.is_of worlds.new) next.new.rows) }
     ensures grows { Grows W.is_of W.follows worlds.old worlds.new }

@@ -4,7 +4,7 @@ ghost use Rattle.core_tree.specs.Syntax.{ModuleTree};
 ghost use Rattle.search_levels.specs.Arrivals.{of_module};
 ghost use Rattle.search_levels.specs.Known.{FromNowOn, Grows};
 ghost use Rattle.search_levels.specs.inside.Expanding.{Arrives, Expands, NotesAll, NotesArrival, NotesArrivals};
-ghost use Rattle.search_levels.specs.inside.Following.{ArriveAll, KeepsRows, TakesInAll, TakesRow, TakesRows};
+ghost use Rattle.search_levels.specs.inside.Following.{ArriveSome, KeepsRows, TakesInAll, TakesRow, TakesRows};
 ghost use Rattle.search_levels.specs.inside.Levels.{AreOf, TakesIn};
 ghost use Rattle.search_levels.specs.inside.Paths.{schedule_in};
 ghost use Rattle.search_levels.specs.inside.Visits.{entry_of};
@@ -86,7 +86,7 @@ pub(crate) fn arrive_at_all<W: Worlds>(
 ) -> Result<(), Cause>
     requires forward { first ≤ last }
     requires within { last ≤ length arrivals.now }
-    ensures arrive { OnOk result ((k : W) (m : ModuleTree) → ArriveAll (of_module (W.agrees k) m) (flags_in flags) (schedule_in from.now) (slice_range arrivals.now first last) level.old.rows level.new.rows findings.old findings.new) }
+    ensures arrive { OnOk result ((k : W) (m : ModuleTree) → ArriveSome (of_module (W.agrees k) m) (flags_in flags) (schedule_in from.now) arrivals.now first last level.old.rows level.new.rows findings.old findings.new) }
     ensures notes { (k : W) (m : ModuleTree) → NotesAll (of_module (W.agrees k) m) (flags_in flags) (schedule_in from.now) (slice_range arrivals.now first last) findings.old findings.new }
     ensures of_known { OnOk result ((k : W) → TakesInAll (W.is_of k) level.old.rows (slice_range arrivals.now first last) level.new.rows) }
     ensures rows { OnOk result (TakesRows level.old.rows (slice_range arrivals.now first last) level.new.rows) }

@@ -1,6 +1,6 @@
 // What follows states, as far as it is known: nothing is learned, so several threads may list it at once.
-ghost use Rattle.std.specs.Prelude.{◌≡◌, ◌<◌, ◌≤◌, [], ℕ, IfOk, OnOk, Some, length, slice_get, slice_range, vec_len};
-ghost use Rattle.search_levels.specs.inside.Following.{AreFollowed, AreKept, AreShares, AreKnownArrivals, FollowsNext, FollowsShare, IsKept};
+ghost use Rattle.std.specs.Prelude.{◌≡◌, ◌<◌, ◌≤◌, [], IfOk, OnOk, length, slice_range, vec_len};
+ghost use Rattle.search_levels.specs.inside.Following.{AreFollowed, AreKept, AreShares, AreKnownArrivals, FollowShares, FollowsNext, FollowsShare, IsKept};
 ghost use Rattle.search_levels.specs.inside.Levels.{AreOf};
 ghost use Rattle.search_levels.specs.inside.Visits.{entry_of};
 
@@ -126,7 +126,7 @@ pub(crate) fn follow_all<W: Worlds + Sync, T: Threads + Sync>(
     requires read { AreOf (W.is_of worlds.now) level.now.rows }
     requires shares { AreShares 0 (length level.now.rows) shares.now }
     ensures count { IfOk result (λ followed. vec_len followed ≡ length shares.now) }
-    ensures each { IfOk result (λ followed. (i : ℕ) (r : _) → i < length shares.now → slice_get followed.items i ≡ Some r → FollowsShare (AreKnownArrivals W.agrees W.is_of W.follows worlds.now delivery) level.now.rows shares.now i r) }
+    ensures each { IfOk result (λ followed. FollowShares (AreKnownArrivals W.agrees W.is_of W.follows worlds.now delivery) level.now.rows shares.now followed.items) }
 {
     thread::map_indices(
         rt,

@@ -2,9 +2,8 @@
 use Rattle.std.proofs.Common.{◌≡◌, ◌∙◌, ◌<◌, ℕ, Bool, List, Some, get_or, is_some, length, sym, subst}
 use Rattle.std.proofs.lemmas.Option.{slice_get_within}
 use Rattle.std.specs.List.{slice_get}
-use Rattle.search_numbers.specs.inside.Finding.{Begins}
 use Rattle.search_numbers.specs.Knowing.{AreRight, IsAt, KnowsMore}
-use Rattle.search_numbers.specs.Stored.{AreAsked, BeginsAt, IsStore, IsWorldOf}
+use Rattle.search_numbers.specs.Stored.{AreAsked, Begins, BeginsAt, IsStore, IsWorldOf}
 use Rattle.search_numbers.specs.declared.known.Known.{Known}
 use Rattle.search_numbers.specs.declared.remembered.Remembered.{Remembered}
 use Rattle.search_numbers.proofs.Kept.{world_later}

@@ -67,6 +67,11 @@ pub record BeginsAt (places : List Place) (column : ℕ) (step : Step) : Type 0 
   pub there : slice_get places column ≡ Some place
   pub begins : step_at place ≡ Some step
 
+-- some step begins at the place of a column
+pub record Begins (places : List Place) (column : ℕ) : Type 0 where
+  pub step : Step
+  pub begins : BeginsAt places column step
+
 -- each of these steps begins at the place of its column
 abbrev pub EachBegins : List Place → List (Step × ℕ) → Type 0
 EachBegins places steps = AllByRecursion (λ e. BeginsAt places e.1 e.0) steps

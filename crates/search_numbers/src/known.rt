@@ -1,10 +1,10 @@
 // What is known of all worlds of a search.
 ghost use Rattle.std.specs.Prelude.{◌≡◌, ◌∷◌, ◌++◌, ◌<◌, [], ℕ, true, is_some, length, map, slice_get, IfOk, IfSome, OnOk, Some};
 ghost use Rattle.search_numbers.specs.Knowing.{AreRight, GoesOn, IsAt, IsTaken, IsThere, KnowsMore};
-ghost use Rattle.search_numbers.specs.inside.Finding.{Begins, IsFoundAt};
+ghost use Rattle.search_numbers.specs.inside.Finding.{IsFoundAt};
 ghost use Rattle.search_numbers.specs.Remembering.{IsRight, identities_in, shown_in};
 ghost use Rattle.search_numbers.specs.Rows.{numbers_in};
-ghost use Rattle.search_numbers.specs.Stored.{AreOf, BeginsAt, IsWorldOf, part_at};
+ghost use Rattle.search_numbers.specs.Stored.{AreOf, Begins, BeginsAt, IsWorldOf, part_at};
 ghost use Rattle.search_numbers.specs.Local.{HasAll};
 ghost use Rattle.core_tree.specs.Syntax.{ModuleTree};
 ghost use Rattle.search_numbers.specs.declared.remembered.Remembered.{Remembered};

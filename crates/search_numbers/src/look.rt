@@ -34,7 +34,7 @@ impl<T: Drop> From<AllocFailed<T>> for Unknown {
     }
 }
 
-/// Where steps are learned, only want of memory leaves one unknown.
+/// Where steps are learned, only lack of memory leaves one unknown.
 impl From<Unknown> for AllocError {
     fn from(_unknown: Unknown) -> AllocError {
         AllocError
@@ -45,9 +45,8 @@ impl From<Unknown> for AllocError {
 pub trait Look<'m>: Sized {
     ghost use Rattle.std.specs.Prelude.{◌≡◌, ℕ, IfOk};
     ghost use Rattle.search_numbers.specs.Knowing.{AreRight, IsAt, KnowsMore};
-    ghost use Rattle.search_numbers.specs.inside.Finding.{Begins};
     ghost use Rattle.search_numbers.specs.Rows.{numbers_in};
-    ghost use Rattle.search_numbers.specs.Stored.{BeginsAt, IsWorldOf};
+    ghost use Rattle.search_numbers.specs.Stored.{Begins, BeginsAt, IsWorldOf};
     ghost use Rattle.search_numbers.specs.declared.known.Known.{Known};
     ghost use Rattle.term_core.specs.declared.step.Step.{Step};
 

@@ -1,11 +1,11 @@
 -- What follows states, as far as it is known, where what comes again is left out.
 use Rattle.std.specs.List.{AllByRecursion}
-use Rattle.std.specs.Prelude.{◌≡◌, ◌≤◌, ◌⊎◌, ◌++◌, ℕ, List, [], ◌∷◌, Option, Some, None, Result, IfOk, length, map, slice_get, slice_range}
+use Rattle.std.specs.Prelude.{◌≡◌, ◌<◌, ◌≤◌, ◌⊎◌, ◌++◌, ℕ, List, [], ◌∷◌, Option, Some, None, Result, IfOk, length, map, slice_get, slice_range, take}
 use Rattle.core_tree.specs.Syntax.{ModuleTree}
 use Rattle.search_levels.specs.Arrivals.{AreArrivals, Arrived, of_module}
 use Rattle.search_levels.specs.Known.{FromNowOn}
 use Rattle.search_levels.specs.Rows.{HasRow}
-use Rattle.search_levels.specs.inside.Expanding.{Arrives}
+use Rattle.search_levels.specs.inside.Expanding.{Arrives, GoesFrom}
 use Rattle.search_levels.specs.inside.Levels.{AreOf}
 use Rattle.search_levels.specs.inside.Visits.{Visit}
 use Rattle.search_levels.specs.declared.following.Followed.{Followed}
@@ -77,6 +77,10 @@ ArriveAll Agrees flags schedule [] old new before after = (new ≡ old) × (afte
 ArriveAll Agrees flags schedule (r ∷ rs) old new before after =
     (mid : List Visit) × (found : Findings) × Arrives Agrees flags schedule r old mid before found × TakesRow old r.row mid × ArriveAll Agrees flags schedule rs mid new found after
 
+-- so it is with those of them from one place on up to another one
+abbrev pub ArriveSome : (List ℕ → Program → History → Type 0) → Flags → List Step → List Arrived → ℕ → ℕ → List Visit → List Visit → Findings → Findings → Type 0
+ArriveSome Agrees flags schedule rs first last old new before after = ArriveAll Agrees flags schedule (slice_range rs first last) old new before after
+
 -- each row of a level and those of arrivals are rows of another level
 abbrev pub TakesRows : List Visit → List Arrived → List Visit → Type 0
 TakesRows old rs new = KeepsRows old new × ((r : Arrived) → IsAmong r rs → HasRow new r.row)
@@ -113,9 +117,17 @@ abbrev pub AreShares : ℕ → ℕ → List Share → Type 0
 AreShares at end [] = at ≡ end
 AreShares at end (share ∷ shares) = (share.first ≡ at) × (at ≤ share.last) × (share.last ≤ end) × AreShares share.last end shares
 
+-- after the states of a level before a share those of the share are expanded
+abbrev pub GoesBy : Delivery → (List ℕ → Program → History → Type 0) → Flags → List Visit → Share → List Visit → List Visit → Findings → Findings → Type 0
+GoesBy d Agrees flags level share old new before after = GoesFrom d Agrees flags (take share.first level) (take share.last level) old new before after
+
 -- what follows the states of a share is listed, where there was memory for it
 abbrev pub FollowsShare : {E : Type 0} → (List ℕ → List Arrived → Type 0) → List Visit → List Share → ℕ → Result Followed E → Type 0
 FollowsShare AreAll level shares i r = (share : Share) → slice_get shares i ≡ Some share → IfOk r (λ f. AreFollowed AreAll [] f.arrivals 0 (slice_range level share.first share.last) f.ends.items)
+
+-- so it is with each share
+abbrev pub FollowShares : {E : Type 0} → (List ℕ → List Arrived → Type 0) → List Visit → List Share → List (Result Followed E) → Type 0
+FollowShares AreAll level shares rs = (i : ℕ) (r : _) → i < length shares → slice_get rs i ≡ Some r → FollowsShare AreAll level shares i r
 
 -- ---- what is kept
 

@@ -1,16 +1,8 @@
 -- How what is remembered is found: by the column of the place where a step begins.
-use Rattle.std.specs.Prelude.{◌≡◌, ℕ, true, List, Some, slice_get}
+use Rattle.std.specs.Prelude.{◌≡◌, ℕ, true, Some, slice_get}
 use Rattle.search_numbers.specs.Rows.{fits}
-use Rattle.search_numbers.specs.Stored.{BeginsAt}
 use Rattle.search_numbers.specs.declared.known.Known.{Known}
 use Rattle.search_numbers.specs.declared.remembered.Remembered.{Remembered}
-use Rattle.term_core.specs.declared.step.Step.{Step}
-use Rattle.world_records.specs.declared.place.Place.{Place}
-
--- some step begins at the place of a column
-pub record Begins (places : List Place) (column : ℕ) : Type 0 where
-  pub step : Step
-  pub begins : BeginsAt places column step
 
 -- what is remembered at a place is of this column, with numbers that a world has
 pub record IsFoundAt (known : Known) (numbers : ℕ → ℕ) (column at : ℕ) : Type 0 where
