@@ -1,9 +1,12 @@
+use denote.Exit.{no}
+use denote.Param.Send.{arg_sync, param_sync}
 use Rattle.std.proofs.Common.{◌∙◌, ◌++◌, List, [], ap, map}
 use Rattle.std.proofs.lemmas.Result.{IfOk-weaker}
 use Rattle.search_numbers.proofs.Followed.{follows_itself, follows_on}
 use Rattle.search_numbers.proofs.Kept.{are_later}
 use Rattle.search_numbers.specs.Rows.{numbers_in}
 use Rattle.search_numbers.specs.Stored.{AreOf, IsWorldOf}
+use Rattle.search_states.proofs.Crossing.{numbered_sync}
 use Rattle.search_states.proofs.There.{still_read}
 use Rattle.search_states.proofs.search.search_states.Goals as goal
 use Rattle.world_identities.specs.Identities.{identity_in}
@@ -12,8 +15,12 @@ use Rattle.world_model.specs.Asking.{program_of}
 use Rattle.world_model.specs.Run.{enabled_steps, living}
 use Rattle.world_model.specs.Shown.{deadlock_of}
 
-pub search_levels-requires : goal.search_levels-requires
-search_levels-requires g c =
+-- what is known may be shared
+pub search_levels-requires-sync-W : goal.search_levels-requires-sync-W
+search_levels-requires-sync-W g c κs within = param_sync _ _ (arg_sync _ no _ (numbered_sync _))
+
+pub search_levels-requires-after_bounds : goal.search_levels-requires-after_bounds
+search_levels-requires-after_bounds g c κs within =
     let known = c.in_ok-known.known in
     still_read known c.add_deadlock.new.look (numbers_in []) c.add_deadlock.ensures.knows (c.in_ok-known.ensures.right, c.in_ok-known.ensures.world)
 
