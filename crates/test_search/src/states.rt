@@ -64,7 +64,9 @@ fn both_list_the_same<T: Threads + Wait + Sync>(
         return Err(Fail::from("the search was not begun"));
     };
     let (by_tree, _) = complete(tree)?;
-    let (by_states, _) = complete(followed(rt, alloc, &program, Delivery::AnyTime, depth)?.outcome)?;
+    let (by_states, _) = complete(
+        followed(rt, alloc, &program, Delivery::AnyTime, depth)?.outcome,
+    )?;
     let by_tree = listed(alloc, depth, by_tree)?;
     let by_states = listed(alloc, depth, by_states)?;
     same(by_states.as_slice(), by_tree.as_slice())
