@@ -30,15 +30,14 @@ impl<T: Drop> Indexed<T> {
     pub(crate) fn has(&self, row: &[u32], digest: u64) -> bool
         ensures { result ≡ true → HasRow self.now.rows row.now }
     {
-        let mut found = self.index.last(digest);
+        let mut probe = self.index.probe(digest);
         for _ in 0..self.rows.len() {
-            let Some(place) = found else {
+            let Some(place) = self.index.next(&mut probe) else {
                 return false;
             };
             if place < self.rows.len() && *self.rows.at(place).row == *row {
                 return true;
             }
-            found = self.index.before(place);
         }
         false
     }

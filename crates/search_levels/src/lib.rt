@@ -17,7 +17,7 @@ pub mod span;
 pub mod worlds;
 
 pub use arrival::Arrival;
-pub use index::Index;
+pub use index::{Index, Probe};
 pub use observer::{LevelObserver, Unobserved};
 pub use rows::{Rows, Seen};
 pub use search::{Bounds, Searched, search_levels};

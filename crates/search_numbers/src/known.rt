@@ -31,12 +31,35 @@ use world_records::Records;
 #[derive(Drop)]
 pub struct Known<'m> {
     pub(crate) store: Store<'m>,
-    // The columns that steps touch, each list once, and for each column which of these the steps of its place have.
-    shapes: Vec<Vec<usize>>,
-    of_column: Vec<Vec<usize>>,
+    // The shapes of steps, each once, and where those of a beginning are.
+    shapes: Vec<Shape>,
+    beginnings: Index,
     pub(crate) remembered: Vec<Remembered>,
     // Where the steps of a digest are.
     index: Index,
+}
+
+// Which columns a step touches that begins at a column where a world has this number.
+#[derive(Drop)]
+struct Shape {
+    column: usize,
+    number: u32,
+    touched: Vec<usize>,
+}
+
+impl Shape {
+    // Whether it is one of the steps that begin at a column with this number.
+    fn begins_at(&self, column: usize, number: u32) -> bool {
+        self.column == column && self.number == number
+    }
+}
+
+// A number by which the shapes of the steps are found that begin at a column with this number.
+fn digest_of_beginning(column: usize, number: u32) -> u64 {
+    let mut hasher = FoldHasher::default();
+    hasher.write_usize(column);
+    hasher.write_u32(number);
+    hasher.finish()
 }
 
 // Copies of what is shown, if anything is. `AllocError` if there is no memory for them.
@@ -81,25 +104,24 @@ impl<'m> Known<'m> {
         Ok(Known {
             store: Store::open(alloc, program)?,
             shapes: Vec::new(alloc),
-            of_column: Vec::new(alloc),
+            beginnings: Index::new(alloc),
             remembered: Vec::new(alloc),
             index: Index::new(alloc),
         })
     }
 
-    // The place of what is remembered of the step that begins at a column where the columns that it touches are these, if one is
-    // found that has the numbers of a world.
+    // The place of what is remembered of the step that begins at a column, if one of this shape is found that has the numbers of
+    // a world.
     fn find_by(&self, row: &[u32], column: usize, shape: usize) -> Option<usize>
         ensures { IfSome result (IsFoundAt self.now (numbers_in row.now) column) }
     {
-        let columns = self.shapes.get(shape)?;
-        let mut found = self.index.last(digest_of(row, shape, columns.as_slice()));
+        let touched = self.shapes.get(shape)?.touched.as_slice();
+        let mut probe = self.index.probe(digest_of(row, shape, touched));
         for _ in 0..self.remembered.len() {
-            let at = found?;
+            let at = self.index.next(&mut probe)?;
             if at < self.remembered.len() && self.remembered[at].is_of(column, row) {
                 return Some(at);
             }
-            found = self.index.before(at);
         }
         None
     }
@@ -109,56 +131,48 @@ impl<'m> Known<'m> {
     pub(crate) fn find(&self, row: &[u32], column: usize) -> Option<usize>
         ensures { IfSome result (IsFoundAt self.now (numbers_in row.now) column) }
     {
-        for shape in self.of_column.get(column)?.as_slice() {
-            if let Some(at) = self.find_by(row, column, *shape) {
+        let number = number_in(row, column);
+        let mut probe = self.beginnings.probe(digest_of_beginning(column, number));
+        for _ in 0..self.shapes.len() {
+            let shape = self.beginnings.next(&mut probe)?;
+            if self.shapes.get(shape)?.begins_at(column, number) {
+                if let Some(at) = self.find_by(row, column, shape) {
+                    return Some(at);
+                }
+            }
+        }
+        None
+    }
+
+    // The place of a shape, if there is one that is the same.
+    fn shape_of(&self, shape: &Shape) -> Option<usize> {
+        let mut probe = self
+            .beginnings
+            .probe(digest_of_beginning(shape.column, shape.number));
+        for _ in 0..self.shapes.len() {
+            let at = self.beginnings.next(&mut probe)?;
+            let there = self.shapes.get(at)?;
+            if there.begins_at(shape.column, shape.number) && there.touched == shape.touched {
                 return Some(at);
             }
         }
         None
     }
 
-    // The shape of these columns among those of the steps of a place, if there is one.
-    fn shape_of(&self, column: usize, columns: &[usize]) -> Option<usize> {
-        for shape in self.of_column.get(column)?.as_slice() {
-            if *self.shapes.get(*shape)?.as_slice() == *columns {
-                return Some(*shape);
-            }
-        }
-        None
-    }
-
-    // A place has a list of shapes at its column. `AllocError` if there is no memory for it.
-    fn widen(&mut self, alloc: Global, column: usize) -> Result<(), AllocError>
-        ensures store { self.new.store ≡ self.old.store }
-        ensures remembered { self.new.remembered ≡ self.old.remembered }
-    {
-        for _ in self.of_column.len()..=column {
-            self.of_column.push(Vec::new(alloc))?;
-        }
-        Ok(())
-    }
-
-    // The shape of these columns, which is a new one of the steps of a place where there is none. `AllocError` if there is no
+    // The place of a shape, which is put after the others where there is none that is the same. `AllocError` if there is no
     // memory for it.
-    fn shape(
-        &mut self,
-        alloc: Global,
-        column: usize,
-        columns: Vec<usize>,
-    ) -> Result<usize, AllocError>
+    fn keep_shape(&mut self, shape: Shape) -> Result<usize, AllocError>
         ensures store { self.new.store ≡ self.old.store }
         ensures remembered { self.new.remembered ≡ self.old.remembered }
     {
-        if let Some(shape) = self.shape_of(column, columns.as_slice()) {
-            return Ok(shape);
+        if let Some(at) = self.shape_of(&shape) {
+            return Ok(at);
         }
-        let shape = self.shapes.len();
-        self.shapes.push(columns)?;
-        self.widen(alloc, column)?;
-        if let Some(shapes) = self.of_column.get_mut(column) {
-            shapes.push(shape)?;
-        }
-        Ok(shape)
+        let at = self.shapes.len();
+        self.beginnings
+            .put(digest_of_beginning(shape.column, shape.number))?;
+        self.shapes.push(shape)?;
+        Ok(at)
     }
 
     // Remembers a step of a world. `AllocError` if there is no memory for it.
@@ -174,12 +188,16 @@ impl<'m> Known<'m> {
         ensures more { OnOk result (self.new.remembered.items ≡ self.old.remembered.items ++ learned ∷ []) }
         ensures knows { KnowsMore self.old self.new }
     {
-        let columns = columns_of(alloc, &learned)?;
-        let digest_columns = columns.clone()?;
-        let shape = self.shape(alloc, column, columns)?;
+        let touched = columns_of(alloc, &learned)?;
+        let columns = touched.clone()?;
+        let number = number_in(row, column);
+        let shape = self.keep_shape(Shape {
+            column,
+            number,
+            touched,
+        })?;
         let at = self.remembered.len();
-        self.index
-            .put(digest_of(row, shape, digest_columns.as_slice()))?;
+        self.index.put(digest_of(row, shape, columns.as_slice()))?;
         self.remembered.push(learned)?;
         Ok(at)
     }

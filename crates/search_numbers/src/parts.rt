@@ -97,13 +97,12 @@ impl<'m> Store<'m> {
         ensures { IfSome result (StandsAt self.now place.now records.now) }
     {
         let parts = self.parts.as_slice();
-        let mut found = self.index.last(digest);
+        let mut probe = self.index.probe(digest);
         for _ in 0..parts.len() {
-            let at = found?;
+            let at = self.index.next(&mut probe)?;
             if at < parts.len() && parts[at].has(place, records) {
                 return Some(at);
             }
-            found = self.index.before(at);
         }
         None
     }

@@ -19,6 +19,7 @@ use Rattle.core_tree.specs.contracts.tree.Expr as Expr
 use Rattle.core_tree.specs.contracts.tree.Receive as Receive
 use Rattle.core_tree.specs.contracts.tree.Try as Try
 use Rattle.search_levels.proofs.index.Index.TheSendSync as index
+use Rattle.search_numbers.proofs.known.Shape.TheSendSync as shape
 use Rattle.search_numbers.proofs.touch.Touch.TheSendSync as touch
 use Rattle.search_numbers.specs.contracts.known.Known as Known
 use Rattle.search_numbers.specs.contracts.remembered.Remembered as Remembered
@@ -341,7 +342,7 @@ remembered_sync : IsSync Remembered.the_row
 remembered_sync = declared_sync Remembered.the_type (step.the_sync, ((search sendable), ((search (touch.the_sync, crosses, maps.crosses, sendable) depth 20), ((search (identity_sync, crosses, maps.crosses, sendable) depth 30), tt))))
 
 known_sync : (a : NamedLft) → IsSync (Known.the_row a)
-known_sync a = declared_sync (Known.the_type a) ((search (store_sync, crosses, maps.crosses, sendable) depth 20), ((search (crosses, maps.crosses, sendable) depth 20), ((search (crosses, maps.crosses, sendable) depth 20), ((search (remembered_sync, crosses, maps.crosses, sendable) depth 20), (index.the_sync, tt)))))
+known_sync a = declared_sync (Known.the_type a) ((search (store_sync, crosses, maps.crosses, sendable) depth 20), ((search (shape.the_sync, crosses, maps.crosses, sendable) depth 20), (index.the_sync, ((search (remembered_sync, crosses, maps.crosses, sendable) depth 20), (index.the_sync, tt)))))
 
 pub numbered_sync : (a : NamedLft) → IsSync (Numbered.the_row a)
 numbered_sync a = declared_sync (Numbered.the_type a) ((search (known_sync, crosses, maps.crosses, sendable) depth 20), tt)
