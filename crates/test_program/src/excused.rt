@@ -115,14 +115,7 @@ const ROWS: [(&str, &[&str], &str, u8); 9] = [
     (
         TWO_END_BADLY,
         &[
-            "explore",
-            "--cover",
-            "--normal",
-            "'boom'",
-            "--normal",
-            "{'_',1}",
-            "--depth",
-            "3",
+            "explore", "--cover", "--normal", "'boom'", "--normal", "{'_',1}", "--depth", "3",
         ],
         BOTH_ARE_NORMAL,
         0,
