@@ -1,6 +1,6 @@
 -- Steps along the parts of two tuples.
-use Rattle.std.proofs.Common.{◌≡◌, ℕ, zero, suc, ◌+◌, ◌<◌, ◌≤◌, Bool, true, false, ◌&&◌, List, [], ◌∷◌, length, get_or, drop, map, refl, sym, ap, ◌∙◌, arith, add-one}
-use Rattle.term_core.specs.Meaning.{Meaning, meanings_of, node_count, sum_of_nodes}
+use Rattle.std.proofs.Common.{◌≡◌, ℕ, zero, suc, ◌+◌, ◌<◌, ◌≤◌, Bool, true, false, ◌&&◌, List, [], ◌∷◌, length, get_or, drop, map, refl, sym, ap, arith, add-one}
+use Rattle.term_core.specs.Meaning.{meanings_of, node_count, sum_of_nodes}
 use Rattle.term_core.specs.Term.{meaning_of}
 use Rattle.term_core.specs.declared.term.Term.{Term}
 use Rattle.tree_excuses.specs.Patterns.{all_match, matches}

@@ -9,7 +9,7 @@ use Rattle.term_core.specs.Order.{order_of_parts, order_of_sizes, order_of_terms
 use Rattle.term_core.specs.inside.OrderLaws.{terms_total}
 use Rattle.term_core.specs.inside.OrderLaws as terms
 use Rattle.world_model.specs.Names.{same_term}
-use Rattle.tree_excuses.specs.Patterns.{all_match, any, has_any, is_any, matches, one_has_any}
+use Rattle.tree_excuses.specs.Patterns.{all_match, has_any, is_any, matches, one_has_any}
 use Rattle.tree_excuses.specs.Laws.{AnyMatchesAll, EachMatchesItself, PlainMatchesItselfAlone}
 
 -- ---- '_' matches all

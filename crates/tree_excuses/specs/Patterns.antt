@@ -2,7 +2,7 @@
 -- "'_' matches any Erlang term").
 use Rattle.std.specs.Prelude.{Bool, true, false, ◌&&◌, ◌||◌, codes}
 use Rattle.term_core.specs.Kinds.{is_the_atom}
-use Rattle.term_core.specs.Meaning.{Meaning, Meanings, Int, Atom, Ref, Pid, Tuple, Nil, Cons, NoMore, Also}
+use Rattle.term_core.specs.Meaning.{Meaning, Meanings, Atom, Tuple, Cons, NoMore, Also}
 use Rattle.world_model.specs.Names.{same_term}
 
 -- the atom '_'

@@ -4,7 +4,7 @@
 
 pub mod excuses;
 pub mod laws;
-pub mod patterns;
+mod patterns;
 pub mod standing;
 
 pub use excuses::Excuses;

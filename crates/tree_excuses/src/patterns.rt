@@ -1,4 +1,4 @@
-// When a pattern matches a term.
+// When a pattern matches a term: the atom '_' in it stands for any term.
 ghost use Rattle.std.specs.Prelude.{◌≡◌};
 ghost use Rattle.term_core.specs.Meaning.{meanings_of};
 ghost use Rattle.term_core.specs.Term.{meaning_of};
@@ -6,8 +6,8 @@ ghost use Rattle.tree_excuses.specs.Patterns.{all_match, matches};
 
 use term_core::{Pair, Term, Terms};
 
-/// Whether a pattern matches a term. It goes along the tails of lists by a loop, and into heads and the parts of tuples
-/// by recursion. It takes no memory.
+/// Whether a pattern matches a term. It goes along the tails of lists by a loop, and into heads and the parts of tuples by
+/// recursion, and never further than the pattern does. It takes no memory.
 #[cycle(patterns)]
 pub(crate) fn matches(pattern: &Term, term: &Term) -> bool
     ensures { result ≡ matches (meaning_of pattern.now) (meaning_of term.now) }

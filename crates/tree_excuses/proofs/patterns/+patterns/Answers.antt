@@ -1,4 +1,4 @@
-use Rattle.std.proofs.Common.{◌≤◌, arith, ap}
+use Rattle.std.proofs.Common.{◌≤◌, arith}
 use Rattle.term_core.specs.Meaning.{node_count, sum_of_nodes}
 use Rattle.term_core.specs.Term.{meaning_of}
 use Rattle.tree_excuses.proofs.Matching.{differ, part}
