@@ -14,8 +14,8 @@ STEP, DEEPEST = 8, 400
 # A tree of at most so many nodes is explored deeper although it shows an error.
 FEW = 50_000
 CLEAN, ERRORS, INCOMPLETE = 0, 1, 3
-# in the spelling of the program
-SHUTDOWN = "'shutdown'"
+# the reasons of an end on purpose, in the spelling of the program, in which '_' stands for any term
+ON_PURPOSE = ("'shutdown'", "{'shutdown','_'}")
 
 
 @dataclass(frozen=True)
@@ -40,10 +40,10 @@ class Explored:
 
 def words_of_search(request: Request, normal: Sequence[str]) -> list[str]:
     """The words for the program: by states, unless the tree is asked for, and at once, unless any delay is. An end with
-    `shutdown` is one on purpose, as OTP has it, unless ends are to be taken strictly."""
+    `shutdown` or `{shutdown,Term}` is one on purpose, as OTP has it, unless ends are to be taken strictly."""
     states = [] if request.tree else ["--states"]
     prompt = ["--at-once"] if request.at_once else []
-    on_purpose = [] if request.strict_ends or SHUTDOWN in normal else [SHUTDOWN]
+    on_purpose = [] if request.strict_ends else [it for it in ON_PURPOSE if it not in normal]
     return [*request.search, *(f"--normal={it}" for it in [*on_purpose, *normal]), *states, *prompt]
 
 

@@ -37,9 +37,10 @@ What is explored:
   --replay SCHEDULE    Shows what happens in one schedule, such as "P P P.1>P". Nothing is explored.
 
 What counts as an error:
-  --normal TERM        An end with this reason is no error. Write TERM as the report shows it: killed, {shutdown,1}.
-                       The option may be given up to 15 times.
-  --strict-ends        An end with the reason shutdown is an error too. Without this it is none, as --normal says.
+  --normal TERM        An end with this reason is no error. Write TERM as the report shows it: killed, {error,1}. In it
+                       _ stands for any term: {error,_}. The option may be given up to 14 times.
+  --strict-ends        An end with the reason shutdown or {shutdown,_} is an error too. Without this it is none, as
+                       --normal says.
   --main-deadlock      A deadlock is an error only where the first process waits in it.
   --allow-deadlock     No deadlock is an error.
   --strict-access      A refused call of a table that belongs to another process is an error too.
@@ -82,7 +83,7 @@ The status says how it ended:
 Where a process came to what is not read and no error was found, the status is 3 too: what comes after is not explored.
 
 An .erl file needs escript. A .core file with --raw does not; there --normal takes a term as that output shows it:
-"'shutdown'", "{'shutdown',1}". Where the environment variable EXPLORER names a program, that one explores.
+"'killed'", "{'error','_'}". Where the environment variable EXPLORER names a program, that one explores.
 
 What the report says of schedules is proved of the Core Erlang module that --core prints. That this module does what
 your Erlang does is not proved, only tested. The lines and the drawings are only tested too.

@@ -58,7 +58,7 @@ ALL = (
     Option("--depth", "a number of steps, 0 to 400", number(0, 400)),
     Option("--nodes", "a number of states, or of nodes of a tree, 1 to 10000000", number(1, 10_000_000)),
     Option("--workers", "a number of threads, 1 to 16", number(1, 16)),
-    Option("--normal", "a term as the report shows it, as shutdown or {shutdown,1}", spelled(TEXT), most=15),
+    Option("--normal", "a term as the report shows it, as killed or {error,_}", spelled(TEXT), most=14),
     Option("--replay", 'a schedule, as "P P P.1>P"', spelled(f"(?!-){TEXT}")),
     Option("--svg", "a folder", can_be_folder),
     Option("--html", "a folder", can_be_folder),

@@ -57,7 +57,8 @@ class Request:
 
     @property
     def tells_normal(self) -> bool:
-        """Whether anything is to be taken as normal beside `shutdown`, which is so unless it is asked for otherwise."""
+        """Whether anything is to be taken as normal beside `shutdown` and `{shutdown,_}`, which are so unless it is asked
+        for otherwise."""
         return bool(self.normal) or "--main-deadlock" in self.search
 
 

@@ -1,5 +1,5 @@
 %% A term as the report shows it and a programmer types it, in the spelling that the program reads: the other way round
-%% than report_term:text/1.
+%% than report_term:text/1. `_` is read as the atom '_', which stands for any term.
 %%
 %% Terms are those of report_term. A map is {map, Pairs}, a binary {binary, Bytes} and a function {function, Name} until it
 %% is known which tuples they are in the module (erlang/README.md, "Functions, maps and binaries as values").
@@ -39,6 +39,7 @@ read_term("<<" ++ Rest) -> read_binary(Rest);
 read_term("#P" ++ Rest) -> {Path, After} = read_path(Rest), {{ref, "#P" ++ Path}, After};
 read_term("P" ++ Rest) -> {Path, After} = read_path(Rest), {{pid, "P" ++ Path}, After};
 read_term("fun " ++ _ = Text) -> {Name, Rest} = read_function(Text), {{function, Name}, Rest};
+read_term("_" ++ Rest = Text) -> {atom("_", Text), unnamed(Rest, Text)};
 read_term("-" ++ Rest = Text) -> {N, After} = read_number(Rest), {integer(-N, Text), After};
 read_term([C | _] = Text) when C >= $0, C =< $9 -> {N, After} = read_number(Text), {integer(N, Text), After};
 read_term([C | _] = Text) ->
@@ -46,6 +47,10 @@ read_term([C | _] = Text) ->
     {Name, After} = lists:splitwith(fun is_of_name/1, Text),
     {atom(Name, Text), After};
 read_term("") -> no_term("").
+
+%% What comes after `_`, which is no beginning of a name.
+unnamed([C | _] = Rest, Text) -> not is_of_name(C) orelse no_term(Text), Rest;
+unnamed("", _) -> "".
 
 skip(Text) -> lists:dropwhile(fun(C) -> C =:= $\s orelse C =:= $\t orelse C =:= $\n end, Text).
 

@@ -42,9 +42,9 @@ Example:
 pub(crate) const OF_EXPLORE: &str = "\
 Standard input: the text of one module, at most 1048576 bytes.
 Standard output: the report, each finding with a schedule that `replay` takes.
-A TERM is written as the report prints it: 'shutdown' or {'error',1}. What
---normal or --main-deadlock takes as normal is still listed, as normal, and does
-not count as an error.
+A TERM is written as the report prints it: 'shutdown' or {'error',1}. In it the
+atom '_' stands for any term: {'error','_'}. What --normal or --main-deadlock
+takes as normal is still listed, as normal, and does not count as an error.
 A LINE is one that `jobs` prints for this module and depth. With --job only the
 nodes of that job are visited: its own node, and those below it.
 With --states each state is expanded once, and --nodes limits the states. The

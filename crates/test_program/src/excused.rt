@@ -49,6 +49,15 @@ P.1
 
 ";
 
+const NEITHER_IS_NORMAL: &str = "depth 3, nodes 5, complete
+error 1: P ends {'shutdown',1}
+  P P
+error 2: P.1 ends 'boom'
+  P P.1
+errors 2, refusals 0, taken as normal 0
+result: errors
+";
+
 const SERVER_IS_NORMAL: &str = "depth 5, nodes 3, complete, cut 0
 normal 1: deadlock of P.1
   P P
@@ -81,7 +90,7 @@ result: clean
 ";
 
 // A module, the words after the name of the program, the report, and the status.
-const ROWS: [(&str, &[&str], &str, u8); 6] = [
+const ROWS: [(&str, &[&str], &str, u8); 9] = [
     (
         TWO_END_BADLY,
         &["explore", "--depth", "3", "--normal", "'boom'", "--cover"],
@@ -102,6 +111,35 @@ const ROWS: [(&str, &[&str], &str, u8); 6] = [
         ],
         BOTH_ARE_NORMAL,
         0,
+    ),
+    (
+        TWO_END_BADLY,
+        &[
+            "explore", "--cover", "--normal", "'boom'", "--normal", "{'_',1}", "--depth", "3",
+        ],
+        BOTH_ARE_NORMAL,
+        0,
+    ),
+    (
+        TWO_END_BADLY,
+        &["explore", "--depth", "3", "--cover", "--normal", "'_'"],
+        BOTH_ARE_NORMAL,
+        0,
+    ),
+    (
+        TWO_END_BADLY,
+        &[
+            "explore",
+            "--depth",
+            "3",
+            "--cover",
+            "--normal",
+            "{'_'}",
+            "--normal",
+            "['_'|'_']",
+        ],
+        NEITHER_IS_NORMAL,
+        1,
     ),
     (
         SERVER_WAITS,

@@ -12,4 +12,6 @@ mod jobs;
 #[cfg(test)]
 mod merge;
 #[cfg(test)]
+mod patterns;
+#[cfg(test)]
 mod replays;

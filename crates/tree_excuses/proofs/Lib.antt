@@ -1,1 +1,3 @@
 pub mod Judged
+pub mod Matching
+pub mod PatternLaws

@@ -1,12 +1,14 @@
 -- What the laws of excuses say.
-use Rattle.std.specs.Prelude.{◌≡◌, ◌↔◌, ◌⊎◌, ℕ, true, List, []}
-use Rattle.world_model.specs.Names.{IsAmong}
+use Rattle.std.specs.Prelude.{◌≡◌, ◌↔◌, ◌⊎◌, ℕ, true, false, List, []}
+use Rattle.term_core.specs.Meaning.{Meaning}
+use Rattle.world_model.specs.Names.{IsAmong, same_term}
 use Rattle.world_model.specs.Requests.{Program}
 use Rattle.world_model.specs.Shown.{Identity, Flags, is_error}
 use Rattle.tree_coverage.specs.Findings.{Finding, IsFound}
 use Rattle.tree_schedules.specs.Schedules.{IsEverShownBy, IsShownBy}
 use Rattle.tree_schedules.specs.declared.delivery.Delivery.{Delivery}
 use Rattle.tree_excuses.specs.Excuses.{Excuses, no_excuses, is_normal, counts, counted, taken}
+use Rattle.tree_excuses.specs.Patterns.{any, has_any, matches}
 
 -- the errors that are listed are those for which this is true
 abbrev pub AreErrorsThat : Flags → (Identity → Type 0) → List Finding → Type 0
@@ -32,3 +34,17 @@ NothingIsLost = (x : Excuses) (f : Finding) (fs : List Finding) → IsAmong f fs
 -- without excuses all count, and none is taken as normal
 abbrev pub NoExcusesChangeNothing : Type 0
 NoExcusesChangeNothing = (fs : List Finding) → (counted no_excuses fs ≡ fs) × (taken no_excuses fs ≡ [])
+
+-- ---- patterns
+
+-- '_' matches each term
+abbrev pub AnyMatchesAll : Type 0
+AnyMatchesAll = (m : Meaning) → matches any m ≡ true
+
+-- each term matches itself
+abbrev pub EachMatchesItself : Type 0
+EachMatchesItself = (p m : Meaning) → same_term p m ≡ true → matches p m ≡ true
+
+-- and a term without '_' matches itself alone
+abbrev pub PlainMatchesItselfAlone : Type 0
+PlainMatchesItselfAlone = (p m : Meaning) → has_any p ≡ false → matches p m ≡ same_term p m

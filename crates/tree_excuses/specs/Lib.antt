@@ -1,2 +1,4 @@
 pub mod Excuses
 pub mod Laws
+pub mod Patterns
+pub mod Rows

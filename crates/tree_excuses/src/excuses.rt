@@ -3,9 +3,10 @@ ghost use Rattle.std.specs.Prelude.{◌≡◌, length, map};
 ghost use Rattle.std.specs.List.{list_any};
 ghost use Rattle.world_identities.specs.Identities.{flags_in, identity_in};
 ghost use Rattle.term_core.specs.Term.{meaning_of};
-ghost use Rattle.world_model.specs.Names.{same_term};
 ghost use Rattle.tree_excuses.specs.Excuses.{are_any, counts, excuses_in, has_first, is_excused, no_excuses, those_that};
+ghost use Rattle.tree_excuses.specs.Patterns.{matches};
 
+use crate::patterns::matches;
 use crate::standing::Standing;
 use std::alloc::Global;
 use term_core::{Pid, Term};
@@ -16,7 +17,7 @@ use world_identities::{Flags, Identity};
 pub struct Excuses {
     /// Whether a deadlock in which the first process does not wait is excused.
     pub main_deadlock: bool,
-    /// The reasons with which a process may end.
+    /// Patterns of the reasons with which a process may end: in each of these terms the atom `'_'` stands for any term.
     pub normal: Vec<Term>,
 }
 
@@ -42,12 +43,12 @@ fn has_first(pids: &[Pid]) -> bool
     false
 }
 
-// Whether a reason is one of these.
-fn is_one_of(normal: &[Term], reason: &Term) -> bool
-    ensures { result ≡ list_any (λ it. same_term it (meaning_of reason.now)) (map meaning_of normal.now) }
+// Whether one of these patterns matches a reason.
+fn one_matches(normal: &[Term], reason: &Term) -> bool
+    ensures { result ≡ list_any (λ it. matches it (meaning_of reason.now)) (map meaning_of normal.now) }
 {
-    for term in normal {
-        if *term == *reason {
+    for pattern in normal {
+        if matches(pattern, reason) {
             return true;
         }
     }
@@ -72,14 +73,14 @@ impl Excuses {
         self.main_deadlock || !self.normal.is_empty()
     }
 
-    /// Whether what a schedule shows is excused: an end with one of the reasons and, where only deadlocks of the first
-    /// process count, one in which it does not wait. A process that makes too many applications without a request, and
-    /// a call that is refused, never are. It takes no memory.
+    /// Whether what a schedule shows is excused: an end with a reason that one of the patterns matches and, where only
+    /// deadlocks of the first process count, one in which it does not wait. A process that makes too many applications
+    /// without a request, and a call that is refused, never are. It takes no memory.
     pub fn excuses(&self, identity: &Identity) -> bool
         ensures { result ≡ is_excused (excuses_in self.now) (identity_in identity.now) }
     {
         match identity {
-            Identity::End { pid: _, reason } => is_one_of(self.normal.as_slice(), reason),
+            Identity::End { pid: _, reason } => one_matches(self.normal.as_slice(), reason),
             Identity::Deadlock(pids) => self.main_deadlock && !has_first(pids.as_slice()),
             Identity::Runaway(_) => false,
             Identity::Refusal { .. } => false,

@@ -1,5 +1,6 @@
 // The laws of excuses.
-ghost use Rattle.tree_excuses.specs.Laws.{JudgedAreExact, JudgedAreWhole, NoExcusesChangeNothing, NothingIsLost};
+ghost use Rattle.tree_excuses.specs.Laws.{AnyMatchesAll, EachMatchesItself, JudgedAreExact, JudgedAreWhole, NoExcusesChangeNothing, NothingIsLost, PlainMatchesItselfAlone};
+ghost use Rattle.tree_excuses.specs.Rows.{AtomRows, ListRows, TupleRows};
 
 /// Where the errors that are listed are exactly those that some schedule shows, of at most so many steps or of whatever
 /// length, those that count are listed exactly where some schedule shows them, and so are those that are taken as
@@ -17,4 +18,18 @@ pub fn nothing_is_lost()
 /// Without excuses all errors count, and none is taken as normal.
 pub fn no_excuses_change_nothing()
     ensures { NoExcusesChangeNothing }
+{}
+
+/// `'_'` matches each term; each term matches itself; and a term in which `'_'` does not stand matches itself alone.
+pub fn patterns_are_matched()
+    ensures any { AnyMatchesAll }
+    ensures itself { EachMatchesItself }
+    ensures plain { PlainMatchesItselfAlone }
+{}
+
+/// What some patterns match, and what they miss.
+pub fn worked_patterns()
+    ensures atoms { AtomRows }
+    ensures tuples { TupleRows }
+    ensures lists { ListRows }
 {}
