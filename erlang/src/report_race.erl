@@ -1,0 +1,182 @@
+%% Which two events race where an error comes: two of its run that, the other way round, give a run without it.
+%%
+%% The run of the error is followed to its end. Then a later event is put before an earlier one of another process, where both
+%% come to the same thing: the latest of the earlier ones first, and for each of these the earliest of the later ones. So the
+%% run that is found agrees with that of the error for as long as one of these does. With the later event comes what leads to it;
+%% all else follows in its old order, as far as it can, and then to its end. What such a run shows a replay tells, and no more is
+%% said of the two events than that.
+-module(report_race).
+-export([race/4]).
+-include("report.hrl").
+-include("report_units.hrl").
+
+%% What is asked of runs: the error; the errors that its own run shows; the errors of the report, {Number, Error}, what is taken as
+%% normal, and whether these are all that any schedule shows; and how runs are followed, as report_course has it.
+-record(asked, {error, own, errors, normal, is_whole, how}).
+
+%% Two events that may race: the units before the first one; the steps that are to be taken there, of which the last is the second
+%% one, and how many of them are of its process; the first one's unit, and what follows it; the second one, where it is one of
+%% the run; and what both come to, as report_touched:meet has it, where it is.
+-record(pair, {prefix, steps, count, first, rest, second, meeting}).
+
+%% How many turns are looked at of a process that the earlier event ends.
+-define(AHEAD, 8).
+
+%% The race of an error with these events: {First, Second, Instead, Own}, or none. First is {Event, Thing}, an event of the error and
+%% what it has to do with the second one. This is {Event, Thing, Run}, where the run is that of the error, `own`, or another one, by
+%% its events. Instead is the number of an error that comes in the place of this one, or none; Own has the events of the run of
+%% the error to its end. Known is {Errors, Normal, IsWhole}: the errors of the report, {Number, Identity}, the identities of what is
+%% taken as normal, and whether these are all that any schedule shows. How is {Delivery, Replay}, as report_course has it.
+race(Identity, Events, {Errors, Normal, IsWhole}, {Delivery, _} = How) ->
+    case report_course:followed([], [], report_course:new(Events), How) of
+        none -> none;
+        spent -> none;
+        Course ->
+            Units = list_to_tuple(report_units:units(report_course:events(Course), Delivery)),
+            Asked = #asked{error = as_shown(Identity), own = shown(Course), errors = [{Number, as_shown(One)} || {Number, One} <- Errors],
+                           normal = [as_shown(One) || One <- Normal], is_whole = IsWhole, how = How},
+            Own = [Unit || #unit{events = [#event{number = Number} | _]} = Unit <- tuple_to_list(Units), Number =< length(Events)],
+            case first_of([fun() -> pairs(First, Units) end || First <- lists:reverse(Own)], Asked, none) of
+                none -> none;
+                {First, Second, Instead} -> {First, Second, Instead, report_course:events(Course)}
+            end
+    end.
+
+%% The first run without the error and without another one that the run of the error does not show; or else the first without the
+%% error, {First, Second, Instead}. Where no more replays are to be made, what was found by then.
+first_of([], _, Found) -> Found;
+first_of([Pairs | Later], Asked, Found) when is_function(Pairs) -> first_of(Pairs() ++ Later, Asked, Found);
+first_of([Pair | Later], Asked, Found) ->
+    case tried(Pair, Asked) of
+        spent -> Found;
+        {_, _, none} = Race -> Race;
+        {_, _, _} = Race when Found =:= none -> first_of(Later, Asked, Race);
+        _ -> first_of(Later, Asked, Found)
+    end.
+
+%% ---- which events may race
+
+%% The pairs of a unit with later ones.
+pairs(#unit{place = Place} = First, Units) ->
+    {Before, [_ | After]} = lists:split(Place - 1, tuple_to_list(Units)),
+    Prefix = lists:append([Events || #unit{events = Events} <- Before]),
+    lists:append([pair(First, Second, Prefix, After, Units) || Second <- After]) ++ ahead(First, Prefix, After).
+
+%% The second one of a pair, with what leads to it, is put before the first one, unless the first one leads to it. But a receive may
+%% time out before the message that it takes.
+pair(#unit{place = Place} = First, #unit{needs = Needs, brought = By} = Second, Prefix, After, Units) ->
+    Step = report_units:step(Second),
+    Others = case By of Place -> Needs -- [Place]; _ -> Needs end,
+    Leading = report_units:before(Others, Place, Units),
+    Meeting = case By of Place -> taken_by(First, Second); _ -> meeting(First, Second) end,
+    case Meeting =/= none andalso Step =/= report_units:step(First) andalso not lists:member(Place, Leading) of
+        true ->
+            Moved = [element(One, Units) || One <- Leading ++ [Second#unit.place]],
+            Steps = lists:flatmap(fun report_units:steps/1, Moved),
+            [#pair{prefix = Prefix, steps = Steps, count = length([One || One <- Steps, One =:= Step]), first = First, rest = After -- Moved,
+                   second = Second, meeting = Meeting}];
+        false -> []
+    end.
+
+%% What two units both come to, {Thing, Event, Other}, or none: of several what says most.
+meeting(#unit{things = Things}, #unit{things = Others}) ->
+    case report_touched:meet(Things, Others) of
+        [Meeting | _] -> Meeting;
+        [] -> none
+    end.
+
+%% The message that a unit brings and another one takes.
+taken_by(#unit{events = Events}, #unit{events = [#event{who = Name, deed = {receives, Message}} = Taken | _]}) ->
+    case [Event || #event{who = {_, To}, deed = Deed} = Event <- Events, To =:= Name, brings(Deed) =:= Message] of
+        [Event | _] -> {{mail, Name}, Event, Taken};
+        [] -> none
+    end.
+
+brings({brings, Message}) -> Message;
+brings({_, _, {message, Message}}) -> Message;
+brings(_) -> none.
+
+%% A process that the first unit ends may do more before it: its next turns, which are in no run yet.
+ahead(#unit{events = Events} = First, Prefix, After) ->
+    [#pair{prefix = Prefix, steps = lists:duplicate(Count, Name), count = Count, first = First, rest = After, second = none,
+           meeting = {{life, Name}, Event, none}} ||
+        #event{who = {_, Name}, deed = {exit, _, {ends, _}}} = Event <- Events, Count <- lists:seq(1, ?AHEAD)].
+
+%% ---- what a run shows
+
+%% The race that a pair is, or none.
+tried(#pair{prefix = Prefix, steps = Steps, first = First, rest = Rest} = Pair, #asked{how = How} = Asked) ->
+    Old = lists:flatmap(fun report_units:steps/1, [First | Rest]),
+    case report_course:followed(Steps, Old, report_course:new(Prefix), How) of
+        none -> none;
+        spent -> spent;
+        Course ->
+            New = lists:nthtail(length(Prefix), report_course:events(Course)),
+            case {outcome(Course, New, Asked), second(Pair, New, Course)} of
+                {{without, Instead}, {_, _, _} = Second} -> {first(Pair), Second, Instead};
+                _ -> none
+            end
+    end.
+
+first(#pair{meeting = {Thing, Event, _}}) -> {Event, Thing}.
+
+%% The second event of a pair, {Event, Thing, Run}, where it came before the first one in these new events, and both were asked for as
+%% in the run of the error; or none. A first one that does not come any more is one of a process that has ended.
+second(#pair{first = #unit{events = [#event{who = Who, deed = Deed} | _]}, steps = Steps, count = Count} = Pair, New, Course) ->
+    {Early, Late} = lists:splitwith(fun(#event{who = One}) -> One =/= Who end, New),
+    IsAsked = case Late of
+        [#event{deed = Other} | _] -> request(Other) =:= request(Deed);
+        [] -> report_course:is_over(Who, Course)
+    end,
+    case [Event || IsAsked, #event{who = One} = Event <- Early, One =:= lists:last(Steps)] of
+        Events when length(Events) >= Count -> told(Pair, lists:nth(Count, Events), report_course:events(Course));
+        _ -> none
+    end.
+
+%% An event of the run of the error is told as it is there, but a timeout that comes only before a message is of the other run.
+told(#pair{second = none, meeting = {Thing, _, _}}, Event, Run) -> {Event, Thing, Run};
+told(#pair{first = #unit{place = Place}, second = #unit{brought = Place}, meeting = {Thing, _, _}}, #event{deed = timeout} = Event, Run) ->
+    {Event, Thing, Run};
+told(#pair{first = #unit{place = Place}, second = #unit{brought = Place}}, _, _) -> none;
+told(#pair{second = #unit{events = [#event{deed = Deed} | _]}, meeting = {Thing, _, Second}}, #event{deed = Other}, _) ->
+    case request(Other) =:= request(Deed) of
+        true -> {Second, Thing, own};
+        false -> none
+    end.
+
+%% What a step asks for, or brings, whatever becomes of it.
+request({call, Module, Function, Arguments, _}) -> {Module, Function, Arguments};
+request({receives, _}) -> message;
+request(timeout) -> message;
+request({exit, Reason, _}) -> {exit, Reason};
+request({down, Reference, _}) -> {down, Reference};
+request(Deed) -> Deed.
+
+%% {without, Error}, where a run does not show the error, but another one that the run of the error does not show, or none; or else
+%% `with`. A run that comes to what is not read tells nothing, and neither does one that may show an error which is not known.
+outcome(Course, New, #asked{error = Error, own = Own, errors = Errors, normal = Normal, is_whole = IsWhole}) ->
+    All = shown(Course),
+    Shown = [Other || Other <- All, not lists:member(Other, Own)],
+    Known = Normal ++ [Other || {_, Other} <- Errors],
+    IsTold = lists:all(fun(#event{deed = Deed}) -> report_unread:what(Deed) =:= none end, New)
+        andalso (IsWhole orelse [Other || Other <- Shown, is_failure(Other), not lists:member(Other, Known)] =:= []),
+    case IsTold andalso not lists:member(Error, All) of
+        true -> {without, hd([Number || {Number, Other} <- Errors, lists:member(Other, Shown)] ++ [none])};
+        false -> with
+    end.
+
+%% What a run shows to its end that may be an error.
+shown(Course) ->
+    [{deadlock, Names} || [_ | _] = Names <- [report_course:waiting(Course)]] ++ lists:flatmap(fun shown_by/1, report_course:events(Course)).
+
+shown_by(#event{who = Who, deed = {call, ets, _, _, {refused, _}} = Deed}) -> [{refusal, Who, Deed}];
+shown_by(Event) -> report_story:shown(Event).
+
+%% An identity as runs show it.
+as_shown({deadlock, Names}) -> {deadlock, lists:sort(Names)};
+as_shown({refusal, Name, _, Deed}) -> {refusal, Name, Deed};
+as_shown(Identity) -> Identity.
+
+is_failure({ends, _, {atom, normal}}) -> false;
+is_failure({refusal, _, _}) -> false;
+is_failure(_) -> true.
