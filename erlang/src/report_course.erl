@@ -10,8 +10,9 @@
 %% The events so far, the latest first; what they leave; and which processes wait, since a turn of theirs was refused.
 -record(course, {events = [], world, waiting = []}).
 
-%% How many steps a run has at most.
+%% How many steps a run has at most, and how many turns of each process are tried in one replay.
 -define(LONGEST, 1000).
+-define(ROUNDS, 3).
 
 %% The run of some events.
 new(Events) -> lists:foldl(fun taken/2, #course{world = report_world:new()}, Events).
@@ -24,9 +25,10 @@ waiting(#course{waiting = Waiting}) -> lists:sort(Waiting).
 %% Whether a step cannot come any more, since its process, or the receiver, has ended.
 is_over(Step, #course{world = World}) -> report_world:is_gone(receiver(Step), World).
 
-%% A run that goes on with steps that are needed, with others as far as they are enabled, and then to its end; or none where a
-%% step that is needed is refused, where the run is too long, or where it cannot be told what arrives. Replay(Steps) gives the events of a
-%% schedule up to its first step that is not enabled, or `spent`, which is passed on, where no more replays are to be made.
+%% A run that goes on with steps that are needed, with others as far as they are enabled, and then to its end; or `refused` where a
+%% step that is needed is not enabled, and none where the run is too long, or where it cannot be told what arrives. Replay(Steps)
+%% gives the events of a schedule up to its first step that is not enabled, or `spent`, which is passed on, where no more replays are
+%% to be made.
 followed(Needed, Others, Course, How) -> on(Needed ++ Others, length(Others), Course, How).
 
 on(Steps, Others, Course, {_, Replay} = How) ->
@@ -45,7 +47,7 @@ on(Steps, Others, Course, {_, Replay} = How) ->
                     New = [Event || #event{number = Number} = Event <- Events, Number > length(Old)],
                     case accepted(New, Proposed, Course, How) of
                         none -> none;
-                        {refused, Left, _} when length(Left) >= Others -> none;
+                        {refused, Left, _} when length(Left) >= Others -> refused;
                         {refused, Left, Later} -> on(Left, min(Others, length(Left)), Later, How);
                         {Left, Later} -> on(Left, min(Others, length(Left)), Later, How)
                     end
@@ -84,10 +86,11 @@ first(World, at_once) ->
     end;
 first(_, any_delay) -> none.
 
-%% What goes on when nothing is asked for: first what is on its way, then a turn of each process that does not wait.
+%% What goes on when nothing is asked for: first what is on its way, then some turns of each process that does not wait, one after the
+%% other.
 rest(#course{world = World, waiting = Waiting}) ->
     case report_world:arriving(World) of
-        [] -> report_world:living(World) -- Waiting;
+        [] -> lists:append(lists:duplicate(?ROUNDS, report_world:living(World) -- Waiting));
         Arriving -> Arriving
     end.
 

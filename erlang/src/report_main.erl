@@ -184,7 +184,7 @@ told(Work, Text) -> played(Work, report_reader:transcript(Text)).
 
 played(Work, Events) ->
     Played = case Work#work.module of
-        none -> #{lines => #{}, stands => #{}, limits => #{}, times => #{}, differs => []};
+        none -> #{lines => #{}, stands => #{}, limits => #{}, times => #{}, timed => [], differs => []};
         Module -> report_machine:play(Module, Events)
     end,
     Played#{events => Events, places => report_story:places(Events, maps:get(lines, Played)),
@@ -196,8 +196,8 @@ races(#work{folder = Folder, delivery = Delivery} = Work, Errors, Known) ->
     How = {case Delivery of "at-once" -> at_once; "any-delay" -> any_delay end, fun(Steps) -> report_replays:replay(Steps, Replays) end},
     [begin report_replays:for_one(Replays), race(Work, Error, Known, How) end || Error <- Errors].
 
-race(Work, #finding{identity = Identity, told = #{events := Events, places := Places}}, Known, How) ->
-    case report_race:race(Identity, Events, Known, How) of
+race(Work, #finding{identity = Identity, told = #{events := Events, places := Places, timed := Timed}}, Known, How) ->
+    case report_race:race(Identity, {Events, Timed}, Known, How) of
         {{#event{number = Number} = First, Thing}, {Second, Other, Run}, Instead, Own} ->
             {{First, Thing, Number, maps:get(Number, Places, none)}, second(Work, Second, Other, Run, {Events, Places, Own}), Instead};
         none -> none

@@ -14,29 +14,29 @@
 %% normal, and whether these are all that any schedule shows; and how runs are followed, as report_course has it.
 -record(asked, {error, own, errors, normal, is_whole, how}).
 
-%% Two events that may race: the units before the first one; the steps that are to be taken there, of which the last is the second
-%% one, and how many of them are of its process; the first one's unit, and what follows it; the second one, where it is one of
-%% the run; and what both come to, as report_touched:meet has it, where it is.
--record(pair, {prefix, steps, count, first, rest, second, meeting}).
+%% Two events that may race: the events before the first one; the steps that are to be taken there, and the step of the second one,
+%% which is the last of so many of these; the unit of the first one, and the units that follow; that of the second one, where it is
+%% one of the run; and what both come to, as report_touched:meet has it.
+-record(pair, {prefix, steps, step, count, first, rest, second = none, meeting}).
 
 %% How many turns are looked at of a process that the earlier event ends.
 -define(AHEAD, 8).
 
-%% The race of an error with these events: {First, Second, Instead, Own}, or none. First is {Event, Thing}, an event of the error and
+%% The race of an error with these events, of which those with the numbers Timed take a message of a receive with a time: {First,
+%% Second, Instead, Own}, or none. First is {Event, Thing}, an event of the error and
 %% what it has to do with the second one. This is {Event, Thing, Run}, where the run is that of the error, `own`, or another one, by
 %% its events. Instead is the number of an error that comes in the place of this one, or none; Own has the events of the run of
 %% the error to its end. Known is {Errors, Normal, IsWhole}: the errors of the report, {Number, Identity}, the identities of what is
 %% taken as normal, and whether these are all that any schedule shows. How is {Delivery, Replay}, as report_course has it.
-race(Identity, Events, {Errors, Normal, IsWhole}, {Delivery, _} = How) ->
+race(Identity, {Events, Timed}, {Errors, Normal, IsWhole}, {Delivery, _} = How) ->
     case report_course:followed([], [], report_course:new(Events), How) of
-        none -> none;
-        spent -> none;
+        Fault when is_atom(Fault) -> none;
         Course ->
             Units = list_to_tuple(report_units:units(report_course:events(Course), Delivery)),
             Asked = #asked{error = as_shown(Identity), own = shown(Course), errors = [{Number, as_shown(One)} || {Number, One} <- Errors],
                            normal = [as_shown(One) || One <- Normal], is_whole = IsWhole, how = How},
             Own = [Unit || #unit{events = [#event{number = Number} | _]} = Unit <- tuple_to_list(Units), Number =< length(Events)],
-            case first_of([fun() -> pairs(First, Units) end || First <- lists:reverse(Own)], Asked, none) of
+            case first_of([fun() -> pairs(First, Units, Timed) end || First <- lists:reverse(Own)], Asked, none) of
                 none -> none;
                 {First, Second, Instead} -> {First, Second, Instead, report_course:events(Course)}
             end
@@ -49,32 +49,33 @@ first_of([Pairs | Later], Asked, Found) when is_function(Pairs) -> first_of(Pair
 first_of([Pair | Later], Asked, Found) ->
     case tried(Pair, Asked) of
         spent -> Found;
+        refused -> first_of(Later, Asked, Found);
         {_, _, none} = Race -> Race;
-        {_, _, _} = Race when Found =:= none -> first_of(Later, Asked, Race);
-        _ -> first_of(Later, Asked, Found)
+        {_, _, _} = Race when Found =:= none -> first_of(further(Pair) ++ Later, Asked, Race);
+        _ -> first_of(further(Pair) ++ Later, Asked, Found)
     end.
 
 %% ---- which events may race
 
 %% The pairs of a unit with later ones.
-pairs(#unit{place = Place} = First, Units) ->
+pairs(#unit{place = Place} = First, Units, Timed) ->
     {Before, [_ | After]} = lists:split(Place - 1, tuple_to_list(Units)),
     Prefix = lists:append([Events || #unit{events = Events} <- Before]),
-    lists:append([pair(First, Second, Prefix, After, Units) || Second <- After]) ++ ahead(First, Prefix, After).
+    lists:append([pair(First, Second, Prefix, After, Units, Timed) || Second <- After]) ++ ahead(First, Prefix, After).
 
 %% The second one of a pair, with what leads to it, is put before the first one, unless the first one leads to it. But a receive may
 %% time out before the message that it takes.
-pair(#unit{place = Place} = First, #unit{needs = Needs, brought = By} = Second, Prefix, After, Units) ->
+pair(#unit{place = Place} = First, #unit{needs = Needs, brought = By} = Second, Prefix, After, Units, Timed) ->
     Step = report_units:step(Second),
     Others = case By of Place -> Needs -- [Place]; _ -> Needs end,
     Leading = report_units:before(Others, Place, Units),
-    Meeting = case By of Place -> taken_by(First, Second); _ -> meeting(First, Second) end,
+    Meeting = case By of Place -> taken_by(First, Second, Timed); _ -> meeting(First, Second) end,
     case Meeting =/= none andalso Step =/= report_units:step(First) andalso not lists:member(Place, Leading) of
         true ->
             Moved = [element(One, Units) || One <- Leading ++ [Second#unit.place]],
             Steps = lists:flatmap(fun report_units:steps/1, Moved),
-            [#pair{prefix = Prefix, steps = Steps, count = length([One || One <- Steps, One =:= Step]), first = First, rest = After -- Moved,
-                   second = Second, meeting = Meeting}];
+            [#pair{prefix = Prefix, steps = Steps, step = Step, count = length([One || One <- Steps, One =:= Step]), first = First,
+                   rest = After -- Moved, second = Second, meeting = Meeting}];
         false -> []
     end.
 
@@ -85,9 +86,9 @@ meeting(#unit{things = Things}, #unit{things = Others}) ->
         [] -> none
     end.
 
-%% The message that a unit brings and another one takes.
-taken_by(#unit{events = Events}, #unit{events = [#event{who = Name, deed = {receives, Message}} = Taken | _]}) ->
-    case [Event || #event{who = {_, To}, deed = Deed} = Event <- Events, To =:= Name, brings(Deed) =:= Message] of
+%% The message that a unit brings and another one takes, where that waits for a time only.
+taken_by(#unit{events = Events}, #unit{events = [#event{number = Number, who = Name, deed = {receives, Message}} = Taken | _]}, Timed) ->
+    case [Event || #event{who = {_, To}, deed = Deed} = Event <- Events, To =:= Name, brings(Deed) =:= Message, lists:member(Number, Timed)] of
         [Event | _] -> {{mail, Name}, Event, Taken};
         [] -> none
     end.
@@ -96,20 +97,22 @@ brings({brings, Message}) -> Message;
 brings({_, _, {message, Message}}) -> Message;
 brings(_) -> none.
 
-%% A process that the first unit ends may do more before it: its next turns, which are in no run yet.
+%% A process that the first unit ends may do more before it: its next turn, which is in no run yet, and then further ones.
 ahead(#unit{events = Events} = First, Prefix, After) ->
-    [#pair{prefix = Prefix, steps = lists:duplicate(Count, Name), count = Count, first = First, rest = After, second = none,
-           meeting = {{life, Name}, Event, none}} ||
-        #event{who = {_, Name}, deed = {exit, _, {ends, _}}} = Event <- Events, Count <- lists:seq(1, ?AHEAD)].
+    [#pair{prefix = Prefix, steps = [Name], step = Name, count = 1, first = First, rest = After, meeting = {{life, Name}, Event, none}} ||
+        #event{who = {_, Name}, deed = {exit, _, {ends, _}}} = Event <- Events].
+
+further(#pair{second = none, steps = Steps, step = Name, count = Count} = Pair) when Count < ?AHEAD ->
+    [Pair#pair{steps = [Name | Steps], count = Count + 1}];
+further(_) -> [].
 
 %% ---- what a run shows
 
-%% The race that a pair is, or none.
+%% The race that a pair is, or none; `refused` where a step of it is not enabled, and `spent` where no more replays are made.
 tried(#pair{prefix = Prefix, steps = Steps, first = First, rest = Rest} = Pair, #asked{how = How} = Asked) ->
     Old = lists:flatmap(fun report_units:steps/1, [First | Rest]),
     case report_course:followed(Steps, Old, report_course:new(Prefix), How) of
-        none -> none;
-        spent -> spent;
+        Fault when is_atom(Fault) -> Fault;
         Course ->
             New = lists:nthtail(length(Prefix), report_course:events(Course)),
             case {outcome(Course, New, Asked), second(Pair, New, Course)} of
@@ -122,13 +125,13 @@ first(#pair{meeting = {Thing, Event, _}}) -> {Event, Thing}.
 
 %% The second event of a pair, {Event, Thing, Run}, where it came before the first one in these new events, and both were asked for as
 %% in the run of the error; or none. A first one that does not come any more is one of a process that has ended.
-second(#pair{first = #unit{events = [#event{who = Who, deed = Deed} | _]}, steps = Steps, count = Count} = Pair, New, Course) ->
+second(#pair{first = #unit{events = [#event{who = Who, deed = Deed} | _]}, step = Step, count = Count} = Pair, New, Course) ->
     {Early, Late} = lists:splitwith(fun(#event{who = One}) -> One =/= Who end, New),
     IsAsked = case Late of
         [#event{deed = Other} | _] -> request(Other) =:= request(Deed);
         [] -> report_course:is_over(Who, Course)
     end,
-    case [Event || IsAsked, #event{who = One} = Event <- Early, One =:= lists:last(Steps)] of
+    case [Event || IsAsked, #event{who = One} = Event <- Early, One =:= Step] of
         Events when length(Events) >= Count -> told(Pair, lists:nth(Count, Events), report_course:events(Course));
         _ -> none
     end.
