@@ -4,7 +4,7 @@
 %% once, each is delivered before the next turn, whatever was asked for. When nothing is asked for any more, each process takes
 %% turns until none can.
 -module(report_course).
--export([new/1, followed/4, events/1, waiting/1, is_over/2]).
+-export([new/1, held/2, followed/4, events/1, waiting/1, is_over/2]).
 -include("report.hrl").
 
 %% The events so far, the latest first; what they leave; and which processes wait, since a turn of theirs was refused.
@@ -18,6 +18,9 @@
 new(Events) -> lists:foldl(fun taken/2, #course{world = report_world:new()}, Events).
 
 events(#course{events = Events}) -> lists:reverse(Events).
+
+%% With a process that takes no turn before something arrives for it.
+held(Name, #course{waiting = Waiting} = Course) -> Course#course{waiting = [Name | Waiting]}.
 
 %% The processes that live at the end of a run and wait for ever.
 waiting(#course{waiting = Waiting}) -> lists:sort(Waiting).

@@ -15,9 +15,9 @@
 -record(asked, {error, own, errors, normal, is_whole, how}).
 
 %% Two events that may race: the events before the first one; the steps that are to be taken there, and the step of the second one,
-%% which is the last of so many of these; the unit of the first one, and the units that follow; that of the second one, where it is
-%% one of the run; and what both come to, as report_touched:meet has it.
--record(pair, {prefix, steps, step, count, first, rest, second = none, meeting}).
+%% which is the last of so many of these; how many of these are in no run of the error; the unit of the first one, and the units that
+%% follow; that of the second one, where it is one of the run; and what both come to, as report_touched:meet has it.
+-record(pair, {prefix, steps, step, count, more = 0, first, rest, second = none, meeting}).
 
 %% How many turns are looked at of a process that the earlier event ends.
 -define(AHEAD, 8).
@@ -49,10 +49,10 @@ first_of([Pairs | Later], Asked, Found) when is_function(Pairs) -> first_of(Pair
 first_of([Pair | Later], Asked, Found) ->
     case tried(Pair, Asked) of
         spent -> Found;
-        refused -> first_of(Later, Asked, Found);
-        {_, _, none} = Race -> Race;
-        {_, _, _} = Race when Found =:= none -> first_of(further(Pair) ++ Later, Asked, Race);
-        _ -> first_of(further(Pair) ++ Later, Asked, Found)
+        {{_, _, none} = Race, _} -> Race;
+        {{_, _, _} = Race, Course} when Found =:= none -> first_of(further(Pair, Course) ++ Later, Asked, Race);
+        {_, Course} -> first_of(further(Pair, Course) ++ Later, Asked, Found);
+        _ -> first_of(Later, Asked, Found)
     end.
 
 %% ---- which events may race
@@ -61,11 +61,12 @@ first_of([Pair | Later], Asked, Found) ->
 pairs(#unit{place = Place} = First, Units, Timed) ->
     {Before, [_ | After]} = lists:split(Place - 1, tuple_to_list(Units)),
     Prefix = lists:append([Events || #unit{events = Events} <- Before]),
-    lists:append([pair(First, Second, Prefix, After, Units, Timed) || Second <- After]) ++ ahead(First, Prefix, After).
+    Pair = #pair{prefix = Prefix, first = First, rest = After},
+    lists:append([pair(Pair, Second, Units, Timed) || Second <- After]) ++ ended(Pair) ++ held(Pair).
 
 %% The second one of a pair, with what leads to it, is put before the first one, unless the first one leads to it. But a receive may
 %% time out before the message that it takes.
-pair(#unit{place = Place} = First, #unit{needs = Needs, brought = By} = Second, Prefix, After, Units, Timed) ->
+pair(#pair{first = #unit{place = Place} = First, rest = After} = Pair, #unit{needs = Needs, brought = By} = Second, Units, Timed) ->
     Step = report_units:step(Second),
     Others = case By of Place -> Needs -- [Place]; _ -> Needs end,
     Leading = report_units:before(Others, Place, Units),
@@ -73,11 +74,15 @@ pair(#unit{place = Place} = First, #unit{needs = Needs, brought = By} = Second, 
     case Meeting =/= none andalso Step =/= report_units:step(First) andalso not lists:member(Place, Leading) of
         true ->
             Moved = [element(One, Units) || One <- Leading ++ [Second#unit.place]],
-            Steps = lists:flatmap(fun report_units:steps/1, Moved),
-            [#pair{prefix = Prefix, steps = Steps, step = Step, count = length([One || One <- Steps, One =:= Step]), first = First,
-                   rest = After -- Moved, second = Second, meeting = Meeting}];
+            Steps = lists:flatmap(fun report_units:steps/1, Moved) ++ lost(Second),
+            [Pair#pair{steps = Steps, step = Step, count = count(Step, Steps), rest = After -- Moved, second = Second, meeting = Meeting}];
         false -> []
     end.
+
+count(Step, Steps) -> length([One || One <- Steps, One =:= Step]).
+
+%% The delivery of a message whose receiver had ended, and has not before the first event.
+lost(#unit{things = Things}) -> [{Name, To} || {{mail, To}, write, #event{who = Name}} <- Things, not is_tuple(Name)].
 
 %% What two units both come to, {Thing, Event, Other}, or none: of several what says most.
 meeting(#unit{things = Things}, #unit{things = Others}) ->
@@ -97,44 +102,76 @@ brings({brings, Message}) -> Message;
 brings({_, _, {message, Message}}) -> Message;
 brings(_) -> none.
 
-%% A process that the first unit ends may do more before it: its next turn, which is in no run yet, and then further ones.
-ahead(#unit{events = Events} = First, Prefix, After) ->
-    [#pair{prefix = Prefix, steps = [Name], step = Name, count = 1, first = First, rest = After, meeting = {{life, Name}, Event, none}} ||
+%% A process that the first unit ends may do more before it: its next turn, which is in no run yet.
+ended(#pair{first = #unit{events = Events}} = Pair) ->
+    [Pair#pair{steps = [Name], step = Name, count = 1, meeting = {{life, Name}, Event, none}} ||
         #event{who = {_, Name}, deed = {exit, _, {ends, _}}} = Event <- Events].
 
-further(#pair{second = none, steps = Steps, step = Name, count = Count} = Pair) when Count < ?AHEAD ->
-    [Pair#pair{steps = [Name | Steps], count = Count + 1}];
-further(_) -> [].
+%% A process that times out may wait instead until something arrives.
+held(#pair{first = #unit{events = [#event{who = Name, deed = timeout} = Event | _]}} = Pair) ->
+    [Pair#pair{steps = [], step = held, count = 1, meeting = {{mail, Name}, Event, none}}];
+held(_) -> [].
+
+%% With one more turn of the second event's process before the first event, where that turn may matter: it comes to the same things
+%% in the run in which it follows, and is none of the run of the error; or it is one of a process that the first event ends.
+further(#pair{step = Step}, _) when not is_list(Step) -> [];
+further(#pair{count = Count, more = More, meeting = {{life, Step}, _, none}, step = Step, steps = Steps} = Pair, _) when More < ?AHEAD ->
+    [Pair#pair{steps = Steps ++ [Step], count = Count + 1, more = More + 1}];
+further(#pair{count = Count, more = More, step = Step, steps = Steps, first = First, prefix = Prefix, rest = Rest} = Pair, {Course, Delivery})
+  when More < ?AHEAD ->
+    Units = report_units:units(report_course:events(Course), Delivery),
+    case lists:nthtail(Count, [Unit || #unit{events = [#event{number = Number} | _]} = Unit <- Units, Number > length(Prefix), report_units:step(Unit) =:= Step]) of
+        [Next | _] ->
+            case not lists:any(fun(Unit) -> is_asked_in(Next, Unit) end, Rest) andalso meeting(First, Next) of
+                {Thing, Event, _} -> [Pair#pair{steps = Steps ++ [Step], count = Count + 1, more = More + 1, second = none, meeting = {Thing, Event, none}}];
+                _ -> []
+            end;
+        [] -> []
+    end;
+further(_, _) -> [].
+
+%% Whether two units are of one process, and ask for the same.
+is_asked_in(#unit{events = [#event{who = Who, deed = Deed} | _]}, #unit{events = [#event{who = Other, deed = OtherDeed} | _]}) ->
+    Who =:= Other andalso request(Deed) =:= request(OtherDeed).
 
 %% ---- what a run shows
 
-%% The race that a pair is, or none; `refused` where a step of it is not enabled, and `spent` where no more replays are made.
-tried(#pair{prefix = Prefix, steps = Steps, first = First, rest = Rest} = Pair, #asked{how = How} = Asked) ->
+%% The race that a pair is, or none, with the run that was tried, {Race, {Course, Delivery}}; `refused` where a step of the pair is not
+%% enabled, and `spent` where no more replays are made.
+tried(#pair{prefix = Prefix, steps = Steps, first = First, rest = Rest} = Pair, #asked{how = {Delivery, _} = How} = Asked) ->
     Old = lists:flatmap(fun report_units:steps/1, [First | Rest]),
-    case report_course:followed(Steps, Old, report_course:new(Prefix), How) of
+    case report_course:followed(Steps, Old, begun(Pair), How) of
         Fault when is_atom(Fault) -> Fault;
         Course ->
             New = lists:nthtail(length(Prefix), report_course:events(Course)),
-            case {outcome(Course, New, Asked), second(Pair, New, Course)} of
+            Race = case {outcome(Course, New, Asked), second(Pair, New, Course)} of
                 {{without, Instead}, {_, _, _} = Second} -> {first(Pair), Second, Instead};
                 _ -> none
-            end
+            end,
+            {Race, {Course, Delivery}}
     end.
+
+begun(#pair{step = held, prefix = Prefix, first = First}) -> report_course:held(report_units:step(First), report_course:new(Prefix));
+begun(#pair{prefix = Prefix}) -> report_course:new(Prefix).
 
 first(#pair{meeting = {Thing, Event, _}}) -> {Event, Thing}.
 
 %% The second event of a pair, {Event, Thing, Run}, where it came before the first one in these new events, and both were asked for as
 %% in the run of the error; or none. A first one that does not come any more is one of a process that has ended.
-second(#pair{first = #unit{events = [#event{who = Who, deed = Deed} | _]}, step = Step, count = Count} = Pair, New, Course) ->
+second(#pair{first = #unit{events = [#event{who = Who, deed = Deed} | _]}, count = Count} = Pair, New, Course) ->
     {Early, Late} = lists:splitwith(fun(#event{who = One}) -> One =/= Who end, New),
     IsAsked = case Late of
         [#event{deed = Other} | _] -> request(Other) =:= request(Deed);
         [] -> report_course:is_over(Who, Course)
     end,
-    case [Event || IsAsked, #event{who = One} = Event <- Early, One =:= Step] of
+    case [Event || IsAsked, Event <- Early, is_second(Event, Pair)] of
         Events when length(Events) >= Count -> told(Pair, lists:nth(Count, Events), report_course:events(Course));
         _ -> none
     end.
+
+%% The first message for a process that waits is what it was held for.
+is_second(#event{who = {_, To}, deed = Deed}, #pair{step = held, first = First}) -> To =:= report_units:step(First) andalso brings(Deed) =/= none;
+is_second(#event{who = Who}, #pair{step = Step}) -> Who =:= Step.
 
 %% An event of the run of the error is told as it is there, but a timeout that comes only before a message is of the other run.
 told(#pair{second = none, meeting = {Thing, _, _}}, Event, Run) -> {Event, Thing, Run};

@@ -40,7 +40,10 @@ done(_, _, _) -> [].
 
 %% ---- calls of processes
 
-of_process(Send, [{pid, To}, _], _, _, _) when Send =:= '!'; Send =:= send; Send =:= exit -> [{{life, To}, read}];
+of_process(Send, [{pid, To}, _], _, Name, World) when To =/= Name, Send =:= '!' orelse Send =:= send ->
+    %% (a message for a process that has ended might have arrived before)
+    [{{life, To}, read} | [{{mail, To}, write} || report_world:is_gone(To, World)]];
+of_process(exit, [{pid, To}, _], _, _, _) -> [{{life, To}, read}];
 of_process(Send, [{atom, Held}, _], _, _, World) when Send =:= '!'; Send =:= send ->
     [{{name, Held}, read} | [{{life, To}, read} || To <- [report_world:holder(Held, World)], To =/= none]];
 of_process(link, [{pid, To}], _, Name, _) -> [{{life, To}, read}, {{bond, bond(Name, To)}, write}];
