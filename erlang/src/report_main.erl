@@ -194,7 +194,8 @@ played(Work, Events) ->
 races(#work{folder = Folder, delivery = Delivery} = Work, Errors, Known) ->
     Replays = report_replays:new(Folder),
     How = {case Delivery of "at-once" -> at_once; "any-delay" -> any_delay end, fun(Steps) -> report_replays:replay(Steps, Replays) end},
-    [begin report_replays:for_one(Replays), race(Work, Error, Known, How) end || Error <- Errors].
+    [begin report_replays:for_one(Left, Replays), race(Work, Error, Known, How) end ||
+        {Left, Error} <- lists:zip(lists:seq(length(Errors), 1, -1), Errors)].
 
 race(Work, #finding{identity = Identity, told = #{events := Events, places := Places, timed := Timed}}, Known, How) ->
     case report_race:race(Identity, {Events, Timed}, Known, How) of

@@ -22,38 +22,47 @@
 %% How many turns are looked at of a process that the earlier event ends.
 -define(AHEAD, 8).
 
+%% How many pairs are tried for a run without another error, after one with another error was found.
+-define(MORE, 12).
+
 %% The race of an error with these events, of which those with the numbers Timed take a message of a receive with a time: {First,
 %% Second, Instead, Own}, or none. First is {Event, Thing}, an event of the error and
 %% what it has to do with the second one. This is {Event, Thing, Run}, where the run is that of the error, `own`, or another one, by
 %% its events. Instead is the number of an error that comes in the place of this one, or none; Own has the events of the run of
 %% the error to its end. Known is {Errors, Normal, IsWhole}: the errors of the report, {Number, Identity}, the identities of what is
-%% taken as normal, and whether these are all that any schedule shows. How is {Delivery, Replay}, as report_course has it.
-race(Identity, {Events, Timed}, {Errors, Normal, IsWhole}, {Delivery, _} = How) ->
-    case report_course:followed([], [], report_course:new(Events), How) of
+%% taken as normal, and whether these are all that any schedule shows. Delivery and Replay are those of report_course.
+race(Identity, {Events, Timed}, {Errors, Normal, IsWhole}, {Delivery, Replay}) ->
+    case report_course:followed([], [], report_course:new(Events), {Delivery, Replay, fun(_) -> false end}) of
         Fault when is_atom(Fault) -> none;
         Course ->
+            How = {Delivery, Replay, fun(Event) -> lists:member(as_shown(Identity), shown_by(Event)) end},
             Units = list_to_tuple(report_units:units(report_course:events(Course), Delivery)),
             Asked = #asked{error = as_shown(Identity), own = shown(Course), errors = [{Number, as_shown(One)} || {Number, One} <- Errors],
                            normal = [as_shown(One) || One <- Normal], is_whole = IsWhole, how = How},
             Own = [Unit || #unit{events = [#event{number = Number} | _]} = Unit <- tuple_to_list(Units), Number =< length(Events)],
-            case first_of([fun() -> pairs(First, Units, Timed) end || First <- lists:reverse(Own)], Asked, none) of
+            case first_of([fun() -> pairs(First, Units, Timed) end || First <- lists:reverse(Own)], Asked, none, ?MORE) of
                 none -> none;
                 {First, Second, Instead} -> {First, Second, Instead, report_course:events(Course)}
             end
     end.
 
 %% The first run without the error and without another one that the run of the error does not show; or else the first without the
-%% error, {First, Second, Instead}. Where no more replays are to be made, what was found by then.
-first_of([], _, Found) -> Found;
-first_of([Pairs | Later], Asked, Found) when is_function(Pairs) -> first_of(Pairs() ++ Later, Asked, Found);
-first_of([Pair | Later], Asked, Found) ->
+%% error, {First, Second, Instead}, after which so many more pairs are tried. Where no more replays are to be made, what was found
+%% by then.
+first_of([], _, Found, _) -> Found;
+first_of(_, _, Found, 0) -> Found;
+first_of([Pairs | Later], Asked, Found, More) when is_function(Pairs) -> first_of(Pairs() ++ Later, Asked, Found, More);
+first_of([Pair | Later], Asked, Found, More) ->
     case tried(Pair, Asked) of
         spent -> Found;
         {{_, _, none} = Race, _} -> Race;
-        {{_, _, _} = Race, Course} when Found =:= none -> first_of(further(Pair, Course) ++ Later, Asked, Race);
-        {_, Course} -> first_of(further(Pair, Course) ++ Later, Asked, Found);
-        _ -> first_of(Later, Asked, Found)
+        {{_, _, _} = Race, Course} when Found =:= none -> first_of(further(Pair, Course) ++ Later, Asked, Race, ?MORE);
+        {_, Course} -> first_of(further(Pair, Course) ++ Later, Asked, Found, fewer(Found, More));
+        _ -> first_of(Later, Asked, Found, fewer(Found, More))
     end.
+
+fewer(none, More) -> More;
+fewer(_, More) -> More - 1.
 
 %% ---- which events may race
 
@@ -138,7 +147,7 @@ is_asked_in(#unit{events = [#event{who = Who, deed = Deed} | _]}, #unit{events =
 
 %% The race that a pair is, or none, with the run that was tried, {Race, {Course, Delivery}}; `refused` where a step of the pair is not
 %% enabled, and `spent` where no more replays are made.
-tried(#pair{prefix = Prefix, steps = Steps, first = First, rest = Rest} = Pair, #asked{how = {Delivery, _} = How} = Asked) ->
+tried(#pair{prefix = Prefix, steps = Steps, first = First, rest = Rest} = Pair, #asked{how = {Delivery, _, _} = How} = Asked) ->
     Old = lists:flatmap(fun report_units:steps/1, [First | Rest]),
     case report_course:followed(Steps, Old, begun(Pair), How) of
         Fault when is_atom(Fault) -> Fault;
