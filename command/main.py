@@ -100,7 +100,7 @@ def replay(request: Request) -> int:
         if request.raw:
             show_text(ran.printed)
         elif ran.printed or ran.status == 0:
-            tell_replay(waiting, ran.printed)
+            tell_replay(waiting, program, ran.printed)
     return ran.status
 
 
@@ -133,5 +133,5 @@ def searched(request: Request) -> Told:
     with begun(request) as (module, waiting):
         program, words = ready(request, module, waiting)
         explored = explore(program, words, request)
-        report = report_of(waiting, explored, explore_promptly(program, words, request, explored.report), request)
+        report = report_of(waiting, program, explored, explore_promptly(program, words, request, explored.report), request)
         return Told(request.source, entry_of(module), explored.status, report, time.monotonic() - began)

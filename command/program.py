@@ -4,6 +4,7 @@ from __future__ import annotations
 import contextlib
 import os
 import re
+import subprocess
 import tty
 from collections.abc import Mapping
 from dataclasses import dataclass
@@ -54,6 +55,13 @@ class Program:
         status = status_of(running, "the program")
         self._tell(refusal.rstrip(b"\n"), status)
         return Ran(status, printed.read_bytes().decode(errors="surrogateescape"))
+
+    def replay_into(self, schedule: str, printed: Path) -> bool:
+        """Writes what happens in a schedule into a file, up to its first step that is not enabled. Whether this could be done."""
+        with self.module.open("rb") as module, printed.open("wb") as output, \
+                child([os.path.abspath(self.name), "replay", schedule], stdin=module, stdout=output, stderr=subprocess.DEVNULL) as running:
+            pass
+        return running.returncode in (0, NO_INPUT)
 
     def _tell(self, refusal: bytes, status: int) -> None:
         """Tells a refusal of the module, with the function where that is at fault, or one of the words."""

@@ -6,12 +6,13 @@ from typing import Optional
 
 from .ending import say, show
 from .exploring import DEEPEST, Explored
+from .program import Program
 from .program_report import Report
 from .reporter import Reporter
 from .words import Request
 
 
-def report_of(reporter: Reporter, explored: Explored, prompt: Optional[Report], request: Request) -> str:
+def report_of(reporter: Reporter, program: Program, explored: Explored, prompt: Optional[Report], request: Request) -> str:
     """The report for people, with the mark of errors that no prompt report has."""
     room = reporter.room
     _write(room / "report", explored.report.titles)
@@ -22,12 +23,12 @@ def report_of(reporter: Reporter, explored: Explored, prompt: Optional[Report], 
     for place, transcript in enumerate(explored.report.transcripts, 1):
         _write(transcripts / f"{place}", "".join(transcript.events))
         _write(transcripts / f"{place}.waits", "".join(transcript.waits))
-    return _told(reporter, f"explore {explored.coverage} {request.nodes} {'normal' if request.tells_normal else 'plain'}")
+    return _told(reporter, program, f"explore {explored.coverage} {request.nodes} {'normal' if request.tells_normal else 'plain'}")
 
 
-def tell_replay(reporter: Reporter, printed: str) -> None:
+def tell_replay(reporter: Reporter, program: Program, printed: str) -> None:
     _write(reporter.room / "report", printed)
-    show_text(_told(reporter, "replay"))
+    show_text(_told(reporter, program, "replay"))
 
 
 def show_raw(explored: Explored) -> None:
@@ -49,9 +50,9 @@ def show_text(text: str) -> None:
     show(_bytes(text))
 
 
-def _told(reporter: Reporter, asked: str) -> str:
+def _told(reporter: Reporter, program: Program, asked: str) -> str:
     """The report for people; where it cannot be made, the program's own takes its place."""
-    told = reporter.report(asked)
+    told = reporter.report(asked, program)
     if told is None:
         say("the report could not be made; this is what the program printed")
         told = (reporter.room / "report").read_bytes()

@@ -12,6 +12,7 @@
     stands = #{},       % the place where each process is that did not end, by its name
     limits = #{},       % the limit of the explorer that an event comes from, by its number: {Limit, Place}
     times = #{},        % how many milliseconds a receive waited before its timeout, by the number of that event
+    timed = [],         % the numbers of the events that take a message of a receive with a time
     differs = []        % what the machine does otherwise
 }).
 
@@ -38,7 +39,7 @@ play(Module, Events) ->
                          #played{}, [{"P", first} | starts(Module, Events)]),
     [exit(Pid, kill) || Pid <- maps:values(Named), is_pid(Pid)],
     #{lines => Result#played.lines, stands => Result#played.stands, limits => Result#played.limits,
-      times => Result#played.times, differs => lists:reverse(Result#played.differs)}.
+      times => Result#played.times, timed => Result#played.timed, differs => lists:reverse(Result#played.differs)}.
 
 %% ---- names
 
@@ -106,6 +107,8 @@ listen(Name, {Pid, Watch} = Player, Ended, Played) ->
         {told, Pid, {time, Number, Time}} ->
             Times = Played#played.times,
             listen(Name, Player, Ended, Played#played{times = Times#{Number => Time}});
+        {told, Pid, {timed, Number}} ->
+            listen(Name, Player, Ended, Played#played{timed = [Number | Played#played.timed]});
         {told, Pid, {limit, Number, Limit, Place}} ->
             #played{lines = Lines, limits = Limits} = Played,
             Played#played{lines = Lines#{Number => Place}, limits = Limits#{Number => {Limit, Place}}};
@@ -179,6 +182,7 @@ wait(Place, Kind, Timeout) ->
         #event{number = Number, deed = {receives, Term}} = Event ->
             tell({line, Number, Here}),
             awaits(Here, Number),
+            [tell({timed, Number}) || Timeout =/= infinity],
             put('$taken', Event),
             self() ! report_term:real(Term, get('$named'));
         #event{number = Number, deed = timeout} when Timeout =/= infinity ->

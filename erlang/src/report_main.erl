@@ -96,14 +96,15 @@ replayed(Work) ->
 explored(Work, Coverage, Sums) ->
     {Reach, All, Last} = report_reader:report(read(filename:join(Work#work.folder, "report"))),
     {Findings, Stops, Deadlocks} = report_unread:sorted(All, fun(Place) -> report_reader:transcript(transcript(Work, Place)) end),
-    Head = report_unread:head(Stops, report_text:head(Work#work.source, Work#work.delivery, Coverage, Reach)),
-    print(Head),
     Prompt = prompt(Work),
     {Errors, Others} = lists:partition(fun(#finding{kind = Kind}) -> Kind =:= error end,
                                        [finding(Work, Place, Finding, Prompt) || {Place, Finding} <- Findings]),
     Groups = grouped(Errors, is_asked("unfold", Work)),
     Each = [{Number, Identity} || {Cause, Followers} <- Groups, #finding{number = Number, identity = Identity} <- [Cause | firsts(Followers)]],
-    Shown = [error(Work, Cause, Followers, Each) || {Cause, Followers} <- Groups],
+    Races = races(Work, [Cause || {Cause, _} <- Groups], {Each, [Identity || #finding{kind = normal, identity = Identity} <- Others], hd(Coverage) =:= "all"}),
+    Head = report_unread:head(Stops, report_text:head(Work#work.source, Work#work.delivery, Coverage, Reach)),
+    print(Head),
+    Shown = [error(Work, Cause, Followers, Each, Race) || {{Cause, Followers}, Race} <- lists:zip(Groups, Races)],
     Briefs = [report_text:brief(title(Other), Other#finding.schedule, Other#finding.told) || Other <- Others],
     Reached = [unread(Stop) || Stop <- Stops],
     Folded = length(lists:append([Followers || {_, Followers} <- Groups])),
@@ -163,9 +164,10 @@ title(#finding{kind = Kind, number = Number, identity = Identity}) ->
     [atom_to_list(Kind), " ", integer_to_list(Number), ": ", report_text:identity(Identity)].
 
 %% An error with all that leads to it, and a line for each that follows from it: printed, and as a page has it.
-error(Work, #finding{number = Number, identity = Identity, told = Told} = Error, Followers, Each) ->
+error(Work, #finding{number = Number, identity = Identity, told = Told} = Error, Followers, Each, Race) ->
     Notes = [report_text:overtakes(Error#finding.overtakes), report_text:limit(report_story:limit(Told)),
-             report_text:timeouts(report_story:timeouts(Told), is_converted(Work)), report_text:schedule(Error#finding.schedule),
+             report_text:timeouts(report_story:timeouts(Told), is_converted(Work)), report_text:race(Race),
+             report_text:schedule(Error#finding.schedule),
              report_text:earlier(report_story:earlier(Identity, Each, maps:get(events, Told)))],
     Below = [report_text:follower(title(Follower), Why) || {Follower, Why} <- Followers],
     print(["\n", title(Error), "\n", Notes, order(Work, Identity, Told), Below]),
@@ -178,14 +180,36 @@ is_converted(#work{source = Source}) -> filename:extension(Source) =/= ".core".
 
 %% All that is shown of a transcript: its events, their places, and what the processes are; to that come, of a finding, the
 %% processes that wait with what is in their mailboxes.
-told(Work, Text) ->
-    Events = report_reader:transcript(Text),
+told(Work, Text) -> played(Work, report_reader:transcript(Text)).
+
+played(Work, Events) ->
     Played = case Work#work.module of
-        none -> #{lines => #{}, stands => #{}, limits => #{}, times => #{}, differs => []};
+        none -> #{lines => #{}, stands => #{}, limits => #{}, times => #{}, timed => [], differs => []};
         Module -> report_machine:play(Module, Events)
     end,
     Played#{events => Events, places => report_story:places(Events, maps:get(lines, Played)),
             roles => report_story:roles(Events, Work#work.first), module => Work#work.module}.
+
+%% The race of each error, as report_text:race has it, or none.
+races(#work{folder = Folder, delivery = Delivery} = Work, Errors, Known) ->
+    Replays = report_replays:new(Folder),
+    How = {case Delivery of "at-once" -> at_once; "any-delay" -> any_delay end, fun(Steps) -> report_replays:replay(Steps, Replays) end},
+    [begin report_replays:for_one(Left, Replays), race(Work, Error, Known, How) end ||
+        {Left, Error} <- lists:zip(lists:seq(length(Errors), 1, -1), Errors)].
+
+race(Work, #finding{identity = Identity, told = #{events := Events, places := Places, timed := Timed}}, Known, How) ->
+    case report_race:race(Identity, {Events, Timed}, Known, How) of
+        {{#event{number = Number} = First, Thing}, {Second, Other, Run}, Instead, Own} ->
+            {{First, Thing, Number, maps:get(Number, Places, none)}, second(Work, Second, Other, Run, {Events, Places, Own}), Instead};
+        none -> none
+    end.
+
+%% The second event of a race: one of the report, one that comes after these, or one of another run.
+second(_, #event{number = Number} = Event, Thing, own, {Events, Places, _}) when Number =< length(Events) ->
+    {Event, Thing, Number, maps:get(Number, Places, none)};
+second(Work, #event{number = Number} = Event, Thing, Run, {_, _, Own}) ->
+    #{places := Places} = played(Work, case Run of own -> Own; _ -> Run end),
+    {Event, Thing, none, maps:get(Number, Places, none)}.
 
 draw(Work, Name, Title, Finding, Told) ->
     Rows = report_rows:rows(Finding, Told),

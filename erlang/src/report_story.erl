@@ -1,6 +1,6 @@
 %% What a transcript says beyond its lines: what each process is, and which send a delivery comes from.
 -module(report_story).
--export([processes/1, roles/2, places/2, sources/1, schedule/1, earlier/3, shown/1, spawned/1, limit/1, timeouts/1]).
+-export([processes/1, roles/2, places/2, sources/1, schedule/1, schedule_of/1, earlier/3, shown/1, spawned/1, limit/1, timeouts/1]).
 -include("report.hrl").
 
 %% The names of the processes, in the order in which they appear.
@@ -21,7 +21,9 @@ spawned(_) -> [].
 %% What each process runs; that of the first one is given.
 roles(Events, First) -> maps:from_list([{"P", First} | lists:flatmap(fun spawned/1, Events)]).
 
-schedule(Events) -> lists:join(" ", [step(Who) || #event{who = Who} <- Events]).
+schedule(Events) -> schedule_of([Who || #event{who = Who} <- Events]).
+
+schedule_of(Steps) -> lists:join(" ", [step(Step) || Step <- Steps]).
 
 step({From, To}) -> [From, ">", To];
 step(Name) -> Name.

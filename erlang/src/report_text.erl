@@ -1,7 +1,7 @@
 %% The report for people.
 -module(report_text).
 -export([call/3, who/1, deed/1, identity/1, place/1, role/2, waits/2, stands/2]).
--export([head/4, sums/2, tail/5, doubts/1, schedule/1, limit/1, timeouts/2, earlier/1, overtakes/1, follower/2, transcript/3, brief/3]).
+-export([head/4, sums/2, tail/5, doubts/1, schedule/1, limit/1, timeouts/2, race/1, earlier/1, overtakes/1, follower/2, transcript/3, brief/3]).
 -include("report.hrl").
 
 -define(GREATEST_COLUMN, 76).
@@ -194,6 +194,29 @@ at(none) -> "";
 at({library, Module}) -> [" in ", Module];
 at({_, _, _} = Callback) -> [" ", place(Callback)];
 at(Place) -> [" at ", place(Place)].
+
+%% The race of an error: {First, Second, Instead}, where each of the two is {Event, Thing, Number, Place}, with the number that it
+%% has in the report, or none.
+race(none) -> "";
+race({First, Second, Instead}) ->
+    ["  race: ", moment(First), " before ", moment(Second), "; the other way round, and else in this order, ", instead(Instead), "\n"].
+
+moment({Event, Thing, Number, Place}) -> [report_clause:text(Event, Thing), in_brackets([numbered(Number), moment_at(Place)])].
+
+numbered(none) -> "";
+numbered(Number) -> ["event ", integer_to_list(Number)].
+
+moment_at({library, Module}) -> ["in ", Module];
+moment_at(Place) -> place(Place).
+
+in_brackets(Texts) ->
+    case [Text || Text <- Texts, lists:flatten(Text) =/= ""] of
+        [] -> "";
+        Told -> [" (", lists:join(", ", Told), ")"]
+    end.
+
+instead(none) -> "this error does not come";
+instead(Error) -> ["error ", integer_to_list(Error), " comes in its place"].
 
 %% That no schedule shows an error in which signals arrive at once.
 overtakes(true) -> "  only if signals overtake\n";

@@ -1,0 +1,100 @@
+%% What an event has to do with others: the things that it reads or writes, as docs/PROCESSES.md has them ("What each line of a
+%% transcript reads and writes"), as far as two processes may come to one of them in either order.
+-module(report_touched).
+-export([things/2, meet/2]).
+-include("report.hrl").
+
+%% The things of an event, {Thing, read} or {Thing, write}, in the world before it:
+%%   {row, Table, Key}   the objects under a key, or under any
+%%   {table, Table}      whether it is there, and whose it is
+%%   {name, Name}        who holds it
+%%   {mail, Process}     what came into its mailbox
+%%   {trap, Process}     whether it traps exits
+%%   {bond, Which}       a link of two processes, or a watch
+%%   {life, Process}     whether it lives
+things(#event{who = {From, To}, deed = Deed}, World) -> delivered(From, To, Deed, World);
+things(#event{who = Name, deed = Deed}, World) -> [{{life, Name}, read} | done(Name, Deed, World)].
+
+delivered(_, To, {brings, _}, _) -> [{{mail, To}, write}];
+delivered(_, To, {down, Reference, Fate}, _) -> [{{bond, Reference}, read} | arrived(To, Fate)];
+delivered(From, To, {exit, _, {ends, _}}, World) -> [{{trap, To}, read}, {{bond, bond(From, To)}, read} | ended(To, World)];
+delivered(From, To, {exit, _, Fate}, _) -> [{{trap, To}, read}, {{bond, bond(From, To)}, read} | arrived(To, Fate)].
+
+arrived(To, {message, _}) -> [{{mail, To}, write}];
+arrived(_, _) -> [].
+
+bond(One, Other) -> {min(One, Other), max(One, Other)}.
+
+%% The end of a process.
+ended(Name, World) ->
+    [{{life, Name}, write}] ++ [{{name, Held}, write} || Held <- report_world:names(Name, World)]
+        ++ [{{table, Table}, write} || Table <- report_world:tables(Name, World)].
+
+done(Name, timeout, _) -> [{{mail, Name}, read}];
+done(Name, {ends, _}, World) -> ended(Name, World);
+done(Name, runaway, World) -> ended(Name, World);
+done(Name, {call, _, _, _, {ends, _}}, World) -> ended(Name, World);
+done(_, {call, ets, Function, Arguments, Answer}, World) -> of_table(Function, Arguments, Answer, World);
+done(Name, {call, erlang, Function, Arguments, Answer}, World) -> of_process(Function, Arguments, Answer, Name, World);
+done(_, _, _) -> [].
+
+%% ---- calls of processes
+
+of_process(Send, [{pid, To}, _], _, Name, World) when To =/= Name, Send =:= '!' orelse Send =:= send ->
+    %% (a message for a process that has ended might have arrived before)
+    [{{life, To}, read} | [{{mail, To}, write} || report_world:is_gone(To, World)]];
+of_process(exit, [{pid, To}, _], _, _, _) -> [{{life, To}, read}];
+of_process(Send, [{atom, Held}, _], _, _, World) when Send =:= '!'; Send =:= send ->
+    [{{name, Held}, read} | [{{life, To}, read} || To <- [report_world:holder(Held, World)], To =/= none]];
+of_process(link, [{pid, To}], _, Name, _) -> [{{life, To}, read}, {{bond, bond(Name, To)}, write}];
+of_process(unlink, [{pid, To}], _, Name, _) -> [{{bond, bond(Name, To)}, write}];
+of_process(monitor, [_, {pid, To}], _, _, _) -> [{{life, To}, read}];
+of_process(demonitor, [Reference | _], _, _, _) -> [{{bond, Reference}, write}];
+of_process(process_flag, _, _, Name, _) -> [{{trap, Name}, write}];
+of_process(register, [{atom, Held}, {pid, To}], Answer, _, _) -> [{{name, Held}, access(Answer)}, {{life, To}, read}];
+of_process(unregister, [{atom, Held}], Answer, _, _) -> [{{name, Held}, access(Answer)}];
+of_process(whereis, [{atom, Held}], _, _, _) -> [{{name, Held}, read}];
+of_process(is_process_alive, [{pid, To}], _, _, _) -> [{{life, To}, read}];
+of_process(_, _, _, _, _) -> [].
+
+%% A call that is refused changes nothing.
+access({ok, _}) -> write;
+access(_) -> read.
+
+%% ---- calls of tables
+
+of_table(new, _, {ok, Table}, _) -> [{{table, Table}, write}];
+of_table(new, [Table, _], _, _) -> [{{table, Table}, read}];
+of_table(_, [Table | _], {refused, _}, _) -> [{{table, Table}, read}];
+of_table(give_away, [Table, {pid, To}, _], _, _) -> [{{table, Table}, write}, {{life, To}, read}];
+of_table(setopts, [Table | _], _, _) -> [{{table, Table}, write}];
+of_table(delete, [Table], _, _) -> [{{table, Table}, write}, {{row, Table, any}, write}];
+of_table(Function, [Table | Arguments], _, World) ->
+    {Access, Keys} = rows(Function, Arguments, report_world:key_place(Table, World)),
+    [{{table, Table}, read} | [{{row, Table, Key}, Access} || Key <- Keys]].
+
+rows(Function, [Key | _], _) when Function =:= lookup; Function =:= member; Function =:= lookup_element -> {read, [Key]};
+rows(Function, [Key | _], _) when Function =:= delete; Function =:= take; Function =:= update_counter; Function =:= update_element ->
+    {write, [Key]};
+rows(Function, [Objects], Place) when Function =:= insert; Function =:= insert_new; Function =:= delete_object ->
+    {write, keys(Objects, Place)};
+rows(delete_all_objects, _, _) -> {write, [any]};
+rows(_, _, _) -> {read, [any]}.
+
+keys({list, Objects, _}, Place) -> lists:append([keys(Object, Place) || Object <- Objects]);
+keys({tuple, Parts}, Place) when length(Parts) >= Place -> [lists:nth(Place, Parts)];
+keys(_, _) -> [].
+
+%% ---- two events
+
+%% What two lists of things, {Thing, Access, Event}, have in common where one of the two accesses writes: {Thing, Event, Other}, those that
+%% say most first.
+meet(Things, Others) ->
+    Met = [{rank(Thing), {Thing, Event, OtherEvent}} || {Thing, Access, Event} <- Things, {Other, OtherAccess, OtherEvent} <- Others,
+                                                        is_same(Thing, Other), lists:member(write, [Access, OtherAccess])],
+    [Meeting || {_, Meeting} <- lists:keysort(1, Met)].
+
+is_same({row, Table, Key}, {row, Table, Other}) -> Key =:= Other orelse Key =:= any orelse Other =:= any;
+is_same(Thing, Other) -> Thing =:= Other.
+
+rank(Thing) -> length(lists:takewhile(fun(Kind) -> Kind =/= element(1, Thing) end, [row, table, name, mail, trap, bond, life])).
