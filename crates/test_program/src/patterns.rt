@@ -53,8 +53,10 @@ const ROWS: [(&str, &str, bool); 37] = [
 
 // What words with this pattern excuse.
 fn excuses_of(alloc: Global, pattern: &str) -> Result<Excuses, Fail> {
-    let words = [NAME, "explore", "--depth", "1", "--normal", pattern];
-    match read_words(alloc, &words)? {
+    match read_words(
+        alloc,
+        &[NAME, "explore", "--depth", "1", "--normal", pattern],
+    )? {
         Words::Explore(_, excuses, _) => Ok(excuses),
         _ => Err(Fail::from("the words are no exploration")),
     }
@@ -76,38 +78,42 @@ fn patterns_excuse_what_they_match(rt: HostRuntime) -> Result<(), Fail> {
             return Err(Fail::from("the words have no reason"));
         };
         let end = end_with(rt.alloc(), reason)?;
-        assert_eq!(rt; excuses_of(rt.alloc(), pattern)?.excuses(&end), is_normal);
+        let excuses = excuses_of(rt.alloc(), pattern)?;
+        assert_eq!(rt; excuses.excuses(&end), is_normal);
     }
     Ok(())
 }
 
-// A list of so many of these atoms.
-fn list_of(alloc: Global, text: &str, length: u64, tail: Term) -> Result<Term, AllocError> {
+// So many cells in a row are more than a walk by recursion bears.
+const MANY: u64 = 100_000;
+
+// A list of so many times the same item, and this tail.
+fn list_of(alloc: Global, item: &Term, length: u64, tail: Term) -> Result<Term, AllocError> {
     let mut heads = Vec::new(alloc);
     for _ in 0..length {
-        heads.push(Term::atom(alloc, text)?)?;
+        heads.push(item.copy()?)?;
     }
     list_onto(alloc, heads, tail)
 }
 
-// Whether a list of so many `'_'` that ends with this excuses an end with a list of so many atoms.
-fn list_excuses(alloc: Global, patterns: u64, tail: Term, atoms: u64) -> Result<bool, AllocError> {
-    let pattern = list_of(alloc, "_", patterns, tail)?;
+// Whether a list of so many `'_'` with this tail excuses an end with a list of MANY integers.
+fn list_excuses(alloc: Global, patterns: u64, tail: Term) -> Result<bool, AllocError> {
+    let any = Term::atom(alloc, "_")?;
+    let pattern = list_of(alloc, &any, patterns, tail)?;
     let excuses = Excuses {
         main_deadlock: false,
         normal: vec![in alloc; pattern]?,
     };
-    let reason = list_of(alloc, "a", atoms, Term::Nil)?;
+    let reason = list_of(alloc, &Term::Int(7), MANY, Term::Nil)?;
     Ok(excuses.excuses(&end_with(alloc, reason)?))
 }
 
 #[test]
 fn lists_may_be_long(rt: HostRuntime) -> Result<(), Fail> {
     let alloc = rt.alloc();
-    assert!(rt; list_excuses(alloc, 300_000, Term::Nil, 300_000)?);
-    assert!(rt; !list_excuses(alloc, 300_000, Term::Nil, 300_001)?);
-    assert!(rt; !list_excuses(alloc, 300_001, Term::Nil, 300_000)?);
-    assert!(rt; list_excuses(alloc, 1, Term::atom(alloc, "_")?, 300_000)?);
-    assert!(rt; list_excuses(alloc, 300_000, Term::atom(alloc, "_")?, 300_000)?);
+    assert!(rt; list_excuses(alloc, MANY, Term::Nil)?);
+    assert!(rt; !list_excuses(alloc, MANY - 1, Term::Nil)?);
+    assert!(rt; !list_excuses(alloc, MANY + 1, Term::Nil)?);
+    assert!(rt; list_excuses(alloc, 1, Term::atom(alloc, "_")?)?);
     Ok(())
 }
