@@ -3,9 +3,6 @@ ghost use Rattle.std.specs.Prelude.{◌<◌};
 
 use std::alloc::{AllocError, Global};
 
-// How many slots there are at least.
-const LEAST: usize = 16;
-
 // The place of a slot that is free.
 const FREE: u32 = u32::MAX;
 
@@ -19,10 +16,10 @@ struct Slot {
 /// Places of a list, by the digests of what stands there.
 #[derive(Drop)]
 pub struct Index {
-    alloc: Global,
+    // The mark of each place.
+    marks: Vec<u32>,
     // Each place is in the first slot that was free, from that of its mark on. At least half of them are free.
     slots: Vec<Slot>,
-    places: usize,
 }
 
 /// How far the places of a digest were looked through.
@@ -38,9 +35,9 @@ fn mark_of(digest: u64) -> u32 {
     (mixed % 4_294_967_296) as u32
 }
 
-// The slot of a mark among so many, whose number is a power of two.
+// The slot of a mark among so many: marks are spread over them in their order.
 fn slot_of(mark: u32, slots: usize) -> usize {
-    mark as usize & slots.saturating_sub(1)
+    (mark as usize).wrapping_mul(slots) >> 32
 }
 
 // The slot after this one, or the first one after the last.
@@ -52,17 +49,24 @@ fn slot_after(slot: usize, slots: usize) -> usize
 }
 
 // Puts a place into the first slot that is free.
-fn settle(slots: &mut [Slot], place: Slot) {
-    let mut at = slot_of(place.mark, slots.len());
+fn settle(slots: &mut [Slot], mark: u32, place: u32) {
+    let mut at = slot_of(mark, slots.len());
     for _ in 0..slots.len() {
         if at >= slots.len() {
             return;
         }
         if slots[at].place == FREE {
-            slots[at] = place;
+            slots[at] = Slot { mark, place };
             return;
         }
         at = slot_after(at, slots.len());
+    }
+}
+
+// Takes the places out of all slots.
+fn empty(slots: &mut [Slot]) {
+    for slot in slots {
+        slot.place = FREE;
     }
 }
 
@@ -70,9 +74,8 @@ impl Index {
     /// The index of an empty list. It takes no memory.
     pub fn new(alloc: Global) -> Index {
         Index {
-            alloc,
+            marks: Vec::new(alloc),
             slots: Vec::new(alloc),
-            places: 0,
         }
     }
 
@@ -101,35 +104,40 @@ impl Index {
         None
     }
 
-    // Makes room for twice as many places. `AllocError` if there is no memory for it; then all is as before.
-    fn grow(&mut self) -> Result<(), AllocError> {
-        let Some(size) = self.slots.len().checked_mul(2) else {
-            return Err(AllocError);
-        };
-        let free = Slot {
-            mark: 0,
-            place: FREE,
-        };
-        let mut slots = vec![in self.alloc; free; size.max(LEAST)]?;
-        for slot in self.slots.as_slice() {
-            if slot.place != FREE {
-                settle(slots.as_mut_slice(), *slot);
+    // As many slots again, and one. `AllocError` if there is no memory for them.
+    fn widen(&mut self) -> Result<(), AllocError> {
+        for _ in 0..=self.slots.len() {
+            self.slots.push(Slot {
+                mark: 0,
+                place: FREE,
+            })?;
+        }
+        Ok(())
+    }
+
+    // Puts each place into a slot again.
+    fn settle_all(&mut self) {
+        let slots = self.slots.as_mut_slice();
+        empty(slots);
+        let mut place = 0;
+        for mark in self.marks.as_slice() {
+            settle(slots, *mark, place);
+            if place < FREE {
+                place += 1;
             }
         }
-        self.slots = slots;
-        Ok(())
     }
 
     /// The next place has this digest. `AllocError` if there is no memory for it.
     pub fn put(&mut self, digest: u64) -> Result<(), AllocError> {
-        if self.places >= self.slots.len() / 2 {
-            self.grow()?;
+        let mark = mark_of(digest);
+        self.marks.push(mark)?;
+        if self.marks.len() > self.slots.len() / 2 {
+            self.widen()?;
+            self.settle_all();
+        } else if let Ok(place) = u32::try_from(self.marks.len() - 1) {
+            settle(self.slots.as_mut_slice(), mark, place);
         }
-        if let Ok(place) = u32::try_from(self.places) {
-            let mark = mark_of(digest);
-            settle(self.slots.as_mut_slice(), Slot { mark, place });
-        }
-        self.places = self.places.saturating_add(1);
         Ok(())
     }
 }
