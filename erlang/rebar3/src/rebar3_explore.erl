@@ -48,9 +48,9 @@ explored(State, Names) ->
 told(State, []) -> {ok, State};
 told(_, Unclean) -> {error, {?MODULE, ["These have errors, or were not explored to their end:" | ["  " ++ File || File <- Unclean]]}}.
 
-%% Where the compiled modules are: those of the project, and of what it depends on, some of it in _checkouts.
+%% Where the compiled modules are: those of the project, and of what it depends on.
 folders(State) ->
-    Applications = rebar_state:project_apps(State) ++ rebar_state:all_checkout_deps(State) ++ rebar_state:all_deps(State),
+    Applications = rebar_state:project_apps(State) ++ rebar_state:all_deps(State),
     [Folder || Folder <- lists:usort(lists:map(fun rebar_app_info:ebin_dir/1, Applications)), filelib:is_dir(Folder)].
 
 %% (rebar3 takes this for a format)
