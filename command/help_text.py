@@ -31,8 +31,8 @@ What is explored:
                        take any time. Without --depth it explores all schedules of at most 8 steps, then of 16, of 24
                        and so on. It stops where no schedule is longer, where it has found errors and the next depth
                        would take long, or where it has visited as many nodes at one depth as --nodes says.
-  --workers N          With --tree N threads explore, 1 to 16. Without this there is one. A search by states always
-                       has one.
+  --workers N          N threads explore, 1 to 16. Without this there is one. It helps with --tree. A search by states
+                       gains next to nothing: only levels of 4096 states and more are shared out.
   --after-timeout MS   Timeouts of MS milliseconds and more never come.
   --replay SCHEDULE    Shows what happens in one schedule, such as "P P P.1>P". Nothing is explored.
 
